@@ -1,0 +1,8 @@
+pub mod Bytes
+pub mod Faults
+pub mod Laws
+pub mod Lists
+pub mod Refusal
+pub mod Text
+pub mod Tree
+pub mod View
