@@ -24,11 +24,11 @@ followed-push (m ∷ ns) n more = ap (next m) (followed-push ns n more)
 
 module _ (text : List ℕ) where
   -- a blank or a comment in front
-  behind_blank : (depth at end : ℕ) (more : Nodes) → at < length text → IsBlank (slice_index text at) → AreNodes text depth (at + 1) end more → AreNodes text depth at end more
+  pub behind_blank : (depth at end : ℕ) (more : Nodes) → at < length text → IsBlank (slice_index text at) → AreNodes text depth (at + 1) end more → AreNodes text depth at end more
   behind_blank depth at end none inside b h = blank inside b h
   behind_blank depth at end (next n ns) inside b h = (blank inside b h.0, h.1, h.2)
 
-  behind_comment : (depth at stop end : ℕ) (more : Nodes) → IsComment text at stop → AreNodes text depth stop end more → AreNodes text depth at end more
+  pub behind_comment : (depth at stop end : ℕ) (more : Nodes) → IsComment text at stop → AreNodes text depth stop end more → AreNodes text depth at end more
   behind_comment depth at stop end none m h = comment m h
   behind_comment depth at stop end (next n ns) m h = (comment m h.0, h.1, h.2)
 

@@ -1,5 +1,8 @@
+pub mod AlwaysEither
 pub mod Clean
+pub mod Ends
 pub mod FirstFault
 pub mod Level
+pub mod NeverBoth
 pub mod Order
 pub mod Runs
