@@ -2,6 +2,7 @@ pub mod Bytes
 pub mod Faults
 pub mod Laws
 pub mod Lists
+pub mod Reading
 pub mod Refusal
 pub mod Text
 pub mod Tree

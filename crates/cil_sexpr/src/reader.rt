@@ -1,20 +1,138 @@
-//! The reader: one pass over the bytes.
+//! The reader: one pass over the bytes, with one call for each list that is open.
 
-ghost use Rattle.std.specs.Prelude.{IfOk, IfErr, length};
-ghost use Rattle.cil_sexpr.specs.Text.{IsText};
+ghost use Rattle.std.specs.Prelude.{◌≡◌, ◌<◌, ◌≤◌, IfOk, IfErr, length};
+ghost use Rattle.cil_sexpr.specs.Faults.{FaultOf, Plain};
+ghost use Rattle.cil_sexpr.specs.Reading.{IsClean, IsLevel};
+ghost use Rattle.cil_sexpr.specs.Refusal.{Refuses};
+ghost use Rattle.cil_sexpr.specs.Text.{IsText, deepest, longest_text};
 ghost use Rattle.cil_sexpr.specs.Tree.{AreInOrder};
 ghost use Rattle.cil_sexpr.specs.View.{nodes_of, top_of};
-ghost use Rattle.cil_sexpr.specs.Refusal.{Refuses};
 
-use crate::fault::ReadError;
-use crate::node::Tree;
+use crate::bytes::{ByteKind, comment_end, kind_of, string_end, word_end};
+use crate::fault::{ReadCode, ReadError, ReadFault};
+use crate::node::{Node, Span, Tree};
 use std::alloc::Global;
 
-/// Reads a text.
-pub fn read(_alloc: Global, _text: &[u8]) -> Result<Tree, ReadError>
-    ensures tree { IfOk result (λ t. IsText _text.now (nodes_of _text.now (top_of t))) }
-    ensures places { IfOk result (λ t. AreInOrder 0 (length _text.now) (nodes_of _text.now (top_of t))) }
-    ensures refusal { IfErr result (Refuses _text.now) }
+/// How many bytes a text may have.
+const LONGEST_TEXT: usize = 4_194_304;
+
+/// How many lists may lie in one another.
+const DEEPEST: u32 = 128;
+
+/// Reads a text: the tree of its lists, words and strings, or its first fault.
+///
+/// The least place decides, and at one place the least number. A text of more than 4,194,304 bytes is
+/// refused at that place before anything else is looked at. One pass over the bytes; want of memory is
+/// answered where a list of nodes could not grow.
+pub fn read(alloc: Global, text: &[u8]) -> Result<Tree, ReadError>
+    ensures tree { IfOk result (λ t. IsText text.now (nodes_of text.now (top_of t))) }
+
+    // Each node lies within the list round it and behind the nodes before it, so its place may be passed to
+    // `Node::bytes` with this text.
+    ensures places { IfOk result (λ t. AreInOrder 0 (length text.now) (nodes_of text.now (top_of t))) }
+    ensures refusal { IfErr result (Refuses text.now) }
 {
-    Err(ReadError::NoMemory)
+    if text.len() > LONGEST_TEXT {
+        return Err(fault(text, ReadCode::TooLong, LONGEST_TEXT));
+    }
+    let Level { nodes, end: _ } = read_level(alloc, text, 0, 0)?;
+    Ok(Tree { nodes })
+}
+
+/// The nodes of one list, or of the top, and the place of what ends them.
+#[derive(Drop)]
+struct Level {
+    nodes: Vec<Node>,
+    end: usize,
+}
+
+/// Reads the nodes from `from` on, with `depth` lists open round them, up to the bracket that closes the
+/// innermost of these or, at the top, to the end of the text. At most 128 calls lie in one another.
+fn read_level(alloc: Global, text: &[u8], from: usize, depth: u32) -> Result<Level, ReadError>
+    requires clean { IsClean text.now Plain depth from }
+    requires room { depth ≤ deepest }
+    ensures level { IfOk result (λ l. IsLevel text.now depth from l.nodes.items l.end) }
+    ensures refusal { IfErr result (Refuses text.now) }
+{
+    let mut nodes = Vec::new(alloc);
+    let mut at = from;
+    while at < text.len() {
+        match kind_of(text[at]) {
+            ByteKind::Blank => at += 1,
+            ByteKind::Semicolon => at = comment_end(text, at),
+            ByteKind::Word => {
+                if depth == 0 {
+                    return Err(fault(text, ReadCode::OutsideList, at));
+                }
+                let end = word_end(text, at);
+                nodes.push(Node::Word(span(text, at, end)))?;
+                at = end;
+            }
+            ByteKind::Quote => {
+                let Some(end) = string_end(text, at) else {
+                    return Err(fault(text, ReadCode::OpenQuote, at));
+                };
+                if depth == 0 {
+                    return Err(fault(text, ReadCode::OutsideList, at));
+                }
+                nodes.push(Node::Quoted(span(text, at, end)))?;
+                at = end;
+            }
+            ByteKind::Open => {
+                if depth == DEEPEST {
+                    return Err(fault(text, ReadCode::TooDeep, at));
+                }
+                let inner = read_level(alloc, text, at + 1, depth + 1)?;
+                let end = inner.end + 1;
+                nodes.push(Node::List(span(text, at, end), inner.nodes))?;
+                at = end;
+            }
+            ByteKind::Close if depth == 0 => return Err(fault(text, ReadCode::StrayClose, at)),
+            ByteKind::Close => return Ok(Level { nodes, end: at }),
+            ByteKind::Bad => return Err(fault(text, ReadCode::BadByte, at)),
+        }
+    }
+    if depth > 0 {
+        return Err(fault(text, ReadCode::Unclosed, at));
+    }
+    Ok(Level { nodes, end: at })
+}
+
+/// The first fault of the text, as an error.
+fn fault(_text: &[u8], code: ReadCode, at: usize) -> ReadError
+    requires { FaultOf _text.now code at }
+    ensures { Refuses _text.now result }
+{
+    ReadError::Fault(ReadFault {
+        code,
+        at: at as u64,
+    })
+}
+
+/// A part of a text. That a text is short keeps its places narrow.
+fn span(text: &[u8], start: usize, end: usize) -> Span
+    requires short { length text.now ≤ longest_text }
+    requires order { start ≤ end }
+    requires within { end ≤ length text.now }
+    ensures start { result.start ≡ start }
+    ensures end { result.end ≡ end }
+{
+    prove!(end <= text.len());
+    Span {
+        start: start as u32,
+        end: end as u32,
+    }
+}
+
+#[cfg(test)]
+mod tests {
+    use super::*;
+    use std::test::Fail;
+
+    #[test]
+    fn reads(rt: HostRuntime) -> Result<(), Fail> {
+        let tree = read(rt.alloc(), b"(a \"b c\" (d)) ; e")?;
+        assert_eq!(rt; tree.children().len(), 1);
+        Ok(())
+    }
 }
