@@ -32,6 +32,21 @@ measure() {
     fi
 }
 
+# Of three such runs the one in which the reader was the fastest: what else the machine does can only slow it down.
+quietest() {
+    local least=
+    for _ in 1 2 3; do
+        measure "$1"
+        if [ -z "$least" ] || [ "$(figure read_us)" -lt "$least" ]; then
+            least=$(figure read_us)
+            cp "$work/figures" "$work/kept_figures"
+            cp "$work/peak" "$work/kept_peak"
+        fi
+    done
+    mv "$work/kept_figures" "$work/figures"
+    mv "$work/kept_peak" "$work/peak"
+}
+
 # The figure named $1.
 figure() {
     awk -v name="$1" '$1 == name { print $2 }' "$work/figures"
@@ -40,7 +55,7 @@ figure() {
 printf '%10s %10s %12s %8s %9s\n' bytes 'read ms' 'SHA-256 ms' ratio 'peak MB'
 first=
 for size in 1048576 2097152 4194304; do
-    measure "$size"
+    quietest "$size"
     read_us=$(figure read_us)
     ratio=$(figure ratio)
     awk -v size="$size" -v read="$read_us" -v hash="$(figure sha256_us)" -v ratio="$ratio" -v peak="$(cat "$work/peak")" \
