@@ -4,5 +4,7 @@ pub mod Ends
 pub mod FirstFault
 pub mod Level
 pub mod NeverBoth
+pub mod OneTree
 pub mod Order
 pub mod Runs
+pub mod Slices

@@ -1,0 +1,40 @@
+//! A text of typical policy statements, of any size and the same on every run.
+
+ghost use Rattle.std.specs.Prelude.{◌≡◌, IfOk, length};
+
+use std::alloc::{AllocError, Global};
+
+/// One line. The numbers in it go round, so that names come again as they do in a policy.
+fn line(alloc: Global, n: usize) -> Result<String, AllocError> {
+    let a = n % 1013;
+    let b = n % 769;
+    let c = n % 211;
+    match n % 16 {
+        0 => format!(in alloc; "; statements from number {n} on\n"),
+        1 => format!(in alloc; "(type ty{a}_t)\n"),
+        2 => format!(in alloc; "(roletype r ty{a}_t)\n"),
+        3 => format!(in alloc; "(typeattributeset a{c} (ty{a}_t ty{b}_t))\n"),
+        4 => format!(in alloc; "(typetransition ty{a}_t ty{b}_t process ty{c}_t)\n"),
+        5 => format!(in alloc;
+            "(filecon \"/usr/lib/part{c}(/.*)?\" any (u r ty{a}_t ((s0) (s0))))\n"
+        ),
+        6 => format!(in alloc; "(allow ty{a}_t self (capability (setuid setgid)))\n"),
+        _ => format!(in alloc; "(allow ty{a}_t ty{b}_t (file (open read getattr)))\n"),
+    }
+}
+
+/// A text of `size` bytes: as many lines as have room, and then blanks.
+pub fn policy(alloc: Global, size: usize) -> Result<Vec<u8>, AllocError>
+    ensures { IfOk result (λ text. length text.items ≡ size) }
+{
+    let mut text = Vec::with_capacity(alloc, size)?;
+    for n in 0..size {
+        let line = line(alloc, n)?;
+        if line.len() > size - text.len() {
+            break;
+        }
+        text.extend_from_slice(line.as_bytes())?;
+    }
+    text.resize(size, b' ')?;
+    Ok(text)
+}
