@@ -81,9 +81,9 @@ pub(crate) fn comment_end(text: &[u8], start: usize) -> usize
     requires { HasByte text.now start semicolon }
     ensures { IsComment text.now start result }
 {
-    for at in start + 1..text.len() {
-        if text[at] == b'\n' {
-            return at + 1;
+    for newline in start + 1..text.len() {
+        if text[newline] == b'\n' {
+            return newline + 1;
         }
     }
     text.len()

@@ -123,16 +123,3 @@ fn span(text: &[u8], start: usize, end: usize) -> Span
         end: end as u32,
     }
 }
-
-#[cfg(test)]
-mod tests {
-    use super::*;
-    use std::test::Fail;
-
-    #[test]
-    fn reads(rt: HostRuntime) -> Result<(), Fail> {
-        let tree = read(rt.alloc(), b"(a \"b c\" (d)) ; e")?;
-        assert_eq!(rt; tree.children().len(), 1);
-        Ok(())
-    }
-}

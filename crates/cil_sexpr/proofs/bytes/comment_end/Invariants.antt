@@ -2,5 +2,5 @@ use Rattle.std.proofs.Common.{◌≢◌, ◌<◌, ℕ, slice_index}
 use Rattle.cil_sexpr.specs.Bytes.{newline}
 use Rattle.cil_sexpr.proofs.bytes.comment_end.Given as goal
 
-abbrev pub invariant-loop-at : goal.invariant-loop-at
-invariant-loop-at l = (k : ℕ) → l.start < k → k < l.at → slice_index l.text k ≢ newline
+abbrev pub invariant-loop-newline : goal.invariant-loop-newline
+invariant-loop-newline l = (k : ℕ) → l.start < k → k < l.newline → slice_index l.text k ≢ newline

@@ -1,5 +1,6 @@
 use Rattle.std.proofs.Common.{arith, rules}
 use Rattle.cil_sexpr.proofs.Clean.{clean_open}
+use Rattle.cil_sexpr.proofs.FirstFault.{unclosed, stray_close, open_quote, bad_byte, too_deep, word_outside, string_outside}
 use Rattle.cil_sexpr.proofs.Level.{read_blank, read_comment, read_word, read_string, read_list, level_of}
 use Rattle.cil_sexpr.proofs.reader.+read_level.Goals as goal
 
@@ -36,3 +37,25 @@ pub returns-clause-level : goal.returns-clause-level
 returns-clause-level t c =
     let within = c.loop-at.invariant.clean.within in
     level_of _ c.loop-at.invariant record { top = λ e. omega arith; list = λ h. absurd (omega arith) }
+
+pub fault-requires : goal.fault-requires
+fault-requires t c = word_outside c.loop-at.invariant.clean c.loop-at-test.true c.if-depth-eq0.true c.in-Word.ensures
+
+pub fault-requires-in_default : goal.fault-requires-in_default
+fault-requires-in_default t c = open_quote c.loop-at.invariant.clean c.loop-at-test.true c.in-Quote.ensures c.in_default.ensures.none
+
+pub fault-requires-then-depth-eq0-2 : goal.fault-requires-then-depth-eq0-2
+fault-requires-then-depth-eq0-2 t c =
+    string_outside _ c.loop-at.invariant.clean c.loop-at-test.true c.if-depth-eq0-2.true c.in-Quote.ensures c.in-Some.ensures.string
+
+pub fault-requires-then-depth-eq-DEEPEST : goal.fault-requires-then-depth-eq-DEEPEST
+fault-requires-then-depth-eq-DEEPEST t c = too_deep c.loop-at.invariant.clean c.loop-at-test.true c.in-Open.ensures c.if-depth-eq-DEEPEST.true
+
+pub fault-requires-in-Close : goal.fault-requires-in-Close
+fault-requires-in-Close t c = stray_close c.loop-at.invariant.clean c.loop-at-test.true c.in-Close.ensures c.if-depth-eq0-3.true
+
+pub fault-requires-in-Bad : goal.fault-requires-in-Bad
+fault-requires-in-Bad t c = bad_byte c.loop-at.invariant.clean c.loop-at-test.true c.in-Bad.ensures
+
+pub fault-requires-then-depth-gt0 : goal.fault-requires-then-depth-gt0
+fault-requires-then-depth-gt0 t c = let within = c.loop-at.invariant.clean.within in unclosed c.loop-at.invariant.clean (omega arith) c.if-depth-gt0.true
