@@ -278,3 +278,28 @@ fn faults_are_printed_for_people(rt: HostRuntime) -> Result<(), Fail> {
     assert_eq!(rt; format!(in rt.alloc(); "{error}")?.as_str(), "no memory");
     Ok(())
 }
+
+/// Passes with every growth allowed, and with any one of them refused: the answer is then want of memory and
+/// nothing else, and the same call with memory has the right answer.
+#[test]
+fn a_refused_growth_is_want_of_memory(rt: HostRuntime) {
+    let mut refused = 0;
+    for (text, lists, want) in [
+        ("(a (b \"c\" (d)) e)(f)", 2, None),
+        ("(a (b (c", 0, fault(ReadCode::Unclosed, 8)),
+    ] {
+        for _ in 0..2 {
+            match read(rt.alloc(), text.as_bytes()) {
+                Ok(tree) => {
+                    assert_eq!(rt; want, None);
+                    assert_eq!(rt; tree.children().len(), lists);
+                }
+                Err(ReadError::Fault(fault)) => assert_eq!(rt; want, Some(fault)),
+                Err(ReadError::NoMemory) => {
+                    assert_eq!(rt; refused, 0, "want of memory without cause");
+                    refused = 1;
+                }
+            }
+        }
+    }
+}
