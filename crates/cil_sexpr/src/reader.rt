@@ -47,7 +47,8 @@ struct Level {
 }
 
 /// Reads the nodes from `from` on, with `depth` lists open round them, up to the bracket that closes the
-/// innermost of these or, at the top, to the end of the text. At most 128 calls lie in one another.
+/// innermost of these or, at the top, to the end of the text. At most 129 calls lie in one another: the top, and
+/// one for each open list.
 fn read_level(alloc: Global, text: &[u8], from: usize, depth: u32) -> Result<Level, ReadError>
     requires clean { IsClean text.now Plain depth from }
     requires room { depth ≤ deepest }
