@@ -37,7 +37,7 @@ IsBytes-take n bytes h i =
     ]
 
 -- a number in eight bytes is told by these alone
-first_eight : (xs : List ℕ) → from_be_bytes w64 (take 8 xs) ≡ from_be_bytes w64 xs
+pub first_eight : (xs : List ℕ) → from_be_bytes w64 (take 8 xs) ≡ from_be_bytes w64 xs
 first_eight [] = refl
 first_eight (a ∷ []) = refl
 first_eight (a ∷ b ∷ []) = refl

@@ -1,4 +1,5 @@
 pub mod BundleLemmas
+pub mod FaultLemmas
 pub mod GatherLemmas
 pub mod ImportLemmas
 pub mod InstallLemmas
@@ -6,3 +7,4 @@ pub mod LawLemmas
 pub mod PlaceLemmas
 pub mod RisingLemmas
 pub mod WalkLemmas
+pub mod SpelledLemmas

@@ -136,3 +136,12 @@ union_modules a b both p q union = record {
   rising = union.rising;
   readable = λ t c. elim ((union.members t).0 c) [ inl x ↦ p.readable t x | inr x ↦ q.readable t x ];
 }
+
+-- nothing is taken in
+pub union_none : (a b : List (List ℕ)) → IsRising a → b ≡ [] → IsUnion a b a
+union_none a b rising none = rw none (record {
+  first = rising;
+  second = rising_none;
+  rising = rising;
+  members = λ t. (λ c. inl c, λ h. elim h [ inl c ↦ c | inr c ↦ absurd (contains_none t c) ]);
+})

@@ -11,6 +11,7 @@ mod export;
 mod gather;
 mod import;
 mod join;
+pub mod laws;
 mod newcomers;
 mod order;
 mod set;

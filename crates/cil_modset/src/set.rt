@@ -143,7 +143,7 @@ impl ModuleSet {
         Ok(self.take_in(alloc, fresh)?)
     }
 
-    /// Takes in texts that are not there, and answers how many they are.
+    /// Takes in texts that are not there, and answers how many they are. Where they are none, it takes no memory.
     fn take_in(&mut self, alloc: Global, fresh: Vec<Vec<u8>>) -> Result<u64, AllocError>
         requires modules { AreModules (texts_of fresh.items) }
         requires apart { AreApart self.old (texts_of fresh.items) }
@@ -151,11 +151,15 @@ impl ModuleSet {
         ensures added { IfOk result (λ added. length self.new ≡ length self.old + added) }
         ensures err { OnErr result (self.new ≡ self.old) }
     {
-        let added = fresh.len() as u64;
-        let room = Vec::with_capacity(alloc, self.texts.len() + fresh.len())?;
+        let kept = self.texts.len();
+        let added = fresh.len();
+        if added == 0 {
+            return Ok(0);
+        }
+        let room = Vec::with_capacity(alloc, kept + added)?;
         let ours = mem::replace(&mut self.texts, Vec::new(alloc));
         self.texts = gather(ours, fresh, room);
-        Ok(added)
+        Ok(added as u64)
     }
 }
 
