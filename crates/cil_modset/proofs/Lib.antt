@@ -1,0 +1,10 @@
+pub mod BundleLemmas
+pub mod FaultLemmas
+pub mod GatherLemmas
+pub mod ImportLemmas
+pub mod InstallLemmas
+pub mod LawLemmas
+pub mod PlaceLemmas
+pub mod RisingLemmas
+pub mod WalkLemmas
+pub mod SpelledLemmas

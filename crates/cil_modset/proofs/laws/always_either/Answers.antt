@@ -1,0 +1,5 @@
+use Rattle.cil_modset.proofs.FaultLemmas.{always_either}
+use Rattle.cil_modset.proofs.laws.always_either.Goals as goal
+
+pub returns : goal.returns
+returns c = always_either

@@ -1,0 +1,5 @@
+use Rattle.cil_modset.proofs.FaultLemmas.{one_fault}
+use Rattle.cil_modset.proofs.laws.one_fault.Goals as goal
+
+pub returns : goal.returns
+returns c = one_fault

@@ -1,0 +1,7 @@
+use Rattle.std.proofs.Common.{arith}
+use Rattle.cil_sexpr.specs.Lists.{contains_none}
+use Rattle.cil_modset.proofs.RisingLemmas.{rising_none}
+use Rattle.cil_modset.proofs.set.ModuleSet.new.Goals as goal
+
+pub invariant_of-result : goal.invariant_of-result
+invariant_of-result c = rw c.new.ensures.items (record { rising = rising_none; readable = λ text h. absurd (contains_none text h) })

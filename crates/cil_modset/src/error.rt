@@ -1,0 +1,127 @@
+//! What keeps a call from its answer.
+
+use cil_sexpr::{ReadError, ReadFault};
+use std::alloc::{AllocError, AllocFailed};
+use std::error::Error;
+use std::fmt;
+
+/// The machine had no memory for a call that can fail in no other way. The same call may succeed later.
+#[derive(Clone, Copy, Debug, PartialEq, Eq)]
+pub struct NoMemory;
+
+impl fmt::Display for NoMemory {
+    fn fmt<W: fmt::Write>(&self, f: &mut fmt::Formatter<W>) -> fmt::Result {
+        write!(f, "no memory")
+    }
+}
+
+impl Error for NoMemory {}
+
+impl From<AllocError> for NoMemory {
+    ghost from_gives = { λ _ _. Unit {0} };
+
+    fn from(_error: AllocError) -> NoMemory {
+        NoMemory
+    }
+}
+
+impl<T: Drop> From<AllocFailed<T>> for NoMemory {
+    ghost from_gives = { λ _ _. Unit {0} };
+
+    fn from(_error: AllocFailed<T>) -> NoMemory {
+        NoMemory
+    }
+}
+
+/// What is wrong with bytes that are no bundle. The first fault from the left decides; in one module it is
+/// the first of `Short`, `NotRising` and `BadModule`.
+#[derive(Clone, Copy, Debug, PartialEq, Eq)]
+pub enum BundleFault {
+    /// One of the first five bytes is not that of a bundle.
+    BadMagic,
+    /// The bytes end within the header, or within a module that the header promises.
+    Short,
+    /// A module does not come behind the one before it in byte order.
+    NotRising,
+    /// A module is no readable text.
+    BadModule {
+        /// How many modules stand before it.
+        index: u64,
+        /// The first fault of its text.
+        fault: ReadFault,
+    },
+    /// Bytes follow the last module.
+    Trailing,
+}
+
+impl BundleFault {
+    ghost use Rattle.std.specs.Prelude.{◌≡◌};
+    ghost use Rattle.cil_modset.specs.Faults.{number_of};
+
+    /// The number of this cause in the replies of a host, from 11 to 15.
+    pub fn number(self) -> u32
+        ensures { result ≡ number_of self }
+    {
+        match self {
+            BundleFault::BadMagic => 11,
+            BundleFault::Short => 12,
+            BundleFault::NotRising => 13,
+            BundleFault::BadModule { .. } => 14,
+            BundleFault::Trailing => 15,
+        }
+    }
+}
+
+impl fmt::Display for BundleFault {
+    fn fmt<W: fmt::Write>(&self, f: &mut fmt::Formatter<W>) -> fmt::Result {
+        match self {
+            BundleFault::BadMagic => write!(f, "the bytes do not begin as a bundle"),
+            BundleFault::Short => write!(f, "the bundle is cut short"),
+            BundleFault::NotRising => write!(f, "the modules do not rise in byte order"),
+            BundleFault::BadModule { index, fault } => write!(f, "module {index}: {fault}"),
+            BundleFault::Trailing => write!(f, "bytes follow the last module"),
+        }
+    }
+}
+
+/// Why bytes were not imported.
+#[derive(Clone, Copy, Debug, PartialEq, Eq)]
+pub enum BundleError {
+    /// The bytes are at fault: every machine refuses them.
+    Fault(BundleFault),
+    /// The machine is at fault: the same call may succeed later.
+    NoMemory,
+}
+
+impl fmt::Display for BundleError {
+    fn fmt<W: fmt::Write>(&self, f: &mut fmt::Formatter<W>) -> fmt::Result {
+        match self {
+            BundleError::Fault(fault) => write!(f, "{fault}"),
+            BundleError::NoMemory => write!(f, "no memory"),
+        }
+    }
+}
+
+impl Error for BundleError {}
+
+impl From<AllocError> for BundleError {
+    ghost use Rattle.std.specs.Prelude.{◌≡◌};
+    ghost use Rattle.cil_modset.specs.declared.error.BundleError.TheVariants.{NoMemory};
+
+    ghost from_gives = { λ _ e. e ≡ NoMemory };
+
+    fn from(_error: AllocError) -> BundleError {
+        BundleError::NoMemory
+    }
+}
+
+impl<T: Drop> From<AllocFailed<T>> for BundleError {
+    ghost use Rattle.std.specs.Prelude.{◌≡◌};
+    ghost use Rattle.cil_modset.specs.declared.error.BundleError.TheVariants.{NoMemory};
+
+    ghost from_gives = { λ _ e. e ≡ NoMemory };
+
+    fn from(_error: AllocFailed<T>) -> BundleError {
+        BundleError::NoMemory
+    }
+}

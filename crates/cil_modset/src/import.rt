@@ -1,0 +1,142 @@
+//! Reading a bundle: one walk over its modules and over ours.
+
+ghost use Rattle.std.specs.Prelude.{◌≡◌, ℕ, ◌+◌, ◌<◌, ◌≤◌, length, IfOk, IfErr, OnOk, IfSome, IfNone};
+ghost use Rattle.cil_sexpr.specs.Text.{IsReadable};
+ghost use Rattle.cil_modset.specs.Faults.{HasHeader, HasModule, IsCut, number_at, promised};
+ghost use Rattle.cil_modset.specs.Modules.{AreModules, texts_of};
+ghost use Rattle.cil_modset.specs.Newcomers.{IsImportOf, IsImportedUpTo, RefusesModule};
+ghost use Rattle.cil_modset.specs.Refusal.{RefusesBundle};
+
+use crate::error::{BundleError, BundleFault};
+use crate::newcomers::Newcomers;
+use crate::order::is_below;
+use cil_sexpr::{ReadError, read};
+use std::alloc::Global;
+
+/// What the header of a bundle begins with.
+const MAGIC: [u8; 5] = *b"CILB\x01";
+
+/// Where an import stands in the bytes.
+#[derive(Debug, Drop)]
+struct Intake {
+    /// Where the text of the last module starts.
+    start: usize,
+    /// Where that module ends.
+    at: usize,
+    /// Which modules are not ours.
+    walk: Newcomers,
+}
+
+/// The modules of a bundle that are not ours.
+pub(crate) fn newcomers_of(
+    alloc: Global,
+    ours: &[Vec<u8>],
+    bytes: &[u8],
+) -> Result<Vec<Vec<u8>>, BundleError>
+    requires { AreModules (texts_of ours.now) }
+    ensures found { IfOk result (λ fresh. IsImportOf bytes.now (texts_of ours.now) (texts_of fresh.items)) }
+    ensures refusal { IfErr result (RefusesBundle bytes.now) }
+{
+    let count = read_header(bytes)?;
+    let mut intake = Intake {
+        start: 13,
+        at: 13,
+        walk: Newcomers::new(alloc),
+    };
+    for index in 0..count {
+        take_module(alloc, ours, bytes, index, &mut intake)?;
+    }
+    if intake.at < bytes.len() {
+        return Err(BundleError::Fault(BundleFault::Trailing));
+    }
+    Ok(intake.walk.fresh)
+}
+
+/// Reads the header, and answers how many modules it promises.
+fn read_header(bytes: &[u8]) -> Result<u64, BundleError>
+    ensures header { OnOk result (HasHeader bytes.now) }
+    ensures count { IfOk result (λ count. count ≡ promised bytes.now) }
+    ensures refusal { IfErr result (RefusesBundle bytes.now) }
+{
+    for i in 0..5 {
+        if i < bytes.len() && bytes[i] != MAGIC[i] {
+            return Err(BundleError::Fault(BundleFault::BadMagic));
+        }
+    }
+    if bytes.len() < 13 {
+        return Err(BundleError::Fault(BundleFault::Short));
+    }
+    Ok(read_number(bytes, 5))
+}
+
+/// The number that eight bytes spell.
+fn read_number(bytes: &[u8], at: usize) -> u64
+    requires { at + 8 ≤ length bytes.now }
+    ensures { result ≡ number_at bytes.now at }
+{
+    let b = &bytes[at..at + 8];
+    u64::from_be_bytes([b[0], b[1], b[2], b[3], b[4], b[5], b[6], b[7]])
+}
+
+/// The module at a place, if the bytes do not end within it.
+fn module_at(bytes: &[u8], at: usize) -> Option<&[u8]>
+    requires { at ≤ length bytes.now }
+    ensures found { IfSome result (λ text. HasModule bytes.now at text.now) }
+    ensures none { IfNone result (IsCut bytes.now at) }
+{
+    let left = bytes.len() - at;
+    if left < 8 {
+        return None;
+    }
+    let size = read_number(bytes, at);
+    if ((left - 8) as u64) < size {
+        return None;
+    }
+    Some(&bytes[at + 8..at + 8 + size as usize])
+}
+
+/// Takes the next module of the bundle.
+fn take_module(
+    alloc: Global,
+    ours: &[Vec<u8>],
+    bytes: &[u8],
+    index: u64,
+    intake: &mut Intake,
+) -> Result<(), BundleError>
+    requires ours { AreModules (texts_of ours.now) }
+    requires promised { index < promised bytes.now }
+    requires before { IsImportedUpTo bytes.now (texts_of ours.now) (texts_of intake.old.walk.fresh.items)
+        index intake.old.start intake.old.at intake.old.walk.passed }
+    ensures ok { OnOk result (IsImportedUpTo bytes.now (texts_of ours.now) (texts_of intake.new.walk.fresh.items)
+        (index + 1) intake.new.start intake.new.at intake.new.walk.passed) }
+    ensures refusal { IfErr result (RefusesBundle bytes.now) }
+{
+    let Some(text) = module_at(bytes, intake.at) else {
+        return Err(BundleError::Fault(BundleFault::Short));
+    };
+    let last = &bytes[intake.start..intake.at];
+    if index > 0 && !is_below(last, text) {
+        return Err(BundleError::Fault(BundleFault::NotRising));
+    }
+    if !intake.walk.knows(ours, text) {
+        check_module(alloc, index, text)?;
+        intake.walk.keep(alloc, text)?;
+    }
+    intake.start = intake.at + 8;
+    intake.at = intake.start + text.len();
+    Ok(())
+}
+
+/// Reads a module for its faults alone.
+fn check_module(alloc: Global, index: u64, text: &[u8]) -> Result<(), BundleError>
+    ensures readable { OnOk result (IsReadable text.now) }
+    ensures refusal { IfErr result (RefusesModule index text.now) }
+{
+    match read(alloc, text) {
+        Ok(_) => Ok(()),
+        Err(ReadError::Fault(fault)) => {
+            Err(BundleError::Fault(BundleFault::BadModule { index, fault }))
+        }
+        Err(ReadError::NoMemory) => Err(BundleError::NoMemory),
+    }
+}

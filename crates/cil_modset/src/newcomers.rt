@@ -1,0 +1,69 @@
+//! Which texts of a rising list another one lacks: one walk over both.
+
+ghost use Rattle.std.specs.Prelude.{◌≡◌, ℕ, ◌+◌, ◌<◌, ◌≤◌, ◌↔◌, List, [], ◌∷◌, ◌++◌, length, IsTrue, OnOk, OnErr, Contains};
+ghost use Rattle.cil_modset.specs.Faults.{AllBelow};
+ghost use Rattle.cil_modset.specs.Modules.{IsBelow, IsRising, module_of, texts_of};
+ghost use Rattle.cil_modset.specs.Newcomers.{HasPassed};
+
+use crate::order::{is_below, is_same};
+use std::alloc::{AllocError, Global};
+
+/// How far the walk has come.
+#[derive(Debug, Drop)]
+pub(crate) struct Newcomers {
+    /// How many of our texts come before whatever is still to be seen.
+    pub(crate) passed: usize,
+    /// What was seen and is not ours.
+    pub(crate) fresh: Vec<Vec<u8>>,
+}
+
+impl Newcomers {
+    pub(crate) fn new(alloc: Global) -> Newcomers
+        ensures passed { result.passed ≡ 0 }
+        ensures fresh { texts_of result.fresh.items ≡ [] }
+    {
+        Newcomers {
+            passed: 0,
+            fresh: Vec::new(alloc),
+        }
+    }
+
+    /// Goes on to the next text, which comes behind all that was seen, and tells whether it is ours.
+    pub(crate) fn knows(&mut self, ours: &[Vec<u8>], text: &[u8]) -> bool
+        requires rising { IsRising (texts_of ours.now) }
+        requires within { self.old.passed ≤ length ours.now }
+        ensures known { (seen : List (List ℕ)) → HasPassed (texts_of ours.now) seen self.old.passed → AllBelow seen text.now
+            → (IsTrue result ↔ Contains (texts_of ours.now) text.now) }
+        ensures passed { (seen : List (List ℕ)) → HasPassed (texts_of ours.now) seen self.old.passed → AllBelow seen text.now
+            → HasPassed (texts_of ours.now) (seen ++ text.now ∷ []) self.new.passed }
+        ensures fresh { self.new.fresh ≡ self.old.fresh }
+    {
+        self.passed = pass_below(ours, self.passed, text);
+        self.passed < ours.len() && is_same(ours[self.passed].as_slice(), text)
+    }
+
+    /// Keeps a text that is not ours.
+    pub(crate) fn keep(&mut self, alloc: Global, text: &[u8]) -> Result<(), AllocError>
+        ensures kept { OnOk result (texts_of self.new.fresh.items ≡ texts_of self.old.fresh.items ++ text.now ∷ []) }
+        ensures passed { self.new.passed ≡ self.old.passed }
+    {
+        let copy = Vec::from_slice(alloc, text)?;
+        self.fresh.push(copy)?;
+        Ok(())
+    }
+}
+
+/// The first place from `from` on whose text does not come before `text`.
+fn pass_below(ours: &[Vec<u8>], from: usize, text: &[u8]) -> usize
+    requires { from ≤ length ours.now }
+    ensures onward { from ≤ result }
+    ensures within { result ≤ length ours.now }
+    ensures below { (k : ℕ) → from ≤ k → k < result → IsBelow (module_of (texts_of ours.now) k) text.now }
+    ensures stops { result < length ours.now → IsBelow (module_of (texts_of ours.now) result) text.now → ⊥ }
+{
+    let mut at = from;
+    while at < ours.len() && is_below(ours[at].as_slice(), text) {
+        at += 1;
+    }
+    at
+}
