@@ -1,9 +1,9 @@
 -- Bytes have one first fault or are a bundle.
-use Rattle.std.proofs.Common.{◌≡◌, ℕ, zero, suc, ◌+◌, ◌-◌, ◌<◌, ◌≤◌, ◌⊎◌, List, [], ◌∷◌, ◌++◌, length, get_or, slice_index, take, drop, refl, sym, ◌∙◌, ap, subst, inl, inr, arith}
+use Rattle.std.proofs.Common.{◌≡◌, ℕ, zero, suc, ◌+◌, ◌<◌, ◌≤◌, ◌⊎◌, List, [], ◌∷◌, ◌++◌, length, slice_index, drop, refl, sym, ◌∙◌, ap, subst, inl, inr, arith}
 use Rattle.std.specs.Prelude.{Contains, ◌≢◌}
 use Rattle.std.proofs.lemmas.Bool.{cases_lt}
-use Rattle.std.proofs.lemmas.List.{append_assoc, append-nil, length-append, length-drop, length-take-le}
-use Rattle.std.proofs.lemmas.List.Elements.{Contains-append_left, Contains-append_right}
+use Rattle.std.proofs.lemmas.List.{append-nil, length-append, length-drop, length-take-le}
+use Rattle.std.proofs.lemmas.List.Elements.{Contains-append_right}
 use Rattle.cil_sexpr.specs.declared.fault.ReadFault.{ReadFault}
 use Rattle.cil_sexpr.specs.Faults.{FaultOf}
 use Rattle.cil_sexpr.specs.Laws as texts
@@ -11,10 +11,10 @@ use Rattle.cil_sexpr.specs.Lists.{contains_here, contains_later, contains_cases,
 use Rattle.cil_sexpr.specs.Text.{IsReadable}
 use Rattle.cil_modset.specs.declared.error.BundleFault.{BundleFault}
 use Rattle.cil_modset.specs.declared.error.BundleFault.TheVariants.{BadMagic, Short, NotRising, BadModule, Trailing}
-use Rattle.cil_modset.specs.Bundle.{AreBytes, magic, IsBundle}
-use Rattle.cil_modset.specs.Faults.{number_at, part_at, header_size, promised, HasMagic, HasHeader, HasModule, HasModules, IsCut, IsRightUpTo, AllBelow, IsNotAbove, HasHeaderFault, HasFaultBehind, HasLaterFault, HasFault}
+use Rattle.cil_modset.specs.Bundle.{AreBytes, magic}
+use Rattle.cil_modset.specs.Faults.{number_at, part_at, header_size, promised, HasHeader, HasModule, HasModules, IsCut, IsRightUpTo, AllBelow, IsNotAbove, HasHeaderFault, HasFaultBehind, HasLaterFault}
 use Rattle.cil_modset.specs.Laws.{NeverBoth, HasOneFault, AlwaysEither, IsSomeBundle, IsFaulty}
-use Rattle.cil_modset.specs.Modules.{IsBelow, AreModules}
+use Rattle.cil_modset.specs.Modules.{IsBelow}
 use Rattle.cil_modset.proofs.BundleLemmas.{right_on, right_bundle}
 use Rattle.cil_modset.proofs.RisingLemmas.{compared, never_both_below, not_below_itself, rising_none, rising_across}
 use Rattle.cil_modset.proofs.SpelledLemmas.{IsRightThrough, bundle_right}

@@ -1,5 +1,5 @@
 -- Laws that fix the definitions: what they say together of every set and of all bytes.
-use Rattle.std.specs.Prelude.{◌≡◌, ℕ, ◌<◌, ◌⊎◌, List, length, sum_by, count_by}
+use Rattle.std.specs.Prelude.{◌≡◌, ℕ, ◌⊎◌, List}
 use Rattle.cil_modset.specs.declared.error.BundleFault.{BundleFault}
 use Rattle.cil_modset.specs.Bundle.{AreBytes, bundle, IsBundle}
 use Rattle.cil_modset.specs.Faults.{HasFault}

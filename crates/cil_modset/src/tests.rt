@@ -213,9 +213,10 @@ fn a_damaged_bundle_changes_nothing(rt: HostRuntime) -> Result<(), Fail> {
     Ok(())
 }
 
-/// Wherever one growth is refused, the call has changed nothing and succeeds when it is repeated.
+/// Passes with every growth allowed, and with any one of them refused: the call that lost it has changed
+/// nothing, and succeeds when it is repeated.
 #[test]
-fn a_refused_call_can_be_repeated(rt: HostRuntime) -> Result<(), Fail> {
+fn a_refused_growth_leaves_the_set(rt: HostRuntime) -> Result<(), Fail> {
     let mut set = ModuleSet::new(rt.alloc());
     if set.install(rt.alloc(), B).is_err() {
         assert_holds(&rt, &set, &[]);

@@ -2,4 +2,4 @@ use Rattle.cil_modset.proofs.FaultLemmas.{always_either}
 use Rattle.cil_modset.proofs.laws.always_either.Goals as goal
 
 pub returns : goal.returns
-returns c = always_either
+returns c = always_either c.always_either.ensures
