@@ -24,6 +24,9 @@ pub enum Node {
     List(Span, Vec<Node>),
 }
 
+// Policies have millions of nodes.
+const _: () = prove!(size_of::<Node>() <= 40);
+
 impl Node {
     /// The part of its text that this node takes.
     pub fn span(&self) -> Span
