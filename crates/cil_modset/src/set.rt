@@ -94,7 +94,7 @@ impl ModuleSet {
         ensures len { result ≡ length self.now }
         ensures modules { AreModules self.now }
     {
-        self.texts.len()
+        self.texts.as_slice().len()
     }
 
     /// The module of a number below `len`.
@@ -179,7 +179,8 @@ impl Join for ModuleSet {
 
     fn merge(&mut self, alloc: Global, other: &Self) -> Result<u64, NoMemory> {
         let fresh = missing_from(alloc, self.texts.as_slice(), other.texts.as_slice())?;
-        Ok(self.take_in(alloc, fresh)?)
+        let added = self.take_in(alloc, fresh)?;
+        Ok(added)
     }
 }
 

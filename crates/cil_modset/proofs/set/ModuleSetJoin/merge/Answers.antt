@@ -10,4 +10,4 @@ take_in-requires-clause-apart c = rw (← c.self.view_is, ← c.as_slice.ensures
 pub returns-clause-joined : goal.returns-clause-joined
 returns-clause-joined c =
     let new = rw (c.as_slice.ensures.value, c.as_slice-2.ensures.value, c.self.view_is, c.other.view_is) at c.in_ok-fresh.ensures in
-    new_union _ _ _ _ new (rw (← c.other.view_is) c.other.invariant.rising) c.in_ok-take_in.ensures.union
+    new_union _ _ _ _ new (rw (← c.other.view_is) c.other.invariant.rising) c.in_ok-added.ensures.union
