@@ -1,17 +1,16 @@
 -- Modules at places of the bytes, and the bytes that spell them.
-use Rattle.std.proofs.Common.{◌≡◌, ℕ, zero, suc, ◌+◌, ◌-◌, ◌^◌, ◌<◌, ◌≤◌, ◌⊎◌, List, [], ◌∷◌, ◌++◌, length, get_or, take, drop, refl, sym, ◌∙◌, ap, subst, inl, inr, arith}
-use Rattle.std.specs.Prelude.{Contains, ◌↔◌}
+use Rattle.std.proofs.Common.{◌≡◌, ℕ, ◌+◌, ◌^◌, ◌<◌, ◌≤◌, List, [], ◌∷◌, ◌++◌, length, take, drop, refl, sym, ◌∙◌, ap, subst, inl, inr, arith}
 use Rattle.std.specs.Global.{Vec}
 use Rattle.std.specs.List.{flat_map}
-use Rattle.std.specs.Int.{w64, to_be_bytes, from_be_bytes}
+use Rattle.std.specs.Int.{w64, from_be_bytes}
 use Rattle.std.proofs.lemmas.Bool.{cases_lt}
-use Rattle.std.proofs.lemmas.List.{append_assoc, append-nil, take_all, take-append-drop, take_at, drop_at, drop_all, drop-drop, ext_get_or, length_push, length-take, length-take-le, length-drop, length-append, get_or-take, get_or-drop, get_or_past}
+use Rattle.std.proofs.lemmas.List.{append_assoc, append-nil, take_all, take-append-drop, drop_all, drop-drop, ext_get_or, length_push, length-take, length-drop, get_or-take, get_or-drop, get_or_past}
 use Rattle.std.proofs.lemmas.List.Elements.{Contains-push_cases}
-use Rattle.std.proofs.lemmas.Nat.{be_bytes_8, from_be_bytes-to_be_bytes_8}
+use Rattle.std.proofs.lemmas.Nat.{be_bytes_8}
 use Rattle.cil_sexpr.specs.Text.{IsReadable}
 use Rattle.cil_modset.specs.Bundle.{AreBytes, magic, number, entry, bundle, IsBundle}
-use Rattle.cil_modset.specs.Faults.{number_at, part_at, header_size, promised, HasMagic, HasHeader, HasModule, HasModules, IsRightUpTo, AllBelow}
-use Rattle.cil_modset.specs.Modules.{AreModules, texts_of}
+use Rattle.cil_modset.specs.Faults.{number_at, header_size, promised, HasHeader, HasModule, HasModules, IsRightUpTo, AllBelow}
+use Rattle.cil_modset.specs.Modules.{texts_of}
 use Rattle.cil_modset.proofs.RisingLemmas.{length-texts_of, rising_push}
 
 -- what was written when all is written

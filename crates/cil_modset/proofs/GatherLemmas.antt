@@ -1,13 +1,13 @@
 -- Two rising lists taken apart from their ends, and what was taken put together.
-use Rattle.std.proofs.Common.{◌≡◌, ℕ, zero, suc, ◌+◌, ◌<◌, ◌≤◌, ◌⊎◌, List, [], ◌∷◌, ◌++◌, length, refl, sym, ◌∙◌, ap, subst, inl, inr, arith}
+use Rattle.std.proofs.Common.{◌≡◌, ℕ, ◌+◌, ◌⊎◌, List, [], ◌∷◌, ◌++◌, length, refl, sym, ◌∙◌, ap, subst, inl, inr, arith}
 use Rattle.std.specs.Prelude.{Contains, ◌↔◌, reverse}
 use Rattle.std.specs.Global.{Vec}
-use Rattle.std.proofs.lemmas.List.{map-append, append_assoc, append-nil, length_push, map_push, reverse-append, length-append, length-reverse}
-use Rattle.std.proofs.lemmas.List.Elements.{Contains-append_left, Contains-append_right, Contains-append_cases, Contains-push, Contains-push_cases}
+use Rattle.std.proofs.lemmas.List.{map-append, append_assoc, append-nil, length_push, map_push, reverse-append}
+use Rattle.std.proofs.lemmas.List.Elements.{Contains-append_left, Contains-push, Contains-push_cases}
 use Rattle.cil_sexpr.specs.Lists.{contains_here, contains_later, contains_cases, contains_none}
 use Rattle.cil_modset.specs.Gather.{AreApart, EndsLast, IsTakenOff, IsTakenFrom}
 use Rattle.cil_modset.specs.Modules.{IsBelow, IsRising, IsUnion, texts_of}
-use Rattle.cil_modset.proofs.RisingLemmas.{compared, below_trans, not_below_itself, rising_join, rising_front, rising_back, rising_across, rising_one}
+use Rattle.cil_modset.proofs.RisingLemmas.{compared, below_trans, rising_join, rising_front, rising_back, rising_across}
 
 -- what is left of two lists and what was taken off, in order, are the lists
 pub record Gathered (low_all high_all low high rest : List (List ℕ)) : Type 0 where

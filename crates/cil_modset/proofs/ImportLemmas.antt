@@ -1,6 +1,6 @@
 -- One step of an import, and what it has made in the end.
-use Rattle.std.proofs.Common.{◌≡◌, ℕ, zero, suc, ◌+◌, ◌-◌, ◌<◌, ◌≤◌, ◌⊎◌, List, [], ◌∷◌, ◌++◌, length, take, drop, slice_range, refl, sym, ◌∙◌, ap, subst, inl, inr, arith}
-use Rattle.std.specs.Prelude.{Contains, ◌↔◌}
+use Rattle.std.proofs.Common.{◌≡◌, ℕ, ◌+◌, ◌-◌, ◌<◌, ◌≤◌, List, [], ◌∷◌, ◌++◌, length, take, drop, slice_range, refl, sym, ◌∙◌, subst, inl, inr, arith}
+use Rattle.std.specs.Prelude.{Contains}
 use Rattle.std.proofs.lemmas.List.{length_push}
 use Rattle.std.proofs.lemmas.List.Elements.{Contains-push, Contains-push_cases}
 use Rattle.cil_sexpr.specs.Lists.{contains_none}
@@ -9,8 +9,8 @@ use Rattle.cil_modset.specs.declared.error.BundleError.{BundleError}
 use Rattle.cil_modset.specs.declared.error.BundleError.TheVariants as errors
 use Rattle.cil_modset.specs.declared.error.BundleFault.TheVariants.{BadMagic, Short, NotRising, BadModule, Trailing}
 use Rattle.cil_modset.specs.Bundle.{AreBytes}
-use Rattle.cil_modset.specs.Faults.{part_at, promised, HasHeader, HasModule, IsCut, IsRightUpTo, AllBelow, HasFault}
-use Rattle.cil_modset.specs.Modules.{IsBelow, AreModules}
+use Rattle.cil_modset.specs.Faults.{part_at, promised, HasHeader, HasModule, IsCut, AllBelow, HasFault}
+use Rattle.cil_modset.specs.Modules.{IsBelow}
 use Rattle.cil_modset.specs.Newcomers.{AreNew, HasPassed, IsLast, IsImportedUpTo, IsImportOf, RefusesModule}
 use Rattle.cil_modset.specs.Refusal.{RefusesBundle}
 use Rattle.cil_modset.proofs.BundleLemmas.{right_on, right_bundle}

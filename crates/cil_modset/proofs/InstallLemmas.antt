@@ -1,6 +1,6 @@
 -- What an installation answers and leaves.
-use Rattle.std.proofs.Common.{◌≡◌, ℕ, List, [], ◌∷◌, ◌++◌, refl, sym, ◌∙◌, ap, subst, inl, inr}
-use Rattle.std.specs.Prelude.{Contains, ◌↔◌, Result, Ok, Err, IsErr, IfOk}
+use Rattle.std.proofs.Common.{◌≡◌, ℕ, List, [], ◌∷◌, ◌∙◌, ap, subst, inl, inr}
+use Rattle.std.specs.Prelude.{Contains, ◌↔◌, Result, Ok, Err, IsErr}
 use Rattle.std.specs.Global.{Vec}
 use Rattle.std.specs.List.{insert}
 use Rattle.cil_sexpr.specs.declared.fault.ReadError.{ReadError}
@@ -11,7 +11,6 @@ use Rattle.cil_modset.specs.declared.set.Installed.TheVariants.{New, Known}
 use Rattle.cil_modset.specs.Modules.{IsRising, IsUnion, IsPlaceOf, AreModules, texts_of}
 use Rattle.cil_modset.proofs.PlaceLemmas.{place_absent, insert_union, insert-texts_of}
 use Rattle.cil_modset.proofs.RisingLemmas.{rising_one}
-use Rattle.cil_modset.proofs.WalkLemmas.{union_modules}
 
 -- a refusal of a text that has its place is no `Known`
 pub refused_unknown : (old : List (List ℕ)) (text : List ℕ) (place : ℕ) (r : Result Installed ReadError) → IsErr r → IsPlaceOf old text place

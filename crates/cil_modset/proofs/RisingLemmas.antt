@@ -1,19 +1,19 @@
 -- Rising lists of texts: the order, and lists put together and taken apart.
-use Rattle.std.proofs.Common.{◌≡◌, ℕ, zero, suc, ◌+◌, ◌-◌, ◌<◌, ◌≤◌, ◌⊎◌, List, [], ◌∷◌, ◌++◌, length, get_or, take, drop, refl, sym, ◌∙◌, ap, subst, inl, inr, arith, rules}
-use Rattle.std.specs.Prelude.{Contains, map, slice_index_or, IsTrue, ◌↔◌}
+use Rattle.std.proofs.Common.{◌≡◌, ℕ, zero, suc, ◌+◌, ◌-◌, ◌<◌, ◌≤◌, ◌⊎◌, List, [], ◌∷◌, ◌++◌, length, get_or, take, refl, sym, ◌∙◌, ap, subst, inl, inr, arith}
+use Rattle.std.specs.Prelude.{Contains}
 use Rattle.std.specs.Global.{Vec}
 use Rattle.std.specs.declared.cmp.Ordering.{Ordering}
 use Rattle.std.specs.declared.cmp.Ordering.TheVariants.{Less, Equal, Greater}
-use Rattle.std.specs.Ordering.{ordering_reverse, nat_cmp}
+use Rattle.std.specs.Ordering.{ordering_reverse}
 use Rattle.std.specs.Cmp.Lexicographic.{nat_list_cmp_total}
 use Rattle.std.specs.List.{AllByRecursion}
 use Rattle.std.specs.List.Sorted.{IsStrictlySortedBy}
-use Rattle.std.proofs.lemmas.List.{take_more, length_push, get_or_push, get_or-map, length-map, get_or_default, append_assoc, map_push, take-append-drop, length-take, get_or-take, get_or-drop}
+use Rattle.std.proofs.lemmas.List.{take_more, length_push, get_or_push, get_or-map, length-map, get_or_default, map_push}
 use Rattle.std.proofs.lemmas.Bool.{cases_lt}
-use Rattle.std.proofs.lemmas.List.Elements.{Contains-append_left, Contains-append_right, Contains-append_cases, Contains-push, Contains-get_or}
+use Rattle.std.proofs.lemmas.List.Elements.{Contains-append_left, Contains-append_right, Contains-append_cases, Contains-get_or}
 use Rattle.std.proofs.lemmas.Map.Lookups.{exact_bytes}
 use Rattle.cil_sexpr.specs.Lists.{text_cmp, contains_here, contains_later, contains_cases, contains_none, all_at}
-use Rattle.cil_modset.specs.Modules.{IsBelow, IsRising, IsUnion, IsPlaceOf, module_of, texts_of}
+use Rattle.cil_modset.specs.Modules.{IsBelow, IsRising, module_of, texts_of}
 
 -- ---- the order
 

@@ -1,15 +1,15 @@
 -- One step of the walk over two rising lists, and what it has found in the end.
-use Rattle.std.proofs.Common.{◌≡◌, ℕ, zero, suc, ◌+◌, ◌<◌, ◌≤◌, ◌⊎◌, List, [], ◌∷◌, ◌++◌, length, take, drop, refl, sym, ◌∙◌, ap, subst, inl, inr, arith}
-use Rattle.std.specs.Prelude.{Contains, ◌↔◌}
+use Rattle.std.proofs.Common.{◌≡◌, ℕ, ◌+◌, ◌<◌, ◌≤◌, ◌⊎◌, List, [], ◌∷◌, ◌++◌, length, take, drop, subst, inl, inr, arith}
+use Rattle.std.specs.Prelude.{Contains}
 use Rattle.std.proofs.lemmas.Bool.{cases_lt}
-use Rattle.std.proofs.lemmas.List.{take-append-drop, take_more, length-take}
-use Rattle.std.proofs.lemmas.List.Elements.{Contains-append_left, Contains-append_right, Contains-append_cases, Contains-push, Contains-push_cases}
+use Rattle.std.proofs.lemmas.List.{take-append-drop, take_more}
+use Rattle.std.proofs.lemmas.List.Elements.{Contains-append_left, Contains-push, Contains-push_cases}
 use Rattle.cil_sexpr.specs.Lists.{contains_here, contains_later, contains_cases, contains_none}
 use Rattle.cil_modset.specs.Faults.{AllBelow}
 use Rattle.cil_modset.specs.Gather.{AreApart}
 use Rattle.cil_modset.specs.Modules.{IsBelow, IsRising, IsUnion, AreModules, module_of}
 use Rattle.cil_modset.specs.Newcomers.{AreNew, HasPassed}
-use Rattle.cil_modset.proofs.RisingLemmas.{compared, below_trans, not_below_itself, rising_none, rising_push, rising_at, rising_front, rising_across, number_of_member, member_of_number}
+use Rattle.cil_modset.proofs.RisingLemmas.{compared, below_trans, not_below_itself, rising_none, rising_push, rising_at, rising_front, rising_across, number_of_member}
 
 -- a text is in a list, or it is not
 pub decided : (xs : List (List ℕ)) (t : List ℕ) → Contains xs t ⊎ (Contains xs t → ⊥)

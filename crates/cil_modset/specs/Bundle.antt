@@ -1,6 +1,6 @@
 -- How a set of modules is spelled as bytes: five bytes that say what follows, how many modules there are, and
 -- each module in byte order, with its size before it. The layout is this project's profile.
-use Rattle.std.specs.Prelude.{◌≡◌, ℕ, ◌+◌, ◌^◌, ◌<◌, List, [], ◌∷◌, ◌++◌, length, slice_index}
+use Rattle.std.specs.Prelude.{◌≡◌, ℕ, ◌^◌, ◌<◌, List, [], ◌∷◌, ◌++◌, length, slice_index}
 use Rattle.std.specs.List.{flat_map}
 use Rattle.std.specs.Int.{w64, to_be_bytes}
 use Rattle.cil_modset.specs.Modules.{AreModules}

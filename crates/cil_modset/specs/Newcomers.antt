@@ -1,12 +1,12 @@
 -- The walk over two rising lists that finds the texts of the second which the first lacks.
-use Rattle.std.specs.Prelude.{◌≡◌, ℕ, ◌+◌, ◌<◌, ◌≤◌, ◌↔◌, List, [], ◌∷◌, ◌++◌, length, Contains}
+use Rattle.std.specs.Prelude.{◌≡◌, ℕ, ◌+◌, ◌<◌, ◌≤◌, ◌↔◌, List, length, Contains}
 use Rattle.cil_sexpr.specs.Faults.{FaultOf}
 use Rattle.cil_modset.specs.declared.error.BundleError.{BundleError}
 use Rattle.cil_modset.specs.declared.error.BundleError.TheVariants as errors
 use Rattle.cil_modset.specs.declared.error.BundleFault.TheVariants.{BadMagic, Short, NotRising, BadModule, Trailing}
 use Rattle.cil_modset.specs.Bundle.{IsBundle}
 use Rattle.cil_modset.specs.Faults.{AllBelow, IsRightUpTo, part_at}
-use Rattle.cil_modset.specs.Modules.{IsBelow, IsRising, AreModules, module_of}
+use Rattle.cil_modset.specs.Modules.{IsBelow, IsRising, module_of}
 
 -- of what was seen, the texts that are not ours
 pub record AreNew (ours seen fresh : List (List ℕ)) : Type 0 where

@@ -1,6 +1,6 @@
 -- The laws of union.
-use Rattle.std.specs.Prelude.{◌≡◌, ℕ, ◌⊎◌, List, Contains}
-use Rattle.std.proofs.Common.{inl, inr, subst, sym}
+use Rattle.std.specs.Prelude.{◌≡◌, ℕ, List, Contains}
+use Rattle.std.proofs.Common.{inl, inr}
 use Rattle.std.specs.Cmp.Lexicographic.{nat_list_cmp_total}
 use Rattle.cil_sexpr.specs.Lists.{text_cmp, same_members}
 use Rattle.cil_modset.specs.Modules.{IsUnion, IsRising}

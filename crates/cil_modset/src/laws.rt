@@ -2,7 +2,7 @@
 //! anything; each one's contract is a law.
 
 ghost use Rattle.cil_sexpr.specs.Laws as texts;
-ghost use Rattle.cil_modset.specs.Laws.{HasOneSet, NeverBoth, HasOneFault, AlwaysEither};
+ghost use Rattle.cil_modset.specs.Laws.{HasOneSet, NeverBoth, HasOneFault, AlwaysEither, AreNumbered};
 
 /// Sets that have one bundle are one set.
 pub fn one_set()
@@ -22,4 +22,9 @@ pub fn one_fault()
 /// All bytes are a bundle or have a fault, as each text is readable or at fault.
 pub fn always_either()
     ensures { texts.AlwaysEither → AlwaysEither }
+{}
+
+/// The number of a module is how many modules come before it.
+pub fn numbered()
+    ensures { AreNumbered }
 {}

@@ -1,5 +1,4 @@
-use Rattle.std.proofs.Common.{◌≡◌, ℕ, arith, sym, subst, ◌∙◌}
-use Rattle.cil_modset.specs.Modules.{IsBelow}
+use Rattle.std.proofs.Common.{◌≡◌, ◌∙◌}
 use Rattle.cil_modset.proofs.RisingLemmas.{last_text, never_both_below}
 use Rattle.cil_modset.proofs.gather.ends_last.Goals as goal
 

@@ -1,6 +1,5 @@
-use Rattle.std.proofs.Common.{◌≡◌, ℕ, arith, rules, sym, subst, ◌∙◌}
-use Rattle.cil_modset.specs.Modules.{texts_of}
-use Rattle.cil_modset.proofs.GatherLemmas.{Gathered, taken_from, gathered_all, reverse_push, texts_of-reverse}
+use Rattle.std.proofs.Common.{arith}
+use Rattle.cil_modset.proofs.GatherLemmas.{taken_from, gathered_all, reverse_push, texts_of-reverse}
 use Rattle.cil_modset.proofs.gather.gather.Goals as goal
 
 pub loop-text-preserved : goal.loop-text-preserved

@@ -1,4 +1,4 @@
-use Rattle.std.proofs.Common.{◌≡◌, sym, arith, refl, true, false}
+use Rattle.std.proofs.Common.{arith}
 use Rattle.std.proofs.lemmas.Result.{err_from_is_err_and}
 use Rattle.cil_modset.specs.Faults.{AllBelow}
 use Rattle.cil_modset.proofs.ImportLemmas.{above_last, falls_back, module_refused, imported_on}

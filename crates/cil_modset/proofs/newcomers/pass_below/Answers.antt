@@ -1,5 +1,4 @@
 use Rattle.std.proofs.Common.{arith, refl}
-use Rattle.cil_modset.specs.Modules.{IsBelow, module_of, texts_of}
 use Rattle.cil_modset.proofs.RisingLemmas.{below_step, text_read}
 use Rattle.cil_modset.proofs.newcomers.pass_below.Goals as goal
 

@@ -1,4 +1,4 @@
-use Rattle.std.proofs.Common.{◌≡◌, ℕ, List, [], ◌∷◌, ◌++◌, ◌+◌, arith, ap, sym, ◌∙◌, refl, subst, take}
+use Rattle.std.proofs.Common.{◌≡◌, ℕ, List, [], ◌∷◌, ◌++◌, ◌+◌, arith, ap, sym, ◌∙◌, take}
 use Rattle.cil_modset.specs.Faults.{AllBelow}
 use Rattle.cil_modset.specs.Modules.{texts_of}
 use Rattle.cil_modset.proofs.RisingLemmas.{take_text, text_read, length-texts_of}

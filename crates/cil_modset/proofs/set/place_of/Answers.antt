@@ -1,4 +1,4 @@
-use Rattle.std.proofs.Common.{◌≡◌, ℕ, arith, rules, refl, subst, ◌∙◌, sym, true, false}
+use Rattle.std.proofs.Common.{arith, rules, ◌∙◌, sym}
 use Rattle.std.proofs.lemmas.List.Sorted.{IsPartitionPoint-from_clause}
 use Rattle.cil_modset.proofs.RisingLemmas.{text_read}
 use Rattle.cil_modset.proofs.PlaceLemmas.{comes_before, place_parted, place_is}

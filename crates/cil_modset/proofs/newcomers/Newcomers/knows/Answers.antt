@@ -1,4 +1,4 @@
-use Rattle.std.proofs.Common.{refl, sym, ◌≡◌, ◌<◌, subst, arith, length}
+use Rattle.std.proofs.Common.{◌≡◌, ◌<◌, subst, arith, length}
 use Rattle.std.specs.Prelude.{Contains}
 use Rattle.std.proofs.lemmas.Bool.{ltb-true, lt-ltb}
 use Rattle.cil_modset.specs.Modules.{module_of, texts_of}

@@ -1,5 +1,5 @@
-use Rattle.std.proofs.Common.{◌≡◌, sym, subst, List, ℕ}
-use Rattle.cil_modset.specs.Modules.{IsUnion, IsRising}
+use Rattle.std.proofs.Common.{◌≡◌, subst, List, ℕ}
+use Rattle.cil_modset.specs.Modules.{IsUnion}
 use Rattle.cil_modset.proofs.LawLemmas.{set_of_bundle}
 use Rattle.cil_modset.proofs.WalkLemmas.{new_modules, new_apart, new_union}
 use Rattle.cil_modset.proofs.set.ModuleSet.import.Goals as goal

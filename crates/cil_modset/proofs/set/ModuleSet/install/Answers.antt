@@ -1,4 +1,3 @@
-use Rattle.std.proofs.Common.{◌≡◌, sym}
 use Rattle.cil_modset.proofs.InstallLemmas.{refused_unknown, new_unknown, installed_union, one_module}
 use Rattle.cil_modset.proofs.WalkLemmas.{union_modules}
 use Rattle.cil_modset.proofs.set.ModuleSet.install.Goals as goal

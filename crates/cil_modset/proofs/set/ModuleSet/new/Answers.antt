@@ -1,4 +1,3 @@
-use Rattle.std.proofs.Common.{arith}
 use Rattle.cil_sexpr.specs.Lists.{contains_none}
 use Rattle.cil_modset.proofs.RisingLemmas.{rising_none}
 use Rattle.cil_modset.proofs.set.ModuleSet.new.Goals as goal
