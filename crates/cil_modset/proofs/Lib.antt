@@ -1,9 +1,11 @@
 pub mod BundleLemmas
+pub mod EitherLemmas
 pub mod FaultLemmas
 pub mod GatherLemmas
 pub mod ImportLemmas
 pub mod InstallLemmas
 pub mod LawLemmas
+pub mod NumberLemmas
 pub mod PlaceLemmas
 pub mod RisingLemmas
 pub mod WalkLemmas

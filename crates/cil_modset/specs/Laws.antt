@@ -1,9 +1,11 @@
 -- Laws that fix the definitions: what they say together of every set and of all bytes.
-use Rattle.std.specs.Prelude.{◌≡◌, ℕ, ◌⊎◌, List}
+use Rattle.std.specs.Prelude.{◌≡◌, ℕ, ◌<◌, ◌⊎◌, List, length, count_by}
+use Rattle.std.specs.Ordering.{is_lt}
+use Rattle.cil_sexpr.specs.Lists.{text_cmp}
 use Rattle.cil_modset.specs.declared.error.BundleFault.{BundleFault}
 use Rattle.cil_modset.specs.Bundle.{AreBytes, bundle, IsBundle}
 use Rattle.cil_modset.specs.Faults.{HasFault}
-use Rattle.cil_modset.specs.Modules.{AreModules}
+use Rattle.cil_modset.specs.Modules.{AreModules, module_of}
 
 -- two sets with one bundle are one set; that a set has one bundle is plain, since its bundle is a function of it
 abbrev pub HasOneSet : Type 0
@@ -30,3 +32,8 @@ pub record IsFaulty (bytes : List ℕ) : Type 0 where
 -- all bytes are a bundle or have a fault
 abbrev pub AlwaysEither : Type 0
 AlwaysEither = (bytes : List ℕ) → AreBytes bytes → IsSomeBundle bytes ⊎ IsFaulty bytes
+
+-- the number of a module is how many modules come before it in byte order
+abbrev pub AreNumbered : Type 0
+AreNumbered =
+    (modules : List (List ℕ)) (i : ℕ) → AreModules modules → i < length modules → count_by (λ t. is_lt (text_cmp t (module_of modules i))) modules ≡ i

@@ -1,7 +1,7 @@
 //! Laws that fix the definitions: what they say together of every set and of all bytes. No function here does
 //! anything; each one's contract is a law, and a call of a law of texts stands where one is needed.
 
-ghost use Rattle.cil_modset.specs.Laws.{HasOneSet, NeverBoth, HasOneFault, AlwaysEither};
+ghost use Rattle.cil_modset.specs.Laws.{HasOneSet, NeverBoth, HasOneFault, AlwaysEither, AreNumbered};
 
 use cil_sexpr::laws as texts;
 
@@ -31,3 +31,8 @@ pub fn always_either()
 {
     texts::always_either();
 }
+
+/// The number of a module is how many modules come before it.
+pub fn numbered()
+    ensures { AreNumbered }
+{}

@@ -134,7 +134,8 @@ impl ModuleSet {
         // Bytes that were taken are the bundle of a set.
         ensures bundle { OnOk result ((modules : List (List ℕ)) × IsBundle bytes.now modules) }
         // Of whichever set they are the bundle, the modules of that set were taken in.
-        ensures union { (modules : List (List ℕ)) → IsBundle bytes.now modules → OnOk result (IsUnion self.old modules self.new) }
+        ensures union { (modules : List (List ℕ)) → IsBundle bytes.now modules
+            → OnOk result (IsUnion self.old modules self.new) }
         ensures added { IfOk result (λ added. length self.new ≡ length self.old + added) }
         ensures refusal { IfErr result (RefusesBundle bytes.now) }
         ensures err { OnErr result (self.new ≡ self.old) }

@@ -1,4 +1,4 @@
-use Rattle.cil_modset.proofs.FaultLemmas.{always_either}
+use Rattle.cil_modset.proofs.EitherLemmas.{always_either}
 use Rattle.cil_modset.proofs.laws.always_either.Goals as goal
 
 pub returns : goal.returns
