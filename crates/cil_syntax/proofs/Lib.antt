@@ -1,0 +1,5 @@
+pub mod SortedFaults
+mod Examples
+pub mod Spelled
+pub mod SpelledSo
+pub mod ManyItems

@@ -1,0 +1,16 @@
+pub mod Codes
+pub mod Fails
+pub mod FaultOrder
+pub mod Grammar
+pub mod Kinds
+pub mod Laws
+pub mod Printed
+pub mod Refusal
+pub mod Said
+pub mod Shapes
+pub mod Sorted
+pub mod Spelling
+pub mod Table
+pub mod Terms
+pub mod Told
+pub mod Written

@@ -1,0 +1,48 @@
+-- What the functions that read say of their answers. No other crate needs these words.
+use Rattle.std.specs.Prelude.{◌≡◌, ℕ, List, [], ◌∷◌, ◌++◌, map, Option, Some, None}
+use Rattle.std.specs.Global.{Vec}
+use Rattle.cil_syntax.specs.declared.fault.Fault.{Fault}
+use Rattle.cil_syntax.specs.declared.term.Term as rust
+use Rattle.cil_syntax.specs.declared.term.Word.{Word}
+use Rattle.cil_syntax.specs.Said.{said_of, all_said}
+use Rattle.cil_syntax.specs.Shapes.{Inner, Reading, reads}
+use Rattle.cil_syntax.specs.Terms.{Term, Terms, cons}
+use Rattle.cil_syntax.specs.Written.{at_top, fault_of}
+
+-- the faults of a module, told at its top
+abbrev pub told : ℕ → List Inner → List Fault
+told m faults = map (fault_of m at_top) faults
+
+-- some faults were put behind others
+abbrev pub AreMore : List Fault → List Fault → Type 0
+AreMore old new = (more : List Fault) × (new ≡ old ++ more)
+
+-- the term that was read, its faults put behind others; or nothing, where nothing was read
+abbrev pub IsTold : ℕ → Option (Reading (Term Word)) → List Fault → List Fault → Option rust.Term → Type 0
+IsTold m None old new None = AreMore old new
+IsTold m None old new (Some t) = ⊥
+IsTold m (Some r) old new None = ⊥
+IsTold m (Some r) old new (Some t) = (said_of t ≡ r.value) × (new ≡ old ++ told m r.faults)
+
+-- the same of some terms
+abbrev pub AreTold : ℕ → Option (Reading (Terms Word)) → List Fault → List Fault → Option (Vec rust.Term) → Type 0
+AreTold m None old new None = AreMore old new
+AreTold m None old new (Some ts) = ⊥
+AreTold m (Some r) old new None = ⊥
+AreTold m (Some r) old new (Some ts) = (all_said ts.items ≡ r.value) × (new ≡ old ++ told m r.faults)
+
+-- some terms in front of others
+abbrev pub before : List (Term Word) → Terms Word → Terms Word
+before [] more = more
+before (t ∷ ts) more = cons t (before ts more)
+
+-- some terms and faults in front of what is read behind them
+abbrev pub behind : List (Term Word) → List Inner → Option (Reading (Terms Word)) → Option (Reading (Terms Word))
+behind ts faults None = None
+behind ts faults (Some r) = reads (before ts r.value) (faults ++ r.faults)
+
+-- some terms were read, and whatever is read behind them completes the whole
+pub record AreRead (m : ℕ) (whole rest : Option (Reading (Terms Word))) (old new : List Fault) (terms : List rust.Term) : Type 0 where
+  pub faults : List Inner
+  pub more : new ≡ old ++ told m faults
+  pub completes : whole ≡ behind (map said_of terms) faults rest
