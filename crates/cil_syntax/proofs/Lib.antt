@@ -3,3 +3,4 @@ mod Examples
 pub mod Spelled
 pub mod SpelledSo
 pub mod ManyItems
+pub mod Operands

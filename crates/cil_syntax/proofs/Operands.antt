@@ -1,0 +1,112 @@
+-- The operands of an operator, and forms over terms that were read.
+use Rattle.std.proofs.Common.{◌≡◌, ◌≢◌, ℕ, suc, ◌+◌, ◌<◌, Bool, true, false, if◌then◌else◌, List, [], ◌∷◌, length, drop, refl, sym, ◌∙◌, ap, subst, arith, rules}
+use Rattle.std.specs.Prelude.{Option, Some, None}
+use Rattle.std.specs.declared.vec.Vec.{Vec}
+use Rattle.std.specs.declared.alloc.Global.{Global}
+use Rattle.std.proofs.lemmas.List.{append-nil, length-drop}
+use Rattle.cil_sexpr.specs.declared.node.Node as nodes
+use Rattle.cil_sexpr.specs.View.{nodes_of}
+use Rattle.cil_syntax.specs.declared.fault.Fault.{Fault}
+use Rattle.cil_syntax.specs.declared.kind.Sign.{Sign}
+use Rattle.cil_syntax.specs.declared.term.Op.{Op}
+use Rattle.cil_syntax.specs.declared.term.Spot.{Spot}
+use Rattle.cil_syntax.specs.declared.term.Term as rust
+use Rattle.cil_syntax.specs.declared.term.Term.{the_lemmas}
+use Rattle.cil_syntax.specs.declared.term.Term.TheVariants as variants
+use Rattle.cil_syntax.specs.declared.term.Word.{Word}
+use Rattle.cil_syntax.specs.Said.{said_of, all_said}
+use Rattle.cil_syntax.specs.Shapes.{Reading, Shape, set_of, Row, close, item, many, joined, read_row, formed, is_negation, operands, Cell, cells_of}
+use Rattle.cil_syntax.specs.Terms.{Term, Form, Terms}
+use Rattle.cil_syntax.specs.Told.{IsTold, AreTold}
+
+-- what is not read makes nothing of what stands before it
+pub joined-none : (a : Option (Reading (Term Word))) → joined a None ≡ None
+joined-none None = refl
+joined-none (Some r) = refl
+
+-- some of one shape: one, or two
+abbrev some_of : Shape → Bool → Row
+some_of shape single = if single then item shape close else item shape (item shape close)
+
+no_operands : (shape : Shape) (single : Bool) (cells : List Cell) → length cells ≢ (if single then 1 else 2) → read_row (some_of shape single) cells ≡ None
+unfolding read_row
+no_operands shape true [] h = refl
+no_operands shape true (c ∷ []) h = absurd (h refl)
+no_operands shape true (c ∷ d ∷ cs) h = joined-none (c.read shape)
+no_operands shape false [] h = refl
+no_operands shape false (c ∷ []) h = joined-none (c.read shape)
+no_operands shape false (c ∷ d ∷ []) h = absurd (h refl)
+no_operands shape false (c ∷ d ∷ e ∷ cs) h = ap (joined (c.read shape)) (joined-none (d.read shape)) ∙ joined-none (c.read shape)
+
+right_operands : (shape : Shape) (single : Bool) (cells : List Cell) → length cells ≡ (if single then 1 else 2)
+    → read_row (some_of shape single) cells ≡ read_row (many shape) cells
+unfolding read_row
+right_operands shape true [] h = absurd (omega (arith, h))
+right_operands shape true (c ∷ []) h = refl
+right_operands shape true (c ∷ d ∷ cs) h = absurd (omega (arith, h))
+right_operands shape false [] h = absurd (omega (arith, h))
+right_operands shape false (c ∷ []) h = absurd (omega (arith, h))
+right_operands shape false (c ∷ d ∷ []) h = refl
+right_operands shape false (c ∷ d ∷ e ∷ cs) h = absurd (omega (arith, h))
+
+-- each node is a cell
+pub length-cells : (m : ℕ) (text : List ℕ) (ns : List nodes.Node) → length (cells_of m (nodes_of text ns)) ≡ length ns
+unfolding cells_of
+length-cells m text [] = refl
+length-cells m text (n ∷ ns) = ap suc (length-cells m text ns)
+
+-- a form of terms that were read
+pub formed_told : (m : ℕ) (at : Spot) (op : Op) (r : Option (Reading (Terms Word))) (old new : List Fault) (parts : Vec rust.Term Global)
+    → AreTold m r old new (Some parts) → IsTold m (formed at op [] r) old new (Some (variants.Form at op parts))
+formed_told m at op None old new parts h = absurd h
+formed_told m at op (Some r) old new parts h =
+    let view : said_of (variants.Form at op parts) ≡ Form at op (all_said parts.items) = search (rules, the_lemmas) in
+    (view ∙ ap (Form at op) h.0, h.1)
+
+-- nothing was read, and so no form
+pub none_formed : (m : ℕ) (at : Spot) (op : Op) (r : Option (Reading (Terms Word))) (old new : List Fault)
+    → AreTold m r old new None → IsTold m (formed at op [] r) old new None
+none_formed m at op None old new h = h
+none_formed m at op (Some r) old new h = absurd h
+
+module _ (m : ℕ) (at : Spot) (op : Op) (sign : Sign) (text : List ℕ) (ns : List nodes.Node) where
+  abbrev behind_head : List Cell
+  behind_head = cells_of m (nodes_of text (drop 1 ns))
+
+  -- as many operands as there should be
+  abbrev counted : ℕ
+  counted = if is_negation op then 1 else 2
+
+  one_less : (n : ℕ) → length ns ≡ n + 1 → length behind_head ≡ n
+  one_less n h = length-cells m text (drop 1 ns) ∙ (let e = length-drop 1 ns in let g : length (drop 1 ns) ≡ n = omega (arith, e, h) in g)
+
+  one_more : (n : ℕ) → 0 < n → length behind_head ≡ n → length ns ≡ n + 1
+  one_more n some h =
+      let less : length (drop 1 ns) ≡ n = sym (length-cells m text (drop 1 ns)) ∙ h in
+      let e = length-drop 1 ns in omega (arith, e, less, some)
+
+  some_counted : (b : Bool) → 0 < (if b then 1 else 2)
+  some_counted true = omega arith
+  some_counted false = omega arith
+
+  pub wrong_operands : (old : List Fault) → (length ns ≡ counted + 1 → ⊥)
+      → IsTold m (formed at op [] (read_row (operands sign op) behind_head)) old old None
+  wrong_operands old h =
+      let nothing = no_operands (set_of sign) (is_negation op) behind_head (λ e. h (one_more counted (some_counted (is_negation op)) e)) in
+      subst (λ r. IsTold m (formed at op [] r) old old None) (sym nothing) ([], sym (append-nil old))
+
+  pub operands_told : (old new : List Fault) (parts : Vec rust.Term Global) → length ns ≡ counted + 1
+      → AreTold m (read_row (many (set_of sign)) behind_head) old new (Some parts)
+      → IsTold m (formed at op [] (read_row (operands sign op) behind_head)) old new (Some (variants.Form at op parts))
+  operands_told old new parts long told =
+      subst (λ r. IsTold m (formed at op [] r) old new (Some (variants.Form at op parts)))
+      (sym (right_operands (set_of sign) (is_negation op) behind_head (one_less counted long)))
+      (formed_told m at op _ old new parts told)
+
+  pub operands_none : (old new : List Fault) → length ns ≡ counted + 1
+      → AreTold m (read_row (many (set_of sign)) behind_head) old new None
+      → IsTold m (formed at op [] (read_row (operands sign op) behind_head)) old new None
+  operands_none old new long told =
+      subst (λ r. IsTold m (formed at op [] r) old new None)
+      (sym (right_operands (set_of sign) (is_negation op) behind_head (one_less counted long)))
+      (none_formed m at op _ old new told)
