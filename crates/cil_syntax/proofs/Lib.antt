@@ -4,3 +4,4 @@ pub mod Spelled
 pub mod SpelledSo
 pub mod ManyItems
 pub mod Operands
+pub mod FixedItems

@@ -15,7 +15,7 @@ use Rattle.cil_syntax.specs.Told.{told, IsTold, AreTold, before, behind, AreRead
 use Rattle.cil_syntax.specs.Written.{at_top, fault_of}
 
 -- the faults of two parts, told one after the other
-told-append : (m : ℕ) (old mid new : List Fault) (f g : List Inner) → mid ≡ old ++ told m f → new ≡ mid ++ told m g → new ≡ old ++ told m (f ++ g)
+pub told-append : (m : ℕ) (old mid new : List Fault) (f g : List Inner) → mid ≡ old ++ told m f → new ≡ mid ++ told m g → new ≡ old ++ told m (f ++ g)
 told-append m old mid new f g p q =
     q ∙ ap (λ x. x ++ told m g) p ∙ append_assoc (old) (told m f) (told m g) ∙ ap (λ x. old ++ x) (sym (map-append (fault_of m at_top) f g))
 

@@ -15,6 +15,7 @@ mod items;
 mod kind;
 pub mod laws;
 mod printed;
+mod rows;
 mod sets;
 mod spelling;
 mod table;
