@@ -5,3 +5,4 @@ pub mod SpelledSo
 pub mod ManyItems
 pub mod Operands
 pub mod FixedItems
+pub mod Judged

@@ -2,12 +2,14 @@
 use Rattle.std.specs.Prelude.{◌≡◌, ℕ, List, [], ◌∷◌, ◌++◌, map, Option, Some, None}
 use Rattle.std.specs.Global.{Vec}
 use Rattle.cil_syntax.specs.declared.fault.Fault.{Fault}
+use Rattle.cil_syntax.specs.declared.program.Statement as program
 use Rattle.cil_syntax.specs.declared.term.Term as rust
 use Rattle.cil_syntax.specs.declared.term.Word.{Word}
-use Rattle.cil_syntax.specs.Said.{said_of, all_said}
+use Rattle.cil_sexpr.specs.Tree.{Nodes, none, next}
+use Rattle.cil_syntax.specs.Said.{said_of, all_said, written_of}
 use Rattle.cil_syntax.specs.Shapes.{Inner, Reading, reads}
 use Rattle.cil_syntax.specs.Terms.{Term, Terms, cons}
-use Rattle.cil_syntax.specs.Written.{at_top, fault_of}
+use Rattle.cil_syntax.specs.Written.{Written, Verdict, Refused, Shaped, at_top, fault_of, verdict_of}
 
 -- the faults of a module, told at its top
 abbrev pub told : ℕ → List Inner → List Fault
@@ -46,3 +48,33 @@ pub record AreRead (m : ℕ) (whole rest : Option (Reading (Terms Word))) (old n
   pub faults : List Inner
   pub more : new ≡ old ++ told m faults
   pub completes : whole ≡ behind (map said_of terms) faults rest
+
+-- the faults that are told of a node that was judged
+abbrev pub faults_by : ℕ → Verdict → List Fault
+faults_by m (Refused i) = told m (i ∷ [])
+faults_by m (Shaped s faults) = told m faults
+
+-- the statement that it is, whatever faults its words have
+abbrev pub stated_by : Verdict → List Written
+stated_by (Refused i) = []
+stated_by (Shaped s faults) = record { context = at_top; statement = s } ∷ []
+
+-- a statement of Rust, or none
+abbrev pub written_by : Option program.Statement → List Written
+written_by None = []
+written_by (Some s) = written_of s ∷ []
+
+-- the node was judged: its statement is given, and its faults are put behind others
+pub record IsJudged (m : ℕ) (verdict : Verdict) (old new : List Fault) (statement : Option program.Statement) : Type 0 where
+  pub stated : written_by statement ≡ stated_by verdict
+  pub more : new ≡ old ++ faults_by m verdict
+
+-- the faults of some nodes at the top of a module, one after another
+abbrev pub all_faults : ℕ → Nodes → List Fault
+all_faults m none = []
+all_faults m (next n ns) = faults_by m (verdict_of m at_top n) ++ all_faults m ns
+
+-- the statements that they are
+abbrev pub all_stated : ℕ → Nodes → List Written
+all_stated m none = []
+all_stated m (next n ns) = stated_by (verdict_of m at_top n) ++ all_stated m ns

@@ -15,6 +15,7 @@ mod items;
 mod kind;
 pub mod laws;
 mod printed;
+mod program;
 mod rows;
 mod sets;
 mod spelling;
@@ -22,6 +23,7 @@ mod table;
 mod term;
 #[cfg(test)]
 mod tests;
+mod verdict;
 mod words;
 
 pub use code::FaultCode;
@@ -30,4 +32,5 @@ pub use fault::{Bytes, Fault};
 pub use fault_list::FaultList;
 pub use kind::{Keyword, Kind, Place, Sign};
 pub use printed::render;
+pub use program::{Program, Statement};
 pub use term::{Op, Spot, Term, Word};
