@@ -6,3 +6,5 @@ pub mod ManyItems
 pub mod Operands
 pub mod FixedItems
 pub mod Judged
+pub mod NodesJudged
+pub mod AllModules

@@ -1,11 +1,12 @@
 -- What the functions that read say of their answers. No other crate needs these words.
-use Rattle.std.specs.Prelude.{◌≡◌, ℕ, List, [], ◌∷◌, ◌++◌, map, Option, Some, None}
+use Rattle.std.specs.Prelude.{◌≡◌, ℕ, List, [], ◌∷◌, ◌++◌, length, map, Option, Some, None}
 use Rattle.std.specs.Global.{Vec}
 use Rattle.cil_syntax.specs.declared.fault.Fault.{Fault}
 use Rattle.cil_syntax.specs.declared.program.Statement as program
 use Rattle.cil_syntax.specs.declared.term.Term as rust
 use Rattle.cil_syntax.specs.declared.term.Word.{Word}
-use Rattle.cil_sexpr.specs.Tree.{Nodes, none, next}
+use Rattle.cil_sexpr.specs.Text.{IsText}
+use Rattle.cil_sexpr.specs.Tree.{AreInOrder, Nodes, none, next}
 use Rattle.cil_syntax.specs.Said.{said_of, all_said, written_of}
 use Rattle.cil_syntax.specs.Shapes.{Inner, Reading, reads}
 use Rattle.cil_syntax.specs.Terms.{Term, Terms, cons}
@@ -78,3 +79,15 @@ all_faults m (next n ns) = faults_by m (verdict_of m at_top n) ++ all_faults m n
 abbrev pub all_stated : ℕ → Nodes → List Written
 all_stated m none = []
 all_stated m (next n ns) = stated_by (verdict_of m at_top n) ++ all_stated m ns
+
+-- some nodes were judged: their statements and faults stand behind those that were there
+pub record AreJudged (m : ℕ) (nodes : Nodes) (before_them after_them : List Written) (old new : List Fault) : Type 0 where
+  pub stated : after_them ≡ before_them ++ all_stated m nodes
+  pub more : new ≡ old ++ all_faults m nodes
+
+-- a module was read, and the lists of its tree were judged
+pub record IsModuleRead (m : ℕ) (text : List ℕ) (before_it after_it : List Written) (old new : List Fault) : Type 0 where
+  pub tree : Nodes
+  pub is_tree : IsText text tree
+  pub in_order : AreInOrder 0 (length text) tree
+  pub judged : AreJudged m tree before_it after_it old new

@@ -32,5 +32,5 @@ pub use fault::{Bytes, Fault};
 pub use fault_list::FaultList;
 pub use kind::{Keyword, Kind, Place, Sign};
 pub use printed::render;
-pub use program::{Program, Statement};
+pub use program::{Program, Statement, written};
 pub use term::{Op, Spot, Term, Word};

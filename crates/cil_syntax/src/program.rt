@@ -1,10 +1,23 @@
 //! The written statements of a set of modules.
 
-ghost use Rattle.std.specs.Prelude.{◌≡◌, map};
+ghost use Rattle.std.specs.Prelude.{◌≡◌, OnOk, map};
+ghost use Rattle.cil_sexpr.specs.Lists.{Lists};
+ghost use Rattle.cil_sexpr.specs.Text.{IsReadable};
+ghost use Rattle.cil_sexpr.specs.View.{nodes_of};
+ghost use Rattle.cil_syntax.specs.Refusal.{Answers};
 ghost use Rattle.cil_syntax.specs.Said.{all_written, written_of};
+ghost use Rattle.cil_syntax.specs.Told.{AreJudged, IsModuleRead};
+ghost use Rattle.cil_syntax.specs.Written.{IsWritten, ShapeFault, written_cmp};
 
+use crate::failure::Failure;
+use crate::fault::Fault;
+use crate::fault_list::FaultList;
 use crate::kind::Keyword;
 use crate::term::{Spot, Term};
+use crate::verdict::judge;
+use cil_modset::{ModuleSet, NoMemory};
+use cil_sexpr::{Node, ReadError, laws as texts, read};
+use std::alloc::Global;
 
 /// A statement as it is written.
 #[derive(Debug, Drop)]
@@ -30,4 +43,66 @@ impl Program {
     {
         self.statements.as_slice()
     }
+}
+
+/// The statements that are written in modules; or, where one of them or one of its words is at fault, all faults
+/// of shape. Each module is read once; its tree is dropped before the next is read.
+pub fn written(alloc: Global, modules: &ModuleSet) -> Result<Program, Failure>
+    ensures { Answers (λ p. Lists written_cmp (IsWritten modules.now) (all_written p)) (ShapeFault modules.now) result }
+{
+    // That a text has one tree makes what was read what is written.
+    texts::one_tree();
+    let mut statements = Vec::new(alloc);
+    let mut faults = Vec::new(alloc);
+    for i in 0..modules.len() {
+        read_module(
+            alloc,
+            modules.get(i),
+            i as u64,
+            &mut statements,
+            &mut faults,
+        )?;
+    }
+    match FaultList::of(faults) {
+        Some(list) => Err(Failure::Faults(list)),
+        None => Ok(Program { statements }),
+    }
+}
+
+/// Reads the statements of a module. That it is readable was seen when it was installed.
+fn read_module(
+    alloc: Global,
+    text: &[u8],
+    number: u64,
+    statements: &mut Vec<Statement>,
+    faults: &mut Vec<Fault>,
+) -> Result<(), NoMemory>
+    requires { IsReadable text.now }
+    ensures { OnOk result (IsModuleRead number text.now (map written_of statements.old.items) (map written_of statements.new.items) faults.old.items faults.new.items) }
+{
+    texts::never_both();
+    match read(alloc, text) {
+        Ok(tree) => judge_all(alloc, text, number, tree.children(), statements, faults),
+        Err(ReadError::NoMemory) => Err(NoMemory),
+        Err(ReadError::Fault(_)) => unreachable!(),
+    }
+}
+
+/// Reads nodes as statements.
+fn judge_all(
+    alloc: Global,
+    text: &[u8],
+    number: u64,
+    nodes: &[Node],
+    statements: &mut Vec<Statement>,
+    faults: &mut Vec<Fault>,
+) -> Result<(), NoMemory>
+    ensures { OnOk result (AreJudged number (nodes_of text.now nodes.now) (map written_of statements.old.items) (map written_of statements.new.items) faults.old.items faults.new.items) }
+{
+    for node in nodes {
+        if let Some(statement) = judge(alloc, text, number, node, faults)? {
+            statements.push(statement)?;
+        }
+    }
+    Ok(())
 }

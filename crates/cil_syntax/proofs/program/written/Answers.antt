@@ -1,0 +1,28 @@
+use Rattle.std.proofs.Common.{◌≤◌, length, refl, ap, arith}
+use Rattle.std.specs.Prelude.{map}
+use Rattle.cil_syntax.specs.Said.{written_of}
+use Rattle.cil_syntax.proofs.AllModules.{none_read, one_more_read, all_read, all_refused, no_fault}
+use Rattle.cil_syntax.proofs.program.written.Goals as goal
+
+pub loop-i-init : goal.loop-i-init
+loop-i-init c = none_read _ _ _ (ap (map written_of) c.new-statements.ensures.items) c.new-faults.ensures.items
+
+pub loop-i-preserved : goal.loop-i-preserved
+loop-i-preserved c =
+    let size = c.len-i-end.ensures.len in
+    one_more_read c.args.modules.now c.one_tree.ensures c.loop-i.i (omega (arith, size)) _ _ _ _ _ c.get.ensures c.loop-i.invariant
+    c.in_ok-read_module.ensures
+
+pub returns-in-Some : goal.returns-in-Some
+returns-in-Some c =
+    let size = c.len-i-end.ensures.len in
+    all_refused c.args.modules.now c.loop-i.i _ _ (omega (arith, size)) c.loop-i.invariant _ c.in-Some.ensures.faults
+
+pub returns-in-None : goal.returns-in-None
+returns-in-None c =
+    let size = c.len-i-end.ensures.len in
+    let clean = c.of.ensures.none.0 (rw c.in-None.is refl) in
+    let over : length c.args.modules.now ≤ c.loop-i.i = omega (arith, size) in (
+      all_read c.args.modules.now c.loop-i.i _ _ over c.loop-i.invariant clean,
+      no_fault c.args.modules.now c.loop-i.i _ _ over c.loop-i.invariant clean,
+    )
