@@ -16,6 +16,8 @@ mod kind;
 pub mod laws;
 mod printed;
 mod program;
+#[cfg(test)]
+mod program_tests;
 mod rows;
 mod sets;
 mod spelling;
