@@ -1,7 +1,7 @@
 //! What importing a bundle costs, beside SHA-256 of the same bytes.
 
 use crate::figures::{RUNS, hundredths, median, micros};
-use crate::text;
+use crate::text::{self, Lines};
 use crate::trouble::Trouble;
 use cil_modset::ModuleSet;
 use sha2::{Digest, Sha256};
@@ -16,7 +16,7 @@ fn module(alloc: Global, n: usize) -> Result<Vec<u8>, AllocError> {
     let mut text = Vec::new(alloc);
     let line = format!(in alloc; "(type module{n}_t)\n")?;
     text.extend_from_slice(line.as_bytes())?;
-    text.extend_from_slice(text::policy(alloc, MODULE)?.as_slice())?;
+    text.extend_from_slice(text::policy(alloc, MODULE, Lines::Typical)?.as_slice())?;
     Ok(text)
 }
 

@@ -1,6 +1,6 @@
 //! Times what the crates do beside SHA-256 of the same bytes, on texts that it makes in memory.
 //!
-//! Start at `run`. `text.rt` makes the texts; `read.rt` and `import.rt` take the times. `bench/README.md` says
+//! Start at `run`. `text.rt` makes the texts; `read.rt`, `write.rt` and `import.rt` take the times. `bench/README.md` says
 //! how the figures are read.
 #![tactic(auto)]
 
@@ -9,6 +9,7 @@ mod import;
 mod read;
 mod text;
 mod trouble;
+mod write;
 
 use crate::trouble::Trouble;
 use std::alloc::Global;
@@ -29,6 +30,8 @@ enum Task {
     Help,
     /// The reader, on a text of so many bytes.
     Read(usize),
+    /// The writing out of the statements of a text of so many bytes.
+    Write(usize),
     /// The import of a bundle of so many modules.
     Import(usize),
 }
@@ -50,6 +53,7 @@ fn wanted(rt: &(impl Env + Alloc)) -> Result<Task, Trouble> {
     }
     match (name.as_str(), word.as_str().parse::<usize>()) {
         ("read", Ok(size)) if size <= LONGEST => Ok(Task::Read(size)),
+        ("write", Ok(size)) if size <= LONGEST => Ok(Task::Write(size)),
         ("import", Ok(modules)) if modules <= MOST => Ok(Task::Import(modules)),
         _ => Err(Trouble::Usage),
     }
@@ -60,10 +64,12 @@ fn run<R: Print + Env + CpuClock + Alloc>(rt: &R, alloc: Global) -> Result<(), T
         Task::Help => {
             println!(rt; "bench: times what the crates do beside SHA-256 of the same bytes")?;
             println!(rt; "usage: bench read BYTES, a number of at most {LONGEST}")?;
+            println!(rt; "       bench write BYTES, a number of at most {LONGEST}")?;
             println!(rt; "       bench import MODULES, a number of at most {MOST}")?;
             Ok(())
         }
         Task::Read(size) => read::run(rt, alloc, size),
+        Task::Write(size) => write::run(rt, alloc, size),
         Task::Import(modules) => import::run(rt, alloc, modules),
     }
 }

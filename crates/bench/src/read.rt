@@ -1,7 +1,7 @@
 //! What reading a text costs, beside SHA-256 of the same bytes.
 
 use crate::figures::{RUNS, hundredths, median, micros};
-use crate::text;
+use crate::text::{self, Lines};
 use crate::trouble::Trouble;
 use sha2::{Digest, Sha256};
 use std::alloc::Global;
@@ -10,7 +10,7 @@ use std::time::CpuClock;
 /// Times the reader on a text of `size` bytes, and prints the figures. What it costs to free a tree is not
 /// counted.
 pub fn run<R: Print + CpuClock>(rt: &R, alloc: Global, size: usize) -> Result<(), Trouble> {
-    let text = text::policy(alloc, size)?;
+    let text = text::policy(alloc, size, Lines::Typical)?;
     let mut read = [0; RUNS];
     let mut hash = [0; RUNS];
     let mut lists = 0;

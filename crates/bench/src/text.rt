@@ -4,6 +4,15 @@ ghost use Rattle.std.specs.Prelude.{◌≡◌, IfOk, length};
 
 use std::alloc::{AllocError, Global};
 
+/// Which lines a text has.
+#[derive(Clone, Copy)]
+pub enum Lines {
+    /// Those of a policy with all that is met in one.
+    Typical,
+    /// Those of a flat policy, none of which is at fault.
+    Flat,
+}
+
 /// One line. The numbers in it go round, so that names come again as they do in a policy.
 fn line(alloc: Global, n: usize) -> Result<String, AllocError> {
     let a = n % 1013;
@@ -23,13 +32,33 @@ fn line(alloc: Global, n: usize) -> Result<String, AllocError> {
     }
 }
 
+/// One line of a flat policy.
+fn flat_line(alloc: Global, n: usize) -> Result<String, AllocError> {
+    let a = n % 1013;
+    let b = n % 769;
+    let c = n % 211;
+    match n % 16 {
+        0 => format!(in alloc; "; statements from number {n} on\n"),
+        1 => format!(in alloc; "(type ty{a}_t)\n"),
+        2 => format!(in alloc; "(roletype r ty{a}_t)\n"),
+        3 => format!(in alloc; "(class class{c} (open read getattr setattr lock ioctl))\n"),
+        4 => format!(in alloc; "(role role{c}_r)\n"),
+        5 => format!(in alloc; "(userrole user{b}_u role{c}_r)\n"),
+        6 => format!(in alloc; "(allow ty{a}_t self (capability (setuid setgid)))\n"),
+        _ => format!(in alloc; "(allow ty{a}_t ty{b}_t (file (open read getattr)))\n"),
+    }
+}
+
 /// A text of `size` bytes: as many lines as have room, and then blanks.
-pub fn policy(alloc: Global, size: usize) -> Result<Vec<u8>, AllocError>
+pub fn policy(alloc: Global, size: usize, lines: Lines) -> Result<Vec<u8>, AllocError>
     ensures { IfOk result (λ text. length text.items ≡ size) }
 {
     let mut text = Vec::with_capacity(alloc, size)?;
     for n in 0..size {
-        let line = line(alloc, n)?;
+        let line = match lines {
+            Lines::Typical => line(alloc, n)?,
+            Lines::Flat => flat_line(alloc, n)?,
+        };
         if line.len() > size - text.len() {
             break;
         }

@@ -2,6 +2,7 @@
 
 use cil_modset::{BundleError, NoMemory};
 use cil_sexpr::ReadError;
+use cil_syntax::Failure;
 use std::alloc::AllocError;
 use std::{fmt, io};
 
@@ -14,6 +15,8 @@ pub enum Trouble {
     Read(ReadError),
     /// The set refused a bundle.
     Import(BundleError),
+    /// The statements of a text are at fault.
+    Faults,
     /// There is no memory for a text.
     NoMemory,
     /// The clock or the output failed.
@@ -35,10 +38,11 @@ impl fmt::Display for Trouble {
         match self {
             Trouble::Usage => write!(
                 f,
-                "wants `read BYTES` or `import MODULES`; with no argument it tells more"
+                "wants `read BYTES`, `write BYTES` or `import MODULES`; with no argument it tells more"
             ),
             Trouble::Read(error) => write!(f, "the reader refused a text: {error}"),
             Trouble::Import(error) => write!(f, "the set refused a bundle: {error}"),
+            Trouble::Faults => write!(f, "the statements of a text are at fault"),
             Trouble::NoMemory => write!(f, "no memory for a text"),
             Trouble::System(error) => write!(f, "the clock or the output failed: {error}"),
         }
@@ -54,6 +58,15 @@ impl From<ReadError> for Trouble {
 impl From<BundleError> for Trouble {
     fn from(error: BundleError) -> Trouble {
         Trouble::Import(error)
+    }
+}
+
+impl From<Failure> for Trouble {
+    fn from(failure: Failure) -> Trouble {
+        match failure {
+            Failure::Faults(_) => Trouble::Faults,
+            Failure::NoMemory => Trouble::NoMemory,
+        }
     }
 }
 

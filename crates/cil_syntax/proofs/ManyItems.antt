@@ -48,13 +48,6 @@ module _ (m : ℕ) (text : List ℕ) (shape : Shape) (items : List nodes.Node) w
       drop-cons items i n within ∙ ap (λ x. x ∷ drop (suc i) items) (sym is) ∙ ap (λ k. n ∷ drop k items) (let e : suc i ≡ i + 1 = omega arith in e) in
       ap (λ ns. read_row (many shape) (cells_of m (nodes_of text ns))) cut
 
-  pub none_read : (whole : Option (Reading (Terms Word))) (old : List Fault) (terms : List rust.Term) → terms ≡ [] → AreRead m whole whole old old terms
-  none_read whole old terms empty = record {
-    faults = [];
-    more = sym (append-nil old);
-    completes = rw empty (behind-none whole);
-  }
-
   module _ (whole : Option (Reading (Terms Word))) (i : ℕ) (n : nodes.Node) (old mid new : List Fault) (terms : List rust.Term) where
     pub more_read : (more : List rust.Term) (t : rust.Term) (a : Option (Reading (Term Word))) → AreRead m whole (rest_at i) old mid terms
         → i < length items → n ≡ get_or items i n → (cell_of m (node_of text n)).read shape ≡ a → IsTold m a mid new (Some t) → more ≡ terms ++ t ∷ []

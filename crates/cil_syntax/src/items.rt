@@ -22,7 +22,7 @@ pub(crate) fn read_names(
 ) -> Result<Option<Vec<Term>>, NoMemory>
     ensures { IfOk result (AreTold number (read_row (many declared_name) (cells_of number (nodes_of text.now nodes.now))) faults.old.items faults.new.items) }
 {
-    let mut terms = Vec::new(alloc);
+    let mut terms = Vec::with_capacity(alloc, nodes.len())?;
     for node in nodes {
         let Some(term) = read_name(alloc, text, number, node, faults)? else {
             return Ok(None);

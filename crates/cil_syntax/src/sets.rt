@@ -144,7 +144,7 @@ fn read_sets(
 ) -> Result<Option<Vec<Term>>, NoMemory>
     ensures { IfOk result (AreTold number (read_row (many (set_of sign)) (cells_of number (nodes_of text.now (drop first nodes.now)))) faults.old.items faults.new.items) }
 {
-    let mut terms = Vec::new(alloc);
+    let mut terms = Vec::with_capacity(alloc, nodes.len())?;
     for place in first..nodes.len() {
         let Some(term) = read_set(alloc, text, number, &nodes[place], sign, faults)? else {
             return Ok(None);

@@ -1,10 +1,7 @@
 use Rattle.cil_syntax.specs.Shapes.{declared_name}
-use Rattle.cil_syntax.proofs.ManyItems.{none_read, more_read, none_stops, all_read}
+use Rattle.cil_syntax.proofs.ManyItems.{more_read, none_stops, all_read}
 use Rattle.std.proofs.Common.{refl}
 use Rattle.cil_syntax.proofs.items.read_names.Goals as goal
-
-pub loop-node-init : goal.loop-node-init
-loop-node-init c = none_read c.args.number c.args.text.now declared_name c.args.nodes.now _ _ _ c.new-terms.ensures.items
 
 pub loop-node-preserved : goal.loop-node-preserved
 loop-node-preserved c =
