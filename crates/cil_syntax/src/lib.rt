@@ -1,10 +1,10 @@
-//! The written statements of modules, and what is wrong with their shape.
+//! The written statements of modules, or all that is wrong with their shape.
 //!
-//! `specs/Table.antt` has the statements, `specs/Shapes.antt` says how a node is read by a shape, and
-//! `specs/Written.antt` what is written and which faults a set of modules has; `laws.rt` says the same as a grammar
-//! without faults. Start at `fault_list.rt`, the sorted list of faults that every layer hands up;
-//! `specs/Refusal.antt` says "the value, and then the step has no fault; or exactly the step's faults". The code reads
-//! words and lists of names so far, and no whole statement. What names mean is not known here.
+//! Start at `written` in `program.rt`. `specs/Table.antt` has the statements, `specs/Shapes.antt` says how a node is
+//! read by a shape, and `specs/Written.antt` what is written and which faults a set of modules has; `laws.rt` says
+//! the same as a grammar without faults. `fault_list.rt` is the sorted list of faults that every layer hands up, and
+//! `specs/Refusal.antt` says "the value, and then the step has no fault; or exactly the step's faults". What names
+//! mean is not known here.
 #![tactic(auto)]
 
 mod code;

@@ -12,7 +12,7 @@ const FIRST: &str =
     "(class file (open read))(user u)(role r)(type a)(type b)(userrole u r)(roletype r a)(roletype r b)(allow a b (file (read)))";
 
 /// The words that no name may be.
-const RESERVED: [&str; 27] = [
+pub(crate) const RESERVED: [&str; 27] = [
     "and",
     "or",
     "xor",
@@ -271,6 +271,9 @@ fn modules_are_numbered_by_byte_order(rt: HostRuntime) -> Result<(), Fail> {
         ],
     )?;
     let want = "21 0 9 . foo\n21 3 9 . foo\n25 0 6 . 1b\n25 1 6 . 2a\n25 3 6 . 1u\n26 0 20 . all\n";
+    assert_eq!(rt; lines.as_slice(), want.as_bytes());
+    let lines = judged(alloc, &["(type a b)", "(type 1b)(foo)"])?;
+    let want = "21 0 9 . foo\n23 1 0 . type\n25 0 6 . 1b\n";
     assert_eq!(rt; lines.as_slice(), want.as_bytes());
     let nothing = written(alloc, &ModuleSet::new(alloc)).map_err(|_| "faults")?;
     assert!(rt; nothing.statements().is_empty());

@@ -1,6 +1,7 @@
 //! What no clause says: printed texts, and each call once on values from outside.
 
 use crate::items::read_names;
+use crate::program_tests::RESERVED;
 use crate::spelling::{is_name, is_path, is_reserved};
 use crate::table::{find_keyword, is_known};
 use crate::words::{read_looked_up, read_name, read_target};
@@ -173,35 +174,7 @@ fn names_and_words_are_spelled(rt: HostRuntime) -> Result<(), Fail> {
 
 #[test]
 fn words_are_reserved_as_a_whole(rt: HostRuntime) {
-    for word in [
-        "and",
-        "or",
-        "xor",
-        "not",
-        "eq",
-        "neq",
-        "dom",
-        "domby",
-        "incomp",
-        "all",
-        "range",
-        "self",
-        "notself",
-        "other",
-        "true",
-        "false",
-        "unordered",
-        "t1",
-        "t2",
-        "r1",
-        "r2",
-        "u1",
-        "u2",
-        "l1",
-        "l2",
-        "h1",
-        "h2",
-    ] {
+    for word in RESERVED {
         assert!(rt; is_reserved(word.as_bytes()), "{word}");
     }
     for word in [".all", "b.self", "All", "an", "ands", "t3", "object_r", ""] {
