@@ -23,6 +23,7 @@ use Rattle.cil_syntax.specs.Sorted.{lists_of}
 use Rattle.cil_syntax.specs.Table.{Entry, entry_named}
 use Rattle.cil_syntax.specs.Terms.{Terms, spot_of}
 use Rattle.cil_syntax.specs.Told.{told, faults_by, stated_by, all_faults, all_stated, IsModuleRead}
+use Rattle.cil_syntax.proofs.SpelledSo.{never_refused, same_shaped}
 use Rattle.cil_syntax.specs.Written.{Statement, Context, Written, at_top, Verdict, Refused, Shaped, by_reading, by_entry, by_head, by_items, verdict_of, IsItem, first, later, Found, top, IsWritten, written, fault_of, ShapeFault, refused, inner, written_cmp}
 
 -- ---- lists
@@ -88,36 +89,24 @@ place_first v w same h =
 
 -- ---- where a statement stands
 
-never_shaped : (i : Inner) (s : Statement) (fs : List Inner) (P : Type 0) → Refused i ≡ Shaped s fs → P
-never_shaped i s fs P e = absurd (apart i s fs e)
-  where
-    apart : (i : Inner) (s : Statement) (fs : List Inner) → Refused i ≡ Shaped s fs → ⊥
-    apart i s fs e = cc
-
-same_shaped : (s r : Statement) (fs gs : List Inner) → Shaped s fs ≡ Shaped r gs → (s ≡ r) × (fs ≡ gs)
-same_shaped s r fs gs e = (cc, cc)
-
-same_refused : (i j : Inner) → Refused i ≡ Refused j → i ≡ j
-same_refused i j e = cc
-
 module _ (at : Spot) (s : Statement) (fs : List Inner) where
   read_stands : (entry : Entry) (r : Option (Reading (Terms Word))) → by_reading at entry r ≡ Shaped s fs → s.at ≡ at
-  read_stands entry None e = never_shaped _ s fs _ e
+  read_stands entry None e = never_refused _ s fs _ e
   read_stands entry (Some r) e =
       let same = same_shaped (record { keyword = entry.keyword; at = at; args = r.value }) s r.faults fs e in
       sym (ap (λ (t : Statement). t.at) same.0)
 
   entry_stands : (word : List ℕ) (cells : List Cell) (o : Option Entry) → by_entry at word cells o ≡ Shaped s fs → s.at ≡ at
-  entry_stands word cells None e = never_shaped _ s fs _ e
+  entry_stands word cells None e = never_refused _ s fs _ e
   entry_stands word cells (Some entry) e = read_stands entry (read_row entry.row cells) e
 
   head_stands : (face : Face) (cells : List Cell) → by_head at face cells ≡ Shaped s fs → s.at ≡ at
   head_stands (a_word word) cells e = entry_stands word cells (entry_named word) e
-  head_stands a_string cells e = never_shaped _ s fs _ e
-  head_stands a_list cells e = never_shaped _ s fs _ e
+  head_stands a_string cells e = never_refused _ s fs _ e
+  head_stands a_list cells e = never_refused _ s fs _ e
 
   items_stand : (cells : List Cell) → by_items at cells ≡ Shaped s fs → s.at ≡ at
-  items_stand [] e = never_shaped _ s fs _ e
+  items_stand [] e = never_refused _ s fs _ e
   items_stand (c ∷ cs) e = head_stands c.face cs e
 
 -- a statement stands where its node does
