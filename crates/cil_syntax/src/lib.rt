@@ -7,6 +7,8 @@
 //! mean is not known here.
 #![tactic(auto)]
 
+#[cfg(test)]
+mod bad_input_tests;
 mod code;
 mod failure;
 mod fault;

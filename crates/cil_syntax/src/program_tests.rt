@@ -11,39 +11,8 @@ use std::test::Fail;
 const FIRST: &str =
     "(class file (open read))(user u)(role r)(type a)(type b)(userrole u r)(roletype r a)(roletype r b)(allow a b (file (read)))";
 
-/// The words that no name may be.
-pub(crate) const RESERVED: [&str; 27] = [
-    "and",
-    "or",
-    "xor",
-    "not",
-    "eq",
-    "neq",
-    "dom",
-    "domby",
-    "incomp",
-    "all",
-    "range",
-    "self",
-    "notself",
-    "other",
-    "true",
-    "false",
-    "unordered",
-    "t1",
-    "t2",
-    "r1",
-    "r2",
-    "u1",
-    "u2",
-    "l1",
-    "l2",
-    "h1",
-    "h2",
-];
-
 /// The set of some texts.
-fn set_of(alloc: Global, texts: &[&str]) -> Result<ModuleSet, ReadError> {
+pub(crate) fn set_of(alloc: Global, texts: &[&str]) -> Result<ModuleSet, ReadError> {
     let mut modules = ModuleSet::new(alloc);
     for text in texts {
         modules.install(alloc, text.as_bytes())?;
@@ -91,7 +60,7 @@ fn show(alloc: Global, program: &Program) -> Result<Vec<u8>, Fail> {
 }
 
 /// The lines of the faults of some texts; or else the line `written`.
-fn judged(alloc: Global, texts: &[&str]) -> Result<Vec<u8>, Fail> {
+pub(crate) fn judged(alloc: Global, texts: &[&str]) -> Result<Vec<u8>, Fail> {
     let modules = set_of(alloc, texts)?;
     match written(alloc, &modules) {
         Ok(_) => Ok(Vec::from_slice(alloc, b"written\n")?),
@@ -101,7 +70,7 @@ fn judged(alloc: Global, texts: &[&str]) -> Result<Vec<u8>, Fail> {
 }
 
 /// Both texts, one after the other.
-fn joined(alloc: Global, front: &str, back: &str) -> Result<String, Fail> {
+pub(crate) fn joined(alloc: Global, front: &str, back: &str) -> Result<String, Fail> {
     Ok(format!(in alloc; "{front}{back}")?)
 }
 
@@ -277,125 +246,5 @@ fn modules_are_numbered_by_byte_order(rt: HostRuntime) -> Result<(), Fail> {
     assert_eq!(rt; lines.as_slice(), want.as_bytes());
     let nothing = written(alloc, &ModuleSet::new(alloc)).map_err(|_| "faults")?;
     assert!(rt; nothing.statements().is_empty());
-    Ok(())
-}
-
-/// What is told of a reserved word between two parts of a text.
-fn judged_word(alloc: Global, front: &str, word: &str, back: &str) -> Result<Vec<u8>, Fail> {
-    let text = format!(in alloc; "{front}{word}{back}")?;
-    judged(alloc, &[text.as_str()])
-}
-
-#[test]
-fn each_reserved_word_is_a_fault_at_each_place(rt: HostRuntime) -> Result<(), Fail> {
-    for word in RESERVED {
-        for (front, back) in [
-            ("(type ", ")"),
-            ("(role ", ")"),
-            ("(user ", ")"),
-            ("(class ", " (p))"),
-            ("(class c (p ", "))"),
-            ("(roletype ", " t)"),
-            ("(roletype r ", ")"),
-            ("(userrole ", " r)"),
-            ("(userrole u ", ")"),
-            ("(allow ", " t (c (p)))"),
-            ("(allow s t (", " (p)))"),
-            ("(allow s t (c (p ", ")))"),
-            ("(allow s ", " (c (p)))"),
-        ] {
-            let code = match (word, front) {
-                ("all", "(allow s t (c (p ") => 22,
-                ("notself", "(allow s ") => 22,
-                ("other", "(allow s ") => 22,
-                _ => 26,
-            };
-            let at = front.len();
-            let want = match (word, front) {
-                ("self", "(allow s ") => format!(in rt.alloc(); "written\n")?,
-                _ => format!(in rt.alloc(); "{code} 0 {at} . {word}\n")?,
-            };
-            let lines = judged_word(rt.alloc(), front, word, back)?;
-            assert_eq!(rt; lines.as_slice(), want.as_bytes(), "{front}{word}{back}");
-        }
-    }
-    Ok(())
-}
-
-#[test]
-fn names_have_at_most_1024_bytes(rt: HostRuntime) -> Result<(), Fail> {
-    let alloc = rt.alloc();
-    let name = "abcdefgh".repeat(alloc, 128)?;
-    assert_eq!(rt; name.len(), 1024);
-    for (front, back) in [
-        ("(type ", ")"),
-        ("(roletype r a.", ".b)"),
-        ("(class c (", "))"),
-    ] {
-        let lines = judged_word(alloc, front, name.as_str(), back)?;
-        assert_eq!(rt; lines.as_slice(), b"written\n".as_slice(), "{front}");
-    }
-    let long = joined(alloc, name.as_str(), "i")?;
-    let lines = judged_word(alloc, "(type ", long.as_str(), ")")?;
-    let want = format!(in alloc; "25 0 6 . {long}\n")?;
-    assert_eq!(rt; lines.as_slice(), want.as_bytes());
-    Ok(())
-}
-
-#[test]
-fn a_text_may_have_100_000_faults(rt: HostRuntime) -> Result<(), Fail> {
-    let alloc = rt.alloc();
-    let text = "(type 1)".repeat(alloc, 100_000)?;
-    let modules = set_of(alloc, &[text.as_str()])?;
-    let Err(Failure::Faults(list)) = written(alloc, &modules) else {
-        return Err(Fail::from("no faults"));
-    };
-    assert_eq!(rt; list.len(), 100_000);
-    for (i, fault) in list.as_slice().iter().enumerate() {
-        assert_eq!(rt; fault.at, 8 * i as u64 + 6);
-    }
-    Ok(())
-}
-
-/// Passes with every growth allowed, and with any one of them refused: the call that lost it says so, and
-/// answers when it is repeated.
-#[test]
-fn a_refused_growth_is_no_fault(rt: HostRuntime) -> Result<(), Fail> {
-    let alloc = rt.alloc();
-    let texts = [
-        "(class c (p))(allow a self (c (p)))",
-        "(type 1x)(allow a b)",
-    ];
-    let clean = match set_of(alloc, &texts[..1]) {
-        Ok(set) => set,
-        Err(_) => set_of(alloc, &texts[..1])?,
-    };
-    let program = match written(alloc, &clean) {
-        Err(Failure::NoMemory) => written(alloc, &clean),
-        answer => answer,
-    };
-    let Ok(program) = program else {
-        return Err(Fail::from("faults"));
-    };
-    assert_eq!(rt; program.statements().len(), 2);
-    let faulty = match set_of(alloc, &texts) {
-        Ok(set) => set,
-        Err(_) => set_of(alloc, &texts)?,
-    };
-    let answer = match written(alloc, &faulty) {
-        Err(Failure::NoMemory) => written(alloc, &faulty),
-        answer => answer,
-    };
-    let Err(Failure::Faults(list)) = answer else {
-        return Err(Fail::from("no faults"));
-    };
-    let lines = match render(alloc, &list) {
-        Ok(lines) => lines,
-        Err(_) => render(alloc, &list)?,
-    };
-    assert_eq!(rt;
-        lines.as_slice(),
-        b"23 1 9 . allow\n25 1 6 . 1x\n".as_slice()
-    );
     Ok(())
 }

@@ -1,7 +1,7 @@
 //! What no clause says: printed texts, and each call once on values from outside.
 
+use crate::bad_input_tests::RESERVED;
 use crate::items::read_names;
-use crate::program_tests::RESERVED;
 use crate::spelling::{is_name, is_path, is_reserved};
 use crate::table::{find_keyword, is_known};
 use crate::words::{read_looked_up, read_name, read_target};
