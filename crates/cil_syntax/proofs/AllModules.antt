@@ -1,30 +1,22 @@
 -- Reading modules one after another: the faults and statements so far are those of the modules so far.
-use Rattle.std.proofs.Common.{◌≡◌, ℕ, ◌+◌, ◌<◌, ◌≤◌, ◌⊎◌, List, [], ◌∷◌, ◌++◌, length, map, refl, sym, ◌∙◌, ap, subst, inl, inr, arith}
-use Rattle.std.specs.Prelude.{Contains, Option, Some, None}
-use Rattle.std.specs.declared.cmp.Ordering.{Ordering}
-use Rattle.std.specs.declared.cmp.Ordering.TheVariants.{Less, Equal}
-use Rattle.std.specs.Ordering.{nat_cmp, ordering_then}
-use Rattle.std.specs.Cmp.{nat_cmp_is}
-use Rattle.std.specs.List.{AllByRecursion}
+use Rattle.std.proofs.Common.{◌≡◌, ℕ, ◌+◌, ◌<◌, ◌≤◌, ◌⊎◌, List, [], ◌∷◌, length, map, refl, sym, ◌∙◌, ap, subst, inl, inr, arith}
+use Rattle.std.specs.Prelude.{Contains}
 use Rattle.std.specs.List.Sorted.{IsStrictlySortedBy}
 use Rattle.std.proofs.lemmas.List.Elements.{Contains-append_left, Contains-append_right, Contains-append_cases}
 use Rattle.cil_sexpr.specs.Laws.{HasOneTree}
-use Rattle.cil_sexpr.specs.Lists.{Lists, contains_here, contains_later, contains_cases, contains_none, all_at}
+use Rattle.cil_sexpr.specs.Lists.{Lists, contains_here, contains_later, contains_cases, contains_none}
 use Rattle.cil_sexpr.specs.Text.{IsText}
-use Rattle.cil_sexpr.specs.Tree.{Node, Word as TextWord, Quoted, Branch, Nodes, none, next, span_of, inner_of, IsBetween, AreInOrder}
+use Rattle.cil_sexpr.specs.Tree.{Node, Nodes, none, next}
 use Rattle.cil_modset.specs.Modules.{module_of}
 use Rattle.cil_syntax.specs.declared.fault.Fault.{Fault}
 use Rattle.cil_syntax.specs.declared.term.Spot.{Spot}
-use Rattle.cil_syntax.specs.declared.term.Word.{Word}
 use Rattle.cil_syntax.specs.Fails.{AreFaults}
 use Rattle.cil_syntax.specs.FaultOrder.{fault_cmp}
-use Rattle.cil_syntax.specs.Shapes.{Inner, Reading, read_row, Face, a_word, a_string, a_list, Cell, cells_of}
+use Rattle.cil_syntax.specs.Shapes.{Inner}
 use Rattle.cil_syntax.specs.Sorted.{lists_of}
-use Rattle.cil_syntax.specs.Table.{Entry, entry_named}
-use Rattle.cil_syntax.specs.Terms.{Terms, spot_of}
 use Rattle.cil_syntax.specs.Told.{told, faults_by, stated_by, all_faults, all_stated, IsModuleRead}
-use Rattle.cil_syntax.proofs.SpelledSo.{never_refused, same_shaped}
-use Rattle.cil_syntax.specs.Written.{Statement, Context, Written, at_top, Verdict, Refused, Shaped, by_reading, by_entry, by_head, by_items, verdict_of, IsItem, first, later, Found, top, IsWritten, written, fault_of, ShapeFault, refused, inner, written_cmp}
+use Rattle.cil_syntax.proofs.StatementOrder.{stands_at, module_first, rising_nothing, rising_join, tree_rises}
+use Rattle.cil_syntax.specs.Written.{Statement, Context, Written, at_top, Verdict, Refused, Shaped, verdict_of, IsItem, first, later, Found, top, IsWritten, written, fault_of, ShapeFault, refused, inner, written_cmp}
 
 -- ---- lists
 
@@ -44,75 +36,6 @@ module _ {X Y : Type 0} (f : X → Y) where
         | inl e ↦ (z, contains_here z zs, e)
         | inr d ↦ let back = from_mapped zs y d in (back.0, contains_later back.0 z zs back.1, back.2)
       ]
-
-all_from : {X : Type 0} (P : X → Type 0) (xs : List X) → ((x : X) → Contains xs x → P x) → AllByRecursion P xs
-all_from P [] h = tt
-all_from P (x ∷ xs) h = (h x (contains_here x xs), all_from P xs (λ y c. h y (contains_later y x xs c)))
-
-module _ {X : Type 0} (order : X → X → Ordering) where
-  rising_nothing : IsStrictlySortedBy order []
-  unfolding IsStrictlySortedBy
-  rising_nothing = tt
-
-  rising_in_front : (x : X) (xs : List X) → ((y : X) → Contains xs y → order x y ≡ Less) → IsStrictlySortedBy order xs → IsStrictlySortedBy order (x ∷ xs)
-  unfolding IsStrictlySortedBy
-  rising_in_front x xs h r = (all_from (λ y. order x y ≡ Less) xs h, r)
-
-  rising_join : (xs ys : List X) → IsStrictlySortedBy order xs → IsStrictlySortedBy order ys
-      → ((x y : X) → Contains xs x → Contains ys y → order x y ≡ Less) → IsStrictlySortedBy order (xs ++ ys)
-  unfolding IsStrictlySortedBy
-  rising_join [] ys p q h = q
-  rising_join (x ∷ xs) ys p q h = (
-    all_from (λ y. order x y ≡ Less) (xs ++ ys) (λ y c. elim (Contains-append_cases xs ys y c) [
-      | inl d ↦ all_at (λ z. order x z ≡ Less) xs y p.0 d
-      | inr d ↦ h x y (contains_here x xs) d
-    ]),
-    rising_join xs ys p.1 q (λ a b c d. h a b (contains_later a x xs c) d),
-  )
-
--- ---- the order of statements
-
-less_from : (a b : ℕ) → a < b → nat_cmp a b ≡ Less
-less_from a b h = sym (nat_cmp_is a b Less h)
-
-equal_from : (a b : ℕ) → a ≡ b → nat_cmp a b ≡ Equal
-equal_from a b h = sym (nat_cmp_is a b Equal h)
-
-module_first : (v w : Written) → v.statement.at.«module» < w.statement.at.«module» → written_cmp v w ≡ Less
-module_first v w h =
-    ap (λ o. ordering_then o (nat_cmp v.statement.at.at w.statement.at.at)) (less_from v.statement.at.«module» w.statement.at.«module» h)
-
-place_first : (v w : Written) → v.statement.at.«module» ≡ w.statement.at.«module» → v.statement.at.at < w.statement.at.at → written_cmp v w ≡ Less
-place_first v w same h =
-    ap (λ o. ordering_then o (nat_cmp v.statement.at.at w.statement.at.at)) (equal_from v.statement.at.«module» w.statement.at.«module» same)
-    ∙ less_from v.statement.at.at w.statement.at.at h
-
--- ---- where a statement stands
-
-module _ (at : Spot) (s : Statement) (fs : List Inner) where
-  read_stands : (entry : Entry) (r : Option (Reading (Terms Word))) → by_reading at entry r ≡ Shaped s fs → s.at ≡ at
-  read_stands entry None e = never_refused _ s fs _ e
-  read_stands entry (Some r) e =
-      let same = same_shaped (record { keyword = entry.keyword; at = at; args = r.value }) s r.faults fs e in
-      sym (ap (λ (t : Statement). t.at) same.0)
-
-  entry_stands : (word : List ℕ) (cells : List Cell) (o : Option Entry) → by_entry at word cells o ≡ Shaped s fs → s.at ≡ at
-  entry_stands word cells None e = never_refused _ s fs _ e
-  entry_stands word cells (Some entry) e = read_stands entry (read_row entry.row cells) e
-
-  head_stands : (face : Face) (cells : List Cell) → by_head at face cells ≡ Shaped s fs → s.at ≡ at
-  head_stands (a_word word) cells e = entry_stands word cells (entry_named word) e
-  head_stands a_string cells e = never_refused _ s fs _ e
-  head_stands a_list cells e = never_refused _ s fs _ e
-
-  items_stand : (cells : List Cell) → by_items at cells ≡ Shaped s fs → s.at ≡ at
-  items_stand [] e = never_refused _ s fs _ e
-  items_stand (c ∷ cs) e = head_stands c.face cs e
-
--- a statement stands where its node does
-stands_at : (m : ℕ) (context : Context) (n : Node) (s : Statement) (fs : List Inner) → verdict_of m context n ≡ Shaped s fs → s.at ≡ spot_of m (span_of n)
-unfolding verdict_of
-stands_at m context n s fs e = items_stand (spot_of m (span_of n)) s fs (cells_of m (inner_of n)) e
 
 -- ---- one module
 
@@ -161,54 +84,6 @@ module _ (m : ℕ) where
   stated_into (next k ns) n w first c = Contains-append_left (stated_by (verdict_of m at_top k)) (all_stated m ns) w c
   stated_into (next k ns) n w (later i) c =
       Contains-append_right (stated_by (verdict_of m at_top k)) (all_stated m ns) w (stated_into ns n w i c)
-
-  -- where the statements of a tree stand
-  record IsFrom (from : ℕ) (w : Written) : Type 0 where
-    pub in_module : w.statement.at.«module» ≡ m
-    pub behind : from ≤ w.statement.at.at
-
-  -- the statements of a tree rise, and stand from a place on
-  record RiseFrom (from : ℕ) (ws : List Written) : Type 0 where
-    pub rising : IsStrictlySortedBy written_cmp ws
-    pub all : (w : Written) → Contains ws w → IsFrom from w
-
-  between_apart : (from to : ℕ) (n : Node) → IsBetween from to n → (from ≤ (span_of n).start) × ((span_of n).start < (span_of n).end)
-  between_apart from to (TextWord place bytes) h = (h.0, h.1)
-  between_apart from to (Quoted place bytes) h = (h.0, h.1)
-  between_apart from to (Branch place items) h = (h.0, h.1)
-
-  rise_later : (from start end : ℕ) (ws : List Written) → from ≤ start → start < end → RiseFrom end ws → RiseFrom from ws
-  rise_later from start end ws p q r = record {
-    rising = r.rising;
-    all = λ w c. let h = r.all w c in record { in_module = h.in_module; behind = let b = h.behind in omega (arith, p, q, b) };
-  }
-
-  rise_next : (from start end : ℕ) (w : Written) (ws : List Written) → from ≤ start → start < end → w.statement.at.«module» ≡ m → w.statement.at.at ≡ start
-      → RiseFrom end ws → RiseFrom from (w ∷ ws)
-  rise_next from start end w ws p q here at r = record {
-    rising =
-        rising_in_front written_cmp w ws
-        (λ v c. let h = r.all v c in let b = h.behind in place_first w v (here ∙ sym h.in_module) (omega (arith, at, q, b))) r.rising;
-    all = λ v c. elim (contains_cases v w ws c) [
-      | inl e ↦ subst (IsFrom from) e record { in_module = here; behind = omega (arith, at, p) }
-      | inr d ↦ (rise_later from start end ws p q r).all v d
-    ];
-  }
-
-  verdict_rises : (from start end : ℕ) (n : Node) (v : Verdict) (ws : List Written) → verdict_of m at_top n ≡ v → (span_of n).start ≡ start
-      → from ≤ start → start < end → RiseFrom end ws → RiseFrom from (stated_by v ++ ws)
-  verdict_rises from start end n (Refused i) ws e at p q r = rise_later from start end ws p q r
-  verdict_rises from start end n (Shaped s fs) ws e at p q r =
-      let stands = stands_at m at_top n s fs e in
-      rise_next from start end (record { context = at_top; statement = s }) ws p q (ap (λ (t : Spot). t.«module») stands)
-      (ap (λ (t : Spot). t.at) stands ∙ at) r
-
-  tree_rises : (from to : ℕ) (tree : Nodes) → AreInOrder from to tree → RiseFrom from (all_stated m tree)
-  tree_rises from to none h = record { rising = rising_nothing written_cmp; all = λ w c. absurd (contains_none w c) }
-  tree_rises from to (next n ns) h =
-      let apart = between_apart from to n h.0 in
-      verdict_rises from (span_of n).start (span_of n).end n (verdict_of m at_top n) (all_stated m ns) refl refl apart.0 apart.1
-      (tree_rises (span_of n).end to ns h.1)
 
 -- ---- what a verdict says, as a fault or a statement of the modules
 

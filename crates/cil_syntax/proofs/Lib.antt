@@ -7,4 +7,5 @@ pub mod Operands
 pub mod FixedItems
 pub mod Judged
 pub mod NodesJudged
+pub mod StatementOrder
 pub mod AllModules
