@@ -1,5 +1,6 @@
 pub mod Bytes
 pub mod Faults
+pub mod Gives
 pub mod Laws
 pub mod Lists
 pub mod Reading
