@@ -1,0 +1,12 @@
+use Rattle.std.proofs.Common.{rules}
+use Rattle.std.specs.Ordering.{is_lt}
+use Rattle.std.proofs.lemmas.Fn.{always_returns_same}
+use Rattle.std.proofs.lemmas.Cmp.{nat_list_cmp_total}
+use Rattle.cil_sexpr.specs.Lists.{text_cmp}
+use Rattle.cil_decide.proofs.OrderLemmas.{rises_where_sorted}
+use Rattle.cil_decide.proofs.decision_tests.names_rise.Goals as goal
+
+pub returns : goal.returns
+returns c =
+    rises_where_sorted text_cmp nat_list_cmp_total c.args.names.now c.is_sorted_by.result
+    (c.is_sorted_by.ensures.cases (λ a b. is_lt (text_cmp a b)) (always_returns_same _ _ _ (λ a r f' k. search rules)))
