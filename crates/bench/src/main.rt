@@ -1,9 +1,10 @@
 //! Times what the crates do beside SHA-256 of the same bytes, on texts that it makes in memory.
 //!
-//! Start at `run`. `text.rt` makes the texts; `read.rt`, `write.rt` and `import.rt` take the times. `bench/README.md` says
-//! how the figures are read.
+//! Start at `run`. `text.rt` makes the texts; `read.rt`, `write.rt`, `import.rt` and `compiled.rt` take the times.
+//! `bench/README.md` says how the figures are read.
 #![tactic(auto)]
 
+mod compiled;
 mod figures;
 mod import;
 mod read;
@@ -24,6 +25,9 @@ const LONGEST: usize = 4_194_304;
 /// How many modules a bundle may have here.
 const MOST: usize = 4096;
 
+/// How many rules a policy may have here.
+const MOST_RULES: usize = 1_000_000;
+
 /// What is to be timed.
 enum Task {
     /// How to call the program is printed, and nothing timed.
@@ -34,6 +38,8 @@ enum Task {
     Write(usize),
     /// The import of a bundle of so many modules.
     Import(usize),
+    /// The compiling of a policy of so many rules.
+    Compile(usize),
 }
 
 /// The task of the arguments. None is a call for help.
@@ -55,6 +61,7 @@ fn wanted(rt: &(impl Env + Alloc)) -> Result<Task, Trouble> {
         ("read", Ok(size)) if size <= LONGEST => Ok(Task::Read(size)),
         ("write", Ok(size)) if size <= LONGEST => Ok(Task::Write(size)),
         ("import", Ok(modules)) if modules <= MOST => Ok(Task::Import(modules)),
+        ("compile", Ok(rules)) if rules <= MOST_RULES => Ok(Task::Compile(rules)),
         _ => Err(Trouble::Usage),
     }
 }
@@ -66,11 +73,13 @@ fn run<R: Print + Env + CpuClock + Alloc>(rt: &R, alloc: Global) -> Result<(), T
             println!(rt; "usage: bench read BYTES, a number of at most {LONGEST}")?;
             println!(rt; "       bench write BYTES, a number of at most {LONGEST}")?;
             println!(rt; "       bench import MODULES, a number of at most {MOST}")?;
+            println!(rt; "       bench compile RULES, a number of at most {MOST_RULES}")?;
             Ok(())
         }
         Task::Read(size) => read::run(rt, alloc, size),
         Task::Write(size) => write::run(rt, alloc, size),
         Task::Import(modules) => import::run(rt, alloc, modules),
+        Task::Compile(rules) => compiled::run(rt, alloc, rules),
     }
 }
 

@@ -67,3 +67,41 @@ pub fn policy(alloc: Global, size: usize, lines: Lines) -> Result<Vec<u8>, Alloc
     text.resize(size, b' ')?;
     Ok(text)
 }
+
+/// How many types, classes and roles the policy that is compiled has.
+const TYPES: usize = 5000;
+const CLASSES: usize = 30;
+const ROLES: usize = 20;
+
+/// What the policy that is compiled declares: types, classes of ten permissions, roles that have the types in turn,
+/// and a user for each role.
+pub fn declarations(alloc: Global) -> Result<Vec<u8>, AllocError> {
+    let mut text = Vec::new(alloc);
+    for n in 0..CLASSES {
+        let line = format!(in alloc; "(class class{n} (p0 p1 p2 p3 p4 p5 p6 p7 p8 p9))\n")?;
+        text.extend_from_slice(line.as_bytes())?;
+    }
+    for n in 0..ROLES {
+        let line = format!(in alloc; "(role role{n})(user user{n})(userrole user{n} role{n})\n")?;
+        text.extend_from_slice(line.as_bytes())?;
+    }
+    for n in 0..TYPES {
+        let role = n % ROLES;
+        let line = format!(in alloc; "(type ty{n}_t)(roletype role{role} ty{n}_t)\n")?;
+        text.extend_from_slice(line.as_bytes())?;
+    }
+    Ok(text)
+}
+
+/// The rules from one number on, below another: their types and classes go round out of step.
+pub fn rules(alloc: Global, first: usize, last: usize) -> Result<Vec<u8>, AllocError> {
+    let mut text = Vec::new(alloc);
+    for n in first..last {
+        let source = n.wrapping_mul(7919) % TYPES;
+        let target = n.wrapping_mul(104_729).wrapping_add(n / TYPES) % TYPES;
+        let class = n % CLASSES;
+        let line = format!(in alloc; "(allow ty{source}_t ty{target}_t (class{class} (p0 p3 p7)))\n")?;
+        text.extend_from_slice(line.as_bytes())?;
+    }
+    Ok(text)
+}
