@@ -70,7 +70,9 @@ pub fn policy(alloc: Global, size: usize, lines: Lines) -> Result<Vec<u8>, Alloc
 
 /// How many types, classes and roles the policy that is compiled has.
 const TYPES: usize = 5000;
+
 const CLASSES: usize = 30;
+
 const ROLES: usize = 20;
 
 /// What the policy that is compiled declares: types, classes of ten permissions, roles that have the types in turn,
@@ -100,7 +102,9 @@ pub fn rules(alloc: Global, first: usize, last: usize) -> Result<Vec<u8>, AllocE
         let source = n.wrapping_mul(7919) % TYPES;
         let target = n.wrapping_mul(104_729).wrapping_add(n / TYPES) % TYPES;
         let class = n % CLASSES;
-        let line = format!(in alloc; "(allow ty{source}_t ty{target}_t (class{class} (p0 p3 p7)))\n")?;
+        let line = format!(in alloc;
+            "(allow ty{source}_t ty{target}_t (class{class} (p0 p3 p7)))\n"
+        )?;
         text.extend_from_slice(line.as_bytes())?;
     }
     Ok(text)
