@@ -1,0 +1,3 @@
+pub mod QueryLemmas
+pub mod ListLemmas
+pub mod PermissionLemmas

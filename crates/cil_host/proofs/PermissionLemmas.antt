@@ -1,0 +1,104 @@
+-- The permissions of compiled tables are those of the modules.
+use Rattle.std.specs.Prelude.{Contains, Some, slice_get}
+use Rattle.std.specs.Option.{unwrap_or}
+use Rattle.std.specs.List.Sorted.{IsStrictlySortedBy}
+use Rattle.std.specs.declared.cmp.Ordering.TheVariants.{Less}
+use Rattle.std.specs.Ordering.{ordering_reverse}
+use Rattle.std.proofs.Common.{◌≡◌, ℕ, zero, suc, ◌<◌, true, List, [], ◌∷◌, length, get_or, map, sym, ◌∙◌, ap, subst, inl, inr, arith}
+use Rattle.std.proofs.lemmas.Bool.{cases_order}
+use Rattle.std.proofs.lemmas.Cmp.{nat_list_cmp_total}
+use Rattle.std.proofs.lemmas.List.Elements.{Contains-get_or}
+use Rattle.std.proofs.lemmas.Option.{slice_get-get_or, slice_get_within, get_or_from_slice_get}
+use Rattle.cil_sexpr.specs.Lists.{Lists, text_cmp, one_list, all_at}
+use Rattle.cil_syntax.specs.declared.kind.Kind.TheVariants as kinds
+use Rattle.cil_syntax.specs.Written.{IsWritten, written_cmp, written_total}
+use Rattle.cil_decide.specs.declared.tables.Class.{Class}
+use Rattle.cil_decide.specs.Agrees.{Compiles}
+use Rattle.cil_decide.specs.Declarations.{Declared}
+use Rattle.cil_decide.specs.Flat.{AreItems, item_of}
+use Rattle.cil_decide.specs.Item.{Item, nobody}
+use Rattle.cil_decide.specs.Meaning.{IsClassAt, IsPermissionAt}
+use Rattle.cil_decide.specs.Resolves.{has_permission}
+use Rattle.cil_decide.specs.Table.{Table, class_cmp}
+use Rattle.cil_host.specs.Permissions.{IsPermissionOf}
+
+some_is : {X : Type 0} {a b : X} → Some a ≡ Some b → a ≡ b
+some_is {X} {a} {b} e = ap (λ o. unwrap_or o a) e
+
+member : {X : Type 0} (xs : List X) (n : ℕ) (x : X) → slice_get xs n ≡ Some x → Contains xs x
+member xs n x e = (n, slice_get_within xs n x e, get_or_from_slice_get xs n x x e)
+
+number_of : {X : Type 0} (xs : List X) (x : X) → Contains xs x → (n : ℕ) × (slice_get xs n ≡ Some x)
+number_of xs x c = (c.0, slice_get-get_or xs c.0 x c.1 ∙ ap Some c.2)
+
+-- one row comes before each of those with greater numbers
+rising_at : (xs : List Class) (i j : ℕ) (d : Class) → IsStrictlySortedBy class_cmp xs → i < j → j < length xs → class_cmp (get_or xs i d) (get_or xs j d) ≡ Less
+unfolding IsStrictlySortedBy
+rising_at [] i j d up less within = absurd (omega (arith, within))
+rising_at (x ∷ xs) i zero d up less within = absurd (omega arith)
+rising_at (x ∷ xs) zero (suc j) d up less within = all_at (λ y. class_cmp x y ≡ Less) xs (get_or xs j d) up.0 (Contains-get_or xs j d (omega arith))
+rising_at (x ∷ xs) (suc i) (suc j) d up less within = rising_at xs i j d up.1 (omega arith) (omega arith)
+
+never_less : (t : List ℕ) → text_cmp t t ≡ Less → ⊥
+never_less t e = let turned : Less ≡ ordering_reverse Less = sym e ∙ nat_list_cmp_total.antisymm t t ∙ ap ordering_reverse e in cc
+
+-- rows of one name are one
+one_row : (rows : List Class) (i j : ℕ) (r q : Class) → IsStrictlySortedBy class_cmp rows → slice_get rows i ≡ Some r → slice_get rows j ≡ Some q → r.name ≡ q.name → r ≡ q
+one_row rows i j r q rising at bt same =
+    elim (cases_order i j) [
+      | inl e ↦ some_is (sym at ∙ ap (slice_get rows) e ∙ bt)
+      | inr other ↦ elim other [
+        | inl less ↦ absurd (never_less r.name (subst (λ n. text_cmp r.name n ≡ Less) (sym same) (apart i j r q at bt less)))
+        | inr more ↦ absurd (never_less q.name (subst (λ n. text_cmp q.name n ≡ Less) same (apart j i q r bt at more)))
+      ]
+    ]
+  where
+    apart : (a b : ℕ) (x y : Class) → slice_get rows a ≡ Some x → slice_get rows b ≡ Some y → a < b → text_cmp x.name y.name ≡ Less
+    apart a b x y e f less =
+        subst (λ z. text_cmp z.name y.name ≡ Less) (get_or_from_slice_get rows a x x e)
+        (subst (λ z. text_cmp (get_or rows a x).name z.name ≡ Less) (get_or_from_slice_get rows b y x f) (rising_at rows a b x rising less (slice_get_within rows b y f)))
+
+-- modules have one list of items
+one_items : (modules : List (List ℕ)) (xs ys : List Item) → AreItems modules xs → AreItems modules ys → xs ≡ ys
+one_items modules xs ys a b =
+    a.items ∙ ap (map item_of) (one_list written_cmp written_total (IsWritten modules) a.program b.program a.is_program b.is_program) ∙ sym b.items
+
+module _ (modules : List (List ℕ)) (t : Table) (compiles : Compiles modules t) (class_name : List ℕ) (n bit : ℕ) (is_class : IsClassAt t n class_name) where
+  pub permission_there : (p : List ℕ) → IsPermissionAt t n bit p → IsPermissionOf class_name bit p modules
+  permission_there p at =
+      let k = compiles.table.classes.only is_class.row (member t.classes n is_class.row is_class.is_row) in
+      let row : at.row ≡ is_class.row = some_is (sym at.is_row ∙ is_class.is_row) in
+      record {
+        items = compiles.items;
+        class_ = k.0;
+        permissions = is_class.row.permissions;
+        are_items = compiles.are_items;
+        a_class = k.1;
+        named = sym k.2.named ∙ is_class.named;
+        of_class = k.2.permissions;
+        is_permission = ap (λ r. slice_get r.permissions bit) (sym row) ∙ at.permission;
+      }
+
+  pub permission_back : (p : List ℕ) → IsPermissionOf class_name bit p modules → IsPermissionAt t n bit p
+  permission_back p of =
+      let same = one_items modules of.items compiles.items of.are_items compiles.are_items in
+      let declared = subst (λ xs. Declared xs nobody kinds.Class of.class_) same of.a_class in
+      let row = compiles.table.classes.each of.class_ declared in
+      let m = number_of t.classes row.0 row.2 in
+      let one : row.0 ≡ is_class.row = one_row t.classes m.0 n row.0 is_class.row compiles.table.classes.rising m.1 is_class.is_row (row.1.named ∙ of.named ∙ sym is_class.named) in
+      let lists : of.permissions ≡ row.0.permissions =
+      one_list text_cmp nat_list_cmp_total (λ q. has_permission compiles.items of.class_ q ≡ true) of.permissions row.0.permissions
+      (subst (λ xs. Lists text_cmp (λ q. has_permission xs of.class_ q ≡ true) of.permissions) same of.of_class) row.1.permissions in
+      record {
+        row = is_class.row;
+        is_row = is_class.is_row;
+        permission = ap (λ r. slice_get r.permissions bit) (sym one) ∙ ap (λ ps. slice_get ps bit) (sym lists) ∙ of.is_permission;
+      }
+
+-- a class with a permission is in the tables
+pub class_there : (modules : List (List ℕ)) (t : Table) (class_name : List ℕ) (bit : ℕ) (p : List ℕ) → Compiles modules t → IsPermissionOf class_name bit p modules → (n : ℕ) × IsClassAt t n class_name
+class_there modules t class_name bit p compiles of =
+    let same = one_items modules of.items compiles.items of.are_items compiles.are_items in
+    let row = compiles.table.classes.each of.class_ (subst (λ xs. Declared xs nobody kinds.Class of.class_) same of.a_class) in
+    let m = number_of t.classes row.0 row.2 in
+    (m.0, record { row = row.0; is_row = m.1; named = row.1.named ∙ of.named })

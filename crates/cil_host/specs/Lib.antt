@@ -1,0 +1,4 @@
+pub mod Listed
+pub mod Machine
+pub mod Permissions
+pub mod Refusal

@@ -1,0 +1,19 @@
+-- The permissions of a class of modules, by their bits. This project's profile.
+use Rattle.std.specs.Prelude.{◌≡◌, ℕ, true, List, slice_get, Some}
+use Rattle.cil_sexpr.specs.Lists.{Lists, text_cmp}
+use Rattle.cil_syntax.specs.declared.kind.Kind.TheVariants as kinds
+use Rattle.cil_decide.specs.Declarations.{Declared, Thing, name_of}
+use Rattle.cil_decide.specs.Flat.{AreItems}
+use Rattle.cil_decide.specs.Item.{Item, nobody}
+use Rattle.cil_decide.specs.Resolves.{has_permission}
+
+-- the class of this name has this permission at this place of the byte order of its permissions
+pub record IsPermissionOf (class_name : List ℕ) (bit : ℕ) (permission : List ℕ) (modules : List (List ℕ)) : Type 0 where
+  pub items : List Item
+  pub class_ : Thing
+  pub permissions : List (List ℕ)
+  pub are_items : AreItems modules items
+  pub a_class : Declared items nobody kinds.Class class_
+  pub named : name_of class_ ≡ class_name
+  pub of_class : Lists text_cmp (λ p. has_permission items class_ p ≡ true) permissions
+  pub is_permission : slice_get permissions bit ≡ Some permission
