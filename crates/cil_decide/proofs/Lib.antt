@@ -18,7 +18,6 @@ pub mod Naming
 pub mod Numbering
 pub mod OneTable
 pub mod OrderLemmas
-pub mod PartsLemmas
 pub mod RecordLemmas
 pub mod RuleLemmas
 pub mod SearchLemmas
