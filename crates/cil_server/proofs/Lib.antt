@@ -1,0 +1,7 @@
+pub mod InputLemmas
+pub mod LineLemmas
+pub mod NameLemmas
+pub mod OutputLemmas
+pub mod SessionLemmas
+pub mod StreamLemmas
+pub mod TurnLemmas

@@ -1,0 +1,85 @@
+-- Turns of a session, put together.
+use Rattle.std.specs.Prelude.{Result, Ok, Err, codes, length, map}
+use Rattle.std.proofs.Common.{◌≡◌, ℕ, suc, List, [], ◌++◌, sym, subst}
+use Rattle.std.proofs.lemmas.List.{append_assoc}
+use Rattle.cil_modset.specs.Bundle.{bundle}
+use Rattle.cil_syntax.specs.declared.failure.Failure.{Failure}
+use Rattle.cil_syntax.specs.declared.failure.Failure.TheVariants as failures
+use Rattle.cil_syntax.specs.declared.fault.Fault.{Fault}
+use Rattle.cil_syntax.specs.Printed.{printed}
+use Rattle.cil_decide.specs.declared.decision.Decision.{Decision}
+use Rattle.cil_host.specs.declared.fault.QueryFault.{QueryFault}
+use Rattle.cil_host.specs.declared.host.ListLine.{ListLine}
+use Rattle.cil_host.specs.declared.host.Loaded.{Loaded}
+use Rattle.cil_host.specs.Listed.{line_of}
+use Rattle.cil_host.specs.Machine.{Queries, State}
+use Rattle.cil_host.specs.Refusal.{Loads as LoadsHost}
+use Rattle.cil_server.specs.Asked.Request.{Asks, Exports, Lists, Loads}
+use Rattle.cil_server.specs.Replies.{newline, no_memory, of_decision, of_export, of_list, of_query_fault, ok, spaced}
+use Rattle.cil_server.specs.Session.{IsNext, Session}
+use Rattle.cil_server.specs.Step.{MayLack, Step}
+use Rattle.cil_server.specs.Turns.{IsAnswered, TellsDecision}
+use Rattle.cil_server.specs.declared.served.Served.{Served}
+
+-- whatever follows completes the session
+abbrev pub Extends : ℕ → List ℕ → State → List ℕ → ℕ → List ℕ → State → Type 0
+Extends most bytes start replies left rest h =
+    (more : List ℕ) (new : State) (ending : Served) → Session left rest h more new ending → Session most bytes start (replies ++ more) new ending
+
+pub extends_none : (most : ℕ) (bytes : List ℕ) (h : State) → Extends most bytes h [] most bytes h
+extends_none most bytes h = λ more new ending s. s
+
+pub extends_more : (most left : ℕ) (bytes rest after replies reply : List ℕ) (start h mid : State) → Extends most bytes start replies (suc left) rest h
+    → (request : _) → IsNext rest request after → Step h request reply mid → Extends most bytes start (replies ++ reply) left after mid
+extends_more most left bytes rest after replies reply start h mid f request next step = λ more new ending s.
+    subst (λ z. Session most bytes start z new ending) (sym (append_assoc replies reply more)) (f (reply ++ more) new ending (Session.answered request after mid next step s))
+
+-- ---- replies
+
+module _ (tells : List ℕ → Type 0) where
+  pub exported : (h : State) (bytes : List ℕ) → bytes ≡ bundle h.modules → tells (of_export bytes) → IsAnswered h Exports h tells
+  exported h bytes e told = record { reply = of_export (bundle h.modules); step = Step.export_; told = subst (λ z. tells (of_export z)) e told }
+
+  pub listed_lines : (h : State) (lines : List ListLine) → lines ≡ map line_of h.modules → tells (of_list lines) → IsAnswered h Lists h tells
+  listed_lines h lines e told = record { reply = of_list (map line_of h.modules); step = Step.list; told = subst (λ z. tells (of_list z)) e told }
+
+  pub exports_lack : (h : State) → tells no_memory → IsAnswered h Exports h tells
+  exports_lack h told = record { reply = no_memory; step = Step.lack MayLack.exports; told = told }
+
+  pub lists_lack : (h : State) → tells no_memory → IsAnswered h Lists h tells
+  lists_lack h told = record { reply = no_memory; step = Step.lack MayLack.lists; told = told }
+
+  pub loaded : (old new : State) (u : Loaded) (r : Result Loaded Failure) → r ≡ Ok u → LoadsHost old new r → tells ok → IsAnswered old Loads new tells
+  loaded old new u r e l told = record { reply = ok; step = Step.load (Ok u) (subst (LoadsHost old new) e l); told = told }
+
+  pub load_refused : (old new : State) (faults : List Fault) (r : Result Loaded Failure) (lines : List ℕ) (count : ℕ) → r ≡ Err (failures.Faults faults) → LoadsHost old new r
+      → lines ≡ printed faults → count ≡ length faults → tells (codes "FAULTS" ++ spaced count ++ newline ++ lines) → IsAnswered old Loads new tells
+  load_refused old new faults r lines count e l f n told = record {
+    reply = codes "FAULTS" ++ spaced (length faults) ++ newline ++ printed faults;
+    step = Step.load (Err (failures.Faults faults)) (subst (LoadsHost old new) e l);
+    told = subst (λ z. tells (codes "FAULTS" ++ spaced (length faults) ++ newline ++ z)) f (subst (λ k. tells (codes "FAULTS" ++ spaced k ++ newline ++ lines)) n told);
+  }
+
+  pub load_lacks : (old new : State) (failure : Failure) (r : Result Loaded Failure) → r ≡ Err failure → LoadsHost old new r → tells no_memory → IsAnswered old Loads new tells
+  load_lacks old new failure r e l told =
+      let same : LoadsHost {X = Loaded} old new (Err failure) = subst (LoadsHost old new) e l in
+      record { reply = no_memory; step = subst (λ h. Step old Loads no_memory h) (sym same.1) (Step.lack MayLack.loads); told = told }
+
+  pub decided : (old new : State) (source target class_name : List ℕ) (d : Decision) (r : Result Decision QueryFault) → r ≡ Ok d → Queries old source target class_name r
+      → new ≡ old → TellsDecision new class_name d tells → IsAnswered old (Asks source target class_name) new tells
+  decided old new source target class_name d r e q same t =
+      let there : TellsDecision old class_name d tells = subst (λ h. TellsDecision h class_name d tells) same t in
+      record {
+        reply = of_decision there.allowed there.auditallow there.auditdeny;
+        step = subst (λ h. Step old (Asks source target class_name) (of_decision there.allowed there.auditallow there.auditdeny) h) (sym same)
+            (Step.decide d there.allowed there.auditallow there.auditdeny (subst (Queries old source target class_name) e q) there.are_allowed there.are_auditallow there.are_auditdeny);
+        told = there.told;
+      }
+
+  pub declined : (old new : State) (source target class_name : List ℕ) (fault : QueryFault) (r : Result Decision QueryFault) → r ≡ Err fault
+      → Queries old source target class_name r → new ≡ old → tells (of_query_fault fault) → IsAnswered old (Asks source target class_name) new tells
+  declined old new source target class_name fault r e q same told = record {
+    reply = of_query_fault fault;
+    step = subst (λ h. Step old (Asks source target class_name) (of_query_fault fault) h) (sym same) (Step.decline fault (subst (Queries old source target class_name) e q));
+    told = told;
+  }

@@ -1,0 +1,9 @@
+pub mod Asked
+pub mod Given
+pub mod Replies
+pub mod Session
+pub mod Step
+pub mod Streams
+pub mod Taken
+pub mod Turns
+pub mod Views

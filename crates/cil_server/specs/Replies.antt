@@ -1,0 +1,104 @@
+-- The replies of a session, with the newline that ends each. This project's profile.
+use Rattle.std.specs.Prelude.{ℕ, List, [], ◌∷◌, ◌++◌, length, Result, Ok, Err, codes, decimal}
+use Rattle.std.specs.List.{flat_map}
+use Rattle.hex.specs.Hex.{encode_lower}
+use Rattle.cil_sexpr.specs.declared.fault.ReadError.{ReadError}
+use Rattle.cil_sexpr.specs.declared.fault.ReadError.TheVariants as read
+use Rattle.cil_sexpr.specs.declared.fault.ReadFault.{ReadFault}
+use Rattle.cil_sexpr.specs.Faults.{number_of as read_number}
+use Rattle.cil_modset.specs.declared.error.BundleError.{BundleError}
+use Rattle.cil_modset.specs.declared.error.BundleError.TheVariants as bundles
+use Rattle.cil_modset.specs.declared.error.BundleFault.{BundleFault}
+use Rattle.cil_modset.specs.declared.error.BundleFault.TheVariants as bundle
+use Rattle.cil_modset.specs.declared.set.Installed.{Installed}
+use Rattle.cil_modset.specs.declared.set.Installed.TheVariants as installed
+use Rattle.cil_modset.specs.Faults.{number_of as bundle_number}
+use Rattle.cil_syntax.specs.declared.failure.Failure.{Failure}
+use Rattle.cil_syntax.specs.declared.failure.Failure.TheVariants as failures
+use Rattle.cil_syntax.specs.declared.fault.Fault.{Fault}
+use Rattle.cil_syntax.specs.Printed.{printed}
+use Rattle.cil_host.specs.declared.fault.QueryFault.{QueryFault}
+use Rattle.cil_host.specs.declared.fault.QueryFault.TheVariants as query
+use Rattle.cil_host.specs.declared.host.ListLine.{ListLine}
+
+abbrev pub newline : List ℕ
+newline = 10 ∷ []
+
+-- a number behind a space
+abbrev pub spaced : ℕ → List ℕ
+spaced n = 32 ∷ decimal n
+
+abbrev pub ok : List ℕ
+ok = codes "OK" ++ newline
+
+abbrev pub ok_number : ℕ → List ℕ
+ok_number n = codes "OK" ++ spaced n ++ newline
+
+-- a refusal by its number
+abbrev pub refused : ℕ → List ℕ
+refused code = codes "ERR" ++ spaced code ++ newline
+
+-- want of memory
+abbrev pub no_memory : List ℕ
+no_memory = refused 0
+
+-- a refusal by its number, with a place in a text
+abbrev pub misread : ReadFault → List ℕ
+misread fault = codes "ERR" ++ spaced (read_number fault.code) ++ spaced fault.at ++ newline
+
+-- ---- by request
+
+abbrev pub of_install : Result Installed ReadError → List ℕ
+of_install (Ok installed.New) = codes "OK new" ++ newline
+of_install (Ok installed.Known) = codes "OK known" ++ newline
+of_install (Err (read.Fault fault)) = misread fault
+of_install (Err read.NoMemory) = no_memory
+
+abbrev pub of_bundle_fault : BundleFault → List ℕ
+of_bundle_fault (bundle.BadModule index fault) =
+    codes "ERR" ++ spaced 14 ++ spaced index ++ spaced (read_number fault.code) ++ spaced fault.at ++ newline
+of_bundle_fault bundle.BadMagic = refused (bundle_number bundle.BadMagic)
+of_bundle_fault bundle.Short = refused (bundle_number bundle.Short)
+of_bundle_fault bundle.NotRising = refused (bundle_number bundle.NotRising)
+of_bundle_fault bundle.Trailing = refused (bundle_number bundle.Trailing)
+
+abbrev pub of_import : Result ℕ BundleError → List ℕ
+of_import (Ok added) = ok_number added
+of_import (Err (bundles.Fault fault)) = of_bundle_fault fault
+of_import (Err bundles.NoMemory) = no_memory
+
+-- how many bytes there are, and the bytes
+abbrev pub of_export : List ℕ → List ℕ
+of_export bytes = ok_number (length bytes) ++ bytes
+
+abbrev pub of_line : ListLine → List ℕ
+of_line line = encode_lower line.digest ++ spaced line.length ++ newline
+
+abbrev pub of_list : List ListLine → List ℕ
+of_list lines = ok_number (length lines) ++ flat_map of_line lines
+
+abbrev pub of_faults : List Fault → List ℕ
+of_faults faults = codes "FAULTS" ++ spaced (length faults) ++ newline ++ printed faults
+
+abbrev pub of_load : {X : Type 0} → Result X Failure → List ℕ
+of_load (Ok x) = ok
+of_load (Err (failures.Faults faults)) = of_faults faults
+of_load (Err failures.NoMemory) = no_memory
+
+-- the names behind the first, each behind a comma
+abbrev pub listed : List (List ℕ) → List ℕ
+listed = flat_map (λ name. 44 ∷ name)
+
+-- names with commas between; a hyphen where there is none
+abbrev pub joined : List (List ℕ) → List ℕ
+joined [] = codes "-"
+joined (name ∷ names) = name ++ listed names
+
+abbrev pub of_decision : List (List ℕ) → List (List ℕ) → List (List ℕ) → List ℕ
+of_decision allowed auditallow auditdeny = codes "OK " ++ joined allowed ++ codes " " ++ joined auditallow ++ codes " " ++ joined auditdeny ++ newline
+
+abbrev pub of_query_fault : QueryFault → List ℕ
+of_query_fault query.NoPolicy = codes "ERR 71" ++ newline
+of_query_fault query.BadSource = codes "ERR 72 1" ++ newline
+of_query_fault query.BadTarget = codes "ERR 72 2" ++ newline
+of_query_fault query.NoClass = codes "ERR 73" ++ newline

@@ -1,0 +1,85 @@
+-- One request of the model host: its reply, and the host that it leaves. This project's profile.
+use Rattle.std.specs.Prelude.{◌≡◌, ◌↔◌, ℕ, zero, suc, List, [], ◌∷◌, ◌+◌, map, length, Contains, Result, Ok, Err, IfErr, IfOk, OnErr, OnOk, IsBitSet}
+use Rattle.cil_sexpr.specs.declared.fault.ReadError.{ReadError}
+use Rattle.cil_sexpr.specs.Refusal.{Refuses}
+use Rattle.cil_modset.specs.Bundle.{IsBundle, bundle}
+use Rattle.cil_modset.specs.Modules.{IsUnion}
+use Rattle.cil_modset.specs.Refusal.{RefusesBundle}
+use Rattle.cil_modset.specs.declared.error.BundleError.{BundleError}
+use Rattle.cil_modset.specs.declared.set.Installed.{Installed}
+use Rattle.cil_modset.specs.declared.set.Installed.TheVariants as installed
+use Rattle.cil_syntax.specs.declared.failure.Failure.{Failure}
+use Rattle.cil_decide.specs.declared.decision.Decision.{Decision}
+use Rattle.cil_host.specs.declared.fault.QueryFault.{QueryFault}
+use Rattle.cil_host.specs.declared.host.Loaded.{Loaded}
+use Rattle.cil_host.specs.Listed.{line_of}
+use Rattle.cil_host.specs.Machine.{OfLoaded, Queries, State}
+use Rattle.cil_host.specs.Permissions.{IsPermissionOf}
+use Rattle.cil_host.specs.Refusal.{Loads as LoadsHost}
+use Rattle.cil_server.specs.Asked.{Request}
+use Rattle.cil_server.specs.Asked.Request.{Installs, Imports, Exports, Lists, Loads, Unasked, Asks}
+use Rattle.cil_server.specs.Replies.{no_memory, of_decision, of_export, of_import, of_install, of_list, of_load, of_query_fault, refused}
+
+-- ---- what the calls of the host do
+
+-- the host has the text, and had it before; or its fault
+pub record IsInstalled (old : State) (text : List ℕ) (result : Result Installed ReadError) (new : State) : Type 0 where
+  pub known : (result ≡ Ok installed.Known) ↔ Contains old.modules text
+  pub stays : result ≡ Ok installed.Known → new ≡ old
+  pub new_text : result ≡ Ok installed.New → IsUnion old.modules (text ∷ []) new.modules
+  pub loaded : new.loaded ≡ old.loaded
+  pub refusal : IfErr result (Refuses text)
+  pub err : OnErr result (new ≡ old)
+
+-- the host has the texts of a bundle too; or the fault of the bytes
+pub record IsImported (old : State) (bytes : List ℕ) (result : Result ℕ BundleError) (new : State) : Type 0 where
+  pub a_bundle : OnOk result ((modules : List (List ℕ)) × IsBundle bytes modules)
+  pub union : (modules : List (List ℕ)) → IsBundle bytes modules → OnOk result (IsUnion old.modules modules new.modules)
+  pub added : IfOk result (λ added. length new.modules ≡ length old.modules + added)
+  pub loaded : new.loaded ≡ old.loaded
+  pub refusal : IfErr result (RefusesBundle bytes)
+  pub err : OnErr result (new ≡ old)
+
+-- ---- names of masks
+
+-- the class of the loaded modules has this permission at a bit of the mask
+pub record IsNamed (h : State) (class_name : List ℕ) (mask bit : ℕ) (name : List ℕ) : Type 0 where
+  pub is_set : IsBitSet mask bit
+  pub permission : OfLoaded h (IsPermissionOf class_name bit name)
+
+-- the names of a mask from a bit on, with so many bits left, in the order of the bits: that of the class's permissions
+pub data Names (h : State) (class_name : List ℕ) (mask : ℕ) : ℕ → ℕ → List (List ℕ) → Type 0 where
+  no_more : {bit : ℕ} → Names h class_name mask zero bit []
+  named : {left bit : ℕ} {names : List (List ℕ)} (name : List ℕ) → IsNamed h class_name mask bit name → Names h class_name mask left (suc bit) names
+      → Names h class_name mask (suc left) bit (name ∷ names)
+  skipped : {left bit : ℕ} {names : List (List ℕ)} → ((name : List ℕ) → IsNamed h class_name mask bit name → ⊥) → Names h class_name mask left (suc bit) names
+      → Names h class_name mask (suc left) bit names
+
+-- the names of all 32 bits
+abbrev pub NamesOf : State → List ℕ → ℕ → List (List ℕ) → Type 0
+NamesOf h class_name mask names = Names h class_name mask 32 0 names
+
+-- ---- a step
+
+-- the requests that may be answered with want of memory
+pub data MayLack : Request → Type 0 where
+  installs : {text : List ℕ} → MayLack (Installs text)
+  imports : {bytes : List ℕ} → MayLack (Imports bytes)
+  exports : MayLack Exports
+  lists : MayLack Lists
+  loads : MayLack Loads
+
+-- from a host, a request may get this reply and leave that host
+pub data Step : State → Request → List ℕ → State → Type 0 where
+  install : {old new : State} {text : List ℕ} (result : Result Installed ReadError) → IsInstalled old text result new → Step old (Installs text) (of_install result) new
+  import_ : {old new : State} {bytes : List ℕ} (result : Result ℕ BundleError) → IsImported old bytes result new → Step old (Imports bytes) (of_import result) new
+  export_ : {h : State} → Step h Exports (of_export (bundle h.modules)) h
+  list : {h : State} → Step h Lists (of_list (map line_of h.modules)) h
+  load : {old new : State} (result : Result Loaded Failure) → LoadsHost old new result → Step old Loads (of_load result) new
+  decide : {h : State} {source target class_name : List ℕ} (d : Decision) (allowed auditallow auditdeny : List (List ℕ))
+      → Queries h source target class_name (Ok d) → NamesOf h class_name d.allowed allowed → NamesOf h class_name d.auditallow auditallow
+      → NamesOf h class_name d.auditdeny auditdeny → Step h (Asks source target class_name) (of_decision allowed auditallow auditdeny) h
+  decline : {h : State} {source target class_name : List ℕ} (fault : QueryFault) → Queries h source target class_name (Err fault)
+      → Step h (Asks source target class_name) (of_query_fault fault) h
+  unknown : {h : State} → Step h Unasked (refused 81) h
+  lack : {h : State} {request : Request} → MayLack request → Step h request no_memory h

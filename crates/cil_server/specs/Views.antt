@@ -1,0 +1,31 @@
+-- What the code reads in a line, as the definitions say it.
+use Rattle.std.specs.Prelude.{◌≡◌, ℕ, ◌<◌, ◌≤◌, List, [], ◌∷◌}
+use Rattle.cil_server.specs.Asked.{Line, by_words, longest_body}
+use Rattle.cil_server.specs.Asked.Line.{Export, List_, Load, Quit, Ask, Install, Import, TooBig, Unknown}
+use Rattle.cil_server.specs.declared.line.Line.{Line as Read}
+use Rattle.cil_server.specs.declared.line.Line.TheVariants as read
+use Rattle.cil_server.specs.declared.line.Words.{Words}
+use Rattle.cil_server.specs.declared.line.Words.TheVariants as words
+
+abbrev pub line_of : Read → Line
+line_of read.Export = Export
+line_of read.List = List_
+line_of read.Load = Load
+line_of read.Quit = Quit
+line_of (read.Ask q) = Ask q.source.now q.target.now q.class.now
+line_of (read.Install n) = Install n
+line_of (read.Import n) = Import n
+line_of read.TooBig = TooBig
+line_of read.Unknown = Unknown
+
+-- the words of a line; other numbers of words ask for nothing
+abbrev pub IsWords : List (List ℕ) → Words → Type 0
+IsWords ws (words.One w) = ws ≡ w.now ∷ []
+IsWords ws (words.Two w d) = ws ≡ w.now ∷ d.now ∷ []
+IsWords ws (words.Four w q) = ws ≡ w.now ∷ q.source.now ∷ q.target.now ∷ q.class.now ∷ []
+IsWords ws words.Other = by_words ws ≡ Unknown
+
+-- a number, or one more than a body may have where it is greater
+pub record IsCapped (value capped : ℕ) : Type 0 where
+  pub small : value ≤ longest_body → capped ≡ value
+  pub great : longest_body < value → longest_body < capped

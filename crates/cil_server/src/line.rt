@@ -1,0 +1,178 @@
+//! What a line asks for.
+
+ghost use Rattle.std.specs.Prelude.{◌≡◌, ◌≤◌, ℕ, List, [], ◌∷◌, IfSome, IfNone, None, Some, MatchOption};
+ghost use Rattle.std.specs.List.{list_all};
+ghost use Rattle.cil_server.specs.Asked.{asked, is_decimal, is_digit, value_of, longest_body, words_of, alone, announced, queried};
+ghost use Rattle.cil_server.specs.Views.{line_of, IsCapped, IsWords};
+
+/// A line, read.
+#[derive(Clone, Copy, Debug)]
+pub(crate) enum Line<'a> {
+    Export,
+    List,
+    Load,
+    Quit,
+    Ask(Query<'a>),
+    /// INSTALL, and how many bytes of body follow.
+    Install(usize),
+    /// IMPORT, and how many bytes of body follow.
+    Import(usize),
+    /// A body that is too long.
+    TooBig,
+    Unknown,
+}
+
+/// The texts of a query.
+#[derive(Clone, Copy, Debug)]
+pub(crate) struct Query<'a> {
+    pub source: &'a [u8],
+    pub target: &'a [u8],
+    pub class: &'a [u8],
+}
+
+/// How many bytes may follow a line.
+const LONGEST_BODY: usize = 67_108_864;
+
+/// The words of a line, by their number.
+#[derive(Clone, Copy, Debug)]
+enum Words<'a> {
+    One(&'a [u8]),
+    Two(&'a [u8], &'a [u8]),
+    Four(&'a [u8], Query<'a>),
+    Other,
+}
+
+/// Reads a line, without its newline.
+#[tactic(auto, unfolding(crate::specs::Asked::asked))]
+pub(crate) fn read_line(line: &[u8]) -> Line<'_>
+    ensures { line_of result ≡ asked line.now }
+{
+    match words_of(line) {
+        Words::One(word) => alone(word),
+        Words::Two(word, digits) => announced(word, digits),
+        Words::Four(word, query) => queried(word, query.source, query.target, query.class),
+        Words::Other => Line::Unknown,
+    }
+}
+
+fn words_of(line: &[u8]) -> Words<'_>
+    ensures { IsWords (words_of line.now) result }
+{
+    let mut words = line.split(|byte| *byte == b' ');
+    let Some(word) = words.next() else {
+        return Words::Other;
+    };
+    let Some(second) = words.next() else {
+        return Words::One(word);
+    };
+    let Some(third) = words.next() else {
+        return Words::Two(word, second);
+    };
+    let Some(fourth) = words.next() else {
+        return Words::Other;
+    };
+    if let Some(_) = words.next() {
+        return Words::Other;
+    }
+    let query = Query {
+        source: second,
+        target: third,
+        class: fourth,
+    };
+    Words::Four(word, query)
+}
+
+#[tactic(auto, unfolding(crate::specs::Asked::alone))]
+fn alone(word: &[u8]) -> Line<'static>
+    ensures { line_of result ≡ alone word.now }
+{
+    if word == b"EXPORT".as_slice() {
+        return Line::Export;
+    }
+    if word == b"LIST".as_slice() {
+        return Line::List;
+    }
+    if word == b"LOAD".as_slice() {
+        return Line::Load;
+    }
+    if word == b"QUIT".as_slice() {
+        return Line::Quit;
+    }
+    Line::Unknown
+}
+
+#[tactic(auto, unfolding(crate::specs::Asked::announced))]
+fn announced(word: &[u8], digits: &[u8]) -> Line<'static>
+    ensures { line_of result ≡ announced word.now digits.now }
+{
+    if !is_decimal(digits) {
+        return Line::Unknown;
+    }
+    let is_install = word == b"INSTALL".as_slice();
+    if !is_install && word != b"IMPORT".as_slice() {
+        return Line::Unknown;
+    }
+    let length = capped_value(digits);
+    if length > LONGEST_BODY {
+        return Line::TooBig;
+    }
+    if is_install {
+        Line::Install(length)
+    } else {
+        Line::Import(length)
+    }
+}
+
+#[tactic(auto, unfolding(crate::specs::Asked::queried))]
+fn queried<'a>(word: &[u8], source: &'a [u8], target: &'a [u8], class: &'a [u8]) -> Line<'a>
+    ensures { line_of result ≡ queried word.now source.now target.now class.now }
+{
+    if word == b"AV".as_slice()
+        && source != b"".as_slice()
+        && target != b"".as_slice()
+        && class != b"".as_slice()
+    {
+        Line::Ask(Query {
+            source,
+            target,
+            class,
+        })
+    } else {
+        Line::Unknown
+    }
+}
+
+/// Whether a word is a decimal without needless zeros.
+fn is_decimal(digits: &[u8]) -> bool
+    ensures { result ≡ is_decimal digits.now }
+{
+    match digits {
+        [] => false,
+        [digit] => is_digit(*digit),
+        [first, _, ..] => *first != b'0' && are_digits(digits),
+    }
+}
+
+fn are_digits(bytes: &[u8]) -> bool
+    ensures { result ≡ list_all is_digit bytes.now }
+{
+    bytes.iter().all(|byte| is_digit(*byte))
+}
+
+fn is_digit(byte: u8) -> bool
+    ensures { result ≡ is_digit byte }
+{
+    b'0' <= byte && byte <= b'9'
+}
+
+/// The number that digits write, or one more than a body may have where it is greater.
+fn capped_value(digits: &[u8]) -> usize
+    ensures { IsCapped (value_of digits.now) result }
+{
+    let mut value = 0;
+    for digit in digits {
+        let digit = digit.saturating_sub(b'0') as usize;
+        value = (value * 10 + digit).min(LONGEST_BODY + 1);
+    }
+    value
+}
