@@ -1,3 +1,4 @@
+pub mod Codes
 pub mod Listed
 pub mod Machine
 pub mod Permissions

@@ -1,5 +1,7 @@
 //! Why a query has no answer.
 
+use std::fmt;
+
 /// Why a query has no answer. The variants stand in the order in which they are looked for.
 #[derive(Clone, Copy, Debug, PartialEq, Eq)]
 pub enum QueryFault {
@@ -11,4 +13,32 @@ pub enum QueryFault {
     BadTarget,
     /// No class has this name (73).
     NoClass,
+}
+
+impl QueryFault {
+    ghost use Rattle.std.specs.Prelude.{◌≡◌};
+    ghost use Rattle.cil_host.specs.Codes.{number_of};
+
+    /// The number of this fault in the replies of a host, from 71 to 73. A bad source and a bad target share theirs.
+    pub fn number(self) -> u32
+        ensures { result ≡ number_of self }
+    {
+        match self {
+            QueryFault::NoPolicy => 71,
+            QueryFault::BadSource => 72,
+            QueryFault::BadTarget => 72,
+            QueryFault::NoClass => 73,
+        }
+    }
+}
+
+impl fmt::Display for QueryFault {
+    fn fmt<W: fmt::Write>(&self, f: &mut fmt::Formatter<W>) -> fmt::Result {
+        match self {
+            QueryFault::NoPolicy => write!(f, "no policy is loaded"),
+            QueryFault::BadSource => write!(f, "the source is no valid context"),
+            QueryFault::BadTarget => write!(f, "the target is no valid context"),
+            QueryFault::NoClass => write!(f, "no class has this name"),
+        }
+    }
 }
