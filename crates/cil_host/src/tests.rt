@@ -2,6 +2,8 @@
 
 use crate::{Host, QueryFault};
 use cil_decide::Decision;
+use cil_modset::{BundleError, BundleFault};
+use cil_sexpr::{ReadCode, ReadFault};
 use cil_syntax::Failure;
 use std::alloc::Global;
 use std::test::Fail;
@@ -34,6 +36,20 @@ fn asked(host: &mut Host<u8>, source: &[u8], target: &[u8]) -> Option<(u32, u32,
         ) => Some((allowed, auditallow, auditdeny)),
         Err(_) => None,
     }
+}
+
+#[test]
+fn faults_have_their_numbers_and_sentences(rt: HostRuntime) -> Result<(), Fail> {
+    for (fault, number, want) in [
+        (QueryFault::NoPolicy, 71, "no policy is loaded"),
+        (QueryFault::BadSource, 72, "the source is no valid context"),
+        (QueryFault::BadTarget, 72, "the target is no valid context"),
+        (QueryFault::NoClass, 73, "no class has this name"),
+    ] {
+        assert_eq!(rt; fault.number(), number);
+        assert_eq!(rt; format!(in rt.alloc(); "{fault}")?.as_str(), want);
+    }
+    Ok(())
 }
 
 #[test]
@@ -97,6 +113,33 @@ fn a_failed_import_changes_nothing(rt: HostRuntime) -> Result<(), Fail> {
     Ok(())
 }
 
+/// A bundle of `(type a)`, `(type b))` and `(type c)`.
+const BAD_SECOND: &[u8] =
+    b"CILB\x01\0\0\0\0\0\0\0\x03\0\0\0\0\0\0\0\x08(type a)\0\0\0\0\0\0\0\x09(type b))\0\0\0\0\0\0\0\x08(type c)";
+
+#[test]
+fn nothing_of_a_bad_bundle_is_kept(rt: HostRuntime) -> Result<(), Fail> {
+    let alloc = rt.alloc();
+    assert_eq!(rt; BAD_SECOND.len(), 62);
+    let stray = ReadFault {
+        code: ReadCode::StrayClose,
+        at: 8,
+    };
+    let want = BundleFault::BadModule {
+        index: 1,
+        fault: stray,
+    };
+    assert_eq!(rt; want.number(), 14);
+    assert_eq!(rt; stray.code.number(), 3);
+    let mut host = host_of(alloc, &[])?;
+    assert_eq!(rt;
+        host.import(alloc, BAD_SECOND),
+        Err(BundleError::Fault(want))
+    );
+    assert_eq!(rt; host.list(alloc)?.len(), 0);
+    Ok(())
+}
+
 /// The SHA-256 digests of `(type a)` and `(type b)`, by another program.
 const DIGEST_A: [u8; 32] = [
     127, 120, 98, 251, 136, 163, 101, 160, 170, 229, 230, 81, 57, 164, 252, 21, 48, 74, 20, 124,
@@ -121,6 +164,23 @@ fn modules_are_listed_in_byte_order(rt: HostRuntime) -> Result<(), Fail> {
     Ok(())
 }
 
+/// Three modules that are a policy only together.
+const X: &[u8] = b"(type b)(allow b a (file (read)))";
+
+const Y: &[u8] = b"(class file (read open))(type a)";
+
+const Z: &[u8] = b"(user u)(role r)(userrole u r)(roletype r b)(roletype r a)(type a)";
+
+/// The three in each order.
+const ORDERS: [[&[u8]; 3]; 6] = [
+    [X, Y, Z],
+    [X, Z, Y],
+    [Y, X, Z],
+    [Y, Z, X],
+    [Z, X, Y],
+    [Z, Y, X],
+];
+
 #[test]
 fn hosts_with_the_same_modules_answer_alike(rt: HostRuntime) -> Result<(), Fail> {
     let alloc = rt.alloc();
@@ -144,6 +204,47 @@ fn hosts_with_the_same_modules_answer_alike(rt: HostRuntime) -> Result<(), Fail>
         assert!(rt; is_loaded(alloc, &mut other));
         assert!(rt; asked(&mut other, b"u:r:b", b"u:r:a") == Some((2, 0, 3)));
         assert!(rt; host.list(alloc)?.as_slice() == other.list(alloc)?.as_slice());
+    }
+    Ok(())
+}
+
+/// Imports the modules of one host into another: how many were new.
+fn merged(alloc: Global, from: &Host<u8>, into: &mut Host<u8>) -> Result<u64, Fail> {
+    let bundle = from.export(alloc)?;
+    Ok(into.import(alloc, bundle.as_slice())?)
+}
+
+/// The lengths of the modules, in the order of the list, and whether the policy of the three answers.
+fn holds_the_three(alloc: Global, host: &mut Host<u8>) -> Result<bool, Fail> {
+    let lines = host.list(alloc)?;
+    let is_listed = lines.len() == 3
+        && lines[0].length == 32
+        && lines[1].length == 33
+        && lines[2].length == 66;
+    let is_answered = is_loaded(alloc, host)
+        && asked(host, b"u:r:b", b"u:r:a") == Some((2, 0, 3))
+        && asked(host, b"u:r:a", b"u:r:b") == Some((0, 0, 3));
+    Ok(is_listed && is_answered)
+}
+
+#[test]
+fn hosts_that_merged_each_other_answer_alike(rt: HostRuntime) -> Result<(), Fail> {
+    let alloc = rt.alloc();
+    for texts in ORDERS {
+        let mut first = host_of(alloc, &[texts[0]])?;
+        let mut second = host_of(alloc, &[texts[1]])?;
+        let mut third = host_of(alloc, &[texts[2]])?;
+        assert_eq!(rt; merged(alloc, &first, &mut second)?, 1);
+        assert_eq!(rt; merged(alloc, &second, &mut third)?, 2);
+        assert_eq!(rt; merged(alloc, &third, &mut second)?, 1);
+        assert_eq!(rt; merged(alloc, &second, &mut first)?, 2);
+        assert_eq!(rt; merged(alloc, &first, &mut third)?, 0);
+        let lines = first.list(alloc)?;
+        assert!(rt; second.list(alloc)?.as_slice() == lines.as_slice());
+        assert!(rt; third.list(alloc)?.as_slice() == lines.as_slice());
+        assert!(rt; holds_the_three(alloc, &mut first)?);
+        assert!(rt; holds_the_three(alloc, &mut second)?);
+        assert!(rt; holds_the_three(alloc, &mut third)?);
     }
     Ok(())
 }
