@@ -1,0 +1,53 @@
+-- How the program ends. This project's profile.
+use Rattle.std.specs.Prelude.{◌≡◌, ℕ, ◌==◌, if◌then◌else◌, List}
+use Rattle.std.specs.Borrow.{Bor}
+use Rattle.clap.specs.declared.error.kind.ErrorKind.{ErrorKind}
+use Rattle.clap.specs.declared.error.kind.ErrorKind.TheVariants as kind
+use Rattle.cil_server.specs.declared.served.Served.{Served}
+use Rattle.cil_server.specs.declared.served.Served.TheVariants.{Quit, End, Fault, ReadFailed, WriteFailed}
+use Rattle.cil_sexpr.specs.declared.fault.ReadError.{ReadError}
+use Rattle.cil_sexpr.specs.declared.fault.ReadError.TheVariants as read
+use Rattle.cilhost.specs.declared.program.Streams.{Streams}
+use Rattle.cilhost.specs.declared.status.Status.{Status}
+use Rattle.cilhost.specs.declared.status.Status.TheVariants as status
+use Rattle.cilhost.specs.declared.trouble.Trouble.{Trouble}
+use Rattle.cilhost.specs.declared.trouble.Trouble.TheVariants as trouble
+
+-- the number that the program ends with
+abbrev pub number_of : Status → ℕ
+number_of status.Done = 0
+number_of status.Refused = 1
+number_of status.Usage = 2
+number_of status.Failed = 3
+number_of status.NoMemory = 4
+
+-- the status after a session with this end
+abbrev pub status_of : Served → Status
+status_of Quit = status.Done
+status_of End = status.Done
+status_of (Fault code) = if code == 0 then status.NoMemory else status.Usage
+status_of ReadFailed = status.Failed
+status_of WriteFailed = status.Failed
+
+-- the status where the program stops early
+abbrev pub trouble_status : Trouble → Status
+trouble_status trouble.Arguments = status.Usage
+trouble_status (trouble.Refused file fault) = status.Refused
+trouble_status (trouble.Failed file) = status.Failed
+trouble_status trouble.NoMemory = status.NoMemory
+
+-- why the program stops at a file that the host does not take
+abbrev pub refusal : Bor (List ℕ) → ReadError → Trouble
+refusal file (read.Fault fault) = trouble.Refused file fault
+refusal file read.NoMemory = trouble.NoMemory
+
+-- nothing was read from the input, nor written to the output
+abbrev pub HasServedNothing : {R W E : Type 0} → Streams R W E → Streams R W E → Type 0
+HasServedNothing old new = (new.input ≡ old.input) × (new.output ≡ old.output)
+
+-- the status where no subcommand was to be run
+abbrev pub answer_to : ErrorKind → Status
+answer_to kind.DisplayHelp = status.Done
+answer_to kind.DisplayVersion = status.Done
+answer_to kind.OutOfMemory = status.NoMemory
+answer_to _ = status.Usage

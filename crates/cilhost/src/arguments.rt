@@ -1,0 +1,46 @@
+//! The arguments of the program: their words, and what they ask for.
+
+use crate::help;
+use crate::trouble::Trouble;
+use clap::{Arg, ArgAction, ArgMatches, Command, Error};
+use std::alloc::Global;
+use std::env;
+use std::io::ErrorKind;
+use std::rt::Env;
+
+/// The name of the subcommand that serves requests.
+pub const SESSION: &str = "session";
+
+/// The name of its files.
+pub const FILE: &str = "FILE";
+
+/// The arguments of the program, its own name first.
+pub fn words<R: Env + AllocGlobal>(rt: &R) -> Result<Vec<String>, Trouble<'static>> {
+    match env::args(rt) {
+        Ok(words) => Ok(words.collect(rt.alloc())?),
+        Err(error) if error.kind() == ErrorKind::OutOfMemory => Err(Trouble::NoMemory),
+        Err(_) => Err(Trouble::Arguments),
+    }
+}
+
+/// What the words ask for. Help and the version, where they are asked for, are errors too.
+pub fn matches<'a>(alloc: Global, words: &'a [String]) -> Result<ArgMatches<'a>, Error> {
+    let file = Arg::new(alloc, FILE)
+        .action(ArgAction::Append)
+        .num_args(0..)
+        .help(help::FILE);
+    let session = Command::new(alloc, SESSION)
+        .about(help::SESSION)
+        .long_about(help::SESSION_LONG)
+        .after_long_help(help::REQUESTS)
+        .arg(file)?;
+    let program = Command::new(alloc, "cilhost")
+        .version("0.1.0")
+        .about(help::PROGRAM)
+        .long_about(help::PROGRAM_LONG)
+        .after_help(help::EXAMPLE)
+        .subcommand_required(true)
+        .arg_required_else_help(true)
+        .subcommand(session)?;
+    program.try_get_matches_from(words)
+}

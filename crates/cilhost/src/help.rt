@@ -1,0 +1,59 @@
+//! The texts that `--help` prints.
+
+/// What the program is, in one line.
+pub const PROGRAM: &str = "Compiles SELinux policy modules and answers what the policy allows";
+
+/// What the program is.
+pub const PROGRAM_LONG: &str = "Compiles SELinux policy modules and answers what the policy allows.
+
+Modules are texts in the Common Intermediate Language (CIL). cilhost plays one host: modules are
+installed on it, it compiles them to a policy, and then says which permissions a process in one
+security context has on an object in another. Whatever order the modules came in, the answers are
+the same.";
+
+/// How the program is called.
+pub const EXAMPLE: &str = "Example:
+  printf 'LOAD\\nAV u:r:a u:r:b file\\nQUIT\\n' | cilhost session base.cil app.cil
+
+`cilhost session --help` tells the requests that a session answers.";
+
+/// What a session does, in one line.
+pub const SESSION: &str = "Installs files, then answers requests from standard input";
+
+/// What a session does.
+pub const SESSION_LONG: &str = "Installs files, then answers requests from standard input.
+
+The FILEs are installed from the left. Then requests are read from standard input, one a line, and
+each reply is written to standard output, until QUIT or the end of the input.";
+
+/// What a file of a session is.
+pub const FILE: &str = "A module, as text in CIL, of at most 4194304 bytes";
+
+/// The requests of a session, an example and the exit statuses.
+pub const REQUESTS: &str = "Requests:
+  INSTALL n               Install a module: the n bytes behind this line. Reply: OK new, OK known,
+                          or ERR with the number of the fault and its place in bytes
+  LOAD                    Compile the installed modules and answer by them from now on. Reply: OK,
+                          or FAULTS with their number, and a line for each
+  AV source target class  What a process in the context source may do to an object of this class
+                          in the context target. A context is user:role:type. Reply: OK, then the
+                          permissions that are allowed, those audited when allowed, and those
+                          audited when denied (- for none), or ERR
+  LIST                    Reply: OK with the number of modules; for each its SHA-256 and its length
+  EXPORT                  Reply: OK n, then n bytes: all modules, for IMPORT on another host
+  IMPORT n                Install the modules of such n bytes behind this line. Reply: OK with the
+                          number of new modules, or ERR
+  QUIT                    End the session. Reply: OK
+
+Example:
+  $ printf 'LOAD\\nAV u:r:a u:r:b file\\nQUIT\\n' | cilhost session base.cil app.cil
+  OK
+  OK read - open,read
+  OK
+
+Exit status:
+  0  the session ended by QUIT or at the end of the input
+  1  a FILE was refused; standard error has its first fault: its number and its place in bytes
+  2  wrong arguments, or input that no session can go on after (a reply ERR 82 to 85)
+  3  a file, standard input or standard output failed
+  4  no memory";

@@ -1,0 +1,37 @@
+//! The program: it compiles the SELinux policy modules that it is given, and answers queries.
+//!
+//! Start at `run` in `program.rt`, which is the program over its words and its streams, and at `run_session` in
+//! `session.rt`. `specs/Ends.antt` says what each end is called and which number it has. Requests and their
+//! replies are a crate below.
+#![tactic(auto)]
+
+mod arguments;
+mod help;
+mod program;
+mod session;
+mod status;
+mod system;
+mod trouble;
+
+use crate::arguments::words;
+use crate::program::{Streams, run};
+use crate::system::Machine;
+use std::process::ExitCode;
+
+fn main(rt: HostRuntime) -> ExitCode {
+    let mut streams = Streams {
+        input: rt.stdin(),
+        output: rt.stdout(),
+        messages: rt.stderr(),
+    };
+    let status = match words(&rt) {
+        Ok(words) => run(
+            rt.alloc(),
+            words.as_slice(),
+            &mut Machine::new(&rt),
+            &mut streams,
+        ),
+        Err(trouble) => trouble.tell(&mut streams.messages),
+    };
+    ExitCode::from(status.number())
+}

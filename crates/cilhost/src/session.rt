@@ -1,0 +1,92 @@
+//! The subcommand `session`: a host that is given files, and then serves requests.
+
+ghost use Rattle.std.specs.Prelude.{◌≡◌, OnErr};
+ghost use Rattle.cilhost.specs.Ends.{HasServedNothing, status_of};
+
+use crate::program::Streams;
+use crate::status::Status;
+use crate::system::System;
+use crate::trouble::{STREAMS, Trouble};
+use cil_host::Host;
+use cil_server::{Served, serve};
+use std::alloc::Global;
+use std::io::{self, Read, Write};
+
+/// How many decisions the host keeps.
+const CAPACITY: usize = 512;
+
+/// How many bytes of a file are read: one more than a module may have, so that the host refuses a longer one.
+const LONGEST: u64 = 4_194_305;
+
+/// Installs the files from the left, each read and installed before the next, and then serves the requests of
+/// the input on the output. A file that is refused, or cannot be opened or read, ends the session before anything is served.
+pub fn run_session<Y: System, R: Read, W: Write, E: Write>(
+    alloc: Global,
+    files: &[&str],
+    system: &mut Y,
+    streams: &mut Streams<R, W, E>,
+) -> Status
+    ensures refused { result ≡ Status.Refused → HasServedNothing streams.old streams.new }
+{
+    match session(alloc, files, system, streams) {
+        Ok(served) => end(served, &mut streams.messages),
+        Err(trouble) => trouble.tell(&mut streams.messages),
+    }
+}
+
+/// Installs the files and serves the requests. An error tells why nothing was served.
+fn session<'a, Y: System, R: Read, W: Write, E: Write>(
+    alloc: Global,
+    files: &[&'a str],
+    system: &mut Y,
+    streams: &mut Streams<R, W, E>,
+) -> Result<Served, Trouble<'a>>
+    ensures { OnErr result (streams.new ≡ streams.old) }
+{
+    let mut host = match system.hasher() {
+        Ok(hasher) => Host::new(alloc, CAPACITY, hasher),
+        Err(error) => return Err(Trouble::failed(STREAMS, error)),
+    };
+    for file in files {
+        install(alloc, &mut host, system, file)?;
+    }
+    Ok(serve(alloc, &mut host, &mut streams.input, &mut streams.output))
+}
+
+/// Installs a file.
+fn install<'a, S: Drop, Y: System>(
+    alloc: Global,
+    host: &mut Host<S>,
+    system: &mut Y,
+    file: &'a str,
+) -> Result<(), Trouble<'a>>
+    ensures { OnErr result (host.new ≡ host.old) }
+{
+    let text = match text_of(alloc, system, file) {
+        Ok(text) => text,
+        Err(error) => return Err(Trouble::failed(file, error)),
+    };
+    match host.install(alloc, text.as_slice()) {
+        Ok(_) => Ok(()),
+        Err(error) => Err(Trouble::refused(file, error)),
+    }
+}
+
+/// The bytes of a file: all, or so many that no module has as many.
+fn text_of<Y: System>(alloc: Global, system: &mut Y, file: &str) -> io::Result<Vec<u8>> {
+    let mut start = system.open(file)?.take(LONGEST);
+    let mut text = Vec::new(alloc);
+    start.read_to_end(&mut text)?;
+    Ok(text)
+}
+
+/// The status after a session with this end, and its line where it has one.
+pub fn end<E: Write>(served: Served, messages: &mut E) -> Status
+    ensures { result ≡ status_of served }
+{
+    match served {
+        Served::Fault(0) => Trouble::NoMemory.tell(messages),
+        Served::ReadFailed | Served::WriteFailed => Trouble::Failed(STREAMS).tell(messages),
+        _ => Status::after(served),
+    }
+}
