@@ -11,6 +11,8 @@ mod program;
 mod session;
 mod status;
 mod system;
+#[cfg(test)]
+mod tests;
 mod trouble;
 
 use crate::arguments::words;
