@@ -32,7 +32,7 @@ pub fn run<Y: System, R: Read, W: Write, E: Write>(
     system: &mut Y,
     streams: &mut Streams<R, W, E>,
 ) -> Status
-    ensures refused { result ≡ Status.Refused → HasServedNothing streams.old streams.new }
+    ensures unserved { result ≡ Status.Refused → HasServedNothing streams.old streams.new }
 {
     let matches = match matches(alloc, words) {
         Ok(matches) => matches,

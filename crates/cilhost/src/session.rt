@@ -1,7 +1,8 @@
 //! The subcommand `session`: a host that is given files, and then serves requests.
 
-ghost use Rattle.std.specs.Prelude.{◌≡◌, OnErr};
+ghost use Rattle.std.specs.Prelude.{◌≡◌, IfErr, IfOk, IfSome, OnErr};
 ghost use Rattle.cilhost.specs.Ends.{HasServedNothing, status_of};
+ghost use Rattle.cilhost.specs.Reading.{HasRefused, IsDue, IsDueAt, part_read};
 
 use crate::program::Streams;
 use crate::status::Status;
@@ -26,7 +27,8 @@ pub fn run_session<Y: System, R: Read, W: Write, E: Write>(
     system: &mut Y,
     streams: &mut Streams<R, W, E>,
 ) -> Status
-    ensures refused { result ≡ Status.Refused → HasServedNothing streams.old streams.new }
+    ensures refused { result ≡ Status.Refused → HasRefused (Y.holds system.old) files.now }
+    ensures unserved { result ≡ Status.Refused → HasServedNothing streams.old streams.new }
 {
     match session(alloc, files, system, streams) {
         Ok(served) => end(served, &mut streams.messages),
@@ -41,16 +43,30 @@ fn session<'a, Y: System, R: Read, W: Write, E: Write>(
     system: &mut Y,
     streams: &mut Streams<R, W, E>,
 ) -> Result<Served, Trouble<'a>>
-    ensures { OnErr result (streams.new ≡ streams.old) }
+    ensures due { IfErr result (IsDue (Y.holds system.old) files.now) }
+    ensures unserved { OnErr result (streams.new ≡ streams.old) }
 {
     let mut host = match system.hasher() {
         Ok(hasher) => Host::new(alloc, CAPACITY, hasher),
         Err(error) => return Err(Trouble::failed(STREAMS, error)),
     };
-    for file in files {
-        install(alloc, &mut host, system, file)?;
-    }
+    install_all(alloc, &mut host, system, files)?;
     Ok(serve(alloc, &mut host, &mut streams.input, &mut streams.output))
+}
+
+/// Installs the files from the left, each read and installed before the next.
+fn install_all<'a, S: Drop, Y: System>(
+    alloc: Global,
+    host: &mut Host<S>,
+    system: &mut Y,
+    files: &[&'a str],
+) -> Result<(), Trouble<'a>>
+    ensures { IfErr result (IsDue (Y.holds system.old) files.now) }
+{
+    for file in files {
+        install(alloc, host, system, file)?;
+    }
+    Ok(())
 }
 
 /// Installs a file.
@@ -60,7 +76,9 @@ fn install<'a, S: Drop, Y: System>(
     system: &mut Y,
     file: &'a str,
 ) -> Result<(), Trouble<'a>>
-    ensures { OnErr result (host.new ≡ host.old) }
+    ensures due { IfErr result (IsDueAt (Y.holds system.old file.now) file.entry) }
+    ensures err { OnErr result (host.new ≡ host.old) }
+    ensures stays { Y.holds system.new ≡ Y.holds system.old }
 {
     let text = match text_of(alloc, system, file) {
         Ok(text) => text,
@@ -73,7 +91,10 @@ fn install<'a, S: Drop, Y: System>(
 }
 
 /// The bytes of a file: all, or so many that no module has as many.
-fn text_of<Y: System>(alloc: Global, system: &mut Y, file: &str) -> io::Result<Vec<u8>> {
+fn text_of<Y: System>(alloc: Global, system: &mut Y, file: &str) -> io::Result<Vec<u8>>
+    ensures bytes { IfOk result (λ text. IfSome (Y.holds system.old file.now) (λ bytes. text.items ≡ part_read bytes)) }
+    ensures stays { Y.holds system.new ≡ Y.holds system.old }
+{
     let mut start = system.open(file)?.take(LONGEST);
     let mut text = Vec::new(alloc);
     start.read_to_end(&mut text)?;

@@ -1,5 +1,7 @@
 //! What a session takes from the system beside its streams.
 
+ghost use Rattle.std.specs.Prelude.{◌≡◌, ℕ, List, Option, None, Some, IfOk, IfSome};
+
 use std::fs;
 use std::hash::RandomState;
 use std::io::{self, Read};
@@ -8,6 +10,9 @@ use std::rt::Files;
 
 /// What a session takes from the system: files by their names, and what the host hashes with.
 pub trait System {
+    /// The bytes of the file of this name, where they are known.
+    ghost holds: { Self → List ℕ → Option (List ℕ) } = { λ _ _. None };
+
     /// A file that was opened.
     type File: Read + Drop;
 
@@ -15,10 +20,14 @@ pub trait System {
     type Hasher: Drop;
 
     /// Opens a file for reading.
-    fn open(&mut self, name: &str) -> io::Result<Self::File>;
+    fn open(&mut self, name: &str) -> io::Result<Self::File>
+        ensures bytes { IfSome (holds self.old name.now)
+            (λ bytes. IfOk result (λ file. Self.File.remaining file ≡ Some bytes)) }
+        ensures stays { holds self.new ≡ holds self.old };
 
     /// Makes what the host hashes with.
-    fn hasher(&mut self) -> io::Result<Self::Hasher>;
+    fn hasher(&mut self) -> io::Result<Self::Hasher>
+        ensures { holds self.new ≡ holds self.old };
 }
 
 /// The machine that the program runs on: its files, and a hasher with random keys, so that nobody can choose

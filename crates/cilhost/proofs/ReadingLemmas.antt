@@ -1,0 +1,49 @@
+-- What is read of a file, and whose fault a refusal names.
+use Rattle.std.proofs.Common.{◌≡◌, ℕ, List, [], ◌++◌, Option, None, Some, IfSome, Contains, Result, Ok, Err, IfErr, IsErrAnd, refl, sym, subst, Bor}
+use Rattle.std.specs.Io.Take.{take_limit, take_inner, take_remaining}
+use Rattle.std.specs.declared.io.traits.Take.{Take}
+use Rattle.cil_sexpr.specs.declared.fault.ReadError.{ReadError}
+use Rattle.cil_sexpr.specs.declared.fault.ReadError.TheVariants as read
+use Rattle.cil_sexpr.specs.declared.fault.ReadFault.{ReadFault}
+use Rattle.cil_sexpr.specs.Faults.{FaultOf}
+use Rattle.cil_sexpr.specs.Refusal.{Refuses}
+use Rattle.cilhost.specs.Ends.{refusal}
+use Rattle.cilhost.specs.Reading.{IsDue, IsDueAt, IsFaultOfFile, part_read}
+use Rattle.cilhost.specs.declared.trouble.Trouble.{Trouble}
+use Rattle.cilhost.specs.declared.trouble.Trouble.TheVariants.{Arguments, Refused, Failed, NoMemory}
+
+-- reading the limited file to its end gives the part that is to be read
+pub read_part : {F : Type 0} (remaining : F → Option (List ℕ)) (known : Option (List ℕ)) (file : F) (start : Take F) (before text : List ℕ)
+    → IfSome known (λ bytes. remaining file ≡ Some bytes) → take_limit start ≡ 4194305 → take_inner start ≡ file → before ≡ []
+    → IfSome (take_remaining remaining start) (λ bytes. text ≡ before ++ bytes) → IfSome known (λ bytes. text ≡ part_read bytes)
+read_part remaining None file start before text is_file limit inner is_new all_read = tt {0}
+read_part remaining (Some bytes) file start before text is_file limit inner is_new all_read =
+    let left : remaining start.inner ≡ Some bytes = rw inner is_file in
+    let part : take_remaining remaining start ≡ Some (part_read bytes) = rw (left, limit) refl in
+    let told : text ≡ before ++ part_read bytes = rw part at all_read in
+    rw told (rw is_new refl)
+
+-- a fault of what was read is one of the file
+pub fault_of_file : (known : Option (List ℕ)) (text : List ℕ) (fault : ReadFault)
+    → IfSome known (λ bytes. text ≡ part_read bytes) → FaultOf text fault.code fault.at → IsFaultOfFile known fault
+fault_of_file None text fault all_read at_fault = tt {0}
+fault_of_file (Some bytes) text fault all_read at_fault = rw (← all_read) at_fault
+
+-- what the host refuses is told of the file that was read
+pub refusal_due : (known : Option (List ℕ)) (file : Bor (List ℕ)) (text : List ℕ) (error : ReadError)
+    → IfSome known (λ bytes. text ≡ part_read bytes) → Refuses text error → IsDueAt known file (refusal file error)
+refusal_due known file text (read.Fault fault) all_read refused = (refl, fault_of_file known text fault all_read refused)
+refusal_due known file text read.NoMemory all_read refused = tt {0}
+
+-- what is told of one of the files is told of the files
+pub due_among : (holds : List ℕ → Option (List ℕ)) (files : List (Bor (List ℕ))) (given : Bor (List ℕ)) (stop : Trouble)
+    → Contains files given → IsDueAt (holds given.now) given stop → IsDue holds files stop
+due_among holds files given (Refused file fault) among (is_given, fact) = rw is_given (among, fact)
+due_among holds files given Arguments among due = tt {0}
+due_among holds files given (Failed file) among due = tt {0}
+due_among holds files given NoMemory among due = tt {0}
+
+-- a stop that is handed on
+pub handed_on : {X : Type 0} (P : Trouble → Type 0) (r : Result X Trouble) (stop : Trouble) → IsErrAnd r (λ e. e ≡ stop) → P stop → IfErr r P
+handed_on P (Ok x) stop is p = tt
+handed_on P (Err e) stop is p = subst P (sym is) p

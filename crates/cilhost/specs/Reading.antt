@@ -1,0 +1,36 @@
+-- What a session reads of its files, and which file it refuses. This project's profile.
+use Rattle.std.specs.Prelude.{◌≡◌, ℕ, List, Option, IfSome, Contains, take}
+use Rattle.std.specs.Borrow.{Bor}
+use Rattle.cil_sexpr.specs.declared.fault.ReadFault.{ReadFault}
+use Rattle.cil_sexpr.specs.Faults.{FaultOf}
+use Rattle.cilhost.specs.declared.trouble.Trouble.{Trouble}
+use Rattle.cilhost.specs.declared.trouble.Trouble.TheVariants.{Arguments, Refused, Failed, NoMemory}
+
+-- what is read of a file: one byte more than a module may have, at most
+abbrev pub part_read : List ℕ → List ℕ
+part_read bytes = take 4194305 bytes
+
+-- the fault is the first of the file, where its bytes are known
+abbrev pub IsFaultOfFile : Option (List ℕ) → ReadFault → Type 0
+IsFaultOfFile known fault = IfSome known (λ bytes. FaultOf (part_read bytes) fault.code fault.at)
+
+-- a refusal names this file, and the first fault of its bytes
+abbrev pub IsDueAt : Option (List ℕ) → Bor (List ℕ) → Trouble → Type 0
+IsDueAt known given (Refused file fault) = (file ≡ given) × IsFaultOfFile known fault
+IsDueAt known given Arguments = Unit {0}
+IsDueAt known given (Failed file) = Unit {0}
+IsDueAt known given NoMemory = Unit {0}
+
+-- a refusal names one of the files, and the first fault of its bytes
+abbrev pub IsDue : (List ℕ → Option (List ℕ)) → List (Bor (List ℕ)) → Trouble → Type 0
+IsDue holds files (Refused file fault) = Contains files file × IsFaultOfFile (holds file.now) fault
+IsDue holds files Arguments = Unit {0}
+IsDue holds files (Failed file) = Unit {0}
+IsDue holds files NoMemory = Unit {0}
+
+-- one of the files is no module
+pub record HasRefused (holds : List ℕ → Option (List ℕ)) (files : List (Bor (List ℕ))) : Type 0 where
+  pub file : Bor (List ℕ)
+  pub fault : ReadFault
+  pub is_given : Contains files file
+  pub is_fault : IsFaultOfFile (holds file.now) fault
