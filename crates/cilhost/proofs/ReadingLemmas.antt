@@ -1,14 +1,20 @@
 -- What is read of a file, and whose fault a refusal names.
-use Rattle.std.proofs.Common.{◌≡◌, ℕ, List, [], ◌++◌, Option, None, Some, IfSome, Contains, Result, Ok, Err, IfErr, IsErrAnd, refl, sym, subst, Bor}
+use Rattle.std.proofs.Common.{◌≡◌, ℕ, List, [], ◌++◌, Option, None, Some, IfSome, Contains, Result, Ok, Err, IfErr, IsErrAnd, refl, sym, subst, Bor, ◌+◌, ◌<◌, ◌⊎◌, ◌↔◌, ◌∷◌, inl, inr, OnErr, length, get_or, arith}
+use Rattle.std.proofs.lemmas.List.{get_or_default}
 use Rattle.std.specs.Io.Take.{take_limit, take_inner, take_remaining}
 use Rattle.std.specs.declared.io.traits.Take.{Take}
 use Rattle.cil_sexpr.specs.declared.fault.ReadError.{ReadError}
 use Rattle.cil_sexpr.specs.declared.fault.ReadError.TheVariants as read
 use Rattle.cil_sexpr.specs.declared.fault.ReadFault.{ReadFault}
 use Rattle.cil_sexpr.specs.Faults.{FaultOf}
+use Rattle.cil_sexpr.specs.Lists.{contains_here}
 use Rattle.cil_sexpr.specs.Refusal.{Refuses}
+use Rattle.cil_modset.specs.Modules.{IsUnion}
+use Rattle.cil_modset.specs.declared.set.Installed.{Installed}
+use Rattle.cil_modset.specs.declared.set.Installed.TheVariants.{New, Known}
+use Rattle.cil_host.specs.Machine.{State}
 use Rattle.cilhost.specs.Ends.{refusal}
-use Rattle.cilhost.specs.Reading.{IsDue, IsDueAt, IsFaultOfFile, part_read}
+use Rattle.cilhost.specs.Reading.{HasPart, IsDue, IsDueAt, IsFaultOfFile, part_read}
 use Rattle.cilhost.specs.declared.trouble.Trouble.{Trouble}
 use Rattle.cilhost.specs.declared.trouble.Trouble.TheVariants.{Arguments, Refused, Failed, NoMemory}
 
@@ -47,3 +53,43 @@ due_among holds files given NoMemory among due = tt {0}
 pub handed_on : {X : Type 0} (P : Trouble → Type 0) (r : Result X Trouble) (stop : Trouble) → IsErrAnd r (λ e. e ≡ stop) → P stop → IfErr r P
 handed_on P (Ok x) stop is p = tt
 handed_on P (Err e) stop is p = subst P (sym is) p
+
+-- a text that was installed, as new or as known, is among the modules
+pub has_installed : (old new : State) (text : List ℕ) (found : Installed) (result : Result Installed ReadError)
+    → result ≡ Ok found → ((result ≡ Ok Known) ↔ Contains old.modules text) → (result ≡ Ok Known → new ≡ old)
+    → (result ≡ Ok New → IsUnion old.modules (text ∷ []) new.modules) → Contains new.modules text
+has_installed old new text Known result is known stays union = rw (stays is) (known.0 is)
+has_installed old new text New result is known stays union = ((union is).members text).1 (inr (contains_here text []))
+
+-- an installation leaves each module where it is
+pub keeps_installed : (old new : State) (text : List ℕ) (result : Result Installed ReadError)
+    → (result ≡ Ok Known → new ≡ old) → (result ≡ Ok New → IsUnion old.modules (text ∷ []) new.modules) → OnErr result (new ≡ old)
+    → (other : List ℕ) → Contains old.modules other → Contains new.modules other
+keeps_installed old new text (Ok Known) stays union err other there = rw (stays refl) there
+keeps_installed old new text (Ok New) stays union err other there = ((union refl).members other).1 (inl there)
+keeps_installed old new text (Err e) stays union err other there = rw err there
+
+-- the part of a file that was read is among the modules, if what was read is
+pub part_there : (known : Option (List ℕ)) (text : List ℕ) (modules : List (List ℕ))
+    → IfSome known (λ bytes. text ≡ part_read bytes) → Contains modules text → HasPart known modules
+part_there None text modules all_read there = tt {0}
+part_there (Some bytes) text modules all_read there = rw (← all_read) there
+
+-- among more modules it is too
+pub part_kept : (known : Option (List ℕ)) (old new : List (List ℕ))
+    → ((text : List ℕ) → Contains old text → Contains new text) → HasPart known old → HasPart known new
+part_kept None old new keeps there = tt {0}
+part_kept (Some bytes) old new keeps there = keeps (part_read bytes) there
+
+-- the next file is there too
+pub next_there : (holds : List ℕ → Option (List ℕ)) (files : List (Bor (List ℕ))) (i : ℕ) (last : Bor (List ℕ)) (old new : List (List ℕ))
+    → ((text : List ℕ) → Contains old text → Contains new text) → i < length files
+    → ((k : ℕ) (d : Bor (List ℕ)) → k < i → HasPart (holds (get_or files k d).now) old) → HasPart (holds (get_or files i last).now) new
+    → (k : ℕ) (d : Bor (List ℕ)) → k < i + 1 → HasPart (holds (get_or files k d).now) new
+next_there holds files i last old new keeps within before there k d below = elim (earlier k i below) [
+  | inl less ↦ part_kept _ old new keeps (before k d less)
+  | inr same ↦ rw same (rw (get_or_default files i d last within) there)
+]
+  where
+    earlier : (k i : ℕ) → k < i + 1 → (k < i) ⊎ (k ≡ i)
+    earlier k i below = grind arith

@@ -1,5 +1,5 @@
 -- What a session reads of its files, and which file it refuses. This project's profile.
-use Rattle.std.specs.Prelude.{◌≡◌, ℕ, List, Option, IfSome, Contains, take}
+use Rattle.std.specs.Prelude.{◌≡◌, ℕ, List, All, Option, IfSome, Contains, take}
 use Rattle.std.specs.Borrow.{Bor}
 use Rattle.cil_sexpr.specs.declared.fault.ReadFault.{ReadFault}
 use Rattle.cil_sexpr.specs.Faults.{FaultOf}
@@ -9,6 +9,14 @@ use Rattle.cilhost.specs.declared.trouble.Trouble.TheVariants.{Arguments, Refuse
 -- what is read of a file: one byte more than a module may have, at most
 abbrev pub part_read : List ℕ → List ℕ
 part_read bytes = take 4194305 bytes
+
+-- what is read of a file is among the modules, where its bytes are known
+abbrev pub HasPart : Option (List ℕ) → List (List ℕ) → Type 0
+HasPart known modules = IfSome known (λ bytes. Contains modules (part_read bytes))
+
+-- what is read of each file is among the modules
+abbrev pub HasAll : (List ℕ → Option (List ℕ)) → List (Bor (List ℕ)) → List (List ℕ) → Type 0
+HasAll holds files modules = All (λ file. HasPart (holds file.now) modules) files
 
 -- the fault is the first of the file, where its bytes are known
 abbrev pub IsFaultOfFile : Option (List ℕ) → ReadFault → Type 0

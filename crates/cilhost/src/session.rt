@@ -1,8 +1,8 @@
 //! The subcommand `session`: a host that is given files, and then serves requests.
 
-ghost use Rattle.std.specs.Prelude.{◌≡◌, IfErr, IfOk, IfSome, OnErr};
+ghost use Rattle.std.specs.Prelude.{◌≡◌, ℕ, List, None, Contains, IfErr, IfOk, IfSome, OnErr, OnOk};
 ghost use Rattle.cilhost.specs.Ends.{HasServedNothing, status_of};
-ghost use Rattle.cilhost.specs.Reading.{HasRefused, IsDue, IsDueAt, part_read};
+ghost use Rattle.cilhost.specs.Reading.{HasAll, HasPart, HasRefused, IsDue, IsDueAt, part_read};
 
 use crate::program::Streams;
 use crate::status::Status;
@@ -30,38 +30,43 @@ pub fn run_session<Y: System, R: Read, W: Write, E: Write>(
     ensures refused { result ≡ Status.Refused → HasRefused (Y.holds system.old) files.now }
     ensures unserved { result ≡ Status.Refused → HasServedNothing streams.old streams.new }
 {
-    match session(alloc, files, system, streams) {
-        Ok(served) => end(served, &mut streams.messages),
+    match prepared(alloc, files, system) {
+        Ok(mut host) => {
+            let served = serve(alloc, &mut host, &mut streams.input, &mut streams.output);
+            end(served, &mut streams.messages)
+        }
         Err(trouble) => trouble.tell(&mut streams.messages),
     }
 }
 
-/// Installs the files and serves the requests. An error tells why nothing was served.
-fn session<'a, Y: System, R: Read, W: Write, E: Write>(
+/// A host with the files, and no policy yet.
+fn prepared<'a, Y: System>(
     alloc: Global,
     files: &[&'a str],
     system: &mut Y,
-    streams: &mut Streams<R, W, E>,
-) -> Result<Served, Trouble<'a>>
+) -> Result<Host<Y::Hasher>, Trouble<'a>>
+    ensures installed { IfOk result (λ host. HasAll (Y.holds system.old) files.now host.modules) }
+    ensures no_policy { IfOk result (λ host. host.loaded ≡ None) }
     ensures due { IfErr result (IsDue (Y.holds system.old) files.now) }
-    ensures unserved { OnErr result (streams.new ≡ streams.old) }
 {
     let mut host = match system.hasher() {
         Ok(hasher) => Host::new(alloc, CAPACITY, hasher),
         Err(error) => return Err(Trouble::failed(STREAMS, error)),
     };
     install_all(alloc, &mut host, system, files)?;
-    Ok(serve(alloc, &mut host, &mut streams.input, &mut streams.output))
+    Ok(host)
 }
 
-/// Installs the files from the left, each read and installed before the next.
+/// Installs the files from the left, each read and installed before the next. The host then has each of them.
 fn install_all<'a, S: Drop, Y: System>(
     alloc: Global,
     host: &mut Host<S>,
     system: &mut Y,
     files: &[&'a str],
 ) -> Result<(), Trouble<'a>>
-    ensures { IfErr result (IsDue (Y.holds system.old) files.now) }
+    ensures installed { OnOk result (HasAll (Y.holds system.old) files.now host.new.modules) }
+    ensures loaded { host.new.loaded ≡ host.old.loaded }
+    ensures due { IfErr result (IsDue (Y.holds system.old) files.now) }
 {
     for file in files {
         install(alloc, host, system, file)?;
@@ -76,6 +81,9 @@ fn install<'a, S: Drop, Y: System>(
     system: &mut Y,
     file: &'a str,
 ) -> Result<(), Trouble<'a>>
+    ensures installed { OnOk result (HasPart (Y.holds system.old file.now) host.new.modules) }
+    ensures loaded { host.new.loaded ≡ host.old.loaded }
+    ensures keeps { (text : List ℕ) → Contains host.old.modules text → Contains host.new.modules text }
     ensures due { IfErr result (IsDueAt (Y.holds system.old file.now) file.entry) }
     ensures err { OnErr result (host.new ≡ host.old) }
     ensures stays { Y.holds system.new ≡ Y.holds system.old }

@@ -1,5 +1,13 @@
-use Rattle.cilhost.proofs.ReadingLemmas.{refusal_due}
+use Rattle.cilhost.proofs.ReadingLemmas.{has_installed, keeps_installed, part_there, refusal_due}
 use Rattle.cilhost.proofs.session.install.Goals as goal
+
+pub returns-in-Ok-install-clause-installed : goal.returns-in-Ok-install-clause-installed
+returns-in-Ok-install-clause-installed g c =
+    let read = rw (← c.as_slice.ensures.value) at c.in-Ok.ensures.bytes in
+    part_there _ _ _ read (has_installed _ _ _ _ _ c.in-Ok-install.is c.install.ensures.known c.install.ensures.stays c.install.ensures.new)
+
+pub returns-in-Ok-install-clause-keeps : goal.returns-in-Ok-install-clause-keeps
+returns-in-Ok-install-clause-keeps g c = keeps_installed _ _ _ _ c.install.ensures.stays c.install.ensures.new c.install.ensures.err
 
 pub returns-clause-due : goal.returns-clause-due
 returns-clause-due g c =
