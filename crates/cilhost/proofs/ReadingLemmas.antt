@@ -45,7 +45,7 @@ refusal_due known file text read.NoMemory all_read refused = tt {0}
 pub due_among : (holds : List ℕ → Option (List ℕ)) (files : List (Bor (List ℕ))) (given : Bor (List ℕ)) (stop : Trouble)
     → Contains files given → IsDueAt (holds given.now) given stop → IsDue holds files stop
 due_among holds files given (Refused file fault) among (is_given, fact) = rw is_given (among, fact)
-due_among holds files given Arguments among due = tt {0}
+due_among holds files given Arguments among due = due
 due_among holds files given (Failed file) among due = tt {0}
 due_among holds files given NoMemory among due = tt {0}
 

@@ -25,14 +25,14 @@ IsFaultOfFile known fault = IfSome known (λ bytes. FaultOf (part_read bytes) fa
 -- a refusal names this file, and the first fault of its bytes
 abbrev pub IsDueAt : Option (List ℕ) → Bor (List ℕ) → Trouble → Type 0
 IsDueAt known given (Refused file fault) = (file ≡ given) × IsFaultOfFile known fault
-IsDueAt known given Arguments = Unit {0}
+IsDueAt known given Arguments = ⊥
 IsDueAt known given (Failed file) = Unit {0}
 IsDueAt known given NoMemory = Unit {0}
 
 -- a refusal names one of the files, and the first fault of its bytes
 abbrev pub IsDue : (List ℕ → Option (List ℕ)) → List (Bor (List ℕ)) → Trouble → Type 0
 IsDue holds files (Refused file fault) = Contains files file × IsFaultOfFile (holds file.now) fault
-IsDue holds files Arguments = Unit {0}
+IsDue holds files Arguments = ⊥
 IsDue holds files (Failed file) = Unit {0}
 IsDue holds files NoMemory = Unit {0}
 

@@ -24,7 +24,7 @@ pub enum Trouble<'a> {
 }
 
 impl<'a> Trouble<'a> {
-    ghost use Rattle.std.specs.Prelude.{◌≡◌, ◌≢◌, ◌↔◌};
+    ghost use Rattle.std.specs.Prelude.{◌≡◌, ◌≢◌, ◌⊎◌};
     ghost use Rattle.std.specs.IoError.{error_kind};
     ghost use Rattle.cilhost.specs.Ends.{refusal, trouble_status};
 
@@ -40,6 +40,7 @@ impl<'a> Trouble<'a> {
 
     /// What an error of the system says, at this file. Want of memory is told from the rest.
     pub fn failed(file: &'a str, error: io::Error) -> Trouble<'a>
+        ensures either { (result ≡ Trouble.NoMemory) ⊎ (result ≡ Trouble.Failed file.entry) }
         ensures memory { error_kind error ≡ ErrorKind.OutOfMemory → result ≡ Trouble.NoMemory }
         ensures file { error_kind error ≢ ErrorKind.OutOfMemory → result ≡ Trouble.Failed file.entry }
     {
