@@ -46,7 +46,7 @@ pub due_among : (holds : List ℕ → Option (List ℕ)) (files : List (Bor (Lis
     → Contains files given → IsDueAt (holds given.now) given stop → IsDue holds files stop
 due_among holds files given (Refused file fault) among (is_given, fact) = rw is_given (among, fact)
 due_among holds files given Arguments among due = due
-due_among holds files given (Failed file) among due = tt {0}
+due_among holds files given (Failed file) among is_given = rw is_given (inl among)
 due_among holds files given NoMemory among due = tt {0}
 
 -- a stop that is handed on

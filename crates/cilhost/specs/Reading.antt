@@ -1,5 +1,5 @@
 -- What a session reads of its files, and which file it refuses. This project's profile.
-use Rattle.std.specs.Prelude.{◌≡◌, ℕ, List, All, Option, IfSome, Contains, take}
+use Rattle.std.specs.Prelude.{◌≡◌, ◌⊎◌, codes, ℕ, List, All, Option, IfSome, Contains, take}
 use Rattle.std.specs.Borrow.{Bor}
 use Rattle.cil_sexpr.specs.declared.fault.ReadFault.{ReadFault}
 use Rattle.cil_sexpr.specs.Faults.{FaultOf}
@@ -22,18 +22,18 @@ HasAll holds files modules = All (λ file. HasPart (holds file.now) modules) fil
 abbrev pub IsFaultOfFile : Option (List ℕ) → ReadFault → Type 0
 IsFaultOfFile known fault = IfSome known (λ bytes. FaultOf (part_read bytes) fault.code fault.at)
 
--- a refusal names this file, and the first fault of its bytes
+-- a refusal names this file, and the first fault of its bytes; a failure names this file
 abbrev pub IsDueAt : Option (List ℕ) → Bor (List ℕ) → Trouble → Type 0
 IsDueAt known given (Refused file fault) = (file ≡ given) × IsFaultOfFile known fault
 IsDueAt known given Arguments = ⊥
-IsDueAt known given (Failed file) = Unit {0}
+IsDueAt known given (Failed file) = file ≡ given
 IsDueAt known given NoMemory = Unit {0}
 
--- a refusal names one of the files, and the first fault of its bytes
+-- a refusal names one of the files, and the first fault of its bytes; a failure names one of them, or the streams
 abbrev pub IsDue : (List ℕ → Option (List ℕ)) → List (Bor (List ℕ)) → Trouble → Type 0
 IsDue holds files (Refused file fault) = Contains files file × IsFaultOfFile (holds file.now) fault
 IsDue holds files Arguments = ⊥
-IsDue holds files (Failed file) = Unit {0}
+IsDue holds files (Failed file) = Contains files file ⊎ (file.now ≡ codes "-")
 IsDue holds files NoMemory = Unit {0}
 
 -- one of the files is no module
