@@ -8,6 +8,8 @@
 mod arguments;
 mod help;
 mod program;
+#[cfg(test)]
+mod row_tests;
 mod session;
 mod status;
 mod system;
