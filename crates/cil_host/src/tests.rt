@@ -181,29 +181,19 @@ const ORDERS: [[&[u8]; 3]; 6] = [
     [Z, Y, X],
 ];
 
+/// The decision from type b to type a on a host that was handed some texts.
+fn answer_of(alloc: Global, texts: &[&[u8]]) -> Result<Option<(u32, u32, u32)>, Fail> {
+    let mut host = host_of(alloc, texts)?;
+    host.load(alloc)?;
+    Ok(asked(&mut host, b"u:r:b", b"u:r:a"))
+}
+
 #[test]
-fn hosts_with_the_same_modules_answer_alike(rt: HostRuntime) -> Result<(), Fail> {
+fn order_and_repeats_do_not_matter(rt: HostRuntime) -> Result<(), Fail> {
     let alloc = rt.alloc();
-    let x: &[u8] = b"(type b)(allow b a (file (read)))";
-    let y: &[u8] = b"(class file (read open))(type a)";
-    let z: &[u8] = b"(user u)(role r)(userrole u r)(roletype r b)(roletype r a)(type a)";
-    let bundle = host_of(alloc, &[y, z])?.export(alloc)?;
-    for texts in [
-        [x, y, z],
-        [x, z, y],
-        [y, x, z],
-        [y, z, x],
-        [z, x, y],
-        [z, y, x],
-    ] {
-        let mut host = host_of(alloc, &texts)?;
-        assert!(rt; is_loaded(alloc, &mut host));
-        assert!(rt; asked(&mut host, b"u:r:b", b"u:r:a") == Some((2, 0, 3)));
-        let mut other = host_of(alloc, &[x, texts[0], x])?;
-        other.import(alloc, &bundle)?;
-        assert!(rt; is_loaded(alloc, &mut other));
-        assert!(rt; asked(&mut other, b"u:r:b", b"u:r:a") == Some((2, 0, 3)));
-        assert!(rt; host.list(alloc)?.as_slice() == other.list(alloc)?.as_slice());
+    for texts in ORDERS {
+        let answer = answer_of(alloc, &[texts[0], texts[1], texts[0], texts[2]])?;
+        assert!(rt; answer == Some((2, 0, 3)));
     }
     Ok(())
 }
