@@ -1,0 +1,119 @@
+#!/usr/bin/env bash
+# Times sessions of the program cilhost over pipes: LOAD, AV and INSTALL. README.md says how to read the tables.
+set -eu
+here=$(cd "$(dirname "${BASH_SOURCE[0]}")" && pwd)
+crate=$here/../crates/cilhost
+program=$crate/out/cilhost
+work=$(mktemp -d)
+trap 'rm -rf "$work"' EXIT
+
+if ! (cd "$crate" && rt run -- --version </dev/null >"$work/build" 2>&1); then
+    cat "$work/build" >&2
+    exit 1
+fi
+
+# The request that installs the file $1.
+install_request() {
+    printf 'INSTALL %d\n' "$(wc -c <"$1")"
+    cat "$1"
+}
+
+# Declarations: 30 classes of ten permissions, 5,000 types, a user and a role that has each type.
+declarations() {
+    awk 'BEGIN {
+        for (c = 0; c < 30; c++) {
+            printf "(class cl%d (", c
+            for (p = 0; p < 10; p++) printf "%spe%d_%d", p ? " " : "", c, p
+            print "))"
+        }
+        print "(user us)(role ro)(userrole us ro)"
+        for (t = 0; t < 5000; t++) printf "(type ty%d)(roletype ro ty%d)\n", t, t
+    }'
+}
+
+# The rules from number $1 to number $2: they go round types and classes out of step, three permissions in each.
+rules() {
+    awk -v from="$1" -v to="$2" 'BEGIN {
+        for (i = from; i < to; i++) {
+            c = i % 30
+            printf "(allow ty%d ty%d (cl%d (pe%d_%d pe%d_%d pe%d_%d)))\n", i % 5000, (i * 7 + int(i / 5000)) % 5000, c, c, i % 10, c, (i + 1) % 10, c, (i + 2) % 10
+        }
+    }'
+}
+
+# The requests that install a policy of $1 rules, 20,000 in a module.
+policy() {
+    declarations >"$work/module"
+    install_request "$work/module"
+    local from
+    for ((from = 0; from < $1; from += 20000)); do
+        rules "$from" "$((from + 20000 < $1 ? from + 20000 : $1))" >"$work/module"
+        install_request "$work/module"
+    done
+}
+
+# The requests that install $1 modules of 25 KB, each of its own rules, and the declarations.
+many_modules() {
+    declarations >"$work/module"
+    install_request "$work/module"
+    local number
+    for ((number = 0; number < $1; number++)); do
+        rules "$((number * 500))" "$((number * 500 + 500))" >"$work/module"
+        install_request "$work/module"
+    done
+}
+
+# Runs the requests of the file $1 three times: the least time in microseconds goes to $work/us, the most memory
+# in kB to $work/peak, the replies to $work/replies.
+measure() {
+    local least= start stop
+    echo 0 >"$work/peak"
+    for _ in 1 2 3; do
+        start=$(date +%s%N)
+        cat "$1" | /usr/bin/time -f '%M' -o "$work/now" "$program" session >"$work/replies"
+        stop=$(date +%s%N)
+        if [ -z "$least" ] || [ $(((stop - start) / 1000)) -lt "$least" ]; then least=$(((stop - start) / 1000)); fi
+        if [ "$(cat "$work/now")" -gt "$(cat "$work/peak")" ]; then cp "$work/now" "$work/peak"; fi
+    done
+    echo "$least" >"$work/us"
+}
+
+# Ends where a reply in $work/replies is a refusal.
+expect_no_refusal() {
+    if grep -aq '^ERR\|^FAULTS' "$work/replies"; then
+        echo "a request was refused: $(grep -am1 '^ERR\|^FAULTS' "$work/replies")" >&2
+        exit 1
+    fi
+}
+
+[ -x /usr/bin/time ] || { echo "this script needs /usr/bin/time" >&2; exit 2; }
+
+printf '%10s %12s %10s %14s %9s\n' rules 'INSTALL ms' 'LOAD ms' 'AV a second' 'peak MB'
+for count in 10000 100000; do
+    policy "$count" >"$work/installed"
+    { cat "$work/installed"; echo LOAD; } >"$work/loaded"
+    queries=$((200000000 / count / 10))
+    { cat "$work/loaded"; awk -v n="$queries" 'BEGIN { for (i = 0; i < n; i++) printf "AV us:ro:ty%d us:ro:ty%d cl%d\n", i % 5000, (i * 7) % 5000, i % 30 }'; } >"$work/asked"
+    measure "$work/installed"; expect_no_refusal; installed=$(cat "$work/us")
+    measure "$work/loaded"; expect_no_refusal; loaded=$(cat "$work/us")
+    measure "$work/asked"; expect_no_refusal; asked=$(cat "$work/us")
+    awk -v rules="$count" -v i="$installed" -v l="$loaded" -v a="$asked" -v n="$queries" -v peak="$(cat "$work/peak")" \
+        'BEGIN { printf "%10d %12.1f %10.1f %14.0f %9.1f\n", rules, i / 1000, (l - i) / 1000, n * 1000000 / (a - l), peak * 1024 / 1000000 }'
+done
+
+printf '\n%10s %12s %10s %9s\n' modules 'INSTALL ms' 'LOAD ms' 'peak MB'
+growth=0
+last=
+for count in 100 200 400; do
+    many_modules "$count" >"$work/installed"
+    { cat "$work/installed"; echo LOAD; } >"$work/loaded"
+    measure "$work/installed"; expect_no_refusal; installed=$(cat "$work/us")
+    measure "$work/loaded"; expect_no_refusal; loaded=$(cat "$work/us")
+    awk -v modules="$count" -v i="$installed" -v l="$loaded" -v peak="$(cat "$work/peak")" \
+        'BEGIN { printf "%10d %12.1f %10.1f %9.1f\n", modules, i / 1000, (l - i) / 1000, peak * 1024 / 1000000 }'
+    if [ -n "$last" ]; then
+        growth=$(awk -v growth="$growth" -v now="$loaded" -v last="$last" 'BEGIN { g = now / last; print (g > growth ? g : growth) }')
+    fi
+    last=$loaded
+done
+awk -v growth="$growth" 'BEGIN { printf "a doubling of the modules takes at most %.2f times as long: %s\n", growth, growth <= 2.4 ? "at most 2.4" : "MORE THAN 2.4" }'
