@@ -338,6 +338,23 @@ fn replies_at_last(
     false
 }
 
+/// Requests behind the installing of the first module, and their replies.
+const REQUESTS: [(&[u8], &[u8]); 6] = [
+    (
+        b"IMPORT 29\nCILB\x01\0\0\0\0\0\0\0\x01\0\0\0\0\0\0\0\x08(type a)",
+        b"OK 1\n",
+    ),
+    (b"LOAD\n", b"OK\n"),
+    (b"AV u:r:a u:r:b file\n", b"OK read - open,read\n"),
+    (b"INSTALL 11\n(allow a a)", b"OK new\n"),
+    (b"LOAD\n", b"FAULTS 1\n23 0 0 . allow\n"),
+    (b"AV u:r:a u:r:b file\n", b"OK read - open,read\n"),
+];
+
+/// The request that installs the first module.
+const INSTALL: &[u8] =
+    b"INSTALL 123\n(class file (open read))(user u)(role r)(type a)(type b)(userrole u r)(roletype r a)(roletype r b)(allow a b (file (read)))";
+
 /// Passes with every growth allowed, and with any one of them refused.
 #[test]
 fn a_refused_growth_is_told(rt: HostRuntime) -> Result<(), Fail> {
@@ -347,59 +364,9 @@ fn a_refused_growth_is_told(rt: HostRuntime) -> Result<(), Fail> {
         Ok(written) => written,
         Err(_) => Vec::with_capacity(alloc, 4096)?,
     };
-    let install = format!(in alloc; "INSTALL 123\n{FIRST}");
-    let install = match install {
-        Ok(install) => install,
-        Err(_) => format!(in alloc; "INSTALL 123\n{FIRST}")?,
-    };
-    let import = b"IMPORT 29\nCILB\x01\0\0\0\0\0\0\0\x01\0\0\0\0\0\0\0\x08(type a)";
-    assert!(rt;
-        replies_at_last(
-            alloc,
-            &mut host,
-            &mut written,
-            install.as_bytes(),
-            b"OK new\n"
-        )
-    );
-    assert!(rt; replies_at_last(alloc, &mut host, &mut written, import, b"OK 1\n"));
-    assert!(rt; replies_at_last(alloc, &mut host, &mut written, b"LOAD\n", b"OK\n"));
-    let decision = b"OK read - open,read\n";
-    assert!(rt;
-        replies_at_last(
-            alloc,
-            &mut host,
-            &mut written,
-            b"AV u:r:a u:r:b file\n",
-            decision
-        )
-    );
-    assert!(rt;
-        replies_at_last(
-            alloc,
-            &mut host,
-            &mut written,
-            b"INSTALL 11\n(allow a a)",
-            b"OK new\n"
-        )
-    );
-    assert!(rt;
-        replies_at_last(
-            alloc,
-            &mut host,
-            &mut written,
-            b"LOAD\n",
-            b"FAULTS 1\n23 0 0 . allow\n"
-        )
-    );
-    assert!(rt;
-        replies_at_last(
-            alloc,
-            &mut host,
-            &mut written,
-            b"AV u:r:a u:r:b file\n",
-            decision
-        )
-    );
+    assert!(rt; replies_at_last(alloc, &mut host, &mut written, INSTALL, b"OK new\n"));
+    for (input, output) in REQUESTS {
+        assert!(rt; replies_at_last(alloc, &mut host, &mut written, input, output));
+    }
     Ok(())
 }
