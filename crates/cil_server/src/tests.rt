@@ -114,9 +114,9 @@ fn modules_travel_by_bundles(rt: HostRuntime) -> Result<(), Fail> {
             Served::End
         )
     );
-    for host in [&mut host, &mut other] {
-        assert!(rt; replies_of(alloc, host, b"LIST\nLOAD\n", LISTED, Served::End));
-    }
+    let input = b"LIST\nLOAD\n";
+    assert!(rt; replies_of(alloc, &mut host, input, LISTED, Served::End));
+    assert!(rt; replies_of(alloc, &mut other, input, LISTED, Served::End));
     Ok(())
 }
 
@@ -206,40 +206,43 @@ fn other_lines_are_no_requests(rt: HostRuntime) -> Result<(), Fail> {
     Ok(())
 }
 
-/// A line of so many bytes, with its newline.
-fn line_of(alloc: Global, length: usize) -> Result<Vec<u8>, Fail> {
+/// So many bytes that are no newline, and then some others.
+fn line_of(alloc: Global, length: usize, end: &[u8]) -> Result<Vec<u8>, Fail> {
     let mut line = vec![in alloc; b'x'; length]?;
-    line.push(b'\n')?;
+    line.extend_from_slice(end)?;
     Ok(line)
 }
 
 #[test]
-fn lines_and_bodies_have_limits(rt: HostRuntime) -> Result<(), Fail> {
+fn lines_have_a_limit(rt: HostRuntime) -> Result<(), Fail> {
     let alloc = rt.alloc();
-    let whole = line_of(alloc, 4096)?;
+    let whole = line_of(alloc, 4096, b"\n")?;
     assert!(rt; replies(alloc, whole.as_slice(), b"ERR 81\n", Served::End));
-    let cut = &whole[..4096];
-    assert!(rt; replies(alloc, cut, b"ERR 83\n", Served::Fault(83)));
-    let long = line_of(alloc, 4097)?;
+    let cut = line_of(alloc, 4096, b"")?;
+    assert!(rt; replies(alloc, cut.as_slice(), b"ERR 83\n", Served::Fault(83)));
+    let long = line_of(alloc, 4097, b"\n")?;
     assert!(rt; replies(alloc, long.as_slice(), b"ERR 82\n", Served::Fault(82)));
-    assert!(rt; replies(alloc, &long[..4097], b"ERR 82\n", Served::Fault(82)));
+    let long_and_cut = line_of(alloc, 4097, b"")?;
     assert!(rt;
         replies(
             alloc,
-            b"INSTALL 67108865\nLOAD\n",
-            b"ERR 84\n",
-            Served::Fault(84)
+            long_and_cut.as_slice(),
+            b"ERR 82\n",
+            Served::Fault(82)
         )
     );
-    assert!(rt;
-        replies(
-            alloc,
-            b"IMPORT 99999999999999999999999999\n",
-            b"ERR 84\n",
-            Served::Fault(84)
-        )
-    );
-    assert!(rt; replies(alloc, b"INSTALL 67108864\n", b"ERR 83\n", Served::Fault(83)));
+    Ok(())
+}
+
+#[test]
+fn bodies_have_a_limit(rt: HostRuntime) -> Result<(), Fail> {
+    let alloc = rt.alloc();
+    let too_big = b"INSTALL 67108865\nLOAD\n";
+    assert!(rt; replies(alloc, too_big, b"ERR 84\n", Served::Fault(84)));
+    let longer = b"IMPORT 99999999999999999999999999\n";
+    assert!(rt; replies(alloc, longer, b"ERR 84\n", Served::Fault(84)));
+    let longest = b"INSTALL 67108864\n";
+    assert!(rt; replies(alloc, longest, b"ERR 83\n", Served::Fault(83)));
     Ok(())
 }
 
