@@ -2,6 +2,7 @@
 use Rattle.std.specs.Prelude.{Contains, Some, slice_get}
 use Rattle.std.specs.Option.{unwrap_or}
 use Rattle.std.specs.List.Sorted.{IsStrictlySortedBy}
+use Rattle.std.specs.declared.cmp.Ordering.{Ordering}
 use Rattle.std.specs.declared.cmp.Ordering.TheVariants.{Less}
 use Rattle.std.specs.Ordering.{ordering_reverse}
 use Rattle.std.proofs.Common.{◌≡◌, ℕ, zero, suc, ◌<◌, true, List, [], ◌∷◌, length, get_or, map, sym, ◌∙◌, ap, subst, inl, inr, arith}
@@ -31,13 +32,19 @@ member xs n x e = (n, slice_get_within xs n x e, get_or_from_slice_get xs n x x 
 number_of : {X : Type 0} (xs : List X) (x : X) → Contains xs x → (n : ℕ) × (slice_get xs n ≡ Some x)
 number_of xs x c = (c.0, slice_get-get_or xs c.0 x c.1 ∙ ap Some c.2)
 
--- one row comes before each of those with greater numbers
-rising_at : (xs : List Class) (i j : ℕ) (d : Class) → IsStrictlySortedBy class_cmp xs → i < j → j < length xs → class_cmp (get_or xs i d) (get_or xs j d) ≡ Less
-unfolding IsStrictlySortedBy
-rising_at [] i j d up less within = absurd (omega (arith, within))
-rising_at (x ∷ xs) i zero d up less within = absurd (omega arith)
-rising_at (x ∷ xs) zero (suc j) d up less within = all_at (λ y. class_cmp x y ≡ Less) xs (get_or xs j d) up.0 (Contains-get_or xs j d (omega arith))
-rising_at (x ∷ xs) (suc i) (suc j) d up less within = rising_at xs i j d up.1 (omega arith) (omega arith)
+module _ {X : Type 0} (order : X → X → Ordering) where
+  -- an element comes before each of those with greater numbers
+  rising_from : (xs : List X) (i j : ℕ) (d : X) → IsStrictlySortedBy order xs → i < j → j < length xs → order (get_or xs i d) (get_or xs j d) ≡ Less
+  unfolding IsStrictlySortedBy
+  rising_from [] i j d up less within = absurd (omega (arith, within))
+  rising_from (x ∷ xs) i zero d up less within = absurd (omega arith)
+  rising_from (x ∷ xs) zero (suc j) d up less within = all_at (λ y. order x y ≡ Less) xs (get_or xs j d) up.0 (Contains-get_or xs j d (omega arith))
+  rising_from (x ∷ xs) (suc i) (suc j) d up less within = rising_from xs i j d up.1 (omega arith) (omega arith)
+
+  rising_at : (xs : List X) (i j : ℕ) (x y : X) → IsStrictlySortedBy order xs → slice_get xs i ≡ Some x → slice_get xs j ≡ Some y → i < j → order x y ≡ Less
+  rising_at xs i j x y up e f less =
+      subst (λ z. order z y ≡ Less) (get_or_from_slice_get xs i x x e)
+      (subst (λ z. order (get_or xs i x) z ≡ Less) (get_or_from_slice_get xs j y x f) (rising_from xs i j x up less (slice_get_within xs j y f)))
 
 never_less : (t : List ℕ) → text_cmp t t ≡ Less → ⊥
 never_less t e = let turned : Less ≡ ordering_reverse Less = sym e ∙ nat_list_cmp_total.antisymm t t ∙ ap ordering_reverse e in cc
@@ -48,15 +55,10 @@ one_row rows i j r q rising at bt same =
     elim (cases_order i j) [
       | inl e ↦ some_is (sym at ∙ ap (slice_get rows) e ∙ bt)
       | inr other ↦ elim other [
-        | inl less ↦ absurd (never_less r.name (subst (λ n. text_cmp r.name n ≡ Less) (sym same) (apart i j r q at bt less)))
-        | inr more ↦ absurd (never_less q.name (subst (λ n. text_cmp q.name n ≡ Less) same (apart j i q r bt at more)))
+        | inl less ↦ absurd (never_less r.name (subst (λ n. text_cmp r.name n ≡ Less) (sym same) (rising_at class_cmp rows i j r q rising at bt less)))
+        | inr more ↦ absurd (never_less q.name (subst (λ n. text_cmp q.name n ≡ Less) same (rising_at class_cmp rows j i q r rising bt at more)))
       ]
     ]
-  where
-    apart : (a b : ℕ) (x y : Class) → slice_get rows a ≡ Some x → slice_get rows b ≡ Some y → a < b → text_cmp x.name y.name ≡ Less
-    apart a b x y e f less =
-        subst (λ z. text_cmp z.name y.name ≡ Less) (get_or_from_slice_get rows a x x e)
-        (subst (λ z. text_cmp (get_or rows a x).name z.name ≡ Less) (get_or_from_slice_get rows b y x f) (rising_at rows a b x rising less (slice_get_within rows b y f)))
 
 -- modules have one list of items
 one_items : (modules : List (List ℕ)) (xs ys : List Item) → AreItems modules xs → AreItems modules ys → xs ≡ ys
@@ -94,6 +96,22 @@ module _ (modules : List (List ℕ)) (t : Table) (compiles : Compiles modules t)
         is_row = is_class.is_row;
         permission = ap (λ r. slice_get r.permissions bit) (sym one) ∙ ap (λ ps. slice_get ps bit) (sym lists) ∙ of.is_permission;
       }
+
+-- the names of a class rise with their bits, and each bit has one
+module _ (modules : List (List ℕ)) (t : Table) (compiles : Compiles modules t) (class_name : List ℕ) (n bit : ℕ) (is_class : IsClassAt t n class_name) (p : List ℕ) (at : IsPermissionAt t n bit p) where
+  -- the permission of a bit in the row of this one
+  in_row : (k : ℕ) (q : List ℕ) → IsPermissionOf class_name k q modules → slice_get at.row.permissions k ≡ Some q
+  in_row k q of =
+      let there = permission_back modules t compiles class_name n k is_class q of in
+      ap (λ r. slice_get r.permissions k) (some_is (sym at.is_row ∙ there.is_row)) ∙ there.permission
+
+  pub permission_only : (q : List ℕ) → IsPermissionOf class_name bit q modules → q ≡ p
+  permission_only q of = some_is (sym (in_row bit q of) ∙ at.permission)
+
+  pub permission_before : (k : ℕ) (q : List ℕ) → bit < k → IsPermissionOf class_name k q modules → text_cmp p q ≡ Less
+  permission_before k q less of =
+      let row = compiles.table.classes.only at.row (member t.classes n at.row at.is_row) in
+      rising_at text_cmp at.row.permissions bit k p q row.2.permissions.rising at.permission (in_row k q of) less
 
 -- a class with a permission is in the tables
 pub class_there : (modules : List (List ℕ)) (t : Table) (class_name : List ℕ) (bit : ℕ) (p : List ℕ) → Compiles modules t → IsPermissionOf class_name bit p modules → (n : ℕ) × IsClassAt t n class_name

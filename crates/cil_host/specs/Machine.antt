@@ -31,6 +31,7 @@ pub record OfLoaded (h : State) (holds : List (List ℕ) → Type 0) : Type 0 wh
   pub is_loaded : h.loaded ≡ Some modules
   pub fact : holds modules
 
+-- the text is a valid context: it is not so that it is none
 abbrev pub HasContext : List ℕ → List (List ℕ) → Type 0
 HasContext text modules = HasNoContext modules text → ⊥
 

@@ -1,11 +1,13 @@
 -- The permissions of a class of modules, by their bits. This project's profile.
-use Rattle.std.specs.Prelude.{◌≡◌, ℕ, true, List, slice_get, Some}
+use Rattle.std.specs.Prelude.{◌≡◌, ℕ, ◌<◌, true, List, slice_get, Some}
+use Rattle.std.specs.declared.cmp.Ordering.TheVariants.{Less}
 use Rattle.cil_sexpr.specs.Lists.{Lists, text_cmp}
 use Rattle.cil_syntax.specs.declared.kind.Kind.TheVariants as kinds
 use Rattle.cil_decide.specs.Declarations.{Declared, Thing, name_of}
 use Rattle.cil_decide.specs.Flat.{AreItems}
 use Rattle.cil_decide.specs.Item.{Item, nobody}
 use Rattle.cil_decide.specs.Resolves.{has_permission}
+use Rattle.cil_host.specs.Machine.{OfLoaded, State}
 
 -- the class of this name has this permission at this place of the byte order of its permissions
 pub record IsPermissionOf (class_name : List ℕ) (bit : ℕ) (permission : List ℕ) (modules : List (List ℕ)) : Type 0 where
@@ -17,3 +19,8 @@ pub record IsPermissionOf (class_name : List ℕ) (bit : ℕ) (permission : List
   pub named : name_of class_ ≡ class_name
   pub of_class : Lists text_cmp (λ p. has_permission items class_ p ≡ true) permissions
   pub is_permission : slice_get permissions bit ≡ Some permission
+
+-- the bit has no other name, and the names of greater bits come behind this one
+pub record IsInOrder (h : State) (class_name : List ℕ) (bit : ℕ) (name : List ℕ) : Type 0 where
+  pub only : (other : List ℕ) → OfLoaded h (IsPermissionOf class_name bit other) → other ≡ name
+  pub before : (greater : ℕ) (other : List ℕ) → bit < greater → OfLoaded h (IsPermissionOf class_name greater other) → text_cmp name other ≡ Less

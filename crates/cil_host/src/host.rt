@@ -2,12 +2,13 @@
 
 ghost use Rattle.std.specs.Prelude.{◌≡◌, ℕ, List, [], ◌∷◌, ◌+◌, length, map, Contains, None, Some, IfOk, IfErr, IfNone, IfSome, OnErr, OnOk, Ok, ◌↔◌, ◌≤◌};
 ghost use Rattle.cil_sexpr.specs.Refusal.{Refuses};
+ghost use Rattle.cil_sexpr.specs.Text.{IsReadable};
 ghost use Rattle.cil_modset.specs.Bundle.{IsBundle, bundle};
 ghost use Rattle.cil_modset.specs.Modules.{IsUnion};
 ghost use Rattle.cil_modset.specs.Refusal.{RefusesBundle};
 ghost use Rattle.cil_modset.specs.declared.set.Installed.{Installed};
 ghost use Rattle.cil_host.specs.Machine.{OfLoaded, Queries, State};
-ghost use Rattle.cil_host.specs.Permissions.{IsPermissionOf};
+ghost use Rattle.cil_host.specs.Permissions.{IsInOrder, IsPermissionOf};
 ghost use Rattle.cil_host.specs.Listed.{line_of};
 ghost use Rattle.cil_host.specs.Refusal.{Loads};
 
@@ -77,6 +78,7 @@ impl<S: Drop> Host<S> {
         ensures known { (result ≡ Ok Installed.Known) ↔ Contains self.old.modules text.now }
         ensures stays { result ≡ Ok Installed.Known → self.new ≡ self.old }
         ensures new { result ≡ Ok Installed.New → IsUnion self.old.modules (text.now ∷ []) self.new.modules }
+        ensures readable { result ≡ Ok Installed.New → IsReadable text.now }
         ensures loaded { self.new.loaded ≡ self.old.loaded }
         ensures refusal { IfErr result (Refuses text.now) }
         ensures err { OnErr result (self.new ≡ self.old) }
@@ -157,6 +159,7 @@ impl<S: Drop> Host<S> {
     /// the class's permissions. None without a policy, where no class has the name, or where the class has no permission for the bit.
     pub fn permission(&self, class: &[u8], bit: u32) -> Option<&[u8]>
         ensures found { IfSome result (λ name. OfLoaded self.now (IsPermissionOf class.now bit name.now)) }
+        ensures order { IfSome result (λ name. IsInOrder self.now class.now bit name.now) }
         ensures none { IfNone result ((name : List ℕ) → OfLoaded self.now (IsPermissionOf class.now bit name) → ⊥) }
     {
         let Some(policy) = &self.policy else {

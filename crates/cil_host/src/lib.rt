@@ -5,8 +5,6 @@
 
 mod fault;
 mod host;
-#[cfg(test)]
-mod tests;
 
 pub use fault::QueryFault;
 pub use host::{Host, ListLine, Loaded};

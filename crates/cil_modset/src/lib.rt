@@ -19,6 +19,3 @@ mod set;
 pub use error::{BundleError, BundleFault, NoMemory};
 pub use join::Join;
 pub use set::{Installed, ModuleSet};
-
-#[cfg(test)]
-mod tests;

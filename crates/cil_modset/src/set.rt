@@ -2,6 +2,7 @@
 
 ghost use Rattle.std.specs.Prelude.{◌≡◌, ℕ, ◌+◌, ◌<◌, ◌↔◌, List, [], ◌∷◌, length, Contains, IsTrue, IfOk, IfErr, OnOk, OnErr};
 ghost use Rattle.cil_sexpr.specs.Refusal.{Refuses};
+ghost use Rattle.cil_sexpr.specs.Text.{IsReadable};
 ghost use Rattle.cil_modset.specs.Bundle.{bundle, IsBundle};
 ghost use Rattle.cil_modset.specs.Gather.{AreApart};
 ghost use Rattle.cil_modset.specs.Modules.{AreModules, IsUnion, IsPlaceOf, IsRising, module_of, texts_of};
@@ -67,6 +68,7 @@ impl ModuleSet {
         ensures known { (result ≡ Ok Installed.Known) ↔ Contains self.old text.now }
         ensures stays { result ≡ Ok Installed.Known → self.new ≡ self.old }
         ensures new { result ≡ Ok Installed.New → IsUnion self.old (text.now ∷ []) self.new }
+        ensures readable { result ≡ Ok Installed.New → IsReadable text.now }
         ensures refusal { IfErr result (Refuses text.now) }
         ensures err { OnErr result (self.new ≡ self.old) }
     {

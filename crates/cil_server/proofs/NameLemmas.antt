@@ -1,42 +1,111 @@
 -- The names of a mask, bit by bit.
-use Rattle.std.specs.Prelude.{codes, IsBitSet, Option, IfNone, IfSome, MatchOption, None, Some}
+use Rattle.std.specs.Prelude.{codes, Contains, IsBitSet, Option, IfNone, IfSome, MatchOption, None, Some}
 use denote.Ref.{Bor}
-use Rattle.std.proofs.Common.{◌≡◌, ℕ, suc, ◌+◌, List, [], ◌∷◌, ◌++◌, refl, sym, ◌∙◌, ap, subst, arith, Bool, true, false}
+use Rattle.std.proofs.Common.{◌≡◌, ℕ, zero, suc, ◌+◌, ◌<◌, ◌≤◌, inl, inr, List, [], ◌∷◌, ◌++◌, refl, sym, ◌∙◌, ap, subst, arith, Bool, true, false}
+use Rattle.std.specs.List.{AllByRecursion}
+use Rattle.std.specs.List.Sorted.{IsStrictlySortedBy}
+use Rattle.std.specs.declared.cmp.Ordering.TheVariants.{Less}
+use Rattle.std.proofs.lemmas.Bool.{cases_order}
 use Rattle.std.proofs.lemmas.List.{append_assoc, append-nil}
+use Rattle.cil_sexpr.specs.Lists.{contains_cases, contains_here, contains_later, contains_none, text_cmp}
 use Rattle.cil_host.specs.Machine.{OfLoaded, State}
-use Rattle.cil_host.specs.Permissions.{IsPermissionOf}
+use Rattle.cil_host.specs.Permissions.{IsInOrder, IsPermissionOf}
 use Rattle.cil_server.specs.Replies.{listed}
-use Rattle.cil_server.specs.Step.{IsNamed, Names, NamesOf}
+use Rattle.cil_server.specs.Step.{IsNamed, NamesOf}
 use Rattle.cil_server.specs.Streams.{Tells, Waiting}
-use Rattle.cil_server.specs.Turns.{TellsBit, TellsNames, behind_comma}
+use Rattle.cil_server.specs.Turns.{IsPlaced, TellsBit, TellsNames, behind_comma}
 use Rattle.cil_server.proofs.StreamLemmas.{tells_before, tells_both, tells_none}
+
+-- the names of a mask from a bit on, with so many bits left, bit by bit
+pub data Walked (h : State) (class_name : List ℕ) (mask : ℕ) : ℕ → ℕ → List (List ℕ) → Type 0 where
+  no_more : {bit : ℕ} → Walked h class_name mask zero bit []
+  named : {left bit : ℕ} {names : List (List ℕ)} (name : List ℕ) → IsPlaced h class_name mask bit name → Walked h class_name mask left (suc bit) names
+      → Walked h class_name mask (suc left) bit (name ∷ names)
+  skipped : {left bit : ℕ} {names : List (List ℕ)} → ((name : List ℕ) → IsNamed h class_name mask bit name → ⊥) → Walked h class_name mask left (suc bit) names
+      → Walked h class_name mask (suc left) bit names
+
+-- the name of a bit between two places
+record IsBetween (h : State) (class_name : List ℕ) (mask low high : ℕ) (name : List ℕ) : Type 0 where
+  bit : ℕ
+  from : low ≤ bit
+  below : bit < high
+  placed : IsPlaced h class_name mask bit name
+
+all_of : {X : Type 0} (P : X → Type 0) (xs : List X) → ((x : X) → Contains xs x → P x) → AllByRecursion P xs
+all_of P [] f = tt
+all_of P (x ∷ xs) f = (f x (contains_here x xs), all_of P xs (λ y c. f y (contains_later y x xs c)))
+
+module _ (h : State) (class_name : List ℕ) (mask : ℕ) where
+  is_between : {left bit : ℕ} {names : List (List ℕ)} → Walked h class_name mask left bit names → (name : List ℕ) → Contains names name
+      → IsBetween h class_name mask bit (left + bit) name
+  is_between Walked.no_more name c = absurd (contains_none name c)
+  is_between {left = suc left} {bit = bit} {names = x ∷ names} (Walked.named y at rest) name c = elim (contains_cases name x names c) [
+    | inl e ↦ subst (λ z. IsBetween h class_name mask bit (suc left + bit) z) e (record { bit = bit; from = omega arith; below = omega arith; placed = at })
+    | inr later ↦ let i = is_between rest name later in record { bit = i.bit; from = omega (arith, i.from); below = omega (arith, i.below); placed = i.placed }
+  ]
+  is_between {left = suc left} {bit = bit} (Walked.skipped none rest) name c =
+      let i = is_between rest name c in record { bit = i.bit; from = omega (arith, i.from); below = omega (arith, i.below); placed = i.placed }
+
+  has_each : {left bit : ℕ} {names : List (List ℕ)} → Walked h class_name mask left bit names → (b : ℕ) (name : List ℕ) → bit ≤ b → b < left + bit
+      → IsNamed h class_name mask b name → Contains names name
+  has_each Walked.no_more b name low high is = absurd (omega (arith, low, high))
+  has_each {left = suc left} {bit = bit} {names = x ∷ names} (Walked.named y at rest) b name low high is = elim (cases_order bit b) [
+    | inl e ↦ subst (λ z. Contains (z ∷ names) name) (at.order.only name (subst (λ k. IsNamed h class_name mask k name) (sym e) is).permission) (contains_here name names)
+    | inr other ↦ elim other [
+      | inl less ↦ contains_later name x names (has_each rest b name (omega (arith, less)) (omega (arith, high)) is)
+      | inr more ↦ absurd (omega (arith, low, more))
+    ]
+  ]
+  has_each {left = suc left} {bit = bit} (Walked.skipped none rest) b name low high is = elim (cases_order bit b) [
+    | inl e ↦ absurd (none name (subst (λ k. IsNamed h class_name mask k name) (sym e) is))
+    | inr other ↦ elim other [
+      | inl less ↦ has_each rest b name (omega (arith, less)) (omega (arith, high)) is
+      | inr more ↦ absurd (omega (arith, low, more))
+    ]
+  ]
+
+  rises : {left bit : ℕ} {names : List (List ℕ)} → Walked h class_name mask left bit names → IsStrictlySortedBy text_cmp names
+  unfolding IsStrictlySortedBy
+  rises Walked.no_more = tt
+  rises {left = suc left} {bit = bit} {names = x ∷ names} (Walked.named y at rest) =
+      (all_of (λ q. text_cmp x q ≡ Less) names
+      (λ q c. let i = is_between rest q c in at.order.before i.bit q (omega (arith, i.from)) i.placed.named.permission), rises rest)
+  rises (Walked.skipped none rest) = rises rest
+
+  names_of_walked : {names : List (List ℕ)} → Walked h class_name mask 32 0 names → NamesOf h class_name mask names
+  names_of_walked {names = names} w = record {
+    rising = rises w;
+    members = λ name. (
+      (λ c. let i = is_between w name c in record { bit = i.bit; within = i.below; named = i.placed.named }),
+      (λ is. has_each w is.bit name (omega arith) is.within is.named));
+  }
 
 -- the names so far are those of the bits below this one
 abbrev pub AreSeen : State → List ℕ → ℕ → ℕ → List (List ℕ) → Type 0
 AreSeen h class_name mask bit seen =
-    (left : ℕ) (more : List (List ℕ)) → left + bit ≡ 32 → Names h class_name mask left bit more → Names h class_name mask 32 0 (seen ++ more)
+    (left : ℕ) (more : List (List ℕ)) → left + bit ≡ 32 → Walked h class_name mask left bit more → Walked h class_name mask 32 0 (seen ++ more)
 
 module _ (h : State) (class_name : List ℕ) (mask : ℕ) where
   pub seen_none : AreSeen h class_name mask 0 []
-  seen_none = λ left more e n. let all : left ≡ 32 = omega (arith, e) in subst (λ l. Names h class_name mask l 0 more) all n
+  seen_none = λ left more e n. let all : left ≡ 32 = omega (arith, e) in subst (λ l. Walked h class_name mask l 0 more) all n
 
-  pub seen_named : (bit : ℕ) (seen : List (List ℕ)) (name : List ℕ) → AreSeen h class_name mask bit seen → IsNamed h class_name mask bit name
+  pub seen_named : (bit : ℕ) (seen : List (List ℕ)) (name : List ℕ) → AreSeen h class_name mask bit seen → IsPlaced h class_name mask bit name
       → AreSeen h class_name mask (bit + 1) (seen ++ name ∷ [])
   seen_named bit seen name f is = λ left more e n.
       let next : bit + 1 ≡ suc bit = omega arith in
       let all : suc left + bit ≡ 32 = omega (arith, e) in
-      subst (λ z. Names h class_name mask 32 0 z) (sym (append_assoc seen (name ∷ []) more))
-      (f (suc left) (name ∷ more) all (Names.named name is (subst (λ b. Names h class_name mask left b more) next n)))
+      subst (λ z. Walked h class_name mask 32 0 z) (sym (append_assoc seen (name ∷ []) more))
+      (f (suc left) (name ∷ more) all (Walked.named name is (subst (λ b. Walked h class_name mask left b more) next n)))
 
   pub seen_skipped : (bit : ℕ) (seen : List (List ℕ)) → AreSeen h class_name mask bit seen → ((name : List ℕ) → IsNamed h class_name mask bit name → ⊥)
       → AreSeen h class_name mask (bit + 1) seen
   seen_skipped bit seen f none = λ left more e n.
       let next : bit + 1 ≡ suc bit = omega arith in
       let all : suc left + bit ≡ 32 = omega (arith, e) in
-      f (suc left) more all (Names.skipped none (subst (λ b. Names h class_name mask left b more) next n))
+      f (suc left) more all (Walked.skipped none (subst (λ b. Walked h class_name mask left b more) next n))
 
   pub seen_all : (seen : List (List ℕ)) → AreSeen h class_name mask 32 seen → NamesOf h class_name mask seen
-  seen_all seen f = subst (λ z. Names h class_name mask 32 0 z) (append-nil seen) (f 0 [] refl Names.no_more)
+  seen_all seen f = names_of_walked h class_name mask (subst (λ z. Walked h class_name mask 32 0 z) (append-nil seen) (f 0 [] refl Walked.no_more))
 
 -- names with commas between; nothing where there is none
 abbrev pub shown : List (List ℕ) → List ℕ
@@ -74,7 +143,7 @@ module _ (h : State) (class_name : List ℕ) (mask : ℕ) (a b c : Option (List 
   pub told_none : AreTold h class_name mask 0 (Tells a w a w) true
   told_none = record { seen = []; are_seen = seen_none h class_name mask; told = tells_none a w; first = refl }
 
-  told_name : (bit : ℕ) (is_first : Bool) (name : List ℕ) → AreTold h class_name mask bit (Tells a w b v) is_first → IsNamed h class_name mask bit name
+  told_name : (bit : ℕ) (is_first : Bool) (name : List ℕ) → AreTold h class_name mask bit (Tells a w b v) is_first → IsPlaced h class_name mask bit name
       → Tells b v c u (behind_comma is_first name) → AreTold h class_name mask (bit + 1) (Tells a w c u) false
   told_name bit is_first name t is tells = begin t.seen is_first t.are_seen t.told t.first tells
     where
@@ -121,15 +190,16 @@ module _ (h : State) (class_name : List ℕ) (mask : ℕ) (a b c : Option (List 
       end (n ∷ ns) s told e = record { names = n ∷ ns; are_names = seen_all h class_name mask (n ∷ ns) s; told = told }
 
 module _ (h : State) (class_name : List ℕ) (mask bit : ℕ) (is_first : Bool) (name : List ℕ) (tells : List ℕ → Type 0) where
-  pub bit_first : is_first ≡ true → IsNamed h class_name mask bit name → tells name → TellsBit h class_name mask bit is_first tells false
+  pub bit_first : is_first ≡ true → IsPlaced h class_name mask bit name → tells name → TellsBit h class_name mask bit is_first tells false
   bit_first e is told = TellsBit.named name is (subst (λ b. tells (behind_comma b name)) (sym e) told)
 
-  pub bit_later : is_first ≡ false → IsNamed h class_name mask bit name → tells (44 ∷ name) → TellsBit h class_name mask bit is_first tells false
+  pub bit_later : is_first ≡ false → IsPlaced h class_name mask bit name → tells (44 ∷ name) → TellsBit h class_name mask bit is_first tells false
   bit_later e is told = TellsBit.named name is (subst (λ b. tells (behind_comma b name)) (sym e) told)
 
 -- the name of a bit that is set
-pub named_at : (h : State) (class_name : List ℕ) (mask bit : ℕ) (r : Option (Bor (List ℕ))) → IsBitSet mask bit
-    → IfSome r (λ name. OfLoaded h (IsPermissionOf class_name bit name.now)) → IfNone r ((name : List ℕ) → OfLoaded h (IsPermissionOf class_name bit name) → ⊥)
-    → MatchOption r ((name : List ℕ) → IsNamed h class_name mask bit name → ⊥) (λ name. IsNamed h class_name mask bit name.now)
-named_at h class_name mask bit (Some name) set found none = record { is_set = set; permission = found }
-named_at h class_name mask bit None set found none = λ name is. none name is.permission
+pub placed_at : (h : State) (class_name : List ℕ) (mask bit : ℕ) (r : Option (Bor (List ℕ))) → IsBitSet mask bit
+    → IfSome r (λ name. OfLoaded h (IsPermissionOf class_name bit name.now)) → IfSome r (λ name. IsInOrder h class_name bit name.now)
+    → IfNone r ((name : List ℕ) → OfLoaded h (IsPermissionOf class_name bit name) → ⊥)
+    → MatchOption r ((name : List ℕ) → IsNamed h class_name mask bit name → ⊥) (λ name. IsPlaced h class_name mask bit name.now)
+placed_at h class_name mask bit (Some name) set found order none = record { named = record { is_set = set; permission = found }; order = order }
+placed_at h class_name mask bit None set found order none = λ name is. none name is.permission

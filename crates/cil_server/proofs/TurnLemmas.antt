@@ -62,7 +62,7 @@ module _ (tells : List ℕ → Type 0) where
 
   pub load_lacks : (old new : State) (failure : Failure) (r : Result Loaded Failure) → r ≡ Err failure → LoadsHost old new r → tells no_memory → IsAnswered old Loads new tells
   load_lacks old new failure r e l told =
-      let same : LoadsHost {X = Loaded} old new (Err failure) = subst (LoadsHost old new) e l in
+      let same : LoadsHost old new (Err failure) = subst (LoadsHost old new) e l in
       record { reply = no_memory; step = subst (λ h. Step old Loads no_memory h) (sym same.1) (Step.lack MayLack.loads); told = told }
 
   pub decided : (old new : State) (source target class_name : List ℕ) (d : Decision) (r : Result Decision QueryFault) → r ≡ Ok d → Queries old source target class_name r

@@ -1,7 +1,9 @@
 -- One request of the model host: its reply, and the host that it leaves. This project's profile.
-use Rattle.std.specs.Prelude.{◌≡◌, ◌↔◌, ℕ, zero, suc, List, [], ◌∷◌, ◌+◌, map, length, Contains, Result, Ok, Err, IfErr, IfOk, OnErr, OnOk, IsBitSet}
+use Rattle.std.specs.Prelude.{◌≡◌, ◌↔◌, ◌<◌, ℕ, List, [], ◌∷◌, ◌+◌, map, length, Contains, Result, Ok, Err, IfErr, IfOk, OnErr, OnOk, IsBitSet}
 use Rattle.cil_sexpr.specs.declared.fault.ReadError.{ReadError}
+use Rattle.cil_sexpr.specs.Lists.{Lists as ListsOf, text_cmp}
 use Rattle.cil_sexpr.specs.Refusal.{Refuses}
+use Rattle.cil_sexpr.specs.Text.{IsReadable}
 use Rattle.cil_modset.specs.Bundle.{IsBundle, bundle}
 use Rattle.cil_modset.specs.Modules.{IsUnion}
 use Rattle.cil_modset.specs.Refusal.{RefusesBundle}
@@ -22,11 +24,12 @@ use Rattle.cil_server.specs.Replies.{no_memory, of_decision, of_export, of_impor
 
 -- ---- what the calls of the host do
 
--- the host has the text, and had it before; or its fault
+-- a readable text that the host lacked is there now, and one that it had changes nothing; of another text the fault
 pub record IsInstalled (old : State) (text : List ℕ) (result : Result Installed ReadError) (new : State) : Type 0 where
   pub known : (result ≡ Ok installed.Known) ↔ Contains old.modules text
   pub stays : result ≡ Ok installed.Known → new ≡ old
   pub new_text : result ≡ Ok installed.New → IsUnion old.modules (text ∷ []) new.modules
+  pub readable : result ≡ Ok installed.New → IsReadable text
   pub loaded : new.loaded ≡ old.loaded
   pub refusal : IfErr result (Refuses text)
   pub err : OnErr result (new ≡ old)
@@ -47,17 +50,15 @@ pub record IsNamed (h : State) (class_name : List ℕ) (mask bit : ℕ) (name : 
   pub is_set : IsBitSet mask bit
   pub permission : OfLoaded h (IsPermissionOf class_name bit name)
 
--- the names of a mask from a bit on, with so many bits left, in the order of the bits: that of the class's permissions
-pub data Names (h : State) (class_name : List ℕ) (mask : ℕ) : ℕ → ℕ → List (List ℕ) → Type 0 where
-  no_more : {bit : ℕ} → Names h class_name mask zero bit []
-  named : {left bit : ℕ} {names : List (List ℕ)} (name : List ℕ) → IsNamed h class_name mask bit name → Names h class_name mask left (suc bit) names
-      → Names h class_name mask (suc left) bit (name ∷ names)
-  skipped : {left bit : ℕ} {names : List (List ℕ)} → ((name : List ℕ) → IsNamed h class_name mask bit name → ⊥) → Names h class_name mask left (suc bit) names
-      → Names h class_name mask (suc left) bit names
+-- the name of one of the 32 bits of a mask
+pub record IsNameOf (h : State) (class_name : List ℕ) (mask : ℕ) (name : List ℕ) : Type 0 where
+  pub bit : ℕ
+  pub within : bit < 32
+  pub named : IsNamed h class_name mask bit name
 
--- the names of all 32 bits
+-- the names of a mask, in byte order
 abbrev pub NamesOf : State → List ℕ → ℕ → List (List ℕ) → Type 0
-NamesOf h class_name mask names = Names h class_name mask 32 0 names
+NamesOf h class_name mask names = ListsOf text_cmp (IsNameOf h class_name mask) names
 
 -- ---- a step
 

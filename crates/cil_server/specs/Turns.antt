@@ -2,6 +2,7 @@
 use Rattle.std.specs.Prelude.{◌≡◌, ℕ, suc, Bool, true, false, List, [], ◌∷◌, Option, Some}
 use Rattle.cil_decide.specs.declared.decision.Decision.{Decision}
 use Rattle.cil_host.specs.Machine.{State}
+use Rattle.cil_host.specs.Permissions.{IsInOrder}
 use Rattle.cil_server.specs.Asked.{Line, Request, asked}
 use Rattle.cil_server.specs.Replies.{joined, of_decision}
 use Rattle.cil_server.specs.Session.{IsLine, IsNext, Session, most_requests}
@@ -22,6 +23,11 @@ pub record TellsNames (h : State) (class_name : List ℕ) (mask : ℕ) (tells : 
   pub are_names : NamesOf h class_name mask names
   pub told : tells (joined names)
 
+-- the name of a bit of a mask, and where it stands among the others
+pub record IsPlaced (h : State) (class_name : List ℕ) (mask bit : ℕ) (name : List ℕ) : Type 0 where
+  pub named : IsNamed h class_name mask bit name
+  pub order : IsInOrder h class_name bit name
+
 -- a name, behind a comma unless it is the first
 abbrev pub behind_comma : Bool → List ℕ → List ℕ
 behind_comma true name = name
@@ -29,7 +35,7 @@ behind_comma false name = 44 ∷ name
 
 -- the name of a bit, told; and whether the next one is the first
 pub data TellsBit (h : State) (class_name : List ℕ) (mask bit : ℕ) (is_first : Bool) (tells : List ℕ → Type 0) : Bool → Type 0 where
-  named : (name : List ℕ) → IsNamed h class_name mask bit name → tells (behind_comma is_first name) → TellsBit h class_name mask bit is_first tells false
+  named : (name : List ℕ) → IsPlaced h class_name mask bit name → tells (behind_comma is_first name) → TellsBit h class_name mask bit is_first tells false
   skipped : {still : Bool} → ((name : List ℕ) → IsNamed h class_name mask bit name → ⊥) → tells [] → still ≡ is_first → TellsBit h class_name mask bit is_first tells still
 
 -- a decision, told

@@ -10,8 +10,6 @@ mod output;
 mod replies;
 mod served;
 mod session;
-#[cfg(test)]
-mod tests;
 
 pub use served::Served;
 pub use session::serve;

@@ -4,7 +4,7 @@ ghost use Rattle.std.specs.Prelude.{◌<◌, ◌++◌, ℕ, List, MatchOption, c
 ghost use Rattle.cil_server.specs.Replies.{misread, newline, of_bundle_fault, of_export, of_import, of_install, of_line, of_list, of_query_fault, ok_number, refused, spaced};
 ghost use Rattle.cil_server.specs.Step.{IsNamed};
 ghost use Rattle.cil_server.specs.Streams.{Tells};
-ghost use Rattle.cil_server.specs.Turns.{TellsBit, TellsDecision, TellsNames};
+ghost use Rattle.cil_server.specs.Turns.{IsPlaced, TellsBit, TellsDecision, TellsNames};
 
 use crate::output::Output;
 use cil_decide::Decision;
@@ -213,7 +213,7 @@ fn put_bit<S: Drop, W: Write>(
 /// The name of a bit, where it is set in a mask.
 fn named<'a, S: Drop>(host: &'a Host<S>, class: &[u8], mask: u32, bit: u32) -> Option<&'a [u8]>
     requires { bit < 32 }
-    ensures { MatchOption result ((name : List ℕ) → IsNamed host.now class.now mask bit name → ⊥) (λ name. IsNamed host.now class.now mask bit name.now) }
+    ensures { MatchOption result ((name : List ℕ) → IsNamed host.now class.now mask bit name → ⊥) (λ name. IsPlaced host.now class.now mask bit name.now) }
 {
     if (mask >> bit) & 1 == 1 {
         host.permission(class, bit)

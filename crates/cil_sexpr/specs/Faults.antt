@@ -1,5 +1,6 @@
--- Which faults a text has, and which of them is the first. Nothing here knows of trees: a fault is told by
--- the bytes before it. The faults and their numbers are this project's profile.
+-- Which faults a text has, and which of them is the first. Nothing here knows of trees: a fault is told by its place and
+-- what the bytes before it do, that of an open string by the bytes behind it too, and that of a long text by its length. The
+-- faults and their numbers are this project's profile.
 use Rattle.std.specs.Prelude.{◌≡◌, ℕ, zero, suc, ◌+◌, ◌-◌, ◌<◌, ◌≤◌, ◌⊎◌, ◌==◌, ◌&&◌, Bool, true, false, if◌then◌else◌, List, length, slice_index}
 use Rattle.cil_sexpr.specs.declared.fault.ReadCode.{ReadCode}
 use Rattle.cil_sexpr.specs.declared.fault.ReadCode.TheVariants.{TooLong, Unclosed, StrayClose, OpenQuote, BadByte, TooDeep, OutsideList}

@@ -10,8 +10,6 @@ mod fault;
 pub mod laws;
 mod node;
 mod reader;
-#[cfg(test)]
-mod tests;
 
 pub use fault::{ReadCode, ReadError, ReadFault};
 pub use node::{Node, Span, Tree};

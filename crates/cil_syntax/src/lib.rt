@@ -7,8 +7,6 @@
 //! mean is not known here.
 #![tactic(auto)]
 
-#[cfg(test)]
-mod bad_input_tests;
 mod code;
 mod failure;
 mod fault;
@@ -18,15 +16,11 @@ mod kind;
 pub mod laws;
 mod printed;
 mod program;
-#[cfg(test)]
-mod program_tests;
 mod rows;
 mod sets;
 mod spelling;
 mod table;
 mod term;
-#[cfg(test)]
-mod tests;
 mod verdict;
 mod words;
 

@@ -8,6 +8,7 @@ returns g c = record {
     known = c.install-installed.ensures.known;
     stays = c.install-installed.ensures.stays;
     new_text = c.install-installed.ensures.new;
+    readable = c.install-installed.ensures.readable;
     loaded = c.install-installed.ensures.loaded;
     refusal = c.install-installed.ensures.refusal;
     err = c.install-installed.ensures.err;

@@ -1,6 +1,6 @@
 use Rattle.std.proofs.Common.{sym}
 use Rattle.cil_host.specs.Permissions.{IsPermissionOf}
-use Rattle.cil_host.proofs.PermissionLemmas.{class_there, permission_back, permission_there}
+use Rattle.cil_host.proofs.PermissionLemmas.{class_there, permission_back, permission_before, permission_only, permission_there}
 use Rattle.cil_host.proofs.QueryLemmas.{fact_loaded, if_none, if_some, kept, loaded_fact}
 use Rattle.cil_host.proofs.host.Host.permission.Goals as goal
 
@@ -23,3 +23,16 @@ returns-clause-none g c =
     let there = fact_loaded _ _ _ _ (sym c.self.view_is) c.in-Some.is (IsPermissionOf c.args.class.now c.args.bit name) of in
     none name (permission_back _ _ (kept _ _ c.in-Some.is c.self.invariant) _ _ _ c.in-Some-class_named.ensures.found name there))
     c.permission_at.ensures.none
+
+pub returns-clause-order : goal.returns-clause-order
+returns-clause-order g c =
+    if_some c.permission_at.result (λ name at.
+    let compiles = kept _ _ c.in-Some.is c.self.invariant in
+    let is_class = c.in-Some-class_named.ensures.found in
+    record {
+      only = λ other of. permission_only _ _ compiles _ _ _ is_class name.now at other
+          (fact_loaded _ _ _ _ (sym c.self.view_is) c.in-Some.is (IsPermissionOf c.args.class.now c.args.bit other) of);
+      before = λ greater other less of. permission_before _ _ compiles _ _ _ is_class name.now at greater other less
+          (fact_loaded _ _ _ _ (sym c.self.view_is) c.in-Some.is (IsPermissionOf c.args.class.now greater other) of);
+    })
+    c.permission_at.ensures.found

@@ -29,3 +29,6 @@ pub returns-in_ok-insert-in-Err-clause-new : goal.returns-in_ok-insert-in-Err-cl
 returns-in_ok-insert-in-Err-clause-new c = λ e. rw (← c.self.view_is)
     (installed_union c.self.inside.texts.items c.insert.new.self.items c.in-Err.place c.in_ok-copy-in-Err.copy c.args.text.now c.self.invariant.rising
     (rw c.as_slice.ensures.value at c.in-Err.ensures.absent) c.in_ok-insert-in-Err.ensures.items c.in_ok-copy-in-Err.ensures.items)
+
+pub returns-in_ok-insert-in-Err-clause-readable : goal.returns-in_ok-insert-in-Err-clause-readable
+returns-in_ok-insert-in-Err-clause-readable c = λ e. record { nodes = _; tree = c.in_ok-read-in-Err.ensures.tree }

@@ -1,13 +1,11 @@
-//! Texts that are hard on the reader of statements: each reserved word at each place, long names, very many faults,
-//! and growths that are refused.
+//! Texts that are hard on the reader of statements: each reserved word at each place, long names, very many faults.
 
-use crate::program_tests::{joined, judged, set_of};
-use crate::{Failure, render, written};
-use std::alloc::Global;
+use crate::policies::{joined, judged_word, set_of};
+use cil_syntax::{Failure, written};
 use std::test::Fail;
 
 /// The words that no name may be.
-pub(crate) const RESERVED: [&str; 27] = [
+const RESERVED: &[&str] = &[
     "and",
     "or",
     "xor",
@@ -37,16 +35,10 @@ pub(crate) const RESERVED: [&str; 27] = [
     "h2",
 ];
 
-/// What is told of a reserved word between two parts of a text.
-fn judged_word(alloc: Global, front: &str, word: &str, back: &str) -> Result<Vec<u8>, Fail> {
-    let text = format!(in alloc; "{front}{word}{back}")?;
-    judged(alloc, &[text.as_str()])
-}
-
 #[test]
 fn each_reserved_word_is_a_fault_at_each_place(rt: HostRuntime) -> Result<(), Fail> {
-    for word in RESERVED {
-        for (front, back) in [
+    for &word in RESERVED {
+        for &(front, back) in &[
             ("(type ", ")"),
             ("(role ", ")"),
             ("(user ", ")"),
@@ -84,7 +76,7 @@ fn names_have_at_most_1024_bytes(rt: HostRuntime) -> Result<(), Fail> {
     let alloc = rt.alloc();
     let name = "abcdefgh".repeat(alloc, 128)?;
     assert_eq!(rt; name.len(), 1024);
-    for (front, back) in [
+    for &(front, back) in &[
         ("(type ", ")"),
         ("(roletype r a.", ".b)"),
         ("(class c (", "))"),
@@ -111,48 +103,5 @@ fn a_text_may_have_100_000_faults(rt: HostRuntime) -> Result<(), Fail> {
     for (i, fault) in list.as_slice().iter().enumerate() {
         assert_eq!(rt; fault.at, 8 * i as u64 + 6);
     }
-    Ok(())
-}
-
-/// Passes with every growth allowed, and with any one of them refused: the call that lost it says so, and
-/// answers when it is repeated.
-#[test]
-fn a_refused_growth_is_no_fault(rt: HostRuntime) -> Result<(), Fail> {
-    let alloc = rt.alloc();
-    let texts = [
-        "(class c (p))(allow a self (c (p)))",
-        "(type 1x)(allow a b)",
-    ];
-    let clean = match set_of(alloc, &texts[..1]) {
-        Ok(set) => set,
-        Err(_) => set_of(alloc, &texts[..1])?,
-    };
-    let program = match written(alloc, &clean) {
-        Err(Failure::NoMemory) => written(alloc, &clean),
-        answer => answer,
-    };
-    let Ok(program) = program else {
-        return Err(Fail::from("faults"));
-    };
-    assert_eq!(rt; program.statements().len(), 2);
-    let faulty = match set_of(alloc, &texts) {
-        Ok(set) => set,
-        Err(_) => set_of(alloc, &texts)?,
-    };
-    let answer = match written(alloc, &faulty) {
-        Err(Failure::NoMemory) => written(alloc, &faulty),
-        answer => answer,
-    };
-    let Err(Failure::Faults(list)) = answer else {
-        return Err(Fail::from("no faults"));
-    };
-    let lines = match render(alloc, &list) {
-        Ok(lines) => lines,
-        Err(_) => render(alloc, &list)?,
-    };
-    assert_eq!(rt;
-        lines.as_slice(),
-        b"23 1 9 . allow\n25 1 6 . 1x\n".as_slice()
-    );
     Ok(())
 }

@@ -1,0 +1,38 @@
+//! The tests of the libraries: what no clause says. Every worked example, each public call on its happy path, the printed
+//! texts, bad input and the limits to the byte, and every growth refused. Expected values come from the rules of the language
+//! or from another program, never from this one.
+//!
+//! They stand in one crate above all of them, since the test build of a crate proves that crate once more. The tests of tables,
+//! which see more of them than the layers above do, stand in `cil_decide`, and those of the program with it.
+#![tactic(auto)]
+
+#[cfg(test)]
+mod bundles;
+#[cfg(test)]
+mod fault_lists;
+#[cfg(test)]
+mod growths;
+#[cfg(test)]
+mod hard_texts;
+#[cfg(test)]
+mod hosts;
+#[cfg(test)]
+mod merged_hosts;
+#[cfg(test)]
+mod module_sets;
+#[cfg(test)]
+mod policies;
+#[cfg(test)]
+mod requests;
+#[cfg(test)]
+mod sessions;
+#[cfg(test)]
+mod shapes;
+#[cfg(test)]
+mod statements;
+#[cfg(test)]
+mod streams;
+#[cfg(test)]
+mod text_faults;
+#[cfg(test)]
+mod texts;
