@@ -13,8 +13,10 @@ use Rattle.cil_modset.specs.Modules.{IsUnion}
 use Rattle.cil_modset.specs.declared.set.Installed.{Installed}
 use Rattle.cil_modset.specs.declared.set.Installed.TheVariants.{New, Known}
 use Rattle.cil_host.specs.Machine.{State}
-use Rattle.cilhost.specs.Ends.{refusal}
-use Rattle.cilhost.specs.Reading.{HasPart, IsDue, IsDueAt, IsFaultOfFile, part_read}
+use Rattle.cilhost.specs.Ends.{refusal, trouble_status}
+use Rattle.cilhost.specs.Reading.{HasPart, HasRefused, IsDue, IsDueAt, IsFaultOfFile, part_read}
+use Rattle.cilhost.specs.declared.status.Status.{Status}
+use Rattle.cilhost.specs.declared.status.Status.TheVariants as statuses
 use Rattle.cilhost.specs.declared.trouble.Trouble.{Trouble}
 use Rattle.cilhost.specs.declared.trouble.Trouble.TheVariants.{Arguments, Refused, Failed, NoMemory}
 
@@ -93,3 +95,11 @@ next_there holds files i last old new keeps within before there k d below = elim
   where
     earlier : (k i : ℕ) → k < i + 1 → (k < i) ⊎ (k ≡ i)
     earlier k i below = grind arith
+
+-- where the status is that of a refusal, a file was refused
+pub refused_due : (holds : List ℕ → Option (List ℕ)) (files : List (Bor (List ℕ))) (trouble : Trouble) (status : Status) → IsDue holds files trouble
+    → status ≡ trouble_status trouble → status ≡ statuses.Refused → HasRefused holds files
+refused_due holds files (Refused file fault) status due told e = record { file = file; fault = fault; is_given = due.0; is_fault = due.1 }
+refused_due holds files Arguments status due told e = absurd due
+refused_due holds files (Failed file) status due told e = absurd cc
+refused_due holds files NoMemory status due told e = absurd cc

@@ -3,6 +3,7 @@
 ghost use Rattle.std.specs.Prelude.{◌≡◌, ℕ, List, None, Contains, IfErr, IfOk, IfSome, OnErr, OnOk};
 ghost use Rattle.cilhost.specs.Ends.{HasServedNothing, status_of};
 ghost use Rattle.cilhost.specs.Reading.{HasAll, HasPart, HasRefused, IsDue, IsDueAt, part_read};
+ghost use Rattle.cilhost.specs.Sessions.{IsSession};
 
 use crate::program::Streams;
 use crate::status::Status;
@@ -27,6 +28,8 @@ pub fn run_session<Y: System, R: Read, W: Write, E: Write>(
     system: &mut Y,
     streams: &mut Streams<R, W, E>,
 ) -> Status
+    ensures session { IsSession (Y.holds system.old) files.now (R.remaining streams.old.input) (R.remaining streams.new.input)
+        (W.contents streams.old.output) (W.contents streams.new.output) result }
     ensures refused { result ≡ Status.Refused → HasRefused (Y.holds system.old) files.now }
     ensures unserved { result ≡ Status.Refused → HasServedNothing streams.old streams.new }
 {
