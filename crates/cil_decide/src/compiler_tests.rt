@@ -152,7 +152,7 @@ fn a_first_policy_answers(rt: HostRuntime) -> Result<(), Fail> {
 #[test]
 fn code_36_is_a_clash_at_each_place(rt: HostRuntime) -> Result<(), Fail> {
     let alloc = rt.alloc();
-    for (texts, wanted) in [
+    for &(texts, wanted) in &[
         (
             ["(class w (p))", "(class w (q))"],
             "36 0 7 . w\n36 1 7 . w\n",
@@ -186,7 +186,7 @@ fn declarations_that_are_alike_are_one(rt: HostRuntime) -> Result<(), Fail> {
 #[test]
 fn code_41_is_a_word_that_names_nothing(rt: HostRuntime) -> Result<(), Fail> {
     let alloc = rt.alloc();
-    for (more, wanted) in [
+    for &(more, wanted) in &[
         ("(allow a nobody (file (read)))", "41 0 132 . nobody\n"),
         ("(allow a b (file (write open)))", "41 0 141 . write\n"),
         (
@@ -250,7 +250,7 @@ fn the_order_of_arrival_changes_nothing(rt: HostRuntime) -> Result<(), Fail> {
     let z = "(user u)(role r)(userrole u r)(roletype r b)(roletype r a)(type a)";
     let wanted =
         "users u\nroles object_r r\ntypes a b\nclass file: open read\nuser 0 has role 1\nrole 1 has type 0\nrole 1 has type 1\nallow 1 to 0 class 0 mask 2\n";
-    for texts in [
+    for &texts in &[
         [x, y, z],
         [x, z, y],
         [y, x, z],

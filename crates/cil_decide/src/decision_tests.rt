@@ -98,7 +98,7 @@ fn names(alloc: Global, text: &str) -> Result<Names, AllocError> {
 
 fn classes(alloc: Global, rows: &[(&str, &str)]) -> Result<Vec<Class>, AllocError> {
     let mut classes = Vec::new(alloc);
-    for (name, permissions) in rows {
+    for &(name, permissions) in rows {
         classes.push(Class {
             name: bytes(alloc, name)?,
             permissions: names(alloc, permissions)?,
@@ -127,7 +127,7 @@ type Row = (&'static [usize], &'static [usize], usize, u32);
 
 fn rules(alloc: Global, rows: &[Row]) -> Result<Vec<Rule>, AllocError> {
     let mut rules = Vec::new(alloc);
-    for (source, target, class, mask) in rows {
+    for &(source, target, class, mask) in rows {
         let target = if target.is_empty() {
             Target::Itself
         } else {
@@ -136,8 +136,8 @@ fn rules(alloc: Global, rows: &[Row]) -> Result<Vec<Rule>, AllocError> {
         rules.push(Rule {
             source: numbers(alloc, source)?,
             target,
-            class: *class,
-            mask: *mask,
+            class,
+            mask,
         })?;
     }
     Ok(rules)
@@ -238,7 +238,7 @@ fn answers_the_first_policy(rt: HostRuntime) -> Result<(), Fail> {
     assert_eq!(rt; class_named(&tables, b"dir"), None);
     assert_eq!(rt; permission_named(&tables, file, b"open"), Some(0));
     assert_eq!(rt; permission_named(&tables, file, b"write"), None);
-    for (bit, want) in [(0, b"open".as_slice()), (1, b"read".as_slice())] {
+    for &(bit, want) in &[(0, b"open".as_slice()), (1, b"read".as_slice())] {
         assert_eq!(rt; permission_at(&tables, file, bit), Some(want));
     }
     // Read is allowed, and both are recorded when they are denied; the other way round nothing is allowed.
@@ -262,7 +262,7 @@ fn answers_the_empty_policy(rt: HostRuntime) -> Result<(), Fail> {
 #[test]
 fn reads_valid_contexts_alone(rt: HostRuntime) -> Result<(), Fail> {
     let tables = made(&rt, wide_policy(rt.alloc())?);
-    let cases: [(&[u8], Context); 6] = [
+    let cases: &[(&[u8], Context)] = &[
         (b"u:r:a", context(0, 2, 0)),
         (b"u:r:b", context(0, 2, 2)),
         (b"v:q:c", context(1, 1, 3)),
@@ -270,7 +270,7 @@ fn reads_valid_contexts_alone(rt: HostRuntime) -> Result<(), Fail> {
         (b"v:object_r:a", context(1, 0, 0)),
         (b"v:object_r:ab", context(1, 0, 1)),
     ];
-    for (text, want) in cases {
+    for &(text, want) in cases {
         assert_eq!(rt; parse_context(&tables, text), Some(want), "{text:?}");
     }
     // In turn: parts that are missing or empty, parts too many, names that nothing has, bytes that no name has, a role
@@ -326,7 +326,7 @@ fn finds_no_other_permissions(rt: HostRuntime) -> Result<(), Fail> {
         );
     }
     // A bit too many, and a class number without a row.
-    for (number, bit) in [(1, 3), (3, 32), (1, u32::MAX), (4, 0)] {
+    for &(number, bit) in &[(1, 3), (3, 32), (1, u32::MAX), (4, 0)] {
         assert_eq!(rt;
             permission_at(&tables, class_id(number), bit),
             None,
@@ -341,7 +341,7 @@ fn finds_no_other_permissions(rt: HostRuntime) -> Result<(), Fail> {
 fn decides_by_the_rules(rt: HostRuntime) -> Result<(), Fail> {
     let tables = made(&rt, wide_policy(rt.alloc())?);
     // The types of the source and the target, the class; what is allowed, and recorded when it is denied.
-    for (source, target, number, allowed, auditdeny) in [
+    for &(source, target, number, allowed, auditdeny) in &[
         // Two rules cover the pair a and b.
         (0, 2, 1, 0b011, 0b111),
         (2, 0, 1, 0, 0b111),

@@ -67,9 +67,11 @@ module _ (h : State) (class_name : List ℕ) (mask : ℕ) where
   rises : {left bit : ℕ} {names : List (List ℕ)} → Walked h class_name mask left bit names → IsStrictlySortedBy text_cmp names
   unfolding IsStrictlySortedBy
   rises Walked.no_more = tt
-  rises {left = suc left} {bit = bit} {names = x ∷ names} (Walked.named y at rest) =
-      (all_of (λ q. text_cmp x q ≡ Less) names
-      (λ q c. let i = is_between rest q c in at.order.before i.bit q (omega (arith, i.from)) i.placed.named.permission), rises rest)
+  rises {left = suc left} {bit = bit} {names = x ∷ names} (Walked.named y at rest) = (
+    all_of (λ q. text_cmp x q ≡ Less) names
+        (λ q c. let i = is_between rest q c in at.order.before i.bit q (omega (arith, i.from)) i.placed.named.permission),
+    rises rest,
+  )
   rises (Walked.skipped none rest) = rises rest
 
   names_of_walked : {names : List (List ℕ)} → Walked h class_name mask 32 0 names → NamesOf h class_name mask names
@@ -77,7 +79,8 @@ module _ (h : State) (class_name : List ℕ) (mask : ℕ) where
     rising = rises w;
     members = λ name. (
       (λ c. let i = is_between w name c in record { bit = i.bit; within = i.below; named = i.placed.named }),
-      (λ is. has_each w is.bit name (omega arith) is.within is.named));
+      (λ is. has_each w is.bit name (omega arith) is.within is.named),
+    );
   }
 
 -- the names so far are those of the bits below this one

@@ -1,5 +1,7 @@
 pub mod Asked
 pub mod Given
+pub mod Laws
+pub mod Lines
 pub mod Replies
 pub mod Session
 pub mod Step

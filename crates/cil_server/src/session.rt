@@ -1,13 +1,12 @@
 //! A session: requests from a reader, replies to a writer.
 
 ghost use Rattle.std.specs.Prelude.{◌≡◌, ◌≤◌, ℕ, List, [], length, suc, IfOk, Some, false};
-ghost use Rattle.cil_server.specs.Asked.{Request, longest_line};
+ghost use Rattle.cil_server.specs.Asked.{longest_line};
 ghost use Rattle.cil_server.specs.Asked.{Line as said};
-ghost use Rattle.cil_server.specs.Asked.Request.{Asks, Exports, Imports, Installs, Lists, Loads};
 ghost use Rattle.cil_server.specs.Session.{Serves};
 ghost use Rattle.cil_server.specs.Streams.{Tells, unread};
 ghost use Rattle.cil_server.specs.Replies.{refused};
-ghost use Rattle.cil_server.specs.Turns.{AnswersLine, IsAnswered, Runs, Turns};
+ghost use Rattle.cil_server.specs.Turns.{AnswersLine, Runs, Turns};
 ghost use Rattle.cil_server.specs.declared.served.Served.{Served};
 ghost use Rattle.cil_server.specs.declared.session.Turn.{Turn};
 ghost use Rattle.cil_server.specs.Views.{line_of};
@@ -15,14 +14,11 @@ ghost use Rattle.cil_server.specs.Views.{line_of};
 use crate::input::{Body, Input, LineTaken};
 use crate::line::{Line, Query, read_line};
 use crate::output::Output;
-use crate::replies::{
-    put_bundle, put_decision, put_faults, put_imported, put_installed, put_lines, put_query_fault,
-    put_refused,
-};
+use crate::replies::put_refused;
+use crate::requests::{ask, export, import, install, list, load};
 use crate::served::Served;
 use cil_host::Host;
 use cil_modset::NoMemory;
-use cil_syntax::{Failure, render};
 use std::alloc::Global;
 use std::io::{Read, Write};
 
@@ -240,78 +236,4 @@ fn refuse<W: Write>(output: &mut Output, writer: &mut W, code: u32) -> Turn
 {
     put_refused(output, writer, code);
     Turn::Ended(Served::Fault(code))
-}
-
-fn install<S: Drop, W: Write>(
-    alloc: Global,
-    host: &mut Host<S>,
-    writer: &mut W,
-    output: &mut Output,
-    text: &[u8],
-)
-    ensures { IsAnswered host.old (Installs text.now) host.new (Tells (W.contents writer.old) output.old (W.contents writer.new) output.new) }
-{
-    let installed = host.install(alloc, text);
-    put_installed(output, writer, installed);
-}
-
-fn import<S: Drop, W: Write>(
-    alloc: Global,
-    host: &mut Host<S>,
-    writer: &mut W,
-    output: &mut Output,
-    bytes: &[u8],
-)
-    ensures { IsAnswered host.old (Imports bytes.now) host.new (Tells (W.contents writer.old) output.old (W.contents writer.new) output.new) }
-{
-    let imported = host.import(alloc, bytes);
-    put_imported(output, writer, imported);
-}
-
-fn export<S: Drop, W: Write>(alloc: Global, host: &Host<S>, writer: &mut W, output: &mut Output)
-    ensures { IsAnswered host.now Exports host.now (Tells (W.contents writer.old) output.old (W.contents writer.new) output.new) }
-{
-    match host.export(alloc) {
-        Ok(bytes) => put_bundle(output, writer, bytes.as_slice()),
-        Err(NoMemory) => put_refused(output, writer, 0),
-    }
-}
-
-fn list<S: Drop, W: Write>(alloc: Global, host: &Host<S>, writer: &mut W, output: &mut Output)
-    ensures { IsAnswered host.now Lists host.now (Tells (W.contents writer.old) output.old (W.contents writer.new) output.new) }
-{
-    match host.list(alloc) {
-        Ok(lines) => put_lines(output, writer, lines.as_slice()),
-        Err(NoMemory) => put_refused(output, writer, 0),
-    }
-}
-
-fn load<S: Drop, W: Write>(alloc: Global, host: &mut Host<S>, writer: &mut W, output: &mut Output)
-    ensures { IsAnswered host.old Loads host.new (Tells (W.contents writer.old) output.old (W.contents writer.new) output.new) }
-{
-    match host.load(alloc) {
-        Ok(_) => output.put(writer, b"OK\n"),
-        Err(Failure::Faults(faults)) => match render(alloc, &faults) {
-            Ok(lines) => put_faults(output, writer, faults.len(), lines.as_slice()),
-            Err(NoMemory) => put_refused(output, writer, 0),
-        },
-        Err(Failure::NoMemory) => put_refused(output, writer, 0),
-    }
-}
-
-fn ask<S: Drop, W: Write>(
-    host: &mut Host<S>,
-    writer: &mut W,
-    output: &mut Output,
-    source: &[u8],
-    target: &[u8],
-    class: &[u8],
-)
-    ensures { IsAnswered host.old (Asks source.now target.now class.now) host.new
-        (Tells (W.contents writer.old) output.old (W.contents writer.new) output.new) }
-{
-    match host.query(source, target, class) {
-        Ok(decision) => put_decision(output, writer, host, class, decision),
-        Err(fault) => put_query_fault(output, writer, fault),
-    }
 }

@@ -18,7 +18,7 @@ const FIRST_SESSION: &[u8] =
 fn sessions_answer_as_their_rows_say(rt: HostRuntime) {
     let alloc = rt.alloc();
     let papers = [("first.cil", FIRST, None)];
-    let rows: [(&[&str], &[u8], Status, &str); 4] = [
+    let rows: &[(&[&str], &[u8], Status, &str)] = &[
         (
             &[],
             FIRST_SESSION,
@@ -39,7 +39,7 @@ fn sessions_answer_as_their_rows_say(rt: HostRuntime) {
         ),
         (&[], b"INSTALL 10\n(typ", Status::Usage, "ERR 83\n"),
     ];
-    for (files, input, status, output) in rows {
+    for &(files, input, status, output) in rows {
         let mut desk = Desk {
             papers: papers.as_slice(),
             no_hasher: None,

@@ -117,7 +117,7 @@ fn filled_desk() -> Desk<'static> {
 #[test]
 fn each_file_is_installed_or_ends_the_program(rt: HostRuntime) -> Result<(), Fail> {
     let alloc = rt.alloc();
-    let rows: [(&[&str], Status, &str); 9] = [
+    let rows: &[(&[&str], Status, &str)] = &[
         (&[], Status::Done, ""),
         (&["good.cil"], Status::Done, ""),
         (&["good.cil", "empty.cil", "good.cil"], Status::Done, ""),
@@ -140,7 +140,7 @@ fn each_file_is_installed_or_ends_the_program(rt: HostRuntime) -> Result<(), Fai
             "cilhost: none.cil: failed\n",
         ),
     ];
-    for (files, status, messages) in rows {
+    for &(files, status, messages) in rows {
         let left = session(alloc, &mut filled_desk(), files, b"");
         assert_eq!(rt; left.status, status, "{files:?}");
         assert!(rt;
@@ -157,7 +157,7 @@ fn the_limit_of_a_file_holds_to_the_byte(rt: HostRuntime) -> Result<(), Fail> {
     let alloc = rt.alloc();
     let mut spaces = Vec::new(alloc);
     spaces.resize(5_000_000, b' ')?;
-    for (size, status, messages) in [
+    for &(size, status, messages) in &[
         (4_194_304, Status::Done, ""),
         (
             4_194_305,
@@ -185,7 +185,7 @@ fn the_limit_of_a_file_holds_to_the_byte(rt: HostRuntime) -> Result<(), Fail> {
 #[test]
 fn without_a_hasher_nothing_is_installed(rt: HostRuntime) {
     let alloc = rt.alloc();
-    for (kind, status, messages) in [
+    for &(kind, status, messages) in &[
         (
             ErrorKind::Unsupported,
             Status::Failed,
@@ -210,7 +210,7 @@ fn without_a_hasher_nothing_is_installed(rt: HostRuntime) {
 #[test]
 fn a_session_that_fails_says_so(rt: HostRuntime) {
     let alloc = rt.alloc();
-    for (served, status, want) in [
+    for &(served, status, want) in &[
         (Served::Quit, Status::Done, ""),
         (Served::End, Status::Done, ""),
         (Served::Fault(0), Status::NoMemory, "cilhost: no memory\n"),
@@ -289,7 +289,7 @@ fn has(text: &[u8], part: &str) -> bool {
 #[test]
 fn wrong_words_are_told_on_standard_error(rt: HostRuntime) -> Result<(), Fail> {
     let alloc = rt.alloc();
-    let rows: [(&[&str], &str); 7] = [
+    let rows: &[(&[&str], &str)] = &[
         (&[], "Usage: cilhost <COMMAND>"),
         (&["serve"], "unrecognized subcommand 'serve'"),
         (&["a.cil"], "unrecognized subcommand 'a.cil'"),
@@ -304,7 +304,7 @@ fn wrong_words_are_told_on_standard_error(rt: HostRuntime) -> Result<(), Fail> {
         (&["session", "good.cil", "-x"], "unexpected argument '-x'"),
         (&["help", "serve"], "unrecognized subcommand 'serve'"),
     ];
-    for (words, part) in rows {
+    for &(words, part) in rows {
         let left = program(alloc, words)?;
         assert_eq!(rt; left.status, Status::Usage, "{words:?}");
         assert!(rt; left.output.is_empty(), "{words:?}");
@@ -316,7 +316,7 @@ fn wrong_words_are_told_on_standard_error(rt: HostRuntime) -> Result<(), Fail> {
 #[test]
 fn help_that_was_asked_for_is_output(rt: HostRuntime) -> Result<(), Fail> {
     let alloc = rt.alloc();
-    let rows: [(&[&str], &str); 8] = [
+    let rows: &[(&[&str], &str)] = &[
         (&["--version"], "cilhost 0.1.0\n"),
         (&["-V"], "cilhost 0.1.0\n"),
         (&["-h"], "Usage: cilhost <COMMAND>"),
@@ -326,7 +326,7 @@ fn help_that_was_asked_for_is_output(rt: HostRuntime) -> Result<(), Fail> {
         (&["session", "--help"], "AV source target class"),
         (&["help", "session"], "AV source target class"),
     ];
-    for (words, part) in rows {
+    for &(words, part) in rows {
         let left = program(alloc, words)?;
         assert_eq!(rt; left.status, Status::Done, "{words:?}");
         assert!(rt; left.messages.is_empty(), "{words:?}");
@@ -338,7 +338,7 @@ fn help_that_was_asked_for_is_output(rt: HostRuntime) -> Result<(), Fail> {
 #[test]
 fn a_session_is_asked_for_by_its_name(rt: HostRuntime) -> Result<(), Fail> {
     let alloc = rt.alloc();
-    let rows: [(&[&str], Status, &str); 5] = [
+    let rows: &[(&[&str], Status, &str)] = &[
         (&["session"], Status::Done, ""),
         (&["session", "good.cil"], Status::Done, ""),
         (
@@ -357,7 +357,7 @@ fn a_session_is_asked_for_by_its_name(rt: HostRuntime) -> Result<(), Fail> {
             "cilhost: -x: failed\n",
         ),
     ];
-    for (words, status, messages) in rows {
+    for &(words, status, messages) in rows {
         let left = program(alloc, words)?;
         assert_eq!(rt; left.status, status, "{words:?}");
         assert!(rt;

@@ -1,5 +1,5 @@
 use Rattle.cil_server.specs.Step.{Step}
-use Rattle.cil_server.proofs.session.install.Goals as goal
+use Rattle.cil_server.proofs.requests.install.Goals as goal
 
 pub returns : goal.returns
 returns g c = record {

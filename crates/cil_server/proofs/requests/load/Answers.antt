@@ -1,7 +1,7 @@
 use Rattle.std.specs.Prelude.{Err}
 use Rattle.std.proofs.Common.{◌∙◌, ap}
 use Rattle.cil_server.proofs.TurnLemmas.{load_lacks, load_refused, loaded}
-use Rattle.cil_server.proofs.session.load.Goals as goal
+use Rattle.cil_server.proofs.requests.load.Goals as goal
 
 pub returns-in-Ok : goal.returns-in-Ok
 returns-in-Ok g c = loaded _ _ _ _ _ c.in-Ok.is c.load.ensures c.put.ensures

@@ -1,5 +1,5 @@
 use Rattle.cil_server.specs.Step.{Step}
-use Rattle.cil_server.proofs.session.import.Goals as goal
+use Rattle.cil_server.proofs.requests.import.Goals as goal
 
 pub returns : goal.returns
 returns g c = record {

@@ -1,6 +1,6 @@
 use Rattle.std.proofs.Common.{◌∙◌}
 use Rattle.cil_server.proofs.TurnLemmas.{exported, exports_lack}
-use Rattle.cil_server.proofs.session.export.Goals as goal
+use Rattle.cil_server.proofs.requests.export.Goals as goal
 
 pub returns-in-Ok : goal.returns-in-Ok
 returns-in-Ok g c = exported _ _ _ (c.as_slice.ensures.value ∙ c.in-Ok.ensures) c.put_bundle.ensures

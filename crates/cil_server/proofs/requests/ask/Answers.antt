@@ -1,5 +1,5 @@
 use Rattle.cil_server.proofs.TurnLemmas.{decided, declined}
-use Rattle.cil_server.proofs.session.ask.Goals as goal
+use Rattle.cil_server.proofs.requests.ask.Goals as goal
 
 pub returns-in-Ok : goal.returns-in-Ok
 returns-in-Ok g c = decided _ _ _ _ _ _ _ _ c.in-Ok.is c.query.ensures.answer c.query.ensures.stays c.put_decision.ensures
