@@ -6,6 +6,9 @@ use crate::hosts::{asked, is_loaded};
 use crate::module_sets::{A, B, C, assert_holds};
 use crate::policies::{FIRST, set_of};
 use crate::text_faults::fault;
+use cil_decide::{
+    ClassId, class_named, compile, decide, parse_context, permission_at, permission_named,
+};
 use cil_host::{Host, QueryFault};
 use cil_modset::{Join, ModuleSet};
 use cil_server::{Served, serve};
@@ -105,6 +108,50 @@ fn a_refused_growth_is_no_fault(rt: HostRuntime) -> Result<(), Fail> {
         lines.as_slice(),
         b"23 1 9 . allow\n25 1 6 . 1x\n".as_slice()
     );
+    Ok(())
+}
+
+#[test]
+fn a_refused_growth_is_no_fault_of_a_policy(rt: HostRuntime) -> Result<(), Fail> {
+    let alloc = rt.alloc();
+    let good = match set_of(alloc, &[FIRST]) {
+        Ok(set) => set,
+        Err(_) => set_of(alloc, &[FIRST])?,
+    };
+    let compiled = match compile(alloc, &good) {
+        Err(Failure::NoMemory) => compile(alloc, &good),
+        answer => answer,
+    };
+    let Ok(compiled) = compiled else {
+        return Err(Fail::from("faults"));
+    };
+    // These calls take none.
+    let tables = &compiled.tables;
+    let file = ClassId { number: 0 };
+    assert!(rt; class_named(tables, b"file") == Some(file));
+    assert!(rt; permission_named(tables, file, b"read") == Some(1));
+    assert!(rt; permission_at(tables, file, 1) == Some(b"read".as_slice()));
+    assert!(rt; parse_context(tables, b"u:object_r:w").is_none());
+    let (Some(a), Some(b)) = (
+        parse_context(tables, b"u:r:a"),
+        parse_context(tables, b"u:r:b"),
+    ) else {
+        return Err(Fail::from("no context"));
+    };
+    assert!(rt; decide(tables, &a, &b, file).allowed == 0b10);
+    let texts = ["(class w (p))(class w (q))"];
+    let bad = match set_of(alloc, &texts) {
+        Ok(set) => set,
+        Err(_) => set_of(alloc, &texts)?,
+    };
+    let answer = match compile(alloc, &bad) {
+        Err(Failure::NoMemory) => compile(alloc, &bad),
+        answer => answer,
+    };
+    let Err(Failure::Faults(list)) = answer else {
+        return Err(Fail::from("no faults"));
+    };
+    assert_eq!(rt; list.len(), 2);
     Ok(())
 }
 

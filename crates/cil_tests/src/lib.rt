@@ -2,12 +2,16 @@
 //! texts, bad input and the limits to the byte, and every growth refused. Expected values come from the rules of the language
 //! or from another program, never from this one.
 //!
-//! They stand in one crate above all of them, since the test build of a crate proves that crate once more. The tests of tables,
-//! which see more of them than the layers above do, stand in `cil_decide`, and those of the program with it.
+//! They stand in one crate above all of them, since the test build of a crate proves that crate once more. The tests of the
+//! program stand with it.
 #![tactic(auto)]
 
 #[cfg(test)]
 mod bundles;
+#[cfg(test)]
+mod compiling;
+#[cfg(test)]
+mod decisions;
 #[cfg(test)]
 mod fault_lists;
 #[cfg(test)]
