@@ -1,6 +1,6 @@
 //! Whole policies: their tables, and their faults.
 
-use crate::policies::{FIRST, set_of};
+use crate::policies::{FIRST, ORDERS, set_of};
 use cil_decide::compile;
 use cil_modset::ModuleSet;
 use cil_syntax::{Failure, render};
@@ -163,24 +163,10 @@ fn rules_are_kept_once(rt: HostRuntime) -> Result<(), Fail> {
     Ok(())
 }
 
-/// Three modules that are a policy only together.
-const X: &str = "(type b)(allow b a (file (read)))";
-
-const Y: &str = "(class file (read open))(type a)";
-
-const Z: &str = "(user u)(role r)(userrole u r)(roletype r b)(roletype r a)(type a)";
-
 #[test]
 fn the_order_of_arrival_changes_nothing(rt: HostRuntime) -> Result<(), Fail> {
-    for &texts in &[
-        [X, Y, Z],
-        [X, Z, Y],
-        [Y, X, Z],
-        [Y, Z, X],
-        [Z, X, Y],
-        [Z, Y, X],
-    ] {
-        assert!(rt; are_alike(rt.alloc(), &texts, &[X, Y, Z])?);
+    for &texts in ORDERS {
+        assert!(rt; are_alike(rt.alloc(), &texts, &ORDERS[0])?);
     }
     Ok(())
 }

@@ -1,6 +1,6 @@
 //! A host's calls on worked policies.
 
-use crate::module_sets::{A, B, DIGEST_OF_A, DIGEST_OF_B};
+use crate::module_sets::{DIGEST_OF_A, DIGEST_OF_B};
 use crate::policies::FIRST;
 use cil_decide::Decision;
 use cil_host::{Host, QueryFault};
@@ -10,10 +10,10 @@ use cil_syntax::Failure;
 use std::alloc::Global;
 use std::test::Fail;
 
-pub(crate) fn host_of(alloc: Global, texts: &[&[u8]]) -> Result<Host<u8>, Fail> {
+pub(crate) fn host_of(alloc: Global, texts: &[&str]) -> Result<Host<u8>, Fail> {
     let mut host = Host::new(alloc, 512, 0);
     for text in texts {
-        host.install(alloc, text)?;
+        host.install(alloc, text.as_bytes())?;
     }
     Ok(host)
 }
@@ -53,7 +53,7 @@ fn faults_have_their_numbers_and_sentences(rt: HostRuntime) -> Result<(), Fail> 
 #[test]
 fn a_host_without_a_policy_has_no_answer(rt: HostRuntime) -> Result<(), Fail> {
     let alloc = rt.alloc();
-    let mut host = host_of(alloc, &[FIRST.as_bytes()])?;
+    let mut host = host_of(alloc, &[FIRST])?;
     assert!(rt; host.query(b"u:r:a", b"u:r:b", b"file") == Err(QueryFault::NoPolicy));
     Ok(())
 }
@@ -70,7 +70,7 @@ fn an_empty_policy_has_no_context(rt: HostRuntime) -> Result<(), Fail> {
 #[test]
 fn a_first_policy_answers(rt: HostRuntime) -> Result<(), Fail> {
     let alloc = rt.alloc();
-    let mut host = host_of(alloc, &[FIRST.as_bytes()])?;
+    let mut host = host_of(alloc, &[FIRST])?;
     assert!(rt; is_loaded(alloc, &mut host));
     assert!(rt; asked(&mut host, b"u:r:a", b"u:r:b") == Some((2, 0, 3)));
     assert!(rt; asked(&mut host, b"u:r:b", b"u:r:a") == Some((0, 0, 3)));
@@ -83,7 +83,7 @@ fn a_first_policy_answers(rt: HostRuntime) -> Result<(), Fail> {
 #[test]
 fn a_load_with_faults_leaves_the_policy(rt: HostRuntime) -> Result<(), Fail> {
     let alloc = rt.alloc();
-    let mut host = host_of(alloc, &[FIRST.as_bytes()])?;
+    let mut host = host_of(alloc, &[FIRST])?;
     assert!(rt; is_loaded(alloc, &mut host));
     host.install(alloc, b"(allow b a (file (open)))")?;
     assert!(rt; asked(&mut host, b"u:r:b", b"u:r:a") == Some((0, 0, 3)));
@@ -101,7 +101,7 @@ fn a_load_with_faults_leaves_the_policy(rt: HostRuntime) -> Result<(), Fail> {
 #[test]
 fn a_failed_import_changes_nothing(rt: HostRuntime) -> Result<(), Fail> {
     let alloc = rt.alloc();
-    let mut host = host_of(alloc, &[FIRST.as_bytes()])?;
+    let mut host = host_of(alloc, &[FIRST])?;
     assert!(rt; is_loaded(alloc, &mut host));
     assert!(rt; host.import(alloc, b"CILB\x02").is_err());
     let lines = host.list(alloc)?;
@@ -141,7 +141,7 @@ fn nothing_of_a_bad_bundle_is_kept(rt: HostRuntime) -> Result<(), Fail> {
 #[test]
 fn modules_are_listed_in_byte_order(rt: HostRuntime) -> Result<(), Fail> {
     let alloc = rt.alloc();
-    let host = host_of(alloc, &[B, A, B])?;
+    let host = host_of(alloc, &["(type b)", "(type a)", "(type b)"])?;
     let lines = host.list(alloc)?;
     assert_eq!(rt; lines.len(), 2);
     assert_eq!(rt; lines[0].digest.as_slice(), DIGEST_OF_A.as_slice());
@@ -154,7 +154,7 @@ fn modules_are_listed_in_byte_order(rt: HostRuntime) -> Result<(), Fail> {
 #[test]
 fn permissions_are_told_by_their_bits(rt: HostRuntime) -> Result<(), Fail> {
     let alloc = rt.alloc();
-    let mut host = host_of(alloc, &[FIRST.as_bytes()])?;
+    let mut host = host_of(alloc, &[FIRST])?;
     assert_eq!(rt; host.permission(b"file", 0), None);
     assert!(rt; is_loaded(alloc, &mut host));
     for &(bit, want) in &[

@@ -1,29 +1,13 @@
 //! Hosts that were handed the same modules in different orders, with repeats and merges.
 
 use crate::hosts::{asked, host_of, is_loaded};
+use crate::policies::ORDERS;
 use cil_host::Host;
 use std::alloc::Global;
 use std::test::Fail;
 
-/// Three modules that are a policy only together.
-const X: &[u8] = b"(type b)(allow b a (file (read)))";
-
-const Y: &[u8] = b"(class file (read open))(type a)";
-
-const Z: &[u8] = b"(user u)(role r)(userrole u r)(roletype r b)(roletype r a)(type a)";
-
-/// The three in each order.
-const ORDERS: &[[&[u8]; 3]] = &[
-    [X, Y, Z],
-    [X, Z, Y],
-    [Y, X, Z],
-    [Y, Z, X],
-    [Z, X, Y],
-    [Z, Y, X],
-];
-
 /// The decision from type b to type a on a host that was handed some texts.
-fn answer_of(alloc: Global, texts: &[&[u8]]) -> Result<Option<(u32, u32, u32)>, Fail> {
+fn answer_of(alloc: Global, texts: &[&str]) -> Result<Option<(u32, u32, u32)>, Fail> {
     let mut host = host_of(alloc, texts)?;
     host.load(alloc)?;
     Ok(asked(&mut host, b"u:r:b", b"u:r:a"))

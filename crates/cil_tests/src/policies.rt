@@ -10,6 +10,23 @@ use std::test::Fail;
 pub(crate) const FIRST: &str =
     "(class file (open read))(user u)(role r)(type a)(type b)(userrole u r)(roletype r a)(roletype r b)(allow a b (file (read)))";
 
+/// Three modules that are a policy only together.
+const X: &str = "(type b)(allow b a (file (read)))";
+
+const Y: &str = "(class file (read open))(type a)";
+
+const Z: &str = "(user u)(role r)(userrole u r)(roletype r b)(roletype r a)(type a)";
+
+/// The three in each order.
+pub(crate) const ORDERS: &[[&str; 3]] = &[
+    [X, Y, Z],
+    [X, Z, Y],
+    [Y, X, Z],
+    [Y, Z, X],
+    [Z, X, Y],
+    [Z, Y, X],
+];
+
 /// The set of some texts, installed in this order.
 pub(crate) fn set_of(alloc: Global, texts: &[&str]) -> Result<ModuleSet, ReadError> {
     let mut modules = ModuleSet::new(alloc);
