@@ -32,7 +32,7 @@ found_passes p [] y e = absurd cc
 found_passes p (x ∷ xs) y e = found_by p x y (find p xs) (p x) refl (found_passes p xs y) e
 
 -- the word of the entry that a word names is that word
-named_word : (word : List ℕ) (entry : Entry) → entry_named word ≡ Some entry → word ≡ entry.word
+pub named_word : (word : List ℕ) (entry : Entry) → entry_named word ≡ Some entry → word ≡ entry.word
 named_word word entry e = same_text word entry.word (sym (found_passes (λ (x : Entry). same_bytes word x.word) table entry e))
 
 -- the entry of a keyword is that keyword's

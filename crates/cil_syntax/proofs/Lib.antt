@@ -2,6 +2,9 @@ pub mod SortedFaults
 mod Examples
 pub mod Spelled
 pub mod SpelledSo
+pub mod Placed
+pub mod PlacedSo
+pub mod JudgedSo
 pub mod ManyItems
 pub mod Operands
 pub mod FixedItems

@@ -4,6 +4,7 @@ pub mod FaultOrder
 pub mod Grammar
 pub mod Kinds
 pub mod Laws
+pub mod Places
 pub mod Printed
 pub mod Refusal
 pub mod Said

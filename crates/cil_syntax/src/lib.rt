@@ -2,7 +2,7 @@
 //!
 //! Start at `written` in `program.rt`. `specs/Table.antt` has the statements, `specs/Shapes.antt` says how a node is
 //! read by a shape, and `specs/Written.antt` what is written and which faults a set of modules has; `laws.rt` says
-//! the same as a grammar without faults. `fault_list.rt` is the sorted list of faults that every layer hands up, and
+//! the same by a grammar without faults, and by a set of faults. `fault_list.rt` is the sorted list of faults that every layer hands up, and
 //! `specs/Refusal.antt` says "the value, and then the step has no fault; or exactly the step's faults". What names
 //! mean is not known here.
 #![tactic(auto)]
