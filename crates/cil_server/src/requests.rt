@@ -44,7 +44,12 @@ pub(crate) fn import<S: Drop, W: Write>(
 }
 
 /// Tells the bundle of the modules.
-pub(crate) fn export<S: Drop, W: Write>(alloc: Global, host: &Host<S>, writer: &mut W, output: &mut Output)
+pub(crate) fn export<S: Drop, W: Write>(
+    alloc: Global,
+    host: &Host<S>,
+    writer: &mut W,
+    output: &mut Output,
+)
     ensures { IsAnswered host.now Exports host.now (Tells (W.contents writer.old) output.old (W.contents writer.new) output.new) }
 {
     match host.export(alloc) {
@@ -54,7 +59,12 @@ pub(crate) fn export<S: Drop, W: Write>(alloc: Global, host: &Host<S>, writer: &
 }
 
 /// Tells a line for each module.
-pub(crate) fn list<S: Drop, W: Write>(alloc: Global, host: &Host<S>, writer: &mut W, output: &mut Output)
+pub(crate) fn list<S: Drop, W: Write>(
+    alloc: Global,
+    host: &Host<S>,
+    writer: &mut W,
+    output: &mut Output,
+)
     ensures { IsAnswered host.now Lists host.now (Tells (W.contents writer.old) output.old (W.contents writer.new) output.new) }
 {
     match host.list(alloc) {
@@ -64,7 +74,12 @@ pub(crate) fn list<S: Drop, W: Write>(alloc: Global, host: &Host<S>, writer: &mu
 }
 
 /// Loads the modules, or tells their faults.
-pub(crate) fn load<S: Drop, W: Write>(alloc: Global, host: &mut Host<S>, writer: &mut W, output: &mut Output)
+pub(crate) fn load<S: Drop, W: Write>(
+    alloc: Global,
+    host: &mut Host<S>,
+    writer: &mut W,
+    output: &mut Output,
+)
     ensures { IsAnswered host.old Loads host.new (Tells (W.contents writer.old) output.old (W.contents writer.new) output.new) }
 {
     match host.load(alloc) {
