@@ -1,6 +1,7 @@
 //! What compiling a policy costs, beside reading its texts; and what a decision costs.
 
-use crate::figures::{RUNS, hundredths, median, micros};
+use crate::figures::{RUNS, median, micros, print, print_ratio};
+use crate::read::time_read;
 use crate::text;
 use crate::trouble::Trouble;
 use cil_decide::{Tables, class_named, compile, decide, parse_context};
@@ -17,28 +18,21 @@ const DECISIONS: u64 = 100;
 /// A policy of so many rules, in modules.
 fn policy(alloc: Global, rules: usize) -> Result<ModuleSet, Trouble> {
     let mut set = ModuleSet::new(alloc);
-    set.install(alloc, text::declarations(alloc)?.as_slice())?;
+    set.install(alloc, text::declarations(alloc)?.as_bytes())?;
     for first in (0..rules).step_by(RULES_A_MODULE) {
         let last = rules.min(first.saturating_add(RULES_A_MODULE));
-        set.install(alloc, text::rules(alloc, first, last)?.as_slice())?;
+        set.install(alloc, text::rules(alloc, first, last)?.as_bytes())?;
     }
     Ok(set)
 }
 
-/// Times the reader on every module.
-fn time_read<R: CpuClock>(rt: &R, alloc: Global, set: &ModuleSet) -> Result<u64, Trouble> {
-    let mut times = [0; RUNS];
-    for i in 0..RUNS {
-        let mut sum = 0u64;
-        for number in 0..set.len() {
-            let start = rt.thread_cpu_time()?;
-            let _tree = cil_sexpr::read(alloc, set.get(number))?;
-            let end = rt.thread_cpu_time()?;
-            sum = sum.saturating_add(micros(start, end));
-        }
-        times[i] = sum;
+/// Times the reader on every module. What it costs to free a tree is not counted.
+fn time_all<R: CpuClock>(rt: &R, alloc: Global, set: &ModuleSet) -> Result<u64, Trouble> {
+    let mut sum = 0u64;
+    for number in 0..set.len() {
+        sum = sum.saturating_add(time_read(rt, alloc, set.get(number))?);
     }
-    Ok(median(times))
+    Ok(sum)
 }
 
 /// Times `compile`, and decisions over the tables.
@@ -82,18 +76,16 @@ fn time_decisions<R: CpuClock>(rt: &R, tables: &Tables) -> Result<u64, Trouble> 
 /// figures.
 pub fn run<R: Print + CpuClock>(rt: &R, alloc: Global, rules: usize) -> Result<(), Trouble> {
     let set = policy(alloc, rules)?;
-    let read = time_read(rt, alloc, &set)?;
+    let read = time_all(rt, alloc, &set)?;
     let (time, decisions) = time_compiled(rt, alloc, &set)?;
-    let ratio = hundredths(time, read);
-    let whole = ratio / 100;
-    let part = ratio % 100;
-    let modules = set.len();
-    println!(rt; "rules {rules}")?;
-    println!(rt; "modules {modules}")?;
-    println!(rt; "read_us {read}")?;
-    println!(rt; "compile_us {time}")?;
-    println!(rt; "ratio {whole}.{part:02}")?;
-    println!(rt; "decisions {DECISIONS}")?;
-    println!(rt; "decisions_us {decisions}")?;
-    Ok(())
+    let figures = [
+        ("rules", rules as u64),
+        ("modules", set.len() as u64),
+        ("read_us", read),
+        ("compile_us", time),
+        ("decisions", DECISIONS),
+        ("decisions_us", decisions),
+    ];
+    print(rt, &figures)?;
+    print_ratio(rt, time, read)
 }

@@ -1,5 +1,6 @@
 //! Times, and what they say: medians and ratios.
 
+use crate::trouble::Trouble;
 use std::time::Duration;
 
 /// How often each thing is timed. The figure is the median.
@@ -17,7 +18,24 @@ pub fn median(mut times: [u64; RUNS]) -> u64 {
 }
 
 /// How many times as long as the second the first takes, in hundredths.
-pub fn hundredths(time: u64, other: u64) -> u64 {
+fn hundredths(time: u64, other: u64) -> u64 {
     let other = if other == 0 { 1 } else { other };
     time.saturating_mul(100) / other
+}
+
+/// Prints figures, a line for each.
+pub fn print<R: Print>(rt: &R, figures: &[(&str, u64)]) -> Result<(), Trouble> {
+    for &(name, figure) in figures {
+        println!(rt; "{name} {figure}")?;
+    }
+    Ok(())
+}
+
+/// Prints how many times as long as the second the first takes.
+pub fn print_ratio<R: Print>(rt: &R, time: u64, other: u64) -> Result<(), Trouble> {
+    let ratio = hundredths(time, other);
+    let whole = ratio / 100;
+    let part = ratio % 100;
+    println!(rt; "ratio {whole}.{part:02}")?;
+    Ok(())
 }

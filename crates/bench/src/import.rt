@@ -1,6 +1,6 @@
 //! What importing a bundle costs, beside SHA-256 of the same bytes.
 
-use crate::figures::{RUNS, hundredths, median, micros};
+use crate::figures::{RUNS, median, micros, print, print_ratio};
 use crate::text::{self, Lines};
 use crate::trouble::Trouble;
 use cil_modset::ModuleSet;
@@ -13,9 +13,7 @@ const MODULE: usize = 61_440;
 
 /// A text that no other number has.
 fn module(alloc: Global, n: usize) -> Result<Vec<u8>, AllocError> {
-    let mut text = Vec::new(alloc);
-    let line = format!(in alloc; "(type module{n}_t)\n")?;
-    text.extend_from_slice(line.as_bytes())?;
+    let mut text = format!(in alloc; "(type module{n}_t)\n")?.into_bytes();
     text.extend_from_slice(text::policy(alloc, MODULE, Lines::Typical)?.as_slice())?;
     Ok(text)
 }
@@ -29,38 +27,44 @@ fn bundle(alloc: Global, modules: usize) -> Result<Vec<u8>, Trouble> {
     Ok(set.export(alloc)?)
 }
 
-/// Times the import of a bundle of `modules` modules into an empty set, and once more into the same set, and
-/// prints the figures.
+/// Times the import of a bundle into an empty set, once more into the same set, and SHA-256.
+fn time_once<R: CpuClock>(
+    rt: &R,
+    alloc: Global,
+    bundle: &[u8],
+) -> Result<(u64, u64, u64), Trouble> {
+    let mut set = ModuleSet::new(alloc);
+    let start = rt.thread_cpu_time()?;
+    set.import(alloc, bundle)?;
+    let behind_first = rt.thread_cpu_time()?;
+    set.import(alloc, bundle)?;
+    let behind_second = rt.thread_cpu_time()?;
+    let _digest = Sha256::digest(bundle);
+    let end = rt.thread_cpu_time()?;
+    Ok((
+        micros(start, behind_first),
+        micros(behind_first, behind_second),
+        micros(behind_second, end),
+    ))
+}
+
+/// Times the import of a bundle of `modules` modules, and prints the figures.
 pub fn run<R: Print + CpuClock>(rt: &R, alloc: Global, modules: usize) -> Result<(), Trouble> {
     let bytes = bundle(alloc, modules)?;
     let mut first = [0; RUNS];
     let mut again = [0; RUNS];
     let mut hash = [0; RUNS];
     for i in 0..RUNS {
-        let mut set = ModuleSet::new(alloc);
-        let start = rt.thread_cpu_time()?;
-        set.import(alloc, bytes.as_slice())?;
-        let behind_first = rt.thread_cpu_time()?;
-        set.import(alloc, bytes.as_slice())?;
-        let behind_second = rt.thread_cpu_time()?;
-        let _digest = Sha256::digest(bytes.as_slice());
-        let end = rt.thread_cpu_time()?;
-        first[i] = micros(start, behind_first);
-        again[i] = micros(behind_first, behind_second);
-        hash[i] = micros(behind_second, end);
+        (first[i], again[i], hash[i]) = time_once(rt, alloc, bytes.as_slice())?;
     }
-    let first = median(first);
-    let again = median(again);
-    let hash = median(hash);
-    let ratio = hundredths(first, hash);
-    let whole = ratio / 100;
-    let part = ratio % 100;
-    let size = bytes.len();
-    println!(rt; "modules {modules}")?;
-    println!(rt; "bytes {size}")?;
-    println!(rt; "import_us {first}")?;
-    println!(rt; "again_us {again}")?;
-    println!(rt; "sha256_us {hash}")?;
-    println!(rt; "ratio {whole}.{part:02}")?;
-    Ok(())
+    let (first, hash) = (median(first), median(hash));
+    let figures = [
+        ("modules", modules as u64),
+        ("bytes", bytes.len() as u64),
+        ("import_us", first),
+        ("again_us", median(again)),
+        ("sha256_us", hash),
+    ];
+    print(rt, &figures)?;
+    print_ratio(rt, first, hash)
 }

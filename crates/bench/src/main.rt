@@ -42,38 +42,42 @@ enum Task {
     Compile(usize),
 }
 
-/// The task of the arguments. None is a call for help.
-fn wanted(rt: &(impl Env + Alloc)) -> Result<Task, Trouble> {
-    let Ok(mut words) = env::args(rt) else {
-        return Err(Trouble::Usage);
+/// The task of the program's words, its own name first. None is a call for help.
+fn task_of(words: &[String]) -> Option<Task> {
+    let (name, word) = match words {
+        [] | [_] => return Some(Task::Help),
+        [_, name, word] => (name, word),
+        _ => return None,
     };
-    let _ = words.next();
-    let Some(name) = words.next() else {
-        return Ok(Task::Help);
-    };
-    let Some(word) = words.next() else {
-        return Err(Trouble::Usage);
-    };
-    if words.next().is_some() {
-        return Err(Trouble::Usage);
-    }
-    match (name.as_str(), word.as_str().parse::<usize>()) {
-        ("read", Ok(size)) if size <= LONGEST => Ok(Task::Read(size)),
-        ("write", Ok(size)) if size <= LONGEST => Ok(Task::Write(size)),
-        ("import", Ok(modules)) if modules <= MOST => Ok(Task::Import(modules)),
-        ("compile", Ok(rules)) if rules <= MOST_RULES => Ok(Task::Compile(rules)),
-        _ => Err(Trouble::Usage),
+    let number = word.as_str().parse::<usize>().ok()?;
+    match name.as_str() {
+        "read" if number <= LONGEST => Some(Task::Read(number)),
+        "write" if number <= LONGEST => Some(Task::Write(number)),
+        "import" if number <= MOST => Some(Task::Import(number)),
+        "compile" if number <= MOST_RULES => Some(Task::Compile(number)),
+        _ => None,
     }
 }
 
-fn run<R: Print + Env + CpuClock + Alloc>(rt: &R, alloc: Global) -> Result<(), Trouble> {
-    match wanted(rt)? {
+/// The task that the program is called for. Arguments that are no text are wrong ones.
+fn wanted<R: Env + AllocGlobal>(rt: &R, alloc: Global) -> Result<Task, Trouble> {
+    let Ok(words) = env::args(rt) else {
+        return Err(Trouble::Usage);
+    };
+    let words: Vec<String> = words.collect(alloc)?;
+    task_of(words.as_slice()).ok_or(Trouble::Usage)
+}
+
+fn run<R: Print + Env + CpuClock + AllocGlobal>(rt: &R, alloc: Global) -> Result<(), Trouble> {
+    match wanted(rt, alloc)? {
         Task::Help => {
-            println!(rt; "bench: times what the crates do beside SHA-256 of the same bytes")?;
-            println!(rt; "usage: bench read BYTES, a number of at most {LONGEST}")?;
-            println!(rt; "       bench write BYTES, a number of at most {LONGEST}")?;
-            println!(rt; "       bench import MODULES, a number of at most {MOST}")?;
-            println!(rt; "       bench compile RULES, a number of at most {MOST_RULES}")?;
+            println!(rt;
+                "bench: times what the crates do beside SHA-256 of the same bytes\n\
+                usage: bench read BYTES, a number of at most {LONGEST}\n       \
+                bench write BYTES, a number of at most {LONGEST}\n       \
+                bench import MODULES, a number of at most {MOST}\n       \
+                bench compile RULES, a number of at most {MOST_RULES}"
+            )?;
             Ok(())
         }
         Task::Read(size) => read::run(rt, alloc, size),

@@ -14,37 +14,27 @@ pub enum Lines {
 }
 
 /// One line. The numbers in it go round, so that names come again as they do in a policy.
-fn line(alloc: Global, n: usize) -> Result<String, AllocError> {
+fn line(alloc: Global, lines: Lines, n: usize) -> Result<String, AllocError> {
     let a = n % 1013;
     let b = n % 769;
     let c = n % 211;
-    match n % 16 {
-        0 => format!(in alloc; "; statements from number {n} on\n"),
-        1 => format!(in alloc; "(type ty{a}_t)\n"),
-        2 => format!(in alloc; "(roletype r ty{a}_t)\n"),
-        3 => format!(in alloc; "(typeattributeset a{c} (ty{a}_t ty{b}_t))\n"),
-        4 => format!(in alloc; "(typetransition ty{a}_t ty{b}_t process ty{c}_t)\n"),
-        5 => format!(in alloc;
+    match (n % 16, lines) {
+        (0, _) => format!(in alloc; "; statements from number {n} on\n"),
+        (1, _) => format!(in alloc; "(type ty{a}_t)\n"),
+        (2, _) => format!(in alloc; "(roletype r ty{a}_t)\n"),
+        (3, Lines::Typical) => format!(in alloc; "(typeattributeset a{c} (ty{a}_t ty{b}_t))\n"),
+        (4, Lines::Typical) => {
+            format!(in alloc; "(typetransition ty{a}_t ty{b}_t process ty{c}_t)\n")
+        }
+        (5, Lines::Typical) => format!(in alloc;
             "(filecon \"/usr/lib/part{c}(/.*)?\" any (u r ty{a}_t ((s0) (s0))))\n"
         ),
-        6 => format!(in alloc; "(allow ty{a}_t self (capability (setuid setgid)))\n"),
-        _ => format!(in alloc; "(allow ty{a}_t ty{b}_t (file (open read getattr)))\n"),
-    }
-}
-
-/// One line of a flat policy.
-fn flat_line(alloc: Global, n: usize) -> Result<String, AllocError> {
-    let a = n % 1013;
-    let b = n % 769;
-    let c = n % 211;
-    match n % 16 {
-        0 => format!(in alloc; "; statements from number {n} on\n"),
-        1 => format!(in alloc; "(type ty{a}_t)\n"),
-        2 => format!(in alloc; "(roletype r ty{a}_t)\n"),
-        3 => format!(in alloc; "(class class{c} (open read getattr setattr lock ioctl))\n"),
-        4 => format!(in alloc; "(role role{c}_r)\n"),
-        5 => format!(in alloc; "(userrole user{b}_u role{c}_r)\n"),
-        6 => format!(in alloc; "(allow ty{a}_t self (capability (setuid setgid)))\n"),
+        (3, Lines::Flat) => {
+            format!(in alloc; "(class class{c} (open read getattr setattr lock ioctl))\n")
+        }
+        (4, Lines::Flat) => format!(in alloc; "(role role{c}_r)\n"),
+        (5, Lines::Flat) => format!(in alloc; "(userrole user{b}_u role{c}_r)\n"),
+        (6, _) => format!(in alloc; "(allow ty{a}_t self (capability (setuid setgid)))\n"),
         _ => format!(in alloc; "(allow ty{a}_t ty{b}_t (file (open read getattr)))\n"),
     }
 }
@@ -55,10 +45,7 @@ pub fn policy(alloc: Global, size: usize, lines: Lines) -> Result<Vec<u8>, Alloc
 {
     let mut text = Vec::with_capacity(alloc, size)?;
     for n in 0..size {
-        let line = match lines {
-            Lines::Typical => line(alloc, n)?,
-            Lines::Flat => flat_line(alloc, n)?,
-        };
+        let line = line(alloc, lines, n)?;
         if line.len() > size - text.len() {
             break;
         }
@@ -77,35 +64,35 @@ const ROLES: usize = 20;
 
 /// What the policy that is compiled declares: types, classes of ten permissions, roles that have the types in turn,
 /// and a user for each role.
-pub fn declarations(alloc: Global) -> Result<Vec<u8>, AllocError> {
-    let mut text = Vec::new(alloc);
+pub fn declarations(alloc: Global) -> Result<String, AllocError> {
+    let mut text = String::new(alloc);
     for n in 0..CLASSES {
-        let line = format!(in alloc; "(class class{n} (p0 p1 p2 p3 p4 p5 p6 p7 p8 p9))\n")?;
-        text.extend_from_slice(line.as_bytes())?;
+        writeln!(text, "(class class{n} (p0 p1 p2 p3 p4 p5 p6 p7 p8 p9))")?;
     }
     for n in 0..ROLES {
-        let line = format!(in alloc; "(role role{n})(user user{n})(userrole user{n} role{n})\n")?;
-        text.extend_from_slice(line.as_bytes())?;
+        writeln!(
+            text,
+            "(role role{n})(user user{n})(userrole user{n} role{n})"
+        )?;
     }
     for n in 0..TYPES {
         let role = n % ROLES;
-        let line = format!(in alloc; "(type ty{n}_t)(roletype role{role} ty{n}_t)\n")?;
-        text.extend_from_slice(line.as_bytes())?;
+        writeln!(text, "(type ty{n}_t)(roletype role{role} ty{n}_t)")?;
     }
     Ok(text)
 }
 
 /// The rules from one number on, below another: their types and classes go round out of step.
-pub fn rules(alloc: Global, first: usize, last: usize) -> Result<Vec<u8>, AllocError> {
-    let mut text = Vec::new(alloc);
+pub fn rules(alloc: Global, first: usize, last: usize) -> Result<String, AllocError> {
+    let mut text = String::new(alloc);
     for n in first..last {
         let source = n.wrapping_mul(7919) % TYPES;
         let target = n.wrapping_mul(104_729).wrapping_add(n / TYPES) % TYPES;
         let class = n % CLASSES;
-        let line = format!(in alloc;
-            "(allow ty{source}_t ty{target}_t (class{class} (p0 p3 p7)))\n"
+        writeln!(
+            text,
+            "(allow ty{source}_t ty{target}_t (class{class} (p0 p3 p7)))"
         )?;
-        text.extend_from_slice(line.as_bytes())?;
     }
     Ok(text)
 }

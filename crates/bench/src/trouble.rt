@@ -7,7 +7,7 @@ use std::alloc::AllocError;
 use std::{fmt, io};
 
 /// Why there are no figures.
-#[derive(Debug, Drop)]
+#[derive(Drop)]
 pub enum Trouble {
     /// The arguments name nothing that can be timed.
     Usage,
@@ -38,7 +38,7 @@ impl fmt::Display for Trouble {
         match self {
             Trouble::Usage => write!(
                 f,
-                "wants `read BYTES`, `write BYTES` or `import MODULES`; with no argument it tells more"
+                "wants `read BYTES`, `write BYTES`, `import MODULES` or `compile RULES`; with no argument it tells more"
             ),
             Trouble::Read(error) => write!(f, "the reader refused a text: {error}"),
             Trouble::Import(error) => write!(f, "the set refused a bundle: {error}"),

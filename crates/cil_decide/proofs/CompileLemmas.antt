@@ -7,7 +7,6 @@ use Rattle.std.specs.Ordering.{on}
 use Rattle.std.specs.declared.cmp.Ordering.TheVariants.{Less}
 use Rattle.std.specs.Prelude.{Result, Ok, Err, IfErr}
 use Rattle.std.specs.Result.{IsErrAnd}
-use Rattle.std.specs.Global.{Vec}
 use Rattle.std.proofs.Common.{◌≡◌, ℕ, ◌<◌, ◌≤◌, Bool, true, List, [], ◌∷◌, map, length, refl, sym, ◌∙◌, ap, subst, inl, inr}
 use Rattle.std.proofs.lemmas.Bool.{cases_Bool, cases_lt}
 use Rattle.std.proofs.lemmas.Option.{slice_get-map}
@@ -50,10 +49,11 @@ use Rattle.cil_decide.specs.Passes.{AreNames, AreShaped, AreThings, IsNamedList,
 use Rattle.cil_decide.specs.Resolves.{has_permission}
 use Rattle.cil_decide.specs.Table.{class_cmp, most_permissions}
 use Rattle.cil_decide.proofs.ClashLemmas.{rows_listed}
+use Rattle.cil_decide.proofs.ClassStatements.{front_of, class_keyword}
 use Rattle.cil_decide.proofs.ListLemmas.{contains_map, from_map}
-use Rattle.cil_decide.proofs.Naming.{flat_items, declared_here, global_thing_of, name_declared, name_of_global, of_own_kind}
+use Rattle.cil_decide.proofs.Naming.{declared_here, global_thing_of, name_declared, name_of_global, of_own_kind}
 use Rattle.cil_decide.proofs.SearchLemmas.{number_of_member, member_of_number}
-use Rattle.cil_decide.proofs.StepLemmas.{front_of, class_keyword, row_at, row_listed, row_named}
+use Rattle.cil_decide.proofs.StepLemmas.{row_at, row_listed, row_named}
 
 some_same : {X : Type 0} {a b : X} → Some a ≡ Some b → a ≡ b
 some_same {X} {a} {b} e = ap (λ o. unwrap_or o a) e
@@ -158,20 +158,14 @@ module _ (modules : List (List ℕ)) (xs : List Item) (are : AreItems modules xs
 
 -- ---- declared things
 
-pub things_are : (ss : List Statement) (users roles types names : List (List ℕ)) (classes : Vec Class) (seen : List Seen)
-    → Lists text_cmp (IsNameOf (items_of ss) nobody kinds.User) users → Lists text_cmp (IsNameOf (items_of ss) nobody kinds.Role) roles
-    → Lists text_cmp (IsNameOf (items_of ss) nobody kinds.Type_) types → Lists text_cmp (IsNameOf (items_of ss) nobody kinds.Class) names
-    → AreSeen names ss seen → AreShaped ss → AreRows names seen classes.items → ((f : Fault) → ClashFault (items_of ss) f → ⊥)
-    → AreThings (items_of ss) (record { users = users; roles = roles; types = types; class_names = names; classes = classes })
-things_are ss users roles types names classes seen lu lr lt lc are shaped rows apart = record {
-  flat = flat_items ss;
-  users = lu;
-  roles = lr;
-  types = lt;
-  class_names = lc;
-  named = rows.named;
-  rows = rows_listed ss names lc seen are shaped (map is_differing seen) refl classes.items rows apart;
-}
+-- the rows of the classes, where no declarations of one differ
+pub rows_are : (ss : List Statement) (names : List (List ℕ)) (classes : List Class) (seen : List Seen)
+    → Lists text_cmp (IsNameOf (items_of ss) nobody kinds.Class) names
+    → AreSeen names ss seen → AreShaped ss → AreRows names seen classes → ((f : Fault) → ClashFault (items_of ss) f → ⊥)
+    → (map (λ row. row.name) classes ≡ names)
+    × ((row : Class) → Contains classes row → Lists text_cmp (λ p. has_permission (items_of ss) (global_thing row.name) p ≡ true) row.permissions)
+rows_are ss names classes seen listed are shaped rows apart =
+    (rows.named, rows_listed ss names listed seen are shaped (map is_differing seen) refl classes rows apart)
 
 -- where no class is too wide, each row is short
 pub few_rows : (ss : List Statement) (things : Things) → AreThings (items_of ss) things → ((f : Fault) → ClassFault nobody (items_of ss) f → ⊥)

@@ -22,7 +22,7 @@ use std::mem;
 const MOST_PERMISSIONS: usize = 32;
 
 /// What the statements of one class have listed so far.
-#[derive(Debug, Drop)]
+#[derive(Drop)]
 pub(crate) enum Seen {
     /// No statement was met.
     Never,

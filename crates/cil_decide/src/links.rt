@@ -84,7 +84,7 @@ pub(crate) fn same_keyword(a: Keyword, b: Keyword) -> bool
 }
 
 /// The words of a statement that joins two things.
-#[derive(Clone, Copy, Debug)]
+#[derive(Clone, Copy)]
 struct Words<'a> {
     holder: &'a Word,
     held: &'a Word,

@@ -88,7 +88,7 @@ fn rule_of(alloc: Global, statement: &Statement, things: &Things) -> Result<Opti
 }
 
 /// What an allow rule says.
-#[derive(Clone, Copy, Debug)]
+#[derive(Clone, Copy)]
 struct RuleTerms<'a> {
     source: &'a Word,
     target: &'a Term,
@@ -151,7 +151,7 @@ fn only(alloc: Global, number: usize) -> Result<Numbers, NoMemory>
 // ---- permissions
 
 /// A class, and a mask of its permissions.
-#[derive(Clone, Copy, Debug)]
+#[derive(Clone, Copy)]
 struct GivenMask {
     class: usize,
     mask: u32,
@@ -174,7 +174,7 @@ fn given_by(things: &Things, term: &Term) -> Option<GivenMask>
 }
 
 /// What a class permission says.
-#[derive(Clone, Copy, Debug)]
+#[derive(Clone, Copy)]
 struct ClassTerms<'a> {
     class_: &'a Word,
     expression: &'a Term,

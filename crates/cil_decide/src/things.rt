@@ -21,7 +21,7 @@ use cil_syntax::{Bytes, Keyword, Kind, Sign, Statement, Term, Word};
 use std::alloc::Global;
 
 /// The declared things of a policy, each kind in the byte order of the names.
-#[derive(Debug, Drop)]
+#[derive(Drop)]
 pub(crate) struct Things {
     pub(crate) users: Names,
     pub(crate) roles: Names,

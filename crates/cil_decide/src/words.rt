@@ -127,7 +127,7 @@ fn judge_class_list(
 }
 
 /// A class word, and the permissions behind it.
-#[derive(Clone, Copy, Debug)]
+#[derive(Clone, Copy)]
 struct ClassList<'a> {
     class: &'a Word,
     permissions: &'a [Term],

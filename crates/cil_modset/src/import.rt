@@ -1,9 +1,9 @@
 //! Reading a bundle: one walk over its modules and over ours.
 
-ghost use Rattle.std.specs.Prelude.{◌≡◌, ℕ, ◌+◌, ◌<◌, ◌≤◌, length, IfOk, IfErr, OnOk, IfSome, IfNone};
+ghost use Rattle.std.specs.Prelude.{◌≡◌, ℕ, ◌+◌, ◌<◌, ◌≤◌, ◌↔◌, length, IsTrue, IfOk, IfErr, OnOk, IfSome, IfNone};
 ghost use Rattle.cil_sexpr.specs.Text.{IsReadable};
 ghost use Rattle.cil_modset.specs.Faults.{HasHeader, HasModule, IsCut, number_at, promised};
-ghost use Rattle.cil_modset.specs.Modules.{AreModules, texts_of};
+ghost use Rattle.cil_modset.specs.Modules.{AreModules, IsBelow, texts_of};
 ghost use Rattle.cil_modset.specs.Newcomers.{IsImportOf, IsImportedUpTo, RefusesModule};
 ghost use Rattle.cil_modset.specs.Refusal.{RefusesBundle};
 
@@ -17,7 +17,7 @@ use std::alloc::Global;
 const MAGIC: [u8; 5] = *b"CILB\x01";
 
 /// Where an import stands in the bytes.
-#[derive(Debug, Drop)]
+#[derive(Drop)]
 struct Intake {
     /// Where the text of the last module starts.
     start: usize,
@@ -115,16 +115,24 @@ fn take_module(
         return Err(BundleError::Fault(BundleFault::Short));
     };
     let last = &bytes[intake.start..intake.at];
-    if index > 0 && !is_below(last, text) {
+    if !comes_next(index, last, text) {
         return Err(BundleError::Fault(BundleFault::NotRising));
-    }
-    if !intake.walk.knows(ours, text) {
-        check_module(alloc, index, text)?;
-        intake.walk.keep(alloc, text)?;
     }
     intake.start = intake.at + 8;
     intake.at = intake.start + text.len();
+    if intake.walk.knows(ours, text) {
+        return Ok(());
+    }
+    check_module(alloc, index, text)?;
+    intake.walk.keep(alloc, text)?;
     Ok(())
+}
+
+/// Whether a module comes behind the last one, if there was one.
+fn comes_next(index: u64, last: &[u8], text: &[u8]) -> bool
+    ensures { IsTrue result ↔ (0 < index → IsBelow last.now text.now) }
+{
+    index == 0 || is_below(last, text)
 }
 
 /// Reads a module for its faults alone.

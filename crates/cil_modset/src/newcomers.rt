@@ -9,7 +9,7 @@ use crate::order::{is_below, is_same};
 use std::alloc::{AllocError, Global};
 
 /// How far the walk has come.
-#[derive(Debug, Drop)]
+#[derive(Drop)]
 pub(crate) struct Newcomers {
     /// How many of our texts come before whatever is still to be seen.
     pub(crate) passed: usize,

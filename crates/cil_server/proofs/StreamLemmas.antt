@@ -2,8 +2,9 @@
 use Rattle.std.specs.Prelude.{Option, None, Some, Bool, true, false, not}
 use Rattle.std.specs.Option.{unwrap_or}
 use Rattle.std.specs.Io.KnownBytes.{Appends, Consumes, IsAtEnd, Keeps}
-use Rattle.std.proofs.Common.{◌≡◌, ℕ, List, [], ◌++◌, refl, sym, ◌∙◌, ap, subst}
-use Rattle.std.proofs.lemmas.List.{append_assoc, append-nil}
+use Rattle.std.specs.List.{flat_map}
+use Rattle.std.proofs.Common.{◌≡◌, ℕ, ◌≤◌, List, [], ◌++◌, length, take, refl, sym, ◌∙◌, ap, subst}
+use Rattle.std.proofs.lemmas.List.{append_assoc, append-nil, take_all}
 use Rattle.cil_server.specs.Given.{Gives}
 use Rattle.cil_server.specs.Session.{IsFront}
 use Rattle.cil_server.specs.Streams.{Holds, IsHeld, Tells, Waiting, unread}
@@ -61,6 +62,15 @@ tells_none a w = λ before told h. subst (Holds before a w) (sym (append-nil tol
 
 pub tells_both : (a b c : Option (List ℕ)) (w v u : Waiting) (xs ys : List ℕ) → Tells a w b v xs → Tells b v c u ys → Tells a w c u (xs ++ ys)
 tells_both a b c w v u xs ys f g = λ before told h. subst (Holds before c u) (append_assoc told xs ys) (g before (told ++ xs) (f before told h))
+
+-- three and four after another
+pub tells_three : (a b c d : Option (List ℕ)) (w v u t : Waiting) (xs ys zs : List ℕ) → Tells a w b v xs → Tells b v c u ys → Tells c u d t zs
+    → Tells a w d t (xs ++ ys ++ zs)
+tells_three a b c d w v u t xs ys zs f g h = tells_both a c d w u t (xs ++ ys) zs (tells_both a b c w v u xs ys f g) h
+
+pub tells_four : (a b c d e : Option (List ℕ)) (w v u t s : Waiting) (xs ys zs us : List ℕ) → Tells a w b v xs → Tells b v c u ys → Tells c u d t zs
+    → Tells d t e s us → Tells a w e s (xs ++ ys ++ zs ++ us)
+tells_four a b c d e w v u t s xs ys zs us f g h k = tells_both a d e w t s (xs ++ ys ++ zs) us (tells_three a b c d w v u t xs ys zs f g h) k
 
 pub tells_after : (a b c : Option (List ℕ)) (w v u : Waiting) (ys : List ℕ) → Tells a w b v [] → Tells b v c u ys → Tells a w c u ys
 tells_after a b c w v u ys f g = tells_both a b c w v u [] ys f g
@@ -175,3 +185,12 @@ told_in_part (Some written) v before told broken h = (h.0, subst (λ z. IsHeld z
 
 pub unread_at_first : (buffered : List ℕ) (r : Option (List ℕ)) (input : List ℕ) → buffered ≡ [] → r ≡ Some input → unread buffered r ≡ Some input
 unread_at_first buffered r input none e = ap (λ z. unread z r) none ∙ ap (unread []) e
+
+-- ---- a list, told item by item
+
+module _ {X : Type 0} (f : X → List ℕ) (front : List ℕ) (items : List X) (a : Option (List ℕ)) (w : Waiting) where
+  pub items_none : (b : Option (List ℕ)) (v : Waiting) → Tells a w b v front → Tells a w b v (front ++ flat_map f (take 0 items))
+  items_none b v told = subst (Tells a w b v) (sym (append-nil front)) told
+
+  pub items_all : (b : Option (List ℕ)) (v : Waiting) (i : ℕ) → length items ≤ i → Tells a w b v (front ++ flat_map f (take i items)) → Tells a w b v (front ++ flat_map f items)
+  items_all b v i over told = subst (λ z. Tells a w b v (front ++ flat_map f z)) (take_all i items over) told

@@ -15,7 +15,7 @@ use std::marker::Model;
 const CHUNK: usize = 65_536;
 
 /// A reader's next bytes. Contracts see those that are taken and not yet read.
-#[derive(Debug, Drop)]
+#[derive(Drop)]
 pub(crate) struct Input {
     bytes: Vec<u8>,
     start: usize,
@@ -33,11 +33,11 @@ impl Model for Input {
 }
 
 /// The reader failed.
-#[derive(Clone, Copy, Debug)]
+#[derive(Clone, Copy)]
 pub(crate) struct ReadFailed;
 
 /// A line, or why there is none.
-#[derive(Clone, Copy, Debug)]
+#[derive(Clone, Copy)]
 pub(crate) enum LineTaken {
     /// A line, of so many bytes.
     Whole(usize),
@@ -51,7 +51,7 @@ pub(crate) enum LineTaken {
 }
 
 /// A body, or why there is none.
-#[derive(Debug, Drop)]
+#[derive(Drop)]
 pub(crate) enum Body {
     Whole(Vec<u8>),
     /// There is no memory to hold it; its bytes are read.
@@ -62,7 +62,7 @@ pub(crate) enum Body {
 }
 
 /// One byte, or why there is none.
-#[derive(Clone, Copy, Debug)]
+#[derive(Clone, Copy)]
 pub(crate) enum Taken {
     Byte(u8),
     /// The input ends here.

@@ -6,7 +6,7 @@ ghost use Rattle.cil_server.specs.Asked.{asked, is_decimal, is_digit, value_of, 
 ghost use Rattle.cil_server.specs.Views.{line_of, IsCapped, IsWords};
 
 /// A line, read.
-#[derive(Clone, Copy, Debug)]
+#[derive(Clone, Copy)]
 pub(crate) enum Line<'a> {
     Export,
     List,
@@ -23,7 +23,7 @@ pub(crate) enum Line<'a> {
 }
 
 /// The texts of a query.
-#[derive(Clone, Copy, Debug)]
+#[derive(Clone, Copy)]
 pub(crate) struct Query<'a> {
     pub source: &'a [u8],
     pub target: &'a [u8],
@@ -34,7 +34,7 @@ pub(crate) struct Query<'a> {
 const LONGEST_BODY: usize = 67_108_864;
 
 /// The words of a line, by their number.
-#[derive(Clone, Copy, Debug)]
+#[derive(Clone, Copy)]
 enum Words<'a> {
     One(&'a [u8]),
     Two(&'a [u8], &'a [u8]),

@@ -14,7 +14,7 @@ use std::marker::Model;
 const CHUNK: usize = 65_536;
 
 /// The bytes that wait to be written. Once the writer has failed, nothing more is written. Contracts see the bytes, and whether the writer has failed.
-#[derive(Debug, Drop)]
+#[derive(Drop)]
 pub(crate) struct Output {
     bytes: Vec<u8>,
     failed: bool,

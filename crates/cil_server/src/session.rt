@@ -29,7 +29,7 @@ const MOST_REQUESTS: u32 = 1_000_000;
 const LONGEST_LINE: usize = 4096;
 
 /// What a session holds beside its host: all taken before the first byte is read.
-#[derive(Debug, Drop)]
+#[derive(Drop)]
 struct Buffers {
     input: Input,
     /// One byte more than a line may have.
@@ -38,7 +38,7 @@ struct Buffers {
 }
 
 /// Whether a session goes on.
-#[derive(Clone, Copy, Debug)]
+#[derive(Clone, Copy)]
 enum Turn {
     Next,
     Ended(Served),

@@ -6,6 +6,7 @@ pub mod Placed
 pub mod PlacedSo
 pub mod JudgedSo
 pub mod ManyItems
+pub mod Heads
 pub mod Operands
 pub mod FixedItems
 pub mod Judged

@@ -1,6 +1,6 @@
 -- The operands of an operator, and forms over terms that were read.
 use Rattle.std.proofs.Common.{◌≡◌, ◌≢◌, ℕ, suc, ◌+◌, ◌<◌, Bool, true, false, if◌then◌else◌, List, [], ◌∷◌, length, drop, refl, sym, ◌∙◌, ap, subst, arith, rules}
-use Rattle.std.specs.Prelude.{Option, Some, None}
+use Rattle.std.specs.Prelude.{Option, Some, None, Result, IfOk}
 use Rattle.std.specs.declared.vec.Vec.{Vec}
 use Rattle.std.specs.declared.alloc.Global.{Global}
 use Rattle.std.proofs.lemmas.List.{append-nil, length-drop}
@@ -95,18 +95,10 @@ module _ (m : ℕ) (at : Spot) (op : Op) (sign : Sign) (text : List ℕ) (ns : L
       let nothing = no_operands (set_of sign) (is_negation op) behind_head (λ e. h (one_more counted (some_counted (is_negation op)) e)) in
       subst (λ r. IsTold m (formed at op [] r) old old None) (sym nothing) ([], sym (append-nil old))
 
-  pub operands_told : (old new : List Fault) (parts : Vec rust.Term Global) → length ns ≡ counted + 1
-      → AreTold m (read_row (many (set_of sign)) behind_head) old new (Some parts)
-      → IsTold m (formed at op [] (read_row (operands sign op) behind_head)) old new (Some (variants.Form at op parts))
-  operands_told old new parts long told =
-      subst (λ r. IsTold m (formed at op [] r) old new (Some (variants.Form at op parts)))
-      (sym (right_operands (set_of sign) (is_negation op) behind_head (one_less counted long)))
-      (formed_told m at op _ old new parts told)
-
-  pub operands_none : (old new : List Fault) → length ns ≡ counted + 1
-      → AreTold m (read_row (many (set_of sign)) behind_head) old new None
-      → IsTold m (formed at op [] (read_row (operands sign op) behind_head)) old new None
-  operands_none old new long told =
-      subst (λ r. IsTold m (formed at op [] r) old new None)
-      (sym (right_operands (set_of sign) (is_negation op) behind_head (one_less counted long)))
-      (none_formed m at op _ old new told)
+  -- as many as there should be are read as any number is
+  pub operands_counted : {E : Type 0} (r : Result (Option rust.Term) E) (old new : List Fault) → length ns ≡ counted + 1
+      → IfOk r (IsTold m (formed at op [] (read_row (many (set_of sign)) behind_head)) old new)
+      → IfOk r (IsTold m (formed at op [] (read_row (operands sign op) behind_head)) old new)
+  operands_counted r old new long told =
+      subst (λ w. IfOk r (IsTold m (formed at op [] w) old new))
+      (sym (right_operands (set_of sign) (is_negation op) behind_head (one_less counted long))) told

@@ -1,9 +1,9 @@
 //! Reading set expressions. Sets lie in one another at most as deep as lists do.
 
-ghost use Rattle.std.specs.Prelude.{◌≡◌, ◌∷◌, [], IfOk, drop, if◌then◌else◌};
+ghost use Rattle.std.specs.Prelude.{◌≡◌, [], IfOk, MatchOption, drop, if◌then◌else◌};
 ghost use Rattle.cil_sexpr.specs.View.{node_of, nodes_of};
-ghost use Rattle.cil_syntax.specs.Shapes.{a_word, cell_of, cells_of, formed, inner_at, is_negation, many, operands, operator_of, read_row, read_set as set_reading, set_of};
-ghost use Rattle.cil_syntax.specs.Told.{AreTold, IsTold};
+ghost use Rattle.cil_syntax.specs.Shapes.{a_word, cell_of, cells_of, formed, is_negation, many, operator_of, read_row, read_set as set_reading, set_of};
+ghost use Rattle.cil_syntax.specs.Told.{HasOperator, IsTold, IsUnion};
 
 use crate::code::FaultCode;
 use crate::fault::Fault;
@@ -11,7 +11,7 @@ use crate::kind::Sign;
 use crate::term::{Op, Spot, Term};
 use crate::words::{bytes_at, push_fault, read_left_out, read_looked_up};
 use cil_modset::NoMemory;
-use cil_sexpr::Node;
+use cil_sexpr::{Node, Span};
 use std::alloc::Global;
 
 /// The operator that a word is at the head of a set.
@@ -45,7 +45,7 @@ fn operand_count(op: Op) -> usize
 
 /// Reads a set: a word, a list of sets, or an operator with its operands. Operators and `all` are not taken yet.
 #[cycle(sets)]
-#[tactic(auto, unfolding(crate::specs::Shapes::cell_of, crate::specs::Shapes::read_word, crate::specs::Shapes::read_list))]
+#[tactic(auto, unfolding(crate::specs::Shapes::cell_of))]
 pub(crate) fn read_set(
     alloc: Global,
     text: &[u8],
@@ -79,9 +79,23 @@ pub(crate) fn read_set(
     }
 }
 
-/// Reads a set that is a list: by the operator at its head, or as the union of its items.
+/// The operator at the head of a list, and where it stands.
+fn operator_at_head(text: &[u8], nodes: &[Node]) -> Option<(Op, Span)>
+    ensures { MatchOption result (IsUnion text.now nodes.now) (λ found. HasOperator text.now nodes.now found.0 found.1) }
+{
+    match nodes.first()? {
+        Node::Word(place) => {
+            let op = find_operator(bytes_at(text, *place))?;
+            Some((op, *place))
+        }
+        Node::Quoted(_) => None,
+        Node::List(_, _) => None,
+    }
+}
+
+/// Reads a set that is a list: by the operator at its head, or as the union of its items. Behind `not` stands one
+/// set, behind each other operator stand two.
 #[cycle(sets)]
-#[tactic(auto, unfolding(crate::specs::Shapes::cell_of, crate::specs::Shapes::cells_of))]
 fn read_set_list(
     alloc: Global,
     text: &[u8],
@@ -92,64 +106,41 @@ fn read_set_list(
 ) -> Result<Option<Term>, NoMemory>
     ensures { IfOk result (IsTold at.module (set_reading at sign (cells_of at.module (nodes_of text.now nodes.now))) faults.old.items faults.new.items) }
 {
-    if let [Node::Word(place), ..] = nodes {
-        let word = bytes_at(text, *place);
-        if let Some(op) = find_operator(word) {
-            let head = Spot {
-                module: at.module,
-                at: place.start as u64,
-            };
-            push_fault(faults, alloc, FaultCode::Unsupported, head, word)?;
-            return read_operands(alloc, text, nodes, at, op, sign, faults);
-        }
-    }
-    let Some(parts) = read_sets(alloc, text, at.module, nodes, 0, sign, faults)? else {
-        return Ok(None);
+    let Some((op, place)) = operator_at_head(text, nodes) else {
+        return read_sets(alloc, text, nodes, 0, at, Op::Union, sign, faults);
     };
-    Ok(Some(Term::Form(at, Op::Union, parts)))
+    let head = Spot {
+        module: at.module,
+        at: place.start as u64,
+    };
+    let word = bytes_at(text, place);
+    push_fault(faults, alloc, FaultCode::Unsupported, head, word)?;
+    if nodes.len() != operand_count(op) + 1 {
+        return Ok(None);
+    }
+    read_sets(alloc, text, nodes, 1, at, op, sign, faults)
 }
 
-/// Reads what stands behind an operator: one set behind `not`, two behind each other.
+/// Reads any number of sets, from the first that counts, and joins them.
 #[cycle(sets)]
-fn read_operands(
+fn read_sets(
     alloc: Global,
     text: &[u8],
     nodes: &[Node],
+    first: usize,
     at: Spot,
     op: Op,
     sign: Sign,
     faults: &mut Vec<Fault>,
 ) -> Result<Option<Term>, NoMemory>
-    ensures { IfOk result (IsTold at.module (formed at op [] (read_row (operands sign op) (cells_of at.module (nodes_of text.now (drop 1 nodes.now))))) faults.old.items faults.new.items) }
-{
-    if nodes.len() != operand_count(op) + 1 {
-        return Ok(None);
-    }
-    let Some(parts) = read_sets(alloc, text, at.module, nodes, 1, sign, faults)? else {
-        return Ok(None);
-    };
-    Ok(Some(Term::Form(at, op, parts)))
-}
-
-/// Reads any number of sets, from the first that counts.
-#[cycle(sets)]
-fn read_sets(
-    alloc: Global,
-    text: &[u8],
-    number: u64,
-    nodes: &[Node],
-    first: usize,
-    sign: Sign,
-    faults: &mut Vec<Fault>,
-) -> Result<Option<Vec<Term>>, NoMemory>
-    ensures { IfOk result (AreTold number (read_row (many (set_of sign)) (cells_of number (nodes_of text.now (drop first nodes.now)))) faults.old.items faults.new.items) }
+    ensures { IfOk result (IsTold at.module (formed at op [] (read_row (many (set_of sign)) (cells_of at.module (nodes_of text.now (drop first nodes.now))))) faults.old.items faults.new.items) }
 {
     let mut terms = Vec::with_capacity(alloc, nodes.len())?;
     for place in first..nodes.len() {
-        let Some(term) = read_set(alloc, text, number, &nodes[place], sign, faults)? else {
+        let Some(term) = read_set(alloc, text, at.module, &nodes[place], sign, faults)? else {
             return Ok(None);
         };
         terms.push(term)?;
     }
-    Ok(Some(terms))
+    Ok(Some(Term::Form(at, op, terms)))
 }

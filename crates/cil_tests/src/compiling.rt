@@ -2,59 +2,44 @@
 
 use crate::policies::{FIRST, ORDERS, set_of};
 use cil_decide::compile;
-use cil_modset::ModuleSet;
 use cil_syntax::{Failure, render};
 use std::alloc::Global;
 use std::test::Fail;
 
-/// What modules compile to: their tables as they are printed for debugging, or the lines of their faults.
-fn answer_of(alloc: Global, modules: &ModuleSet) -> Result<Vec<u8>, Fail> {
-    match compile(alloc, modules) {
+/// What modules compile to: their tables as they are printed for debugging, or the lines of their faults. None where there
+/// is no memory.
+fn answer(alloc: Global, texts: &[&str]) -> Option<Vec<u8>> {
+    let modules = set_of(alloc, texts).ok()?;
+    match compile(alloc, &modules) {
         Ok(compiled) => {
-            let tables = compiled.tables;
-            Ok(format!(in alloc; "{tables:?}")?.into_bytes())
+            let tables = &compiled.tables;
+            let printed = format!(in alloc; "{tables:?}").ok()?;
+            Some(printed.into_bytes())
         }
-        Err(Failure::Faults(faults)) => Ok(render(alloc, &faults)?),
-        Err(Failure::NoMemory) => Err(Fail::from("no memory")),
+        Err(Failure::Faults(faults)) => render(alloc, &faults).ok(),
+        Err(Failure::NoMemory) => None,
     }
-}
-
-fn answer(alloc: Global, texts: &[&str]) -> Result<Vec<u8>, Fail> {
-    let modules = set_of(alloc, texts)?;
-    answer_of(alloc, &modules)
 }
 
 /// Whether some modules have this answer.
-fn answers(alloc: Global, texts: &[&str], wanted: &str) -> Result<bool, Fail> {
-    Ok(answer(alloc, texts)?.as_slice() == wanted.as_bytes())
+fn answers(alloc: Global, texts: &[&str], wanted: &str) -> bool {
+    answer(alloc, texts).is_some_and(|answer| answer.as_slice() == wanted.as_bytes())
 }
 
 /// Whether some modules have tables, and the same as some others.
-fn are_alike(alloc: Global, texts: &[&str], others: &[&str]) -> Result<bool, Fail> {
-    let tables = answer(alloc, texts)?;
-    Ok(tables.starts_with(b"Tables") && tables.as_slice() == answer(alloc, others)?.as_slice())
-}
-
-/// A class statement with so many permissions: `p` and a number.
-fn class_of(alloc: Global, count: usize) -> Result<String, Fail> {
-    let mut text = format!(in alloc; "(class w (")?;
-    for number in 0..count {
-        text.push_str(format!(in alloc; "p{number} ")?.as_str())?;
+fn are_alike(alloc: Global, texts: &[&str], others: &[&str]) -> bool {
+    match (answer(alloc, texts), answer(alloc, others)) {
+        (Some(tables), Some(others)) => {
+            tables.starts_with(b"Tables") && tables.as_slice() == others.as_slice()
+        }
+        _ => false,
     }
-    text.push_str("))")?;
-    Ok(text)
 }
 
 /// No user and no type, and the role `object_r` alone.
 const EMPTY: &str = "Tables { users: Names { names: [] }, \
     roles: Names { names: [Bytes { bytes: [111, 98, 106, 101, 99, 116, 95, 114] }] }, \
     types: Names { names: [] }, classes: [], user_roles: [], role_types: [], allow: [] }";
-
-#[test]
-fn an_empty_policy_has_the_role_of_objects_alone(rt: HostRuntime) -> Result<(), Fail> {
-    assert!(rt; answers(rt.alloc(), &[], EMPTY)?);
-    Ok(())
-}
 
 /// The user `u`; the roles `object_r` and `r`; the types `a` and `b`; the class `file` with `open` and `read`; the user has
 /// the role r, and that has both types; a is allowed to read b.
@@ -67,121 +52,145 @@ const SECTIONS: &str = "Tables { users: Names { names: [Bytes { bytes: [117] }] 
     role_types: [Link { holder: 1, held: 0 }, Link { holder: 1, held: 1 }], \
     allow: [Rule { source: Numbers { numbers: [0] }, target: Types(Numbers { numbers: [1] }), class: 0, mask: 2 }] }";
 
-#[test]
-fn a_first_policy_has_its_sections_in_order(rt: HostRuntime) -> Result<(), Fail> {
-    assert!(rt; answers(rt.alloc(), &[FIRST], SECTIONS)?);
-    Ok(())
-}
+/// Modules, and their tables or faults.
+const ANSWERS: &[(&[&str], &str)] = &[
+    (&[], EMPTY),
+    (&[FIRST], SECTIONS),
+    // Two different classes of one name.
+    (
+        &["(class w (p))", "(class w (q))"],
+        "36 0 7 . w\n36 1 7 . w\n",
+    ),
+    (
+        &["(class w (p q))", "(class w (q p))"],
+        "36 0 7 . w\n36 1 7 . w\n",
+    ),
+    (
+        &["(class w (p))(class w (p))", "(class w ())"],
+        "36 0 7 . w\n36 1 7 . w\n36 1 20 . w\n",
+    ),
+    // A word that names nothing. Of a class that is missing, no permission is told.
+    (
+        &[
+            "(roletype nor noa)(userrole nou nor)(allow noa self (noc (read)))(allow nob noa (noc ()))",
+        ],
+        "41 0 10 . nor\n41 0 14 . noa\n41 0 28 . nou\n41 0 32 . nor\n41 0 43 . noa\n41 0 53 . noc\n41 0 72 . nob\n41 0 76 . noa\n41 0 81 . noc\n",
+    ),
+    // The first step with faults is the answer: shape, declarations, names.
+    (
+        &["(type 1x)(class w (p))(class w (q))(roletype no no)"],
+        "25 0 6 . 1x\n",
+    ),
+    (
+        &["(class w (p))(class w (q))(roletype no no)"],
+        "36 0 7 . w\n36 0 20 . w\n",
+    ),
+];
 
 #[test]
-fn code_36_is_a_clash_at_each_place(rt: HostRuntime) -> Result<(), Fail> {
-    for &(texts, wanted) in &[
-        (
-            ["(class w (p))", "(class w (q))"],
-            "36 0 7 . w\n36 1 7 . w\n",
-        ),
-        (
-            ["(class w (p q))", "(class w (q p))"],
-            "36 0 7 . w\n36 1 7 . w\n",
-        ),
-        (
-            ["(class w (p))(class w (p))", "(class w ())"],
-            "36 0 7 . w\n36 1 7 . w\n36 1 20 . w\n",
-        ),
-    ] {
-        assert!(rt; answers(rt.alloc(), &texts, wanted)?, "{wanted}");
+fn policies_have_tables_or_faults(rt: HostRuntime) {
+    for &(texts, wanted) in ANSWERS {
+        assert!(rt; answers(rt.alloc(), texts, wanted), "{wanted}");
     }
-    Ok(())
 }
 
-#[test]
-fn declarations_that_are_alike_are_one(rt: HostRuntime) -> Result<(), Fail> {
-    let texts = [
-        "(class w (p q p))(type a)(role object_r)(role r)",
-        "(class w ( p q p ))(type a)(role r)(user w)(type w)(role w)",
-    ];
-    let once = "(class w (p q p))(type w)(type a)(role w)(role r)(user w)";
-    assert!(rt; are_alike(rt.alloc(), &texts, &[once])?);
-    Ok(())
-}
+/// What stands behind the first policy, and the faults of both together.
+const UNRESOLVED: &[(&str, &str)] = &[
+    ("(allow a nobody (file (read)))", "41 0 132 . nobody\n"),
+    ("(allow a b (file (write open)))", "41 0 141 . write\n"),
+    (
+        "(allow a x.b (file (read)))(allow .a .b (file (open)))",
+        "41 0 132 . x.b\n",
+    ),
+    ("(roletype a r)", "41 0 133 . a\n41 0 135 . r\n"),
+];
 
 #[test]
 fn code_41_is_a_word_that_names_nothing(rt: HostRuntime) -> Result<(), Fail> {
     let alloc = rt.alloc();
-    for &(more, wanted) in &[
-        ("(allow a nobody (file (read)))", "41 0 132 . nobody\n"),
-        ("(allow a b (file (write open)))", "41 0 141 . write\n"),
-        (
-            "(allow a x.b (file (read)))(allow .a .b (file (open)))",
-            "41 0 132 . x.b\n",
-        ),
-        ("(roletype a r)", "41 0 133 . a\n41 0 135 . r\n"),
-    ] {
+    for &(more, wanted) in UNRESOLVED {
         let text = format!(in alloc; "{FIRST}{more}")?;
-        assert!(rt; answers(alloc, &[text.as_str()], wanted)?, "{more}");
+        assert!(rt; answers(alloc, &[text.as_str()], wanted), "{more}");
     }
-    // Of a class that is missing, no permission is told.
-    let text =
-        "(roletype nor noa)(userrole nou nor)(allow noa self (noc (read)))(allow nob noa (noc ()))";
-    let wanted =
-        "41 0 10 . nor\n41 0 14 . noa\n41 0 28 . nou\n41 0 32 . nor\n41 0 43 . noa\n41 0 53 . noc\n41 0 72 . nob\n41 0 76 . noa\n41 0 81 . noc\n";
-    assert!(rt; answers(alloc, &[text], wanted)?);
     Ok(())
+}
+
+const CLASSES: &str = "(class d (x))(class c (z y))(type b)(type a)";
+
+/// Modules that have the same tables as others.
+const ALIKE: &[(&[&str], &[&str])] = &[
+    // Declarations that are alike are one.
+    (
+        &[
+            "(class w (p q p))(type a)(role object_r)(role r)",
+            "(class w ( p q p ))(type a)(role r)(user w)(type w)(role w)",
+        ],
+        &["(class w (p q p))(type w)(type a)(role w)(role r)(user w)"],
+    ),
+    // Rules of one source, target and class are one, and one that allows nothing is none.
+    (
+        &[
+            CLASSES,
+            "(allow b self (c (z)))(allow a b (d (x)))(allow b b (c (y z)))(allow a b (d ((x))))(allow a b (c ()))",
+        ],
+        &[
+            CLASSES,
+            "(allow a b (d (x)))(allow b b (c (z y z)))(allow b self (c (z)))",
+        ],
+    ),
+];
+
+#[test]
+fn some_policies_are_alike(rt: HostRuntime) {
+    let alloc = rt.alloc();
+    for &(texts, others) in ALIKE {
+        assert!(rt; are_alike(alloc, texts, others));
+    }
+    assert!(rt; !are_alike(alloc, ALIKE[1].0, &[CLASSES]));
+}
+
+#[test]
+fn the_order_of_arrival_changes_nothing(rt: HostRuntime) {
+    for texts in ORDERS {
+        assert!(rt; are_alike(rt.alloc(), texts, &ORDERS[0]));
+    }
+}
+
+/// A class statement with so many permissions: `p` and a number.
+fn class_of(alloc: Global, count: usize) -> Result<String, Fail> {
+    let mut text = format!(in alloc; "(class w (")?;
+    for number in 0..count {
+        write!(text, "p{number} ")?;
+    }
+    text.push_str("))")?;
+    Ok(text)
 }
 
 #[test]
 fn code_55_is_a_class_of_more_than_32_permissions(rt: HostRuntime) -> Result<(), Fail> {
     let alloc = rt.alloc();
     let few = class_of(alloc, 32)?;
+    assert!(rt; are_alike(alloc, &[few.as_str()], &[few.as_str()]));
     let many = class_of(alloc, 33)?;
+    assert!(rt; answers(alloc, &[many.as_str()], "55 0 7 . w\n"));
     let twice = format!(in alloc; "{many}{many}")?;
-    assert!(rt; are_alike(alloc, &[few.as_str()], &[few.as_str()])?);
-    assert!(rt; answers(alloc, &[many.as_str()], "55 0 7 . w\n")?);
     let second = 7 + many.len();
     let wanted = format!(in alloc; "55 0 7 . w\n55 0 {second} . w\n")?;
-    assert!(rt; answers(alloc, &[twice.as_str()], wanted.as_str())?);
-    Ok(())
-}
-
-#[test]
-fn the_first_step_with_faults_is_the_answer(rt: HostRuntime) -> Result<(), Fail> {
-    let shape = "(type 1x)(class w (p))(class w (q))(roletype no no)";
-    let clash = "(class w (p))(class w (q))(roletype no no)";
-    assert!(rt; answers(rt.alloc(), &[shape], "25 0 6 . 1x\n")?);
-    assert!(rt; answers(rt.alloc(), &[clash], "36 0 7 . w\n36 0 20 . w\n")?);
-    Ok(())
-}
-
-#[test]
-fn rules_are_kept_once(rt: HostRuntime) -> Result<(), Fail> {
-    let declared = "(class d (x))(class c (z y))(type b)(type a)";
-    let text =
-        "(allow b self (c (z)))(allow a b (d (x)))(allow b b (c (y z)))(allow a b (d ((x))))(allow a b (c ()))";
-    let once = "(allow a b (d (x)))(allow b b (c (z y z)))(allow b self (c (z)))";
-    assert!(rt; are_alike(rt.alloc(), &[declared, text], &[declared, once])?);
-    assert!(rt; !are_alike(rt.alloc(), &[declared, text], &[declared])?);
-    Ok(())
-}
-
-#[test]
-fn the_order_of_arrival_changes_nothing(rt: HostRuntime) -> Result<(), Fail> {
-    for &texts in ORDERS {
-        assert!(rt; are_alike(rt.alloc(), &texts, &ORDERS[0])?);
-    }
+    assert!(rt; answers(alloc, &[twice.as_str()], wanted.as_str()));
     Ok(())
 }
 
 #[test]
 fn seventy_thousand_types_are_numbered(rt: HostRuntime) -> Result<(), Fail> {
-    let alloc = rt.alloc();
-    let mut text = String::new(alloc);
+    let mut text = String::new(rt.alloc());
     for number in 0..70_000 {
-        text.push_str(format!(in alloc; "(type n{number})")?.as_str())?;
+        write!(text, "(type n{number})")?;
     }
     text.push_str("(class c (p))(allow n9999 n0 (c (p)))")?;
     // `n9999` is the greatest name in byte order, and `n0` the least.
     let wanted =
         b"allow: [Rule { source: Numbers { numbers: [69999] }, target: Types(Numbers { numbers: [0] }), class: 0, mask: 1 }] }";
-    assert!(rt; answer(alloc, &[text.as_str()])?.ends_with(wanted));
+    let answer = answer(rt.alloc(), &[text.as_str()]).ok_or("no tables")?;
+    assert!(rt; answer.ends_with(wanted));
     Ok(())
 }

@@ -8,13 +8,11 @@ use cil_decide::{
 use std::alloc::Global;
 use std::test::Fail;
 
-/// The tables of a text.
-pub(crate) fn tables_of(alloc: Global, text: &str) -> Result<Tables, Fail> {
-    let modules = set_of(alloc, &[text])?;
-    match compile(alloc, &modules) {
-        Ok(compiled) => Ok(compiled.tables),
-        Err(_) => Err(Fail::from("no tables")),
-    }
+/// The tables of a text, where it has some.
+fn tables_of(alloc: Global, text: &str) -> Option<Tables> {
+    let modules = set_of(alloc, &[text]).ok()?;
+    let compiled = compile(alloc, &modules).ok()?;
+    Some(compiled.tables)
 }
 
 /// The names of 32 permissions.
@@ -31,7 +29,7 @@ fn wide_policy(alloc: Global) -> Result<Tables, Fail> {
         "(allow a b (file (read)))(allow a b (file (open)))(allow a self (file (write)))(allow b self (file (write)))\
         (allow b a (dir (getattr)))(allow b c (dir (getattr)))(allow a b (wide (p00 p31)))";
     let text = format!(in alloc; "{declared}(class wide ({WIDE})){allowed}")?;
-    tables_of(alloc, text.as_str())
+    Ok(tables_of(alloc, text.as_str()).ok_or("no tables")?)
 }
 
 fn class_id(number: usize) -> ClassId {
@@ -50,34 +48,36 @@ fn decision(allowed: u32, auditdeny: u32) -> Decision {
     }
 }
 
-#[test]
-fn answers_the_first_policy(rt: HostRuntime) -> Result<(), Fail> {
-    let tables = tables_of(rt.alloc(), FIRST)?;
-    let (a, b) = (context(0, 1, 0), context(0, 1, 1));
-    assert_eq!(rt; parse_context(&tables, b"u:r:a"), Some(a));
-    assert_eq!(rt; parse_context(&tables, b"u:r:b"), Some(b));
-    let file = class_id(0);
-    assert_eq!(rt; class_named(&tables, b"file"), Some(file));
-    assert_eq!(rt; class_named(&tables, b"dir"), None);
-    assert_eq!(rt; permission_named(&tables, file, b"open"), Some(0));
-    assert_eq!(rt; permission_named(&tables, file, b"write"), None);
-    for &(bit, name) in &[(0, b"open".as_slice()), (1, b"read".as_slice())] {
-        assert_eq!(rt; permission_at(&tables, file, bit), Some(name));
-    }
-    // Read is allowed, and both are recorded when they are denied; the other way round nothing is allowed.
-    assert_eq!(rt; decide(&tables, &a, &b, file), decision(0b10, 0b11));
-    assert_eq!(rt; decide(&tables, &b, &a, file), decision(0, 0b11));
-    Ok(())
+/// Whether the tables of the first policy answer: read is allowed, and both permissions are recorded when they are denied; the
+/// other way round nothing is allowed.
+fn answer_the_first_policy(tables: &Tables) -> bool {
+    let (a, b, file) = (context(0, 1, 0), context(0, 1, 1), class_id(0));
+    parse_context(tables, b"u:r:a") == Some(a)
+        && parse_context(tables, b"u:r:b") == Some(b)
+        && class_named(tables, b"file") == Some(file)
+        && class_named(tables, b"dir").is_none()
+        && permission_named(tables, file, b"open") == Some(0)
+        && permission_named(tables, file, b"write").is_none()
+        && permission_at(tables, file, 0) == Some(b"open".as_slice())
+        && permission_at(tables, file, 1) == Some(b"read".as_slice())
+        && decide(tables, &a, &b, file) == decision(0b10, 0b11)
+        && decide(tables, &b, &a, file) == decision(0, 0b11)
+}
+
+/// Whether the tables of no module answer.
+fn answer_the_empty_policy(tables: &Tables) -> bool {
+    let a = context(0, 0, 0);
+    parse_context(tables, b"u:r:a").is_none()
+        && parse_context(tables, b"u:object_r:a").is_none()
+        && class_named(tables, b"file").is_none()
+        && decide(tables, &a, &a, class_id(0)) == decision(0, 0)
 }
 
 #[test]
-fn answers_the_empty_policy(rt: HostRuntime) -> Result<(), Fail> {
-    let tables = tables_of(rt.alloc(), "")?;
-    assert_eq!(rt; parse_context(&tables, b"u:r:a"), None);
-    assert_eq!(rt; parse_context(&tables, b"u:object_r:a"), None);
-    assert_eq!(rt; class_named(&tables, b"file"), None);
-    let a = context(0, 0, 0);
-    assert_eq!(rt; decide(&tables, &a, &a, class_id(0)), decision(0, 0));
+fn answers_the_first_and_the_empty_policy(rt: HostRuntime) -> Result<(), Fail> {
+    let alloc = rt.alloc();
+    assert!(rt; answer_the_first_policy(&tables_of(alloc, FIRST).ok_or("no tables")?));
+    assert!(rt; answer_the_empty_policy(&tables_of(alloc, "").ok_or("no tables")?));
     Ok(())
 }
 
@@ -132,13 +132,13 @@ const NOT_VALID: &[&[u8]] = &[
 fn reads_valid_contexts_alone(rt: HostRuntime) -> Result<(), Fail> {
     let tables = wide_policy(rt.alloc())?;
     for &(text, user, role, type_) in VALID {
-        assert_eq!(rt;
-            parse_context(&tables, text),
-            Some(context(user, role, type_))
+        assert!(rt;
+            parse_context(&tables, text) == Some(context(user, role, type_)),
+            "{text:?}"
         );
     }
     for &text in NOT_VALID {
-        assert_eq!(rt; parse_context(&tables, text), None, "{text:?}");
+        assert!(rt; parse_context(&tables, text).is_none(), "{text:?}");
     }
     Ok(())
 }
@@ -153,10 +153,13 @@ const NO_CLASSES: &[&[u8]] = &[
 fn finds_classes_by_their_whole_names(rt: HostRuntime) -> Result<(), Fail> {
     let tables = wide_policy(rt.alloc())?;
     for &(number, name) in CLASSES {
-        assert_eq!(rt; class_named(&tables, name), Some(class_id(number)));
+        assert!(rt;
+            class_named(&tables, name) == Some(class_id(number)),
+            "{name:?}"
+        );
     }
     for &name in NO_CLASSES {
-        assert_eq!(rt; class_named(&tables, name), None, "{name:?}");
+        assert!(rt; class_named(&tables, name).is_none(), "{name:?}");
     }
     Ok(())
 }
@@ -204,17 +207,20 @@ fn finds_permissions_by_their_whole_names(rt: HostRuntime) -> Result<(), Fail> {
     let tables = wide_policy(rt.alloc())?;
     let (file, wide) = (class_id(1), class_id(3));
     for &(bit, name) in PERMISSIONS {
-        assert_eq!(rt; permission_named(&tables, wide, name), Some(bit));
-        assert_eq!(rt; permission_at(&tables, wide, bit), Some(name));
+        assert!(rt; permission_named(&tables, wide, name) == Some(bit), "{bit}");
+        assert!(rt; permission_at(&tables, wide, bit) == Some(name), "{bit}");
     }
     for &name in NO_PERMISSIONS {
-        assert_eq!(rt; permission_named(&tables, file, name), None, "{name:?}");
+        assert!(rt; permission_named(&tables, file, name).is_none(), "{name:?}");
     }
     // A bit too many, and a class number without a row.
     for &(number, bit) in &[(1, 3), (3, 32), (1, u32::MAX), (4, 0)] {
-        assert_eq!(rt; permission_at(&tables, class_id(number), bit), None);
+        assert!(rt;
+            permission_at(&tables, class_id(number), bit).is_none(),
+            "{number} {bit}"
+        );
     }
-    assert_eq!(rt; permission_named(&tables, class_id(4), b"read"), None);
+    assert!(rt; permission_named(&tables, class_id(4), b"read").is_none());
     Ok(())
 }
 
@@ -246,12 +252,11 @@ const DECISIONS: &[(usize, usize, usize, u32, u32)] = &[
 fn decides_by_the_rules(rt: HostRuntime) -> Result<(), Fail> {
     let tables = wide_policy(rt.alloc())?;
     for &(source, target, number, allowed, auditdeny) in DECISIONS {
-        let (source, target) = (context(0, 2, source), context(0, 2, target));
-        let found = decide(&tables, &source, &target, class_id(number));
-        assert_eq!(rt;
-            found,
-            decision(allowed, auditdeny),
-            "{source:?} {target:?} {number}"
+        let (from, to) = (context(0, 2, source), context(0, 2, target));
+        let found = decide(&tables, &from, &to, class_id(number));
+        assert!(rt;
+            found == decision(allowed, auditdeny),
+            "{source} {target} {number}"
         );
     }
     Ok(())

@@ -2,37 +2,42 @@
 //! the call that lost it says so and has changed nothing, so each call is tried once more.
 
 use crate::bundles::BUNDLE_OF_THREE;
-use crate::hosts::{asked, is_loaded};
-use crate::module_sets::{A, B, C, assert_holds};
+use crate::module_sets::{A, B, C, holds};
 use crate::policies::{FIRST, set_of};
 use crate::text_faults::fault;
 use cil_decide::{
-    ClassId, class_named, compile, decide, parse_context, permission_at, permission_named,
+    ClassId, Compiled, class_named, compile, decide, parse_context, permission_at, permission_named,
 };
 use cil_host::{Host, QueryFault};
 use cil_modset::{Join, ModuleSet};
 use cil_server::{Served, serve};
-use cil_sexpr::{ReadCode, ReadError, read};
-use cil_syntax::{Failure, render, written};
+use cil_sexpr::{ReadCode, ReadError, ReadFault, read};
+use cil_syntax::{Failure, FaultList, Program, render, written};
 use std::alloc::Global;
 use std::test::Fail;
 
+/// Whether a text is read to so many lists, or has this fault. None where there is no memory.
+fn is_read_so(alloc: Global, text: &[u8], lists: usize, want: Option<ReadFault>) -> Option<bool> {
+    match read(alloc, text) {
+        Ok(tree) => Some(want.is_none() && tree.children().len() == lists),
+        Err(ReadError::Fault(fault)) => Some(want == Some(fault)),
+        Err(ReadError::NoMemory) => None,
+    }
+}
+
 #[test]
 fn a_refused_growth_of_a_tree(rt: HostRuntime) {
+    let alloc = rt.alloc();
     let mut refused = 0;
     for &(text, lists, want) in &[
         ("(a (b \"c\" (d)) e)(f)", 2, None),
         ("(a (b (c", 0, fault(ReadCode::Unclosed, 8)),
     ] {
         for _ in 0..2 {
-            match read(rt.alloc(), text.as_bytes()) {
-                Ok(tree) => {
-                    assert_eq!(rt; want, None);
-                    assert_eq!(rt; tree.children().len(), lists);
-                }
-                Err(ReadError::Fault(fault)) => assert_eq!(rt; want, Some(fault)),
-                Err(ReadError::NoMemory) => {
-                    assert_eq!(rt; refused, 0, "want of memory without cause");
+            match is_read_so(alloc, text.as_bytes(), lists, want) {
+                Some(is_so) => assert!(rt; is_so, "{text}"),
+                None => {
+                    assert!(rt; refused == 0, "want of memory without cause");
                     refused = 1;
                 }
             }
@@ -40,143 +45,193 @@ fn a_refused_growth_of_a_tree(rt: HostRuntime) {
     }
 }
 
-#[test]
-fn a_refused_growth_leaves_the_set(rt: HostRuntime) -> Result<(), Fail> {
-    let mut set = ModuleSet::new(rt.alloc());
-    if set.install(rt.alloc(), B).is_err() {
-        assert_holds(&rt, &set, &[]);
-        set.install(rt.alloc(), B)?;
+/// Whether a set takes in a text, at once or when it is asked again.
+fn installs(alloc: Global, set: &mut ModuleSet, text: &[u8]) -> bool {
+    set.install(alloc, text).is_ok() || (holds(set, &[]) && set.install(alloc, text).is_ok())
+}
+
+/// Whether a set of B imports A and C, at once or when it is asked again.
+fn imports(alloc: Global, set: &mut ModuleSet) -> bool {
+    set.import(alloc, BUNDLE_OF_THREE) == Ok(2)
+        || (holds(set, &[B]) && set.import(alloc, BUNDLE_OF_THREE) == Ok(2))
+}
+
+/// Whether a set of B merges A and C, at once or when it is asked again.
+fn merges(alloc: Global, set: &mut ModuleSet, other: &ModuleSet) -> bool {
+    set.merge(alloc, other) == Ok(2) || (holds(set, &[B]) && set.merge(alloc, other) == Ok(2))
+}
+
+/// Whether a set is written as the bundle of three.
+fn is_exported(alloc: Global, set: &ModuleSet) -> bool {
+    match set.export(alloc) {
+        Ok(bytes) => bytes.as_slice() == BUNDLE_OF_THREE,
+        Err(_) => false,
     }
-    assert_holds(&rt, &set, &[B]);
-    let mut copy = match set.try_clone(rt.alloc()) {
-        Ok(copy) => copy,
-        Err(_) => set.try_clone(rt.alloc())?,
-    };
-    if copy.import(rt.alloc(), BUNDLE_OF_THREE).is_err() {
-        assert_holds(&rt, &copy, &[B]);
-        assert_eq!(rt; copy.import(rt.alloc(), BUNDLE_OF_THREE)?, 2);
-    }
-    assert_holds(&rt, &copy, &[A, B, C]);
-    if set.merge(rt.alloc(), &copy).is_err() {
-        assert_holds(&rt, &set, &[B]);
-        assert_eq!(rt; set.merge(rt.alloc(), &copy)?, 2);
-    }
-    assert_holds(&rt, &set, &[A, B, C]);
-    let bytes = match set.export(rt.alloc()) {
-        Ok(bytes) => bytes,
-        Err(_) => set.export(rt.alloc())?,
-    };
-    assert_eq!(rt; bytes.as_slice(), BUNDLE_OF_THREE);
-    Ok(())
 }
 
 #[test]
-fn a_refused_growth_is_no_fault(rt: HostRuntime) -> Result<(), Fail> {
+fn a_refused_growth_leaves_the_set(rt: HostRuntime) -> Result<(), Fail> {
     let alloc = rt.alloc();
+    let mut set = ModuleSet::new(alloc);
+    assert!(rt; installs(alloc, &mut set, B));
+    assert!(rt; holds(&set, &[B]));
+    let mut copy = match set.try_clone(alloc) {
+        Ok(copy) => copy,
+        Err(_) => set.try_clone(alloc)?,
+    };
+    assert!(rt; imports(alloc, &mut copy));
+    assert!(rt; holds(&copy, &[A, B, C]));
+    assert!(rt; merges(alloc, &mut set, &copy));
+    assert!(rt; holds(&set, &[A, B, C]));
+    assert!(rt; is_exported(alloc, &set) || is_exported(alloc, &set));
+    Ok(())
+}
+
+/// The set of some texts, made once more where a growth is refused.
+fn set_at_last(alloc: Global, texts: &[&str]) -> Option<ModuleSet> {
+    match set_of(alloc, texts) {
+        Ok(set) => Some(set),
+        Err(_) => set_of(alloc, texts).ok(),
+    }
+}
+
+/// The statements of some texts, or their faults, judged once more where a growth is refused.
+fn written_at_last(alloc: Global, texts: &[&str]) -> Option<Result<Program, FaultList>> {
+    let set = set_at_last(alloc, texts)?;
+    let answer = match written(alloc, &set) {
+        Err(Failure::NoMemory) => written(alloc, &set),
+        answer => answer,
+    };
+    faults_apart(answer)
+}
+
+/// An answer or the faults. None where there was no memory.
+fn faults_apart<T: Drop>(answer: Result<T, Failure>) -> Option<Result<T, FaultList>> {
+    match answer {
+        Ok(value) => Some(Ok(value)),
+        Err(Failure::Faults(faults)) => Some(Err(faults)),
+        Err(Failure::NoMemory) => None,
+    }
+}
+
+/// Whether faults are printed so, at once or when it is asked again.
+fn are_printed(alloc: Global, faults: &FaultList, want: &[u8]) -> bool {
+    match render(alloc, faults) {
+        Ok(lines) => lines.as_slice() == want,
+        Err(_) => render(alloc, faults).is_ok_and(|lines| lines.as_slice() == want),
+    }
+}
+
+/// Whether texts without a fault are written.
+fn are_written(alloc: Global) -> bool {
+    match written_at_last(alloc, &["(class c (p))(allow a self (c (p)))"]) {
+        Some(Ok(program)) => program.statements().len() == 2,
+        _ => false,
+    }
+}
+
+/// Whether texts with two faults are refused with both.
+fn are_refused(alloc: Global) -> bool {
     let texts = [
         "(class c (p))(allow a self (c (p)))",
         "(type 1x)(allow a b)",
     ];
-    let clean = match set_of(alloc, &texts[..1]) {
-        Ok(set) => set,
-        Err(_) => set_of(alloc, &texts[..1])?,
-    };
-    let program = match written(alloc, &clean) {
-        Err(Failure::NoMemory) => written(alloc, &clean),
-        answer => answer,
-    };
-    let Ok(program) = program else {
-        return Err(Fail::from("faults"));
-    };
-    assert_eq!(rt; program.statements().len(), 2);
-    let faulty = match set_of(alloc, &texts) {
-        Ok(set) => set,
-        Err(_) => set_of(alloc, &texts)?,
-    };
-    let answer = match written(alloc, &faulty) {
-        Err(Failure::NoMemory) => written(alloc, &faulty),
-        answer => answer,
-    };
-    let Err(Failure::Faults(list)) = answer else {
-        return Err(Fail::from("no faults"));
-    };
-    let lines = match render(alloc, &list) {
-        Ok(lines) => lines,
-        Err(_) => render(alloc, &list)?,
-    };
-    assert_eq!(rt;
-        lines.as_slice(),
-        b"23 1 9 . allow\n25 1 6 . 1x\n".as_slice()
-    );
-    Ok(())
+    match written_at_last(alloc, &texts) {
+        Some(Err(faults)) => are_printed(alloc, &faults, b"23 1 9 . allow\n25 1 6 . 1x\n"),
+        _ => false,
+    }
 }
 
 #[test]
-fn a_refused_growth_is_no_fault_of_a_policy(rt: HostRuntime) -> Result<(), Fail> {
-    let alloc = rt.alloc();
-    let good = match set_of(alloc, &[FIRST]) {
-        Ok(set) => set,
-        Err(_) => set_of(alloc, &[FIRST])?,
-    };
-    let compiled = match compile(alloc, &good) {
-        Err(Failure::NoMemory) => compile(alloc, &good),
+fn a_refused_growth_is_no_fault(rt: HostRuntime) {
+    assert!(rt; are_written(rt.alloc()));
+    assert!(rt; are_refused(rt.alloc()));
+}
+
+/// The tables of some texts, or their faults, compiled once more where a growth is refused.
+fn compiled_at_last(alloc: Global, texts: &[&str]) -> Option<Result<Compiled, FaultList>> {
+    let set = set_at_last(alloc, texts)?;
+    let answer = match compile(alloc, &set) {
+        Err(Failure::NoMemory) => compile(alloc, &set),
         answer => answer,
     };
-    let Ok(compiled) = compiled else {
-        return Err(Fail::from("faults"));
-    };
-    // These calls take none.
+    faults_apart(answer)
+}
+
+/// Whether the first policy answers. These calls take no memory.
+fn answers(compiled: &Compiled) -> bool {
     let tables = &compiled.tables;
     let file = ClassId { number: 0 };
-    assert!(rt; class_named(tables, b"file") == Some(file));
-    assert!(rt; permission_named(tables, file, b"read") == Some(1));
-    assert!(rt; permission_at(tables, file, 1) == Some(b"read".as_slice()));
-    assert!(rt; parse_context(tables, b"u:object_r:w").is_none());
     let (Some(a), Some(b)) = (
         parse_context(tables, b"u:r:a"),
         parse_context(tables, b"u:r:b"),
     ) else {
-        return Err(Fail::from("no context"));
+        return false;
     };
-    assert!(rt; decide(tables, &a, &b, file).allowed == 0b10);
-    let texts = ["(class w (p))(class w (q))"];
-    let bad = match set_of(alloc, &texts) {
-        Ok(set) => set,
-        Err(_) => set_of(alloc, &texts)?,
-    };
-    let answer = match compile(alloc, &bad) {
-        Err(Failure::NoMemory) => compile(alloc, &bad),
-        answer => answer,
-    };
-    let Err(Failure::Faults(list)) = answer else {
-        return Err(Fail::from("no faults"));
-    };
-    assert_eq!(rt; list.len(), 2);
-    Ok(())
+    class_named(tables, b"file") == Some(file)
+        && permission_named(tables, file, b"read") == Some(1)
+        && permission_at(tables, file, 1) == Some(b"read".as_slice())
+        && parse_context(tables, b"u:object_r:w").is_none()
+        && decide(tables, &a, &b, file).allowed == 0b10
+}
+
+/// Whether the first policy has tables that answer.
+fn has_tables(alloc: Global) -> bool {
+    match compiled_at_last(alloc, &[FIRST]) {
+        Some(Ok(compiled)) => answers(&compiled),
+        _ => false,
+    }
+}
+
+/// Whether a policy with two faults has both.
+fn has_faults(alloc: Global) -> bool {
+    match compiled_at_last(alloc, &["(class w (p))(class w (q))"]) {
+        Some(Err(faults)) => faults.len() == 2,
+        _ => false,
+    }
 }
 
 #[test]
-fn a_refused_growth_leaves_the_host(rt: HostRuntime) -> Result<(), Fail> {
+fn a_refused_growth_is_no_fault_of_a_policy(rt: HostRuntime) {
+    assert!(rt; has_tables(rt.alloc()));
+    assert!(rt; has_faults(rt.alloc()));
+}
+
+/// Whether a host takes in a text, at once or when it is asked again.
+fn host_installs(alloc: Global, host: &mut Host<u8>, text: &[u8]) -> bool {
+    host.install(alloc, text).is_ok() || host.install(alloc, text).is_ok()
+}
+
+/// Whether an object of the second type of the first policy may do this with one of the first.
+fn is_allowed(host: &mut Host<u8>, mask: u32) -> bool {
+    match host.query(b"u:r:b", b"u:r:a", b"file") {
+        Ok(decision) => decision.allowed == mask,
+        Err(_) => false,
+    }
+}
+
+/// Whether a host loads its first policy, at once or when it is asked again, and has none before.
+fn loads_first(alloc: Global, host: &mut Host<u8>) -> bool {
+    host.load(alloc).is_ok()
+        || (host.query(b"u:r:b", b"u:r:a", b"file") == Err(QueryFault::NoPolicy)
+            && host.load(alloc).is_ok())
+}
+
+/// Whether a host loads the next policy, at once or when it is asked again, and answers by the first before.
+fn loads_next(alloc: Global, host: &mut Host<u8>) -> bool {
+    host.load(alloc).is_ok() || (is_allowed(host, 0) && host.load(alloc).is_ok())
+}
+
+#[test]
+fn a_refused_growth_leaves_the_host(rt: HostRuntime) {
     let alloc = rt.alloc();
     let mut host: Host<u8> = Host::new(alloc, 512, 0);
-    if host.install(alloc, FIRST.as_bytes()).is_err() {
-        host.install(alloc, FIRST.as_bytes())?;
-    }
-    if host.load(alloc).is_err() {
-        assert!(rt; host.query(b"u:r:a", b"u:r:b", b"file") == Err(QueryFault::NoPolicy));
-        assert!(rt; is_loaded(alloc, &mut host));
-    }
-    let more: &[u8] = b"(allow b a (file (open)))";
-    if host.install(alloc, more).is_err() {
-        host.install(alloc, more)?;
-    }
-    assert!(rt; asked(&mut host, b"u:r:b", b"u:r:a") == Some((0, 0, 3)));
-    if host.load(alloc).is_err() {
-        assert!(rt; asked(&mut host, b"u:r:b", b"u:r:a") == Some((0, 0, 3)));
-        assert!(rt; is_loaded(alloc, &mut host));
-    }
-    assert!(rt; asked(&mut host, b"u:r:b", b"u:r:a") == Some((1, 0, 3)));
-    Ok(())
+    assert!(rt; host_installs(alloc, &mut host, FIRST.as_bytes()));
+    assert!(rt; loads_first(alloc, &mut host));
+    assert!(rt; host_installs(alloc, &mut host, b"(allow b a (file (open)))"));
+    assert!(rt; is_allowed(&mut host, 0));
+    assert!(rt; loads_next(alloc, &mut host));
+    assert!(rt; is_allowed(&mut host, 1));
 }
 
 /// Runs some requests, and once more where a growth was refused. A session that wants memory for its buffers writes nothing.
@@ -203,8 +258,12 @@ fn replies_at_last(
     false
 }
 
-/// Requests behind the installing of the first module, and their replies.
+/// Requests, and their replies.
 const REQUESTS: &[(&[u8], &[u8])] = &[
+    (
+        b"INSTALL 123\n(class file (open read))(user u)(role r)(type a)(type b)(userrole u r)(roletype r a)(roletype r b)(allow a b (file (read)))",
+        b"OK new\n",
+    ),
     (
         b"IMPORT 29\nCILB\x01\0\0\0\0\0\0\0\x01\0\0\0\0\0\0\0\x08(type a)",
         b"OK 1\n",
@@ -216,10 +275,6 @@ const REQUESTS: &[(&[u8], &[u8])] = &[
     (b"AV u:r:a u:r:b file\n", b"OK read - open,read\n"),
 ];
 
-/// The request that installs the first module.
-const INSTALL: &[u8] =
-    b"INSTALL 123\n(class file (open read))(user u)(role r)(type a)(type b)(userrole u r)(roletype r a)(roletype r b)(allow a b (file (read)))";
-
 #[test]
 fn a_refused_growth_is_told(rt: HostRuntime) -> Result<(), Fail> {
     let alloc = rt.alloc();
@@ -228,7 +283,6 @@ fn a_refused_growth_is_told(rt: HostRuntime) -> Result<(), Fail> {
         Ok(written) => written,
         Err(_) => Vec::with_capacity(alloc, 4096)?,
     };
-    assert!(rt; replies_at_last(alloc, &mut host, &mut written, INSTALL, b"OK new\n"));
     for &(input, output) in REQUESTS {
         assert!(rt; replies_at_last(alloc, &mut host, &mut written, input, output));
     }

@@ -1,7 +1,8 @@
 //! Texts that are hard on the reader of statements: each reserved word at each place, long names, very many faults.
 
-use crate::policies::{joined, judged_word, set_of};
-use cil_syntax::{Failure, written};
+use crate::policies::{is_judged_in, set_of};
+use cil_syntax::{Failure, Fault, written};
+use std::alloc::Global;
 use std::test::Fail;
 
 /// The words that no name may be.
@@ -35,37 +36,44 @@ const RESERVED: &[&str] = &[
     "h2",
 ];
 
+/// What stands before and behind a word, for each kind of place.
+const PLACES: &[(&str, &str)] = &[
+    ("(type ", ")"),
+    ("(role ", ")"),
+    ("(user ", ")"),
+    ("(class ", " (p))"),
+    ("(class c (p ", "))"),
+    ("(roletype ", " t)"),
+    ("(roletype r ", ")"),
+    ("(userrole ", " r)"),
+    ("(userrole u ", ")"),
+    ("(allow ", " t (c (p)))"),
+    ("(allow s t (", " (p)))"),
+    ("(allow s t (c (p ", ")))"),
+    ("(allow s ", " (c (p)))"),
+];
+
+/// Whether a reserved word is a fault at a place; or is taken, or is not supported, where it has a meaning.
+fn is_reserved_at(alloc: Global, front: &str, back: &str, word: &str) -> Result<bool, Fail> {
+    let at = front.len();
+    let want = match (word, front) {
+        ("self", "(allow s ") => format!(in alloc; "written\n")?,
+        ("all", "(allow s t (c (p ") | ("notself" | "other", "(allow s ") => {
+            format!(in alloc; "22 0 {at} . {word}\n")?
+        }
+        _ => format!(in alloc; "26 0 {at} . {word}\n")?,
+    };
+    is_judged_in(alloc, (front, back), word, want.as_bytes())
+}
+
 #[test]
 fn each_reserved_word_is_a_fault_at_each_place(rt: HostRuntime) -> Result<(), Fail> {
     for &word in RESERVED {
-        for &(front, back) in &[
-            ("(type ", ")"),
-            ("(role ", ")"),
-            ("(user ", ")"),
-            ("(class ", " (p))"),
-            ("(class c (p ", "))"),
-            ("(roletype ", " t)"),
-            ("(roletype r ", ")"),
-            ("(userrole ", " r)"),
-            ("(userrole u ", ")"),
-            ("(allow ", " t (c (p)))"),
-            ("(allow s t (", " (p)))"),
-            ("(allow s t (c (p ", ")))"),
-            ("(allow s ", " (c (p)))"),
-        ] {
-            let code = match (word, front) {
-                ("all", "(allow s t (c (p ") => 22,
-                ("notself", "(allow s ") => 22,
-                ("other", "(allow s ") => 22,
-                _ => 26,
-            };
-            let at = front.len();
-            let want = match (word, front) {
-                ("self", "(allow s ") => format!(in rt.alloc(); "written\n")?,
-                _ => format!(in rt.alloc(); "{code} 0 {at} . {word}\n")?,
-            };
-            let lines = judged_word(rt.alloc(), front, word, back)?;
-            assert_eq!(rt; lines.as_slice(), want.as_bytes(), "{front}{word}{back}");
+        for &(front, back) in PLACES {
+            assert!(rt;
+                is_reserved_at(rt.alloc(), front, back, word)?,
+                "{front}{word}{back}"
+            );
         }
     }
     Ok(())
@@ -76,19 +84,26 @@ fn names_have_at_most_1024_bytes(rt: HostRuntime) -> Result<(), Fail> {
     let alloc = rt.alloc();
     let name = "abcdefgh".repeat(alloc, 128)?;
     assert_eq!(rt; name.len(), 1024);
-    for &(front, back) in &[
+    for &place in &[
         ("(type ", ")"),
         ("(roletype r a.", ".b)"),
         ("(class c (", "))"),
     ] {
-        let lines = judged_word(alloc, front, name.as_str(), back)?;
-        assert_eq!(rt; lines.as_slice(), b"written\n".as_slice(), "{front}");
+        assert!(rt; is_judged_in(alloc, place, name.as_str(), b"written\n")?);
     }
-    let long = joined(alloc, name.as_str(), "i")?;
-    let lines = judged_word(alloc, "(type ", long.as_str(), ")")?;
-    let want = format!(in alloc; "25 0 6 . {long}\n")?;
-    assert_eq!(rt; lines.as_slice(), want.as_bytes());
+    let want = format!(in alloc; "25 0 6 . {name}i\n")?;
+    assert!(rt; is_judged_in(alloc, ("(type ", "i)"), name.as_str(), want.as_bytes())?);
     Ok(())
+}
+
+/// Whether the faults are those of words at the sixth of each eight bytes.
+fn is_at_each_eighth(faults: &[Fault]) -> bool {
+    for (i, fault) in faults.iter().enumerate() {
+        if fault.at != 8 * i as u64 + 6 {
+            return false;
+        }
+    }
+    true
 }
 
 #[test]
@@ -100,8 +115,6 @@ fn a_text_may_have_100_000_faults(rt: HostRuntime) -> Result<(), Fail> {
         return Err(Fail::from("no faults"));
     };
     assert_eq!(rt; list.len(), 100_000);
-    for (i, fault) in list.as_slice().iter().enumerate() {
-        assert_eq!(rt; fault.at, 8 * i as u64 + 6);
-    }
+    assert!(rt; is_at_each_eighth(list.as_slice()));
     Ok(())
 }

@@ -1,4 +1,4 @@
-//! A host's calls on worked policies.
+//! A host's calls on worked policies, as tables of calls and their answers.
 
 use crate::module_sets::{DIGEST_OF_A, DIGEST_OF_B};
 use crate::policies::FIRST;
@@ -10,30 +10,205 @@ use cil_syntax::Failure;
 use std::alloc::Global;
 use std::test::Fail;
 
-pub(crate) fn host_of(alloc: Global, texts: &[&str]) -> Result<Host<u8>, Fail> {
-    let mut host = Host::new(alloc, 512, 0);
-    for text in texts {
-        host.install(alloc, text.as_bytes())?;
-    }
-    Ok(host)
+/// A call of a host, and what it answers.
+#[derive(Clone, Copy)]
+pub(crate) enum Call {
+    /// A module is installed.
+    Install(&'static str),
+    /// A bundle is imported: how many modules were new, or what its first fault is.
+    Import(&'static [u8], Result<u64, BundleFault>),
+    /// The lengths of the modules that are listed.
+    List(&'static [u64]),
+    /// The policy is loaded.
+    Load,
+    /// The policy has so many faults, and is not loaded.
+    LoadFails(usize),
+    /// The decision from a source to a target on a class.
+    Query(&'static [u8], &'static [u8], &'static [u8], Result<Decision, QueryFault>),
+    /// The permission of a class at a bit.
+    Permission(&'static [u8], u32, Option<&'static [u8]>),
 }
 
-pub(crate) fn is_loaded(alloc: Global, host: &mut Host<u8>) -> bool {
-    host.load(alloc).is_ok()
+/// Whether a host lists modules of these lengths, in this order.
+fn lists(alloc: Global, host: &Host<u8>, lengths: &[u64]) -> bool {
+    let Ok(lines) = host.list(alloc) else {
+        return false;
+    };
+    for (line, length) in lines.iter().zip(lengths) {
+        if line.length != *length {
+            return false;
+        }
+    }
+    lines.len() == lengths.len()
 }
 
-/// The decision from one type to the other: its three masks, or nothing.
-pub(crate) fn asked(host: &mut Host<u8>, source: &[u8], target: &[u8]) -> Option<(u32, u32, u32)> {
-    match host.query(source, target, b"file") {
-        Ok(
-            Decision {
-                allowed,
-                auditallow,
-                auditdeny,
-            },
-        ) => Some((allowed, auditallow, auditdeny)),
-        Err(_) => None,
+/// Whether a bundle has this answer.
+pub(crate) fn imports(
+    alloc: Global,
+    host: &mut Host<u8>,
+    bundle: &[u8],
+    want: Result<u64, BundleFault>,
+) -> bool {
+    match host.import(alloc, bundle) {
+        Ok(added) => want == Ok(added),
+        Err(BundleError::Fault(fault)) => want == Err(fault),
+        Err(BundleError::NoMemory) => false,
     }
+}
+
+/// Whether a policy has so many faults.
+fn has_faults(alloc: Global, host: &mut Host<u8>, count: usize) -> bool {
+    match host.load(alloc) {
+        Err(Failure::Faults(faults)) => faults.len() == count,
+        _ => false,
+    }
+}
+
+/// Whether a host answers a call so.
+pub(crate) fn answers(alloc: Global, host: &mut Host<u8>, call: Call) -> bool {
+    match call {
+        Call::Install(text) => host.install(alloc, text.as_bytes()).is_ok(),
+        Call::Import(bundle, want) => imports(alloc, host, bundle, want),
+        Call::List(lengths) => lists(alloc, host, lengths),
+        Call::Load => host.load(alloc).is_ok(),
+        Call::LoadFails(count) => has_faults(alloc, host, count),
+        Call::Query(source, target, class, want) => host.query(source, target, class) == want,
+        Call::Permission(class, bit, want) => host.permission(class, bit) == want,
+    }
+}
+
+/// Whether a host answers some calls so, one after the other.
+pub(crate) fn answers_all(alloc: Global, host: &mut Host<u8>, calls: &[Call]) -> bool {
+    for call in calls {
+        if !answers(alloc, host, *call) {
+            return false;
+        }
+    }
+    true
+}
+
+pub(crate) const A: &[u8] = b"u:r:a";
+
+pub(crate) const B: &[u8] = b"u:r:b";
+
+/// A decision on the class `file` that allows nothing. A permission that is denied is recorded.
+pub(crate) const NOTHING: Result<Decision, QueryFault> = Ok(Decision {
+    allowed: 0,
+    auditallow: 0,
+    auditdeny: 0b11,
+});
+
+/// The same that allows to open.
+const OPEN: Result<Decision, QueryFault> = Ok(Decision {
+    allowed: 0b01,
+    auditallow: 0,
+    auditdeny: 0b11,
+});
+
+/// The same that allows to read.
+pub(crate) const READ: Result<Decision, QueryFault> = Ok(Decision {
+    allowed: 0b10,
+    auditallow: 0,
+    auditdeny: 0b11,
+});
+
+/// A bundle of `(type a)`, `(type b))` and `(type c)`.
+const BAD_SECOND: &[u8] =
+    b"CILB\x01\0\0\0\0\0\0\0\x03\0\0\0\0\0\0\0\x08(type a)\0\0\0\0\0\0\0\x09(type b))\0\0\0\0\0\0\0\x08(type c)";
+
+/// What its second module is refused for.
+const STRAY: BundleFault = BundleFault::BadModule {
+    index: 1,
+    fault: ReadFault {
+        code: ReadCode::StrayClose,
+        at: 8,
+    },
+};
+
+/// What a new host is called with, and what it answers.
+const WORKED: &[(&str, &[Call])] = &[
+    (
+        "a host without a policy has no answer",
+        &[
+            Call::Install(FIRST),
+            Call::Query(A, B, b"file", Err(QueryFault::NoPolicy)),
+            Call::Permission(b"file", 0, None),
+        ],
+    ),
+    (
+        "an empty policy has no context",
+        &[
+            Call::Load,
+            Call::Query(A, A, b"file", Err(QueryFault::BadSource)),
+        ],
+    ),
+    (
+        "a first policy answers",
+        &[
+            Call::Install(FIRST),
+            Call::Load,
+            Call::Query(A, B, b"file", READ),
+            Call::Query(B, A, b"file", NOTHING),
+            Call::Query(A, B, b"dir", Err(QueryFault::NoClass)),
+            Call::Query(b"u:r:c", b"u:r:d", b"dir", Err(QueryFault::BadSource)),
+            Call::Query(A, b"u:r:d", b"dir", Err(QueryFault::BadTarget)),
+        ],
+    ),
+    (
+        "permissions are told by their bits",
+        &[
+            Call::Install(FIRST),
+            Call::Load,
+            Call::Permission(b"file", 0, Some(b"open")),
+            Call::Permission(b"file", 1, Some(b"read")),
+            Call::Permission(b"file", 2, None),
+            Call::Permission(b"file", u32::MAX, None),
+            Call::Permission(b"dir", 0, None),
+            Call::Permission(b".file", 0, None),
+        ],
+    ),
+    (
+        "a load with faults leaves the policy",
+        &[
+            Call::Install(FIRST),
+            Call::Load,
+            Call::Install("(allow b a (file (open)))"),
+            Call::Query(B, A, b"file", NOTHING),
+            Call::Load,
+            Call::Query(B, A, b"file", OPEN),
+            Call::Install("(roletype r nothing)"),
+            Call::LoadFails(1),
+            Call::Query(B, A, b"file", OPEN),
+        ],
+    ),
+    (
+        "a failed import changes nothing",
+        &[
+            Call::Install(FIRST),
+            Call::Load,
+            Call::Import(b"CILB\x02", Err(BundleFault::BadMagic)),
+            Call::List(&[123]),
+            Call::Query(A, B, b"file", READ),
+        ],
+    ),
+    (
+        "nothing of a bad bundle is kept",
+        &[Call::Import(BAD_SECOND, Err(STRAY)), Call::List(&[])],
+    ),
+];
+
+#[test]
+fn hosts_answer_as_worked(rt: HostRuntime) {
+    let alloc = rt.alloc();
+    for &(name, calls) in WORKED {
+        let mut host: Host<u8> = Host::new(alloc, 512, 0);
+        assert!(rt; answers_all(alloc, &mut host, calls), "{name}");
+    }
+}
+
+/// Whether a cause has this number and this sentence.
+fn is_told_as(alloc: Global, fault: QueryFault, number: u32, want: &str) -> Result<bool, Fail> {
+    Ok(fault.number() == number && format!(in alloc; "{fault}")?.as_str() == want)
 }
 
 #[test]
@@ -44,128 +219,34 @@ fn faults_have_their_numbers_and_sentences(rt: HostRuntime) -> Result<(), Fail> 
         (QueryFault::BadTarget, 72, "the target is no valid context"),
         (QueryFault::NoClass, 73, "no class has this name"),
     ] {
-        assert_eq!(rt; fault.number(), number);
-        assert_eq!(rt; format!(in rt.alloc(); "{fault}")?.as_str(), want);
+        assert!(rt; is_told_as(rt.alloc(), fault, number, want)?, "{want}");
     }
     Ok(())
 }
 
-#[test]
-fn a_host_without_a_policy_has_no_answer(rt: HostRuntime) -> Result<(), Fail> {
-    let alloc = rt.alloc();
-    let mut host = host_of(alloc, &[FIRST])?;
-    assert!(rt; host.query(b"u:r:a", b"u:r:b", b"file") == Err(QueryFault::NoPolicy));
-    Ok(())
-}
-
-#[test]
-fn an_empty_policy_has_no_context(rt: HostRuntime) -> Result<(), Fail> {
-    let alloc = rt.alloc();
-    let mut host = host_of(alloc, &[])?;
-    assert!(rt; is_loaded(alloc, &mut host));
-    assert!(rt; host.query(b"u:r:a", b"u:r:a", b"file") == Err(QueryFault::BadSource));
-    Ok(())
-}
-
-#[test]
-fn a_first_policy_answers(rt: HostRuntime) -> Result<(), Fail> {
-    let alloc = rt.alloc();
-    let mut host = host_of(alloc, &[FIRST])?;
-    assert!(rt; is_loaded(alloc, &mut host));
-    assert!(rt; asked(&mut host, b"u:r:a", b"u:r:b") == Some((2, 0, 3)));
-    assert!(rt; asked(&mut host, b"u:r:b", b"u:r:a") == Some((0, 0, 3)));
-    assert!(rt; host.query(b"u:r:a", b"u:r:b", b"dir") == Err(QueryFault::NoClass));
-    assert!(rt; host.query(b"u:r:c", b"u:r:d", b"dir") == Err(QueryFault::BadSource));
-    assert!(rt; host.query(b"u:r:a", b"u:r:d", b"dir") == Err(QueryFault::BadTarget));
-    Ok(())
-}
-
-#[test]
-fn a_load_with_faults_leaves_the_policy(rt: HostRuntime) -> Result<(), Fail> {
-    let alloc = rt.alloc();
-    let mut host = host_of(alloc, &[FIRST])?;
-    assert!(rt; is_loaded(alloc, &mut host));
-    host.install(alloc, b"(allow b a (file (open)))")?;
-    assert!(rt; asked(&mut host, b"u:r:b", b"u:r:a") == Some((0, 0, 3)));
-    assert!(rt; is_loaded(alloc, &mut host));
-    assert!(rt; asked(&mut host, b"u:r:b", b"u:r:a") == Some((1, 0, 3)));
-    host.install(alloc, b"(roletype r nothing)")?;
-    let Err(Failure::Faults(faults)) = host.load(alloc) else {
-        return Err(Fail::from("no faults"));
-    };
-    assert_eq!(rt; faults.len(), 1);
-    assert!(rt; asked(&mut host, b"u:r:b", b"u:r:a") == Some((1, 0, 3)));
-    Ok(())
-}
-
-#[test]
-fn a_failed_import_changes_nothing(rt: HostRuntime) -> Result<(), Fail> {
-    let alloc = rt.alloc();
-    let mut host = host_of(alloc, &[FIRST])?;
-    assert!(rt; is_loaded(alloc, &mut host));
-    assert!(rt; host.import(alloc, b"CILB\x02").is_err());
-    let lines = host.list(alloc)?;
-    assert_eq!(rt; lines.len(), 1);
-    assert_eq!(rt; lines[0].length, 123);
-    assert!(rt; asked(&mut host, b"u:r:a", b"u:r:b") == Some((2, 0, 3)));
-    Ok(())
-}
-
-/// A bundle of `(type a)`, `(type b))` and `(type c)`.
-const BAD_SECOND: &[u8] =
-    b"CILB\x01\0\0\0\0\0\0\0\x03\0\0\0\0\0\0\0\x08(type a)\0\0\0\0\0\0\0\x09(type b))\0\0\0\0\0\0\0\x08(type c)";
-
-#[test]
-fn nothing_of_a_bad_bundle_is_kept(rt: HostRuntime) -> Result<(), Fail> {
-    let alloc = rt.alloc();
-    assert_eq!(rt; BAD_SECOND.len(), 62);
-    let stray = ReadFault {
-        code: ReadCode::StrayClose,
-        at: 8,
-    };
-    let want = BundleFault::BadModule {
-        index: 1,
-        fault: stray,
-    };
-    assert_eq!(rt; want.number(), 14);
-    assert_eq!(rt; stray.code.number(), 3);
-    let mut host = host_of(alloc, &[])?;
-    assert_eq!(rt;
-        host.import(alloc, BAD_SECOND),
-        Err(BundleError::Fault(want))
-    );
-    assert_eq!(rt; host.list(alloc)?.len(), 0);
-    Ok(())
-}
-
-#[test]
-fn modules_are_listed_in_byte_order(rt: HostRuntime) -> Result<(), Fail> {
-    let alloc = rt.alloc();
-    let host = host_of(alloc, &["(type b)", "(type a)", "(type b)"])?;
-    let lines = host.list(alloc)?;
-    assert_eq!(rt; lines.len(), 2);
-    assert_eq!(rt; lines[0].digest.as_slice(), DIGEST_OF_A.as_slice());
-    assert_eq!(rt; lines[1].digest.as_slice(), DIGEST_OF_B.as_slice());
-    assert_eq!(rt; lines[0].length, 8);
-    assert_eq!(rt; lines[1].length, 8);
-    Ok(())
-}
-
-#[test]
-fn permissions_are_told_by_their_bits(rt: HostRuntime) -> Result<(), Fail> {
-    let alloc = rt.alloc();
-    let mut host = host_of(alloc, &[FIRST])?;
-    assert_eq!(rt; host.permission(b"file", 0), None);
-    assert!(rt; is_loaded(alloc, &mut host));
-    for &(bit, want) in &[
-        (0, Some(b"open".as_slice())),
-        (1, Some(b"read".as_slice())),
-        (2, None),
-        (u32::MAX, None),
-    ] {
-        assert_eq!(rt; host.permission(b"file", bit), want, "{bit}");
+/// Whether a host lists `(type a)` and `(type b)`.
+fn lists_a_and_b(alloc: Global, host: &Host<u8>) -> bool {
+    match host.list(alloc) {
+        Ok(lines) => {
+            lines.len() == 2
+                && lines[0].digest == DIGEST_OF_A
+                && lines[1].digest == DIGEST_OF_B
+                && lines[0].length == 8
+                && lines[1].length == 8
+        }
+        Err(_) => false,
     }
-    assert_eq!(rt; host.permission(b"dir", 0), None);
-    assert_eq!(rt; host.permission(b".file", 0), None);
-    Ok(())
+}
+
+#[test]
+fn modules_are_listed_in_byte_order(rt: HostRuntime) {
+    let alloc = rt.alloc();
+    let mut host: Host<u8> = Host::new(alloc, 512, 0);
+    let calls = [
+        Call::Install("(type b)"),
+        Call::Install("(type a)"),
+        Call::Install("(type b)"),
+    ];
+    assert!(rt; answers_all(alloc, &mut host, &calls));
+    assert!(rt; lists_a_and_b(alloc, &host));
 }

@@ -1,65 +1,75 @@
 //! Hosts that were handed the same modules in different orders, with repeats and merges.
 
-use crate::hosts::{asked, host_of, is_loaded};
+use crate::hosts::{A, B, Call, NOTHING, READ, answers, answers_all, imports};
 use crate::policies::ORDERS;
 use cil_host::Host;
 use std::alloc::Global;
-use std::test::Fail;
 
-/// The decision from type b to type a on a host that was handed some texts.
-fn answer_of(alloc: Global, texts: &[&str]) -> Result<Option<(u32, u32, u32)>, Fail> {
-    let mut host = host_of(alloc, texts)?;
-    host.load(alloc)?;
-    Ok(asked(&mut host, b"u:r:b", b"u:r:a"))
+/// What a host answers that has the three modules, whatever order they came in.
+const OF_THREE: &[Call] = &[
+    Call::List(&[32, 33, 66]),
+    Call::Load,
+    Call::Query(B, A, b"file", READ),
+    Call::Query(A, B, b"file", NOTHING),
+];
+
+#[test]
+fn order_and_repeats_do_not_matter(rt: HostRuntime) {
+    let alloc = rt.alloc();
+    for &[first, second, third] in ORDERS {
+        let mut host: Host<u8> = Host::new(alloc, 512, 0);
+        for &text in &[first, second, first, third] {
+            assert!(rt; answers(alloc, &mut host, Call::Install(text)));
+        }
+        assert!(rt; answers_all(alloc, &mut host, OF_THREE), "{first}");
+    }
+}
+
+/// Whether so many modules of one host are new to another.
+fn merges(alloc: Global, from: &Host<u8>, into: &mut Host<u8>, want: u64) -> bool {
+    match from.export(alloc) {
+        Ok(bundle) => imports(alloc, into, bundle.as_slice(), Ok(want)),
+        Err(_) => false,
+    }
+}
+
+/// Whether two hosts have one list.
+fn have_one_list(alloc: Global, one: &Host<u8>, other: &Host<u8>) -> bool {
+    match (one.list(alloc), other.list(alloc)) {
+        (Ok(lines), Ok(others)) => lines.as_slice() == others.as_slice(),
+        _ => false,
+    }
+}
+
+/// Whether three hosts with a module each answer alike when they have merged each other.
+fn answer_alike(
+    alloc: Global,
+    first: &mut Host<u8>,
+    second: &mut Host<u8>,
+    third: &mut Host<u8>,
+) -> bool {
+    merges(alloc, first, second, 1)
+        && merges(alloc, second, third, 2)
+        && merges(alloc, third, second, 1)
+        && merges(alloc, second, first, 2)
+        && merges(alloc, first, third, 0)
+        && have_one_list(alloc, first, second)
+        && have_one_list(alloc, second, third)
+        && answers_all(alloc, first, OF_THREE)
+        && answers_all(alloc, second, OF_THREE)
+        && answers_all(alloc, third, OF_THREE)
 }
 
 #[test]
-fn order_and_repeats_do_not_matter(rt: HostRuntime) -> Result<(), Fail> {
+fn hosts_that_merged_each_other_answer_alike(rt: HostRuntime) {
     let alloc = rt.alloc();
-    for &texts in ORDERS {
-        let answer = answer_of(alloc, &[texts[0], texts[1], texts[0], texts[2]])?;
-        assert!(rt; answer == Some((2, 0, 3)));
+    for texts in ORDERS {
+        let mut first: Host<u8> = Host::new(alloc, 512, 0);
+        let mut second: Host<u8> = Host::new(alloc, 512, 0);
+        let mut third: Host<u8> = Host::new(alloc, 512, 0);
+        assert!(rt; answers(alloc, &mut first, Call::Install(texts[0])));
+        assert!(rt; answers(alloc, &mut second, Call::Install(texts[1])));
+        assert!(rt; answers(alloc, &mut third, Call::Install(texts[2])));
+        assert!(rt; answer_alike(alloc, &mut first, &mut second, &mut third));
     }
-    Ok(())
-}
-
-/// Imports the modules of one host into another: how many were new.
-fn merged(alloc: Global, from: &Host<u8>, into: &mut Host<u8>) -> Result<u64, Fail> {
-    let bundle = from.export(alloc)?;
-    Ok(into.import(alloc, bundle.as_slice())?)
-}
-
-/// The lengths of the modules, in the order of the list, and whether the policy of the three answers.
-fn holds_the_three(alloc: Global, host: &mut Host<u8>) -> Result<bool, Fail> {
-    let lines = host.list(alloc)?;
-    let is_listed = lines.len() == 3
-        && lines[0].length == 32
-        && lines[1].length == 33
-        && lines[2].length == 66;
-    let is_answered = is_loaded(alloc, host)
-        && asked(host, b"u:r:b", b"u:r:a") == Some((2, 0, 3))
-        && asked(host, b"u:r:a", b"u:r:b") == Some((0, 0, 3));
-    Ok(is_listed && is_answered)
-}
-
-#[test]
-fn hosts_that_merged_each_other_answer_alike(rt: HostRuntime) -> Result<(), Fail> {
-    let alloc = rt.alloc();
-    for &texts in ORDERS {
-        let mut first = host_of(alloc, &[texts[0]])?;
-        let mut second = host_of(alloc, &[texts[1]])?;
-        let mut third = host_of(alloc, &[texts[2]])?;
-        assert_eq!(rt; merged(alloc, &first, &mut second)?, 1);
-        assert_eq!(rt; merged(alloc, &second, &mut third)?, 2);
-        assert_eq!(rt; merged(alloc, &third, &mut second)?, 1);
-        assert_eq!(rt; merged(alloc, &second, &mut first)?, 2);
-        assert_eq!(rt; merged(alloc, &first, &mut third)?, 0);
-        let lines = first.list(alloc)?;
-        assert!(rt; second.list(alloc)?.as_slice() == lines.as_slice());
-        assert!(rt; third.list(alloc)?.as_slice() == lines.as_slice());
-        assert!(rt; holds_the_three(alloc, &mut first)?);
-        assert!(rt; holds_the_three(alloc, &mut second)?);
-        assert!(rt; holds_the_three(alloc, &mut third)?);
-    }
-    Ok(())
 }

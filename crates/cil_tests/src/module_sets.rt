@@ -3,7 +3,6 @@
 use cil_modset::{Installed, Join, ModuleSet, NoMemory};
 use cil_sexpr::{ReadCode, ReadError, ReadFault};
 use std::alloc::Global;
-use std::process::Abort;
 use std::test::Fail;
 
 pub(crate) const A: &[u8] = b"(type a)";
@@ -32,46 +31,50 @@ pub(crate) fn set_of_texts(alloc: Global, texts: &[&[u8]]) -> Result<ModuleSet, 
     Ok(set)
 }
 
-/// The set has these texts in this order, and no others.
-pub(crate) fn assert_holds(rt: &impl Abort, set: &ModuleSet, texts: &[&[u8]]) {
-    assert_eq!(rt; set.len(), texts.len());
-    for i in 0..texts.len() {
-        assert_eq!(rt; set.get(i), texts[i], "module {i}");
-        assert!(rt; set.contains(texts[i]), "module {i}");
+/// Whether a set has these texts in this order, and no others.
+pub(crate) fn holds(set: &ModuleSet, texts: &[&[u8]]) -> bool {
+    if set.len() != texts.len() {
+        return false;
     }
+    for i in 0..texts.len() {
+        if set.get(i) != texts[i] || !set.contains(texts[i]) {
+            return false;
+        }
+    }
+    true
 }
 
 #[test]
 fn installs_in_any_order(rt: HostRuntime) -> Result<(), Fail> {
-    let mut set = ModuleSet::new(rt.alloc());
-    assert_holds(&rt, &set, &[]);
+    let alloc = rt.alloc();
+    let mut set = ModuleSet::new(alloc);
+    assert!(rt; holds(&set, &[]));
     for &(text, want) in &[
         (A, Installed::New),
         (B, Installed::New),
         (A, Installed::Known),
         (A, Installed::Known),
     ] {
-        assert_eq!(rt; set.install(rt.alloc(), text)?, want);
+        assert!(rt; set.install(alloc, text) == Ok(want));
     }
-    assert_holds(&rt, &set, &[A, B]);
-    assert_holds(&rt, &set_of_texts(rt.alloc(), &[B, A, B])?, &[A, B]);
+    assert!(rt; holds(&set, &[A, B]));
+    assert!(rt; holds(&set_of_texts(alloc, &[B, A, B])?, &[A, B]));
     assert!(rt; !set.contains(C));
-    assert_eq!(rt; set.len(), 2);
-    assert_eq!(rt; set.digest(0), DIGEST_OF_A);
-    assert_eq!(rt; set.digest(1), DIGEST_OF_B);
+    assert!(rt; set.len() == 2);
+    assert!(rt; set.digest(0) == DIGEST_OF_A);
+    assert!(rt; set.digest(1) == DIGEST_OF_B);
     Ok(())
 }
 
 #[test]
 fn refuses_an_unreadable_text(rt: HostRuntime) -> Result<(), Fail> {
     let mut set = set_of_texts(rt.alloc(), &[A])?;
-    let refused = set.install(rt.alloc(), b"(type b))");
     let stray = ReadFault {
         code: ReadCode::StrayClose,
         at: 8,
     };
-    assert_eq!(rt; refused, Err(ReadError::Fault(stray)));
-    assert_holds(&rt, &set, &[A]);
+    assert!(rt; set.install(rt.alloc(), b"(type b))") == Err(ReadError::Fault(stray)));
+    assert!(rt; holds(&set, &[A]));
     Ok(())
 }
 
@@ -83,15 +86,16 @@ fn merge_twice<J: Join>(alloc: Global, set: &mut J, other: &J) -> Result<(u64, u
 
 #[test]
 fn merges_into_a_clone(rt: HostRuntime) -> Result<(), Fail> {
-    let both = set_of_texts(rt.alloc(), &[A, B])?;
-    let one = set_of_texts(rt.alloc(), &[B])?;
-    let mut merged = one.try_clone(rt.alloc())?;
-    assert_eq!(rt; merge_twice(rt.alloc(), &mut merged, &both)?, (1, 0));
-    assert_holds(&rt, &merged, &[A, B]);
-    assert_holds(&rt, &one, &[B]);
-    assert_holds(&rt, &both, &[A, B]);
-    let mut outer = set_of_texts(rt.alloc(), &[A, C])?;
-    assert_eq!(rt; merge_twice(rt.alloc(), &mut outer, &one)?, (1, 0));
-    assert_holds(&rt, &outer, &[A, B, C]);
+    let alloc = rt.alloc();
+    let both = set_of_texts(alloc, &[A, B])?;
+    let one = set_of_texts(alloc, &[B])?;
+    let mut merged = one.try_clone(alloc)?;
+    assert!(rt; merge_twice(alloc, &mut merged, &both) == Ok((1, 0)));
+    assert!(rt; holds(&merged, &[A, B]));
+    assert!(rt; holds(&one, &[B]));
+    assert!(rt; holds(&both, &[A, B]));
+    let mut outer = set_of_texts(alloc, &[A, C])?;
+    assert!(rt; merge_twice(alloc, &mut outer, &one) == Ok((1, 0)));
+    assert!(rt; holds(&outer, &[A, B, C]));
     Ok(())
 }

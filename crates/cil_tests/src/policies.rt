@@ -2,8 +2,8 @@
 
 use cil_modset::ModuleSet;
 use cil_sexpr::ReadError;
-use cil_syntax::{Bytes, Failure, render, written};
-use std::alloc::{AllocError, Global};
+use cil_syntax::{Failure, render, written};
+use std::alloc::Global;
 use std::test::Fail;
 
 /// A module with a class, a user, a role, two types and a rule: 123 bytes.
@@ -36,32 +36,28 @@ pub(crate) fn set_of(alloc: Global, texts: &[&str]) -> Result<ModuleSet, ReadErr
     Ok(modules)
 }
 
-pub(crate) fn bytes(alloc: Global, text: &str) -> Result<Bytes, AllocError> {
-    Ok(Bytes::from_vec(Vec::from_slice(alloc, text.as_bytes())?))
-}
-
-/// The lines of the faults of some texts; or else the line `written`.
-pub(crate) fn judged(alloc: Global, texts: &[&str]) -> Result<Vec<u8>, Fail> {
-    let modules = set_of(alloc, texts)?;
+/// Whether the statements of some texts are judged so: the lines of their faults, or the line `written`.
+pub(crate) fn are_judged(alloc: Global, texts: &[&str], want: &[u8]) -> bool {
+    let Ok(modules) = set_of(alloc, texts) else {
+        return false;
+    };
     match written(alloc, &modules) {
-        Ok(_) => Ok(Vec::from_slice(alloc, b"written\n")?),
-        Err(Failure::Faults(list)) => Ok(render(alloc, &list)?),
-        Err(Failure::NoMemory) => Err(Fail::from("no memory")),
+        Ok(_) => want == b"written\n".as_slice(),
+        Err(Failure::Faults(list)) => match render(alloc, &list) {
+            Ok(lines) => lines.as_slice() == want,
+            Err(_) => false,
+        },
+        Err(Failure::NoMemory) => false,
     }
 }
 
-/// Both texts, one after the other.
-pub(crate) fn joined(alloc: Global, front: &str, back: &str) -> Result<String, Fail> {
-    Ok(format!(in alloc; "{front}{back}")?)
-}
-
 /// The same of a word between two parts of a text.
-pub(crate) fn judged_word(
+pub(crate) fn is_judged_in(
     alloc: Global,
-    front: &str,
+    (front, back): (&str, &str),
     word: &str,
-    back: &str,
-) -> Result<Vec<u8>, Fail> {
+    want: &[u8],
+) -> Result<bool, Fail> {
     let text = format!(in alloc; "{front}{word}{back}")?;
-    judged(alloc, &[text.as_str()])
+    Ok(are_judged(alloc, &[text.as_str()], want))
 }

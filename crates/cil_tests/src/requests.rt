@@ -33,70 +33,60 @@ const UNASKED: &[&[u8]] = &[
     b"AV  b c",
 ];
 
-#[test]
-fn other_lines_are_no_requests(rt: HostRuntime) -> Result<(), Fail> {
-    let alloc = rt.alloc();
-    for &line in UNASKED {
-        let mut input = Vec::new(alloc);
-        input.extend_from_slice(line)?;
-        input.extend_from_slice(b"\nAV \x01 b c\n")?;
-        assert!(rt; replies(alloc, input.as_slice(), b"ERR 81\nERR 71\n", Served::End));
+/// Whether a line is no request, and the session goes on.
+fn is_no_request(alloc: Global, line: &[u8]) -> bool {
+    match [line, b"\nAV \x01 b c\n".as_slice()].concat(alloc) {
+        Ok(input) => replies(alloc, input.as_slice(), b"ERR 81\nERR 71\n", Served::End),
+        Err(_) => false,
     }
-    assert!(rt;
-        replies(
-            alloc,
-            b"AV a b c d\nAV a b \nCHECK a b c d\n",
-            b"ERR 81\nERR 81\nERR 81\n",
-            Served::End
-        )
-    );
-    assert!(rt;
-        replies(
-            alloc,
-            b"INSTALL 0\nINSTALL 0\n",
-            b"OK new\nOK known\n",
-            Served::End
-        )
-    );
-    Ok(())
 }
 
-/// So many bytes that are no newline, and then some others.
-fn line_of(alloc: Global, length: usize, end: &[u8]) -> Result<Vec<u8>, Fail> {
-    let mut line = vec![in alloc; b'x'; length]?;
-    line.extend_from_slice(end)?;
-    Ok(line)
+#[test]
+fn other_lines_are_no_requests(rt: HostRuntime) {
+    for &line in UNASKED {
+        assert!(rt; is_no_request(rt.alloc(), line), "{line:?}");
+    }
+}
+
+/// What comes in, what goes out, and how the session ends.
+const LIMITS: &[(&[u8], &[u8], Served)] = &[
+    (
+        b"AV a b c d\nAV a b \nCHECK a b c d\n",
+        b"ERR 81\nERR 81\nERR 81\n",
+        Served::End,
+    ),
+    (
+        b"INSTALL 0\nINSTALL 0\n",
+        b"OK new\nOK known\n",
+        Served::End,
+    ),
+    // A body of a byte too many, of very many, and one that is not too long but is missing.
+    (b"INSTALL 67108865\nLOAD\n", b"ERR 84\n", Served::Fault(84)),
+    (
+        b"IMPORT 99999999999999999999999999\n",
+        b"ERR 84\n",
+        Served::Fault(84),
+    ),
+    (b"INSTALL 67108864\n", b"ERR 83\n", Served::Fault(83)),
+];
+
+#[test]
+fn bodies_have_a_limit(rt: HostRuntime) {
+    for &(input, output, ending) in LIMITS {
+        assert!(rt; replies(rt.alloc(), input, output, ending), "{output:?}");
+    }
 }
 
 #[test]
 fn lines_have_a_limit(rt: HostRuntime) -> Result<(), Fail> {
     let alloc = rt.alloc();
-    let whole = line_of(alloc, 4096, b"\n")?;
-    assert!(rt; replies(alloc, whole.as_slice(), b"ERR 81\n", Served::End));
-    let cut = line_of(alloc, 4096, b"")?;
-    assert!(rt; replies(alloc, cut.as_slice(), b"ERR 83\n", Served::Fault(83)));
-    let long = line_of(alloc, 4097, b"\n")?;
-    assert!(rt; replies(alloc, long.as_slice(), b"ERR 82\n", Served::Fault(82)));
-    let long_and_cut = line_of(alloc, 4097, b"")?;
-    assert!(rt;
-        replies(
-            alloc,
-            long_and_cut.as_slice(),
-            b"ERR 82\n",
-            Served::Fault(82)
-        )
-    );
-    Ok(())
-}
-
-#[test]
-fn bodies_have_a_limit(rt: HostRuntime) -> Result<(), Fail> {
-    let alloc = rt.alloc();
-    let too_big = b"INSTALL 67108865\nLOAD\n";
-    assert!(rt; replies(alloc, too_big, b"ERR 84\n", Served::Fault(84)));
-    let longer = b"IMPORT 99999999999999999999999999\n";
-    assert!(rt; replies(alloc, longer, b"ERR 84\n", Served::Fault(84)));
-    let longest = b"INSTALL 67108864\n";
-    assert!(rt; replies(alloc, longest, b"ERR 83\n", Served::Fault(83)));
+    let mut line = vec![in alloc; b'x'; 4096]?;
+    assert!(rt; replies(alloc, line.as_slice(), b"ERR 83\n", Served::Fault(83)));
+    line.push(b'\n')?;
+    assert!(rt; replies(alloc, line.as_slice(), b"ERR 81\n", Served::End));
+    let mut longer = vec![in alloc; b'x'; 4097]?;
+    assert!(rt; replies(alloc, longer.as_slice(), b"ERR 82\n", Served::Fault(82)));
+    longer.push(b'\n')?;
+    assert!(rt; replies(alloc, longer.as_slice(), b"ERR 82\n", Served::Fault(82)));
     Ok(())
 }

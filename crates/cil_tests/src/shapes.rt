@@ -1,10 +1,21 @@
 //! How statements are judged, a line for each reading of the rules.
 
-use crate::policies::{judged, judged_word};
+use crate::policies::{are_judged, is_judged_in};
+use std::alloc::Global;
 use std::test::Fail;
 
 /// A text, and the lines of its faults.
 const SHAPES: &[(&str, &str)] = &[
+    // Each cause alone.
+    ("(type a)(foo a)", "21 0 8 . foo\n"),
+    ("(type a)(typepermissive a)", "22 0 8 . typepermissive\n"),
+    (
+        "(class file (open read))(user u)(role r)(type a)(type b)(userrole u r)(roletype r a)(roletype r b)(allow a b (file (read)))(typepermissive a)",
+        "22 0 123 . typepermissive\n",
+    ),
+    ("(type a b)", "23 0 0 . type\n"),
+    ("(type 1x)", "25 0 6 . 1x\n"),
+    ("(type all)", "26 0 6 . all\n"),
     // A string or a list where a name or a looked-up word stands is no shape of the statement.
     ("(type \"a\")", "23 0 0 . type\n"),
     ("(type (a))", "23 0 0 . type\n"),
@@ -100,12 +111,10 @@ const SHAPES: &[(&str, &str)] = &[
 ];
 
 #[test]
-fn readings_of_shape_are_kept(rt: HostRuntime) -> Result<(), Fail> {
+fn readings_of_shape_are_kept(rt: HostRuntime) {
     for &(text, want) in SHAPES {
-        let lines = judged(rt.alloc(), &[text])?;
-        assert_eq!(rt; lines.as_slice(), want.as_bytes(), "{text}");
+        assert!(rt; are_judged(rt.alloc(), &[text], want.as_bytes()), "{text}");
     }
-    Ok(())
 }
 
 /// A word, and whether it is a declared name and a looked-up word.
@@ -133,26 +142,26 @@ const WORDS: &[(&str, bool, bool)] = &[
     ("t3", true, true),
 ];
 
+/// Whether a word is judged so behind some bytes: it is taken, or is no name at the place where it stands.
+fn is_taken_as(alloc: Global, front: &str, word: &str, is_taken: bool) -> Result<bool, Fail> {
+    let at = front.len();
+    let fault = format!(in alloc; "25 0 {at} . {word}\n")?;
+    let want = if is_taken {
+        "written\n"
+    } else {
+        fault.as_str()
+    };
+    is_judged_in(alloc, (front, ")"), word, want.as_bytes())
+}
+
 #[test]
 fn names_and_words_are_spelled(rt: HostRuntime) -> Result<(), Fail> {
-    let alloc = rt.alloc();
     for &(word, is_name, is_path) in WORDS {
-        let declared = judged_word(alloc, "(type ", word, ")")?;
-        let bad_name = format!(in alloc; "25 0 6 . {word}\n")?;
-        let want = if is_name {
-            "written\n"
-        } else {
-            bad_name.as_str()
-        };
-        assert_eq!(rt; declared.as_slice(), want.as_bytes(), "{word}");
-        let looked_up = judged_word(alloc, "(roletype r ", word, ")")?;
-        let bad_path = format!(in alloc; "25 0 12 . {word}\n")?;
-        let want = if is_path {
-            "written\n"
-        } else {
-            bad_path.as_str()
-        };
-        assert_eq!(rt; looked_up.as_slice(), want.as_bytes(), "{word}");
+        assert!(rt; is_taken_as(rt.alloc(), "(type ", word, is_name)?, "{word}");
+        assert!(rt;
+            is_taken_as(rt.alloc(), "(roletype r ", word, is_path)?,
+            "{word}"
+        );
     }
     Ok(())
 }

@@ -1,16 +1,15 @@
-//! The first faults of texts, one test for each of the seven causes.
+//! The first faults of texts: each cause at its places, texts with two faults, and the limits to the byte.
 
 use cil_sexpr::{ReadCode, ReadError, ReadFault, read};
 use std::alloc::{AllocError, Global};
-use std::process::Abort;
 use std::test::Fail;
 
-/// The fault of a text. None where it was read; want of memory ends the test.
-fn fault_of(rt: &impl Abort, alloc: Global, text: &[u8]) -> Option<ReadFault> {
+/// Whether a text is read, where no fault is wanted, or else has this first fault.
+fn is_read_so(alloc: Global, text: &[u8], want: Option<ReadFault>) -> bool {
     match read(alloc, text) {
-        Ok(_) => None,
-        Err(ReadError::Fault(fault)) => Some(fault),
-        Err(ReadError::NoMemory) => panic!(rt; "no memory"),
+        Ok(_) => want.is_none(),
+        Err(ReadError::Fault(fault)) => want == Some(fault),
+        Err(ReadError::NoMemory) => false,
     }
 }
 
@@ -18,164 +17,94 @@ pub(crate) fn fault(code: ReadCode, at: u64) -> Option<ReadFault> {
     Some(ReadFault { code, at })
 }
 
+/// Texts, and the cause and the place of the first fault of each.
+const FAULTS: &[(&str, ReadCode, u64)] = &[
+    ("(", ReadCode::Unclosed, 1),
+    ("(a", ReadCode::Unclosed, 2),
+    ("(a b", ReadCode::Unclosed, 4),
+    ("(a (b) ; c)", ReadCode::Unclosed, 11),
+    ("(\"a\" ", ReadCode::Unclosed, 5),
+    ("(a)((b)", ReadCode::Unclosed, 7),
+    (")", ReadCode::StrayClose, 0),
+    ("(a))", ReadCode::StrayClose, 3),
+    ("; (\n)", ReadCode::StrayClose, 4),
+    ("(\"(\"))", ReadCode::StrayClose, 5),
+    ("(\"a", ReadCode::OpenQuote, 1),
+    ("(a \"b)", ReadCode::OpenQuote, 3),
+    ("(a \"b\n\")", ReadCode::OpenQuote, 3),
+    ("(\"a\" \"", ReadCode::OpenQuote, 5),
+    ("(a\"", ReadCode::OpenQuote, 2),
+    ("a", ReadCode::OutsideList, 0),
+    ("(a) bc", ReadCode::OutsideList, 4),
+    ("\"a\"", ReadCode::OutsideList, 0),
+    ("()\n \"a\" b", ReadCode::OutsideList, 4),
+    ("; a\n7", ReadCode::OutsideList, 4),
+    // Of two faults that of the least place.
+    ("a )", ReadCode::OutsideList, 0),
+    (") a", ReadCode::StrayClose, 0),
+    ("(\u{7} \"a", ReadCode::BadByte, 1),
+    ("(a) ) \u{7}", ReadCode::StrayClose, 4),
+    // At one place that of the least number: a quote that is open and outside every list.
+    ("\"a", ReadCode::OpenQuote, 0),
+];
+
+#[test]
+fn the_first_fault_is_told(rt: HostRuntime) {
+    for &(text, code, at) in FAULTS {
+        assert!(rt;
+            is_read_so(rt.alloc(), text.as_bytes(), fault(code, at)),
+            "{text}"
+        );
+    }
+}
+
+/// Whether a byte is a fault within a list and outside, and none in a string or a comment.
+fn is_bad(alloc: Global, byte: u8) -> bool {
+    is_read_so(
+        alloc,
+        &[b'(', b'a', byte, b')'],
+        fault(ReadCode::BadByte, 2),
+    ) && is_read_so(alloc, &[byte], fault(ReadCode::BadByte, 0))
+        && is_read_so(alloc, &[b'(', b'"', byte, b'"', b')'], None)
+        && is_read_so(alloc, &[b';', byte, b'\n', b'(', b')'], None)
+}
+
+#[test]
+fn bytes_that_are_not_printed_are_bad(rt: HostRuntime) {
+    for &byte in &[0, 8, 11, 12, 14, 31, 127, 128, 255] {
+        assert!(rt; is_bad(rt.alloc(), byte), "{byte}");
+    }
+}
+
 /// That many brackets that open, and that many that close.
 fn nested(alloc: Global, depth: usize) -> Result<Vec<u8>, AllocError> {
-    let mut text = Vec::new(alloc);
-    for _ in 0..depth {
-        text.push(b'(')?;
-    }
-    for _ in 0..depth {
-        text.push(b')')?;
-    }
+    let mut text = vec![in alloc; b'('; depth]?;
+    text.resize(2 * depth, b')')?;
     Ok(text)
 }
 
 #[test]
-fn the_limits_hold_to_the_byte(rt: HostRuntime) -> Result<(), Fail> {
+fn the_limit_of_nesting_holds_to_the_byte(rt: HostRuntime) -> Result<(), Fail> {
     let alloc = rt.alloc();
-    assert_eq!(rt; fault_of(&rt, alloc, nested(alloc, 128)?.as_slice()), None);
-    assert_eq!(rt;
-        fault_of(&rt, alloc, nested(alloc, 129)?.as_slice()),
-        fault(ReadCode::TooDeep, 128)
-    );
+    let mut text = nested(alloc, 128)?;
+    assert!(rt; is_read_so(alloc, text.as_slice(), None));
+    text.extend_from_slice(nested(alloc, 130)?.as_slice())?;
+    assert!(rt; is_read_so(alloc, text.as_slice(), fault(ReadCode::TooDeep, 384)));
+    let deeper = nested(alloc, 129)?;
+    assert!(rt; is_read_so(alloc, deeper.as_slice(), fault(ReadCode::TooDeep, 128)));
+    Ok(())
+}
+
+#[test]
+fn the_limit_of_length_holds_to_the_byte(rt: HostRuntime) -> Result<(), Fail> {
+    let alloc = rt.alloc();
+    let too_long = fault(ReadCode::TooLong, 4_194_304);
     let mut spaces = vec![in alloc; b' '; 4_194_304]?;
-    assert_eq!(rt; fault_of(&rt, alloc, spaces.as_slice()), None);
+    assert!(rt; is_read_so(alloc, spaces.as_slice(), None));
     spaces.push(b' ')?;
-    assert_eq!(rt;
-        fault_of(&rt, alloc, spaces.as_slice()),
-        fault(ReadCode::TooLong, 4_194_304)
-    );
-    assert_eq!(rt; fault_of(&rt, alloc, b"a"), fault(ReadCode::OutsideList, 0));
-    assert_eq!(rt; fault_of(&rt, alloc, b"(a"), fault(ReadCode::Unclosed, 2));
-    assert_eq!(rt;
-        fault_of(&rt, alloc, b"(\"a"),
-        fault(ReadCode::OpenQuote, 1)
-    );
-    Ok(())
-}
-
-#[test]
-fn too_long(rt: HostRuntime) -> Result<(), Fail> {
+    assert!(rt; is_read_so(alloc, spaces.as_slice(), too_long));
     // Each byte is a fault of its own, but the length comes before all.
-    let text = vec![in rt.alloc(); b')'; 4_194_305]?;
-    assert_eq!(rt;
-        fault_of(&rt, rt.alloc(), text.as_slice()),
-        fault(ReadCode::TooLong, 4_194_304)
-    );
+    let brackets = vec![in alloc; b')'; 4_194_305]?;
+    assert!(rt; is_read_so(alloc, brackets.as_slice(), too_long));
     Ok(())
-}
-
-#[test]
-fn unclosed(rt: HostRuntime) {
-    for &(text, at) in &[
-        ("(", 1),
-        ("(a b", 4),
-        ("(a (b) ; c)", 11),
-        ("(\"a\" ", 5),
-        ("(a)((b)", 7),
-    ] {
-        assert_eq!(rt;
-            fault_of(&rt, rt.alloc(), text.as_bytes()),
-            fault(ReadCode::Unclosed, at),
-            "{text}"
-        );
-    }
-}
-
-#[test]
-fn stray_close(rt: HostRuntime) {
-    for &(text, at) in &[(")", 0), ("(a))", 3), ("; (\n)", 4), ("(\"(\"))", 5)] {
-        assert_eq!(rt;
-            fault_of(&rt, rt.alloc(), text.as_bytes()),
-            fault(ReadCode::StrayClose, at),
-            "{text}"
-        );
-    }
-}
-
-#[test]
-fn open_quote(rt: HostRuntime) {
-    for &(text, at) in &[
-        ("(a \"b)", 3),
-        ("(a \"b\n\")", 3),
-        ("(\"a\" \"", 5),
-        ("(a\"", 2),
-    ] {
-        assert_eq!(rt;
-            fault_of(&rt, rt.alloc(), text.as_bytes()),
-            fault(ReadCode::OpenQuote, at),
-            "{text}"
-        );
-    }
-}
-
-#[test]
-fn bad_byte(rt: HostRuntime) {
-    for &byte in &[0, 8, 11, 12, 14, 31, 127, 128, 255] {
-        assert_eq!(rt;
-            fault_of(&rt, rt.alloc(), &[b'(', b'a', byte, b')']),
-            fault(ReadCode::BadByte, 2),
-            "{byte}"
-        );
-        assert_eq!(rt;
-            fault_of(&rt, rt.alloc(), &[byte]),
-            fault(ReadCode::BadByte, 0),
-            "{byte} at the top"
-        );
-        assert_eq!(rt;
-            fault_of(&rt, rt.alloc(), &[b'(', b'"', byte, b'"', b')']),
-            None,
-            "{byte} in a string"
-        );
-        assert_eq!(rt;
-            fault_of(&rt, rt.alloc(), &[b';', byte, b'\n', b'(', b')']),
-            None,
-            "{byte} in a comment"
-        );
-    }
-}
-
-#[test]
-fn too_deep(rt: HostRuntime) -> Result<(), Fail> {
-    let mut text = nested(rt.alloc(), 128)?;
-    text.extend_from_slice(b" ")?;
-    text.extend_from_slice(nested(rt.alloc(), 130)?.as_slice())?;
-    assert_eq!(rt;
-        fault_of(&rt, rt.alloc(), text.as_slice()),
-        fault(ReadCode::TooDeep, 385)
-    );
-    Ok(())
-}
-
-#[test]
-fn outside_list(rt: HostRuntime) {
-    for &(text, at) in &[
-        ("a", 0),
-        ("(a) bc", 4),
-        ("\"a\"", 0),
-        ("()\n \"a\" b", 4),
-        ("; a\n7", 4),
-    ] {
-        assert_eq!(rt;
-            fault_of(&rt, rt.alloc(), text.as_bytes()),
-            fault(ReadCode::OutsideList, at),
-            "{text}"
-        );
-    }
-}
-
-#[test]
-fn the_first_fault_decides(rt: HostRuntime) {
-    for &(text, want) in &[
-        // At different places the least place.
-        ("a )", fault(ReadCode::OutsideList, 0)),
-        (") a", fault(ReadCode::StrayClose, 0)),
-        ("(\"a", fault(ReadCode::OpenQuote, 1)),
-        ("(\u{7} \"a", fault(ReadCode::BadByte, 1)),
-        ("(a) ) \u{7}", fault(ReadCode::StrayClose, 4)),
-        // At one place the least number: a quote that is open and outside every list.
-        ("\"a", fault(ReadCode::OpenQuote, 0)),
-    ] {
-        assert_eq!(rt; fault_of(&rt, rt.alloc(), text.as_bytes()), want, "{text}");
-    }
 }

@@ -5,11 +5,13 @@
 //! replies are a crate below.
 #![tactic(auto)]
 
+#[cfg(test)]
+mod argument_tests;
 mod arguments;
 mod help;
-mod program;
 #[cfg(test)]
-mod row_tests;
+mod in_memory;
+mod program;
 mod session;
 mod status;
 mod system;

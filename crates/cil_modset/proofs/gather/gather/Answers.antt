@@ -1,6 +1,19 @@
-use Rattle.std.proofs.Common.{arith}
-use Rattle.cil_modset.proofs.GatherLemmas.{taken_from, gathered_all, reverse_push, texts_of-reverse}
+use Rattle.std.proofs.Common.{arith, ap, length}
+use Rattle.cil_modset.proofs.GatherLemmas.{gathered_none, taken_from, gathered_all, reverse_push, texts_of-reverse}
+use Rattle.cil_modset.proofs.RisingLemmas.{length-texts_of}
 use Rattle.cil_modset.proofs.gather.gather.Goals as goal
+
+pub loop-text-init : goal.loop-text-init
+loop-text-init c = record {
+  gathered = rw c.requires.empty (gathered_none _ _ c.requires.low c.requires.high c.requires.apart);
+  fits = let none = ap length c.requires.empty in omega (arith, c.requires.room, none, length-texts_of c.args.room.items);
+}
+
+pub unwrap-requires : goal.unwrap-requires
+unwrap-requires c = c.push.ensures.succeeds (omega (arith, c.in-Some.ensures.len, c.loop-text.invariant.fits))
+
+pub loop-text-smaller : goal.loop-text-smaller
+loop-text-smaller c = omega (arith, c.in-Some.ensures.len)
 
 pub loop-text-preserved : goal.loop-text-preserved
 loop-text-preserved c =
@@ -17,3 +30,9 @@ returns-clause-union c =
     let none = c.in_default.ensures.none in
     rw (c.reverse.ensures.items, texts_of-reverse c.loop-text.room.items)
     (gathered_all _ _ _ c.requires.low c.requires.high (rw (none.0, none.1) at c.loop-text.invariant.gathered))
+
+pub returns-clause-length : goal.returns-clause-length
+returns-clause-length c =
+    let none = c.in_default.ensures.none in
+    let all = rw (none.0, none.1) at c.loop-text.invariant.gathered in
+    rw (c.reverse.ensures.items, texts_of-reverse c.loop-text.room.items) (omega (arith, all.size))

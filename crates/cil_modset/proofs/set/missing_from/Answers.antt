@@ -1,4 +1,5 @@
 use Rattle.std.proofs.Common.{◌≡◌, ℕ, List, [], ◌∷◌, ◌++◌, ◌+◌, arith, ap, sym, ◌∙◌, take}
+use Rattle.std.proofs.lemmas.List.{take_all}
 use Rattle.cil_modset.specs.Faults.{AllBelow}
 use Rattle.cil_modset.specs.Modules.{texts_of}
 use Rattle.cil_modset.proofs.RisingLemmas.{take_text, text_read, length-texts_of}
@@ -11,6 +12,9 @@ loop-text-init c = record {
   passed = rw c.new-walk.ensures.passed (passed_none _);
   new = rw c.new-walk.ensures.fresh (new_none _);
 }
+
+pub knows-requires-clause-within : goal.knows-requires-clause-within
+knows-requires-clause-within c = omega (arith, c.loop-text.invariant.passed.within, length-texts_of c.args.ours.now)
 
 pub loop-text-preserved : goal.loop-text-preserved
 loop-text-preserved c =
@@ -33,3 +37,8 @@ loop-text-preserved c =
             ((c.knows.ensures.known (take i (texts_of vs)) c.loop-text.invariant.passed above).0 w.if-not-knows.false));
       })
     ]
+
+pub returns : goal.returns
+returns c =
+    let vs = c.args.theirs.now in
+    rw (take_all c.loop-text.text-index (texts_of vs) (omega (arith, length-texts_of vs))) at c.loop-text.invariant.new

@@ -1,6 +1,6 @@
 use Rattle.std.proofs.Common.{ap, refl}
 use Rattle.cil_server.specs.Asked.{Line as said}
-use Rattle.cil_server.specs.Asked.Request.{Unasked}
+use Rattle.cil_server.specs.Asked.Request.{Exports, Lists, Loads, Unasked}
 use Rattle.cil_server.specs.Replies.{refused}
 use Rattle.cil_server.specs.Step.{Step}
 use Rattle.cil_server.specs.Streams.{Tells, unread}
@@ -38,3 +38,18 @@ returns-in-Import g c =
     answered_as (unread c.args.input.now (g.R.Read.remaining c.args.reader.now)) (unread c.answer_import.new.input (g.R.Read.remaining c.answer_import.new.reader)) c.args.host.now c.answer_import.new.host
     (Tells (g.W.Write.contents c.args.writer.now) c.args.output.now (g.W.Write.contents c.answer_import.new.writer) c.answer_import.new.output) (line_of c.args.line) (said.Import c.in-Import.count) c.answer_import.result
     (ap line_of c.in-Import.is) c.answer_import.ensures
+
+pub returns-in-Export : goal.returns-in-Export
+returns-in-Export g c =
+    answered_as (unread c.args.input.now (g.R.Read.remaining c.args.reader.now)) (unread c.args.input.now (g.R.Read.remaining c.args.reader.now)) c.args.host.now c.args.host.now (Tells (g.W.Write.contents c.args.writer.now) c.args.output.now (g.W.Write.contents c.export.new.writer) c.export.new.output) (line_of c.args.line) said.Export turns.Next (ap line_of c.in-Export.is)
+    (alone (unread c.args.input.now (g.R.Read.remaining c.args.reader.now)) (unread c.args.input.now (g.R.Read.remaining c.args.reader.now)) c.args.host.now c.args.host.now (Tells (g.W.Write.contents c.args.writer.now) c.args.output.now (g.W.Write.contents c.export.new.writer) c.export.new.output) said.Export Exports refl refl refl c.export.ensures)
+
+pub returns-in-List : goal.returns-in-List
+returns-in-List g c =
+    answered_as (unread c.args.input.now (g.R.Read.remaining c.args.reader.now)) (unread c.args.input.now (g.R.Read.remaining c.args.reader.now)) c.args.host.now c.args.host.now (Tells (g.W.Write.contents c.args.writer.now) c.args.output.now (g.W.Write.contents c.list.new.writer) c.list.new.output) (line_of c.args.line) said.List_ turns.Next (ap line_of c.in-List.is)
+    (alone (unread c.args.input.now (g.R.Read.remaining c.args.reader.now)) (unread c.args.input.now (g.R.Read.remaining c.args.reader.now)) c.args.host.now c.args.host.now (Tells (g.W.Write.contents c.args.writer.now) c.args.output.now (g.W.Write.contents c.list.new.writer) c.list.new.output) said.List_ Lists refl refl refl c.list.ensures)
+
+pub returns-in-Load : goal.returns-in-Load
+returns-in-Load g c =
+    answered_as (unread c.args.input.now (g.R.Read.remaining c.args.reader.now)) (unread c.args.input.now (g.R.Read.remaining c.args.reader.now)) c.args.host.now c.load.new.host (Tells (g.W.Write.contents c.args.writer.now) c.args.output.now (g.W.Write.contents c.load.new.writer) c.load.new.output) (line_of c.args.line) said.Load turns.Next (ap line_of c.in-Load.is)
+    (alone (unread c.args.input.now (g.R.Read.remaining c.args.reader.now)) (unread c.args.input.now (g.R.Read.remaining c.args.reader.now)) c.args.host.now c.load.new.host (Tells (g.W.Write.contents c.args.writer.now) c.args.output.now (g.W.Write.contents c.load.new.writer) c.load.new.output) said.Load Loads refl refl refl c.load.ensures)

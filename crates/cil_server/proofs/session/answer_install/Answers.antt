@@ -1,9 +1,11 @@
+use Rattle.std.proofs.Common.{refl}
+use Rattle.cil_server.specs.Asked.Request.{Installs}
 use Rattle.cil_server.specs.Asked.Line.{Install}
 use Rattle.cil_server.specs.Replies.{no_memory, refused}
 use Rattle.cil_server.specs.Streams.{Tells, unread}
 use Rattle.cil_server.specs.declared.served.Served.TheVariants as served
 use Rattle.cil_server.specs.declared.session.Turn.TheVariants as turns
-use Rattle.cil_server.proofs.SessionLemmas.{answered_by, body_cut, install_lacks, line_stops}
+use Rattle.cil_server.proofs.SessionLemmas.{answered_after, answered_by, bodied, body_cut, install_lacks, line_stops}
 use Rattle.cil_server.proofs.StreamLemmas.{tells_after}
 use Rattle.cil_server.proofs.session.answer_install.Goals as goal
 
@@ -22,3 +24,10 @@ pub returns-in-Dropped : goal.returns-in-Dropped
 returns-in-Dropped g c =
     install_lacks (unread c.args.input.now (g.R.Read.remaining c.args.reader.now)) (unread c.take_body.new.self (g.R.Read.remaining c.take_body.new.reader)) c.args.host.now (Tells (g.W.Write.contents c.args.writer.now) c.args.output.now (g.W.Write.contents c.put_refused.new.writer) c.put_refused.new.output) c.args.count c.in-Dropped.ensures
     (tells_after (g.W.Write.contents c.args.writer.now) (g.W.Write.contents c.flush.new.writer) (g.W.Write.contents c.put_refused.new.writer) c.args.output.now c.flush.new.self c.put_refused.new.output no_memory c.flush.ensures.told c.put_refused.ensures)
+
+pub returns-in-Whole : goal.returns-in-Whole
+returns-in-Whole g c =
+    let took = c.in-Whole.ensures in
+    bodied (unread c.args.input.now (g.R.Read.remaining c.args.reader.now)) (unread c.take_body.new.self (g.R.Read.remaining c.take_body.new.reader)) c.args.host.now c.install.new.host (Tells (g.W.Write.contents c.args.writer.now) c.args.output.now (g.W.Write.contents c.install.new.writer) c.install.new.output) (Install c.args.count) (Installs c.in-Whole.text.items) c.in-Whole.text.items took.0 took.1 refl
+    (answered_after (Tells (g.W.Write.contents c.flush.new.writer) c.flush.new.self (g.W.Write.contents c.install.new.writer) c.install.new.output) (Tells (g.W.Write.contents c.args.writer.now) c.args.output.now (g.W.Write.contents c.install.new.writer) c.install.new.output) (λ xs told. tells_after (g.W.Write.contents c.args.writer.now) (g.W.Write.contents c.flush.new.writer) (g.W.Write.contents c.install.new.writer) c.args.output.now c.flush.new.self c.install.new.output xs c.flush.ensures.told told)
+    c.args.host.now c.install.new.host (Installs c.in-Whole.text.items) (rw c.as_slice.ensures.value at c.install.ensures))

@@ -1,0 +1,121 @@
+//! The program over its words.
+
+use crate::in_memory::{Closed, FILLED, Left, program};
+use crate::program::{Streams, run};
+use crate::status::Status;
+use std::test::Fail;
+
+/// Whether a text has a part.
+fn has(text: &[u8], part: &str) -> bool {
+    let part = part.as_bytes();
+    text.windows(part.len().max(1)).any(|window| window == part)
+}
+
+/// Words that ask for nothing that there is, and a part of what is said of them.
+const WRONG: &[(&[&str], &str)] = &[
+    (&[], "Usage: cilhost <COMMAND>"),
+    (&["serve"], "unrecognized subcommand 'serve'"),
+    (&["a.cil"], "unrecognized subcommand 'a.cil'"),
+    (
+        &["--cache", "1", "session"],
+        "unexpected argument '--cache'",
+    ),
+    (
+        &["session", "--cache", "1"],
+        "unexpected argument '--cache'",
+    ),
+    (&["session", "good.cil", "-x"], "unexpected argument '-x'"),
+    (&["help", "serve"], "unrecognized subcommand 'serve'"),
+];
+
+/// Whether wrong words are told on standard error, and nothing else.
+fn are_refused(left: &Left, part: &str) -> bool {
+    left.status == Status::Usage && left.output.is_empty() && has(left.messages.as_slice(), part)
+}
+
+#[test]
+fn wrong_words_are_told_on_standard_error(rt: HostRuntime) -> Result<(), Fail> {
+    for &(words, part) in WRONG {
+        assert!(rt;
+            are_refused(&program(rt.alloc(), words)?, part),
+            "{words:?}"
+        );
+    }
+    Ok(())
+}
+
+/// Words that ask for help or the version, and a part of it.
+const HELP: &[(&[&str], &str)] = &[
+    (&["--version"], "cilhost 0.1.0\n"),
+    (&["-V"], "cilhost 0.1.0\n"),
+    (&["-h"], "Usage: cilhost <COMMAND>"),
+    (&["--help"], "Example:"),
+    (&["help"], "Example:"),
+    (&["session", "-h"], "Usage: cilhost session [FILE]..."),
+    (&["session", "--help"], "AV source target class"),
+    (&["help", "session"], "AV source target class"),
+];
+
+/// Whether help is told on standard output, and nothing else.
+fn is_helped(left: &Left, part: &str) -> bool {
+    left.status == Status::Done && left.messages.is_empty() && has(left.output.as_slice(), part)
+}
+
+#[test]
+fn help_that_was_asked_for_is_output(rt: HostRuntime) -> Result<(), Fail> {
+    for &(words, part) in HELP {
+        assert!(rt; is_helped(&program(rt.alloc(), words)?, part), "{words:?}");
+    }
+    Ok(())
+}
+
+/// Words that ask for a session, and the status and the messages that it ends with.
+const SESSIONS: &[(&[&str], Status, &str)] = &[
+    (&["session"], Status::Done, ""),
+    (&["session", "good.cil"], Status::Done, ""),
+    (
+        &["session", "good.cil", "bad.cil"],
+        Status::Refused,
+        "cilhost: bad.cil: refused 3 8\n",
+    ),
+    (
+        &["session", "none.cil", "bad.cil"],
+        Status::Failed,
+        "cilhost: none.cil: failed\n",
+    ),
+    (
+        &["session", "--", "-x"],
+        Status::Failed,
+        "cilhost: -x: failed\n",
+    ),
+];
+
+#[test]
+fn a_session_is_asked_for_by_its_name(rt: HostRuntime) -> Result<(), Fail> {
+    for &(words, status, messages) in SESSIONS {
+        assert!(rt;
+            program(rt.alloc(), words)?.is(status, "", messages),
+            "{words:?}"
+        );
+    }
+    Ok(())
+}
+
+#[test]
+fn help_that_cannot_be_printed_is_a_failure(rt: HostRuntime) -> Result<(), Fail> {
+    let alloc = rt.alloc();
+    let words = [
+        String::from_str(alloc, "cilhost")?,
+        String::from_str(alloc, "--help")?,
+    ];
+    let mut desk = FILLED;
+    let mut streams = Streams {
+        input: b"".as_slice(),
+        output: Closed,
+        messages: Vec::new(alloc),
+    };
+    let status = run(alloc, words.as_slice(), &mut desk, &mut streams);
+    assert!(rt; status == Status::Failed);
+    assert!(rt; streams.messages.as_slice() == b"cilhost: -: failed\n".as_slice());
+    Ok(())
+}
