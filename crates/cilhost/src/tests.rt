@@ -8,7 +8,6 @@ use crate::system::Machine;
 use cil_server::Served;
 use std::alloc::Global;
 use std::io::ErrorKind;
-use std::test::Fail;
 
 /// A module with a class, a user, a role, two types and a rule: 123 bytes.
 const FIRST: &[u8] =
@@ -88,9 +87,12 @@ fn each_file_is_installed_or_ends_the_program(rt: HostRuntime) {
 
 const TOO_LONG: &str = "cilhost: long.cil: refused 1 4194304\n";
 
-/// Whether a session over one file ends so.
-fn ends_over(alloc: Global, text: &[u8], status: Status, messages: &str) -> bool {
-    let papers = [("long.cil", text, None)];
+/// Whether a session over one file of so many blanks ends so.
+fn ends_over(alloc: Global, size: usize, status: Status, messages: &str) -> bool {
+    let Ok(blanks) = vec![in alloc; b' '; size] else {
+        return false;
+    };
+    let papers = [("long.cil", blanks.as_slice(), None)];
     let desk = Desk {
         papers: &papers,
         no_hasher: None,
@@ -99,13 +101,11 @@ fn ends_over(alloc: Global, text: &[u8], status: Status, messages: &str) -> bool
 }
 
 #[test]
-fn the_limit_of_a_file_holds_to_the_byte(rt: HostRuntime) -> Result<(), Fail> {
+fn the_limit_of_a_file_holds_to_the_byte(rt: HostRuntime) {
     let alloc = rt.alloc();
-    let spaces = vec![in alloc; b' '; 5_000_000]?;
-    assert!(rt; ends_over(alloc, &spaces[..4_194_304], Status::Done, ""));
-    assert!(rt; ends_over(alloc, &spaces[..4_194_305], Status::Refused, TOO_LONG));
-    assert!(rt; ends_over(alloc, spaces.as_slice(), Status::Refused, TOO_LONG));
-    Ok(())
+    assert!(rt; ends_over(alloc, 4_194_304, Status::Done, ""));
+    assert!(rt; ends_over(alloc, 4_194_305, Status::Refused, TOO_LONG));
+    assert!(rt; ends_over(alloc, 5_000_000, Status::Refused, TOO_LONG));
 }
 
 #[test]
