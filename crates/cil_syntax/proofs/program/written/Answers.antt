@@ -23,6 +23,6 @@ returns-in-None c =
     let size = c.len-i-end.ensures.len in
     let clean = c.of.ensures.none.0 (rw c.in-None.is refl) in
     let over : length c.args.modules.now ≤ c.loop-i.i = omega (arith, size) in (
-      all_read c.args.modules.now c.loop-i.i _ _ over c.loop-i.invariant clean,
+      all_read c.args.modules.now c.loop-i.i _ _ over c.loop-i.invariant,
       no_fault c.args.modules.now c.loop-i.i _ _ over c.loop-i.invariant clean,
     )
