@@ -11,7 +11,7 @@ use Rattle.cil_server.specs.Replies.{no_memory, ok, refused}
 use Rattle.cil_server.specs.Session.{HasNoNewline, IsFailure, IsLine, Session, most_requests}
 use Rattle.cil_server.specs.Step.{MayLack, Step}
 use Rattle.cil_server.specs.Taken.{TakesPlain, TakesSome}
-use Rattle.cil_server.specs.Turns.{AnswersLine, Ends, Goes, IsAnswered, IsRun, TurnOf}
+use Rattle.cil_server.specs.Turns.{Announces, AnswersLine, Ends, Goes, IsAnswered, IsRun, TurnOf}
 use Rattle.cil_server.specs.declared.served.Served.{Served}
 use Rattle.cil_server.specs.declared.served.Served.TheVariants as served
 use Rattle.cil_server.specs.declared.session.Turn.{Turn}
@@ -63,14 +63,18 @@ module _ (before after : Option (List ℕ)) (old new : State) (tells : List ℕ 
     answered = a;
   }
 
-module _ (before after : Option (List ℕ)) (h : State) (tells : List ℕ → Type 0) where
-  pub install_lacks : (count : ℕ) → TakesSome before after count → tells no_memory → AnswersLine (Install count) before after h h tells turns.Next
-  install_lacks count t told =
-      bodied before after h h tells (Install count) (Installs t.bytes) t.bytes t.consumed t.len refl (record { reply = no_memory; step = Step.lack MayLack.installs; told = told })
+pub installs : (count : ℕ) → Announces (Install count) count
+installs count = record { size = refl; request = Installs; is_request = λ body. refl; may_lack = λ body. MayLack.installs }
 
-  pub import_lacks : (count : ℕ) → TakesSome before after count → tells no_memory → AnswersLine (Import count) before after h h tells turns.Next
-  import_lacks count t told =
-      bodied before after h h tells (Import count) (Imports t.bytes) t.bytes t.consumed t.len refl (record { reply = no_memory; step = Step.lack MayLack.imports; told = told })
+pub imports : (count : ℕ) → Announces (Import count) count
+imports count = record { size = refl; request = Imports; is_request = λ body. refl; may_lack = λ body. MayLack.imports }
+
+module _ (before after : Option (List ℕ)) (h : State) (tells : List ℕ → Type 0) where
+  -- there is no memory for a body
+  pub body_lacks : (said : Line) (count : ℕ) → Announces said count → TakesSome before after count → tells no_memory → AnswersLine said before after h h tells turns.Next
+  body_lacks said count a t told =
+      bodied before after h h tells said (a.request t.bytes) t.bytes t.consumed (t.len ∙ sym a.size) (a.is_request t.bytes)
+      (record { reply = no_memory; step = Step.lack (a.may_lack t.bytes); told = told })
 
   -- the input ends in a body
   pub body_cut : (said : Line) (n : ℕ) → n < body_of said → TakesSome before after n → IsAtEnd after → tells (refused 83)

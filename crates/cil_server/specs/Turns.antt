@@ -3,10 +3,10 @@ use Rattle.std.specs.Prelude.{◌≡◌, ℕ, suc, Bool, true, false, List, [], 
 use Rattle.cil_decide.specs.declared.decision.Decision.{Decision}
 use Rattle.cil_host.specs.Machine.{State}
 use Rattle.cil_host.specs.Permissions.{IsInOrder}
-use Rattle.cil_server.specs.Asked.{Line, Request, asked}
+use Rattle.cil_server.specs.Asked.{Line, Request, asked, body_of, request_of}
 use Rattle.cil_server.specs.Replies.{joined, of_decision}
 use Rattle.cil_server.specs.Session.{IsLine, IsNext, Session, most_requests}
-use Rattle.cil_server.specs.Step.{IsNamed, NamesOf, Step}
+use Rattle.cil_server.specs.Step.{IsNamed, MayLack, NamesOf, Step}
 use Rattle.cil_server.specs.declared.served.Served.{Served}
 use Rattle.cil_server.specs.declared.session.Turn.{Turn}
 use Rattle.cil_server.specs.declared.session.Turn.TheVariants as turns
@@ -70,6 +70,13 @@ TurnOf bytes unread old new tells (turns.Ended ending) = Ends bytes old new tell
 
 abbrev pub Turns : Option (List ℕ) → Option (List ℕ) → State → State → (List ℕ → Type 0) → Turn → Type 0
 Turns before after old new tells turn = (bytes : List ℕ) → before ≡ Some bytes → TurnOf bytes after old new tells turn
+
+-- a line that announces so many bytes, for a request that may be answered with want of memory
+pub record Announces (said : Line) (count : ℕ) : Type 0 where
+  pub size : body_of said ≡ count
+  pub request : List ℕ → Request
+  pub is_request : (body : List ℕ) → request_of said body ≡ Some (request body)
+  pub may_lack : (body : List ℕ) → MayLack (request body)
 
 -- a turn behind its line
 abbrev pub AnswersLine : Line → Option (List ℕ) → Option (List ℕ) → State → State → (List ℕ → Type 0) → Turn → Type 0

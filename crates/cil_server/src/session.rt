@@ -1,12 +1,14 @@
 //! A session: requests from a reader, replies to a writer.
 
-ghost use Rattle.std.specs.Prelude.{◌≡◌, ◌≤◌, ℕ, List, [], length, suc, IfOk, Some, false};
+ghost use Rattle.std.specs.Prelude.{◌≡◌, ◌≤◌, ℕ, List, [], length, suc, IfErr, IfOk, OnOk, Some, false};
+ghost use Rattle.std.specs.Io.KnownBytes.{Consumes};
+ghost use Rattle.cil_host.specs.Machine.{State};
 ghost use Rattle.cil_server.specs.Asked.{longest_line};
 ghost use Rattle.cil_server.specs.Asked.{Line as said};
 ghost use Rattle.cil_server.specs.Session.{Serves};
 ghost use Rattle.cil_server.specs.Streams.{Tells, unread};
 ghost use Rattle.cil_server.specs.Replies.{refused};
-ghost use Rattle.cil_server.specs.Turns.{AnswersLine, Runs, Turns};
+ghost use Rattle.cil_server.specs.Turns.{Announces, AnswersLine, Runs, Turns};
 ghost use Rattle.cil_server.specs.declared.served.Served.{Served};
 ghost use Rattle.cil_server.specs.declared.session.Turn.{Turn};
 ghost use Rattle.cil_server.specs.Views.{line_of};
@@ -157,12 +159,14 @@ fn answer<S: Drop, R: Read, W: Write>(
         (Tells (W.contents writer.old) output.old (W.contents writer.new) output.new) result }
 {
     match line {
-        Line::Install(count) => {
-            return answer_install(alloc, host, reader, writer, input, output, count);
-        }
-        Line::Import(count) => {
-            return answer_import(alloc, host, reader, writer, input, output, count);
-        }
+        Line::Install(count) => match body_behind(alloc, reader, writer, input, output, count) {
+            Ok(text) => install(alloc, host, writer, output, text.as_slice()),
+            Err(turn) => return turn,
+        },
+        Line::Import(count) => match body_behind(alloc, reader, writer, input, output, count) {
+            Ok(bundle) => import(alloc, host, writer, output, bundle.as_slice()),
+            Err(turn) => return turn,
+        },
         Line::Export => export(alloc, host, writer, output),
         Line::List => list(alloc, host, writer, output),
         Line::Load => load(alloc, host, writer, output),
@@ -183,50 +187,32 @@ fn answer<S: Drop, R: Read, W: Write>(
     Turn::Next
 }
 
-/// The module that follows INSTALL.
-fn answer_install<S: Drop, R: Read, W: Write>(
+/// The bytes that follow a line; or what becomes of its request, where they do not come or find no memory.
+fn body_behind<R: Read, W: Write>(
     alloc: Global,
-    host: &mut Host<S>,
     reader: &mut R,
     writer: &mut W,
     input: &mut Input,
     output: &mut Output,
     count: usize,
-) -> Turn
-    ensures { AnswersLine (said.Install count) (unread input.old (R.remaining reader.old)) (unread input.new (R.remaining reader.new)) host.old host.new
-        (Tells (W.contents writer.old) output.old (W.contents writer.new) output.new) result }
+) -> Result<Vec<u8>, Turn>
+    ensures body { IfOk result (λ bytes. Consumes (unread input.old (R.remaining reader.old)) (unread input.new (R.remaining reader.new)) bytes.items
+        × (length bytes.items ≡ count)) }
+    ensures told { OnOk result (Tells (W.contents writer.old) output.old (W.contents writer.new) output.new []) }
+    ensures turn { IfErr result (λ turn. (line : said) (h : State) → Announces line count
+        → AnswersLine line (unread input.old (R.remaining reader.old)) (unread input.new (R.remaining reader.new)) h h
+        (Tells (W.contents writer.old) output.old (W.contents writer.new) output.new) turn) }
 {
     output.flush(writer);
     match input.take_body(alloc, reader, count) {
-        Body::Whole(text) => install(alloc, host, writer, output, text.as_slice()),
-        Body::Dropped => put_refused(output, writer, 0),
-        Body::Cut => return refuse(output, writer, 83),
-        Body::Failed => return Turn::Ended(Served::ReadFailed),
+        Body::Whole(bytes) => Ok(bytes),
+        Body::Dropped => {
+            put_refused(output, writer, 0);
+            Err(Turn::Next)
+        }
+        Body::Cut => Err(refuse(output, writer, 83)),
+        Body::Failed => Err(Turn::Ended(Served::ReadFailed)),
     }
-    Turn::Next
-}
-
-/// The bundle that follows IMPORT.
-fn answer_import<S: Drop, R: Read, W: Write>(
-    alloc: Global,
-    host: &mut Host<S>,
-    reader: &mut R,
-    writer: &mut W,
-    input: &mut Input,
-    output: &mut Output,
-    count: usize,
-) -> Turn
-    ensures { AnswersLine (said.Import count) (unread input.old (R.remaining reader.old)) (unread input.new (R.remaining reader.new)) host.old host.new
-        (Tells (W.contents writer.old) output.old (W.contents writer.new) output.new) result }
-{
-    output.flush(writer);
-    match input.take_body(alloc, reader, count) {
-        Body::Whole(bytes) => import(alloc, host, writer, output, bytes.as_slice()),
-        Body::Dropped => put_refused(output, writer, 0),
-        Body::Cut => return refuse(output, writer, 83),
-        Body::Failed => return Turn::Ended(Served::ReadFailed),
-    }
-    Turn::Next
 }
 
 /// Ends the session by a fault.

@@ -7,7 +7,7 @@ use Rattle.cil_server.specs.Streams.{Tells, unread}
 use Rattle.cil_server.specs.Views.{line_of}
 use Rattle.cil_server.specs.declared.served.Served.TheVariants as served
 use Rattle.cil_server.specs.declared.session.Turn.TheVariants as turns
-use Rattle.cil_server.proofs.SessionLemmas.{alone, answered_as, answered_by, quits, too_big}
+use Rattle.cil_server.proofs.SessionLemmas.{alone, answered_as, answered_by, imports, installs, quits, too_big}
 use Rattle.cil_server.proofs.session.answer.Goals as goal
 
 pub returns-in-TooBig : goal.returns-in-TooBig
@@ -27,17 +27,17 @@ returns-in-Unknown g c =
     (alone (unread c.args.input.now (g.R.Read.remaining c.args.reader.now)) (unread c.args.input.now (g.R.Read.remaining c.args.reader.now)) c.args.host.now c.args.host.now (Tells (g.W.Write.contents c.args.writer.now) c.args.output.now (g.W.Write.contents c.put_refused.new.writer) c.put_refused.new.output) said.Unknown Unasked refl refl refl
     (record { reply = refused 81; step = Step.unknown; told = c.put_refused.ensures }))
 
-pub returns-in-Install : goal.returns-in-Install
-returns-in-Install g c =
-    answered_as (unread c.args.input.now (g.R.Read.remaining c.args.reader.now)) (unread c.answer_install.new.input (g.R.Read.remaining c.answer_install.new.reader)) c.args.host.now c.answer_install.new.host
-    (Tells (g.W.Write.contents c.args.writer.now) c.args.output.now (g.W.Write.contents c.answer_install.new.writer) c.answer_install.new.output) (line_of c.args.line) (said.Install c.in-Install.count) c.answer_install.result
-    (ap line_of c.in-Install.is) c.answer_install.ensures
+pub returns-in-Err : goal.returns-in-Err
+returns-in-Err g c =
+    answered_as (unread c.args.input.now (g.R.Read.remaining c.args.reader.now)) (unread c.body_behind.new.input (g.R.Read.remaining c.body_behind.new.reader)) c.args.host.now c.args.host.now
+    (Tells (g.W.Write.contents c.args.writer.now) c.args.output.now (g.W.Write.contents c.body_behind.new.writer) c.body_behind.new.output) (line_of c.args.line) (said.Install c.in-Install.count) c.in-Err.turn
+    (ap line_of c.in-Install.is) (c.in-Err.ensures.turn (said.Install c.in-Install.count) c.args.host.now (installs c.in-Install.count))
 
-pub returns-in-Import : goal.returns-in-Import
-returns-in-Import g c =
-    answered_as (unread c.args.input.now (g.R.Read.remaining c.args.reader.now)) (unread c.answer_import.new.input (g.R.Read.remaining c.answer_import.new.reader)) c.args.host.now c.answer_import.new.host
-    (Tells (g.W.Write.contents c.args.writer.now) c.args.output.now (g.W.Write.contents c.answer_import.new.writer) c.answer_import.new.output) (line_of c.args.line) (said.Import c.in-Import.count) c.answer_import.result
-    (ap line_of c.in-Import.is) c.answer_import.ensures
+pub returns-in-Err-body_behind : goal.returns-in-Err-body_behind
+returns-in-Err-body_behind g c =
+    answered_as (unread c.args.input.now (g.R.Read.remaining c.args.reader.now)) (unread c.body_behind-in-Import.new.input (g.R.Read.remaining c.body_behind-in-Import.new.reader)) c.args.host.now c.args.host.now
+    (Tells (g.W.Write.contents c.args.writer.now) c.args.output.now (g.W.Write.contents c.body_behind-in-Import.new.writer) c.body_behind-in-Import.new.output) (line_of c.args.line) (said.Import c.in-Import.count) c.in-Err-body_behind.turn
+    (ap line_of c.in-Import.is) (c.in-Err-body_behind.ensures.turn (said.Import c.in-Import.count) c.args.host.now (imports c.in-Import.count))
 
 pub returns-in-Export : goal.returns-in-Export
 returns-in-Export g c =
