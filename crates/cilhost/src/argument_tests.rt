@@ -53,6 +53,7 @@ const HELP: &[(&[&str], &str)] = &[
     (&["help"], "Example:"),
     (&["session", "-h"], "Usage: cilhost session [FILE]..."),
     (&["session", "--help"], "AV source target class"),
+    (&["session", "--help"], "41  a word that names nothing"),
     (&["help", "session"], "AV source target class"),
 ];
 
