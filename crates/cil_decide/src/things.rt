@@ -2,6 +2,7 @@
 
 ghost use Rattle.std.specs.Prelude.{List, ℕ, ◌≡◌, ◌↔◌, [], ◌∷◌, ◌++◌, None, Some, MatchOption, IfOk, OnOk, IsTrue};
 ghost use Rattle.std.specs.List.{flat_map, list_any};
+ghost use Rattle.std.specs.List.Sorted.{IsStrictlySortedBy};
 ghost use Rattle.std.specs.Option.{is_some};
 ghost use Rattle.cil_sexpr.specs.Lists.{Lists, text_cmp};
 ghost use Rattle.cil_syntax.specs.Said.{all_said};
@@ -61,10 +62,11 @@ impl Things {
         }
     }
 
-    /// The permissions of the class of the name that a word asks for; none where there is no such class.
+    /// The permissions of the class of the name that a word asks for, in byte order; none where there is no such class.
     pub(crate) fn permissions_of(&self, class: &Word) -> &[Bytes]
         requires { AreSorted self.now }
-        ensures { (xs : List Item) → AreThings xs self.now → (name : List ℕ) → AsksFor class.now.bytes name
+        ensures sorted { IsStrictlySortedBy text_cmp result.now }
+        ensures listed { (xs : List Item) → AreThings xs self.now → (name : List ℕ) → AsksFor class.now.bytes name
             → (p : List ℕ) → list_any (same_bytes p) result.now ≡ has_permission xs (global_thing name) p }
     {
         let Some(name) = plain_name(class.bytes.as_slice()) else {

@@ -2,6 +2,8 @@
 
 ghost use Rattle.std.specs.Prelude.{◌≡◌, List, [], ◌∷◌, ◌++◌, map, MatchOption, OnOk};
 ghost use Rattle.std.specs.List.{list_any};
+ghost use Rattle.std.specs.List.Sorted.{IsStrictlySortedBy};
+ghost use Rattle.cil_sexpr.specs.Lists.{text_cmp};
 ghost use Rattle.cil_syntax.specs.Refusal.{Answers};
 ghost use Rattle.cil_syntax.specs.Spelling.{same_bytes};
 ghost use Rattle.cil_decide.specs.Faults.{ResolveFault};
@@ -12,6 +14,7 @@ ghost use Rattle.cil_decide.specs.Resolves.{Permission as APermission, Word as A
 ghost use Rattle.cil_decide.specs.Unresolved.{fault_unless_listed, faults_of_all, faults_of_wanted, faults_unless_listed};
 
 use crate::class_faults::{push_fault, refuse};
+use crate::lookup::number_of;
 use crate::things::Things;
 use cil_modset::NoMemory;
 use cil_syntax::{Bytes, Failure, Fault, FaultCode, Op, Statement, Term, Word};
@@ -174,6 +177,7 @@ fn judge_permissions(
     permissions: &[Bytes],
     terms: &[Term],
 ) -> Result<(), NoMemory>
+    requires { IsStrictlySortedBy text_cmp permissions.now }
     ensures { OnOk result (faults.new.items ≡ faults.old.items ++ faults_unless_listed permissions.now (all_words_in (all_scoped terms.now))) }
 {
     for term in terms {
@@ -189,6 +193,7 @@ fn judge_permission(
     permissions: &[Bytes],
     term: &Term,
 ) -> Result<(), NoMemory>
+    requires { IsStrictlySortedBy text_cmp permissions.now }
     ensures { OnOk result (faults.new.items ≡ faults.old.items ++ faults_unless_listed permissions.now (words_in (scoped term.now))) }
 {
     match term {
@@ -209,8 +214,10 @@ fn judge_permission(
     Ok(())
 }
 
+/// Whether a name stands in a rising list of names.
 fn is_listed(names: &[Bytes], name: &[u8]) -> bool
+    requires { IsStrictlySortedBy text_cmp names.now }
     ensures { result ≡ list_any (same_bytes name.now) names.now }
 {
-    names.iter().any(|known| name == known.as_slice())
+    number_of(names, name).is_some()
 }
