@@ -73,7 +73,9 @@ impl<S: Drop> Host<S> {
         }
     }
 
-    /// Installs a module, as the set of modules does. The loaded policy stays.
+    /// Installs a module, as the set of modules does, and answers whether it was known. The loaded policy stays.
+    ///
+    /// Errors: the first fault of the text, or want of memory. Both leave the host as it was.
     pub fn install(&mut self, alloc: Global, text: &[u8]) -> Result<Installed, ReadError>
         ensures known { (result ≡ Ok Installed.Known) ↔ Contains self.old.modules text.now }
         ensures stays { result ≡ Ok Installed.Known → self.new ≡ self.old }
@@ -87,6 +89,8 @@ impl<S: Drop> Host<S> {
     }
 
     /// Takes in the modules of a bundle, as the set of modules does, and answers how many were new. The loaded policy stays.
+    ///
+    /// Errors: the first fault of bytes that are no bundle, or want of memory. Both leave the host as it was.
     pub fn import(&mut self, alloc: Global, bytes: &[u8]) -> Result<u64, BundleError>
         ensures bundle { OnOk result ((modules : List (List ℕ)) × IsBundle bytes.now modules) }
         ensures union { (modules : List (List ℕ)) → IsBundle bytes.now modules
@@ -99,21 +103,23 @@ impl<S: Drop> Host<S> {
         self.modules.import(alloc, bytes)
     }
 
-    /// The bundle of the modules, which `import` reads on another host.
+    /// The bundle of the modules, which `import` reads on another host. Errors: want of memory.
     pub fn export(&self, alloc: Global) -> Result<Vec<u8>, NoMemory>
         ensures { IfOk result (λ bytes. bytes.items ≡ bundle self.now.modules) }
     {
         self.modules.export(alloc)
     }
 
-    /// A line for each module, in byte order of the texts.
+    /// A line for each module, in byte order of the texts. Errors: want of memory.
     pub fn list(&self, alloc: Global) -> Result<Vec<ListLine>, NoMemory>
         ensures { IfOk result (λ lines. lines.items ≡ map line_of self.now.modules) }
     {
         lines_of(alloc, &self.modules)
     }
 
-    /// Compiles the modules. On success the policy is replaced; on a failure the host is as before.
+    /// Compiles the modules, and from then on answers by their policy.
+    ///
+    /// Errors: the faults of the modules, all of the first step that has some, or want of memory. Both leave the host as it was.
     pub fn load(&mut self, alloc: Global) -> Result<Loaded, Failure>
         ensures { Loads self.old self.new result }
     {
@@ -129,7 +135,11 @@ impl<S: Drop> Host<S> {
         })
     }
 
-    /// Decides on a source, a target and a class.
+    /// What a source may do to a target of a class, by the loaded policy. Contexts are `user:role:type`, a class is its name. It
+    /// takes no memory.
+    ///
+    /// Errors, the first that applies: no policy is loaded, the source is no valid context, the target is none, no class has the
+    /// name. The host stays as it was.
     pub fn query(
         &mut self,
         source: &[u8],
@@ -172,12 +182,12 @@ impl<S: Drop> Host<S> {
     }
 }
 
-/// A module in a list: the SHA-256 digest of its text, and how many bytes it has.
+/// A module in a list.
 #[derive(Clone, Copy, Debug, PartialEq, Eq)]
 pub struct ListLine {
-    /// The digest.
+    /// The SHA-256 digest of the text.
     pub digest: [u8; 32],
-    /// The length in bytes.
+    /// How many bytes the text has.
     pub length: u64,
 }
 

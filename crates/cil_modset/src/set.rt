@@ -83,7 +83,7 @@ impl ModuleSet {
         }
     }
 
-    /// Another set with the same texts.
+    /// Another set with the same texts. Errors: want of memory.
     pub fn try_clone(&self, alloc: Global) -> Result<ModuleSet, NoMemory>
         ensures { IfOk result (λ copy. copy ≡ self.now) }
     {
@@ -122,7 +122,7 @@ impl ModuleSet {
         Sha256::digest(self.get(i))
     }
 
-    /// The bundle of the set, which `import` reads on another host.
+    /// The bundle of the set, which `import` reads on another host. Errors: want of memory.
     pub fn export(&self, alloc: Global) -> Result<Vec<u8>, NoMemory>
         ensures { IfOk result (λ bytes. bytes.items ≡ bundle self.now) }
     {

@@ -38,7 +38,7 @@ impl Output {
         })
     }
 
-    /// Whether the writer has failed.
+    /// Whether a write or a flush has failed: what is told from then on is lost.
     pub(crate) fn has_failed(&self) -> bool
         ensures { result ≡ self.now.failed }
     {

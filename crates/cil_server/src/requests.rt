@@ -15,7 +15,7 @@ use cil_syntax::{Failure, render};
 use std::alloc::Global;
 use std::io::Write;
 
-/// Installs a module.
+/// INSTALL: hands a text to the host, and tells whether it was new.
 pub(crate) fn install<S: Drop, W: Write>(
     alloc: Global,
     host: &mut Host<S>,
@@ -29,7 +29,7 @@ pub(crate) fn install<S: Drop, W: Write>(
     put_installed(output, writer, installed);
 }
 
-/// Takes in the modules of a bundle.
+/// IMPORT: hands a bundle to the host, and tells how many modules were new.
 pub(crate) fn import<S: Drop, W: Write>(
     alloc: Global,
     host: &mut Host<S>,
@@ -43,7 +43,7 @@ pub(crate) fn import<S: Drop, W: Write>(
     put_imported(output, writer, imported);
 }
 
-/// Tells the bundle of the modules.
+/// EXPORT: tells the bundle of the modules.
 pub(crate) fn export<S: Drop, W: Write>(
     alloc: Global,
     host: &Host<S>,
@@ -58,7 +58,7 @@ pub(crate) fn export<S: Drop, W: Write>(
     }
 }
 
-/// Tells a line for each module.
+/// LIST: tells a line for each module.
 pub(crate) fn list<S: Drop, W: Write>(
     alloc: Global,
     host: &Host<S>,
@@ -73,7 +73,7 @@ pub(crate) fn list<S: Drop, W: Write>(
     }
 }
 
-/// Loads the modules, or tells their faults.
+/// LOAD: loads the modules, or tells their faults.
 pub(crate) fn load<S: Drop, W: Write>(
     alloc: Global,
     host: &mut Host<S>,
@@ -92,7 +92,7 @@ pub(crate) fn load<S: Drop, W: Write>(
     }
 }
 
-/// Tells a decision, or why there is none.
+/// AV: tells a decision, or why there is none.
 pub(crate) fn ask<S: Drop, W: Write>(
     host: &mut Host<S>,
     writer: &mut W,

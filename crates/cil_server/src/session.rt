@@ -48,6 +48,8 @@ enum Turn {
 
 /// Reads requests from a reader and writes the reply to each, until one of them or the end of the input ends the session. It runs at most
 /// 1,000,000 requests. The host is left as those requests leave it.
+///
+/// Answers how the session ended: `Fault(0)` where there is no memory for its buffers, and then nothing was read or written.
 pub fn serve<S: Drop, R: Read, W: Write>(
     alloc: Global,
     host: &mut Host<S>,
@@ -105,7 +107,7 @@ fn session<S: Drop, R: Read, W: Write>(
     Served::Fault(85)
 }
 
-/// One request.
+/// Takes the next line, and answers what it asks for.
 fn next_turn<S: Drop, R: Read, W: Write>(
     alloc: Global,
     host: &mut Host<S>,

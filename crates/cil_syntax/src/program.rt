@@ -46,7 +46,7 @@ impl Program {
 }
 
 /// The statements that are written in modules; or, where one of them or one of its words is at fault, all faults
-/// of shape. Each module is read once; its tree is dropped before the next is read.
+/// of shape, or want of memory. Each module is read once; its tree is dropped before the next is read.
 pub fn written(alloc: Global, modules: &ModuleSet) -> Result<Program, Failure>
     ensures { Answers (λ p. Lists written_cmp (IsWritten modules.now) (all_written p)) (ShapeFault modules.now) result }
 {

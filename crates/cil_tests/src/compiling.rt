@@ -2,7 +2,8 @@
 
 use crate::policies::{FIRST, ORDERS, set_of};
 use cil_decide::compile;
-use cil_syntax::{Failure, render};
+use cil_decide::tables::{Names, Numbers};
+use cil_syntax::{Bytes, Failure, render};
 use std::alloc::Global;
 use std::test::Fail;
 
@@ -192,5 +193,18 @@ fn seventy_thousand_types_are_numbered(rt: HostRuntime) -> Result<(), Fail> {
         b"allow: [Rule { source: Numbers { numbers: [69999] }, target: Types(Numbers { numbers: [0] }), class: 0, mask: 1 }] }";
     let answer = answer(rt.alloc(), &[text.as_str()]).ok_or("no tables")?;
     assert!(rt; answer.ends_with(wanted));
+    Ok(())
+}
+
+#[test]
+fn names_and_numbers_are_kept(rt: HostRuntime) -> Result<(), Fail> {
+    let alloc = rt.alloc();
+    let name = Bytes::from_vec(Vec::from_slice(alloc, b"read")?);
+    let names = Names::from_vec(vec![in alloc; name]?);
+    assert!(rt;
+        names.as_slice().len() == 1 && names.as_slice()[0].as_slice() == b"read".as_slice()
+    );
+    let numbers = Numbers::from_vec(Vec::from_slice(alloc, &[1, 3])?);
+    assert!(rt; numbers.as_slice() == [1, 3].as_slice());
     Ok(())
 }

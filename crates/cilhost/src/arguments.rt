@@ -14,7 +14,7 @@ pub const SESSION: &str = "session";
 /// The name of its files.
 pub const FILE: &str = "FILE";
 
-/// The arguments of the program, its own name first.
+/// The arguments of the program, its own name first. Errors: want of memory, or arguments that cannot be read as text.
 pub fn words<R: Env + AllocGlobal>(rt: &R) -> Result<Vec<String>, Trouble<'static>> {
     match env::args(rt) {
         Ok(words) => Ok(words.collect(rt.alloc())?),
@@ -23,7 +23,8 @@ pub fn words<R: Env + AllocGlobal>(rt: &R) -> Result<Vec<String>, Trouble<'stati
     }
 }
 
-/// What the words ask for. Help and the version, where they are asked for, are errors too.
+/// What the words ask for. Errors: words that ask for nothing that there is, want of memory; and help and the version, where they are
+/// asked for.
 pub fn matches<'a>(alloc: Global, words: &'a [String]) -> Result<ArgMatches<'a>, Error> {
     let file = Arg::new(alloc, FILE)
         .action(ArgAction::Append)

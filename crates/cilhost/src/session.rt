@@ -14,7 +14,7 @@ use cil_server::{Served, serve};
 use std::alloc::Global;
 use std::io::{self, Read, Write};
 
-/// How many decisions the host keeps.
+/// The capacity of the host's cache of decisions, which it does not keep yet.
 const CAPACITY: usize = 512;
 
 /// How many bytes of a file are read: one more than a module may have, so that the host refuses a longer one.
@@ -22,6 +22,7 @@ const LONGEST: u64 = 4_194_305;
 
 /// Installs the files from the left, each read and installed before the next, and then serves the requests of
 /// the input on the output. A file that is refused, or cannot be opened or read, ends the session before anything is served.
+/// Answers the status to end with.
 pub fn run_session<Y: System, R: Read, W: Write, E: Write>(
     alloc: Global,
     files: &[&str],
@@ -77,7 +78,7 @@ fn install_all<'a, S: Drop, Y: System>(
     Ok(())
 }
 
-/// Installs a file.
+/// Reads a file and installs it.
 fn install<'a, S: Drop, Y: System>(
     alloc: Global,
     host: &mut Host<S>,

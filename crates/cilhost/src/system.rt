@@ -31,7 +31,7 @@ pub trait System {
 }
 
 /// The machine that the program runs on: its files, and a hasher with random keys, so that nobody can choose
-/// queries that all fall into one place of the host's cache.
+/// queries that all fall into one place of the cache that the host is to keep.
 #[derive(Drop)]
 pub struct Machine<'a, R> {
     rt: &'a R,
