@@ -1,4 +1,4 @@
-# What read.sh, write.sh and import.sh share: the program is built, and can be run and measured.
+# What read.sh, write.sh, import.sh and compile.sh share: the program is built, and can be run and measured.
 set -eu
 
 here=$(cd "$(dirname "${BASH_SOURCE[0]}")" && pwd)

@@ -63,6 +63,18 @@ many_modules() {
     done
 }
 
+# The request that installs a class of $1 permissions, which is too many, and a rule that names each of them.
+wide_class() {
+    awk -v n="$1" 'BEGIN {
+        printf "(type ty)(class cl ("
+        for (p = 0; p < n; p++) printf "pe%d ", p
+        printf "))(allow ty ty (cl ("
+        for (p = 0; p < n; p++) printf "pe%d ", p
+        print ")))"
+    }' >"$work/module"
+    install_request "$work/module"
+}
+
 # Runs the requests of the file $1 three times: the least time in microseconds goes to $work/us, the most memory
 # in kB to $work/peak, the replies to $work/replies.
 measure() {
@@ -86,6 +98,22 @@ expect_no_refusal() {
     fi
 }
 
+growth=0
+last=
+# Keeps in $growth how many times as long as $last a session of $1 microseconds took, where that is the most so far.
+doubled() {
+    if [ -n "$last" ]; then
+        growth=$(awk -v growth="$growth" -v now="$1" -v last="$last" 'BEGIN { g = now / last; print (g > growth ? g : growth) }')
+    fi
+    last=$1
+}
+# Tells how many times as long a doubling of $1 took at most, and begins again.
+told() {
+    awk -v what="$1" -v growth="$growth" 'BEGIN { printf "a doubling of the %s takes at most %.2f times as long: %s\n", what, growth, growth <= 2.4 ? "at most 2.4" : "MORE THAN 2.4" }'
+    growth=0
+    last=
+}
+
 [ -x /usr/bin/time ] || { echo "this script needs /usr/bin/time" >&2; exit 2; }
 
 printf '%10s %12s %10s %14s %9s\n' rules 'INSTALL ms' 'LOAD ms' 'AV a second' 'peak MB'
@@ -102,8 +130,6 @@ for count in 10000 100000; do
 done
 
 printf '\n%10s %12s %10s %9s\n' modules 'INSTALL ms' 'LOAD ms' 'peak MB'
-growth=0
-last=
 for count in 100 200 400; do
     many_modules "$count" >"$work/installed"
     { cat "$work/installed"; echo LOAD; } >"$work/loaded"
@@ -111,9 +137,16 @@ for count in 100 200 400; do
     measure "$work/loaded"; expect_no_refusal; loaded=$(cat "$work/us")
     awk -v modules="$count" -v i="$installed" -v l="$loaded" -v peak="$(cat "$work/peak")" \
         'BEGIN { printf "%10d %12.1f %10.1f %9.1f\n", modules, i / 1000, (l - i) / 1000, peak * 1024 / 1000000 }'
-    if [ -n "$last" ]; then
-        growth=$(awk -v growth="$growth" -v now="$loaded" -v last="$last" 'BEGIN { g = now / last; print (g > growth ? g : growth) }')
-    fi
-    last=$loaded
+    doubled "$loaded"
 done
-awk -v growth="$growth" 'BEGIN { printf "a doubling of the modules takes at most %.2f times as long: %s\n", growth, growth <= 2.4 ? "at most 2.4" : "MORE THAN 2.4" }'
+told modules
+
+printf '\n%11s %20s %9s\n' permissions 'INSTALL and LOAD ms' 'peak MB'
+for count in 50000 100000 200000; do
+    { wide_class "$count"; echo LOAD; } >"$work/loaded"
+    measure "$work/loaded"
+    grep -q '^55 0 16 . cl$' "$work/replies" || { echo "a class of $count permissions was not refused" >&2; exit 1; }
+    awk -v count="$count" -v us="$(cat "$work/us")" -v peak="$(cat "$work/peak")" 'BEGIN { printf "%11d %20.1f %9.1f\n", count, us / 1000, peak * 1024 / 1000000 }'
+    doubled "$(cat "$work/us")"
+done
+told permissions
