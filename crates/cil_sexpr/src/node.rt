@@ -1,7 +1,7 @@
 //! The tree of a text. It holds places alone; the bytes stay in the text.
 
 ghost use Rattle.std.specs.Prelude.{◌≡◌, ◌≤◌, ℕ, List, length, slice_range};
-ghost use Rattle.cil_sexpr.specs.Tree.{inner_of};
+ghost use Rattle.cil_sexpr.specs.Tree.{inner_of, span_of};
 ghost use Rattle.cil_sexpr.specs.View.{node_of, nodes_of, place_of, top_of};
 
 /// A part of a text: the bytes from `start` up to `end`, which is not one of them.
@@ -30,7 +30,8 @@ const _: () = prove!(size_of::<Node>() <= 40);
 impl Node {
     /// The part of its text that this node takes.
     pub fn span(&self) -> Span
-        ensures { result ≡ place_of self.now }
+        ensures place { result ≡ place_of self.now }
+        ensures node { (text : List ℕ) → result ≡ span_of (node_of text self.now) }
     {
         match self {
             Node::Word(span) => *span,

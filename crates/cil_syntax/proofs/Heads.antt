@@ -1,6 +1,6 @@
 -- A node of Rust as a cell, and the head of a set.
 use Rattle.std.proofs.Common.{◌≡◌, ℕ, Bool, true, false, if◌then◌else◌, List, [], ◌∷◌, ◌++◌, drop, refl, sym, ◌∙◌, ap, subst, rules, append_assoc}
-use Rattle.std.specs.Prelude.{Option, Some, None, Result, Ok, Err, IfOk, codes, slice_get, slice_range}
+use Rattle.std.specs.Prelude.{Option, Some, None, Result, Ok, Err, IsErrAnd, codes, slice_get, slice_range}
 use Rattle.std.specs.Option.{option_map_or}
 use Rattle.std.specs.declared.vec.Vec.{Vec}
 use Rattle.std.specs.declared.alloc.Global.{Global}
@@ -12,6 +12,8 @@ use Rattle.cil_sexpr.specs.View.{node_of, nodes_of}
 use Rattle.cil_syntax.specs.declared.code.FaultCode.TheVariants as causes
 use Rattle.cil_syntax.specs.declared.fault.Fault.{Fault}
 use Rattle.cil_syntax.specs.declared.kind.Sign.{Sign}
+use Rattle.cil_syntax.specs.declared.stop.Stop.{Stop}
+use Rattle.cil_syntax.specs.declared.stop.Stop.TheVariants.{OtherShape, NoMemory}
 use Rattle.cil_syntax.specs.declared.term.Op.{Op}
 use Rattle.cil_syntax.specs.declared.term.Op.TheVariants as ops
 use Rattle.cil_syntax.specs.declared.term.Spot.{Spot}
@@ -20,9 +22,9 @@ use Rattle.cil_syntax.specs.declared.term.Word.{Word}
 use Rattle.cil_syntax.specs.Shapes.{Inner, inner_at, Reading, Shape, looked_up, set_of, many, formed, read_row, read_word, read_list, read_set, read_operator, read_left_out, read_looked_up, operator_of, operands, a_word, Cell, cell_of, cells_of}
 use Rattle.cil_syntax.specs.Spelling.{same_bytes}
 use Rattle.cil_syntax.specs.Terms.{Term, Terms, spot_of}
-use Rattle.cil_syntax.specs.Told.{told, IsTold, IsUnion, HasOperator}
+use Rattle.cil_syntax.specs.Told.{told, IsTold, Tells, IsUnion, HasOperator}
 use Rattle.cil_syntax.specs.Written.{at_top, fault_of}
-use Rattle.cil_syntax.proofs.ManyItems.{told-append}
+use Rattle.cil_syntax.proofs.ItemsRead.{told-append}
 
 module _ (text : List ℕ) where
   pub word_view : (place : Span) → node_of text (nodes.Word place) ≡ TextWord place (slice_range text place.start place.end)
@@ -61,25 +63,25 @@ module _ (text : List ℕ) where
           word_read m n place bytes (set_of sign) is spelled
           ∙ ap (λ x. if x then read_left_out (spot_of m place) ops.All bytes else read_looked_up (spot_of m place) sign bytes) e
 
-      pub all_told : {E : Type 0} (r : Result (Option rust.Term) E) (old new : List Fault) → true ≡ same_bytes bytes (codes "all")
-          → IfOk r (IsTold m (read_left_out (spot_of m place) ops.All bytes) old new) → IfOk r (IsTold m ((cell_of m (node_of text n)).read (set_of sign)) old new)
-      all_told r old new all told = subst (λ w. IfOk r (IsTold m w old new)) (sym (word_set true (sym all))) told
+      pub all_told : (r : Result rust.Term Stop) (old new : List Fault) → true ≡ same_bytes bytes (codes "all")
+          → Tells m (read_left_out (spot_of m place) ops.All bytes) old new r → Tells m ((cell_of m (node_of text n)).read (set_of sign)) old new r
+      all_told r old new all told = subst (λ w. Tells m w old new r) (sym (word_set true (sym all))) told
 
-      pub looked_up_told : {E : Type 0} (r : Result (Option rust.Term) E) (old new : List Fault) → false ≡ same_bytes bytes (codes "all")
-          → IfOk r (IsTold m ((cell_of m (node_of text n)).read (looked_up sign)) old new)
-          → IfOk r (IsTold m ((cell_of m (node_of text n)).read (set_of sign)) old new)
+      pub looked_up_told : (r : Result rust.Term Stop) (old new : List Fault) → false ≡ same_bytes bytes (codes "all")
+          → Tells m ((cell_of m (node_of text n)).read (looked_up sign)) old new r
+          → Tells m ((cell_of m (node_of text n)).read (set_of sign)) old new r
       unfolding read_word
       looked_up_told r old new other told =
-          subst (λ w. IfOk r (IsTold m w old new)) (word_read m n place bytes (looked_up sign) is spelled ∙ sym (word_set false (sym other))) told
+          subst (λ w. Tells m w old new r) (word_read m n place bytes (looked_up sign) is spelled ∙ sym (word_set false (sym other))) told
 
     -- a list where a set may stand
-    pub list_told : {E : Type 0} (r : Result (Option rust.Term) E) (items : Vec nodes.Node Global) (inner : List nodes.Node) (old new : List Fault)
+    pub list_told : (r : Result rust.Term Stop) (items : Vec nodes.Node Global) (inner : List nodes.Node) (old new : List Fault)
         → n ≡ nodes.List place items → inner ≡ items.items
-        → IfOk r (IsTold m (read_set (spot_of m place) sign (cells_of m (nodes_of text inner))) old new)
-        → IfOk r (IsTold m ((cell_of m (node_of text n)).read (set_of sign)) old new)
+        → Tells m (read_set (spot_of m place) sign (cells_of m (nodes_of text inner))) old new r
+        → Tells m ((cell_of m (node_of text n)).read (set_of sign)) old new r
     unfolding read_list
     list_told r items inner old new is same told =
-        subst (λ w. IfOk r (IsTold m w old new)) (sym (list_read m n place items inner (set_of sign) is same)) told
+        subst (λ w. Tells m w old new r) (sym (list_read m n place items inner (set_of sign) is same)) told
 
   -- ---- the head of a set
 
@@ -156,9 +158,13 @@ module _ (m : ℕ) (at : Spot) (sign : Sign) (text : List ℕ) (ns : List nodes.
       (faulted m at op _ (read_row (operands sign op) (cells_of m (nodes_of text (drop 1 ns)))) old mid new t
       (e ∙ ap (λ b. old ++ fault_of m at_top (inner_at (spot_of m place) causes.Unsupported b) ∷ []) spelled) told)
 
-  pub operator_answers : {E : Type 0} (r : Result (Option rust.Term) E) (place : Span) (word : List ℕ) (old mid new : List Fault) → HasOperator text ns op place
+  -- an error of the operands, handed on
+  pub operator_stops : (place : Span) (word : List ℕ) (old mid new : List Fault) (e : Stop) (r : Result rust.Term Stop) → HasOperator text ns op place
       → word ≡ slice_range text place.start place.end
       → mid ≡ old ++ fault_of m at_top (inner_at (spot_of m place) causes.Unsupported word) ∷ []
-      → IfOk r (IsTold m operands_read mid new) → IfOk r (IsTold m (read_set at sign (cells_of m (nodes_of text ns))) old new)
-  operator_answers (Ok t) place word old mid new heads spelled e told = operator_told place word old mid new t heads spelled e told
-  operator_answers (Err e') place word old mid new heads spelled e told = told
+      → Tells m operands_read mid new (Err e) → IsErrAnd r (λ x. x ≡ e) → Tells m (read_set at sign (cells_of m (nodes_of text ns))) old new r
+  operator_stops place word old mid new e (Ok t) heads spelled told stops handed = absurd handed
+  operator_stops place word old mid new OtherShape (Err x) heads spelled told stops handed =
+      subst (λ y. Tells m (read_set at sign (cells_of m (nodes_of text ns))) old new (Err y)) (sym handed) (operator_told place word old mid new None heads spelled told stops)
+  operator_stops place word old mid new NoMemory (Err x) heads spelled told stops handed =
+      subst (λ y. Tells m (read_set at sign (cells_of m (nodes_of text ns))) old new (Err y)) (sym handed) tt

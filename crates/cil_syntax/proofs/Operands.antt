@@ -1,13 +1,15 @@
 -- The operands of an operator, and forms over terms that were read.
-use Rattle.std.proofs.Common.{◌≡◌, ◌≢◌, ℕ, suc, ◌+◌, ◌<◌, Bool, true, false, if◌then◌else◌, List, [], ◌∷◌, length, drop, refl, sym, ◌∙◌, ap, subst, arith, rules}
-use Rattle.std.specs.Prelude.{Option, Some, None, Result, IfOk}
+use Rattle.std.proofs.Common.{◌≡◌, ◌≢◌, ℕ, suc, ◌+◌, ◌<◌, Bool, true, false, if◌then◌else◌, List, [], ◌∷◌, length, take, drop, ◌-◌, refl, sym, ◌∙◌, ap, subst, arith, rules}
+use Rattle.std.specs.Prelude.{Option, Some, None, Result, Ok, Err, IsErrAnd}
 use Rattle.std.specs.declared.vec.Vec.{Vec}
 use Rattle.std.specs.declared.alloc.Global.{Global}
-use Rattle.std.proofs.lemmas.List.{append-nil, length-drop}
+use Rattle.std.proofs.lemmas.List.{append-nil, length-drop, take_rest}
 use Rattle.cil_sexpr.specs.declared.node.Node as nodes
 use Rattle.cil_sexpr.specs.View.{nodes_of}
 use Rattle.cil_syntax.specs.declared.fault.Fault.{Fault}
 use Rattle.cil_syntax.specs.declared.kind.Sign.{Sign}
+use Rattle.cil_syntax.specs.declared.stop.Stop.{Stop}
+use Rattle.cil_syntax.specs.declared.stop.Stop.TheVariants.{OtherShape, NoMemory}
 use Rattle.cil_syntax.specs.declared.term.Op.{Op}
 use Rattle.cil_syntax.specs.declared.term.Spot.{Spot}
 use Rattle.cil_syntax.specs.declared.term.Term as rust
@@ -16,13 +18,9 @@ use Rattle.cil_syntax.specs.declared.term.Term.TheVariants as variants
 use Rattle.cil_syntax.specs.declared.term.Word.{Word}
 use Rattle.cil_syntax.specs.Said.{said_of, all_said}
 use Rattle.cil_syntax.specs.Shapes.{Reading, Shape, set_of, Row, close, item, many, joined, read_row, formed, is_negation, operands, Cell, cells_of}
-use Rattle.cil_syntax.specs.Terms.{Term, Form, Terms}
-use Rattle.cil_syntax.specs.Told.{IsTold, AreTold}
-
--- what is not read makes nothing of what stands before it
-pub joined-none : (a : Option (Reading (Term Word))) → joined a None ≡ None
-joined-none None = refl
-joined-none (Some r) = refl
+use Rattle.cil_syntax.specs.Terms.{Term, Form, Terms, spot_at}
+use Rattle.cil_syntax.specs.Told.{IsTold, AreTold, Tells, TellAll}
+use Rattle.cil_syntax.proofs.ItemsRead.{joined-none, length-cells}
 
 -- some of one shape: one, or two
 abbrev some_of : Shape → Bool → Row
@@ -49,25 +47,27 @@ right_operands shape false (c ∷ []) h = absurd (omega (arith, h))
 right_operands shape false (c ∷ d ∷ []) h = refl
 right_operands shape false (c ∷ d ∷ e ∷ cs) h = absurd (omega (arith, h))
 
--- each node is a cell
-pub length-cells : (m : ℕ) (text : List ℕ) (ns : List nodes.Node) → length (cells_of m (nodes_of text ns)) ≡ length ns
-unfolding cells_of
-length-cells m text [] = refl
-length-cells m text (n ∷ ns) = ap suc (length-cells m text ns)
-
 -- a form of terms that were read
-pub formed_told : (m : ℕ) (at : Spot) (op : Op) (r : Option (Reading (Terms Word))) (old new : List Fault) (parts : Vec rust.Term Global)
-    → AreTold m r old new (Some parts) → IsTold m (formed at op [] r) old new (Some (variants.Form at op parts))
+pub formed_told : (m at : ℕ) (op : Op) (r : Option (Reading (Terms Word))) (old new : List Fault) (parts : Vec rust.Term Global)
+    → AreTold m r old new (Some parts) → IsTold m (formed (spot_at m at) op [] r) old new (Some (variants.Form at op parts))
 formed_told m at op None old new parts h = absurd h
 formed_told m at op (Some r) old new parts h =
-    let view : said_of (variants.Form at op parts) ≡ Form at op (all_said parts.items) = search (rules, the_lemmas) in
-    (view ∙ ap (Form at op) h.0, h.1)
+    let view : said_of m (variants.Form at op parts) ≡ Form (spot_at m at) op (all_said m parts.items) = search (rules, the_lemmas) in
+    (view ∙ ap (Form (spot_at m at) op) h.0, h.1)
 
 -- nothing was read, and so no form
 pub none_formed : (m : ℕ) (at : Spot) (op : Op) (r : Option (Reading (Terms Word))) (old new : List Fault)
     → AreTold m r old new None → IsTold m (formed at op [] r) old new None
 none_formed m at op None old new h = h
 none_formed m at op (Some r) old new h = absurd h
+
+-- an error that was handed on makes no form
+pub stop_formed : (m : ℕ) (at : Spot) (op : Op) (r : Option (Reading (Terms Word))) (old new : List Fault) (e : Stop) (answer : Result rust.Term Stop)
+    → TellAll m r old new (Err e) → IsErrAnd answer (λ x. x ≡ e) → Tells m (formed at op [] r) old new answer
+stop_formed m at op r old new e (Ok t) told handed = absurd handed
+stop_formed m at op r old new OtherShape (Err x) told handed =
+    subst (λ y. Tells m (formed at op [] r) old new (Err y)) (sym handed) (none_formed m at op r old new told)
+stop_formed m at op r old new NoMemory (Err x) told handed = subst (λ y. Tells m (formed at op [] r) old new (Err y)) (sym handed) tt
 
 module _ (m : ℕ) (at : Spot) (op : Op) (sign : Sign) (text : List ℕ) (ns : List nodes.Node) where
   abbrev behind_head : List Cell
@@ -96,9 +96,10 @@ module _ (m : ℕ) (at : Spot) (op : Op) (sign : Sign) (text : List ℕ) (ns : L
       subst (λ r. IsTold m (formed at op [] r) old old None) (sym nothing) ([], sym (append-nil old))
 
   -- as many as there should be are read as any number is
-  pub operands_counted : {E : Type 0} (r : Result (Option rust.Term) E) (old new : List Fault) → length ns ≡ counted + 1
-      → IfOk r (IsTold m (formed at op [] (read_row (many (set_of sign)) behind_head)) old new)
-      → IfOk r (IsTold m (formed at op [] (read_row (operands sign op) behind_head)) old new)
+  pub operands_counted : (r : Result (Vec rust.Term Global) Stop) (old new : List Fault) → length ns ≡ counted + 1
+      → TellAll m (read_row (many (set_of sign)) (cells_of m (nodes_of text (take (length ns - 1) (drop 1 ns))))) old new r
+      → TellAll m (read_row (operands sign op) behind_head) old new r
   operands_counted r old new long told =
-      subst (λ w. IfOk r (IsTold m (formed at op [] w) old new))
-      (sym (right_operands (set_of sign) (is_negation op) behind_head (one_less counted long))) told
+      subst (λ w. TellAll m w old new r)
+      (ap (λ ks. read_row (many (set_of sign)) (cells_of m (nodes_of text ks))) (take_rest ns 1)
+      ∙ sym (right_operands (set_of sign) (is_negation op) behind_head (one_less counted long))) told

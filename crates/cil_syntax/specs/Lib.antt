@@ -1,12 +1,15 @@
 pub mod Codes
+pub mod Entries
 pub mod Fails
 pub mod FaultOrder
 pub mod Grammar
 pub mod Kinds
+pub mod Laid
 pub mod Laws
 pub mod Places
 pub mod Printed
 pub mod Refusal
+pub mod Reported
 pub mod Said
 pub mod Shapes
 pub mod Sorted

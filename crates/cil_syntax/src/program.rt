@@ -13,32 +13,32 @@ use crate::failure::Failure;
 use crate::fault::Fault;
 use crate::fault_list::FaultList;
 use crate::kind::Keyword;
+use crate::reader::Reader;
 use crate::term::{Spot, Term};
-use crate::verdict::judge;
 use cil_modset::{ModuleSet, NoMemory};
 use cil_sexpr::{Node, ReadError, laws as texts, read};
 use std::alloc::Global;
 
 /// A statement as it is written.
 #[derive(Debug, Drop)]
-pub struct Statement {
+pub struct Statement<'a> {
     /// Which statement it is.
     pub keyword: Keyword,
     /// Where its list begins.
     pub at: Spot,
-    /// What stands behind its word.
-    pub args: Vec<Term>,
+    /// What is behind its word.
+    pub args: Vec<Term<'a>>,
 }
 
 /// The statements of modules, by module and place.
 #[derive(Debug, Drop)]
-pub struct Program {
-    statements: Vec<Statement>,
+pub struct Program<'a> {
+    statements: Vec<Statement<'a>>,
 }
 
-impl Program {
+impl<'a> Program<'a> {
     /// The statements, in order.
-    pub fn statements(&self) -> &[Statement]
+    pub fn statements(&self) -> &[Statement<'a>]
         ensures { map written_of result.now ≡ all_written self.now }
     {
         self.statements.as_slice()
@@ -47,7 +47,7 @@ impl Program {
 
 /// The statements that are written in modules; or, where one of them or one of its words is at fault, all faults
 /// of shape, or want of memory. Each module is read once; its tree is dropped before the next is read.
-pub fn written(alloc: Global, modules: &ModuleSet) -> Result<Program, Failure>
+pub fn written(alloc: Global, modules: &ModuleSet) -> Result<Program<'_>, Failure>
     ensures { Answers (λ p. Lists written_cmp (IsWritten modules.now) (all_written p)) (ShapeFault modules.now) result }
 {
     // That a text has one tree makes what was read what is written.
@@ -70,11 +70,11 @@ pub fn written(alloc: Global, modules: &ModuleSet) -> Result<Program, Failure>
 }
 
 /// Reads the statements of a module. That it is readable was seen when it was installed.
-fn read_module(
+fn read_module<'a>(
     alloc: Global,
-    text: &[u8],
+    text: &'a [u8],
     number: u64,
-    statements: &mut Vec<Statement>,
+    statements: &mut Vec<Statement<'a>>,
     faults: &mut Vec<Fault>,
 ) -> Result<(), NoMemory>
     requires { IsReadable text.now }
@@ -82,27 +82,34 @@ fn read_module(
 {
     texts::never_both();
     match read(alloc, text) {
-        Ok(tree) => judge_all(alloc, text, number, tree.children(), statements, faults),
+        Ok(tree) => {
+            let reader = Reader {
+                alloc,
+                text,
+                number,
+            };
+            reader.judge_all(tree.children(), statements, faults)
+        }
         Err(ReadError::NoMemory) => Err(NoMemory),
         Err(ReadError::Fault(_)) => unreachable!(),
     }
 }
 
-/// Reads nodes as statements.
-fn judge_all(
-    alloc: Global,
-    text: &[u8],
-    number: u64,
-    nodes: &[Node],
-    statements: &mut Vec<Statement>,
-    faults: &mut Vec<Fault>,
-) -> Result<(), NoMemory>
-    ensures { OnOk result (AreJudged number (nodes_of text.now nodes.now) (map written_of statements.old.items) (map written_of statements.new.items) faults.old.items faults.new.items) }
-{
-    for node in nodes {
-        if let Some(statement) = judge(alloc, text, number, node, faults)? {
-            statements.push(statement)?;
+impl<'a> Reader<'a> {
+    /// Reads nodes as statements.
+    fn judge_all(
+        &self,
+        nodes: &[Node],
+        statements: &mut Vec<Statement<'a>>,
+        faults: &mut Vec<Fault>,
+    ) -> Result<(), NoMemory>
+        ensures { OnOk result (AreJudged self.now.number (nodes_of self.now.text.now nodes.now) (map written_of statements.old.items) (map written_of statements.new.items) faults.old.items faults.new.items) }
+    {
+        for node in nodes {
+            if let Some(statement) = self.judge(node, faults)? {
+                statements.push(statement)?;
+            }
         }
+        Ok(())
     }
-    Ok(())
 }

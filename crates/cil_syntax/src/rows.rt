@@ -1,189 +1,117 @@
-//! Reading what stands behind the first word of a statement: a function for each form of row.
+//! Reading nodes by their shapes, and lists by their rows: one function for each.
 
-ghost use Rattle.std.specs.Prelude.{IfOk};
+ghost use Rattle.std.specs.Prelude.{map};
 ghost use Rattle.cil_sexpr.specs.View.{node_of, nodes_of};
-ghost use Rattle.cil_syntax.specs.declared.kind.Sign.TheVariants as signs;
-ghost use Rattle.cil_syntax.specs.declared.term.Op.TheVariants as ops;
-ghost use Rattle.cil_syntax.specs.Shapes.{cell_of, cells_of, close, declared_name, item, list_of, looked_up, many, read_row, set_of};
-ghost use Rattle.cil_syntax.specs.Table.{class_permission, target};
-ghost use Rattle.cil_syntax.specs.Told.{AreTold, IsTold};
+ghost use Rattle.cil_syntax.specs.Laid.{items_of, row_of, shape_of};
+ghost use Rattle.cil_syntax.specs.Shapes.{cell_of, cells_of, list_of, many, read_row as row_reading};
+ghost use Rattle.cil_syntax.specs.Told.{TellAll, Tells};
 
 use crate::fault::Fault;
-use crate::items::read_names;
-use crate::kind::Sign;
-use crate::sets::read_set;
-use crate::term::{Op, Spot, Term};
-use crate::words::{bytes_at, read_left_out, read_looked_up, read_name, read_target};
-use cil_modset::NoMemory;
+use crate::reader::Reader;
+use crate::shape::{Row, Shape};
+use crate::stop::Stop;
+use crate::term::{Op, Term};
 use cil_sexpr::Node;
-use std::alloc::Global;
 
-/// Reads one name.
-pub(crate) fn read_one_name(
-    alloc: Global,
-    text: &[u8],
-    number: u64,
-    nodes: &[Node],
-    faults: &mut Vec<Fault>,
-) -> Result<Option<Vec<Term>>, NoMemory>
-    ensures { IfOk result (AreTold number (read_row (item declared_name close) (cells_of number (nodes_of text.now nodes.now))) faults.old.items faults.new.items) }
-{
-    if nodes.len() != 1 {
-        return Ok(None);
-    }
-    let Some(name) = read_name(alloc, text, number, &nodes[0], faults)? else {
-        return Ok(None);
-    };
-    Ok(Some(vec![in alloc; name]?))
-}
-
-/// Reads two words that are looked up.
-pub(crate) fn read_two_words(
-    alloc: Global,
-    text: &[u8],
-    number: u64,
-    nodes: &[Node],
-    signs: (Sign, Sign),
-    faults: &mut Vec<Fault>,
-) -> Result<Option<Vec<Term>>, NoMemory>
-    ensures { IfOk result (AreTold number (read_row (item (looked_up signs.0) (item (looked_up signs.1) close)) (cells_of number (nodes_of text.now nodes.now))) faults.old.items faults.new.items) }
-{
-    if nodes.len() != 2 {
-        return Ok(None);
-    }
-    let Some(first) = read_looked_up(alloc, text, number, &nodes[0], signs.0, faults)? else {
-        return Ok(None);
-    };
-    let Some(second) = read_looked_up(alloc, text, number, &nodes[1], signs.1, faults)? else {
-        return Ok(None);
-    };
-    Ok(Some(vec![in alloc; first, second]?))
-}
-
-/// Reads a name, and a list of names.
-pub(crate) fn read_name_and_names(
-    alloc: Global,
-    text: &[u8],
-    number: u64,
-    nodes: &[Node],
-    faults: &mut Vec<Fault>,
-) -> Result<Option<Vec<Term>>, NoMemory>
-    ensures { IfOk result (AreTold number (read_row (item declared_name (item (list_of ops.Listed (many declared_name)) close)) (cells_of number (nodes_of text.now nodes.now))) faults.old.items faults.new.items) }
-{
-    if nodes.len() != 2 {
-        return Ok(None);
-    }
-    let Some(name) = read_name(alloc, text, number, &nodes[0], faults)? else {
-        return Ok(None);
-    };
-    let Some(names) = read_name_list(alloc, text, number, &nodes[1], faults)? else {
-        return Ok(None);
-    };
-    Ok(Some(vec![in alloc; name, names]?))
-}
-
-/// Reads a list of names.
-#[tactic(auto, unfolding(crate::specs::Shapes::cell_of, crate::specs::Shapes::read_word, crate::specs::Shapes::read_list))]
-fn read_name_list(
-    alloc: Global,
-    text: &[u8],
-    number: u64,
-    node: &Node,
-    faults: &mut Vec<Fault>,
-) -> Result<Option<Term>, NoMemory>
-    ensures { IfOk result (IsTold number ((cell_of number (node_of text.now node.now)).read (list_of ops.Listed (many declared_name))) faults.old.items faults.new.items) }
-{
-    let Node::List(place, items) = node else {
-        return Ok(None);
-    };
-    let Some(names) = read_names(alloc, text, number, items.as_slice(), faults)? else {
-        return Ok(None);
-    };
-    let at = Spot {
-        module: number,
-        at: place.start as u64,
-    };
-    Ok(Some(Term::Form(at, Op::Listed, names)))
-}
-
-/// Reads a source, a target and what the source may do with the target.
-pub(crate) fn read_rule(
-    alloc: Global,
-    text: &[u8],
-    number: u64,
-    nodes: &[Node],
-    faults: &mut Vec<Fault>,
-) -> Result<Option<Vec<Term>>, NoMemory>
-    ensures { IfOk result (AreTold number (read_row (item (looked_up signs.Types) (item target (item class_permission close))) (cells_of number (nodes_of text.now nodes.now))) faults.old.items faults.new.items) }
-{
-    if nodes.len() != 3 {
-        return Ok(None);
-    }
-    let Some(source) = read_looked_up(alloc, text, number, &nodes[0], Sign::Types, faults)? else {
-        return Ok(None);
-    };
-    let Some(target) = read_target(alloc, text, number, &nodes[1], faults)? else {
-        return Ok(None);
-    };
-    let Some(permission) = read_class_permission(alloc, text, number, &nodes[2], faults)? else {
-        return Ok(None);
-    };
-    Ok(Some(vec![in alloc; source, target, permission]?))
-}
-
-/// Reads a class and a set of its permissions. A word alone is not taken yet.
-#[tactic(auto, unfolding(crate::specs::Shapes::cell_of, crate::specs::Shapes::read_word, crate::specs::Shapes::read_list))]
-fn read_class_permission(
-    alloc: Global,
-    text: &[u8],
-    number: u64,
-    node: &Node,
-    faults: &mut Vec<Fault>,
-) -> Result<Option<Term>, NoMemory>
-    ensures { IfOk result (IsTold number ((cell_of number (node_of text.now node.now)).read class_permission) faults.old.items faults.new.items) }
-{
-    match node {
-        Node::Word(place) => {
-            let at = Spot {
-                module: number,
-                at: place.start as u64,
-            };
-            read_left_out(alloc, bytes_at(text, *place), at, Op::LeftOut, faults)
-        }
-        Node::Quoted(_) => Ok(None),
-        Node::List(place, items) => {
-            let at = Spot {
-                module: number,
-                at: place.start as u64,
-            };
-            let Some(parts) = read_permissions(alloc, text, number, items.as_slice(), faults)?
-            else {
-                return Ok(None);
-            };
-            Ok(Some(Term::Form(at, Op::ClassPermissions, parts)))
+impl<'a> Reader<'a> {
+    /// Reads a node by a shape.
+    #[cycle(nodes)]
+    pub(crate) fn read_node(
+        &self,
+        shape: &Shape,
+        node: &Node,
+        faults: &mut Vec<Fault>,
+    ) -> Result<Term<'a>, Stop>
+        ensures { Tells self.now.number ((cell_of self.now.number (node_of self.now.text.now node.now)).read (shape_of shape.now)) faults.old.items faults.new.items result }
+    {
+        match shape {
+            Shape::DeclaredName => self.read_name(node, faults),
+            Shape::LookedUp(sign) => self.read_looked_up(*sign, node, faults),
+            Shape::SetOf(sign) => self.read_set(*sign, node, faults),
+            Shape::Fixed(word, op) => self.read_fixed(word, *op, node, faults),
+            Shape::LeftOut(word) => self.read_this_left_out(word, node, faults),
+            Shape::AnyLeftOut => self.read_any_left_out(node, faults),
+            Shape::Either(first, second) => {
+                if first.is_meant(self.text, node) {
+                    return self.read_node(first, node, faults);
+                }
+                self.read_node(second, node, faults)
+            }
+            Shape::ListOf(op, row) => self.read_list(*op, row, node, faults),
         }
     }
-}
 
-/// Reads a class, and a set of permissions.
-fn read_permissions(
-    alloc: Global,
-    text: &[u8],
-    number: u64,
-    nodes: &[Node],
-    faults: &mut Vec<Fault>,
-) -> Result<Option<Vec<Term>>, NoMemory>
-    ensures { IfOk result (AreTold number (read_row (item (looked_up signs.Classes) (item (set_of signs.Permission) close)) (cells_of number (nodes_of text.now nodes.now))) faults.old.items faults.new.items) }
-{
-    if nodes.len() != 2 {
-        return Ok(None);
+    /// Reads a list by a row.
+    #[cycle(nodes)]
+    #[tactic(auto, unfolding(crate::specs::Shapes::cell_of, crate::specs::Shapes::read_word, crate::specs::Shapes::read_list))]
+    fn read_list(
+        &self,
+        op: Op,
+        row: &Row,
+        node: &Node,
+        faults: &mut Vec<Fault>,
+    ) -> Result<Term<'a>, Stop>
+        ensures { Tells self.now.number ((cell_of self.now.number (node_of self.now.text.now node.now)).read (list_of op (row_of row.now))) faults.old.items faults.new.items result }
+    {
+        let Node::List(place, items) = node else {
+            return Err(Stop::OtherShape);
+        };
+        let parts = self.read_row(row, items.as_slice(), faults)?;
+        Ok(Term::Form(place.start, op, parts))
     }
-    let Some(class) = read_looked_up(alloc, text, number, &nodes[0], Sign::Classes, faults)? else {
-        return Ok(None);
-    };
-    let Some(permissions) = read_set(alloc, text, number, &nodes[1], Sign::Permission, faults)?
-    else {
-        return Ok(None);
-    };
-    Ok(Some(vec![in alloc; class, permissions]?))
+
+    /// Reads the items of a list by a row.
+    #[cycle(nodes)]
+    pub(crate) fn read_row(
+        &self,
+        row: &Row,
+        nodes: &[Node],
+        faults: &mut Vec<Fault>,
+    ) -> Result<Vec<Term<'a>>, Stop>
+        ensures { TellAll self.now.number (row_reading (row_of row.now) (cells_of self.now.number (nodes_of self.now.text.now nodes.now))) faults.old.items faults.new.items result }
+    {
+        match row {
+            Row::Items(shapes) => self.read_items(shapes, nodes, faults),
+            Row::Many(shape) => self.read_many(shape, nodes, faults),
+        }
+    }
+
+    /// Reads just as many items as there are shapes.
+    #[cycle(nodes)]
+    fn read_items(
+        &self,
+        shapes: &[Shape],
+        nodes: &[Node],
+        faults: &mut Vec<Fault>,
+    ) -> Result<Vec<Term<'a>>, Stop>
+        ensures { TellAll self.now.number (row_reading (items_of (map shape_of shapes.now)) (cells_of self.now.number (nodes_of self.now.text.now nodes.now))) faults.old.items faults.new.items result }
+    {
+        if nodes.len() != shapes.len() {
+            return Err(Stop::OtherShape);
+        }
+        let mut terms = Vec::with_capacity(self.alloc, nodes.len())?;
+        for place in 0..nodes.len() {
+            let term = self.read_node(&shapes[place], &nodes[place], faults)?;
+            terms.push(term)?;
+        }
+        Ok(terms)
+    }
+
+    /// Reads any number of items.
+    #[cycle(nodes)]
+    fn read_many(
+        &self,
+        shape: &Shape,
+        nodes: &[Node],
+        faults: &mut Vec<Fault>,
+    ) -> Result<Vec<Term<'a>>, Stop>
+        ensures { TellAll self.now.number (row_reading (many (shape_of shape.now)) (cells_of self.now.number (nodes_of self.now.text.now nodes.now))) faults.old.items faults.new.items result }
+    {
+        let mut terms = Vec::with_capacity(self.alloc, nodes.len())?;
+        for node in nodes {
+            let term = self.read_node(shape, node, faults)?;
+            terms.push(term)?;
+        }
+        Ok(terms)
+    }
 }

@@ -1,18 +1,18 @@
-//! Reading set expressions. Sets lie in one another at most as deep as lists do.
+//! Reading set expressions. Sets nest at most as deep as lists do.
 
-ghost use Rattle.std.specs.Prelude.{◌≡◌, [], IfOk, MatchOption, drop, if◌then◌else◌};
+ghost use Rattle.std.specs.Prelude.{◌≡◌, MatchOption, if◌then◌else◌};
 ghost use Rattle.cil_sexpr.specs.View.{node_of, nodes_of};
-ghost use Rattle.cil_syntax.specs.Shapes.{a_word, cell_of, cells_of, formed, is_negation, many, operator_of, read_row, read_set as set_reading, set_of};
-ghost use Rattle.cil_syntax.specs.Told.{HasOperator, IsTold, IsUnion};
+ghost use Rattle.cil_syntax.specs.Shapes.{a_word, cell_of, cells_of, is_negation, many, operator_of, read_row, read_set as set_reading, set_of};
+ghost use Rattle.cil_syntax.specs.Terms.{spot_at};
+ghost use Rattle.cil_syntax.specs.Told.{HasOperator, IsUnion, TellAll, Tells};
 
 use crate::code::FaultCode;
 use crate::fault::Fault;
 use crate::kind::Sign;
-use crate::term::{Op, Spot, Term};
-use crate::words::{bytes_at, push_fault, read_left_out, read_looked_up};
-use cil_modset::NoMemory;
+use crate::reader::{Reader, bytes_at};
+use crate::stop::Stop;
+use crate::term::{Op, Term};
 use cil_sexpr::{Node, Span};
-use std::alloc::Global;
 
 /// The operator that a word is at the head of a set.
 fn find_operator(word: &[u8]) -> Option<Op>
@@ -43,43 +43,7 @@ fn operand_count(op: Op) -> usize
     }
 }
 
-/// Reads a set: a word, a list of sets, or an operator with its operands. Operators and `all` are not taken yet.
-#[cycle(sets)]
-#[tactic(auto, unfolding(crate::specs::Shapes::cell_of))]
-pub(crate) fn read_set(
-    alloc: Global,
-    text: &[u8],
-    number: u64,
-    node: &Node,
-    sign: Sign,
-    faults: &mut Vec<Fault>,
-) -> Result<Option<Term>, NoMemory>
-    ensures { IfOk result (IsTold number ((cell_of number (node_of text.now node.now)).read (set_of sign)) faults.old.items faults.new.items) }
-{
-    match node {
-        Node::Word(place) => {
-            let at = Spot {
-                module: number,
-                at: place.start as u64,
-            };
-            let word = bytes_at(text, *place);
-            if word == b"all".as_slice() {
-                return read_left_out(alloc, word, at, Op::All, faults);
-            }
-            read_looked_up(alloc, text, number, node, sign, faults)
-        }
-        Node::Quoted(_) => Ok(None),
-        Node::List(place, items) => {
-            let at = Spot {
-                module: number,
-                at: place.start as u64,
-            };
-            read_set_list(alloc, text, items.as_slice(), at, sign, faults)
-        }
-    }
-}
-
-/// The operator at the head of a list, and where it stands.
+/// The operator at the head of a list, and its place.
 fn operator_at_head(text: &[u8], nodes: &[Node]) -> Option<(Op, Span)>
     ensures { MatchOption result (IsUnion text.now nodes.now) (λ found. HasOperator text.now nodes.now found.0 found.1) }
 {
@@ -93,54 +57,71 @@ fn operator_at_head(text: &[u8], nodes: &[Node]) -> Option<(Op, Span)>
     }
 }
 
-/// Reads a set that is a list: by the operator at its head, or as the union of its items. Behind `not` stands one
-/// set, behind each other operator stand two.
-#[cycle(sets)]
-fn read_set_list(
-    alloc: Global,
-    text: &[u8],
-    nodes: &[Node],
-    at: Spot,
-    sign: Sign,
-    faults: &mut Vec<Fault>,
-) -> Result<Option<Term>, NoMemory>
-    ensures { IfOk result (IsTold at.module (set_reading at sign (cells_of at.module (nodes_of text.now nodes.now))) faults.old.items faults.new.items) }
-{
-    let Some((op, place)) = operator_at_head(text, nodes) else {
-        return read_sets(alloc, text, nodes, 0, at, Op::Union, sign, faults);
-    };
-    let head = Spot {
-        module: at.module,
-        at: place.start as u64,
-    };
-    let word = bytes_at(text, place);
-    push_fault(faults, alloc, FaultCode::Unsupported, head, word)?;
-    if nodes.len() != operand_count(op) + 1 {
-        return Ok(None);
+impl<'a> Reader<'a> {
+    /// Reads a set: a word, a list of sets, or an operator with its operands. Operators and `all` are not supported yet.
+    #[cycle(sets)]
+    #[tactic(auto, unfolding(crate::specs::Shapes::cell_of))]
+    pub(crate) fn read_set(
+        &self,
+        sign: Sign,
+        node: &Node,
+        faults: &mut Vec<Fault>,
+    ) -> Result<Term<'a>, Stop>
+        ensures { Tells self.now.number ((cell_of self.now.number (node_of self.now.text.now node.now)).read (set_of sign)) faults.old.items faults.new.items result }
+    {
+        match node {
+            Node::Word(place) => {
+                let word = bytes_at(self.text, *place);
+                if word == b"all".as_slice() {
+                    return self.read_left_out(word, place.start, Op::All, faults);
+                }
+                self.read_looked_up(sign, node, faults)
+            }
+            Node::Quoted(_) => Err(Stop::OtherShape),
+            Node::List(place, items) => self.read_set_list(sign, items.as_slice(), place.start, faults),
+        }
     }
-    read_sets(alloc, text, nodes, 1, at, op, sign, faults)
-}
 
-/// Reads any number of sets, from the first that counts, and joins them.
-#[cycle(sets)]
-fn read_sets(
-    alloc: Global,
-    text: &[u8],
-    nodes: &[Node],
-    first: usize,
-    at: Spot,
-    op: Op,
-    sign: Sign,
-    faults: &mut Vec<Fault>,
-) -> Result<Option<Term>, NoMemory>
-    ensures { IfOk result (IsTold at.module (formed at op [] (read_row (many (set_of sign)) (cells_of at.module (nodes_of text.now (drop first nodes.now))))) faults.old.items faults.new.items) }
-{
-    let mut terms = Vec::with_capacity(alloc, nodes.len())?;
-    for place in first..nodes.len() {
-        let Some(term) = read_set(alloc, text, at.module, &nodes[place], sign, faults)? else {
-            return Ok(None);
+    /// Reads a set that is a list: by the operator at its head, or as the union of its items. `not` has one operand, each
+    /// other operator has two.
+    #[cycle(sets)]
+    fn read_set_list(
+        &self,
+        sign: Sign,
+        nodes: &[Node],
+        at: u32,
+        faults: &mut Vec<Fault>,
+    ) -> Result<Term<'a>, Stop>
+        ensures { Tells self.now.number (set_reading (spot_at self.now.number at) sign (cells_of self.now.number (nodes_of self.now.text.now nodes.now))) faults.old.items faults.new.items result }
+    {
+        let Some((op, place)) = operator_at_head(self.text, nodes) else {
+            let parts = self.read_sets(sign, nodes, faults)?;
+            return Ok(Term::Form(at, Op::Union, parts));
         };
-        terms.push(term)?;
+        let word = bytes_at(self.text, place);
+        self.report(faults, FaultCode::Unsupported, place.start, word)?;
+        if nodes.len() != operand_count(op) + 1 {
+            return Err(Stop::OtherShape);
+        }
+        let operands = self.read_sets(sign, &nodes[1..], faults)?;
+        Ok(Term::Form(at, op, operands))
     }
-    Ok(Some(Term::Form(at, op, terms)))
+
+    /// Reads any number of sets.
+    #[cycle(sets)]
+    fn read_sets(
+        &self,
+        sign: Sign,
+        nodes: &[Node],
+        faults: &mut Vec<Fault>,
+    ) -> Result<Vec<Term<'a>>, Stop>
+        ensures { TellAll self.now.number (read_row (many (set_of sign)) (cells_of self.now.number (nodes_of self.now.text.now nodes.now))) faults.old.items faults.new.items result }
+    {
+        let mut terms = Vec::with_capacity(self.alloc, nodes.len())?;
+        for node in nodes {
+            let term = self.read_set(sign, node, faults)?;
+            terms.push(term)?;
+        }
+        Ok(terms)
+    }
 }

@@ -1,26 +1,99 @@
-//! What a statement says: its words, each with its place and what it wants.
+//! What a statement says: its words, each with its position and what it wants. Words are parts of the texts of the modules,
+//! not copies of them.
 
-use crate::fault::Bytes;
+ghost use Rattle.std.specs.Prelude.{◌≡◌};
+ghost use Rattle.cil_syntax.specs.Said.{word_in};
+ghost use Rattle.cil_syntax.specs.Terms.{spot_at};
+
 use crate::kind::Sign;
+use std::marker::Model;
 
-/// A place in the modules: the identity of what is written there.
+/// Bytes of a module's text, where they are written. Contracts see them as their list.
+#[derive(Debug, Drop)]
+pub struct Excerpt<'a> {
+    bytes: &'a [u8],
+}
+
+impl<'a> Model for Excerpt<'a> {
+    ghost use Rattle.std.specs.Prelude.{List, ℕ};
+
+    ghost Value = { List ℕ };
+
+    ghost view = { λ a. a.bytes.now };
+}
+
+impl<'a> Excerpt<'a> {
+    ghost use Rattle.std.specs.Prelude.{◌≡◌};
+
+    /// These bytes, without a copy.
+    pub fn of(bytes: &'a [u8]) -> Excerpt<'a>
+        ensures { result ≡ bytes.now }
+    {
+        Excerpt { bytes }
+    }
+
+    /// The bytes.
+    pub fn as_slice(&self) -> &'a [u8]
+        ensures { result.now ≡ self.now }
+    {
+        self.bytes
+    }
+}
+
+/// A position in the modules: the identity of what is written there.
 #[derive(Clone, Copy, Debug, PartialEq, Eq)]
 pub struct Spot {
     /// The number of the module, counted from 0 in the byte order of the texts.
     pub module: u64,
-    /// How many bytes of the module stand before the place.
+    /// The number of bytes of the module before the position.
     pub at: u64,
+}
+
+impl Spot {
+    /// A position by the number of its module and the number of bytes before it.
+    pub fn of(module: u64, at: u32) -> Spot
+        ensures { result ≡ spot_at «module» at }
+    {
+        Spot {
+            module,
+            at: at as u64,
+        }
+    }
 }
 
 /// A looked-up word.
 #[derive(Debug, Drop)]
-pub struct Word {
+pub struct Word<'a> {
     /// Where it is written.
     pub at: Spot,
     /// Its bytes.
-    pub bytes: Bytes,
+    pub bytes: Excerpt<'a>,
     /// What it wants.
     pub sign: Sign,
+}
+
+/// A looked-up word as a term has it: its module is that of the statement.
+#[derive(Debug, Drop)]
+pub struct LookedUp<'a> {
+    /// Its bytes.
+    pub bytes: Excerpt<'a>,
+    /// The number of bytes of its module before it.
+    pub at: u32,
+    /// What it wants.
+    pub sign: Sign,
+}
+
+impl<'a> LookedUp<'a> {
+    /// The word, with the number of the module in which it is written.
+    pub fn in_module(&self, module: u64) -> Word<'a>
+        ensures { result ≡ word_in «module» self.now }
+    {
+        Word {
+            at: Spot::of(module, self.at),
+            bytes: Excerpt::of(self.bytes.as_slice()),
+            sign: self.sign,
+        }
+    }
 }
 
 /// What joins the parts of a term.
@@ -44,17 +117,21 @@ pub enum Op {
     All,
     /// The source itself.
     Itself,
-    /// A word that is not taken, and for which stands a fault.
+    /// A word that is not supported, and that is reported.
     LeftOut,
 }
 
-/// What a statement says: a word, a declared name, or a list or fixed word with its parts.
+/// What a statement says: a word, a declared name, or a list or fixed word with its parts. A term is of the module of its
+/// statement; its position is the number of bytes of that module before it.
 #[derive(Debug, Drop)]
-pub enum Term {
+pub enum Term<'a> {
     /// A looked-up word.
-    Leaf(Word),
-    /// A declared name, and where it stands.
-    Name(Spot, Bytes),
-    /// What joins some parts, and where it begins.
-    Form(Spot, Op, Vec<Term>),
+    Leaf(LookedUp<'a>),
+    /// A declared name, and its position.
+    Name(u32, Excerpt<'a>),
+    /// What joins some parts, and the position where it begins.
+    Form(u32, Op, Vec<Term<'a>>),
 }
+
+// Policies have millions of terms.
+const _: () = prove!(size_of::<Term>() <= 40);

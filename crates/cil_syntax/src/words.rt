@@ -1,76 +1,20 @@
-//! Reading words: each as a term, with its faults put behind those of the words before it.
+//! Reading words: each as a term, with its faults added behind those of the words before it.
 
-ghost use Rattle.std.specs.Prelude.{◌≡◌, ◌∷◌, ◌++◌, [], IfOk, OnOk, slice_range};
+ghost use Rattle.std.specs.Prelude.{◌≡◌, ◌∷◌, ◌++◌, [], OnOk, slice_range};
 ghost use Rattle.cil_sexpr.specs.View.{node_of};
-ghost use Rattle.cil_syntax.specs.Shapes.{cell_of, declared_name, inner_at, is_spelled, looked_up, read_left_out as left_out_reading, word_faults};
-ghost use Rattle.cil_syntax.specs.Table.{target};
-ghost use Rattle.cil_syntax.specs.Told.{IsTold, told};
-ghost use Rattle.cil_syntax.specs.Written.{at_top, fault_of};
+ghost use Rattle.cil_syntax.specs.Shapes.{any_left_out, cell_of, declared_name, fixed as fixed_shape, inner_at, is_spelled, left_out, looked_up, read_left_out as left_out_reading, word_faults};
+ghost use Rattle.cil_syntax.specs.Terms.{spot_at};
+ghost use Rattle.cil_syntax.specs.Told.{Tells, told};
 
 use crate::code::FaultCode;
-use crate::fault::{Bytes, Fault};
+use crate::fault::Fault;
 use crate::kind::Sign;
+use crate::reader::{Reader, bytes_at};
 use crate::spelling::{is_name, is_path, is_reserved};
-use crate::term::{Op, Spot, Term, Word};
+use crate::stop::Stop;
+use crate::term::{Excerpt, LookedUp, Op, Term};
 use cil_modset::NoMemory;
-use cil_sexpr::{Node, Span};
-use std::alloc::Global;
-
-/// The bytes of a text at a place, as far as the text goes.
-pub(crate) fn bytes_at(text: &[u8], place: Span) -> &[u8]
-    ensures { result.now ≡ slice_range text.now place.start place.end }
-{
-    let end = (place.end as usize).min(text.len());
-    let start = (place.start as usize).min(end);
-    &text[start..end]
-}
-
-/// A copy of a word.
-pub(crate) fn copied(alloc: Global, word: &[u8]) -> Result<Bytes, NoMemory>
-    ensures { IfOk result (λ bytes. bytes ≡ word.now) }
-{
-    Ok(Bytes::from_vec(Vec::from_slice(alloc, word)?))
-}
-
-/// Tells one fault.
-pub(crate) fn push_fault(
-    faults: &mut Vec<Fault>,
-    alloc: Global,
-    code: FaultCode,
-    at: Spot,
-    word: &[u8],
-) -> Result<(), NoMemory>
-    ensures { OnOk result (faults.new.items ≡ faults.old.items ++ fault_of at.module at_top (inner_at at code word.now) ∷ []) }
-{
-    let space = Bytes::from_vec(Vec::new(alloc));
-    let word = copied(alloc, word)?;
-    faults.push(Fault {
-        code,
-        module: at.module,
-        at: at.at,
-        space,
-        word,
-    })?;
-    Ok(())
-}
-
-/// Tells what is wrong with the spelling of a word: that it is reserved, or else that it is not spelled well.
-pub(crate) fn push_word_faults(
-    faults: &mut Vec<Fault>,
-    alloc: Global,
-    at: Spot,
-    spelled: bool,
-    word: &[u8],
-) -> Result<(), NoMemory>
-    ensures { OnOk result (faults.new.items ≡ faults.old.items ++ told at.module (word_faults at spelled word.now)) }
-{
-    if is_reserved(word) {
-        push_fault(faults, alloc, FaultCode::ReservedName, at, word)?;
-    } else if !spelled {
-        push_fault(faults, alloc, FaultCode::BadName, at, word)?;
-    }
-    Ok(())
-}
+use cil_sexpr::Node;
 
 /// Whether a word is spelled as its sign wants.
 pub(crate) fn is_spelled_for(sign: Sign, word: &[u8]) -> bool
@@ -85,95 +29,131 @@ pub(crate) fn is_spelled_for(sign: Sign, word: &[u8]) -> bool
     }
 }
 
-/// Reads a declared name. A string or a list is none.
-#[tactic(auto, unfolding(crate::specs::Shapes::cell_of, crate::specs::Shapes::read_word, crate::specs::Shapes::read_list))]
-pub(crate) fn read_name(
-    alloc: Global,
-    text: &[u8],
-    number: u64,
-    node: &Node,
-    faults: &mut Vec<Fault>,
-) -> Result<Option<Term>, NoMemory>
-    ensures { IfOk result (IsTold number ((cell_of number (node_of text.now node.now)).read declared_name) faults.old.items faults.new.items) }
-{
-    let Node::Word(place) = node else {
-        return Ok(None);
-    };
-    let at = Spot {
-        module: number,
-        at: place.start as u64,
-    };
-    let word = bytes_at(text, *place);
-    push_word_faults(faults, alloc, at, is_name(word), word)?;
-    Ok(Some(Term::Name(at, copied(alloc, word)?)))
-}
-
-/// Reads a word that is looked up. A string or a list is none.
-#[tactic(auto, unfolding(crate::specs::Shapes::cell_of, crate::specs::Shapes::read_word, crate::specs::Shapes::read_list))]
-pub(crate) fn read_looked_up(
-    alloc: Global,
-    text: &[u8],
-    number: u64,
-    node: &Node,
-    sign: Sign,
-    faults: &mut Vec<Fault>,
-) -> Result<Option<Term>, NoMemory>
-    ensures { IfOk result (IsTold number ((cell_of number (node_of text.now node.now)).read (looked_up sign)) faults.old.items faults.new.items) }
-{
-    let Node::Word(place) = node else {
-        return Ok(None);
-    };
-    let at = Spot {
-        module: number,
-        at: place.start as u64,
-    };
-    let word = bytes_at(text, *place);
-    push_word_faults(faults, alloc, at, is_spelled_for(sign, word), word)?;
-    let bytes = copied(alloc, word)?;
-    Ok(Some(Term::Leaf(Word { at, bytes, sign })))
-}
-
-/// Reads a word that is not taken: it is a fault, and no other.
-pub(crate) fn read_left_out(
-    alloc: Global,
-    word: &[u8],
-    at: Spot,
-    op: Op,
-    faults: &mut Vec<Fault>,
-) -> Result<Option<Term>, NoMemory>
-    ensures { IfOk result (IsTold at.module (left_out_reading at op word.now) faults.old.items faults.new.items) }
-{
-    push_fault(faults, alloc, FaultCode::Unsupported, at, word)?;
-    Ok(Some(Term::Form(at, op, Vec::new(alloc))))
-}
-
-/// Reads the target of a rule: a word, or `self`. `notself` and `other` are not taken.
-#[tactic(auto, unfolding(crate::specs::Shapes::cell_of, crate::specs::Shapes::read_word, crate::specs::Shapes::read_list))]
-pub(crate) fn read_target(
-    alloc: Global,
-    text: &[u8],
-    number: u64,
-    node: &Node,
-    faults: &mut Vec<Fault>,
-) -> Result<Option<Term>, NoMemory>
-    ensures { IfOk result (IsTold number ((cell_of number (node_of text.now node.now)).read target) faults.old.items faults.new.items) }
-{
-    let Node::Word(place) = node else {
-        return Ok(None);
-    };
-    let at = Spot {
-        module: number,
-        at: place.start as u64,
-    };
-    let word = bytes_at(text, *place);
-    if word == b"self".as_slice() {
-        return Ok(Some(Term::Form(at, Op::Itself, Vec::new(alloc))));
+impl<'a> Reader<'a> {
+    /// Reports what is wrong with the spelling of a word: that it is reserved, or else that it is not spelled well.
+    fn report_word(
+        &self,
+        faults: &mut Vec<Fault>,
+        at: u32,
+        spelled: bool,
+        word: &[u8],
+    ) -> Result<(), NoMemory>
+        ensures { OnOk result (faults.new.items ≡ faults.old.items ++ told self.now.number (word_faults (spot_at self.now.number at) spelled word.now)) }
+    {
+        if is_reserved(word) {
+            self.report(faults, FaultCode::ReservedName, at, word)?;
+        } else if !spelled {
+            self.report(faults, FaultCode::BadName, at, word)?;
+        }
+        Ok(())
     }
-    if word == b"notself".as_slice() {
-        return read_left_out(alloc, word, at, Op::LeftOut, faults);
+
+    /// Reads a declared name. A string or a list is none.
+    #[tactic(auto, unfolding(crate::specs::Shapes::cell_of, crate::specs::Shapes::read_word, crate::specs::Shapes::read_list))]
+    pub(crate) fn read_name(
+        &self,
+        node: &Node,
+        faults: &mut Vec<Fault>,
+    ) -> Result<Term<'a>, Stop>
+        ensures { Tells self.now.number ((cell_of self.now.number (node_of self.now.text.now node.now)).read declared_name) faults.old.items faults.new.items result }
+    {
+        let Node::Word(place) = node else {
+            return Err(Stop::OtherShape);
+        };
+        let word = bytes_at(self.text, *place);
+        self.report_word(faults, place.start, is_name(word), word)?;
+        Ok(Term::Name(place.start, Excerpt::of(word)))
     }
-    if word == b"other".as_slice() {
-        return read_left_out(alloc, word, at, Op::LeftOut, faults);
+
+    /// Reads a word that is looked up. A string or a list is none.
+    #[tactic(auto, unfolding(crate::specs::Shapes::cell_of, crate::specs::Shapes::read_word, crate::specs::Shapes::read_list))]
+    pub(crate) fn read_looked_up(
+        &self,
+        sign: Sign,
+        node: &Node,
+        faults: &mut Vec<Fault>,
+    ) -> Result<Term<'a>, Stop>
+        ensures { Tells self.now.number ((cell_of self.now.number (node_of self.now.text.now node.now)).read (looked_up sign)) faults.old.items faults.new.items result }
+    {
+        let Node::Word(place) = node else {
+            return Err(Stop::OtherShape);
+        };
+        let word = bytes_at(self.text, *place);
+        self.report_word(faults, place.start, is_spelled_for(sign, word), word)?;
+        Ok(Term::Leaf(LookedUp {
+            bytes: Excerpt::of(word),
+            at: place.start,
+            sign,
+        }))
     }
-    read_looked_up(alloc, text, number, node, Sign::Types, faults)
+
+    /// Reads a word that is not supported: it is reported, and has no other fault.
+    pub(crate) fn read_left_out(
+        &self,
+        word: &[u8],
+        at: u32,
+        op: Op,
+        faults: &mut Vec<Fault>,
+    ) -> Result<Term<'a>, Stop>
+        ensures { Tells self.now.number (left_out_reading (spot_at self.now.number at) op word.now) faults.old.items faults.new.items result }
+    {
+        self.report(faults, FaultCode::Unsupported, at, word)?;
+        Ok(Term::Form(at, op, Vec::new(self.alloc)))
+    }
+
+    /// Reads one word, as it is.
+    #[tactic(auto, unfolding(crate::specs::Shapes::cell_of, crate::specs::Shapes::read_word, crate::specs::Shapes::read_list))]
+    pub(crate) fn read_fixed(
+        &self,
+        fixed: &[u8],
+        op: Op,
+        node: &Node,
+        faults: &mut Vec<Fault>,
+    ) -> Result<Term<'a>, Stop>
+        ensures { Tells self.now.number ((cell_of self.now.number (node_of self.now.text.now node.now)).read (fixed_shape fixed.now op)) faults.old.items faults.new.items result }
+    {
+        let Node::Word(place) = node else {
+            return Err(Stop::OtherShape);
+        };
+        if bytes_at(self.text, *place) != fixed {
+            return Err(Stop::OtherShape);
+        }
+        Ok(Term::Form(place.start, op, Vec::new(self.alloc)))
+    }
+
+    /// Reads one word that is not supported.
+    #[tactic(auto, unfolding(crate::specs::Shapes::cell_of, crate::specs::Shapes::read_word, crate::specs::Shapes::read_list))]
+    pub(crate) fn read_this_left_out(
+        &self,
+        word: &[u8],
+        node: &Node,
+        faults: &mut Vec<Fault>,
+    ) -> Result<Term<'a>, Stop>
+        ensures { Tells self.now.number ((cell_of self.now.number (node_of self.now.text.now node.now)).read (left_out word.now)) faults.old.items faults.new.items result }
+    {
+        let Node::Word(place) = node else {
+            return Err(Stop::OtherShape);
+        };
+        let written = bytes_at(self.text, *place);
+        if written != word {
+            return Err(Stop::OtherShape);
+        }
+        self.read_left_out(written, place.start, Op::LeftOut, faults)
+    }
+
+    /// Reads any word, which is not supported.
+    #[tactic(auto, unfolding(crate::specs::Shapes::cell_of, crate::specs::Shapes::read_word, crate::specs::Shapes::read_list))]
+    pub(crate) fn read_any_left_out(
+        &self,
+        node: &Node,
+        faults: &mut Vec<Fault>,
+    ) -> Result<Term<'a>, Stop>
+        ensures { Tells self.now.number ((cell_of self.now.number (node_of self.now.text.now node.now)).read any_left_out) faults.old.items faults.new.items result }
+    {
+        let Node::Word(place) = node else {
+            return Err(Stop::OtherShape);
+        };
+        let word = bytes_at(self.text, *place);
+        self.read_left_out(word, place.start, Op::LeftOut, faults)
+    }
 }

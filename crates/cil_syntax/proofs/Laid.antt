@@ -1,0 +1,106 @@
+-- Nodes read by shapes.
+use Rattle.std.proofs.Common.{◌≡◌, ℕ, Bool, true, false, if◌then◌else◌, ◌||◌, List, map, refl, sym, ◌∙◌, ap, subst, Bor, rules}
+use Rattle.cil_sexpr.specs.declared.node.Node as nodes
+use Rattle.cil_sexpr.specs.declared.node.Span.{Span}
+use Rattle.cil_sexpr.specs.Tree.{Node, Word, Quoted, Branch}
+use Rattle.cil_sexpr.specs.View.{node_of}
+use Rattle.cil_syntax.specs.Shapes.{Reading, Shape, declared_name, looked_up, set_of, fixed, left_out, any_left_out, either, list_of, many, a_string, is_meant, read_word, read_list, Cell, cell_of}
+use Rattle.std.specs.Prelude.{Option, None, Result, IfOk}
+use Rattle.cil_syntax.specs.declared.fault.Fault.{Fault}
+use Rattle.cil_syntax.specs.declared.shape.Row.{the_lemmas}
+use Rattle.cil_syntax.specs.declared.shape.Shape as shapes
+use Rattle.cil_syntax.specs.declared.term.Term as rust
+use Rattle.cil_syntax.specs.declared.kind.Sign.{Sign}
+use Rattle.cil_syntax.specs.declared.shape.Row as rows
+use Rattle.cil_syntax.specs.declared.term.Op.{Op}
+use Rattle.cil_syntax.specs.Laid.{items_of, row_of, shape_of}
+use Rattle.cil_syntax.specs.declared.stop.Stop.{Stop}
+use Rattle.cil_syntax.specs.Told.{Tells}
+use Rattle.cil_syntax.proofs.Heads.{word_view, quoted_view, list_view}
+
+-- no shape is meant for a string
+not_string : (shape : Shape) → false ≡ is_meant shape a_string
+not_string declared_name = refl
+not_string (looked_up sign) = refl
+not_string (set_of sign) = refl
+not_string (fixed word op) = refl
+not_string (left_out word) = refl
+not_string any_left_out = refl
+not_string (either first second) = not_string second ∙ ap (λ b. b || is_meant second a_string) (not_string first)
+not_string (list_of op row) = refl
+
+pub no_string : (text : List ℕ) (m : ℕ) (n : nodes.Node) (place : Span) (shape : Shape) → n ≡ nodes.Quoted place
+    → false ≡ is_meant shape (cell_of m (node_of text n)).face
+unfolding cell_of
+no_string text m n place shape is =
+    not_string shape ∙ sym (ap (λ x. is_meant shape (cell_of m (node_of text x)).face) is ∙ ap (λ v. is_meant shape (cell_of m v).face) (quoted_view text place))
+
+same_either : {T : Type 0} (b : Bool) → (let nothing : Option T = None in (nothing ≡ (if b then nothing else nothing)))
+same_either true = refl
+same_either false = refl
+
+-- one of two shapes reads as the one that is meant
+either_read : (m : ℕ) (n : Node) (first second : Shape)
+    → (cell_of m n).read (either first second) ≡ (if is_meant first (cell_of m n).face then (cell_of m n).read first else (cell_of m n).read second)
+unfolding cell_of read_word read_list
+either_read m (Word place bytes) first second = refl
+either_read m (Quoted place bytes) first second = same_either (is_meant first a_string)
+either_read m (Branch place inner) first second = refl
+
+module _ (m : ℕ) (n : Node) (first second : Shape) where
+  by_either : (b : Bool) → b ≡ is_meant first (cell_of m n).face
+      → (cell_of m n).read (either first second) ≡ (if b then (cell_of m n).read first else (cell_of m n).read second)
+  by_either b e = either_read m n first second ∙ ap (λ x. if x then (cell_of m n).read first else (cell_of m n).read second) (sym e)
+
+either_view : (s : shapes.Shape) (a b : Bor shapes.Shape) → s ≡ shapes.Either a b → shape_of s ≡ either (shape_of a.now) (shape_of b.now)
+either_view s a b is = rw is (search (rules, the_lemmas))
+
+module _ (m : ℕ) (n : Node) (s : shapes.Shape) (first second : Bor shapes.Shape) (is : s ≡ shapes.Either first second) (old new : List Fault) (r : Result rust.Term Stop) where
+  -- it reads as the first
+  pub first_told : (b : Bool) → b ≡ is_meant (shape_of first.now) (cell_of m n).face → b ≡ true
+      → Tells m ((cell_of m n).read (shape_of first.now)) old new r → Tells m ((cell_of m n).read (shape_of s)) old new r
+  first_told b e holds told =
+      subst (λ w. Tells m w old new r)
+      (sym (ap (cell_of m n).read (either_view s first second is) ∙ by_either m n (shape_of first.now) (shape_of second.now) true (sym holds ∙ e))) told
+
+  -- it reads as the second
+  pub second_told : (b : Bool) → b ≡ is_meant (shape_of first.now) (cell_of m n).face → b ≡ false
+      → Tells m ((cell_of m n).read (shape_of second.now)) old new r → Tells m ((cell_of m n).read (shape_of s)) old new r
+  second_told b e fails told =
+      subst (λ w. Tells m w old new r)
+      (sym (ap (cell_of m n).read (either_view s first second is) ∙ by_either m n (shape_of first.now) (shape_of second.now) false (sym fails ∙ e))) told
+
+-- ---- how each shape and row of Rust is seen
+
+module _ (b : Bor (List shapes.Shape)) where
+  pub items_view : row_of (rows.Items b) ≡ items_of (map shape_of b.now)
+  items_view = search (rules, the_lemmas)
+
+pub many_view : (b : Bor shapes.Shape) → row_of (rows.Many b) ≡ many (shape_of b.now)
+many_view b = search (rules, the_lemmas)
+
+pub name_view : shape_of shapes.DeclaredName ≡ declared_name
+name_view = search (rules, the_lemmas)
+
+pub looked_up_view : (sign : Sign) → shape_of (shapes.LookedUp sign) ≡ looked_up sign
+looked_up_view sign = search (rules, the_lemmas)
+
+pub set_view : (sign : Sign) → shape_of (shapes.SetOf sign) ≡ set_of sign
+set_view sign = search (rules, the_lemmas)
+
+pub fixed_view : (b : Bor (List ℕ)) (op : Op) → shape_of (shapes.Fixed b op) ≡ fixed b.now op
+fixed_view b op = search (rules, the_lemmas)
+
+pub left_out_view : (b : Bor (List ℕ)) → shape_of (shapes.LeftOut b) ≡ left_out b.now
+left_out_view b = search (rules, the_lemmas)
+
+pub any_view : shape_of shapes.AnyLeftOut ≡ any_left_out
+any_view = search (rules, the_lemmas)
+
+pub either_is : (a b : Bor shapes.Shape) → shape_of (shapes.Either a b) ≡ either (shape_of a.now) (shape_of b.now)
+either_is a b = search (rules, the_lemmas)
+
+pub listed_view : (op : Op) (row : rows.Row) → shape_of (shapes.ListOf op row) ≡ list_of op (row_of row)
+listed_view op row = search (rules, the_lemmas)
+
+pub ruleset the_views = (items_view, many_view, name_view, looked_up_view, set_view, fixed_view, left_out_view, any_view, either_is, listed_view)

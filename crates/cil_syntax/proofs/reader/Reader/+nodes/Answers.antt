@@ -1,0 +1,52 @@
+use Rattle.cil_sexpr.specs.View.{node_of}
+use Rattle.cil_syntax.specs.Laid.{shape_of}
+use Rattle.cil_syntax.proofs.ItemsRead.{more_read, stop_told, all_read, many_more, many_end, items_more, items_end, wrong_length}
+use Rattle.cil_syntax.proofs.Laid.{first_told, second_told}
+use Rattle.cil_syntax.proofs.reader.Reader.+nodes.Goals as goal
+
+pub read_items-returns-then-nodes-shapes : goal.read_items-returns-then-nodes-shapes
+read_items-returns-then-nodes-shapes t c = wrong_length c.args.self.now.number c.args.self.now.text.now c.args.nodes.now c.args.shapes.now _ c.if-nodes-shapes.true
+
+pub read_items-returns-in_err-term : goal.read_items-returns-in_err-term
+read_items-returns-in_err-term t c =
+    stop_told c.args.self.now.number _ _ _ _ _ _ _ _ _ _ c.loop-place.invariant
+    (items_more c.args.self.now.number c.args.self.now.text.now c.args.nodes.now c.args.shapes.now c.if-nodes-shapes.false _ _ _ c.loop-place-test.true c.index-nodes-place.is c.index-shapes-place.is)
+    c.in_err-term.ensures c.from_residual-in_err-term.ensures.1
+
+pub read_items-loop-place-preserved : goal.read_items-loop-place-preserved
+read_items-loop-place-preserved t c =
+    more_read c.args.self.now.number _ _ _ _ _ _ _ _ c.in_ok-term.term _ c.loop-place.invariant
+    (items_more c.args.self.now.number c.args.self.now.text.now c.args.nodes.now c.args.shapes.now c.if-nodes-shapes.false _ _ _ c.loop-place-test.true c.index-nodes-place.is c.index-shapes-place.is)
+    c.in_ok-term.ensures c.in_ok-push.ensures.items
+
+pub read_items-returns : goal.read_items-returns
+read_items-returns t c =
+    all_read c.args.self.now.number _ _ _ _ c.loop-place.terms c.loop-place.invariant
+    (items_end c.args.self.now.number c.args.self.now.text.now c.args.nodes.now c.args.shapes.now c.if-nodes-shapes.false _ c.loop-place-test.false)
+
+pub read_many-returns-in_err-term : goal.read_many-returns-in_err-term
+read_many-returns-in_err-term t c =
+    stop_told c.args.self.now.number _ _ _ _ _ _ _ _ _ _ c.loop-node.invariant
+    (many_more c.args.self.now.number c.args.self.now.text.now c.args.nodes.now (shape_of c.args.shape.now) _ _ c.loop-node-test.true c.node-item.is)
+    c.in_err-term.ensures c.from_residual-in_err-term.ensures.1
+
+pub read_many-loop-node-preserved : goal.read_many-loop-node-preserved
+read_many-loop-node-preserved t c =
+    more_read c.args.self.now.number _ _ _ _ _ _ _ _ c.in_ok-term.term _ c.loop-node.invariant
+    (many_more c.args.self.now.number c.args.self.now.text.now c.args.nodes.now (shape_of c.args.shape.now) _ _ c.loop-node-test.true c.node-item.is)
+    c.in_ok-term.ensures c.in_ok-push.ensures.items
+
+pub read_many-returns : goal.read_many-returns
+read_many-returns t c =
+    all_read c.args.self.now.number _ _ _ _ c.loop-node.terms c.loop-node.invariant
+    (many_end c.args.self.now.number c.args.self.now.text.now c.args.nodes.now (shape_of c.args.shape.now) _ c.loop-node-test.false)
+
+pub read_node-returns-then-is_meant : goal.read_node-returns-then-is_meant
+read_node-returns-then-is_meant t c =
+    first_told c.args.self.now.number (node_of c.args.self.now.text.now c.args.node.now) c.args.shape.now c.in-Either.first c.in-Either.second c.in-Either.is _ _ _ c.is_meant.result
+    (c.is_meant.ensures c.args.self.now.number) c.if-is_meant.true c.read_node.ensures
+
+pub read_node-returns-else-is_meant : goal.read_node-returns-else-is_meant
+read_node-returns-else-is_meant t c =
+    second_told c.args.self.now.number (node_of c.args.self.now.text.now c.args.node.now) c.args.shape.now c.in-Either.first c.in-Either.second c.in-Either.is _ _ _ c.is_meant.result
+    (c.is_meant.ensures c.args.self.now.number) c.if-is_meant.false c.read_node-in-Either.ensures
