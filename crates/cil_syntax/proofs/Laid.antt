@@ -1,10 +1,10 @@
 -- Nodes read by shapes.
-use Rattle.std.proofs.Common.{◌≡◌, ℕ, Bool, true, false, if◌then◌else◌, ◌||◌, List, map, refl, sym, ◌∙◌, ap, subst, Bor, rules}
+use Rattle.std.proofs.Common.{◌≡◌, ℕ, Bool, true, false, if◌then◌else◌, ◌||◌, List, map, length, refl, sym, ◌∙◌, ap, subst, Bor, rules}
 use Rattle.cil_sexpr.specs.declared.node.Node as nodes
 use Rattle.cil_sexpr.specs.declared.node.Span.{Span}
 use Rattle.cil_sexpr.specs.Tree.{Node, Word, Quoted, Branch}
-use Rattle.cil_sexpr.specs.View.{node_of}
-use Rattle.cil_syntax.specs.Shapes.{Reading, Shape, declared_name, looked_up, set_of, fixed, left_out, any_left_out, either, list_of, many, a_string, is_meant, read_word, read_list, Cell, cell_of}
+use Rattle.cil_sexpr.specs.View.{node_of, nodes_of}
+use Rattle.cil_syntax.specs.Shapes.{Reading, Row, Shape, declared_name, looked_up, set_of, fixed, left_out, any_left_out, either, list_of, many, counted, a_string, is_meant, read_word, read_list, read_row, Cell, cell_of, cells_of}
 use Rattle.std.specs.Prelude.{Option, None, Result, IfOk}
 use Rattle.cil_syntax.specs.declared.fault.Fault.{Fault}
 use Rattle.cil_syntax.specs.declared.shape.Row.{the_lemmas}
@@ -15,7 +15,11 @@ use Rattle.cil_syntax.specs.declared.shape.Row as rows
 use Rattle.cil_syntax.specs.declared.term.Op.{Op}
 use Rattle.cil_syntax.specs.Laid.{items_of, row_of, shape_of}
 use Rattle.cil_syntax.specs.declared.stop.Stop.{Stop}
-use Rattle.cil_syntax.specs.Told.{Tells}
+use Rattle.cil_syntax.specs.Told.{TellAll, Tells}
+use Rattle.std.specs.Global.{Vec}
+use Rattle.std.proofs.lemmas.Bool.{eq-eqb, ne_eqb}
+use Rattle.std.proofs.lemmas.List.{length-map}
+use Rattle.cil_syntax.proofs.ItemsRead.{length-cells}
 use Rattle.cil_syntax.proofs.Heads.{word_view, quoted_view, list_view}
 
 -- no shape is meant for a string
@@ -79,6 +83,10 @@ module _ (b : Bor (List shapes.Shape)) where
 pub many_view : (b : Bor shapes.Shape) → row_of (rows.Many b) ≡ many (shape_of b.now)
 many_view b = search (rules, the_lemmas)
 
+pub one_of_view : (a b : Bor (List shapes.Shape))
+    → row_of (rows.OneOf a b) ≡ counted (length (map shape_of a.now)) (items_of (map shape_of a.now)) (items_of (map shape_of b.now))
+one_of_view a b = search (rules, the_lemmas)
+
 pub name_view : shape_of shapes.DeclaredName ≡ declared_name
 name_view = search (rules, the_lemmas)
 
@@ -103,4 +111,37 @@ either_is a b = search (rules, the_lemmas)
 pub listed_view : (op : Op) (row : rows.Row) → shape_of (shapes.ListOf op row) ≡ list_of op (row_of row)
 listed_view op row = search (rules, the_lemmas)
 
-pub ruleset the_views = (items_view, many_view, name_view, looked_up_view, set_view, fixed_view, left_out_view, any_view, either_is, listed_view)
+pub ruleset the_views = (items_view, many_view, one_of_view, name_view, looked_up_view, set_view, fixed_view, left_out_view, any_view, either_is, listed_view)
+
+-- ---- which of two rows reads some items
+
+module _ (cells : List Cell) (first second : Row) (n : ℕ) where
+  as_many : length cells ≡ n → read_row (counted n first second) cells ≡ read_row first cells
+  unfolding read_row
+  as_many e = ap (λ b. if b then read_row first cells else read_row second cells) (eq-eqb (length cells) n e)
+
+  not_as_many : (length cells ≡ n → ⊥) → read_row (counted n first second) cells ≡ read_row second cells
+  unfolding read_row
+  not_as_many h = ap (λ b. if b then read_row first cells else read_row second cells) (ne_eqb (length cells) n h)
+
+module _ (m : ℕ) (text : List ℕ) (ns : List nodes.Node) (row : rows.Row) (a b : Bor (List shapes.Shape)) (is : row ≡ rows.OneOf a b) (old new : List Fault) (r : Result (Vec rust.Term) Stop) where
+  abbrev cells_there : List Cell
+  cells_there = cells_of m (nodes_of text ns)
+
+  row_is : row_of row ≡ counted (length (map shape_of a.now)) (items_of (map shape_of a.now)) (items_of (map shape_of b.now))
+  row_is = ap row_of is ∙ one_of_view a b
+
+  counts : length (cells_of m (nodes_of text ns)) ≡ length (map shape_of a.now) → length ns ≡ length a.now
+  counts e = sym (length-cells m text ns) ∙ e ∙ length-map a.now shape_of
+
+  pub first_row_told : length ns ≡ length a.now → TellAll m (read_row (items_of (map shape_of a.now)) cells_there) old new r
+      → TellAll m (read_row (row_of row) cells_there) old new r
+  first_row_told long told =
+      subst (λ w. TellAll m w old new r)
+      (sym (ap (λ w. read_row w cells_there) row_is ∙ as_many cells_there _ _ _ (length-cells m text ns ∙ long ∙ sym (length-map a.now shape_of)))) told
+
+  pub second_row_told : (length ns ≡ length a.now → ⊥) → TellAll m (read_row (items_of (map shape_of b.now)) cells_there) old new r
+      → TellAll m (read_row (row_of row) cells_there) old new r
+  second_row_told other told =
+      subst (λ w. TellAll m w old new r)
+      (sym (ap (λ w. read_row w cells_there) row_is ∙ not_as_many cells_there _ _ _ (λ e. other (counts e)))) told

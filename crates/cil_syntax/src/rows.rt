@@ -73,6 +73,12 @@ impl<'a> Reader<'a> {
         match row {
             Row::Items(shapes) => self.read_items(shapes, nodes, faults),
             Row::Many(shape) => self.read_many(shape, nodes, faults),
+            Row::OneOf(first, second) => {
+                if nodes.len() == first.len() {
+                    return self.read_items(first, nodes, faults);
+                }
+                self.read_items(second, nodes, faults)
+            }
         }
     }
 

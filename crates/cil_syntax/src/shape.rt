@@ -22,9 +22,9 @@ pub(crate) enum Shape {
     SetOf(Sign),
     /// One word, as it is.
     Fixed(&'static [u8], Op),
-    /// One word, which is not taken.
+    /// One word, which is not supported.
     LeftOut(&'static [u8]),
-    /// Any word, which is not taken.
+    /// Any word, which is not supported.
     AnyLeftOut,
     /// The first that is meant for the node.
     Either(&'static Shape, &'static Shape),
@@ -40,6 +40,8 @@ pub(crate) enum Row {
     Items(&'static [Shape]),
     /// Any number of these.
     Many(&'static Shape),
+    /// The first of two, where there are just as many items as it has; else the second. So an item may be optional.
+    OneOf(&'static [Shape], &'static [Shape]),
 }
 
 impl Shape {

@@ -1,7 +1,7 @@
 use Rattle.cil_sexpr.specs.View.{node_of}
 use Rattle.cil_syntax.specs.Laid.{shape_of}
 use Rattle.cil_syntax.proofs.ItemsRead.{more_read, stop_told, all_read, many_more, many_end, items_more, items_end, wrong_length}
-use Rattle.cil_syntax.proofs.Laid.{first_told, second_told}
+use Rattle.cil_syntax.proofs.Laid.{first_told, second_told, first_row_told, second_row_told}
 use Rattle.cil_syntax.proofs.reader.Reader.+nodes.Goals as goal
 
 pub read_items-returns-then-nodes-shapes : goal.read_items-returns-then-nodes-shapes
@@ -50,3 +50,13 @@ pub read_node-returns-else-is_meant : goal.read_node-returns-else-is_meant
 read_node-returns-else-is_meant t c =
     second_told c.args.self.now.number (node_of c.args.self.now.text.now c.args.node.now) c.args.shape.now c.in-Either.first c.in-Either.second c.in-Either.is _ _ _ c.is_meant.result
     (c.is_meant.ensures c.args.self.now.number) c.if-is_meant.false c.read_node-in-Either.ensures
+
+pub read_row-returns-then-nodes-first : goal.read_row-returns-then-nodes-first
+read_row-returns-then-nodes-first t c =
+    first_row_told c.args.self.now.number c.args.self.now.text.now c.args.nodes.now c.args.row.now c.in-OneOf.first c.in-OneOf.second c.in-OneOf.is _ _ _
+    c.if-nodes-first.true c.read_items-then-nodes-first.ensures
+
+pub read_row-returns-else-nodes-first : goal.read_row-returns-else-nodes-first
+read_row-returns-else-nodes-first t c =
+    second_row_told c.args.self.now.number c.args.self.now.text.now c.args.nodes.now c.args.row.now c.in-OneOf.first c.in-OneOf.second c.in-OneOf.is _ _ _
+    c.if-nodes-first.false c.read_items-in-OneOf.ensures
