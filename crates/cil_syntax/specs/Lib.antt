@@ -2,6 +2,7 @@ pub mod Codes
 pub mod Entries
 pub mod Fails
 pub mod FaultOrder
+pub mod Forms
 pub mod Grammar
 pub mod Kinds
 pub mod Laid
