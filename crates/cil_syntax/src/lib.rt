@@ -14,7 +14,6 @@ mod fault_list;
 mod forms;
 mod kind;
 pub mod laws;
-mod layout;
 mod printed;
 mod program;
 mod reader;
@@ -25,6 +24,7 @@ mod spelling;
 mod stop;
 mod table;
 mod term;
+mod unsupported;
 mod verdict;
 mod words;
 

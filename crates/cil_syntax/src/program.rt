@@ -46,7 +46,7 @@ impl<'a> Program<'a> {
 }
 
 /// The statements that are written in modules; or, where one of them or one of its words is at fault, all faults
-/// of shape, or want of memory. Each module is read once; its tree is dropped before the next is read.
+/// of shape, or out of memory. Each module is read once; its tree is dropped before the next is read.
 pub fn written(alloc: Global, modules: &ModuleSet) -> Result<Program<'_>, Failure>
     ensures { Answers (λ p. Lists written_cmp (IsWritten modules.now) (all_written p)) (ShapeFault modules.now) result }
 {
@@ -69,7 +69,7 @@ pub fn written(alloc: Global, modules: &ModuleSet) -> Result<Program<'_>, Failur
     }
 }
 
-/// Reads the statements of a module. That it is readable was seen when it was installed.
+/// Reads the statements of a module. It was found readable when it was installed.
 fn read_module<'a>(
     alloc: Global,
     text: &'a [u8],

@@ -1,4 +1,4 @@
-//! The shapes of statements, as data: what may stand at one place, and in a list.
+//! The shapes of statements, as data: what one place may have, and a list.
 
 ghost use Rattle.std.specs.Prelude.{◌≡◌, ℕ};
 ghost use Rattle.cil_sexpr.specs.View.{node_of};
@@ -10,7 +10,7 @@ use crate::term::Op;
 use crate::reader::bytes_at;
 use cil_sexpr::Node;
 
-/// What may stand at one place of a statement.
+/// What one place of a statement may have.
 #[derive(Clone, Copy)]
 #[cycle(shapes)]
 pub(crate) enum Shape {
@@ -32,7 +32,7 @@ pub(crate) enum Shape {
     ListOf(Op, Row),
 }
 
-/// What may stand in a list.
+/// What a list may have.
 #[derive(Clone, Copy)]
 #[cycle(shapes)]
 pub(crate) enum Row {

@@ -1,4 +1,4 @@
-//! What is said of one node that stands where a statement must.
+//! The verdict on one node, at a place where a statement must be.
 
 ghost use Rattle.std.specs.Prelude.{◌≡◌, IfOk, if◌then◌else◌};
 ghost use Rattle.cil_sexpr.specs.View.{node_of, nodes_of};
@@ -10,12 +10,12 @@ ghost use Rattle.cil_syntax.specs.Written.{at_top, by_entry, by_items, verdict_o
 
 use crate::code::FaultCode;
 use crate::fault::Fault;
-use crate::layout::find_entry;
 use crate::program::Statement;
 use crate::reader::{Reader, bytes_at};
 use crate::stop::Stop;
-use crate::table::is_known;
+use crate::table::find_entry;
 use crate::term::Spot;
+use crate::unsupported::is_known;
 use cil_modset::NoMemory;
 use cil_sexpr::Node;
 
