@@ -13,14 +13,12 @@ mod trouble;
 mod write;
 
 use crate::trouble::Trouble;
+use cil_sexpr::LONGEST_TEXT;
 use std::alloc::Global;
 use std::env;
 use std::process::ExitCode;
 use std::rt::Env;
 use std::time::CpuClock;
-
-/// How many bytes a text may have.
-const LONGEST: usize = 4_194_304;
 
 /// How many modules a bundle may have here.
 const MOST: usize = 4096;
@@ -51,8 +49,8 @@ fn task_of(words: &[String]) -> Option<Task> {
     };
     let number = word.as_str().parse::<usize>().ok()?;
     match name.as_str() {
-        "read" if number <= LONGEST => Some(Task::Read(number)),
-        "write" if number <= LONGEST => Some(Task::Write(number)),
+        "read" if number <= LONGEST_TEXT => Some(Task::Read(number)),
+        "write" if number <= LONGEST_TEXT => Some(Task::Write(number)),
         "import" if number <= MOST => Some(Task::Import(number)),
         "compile" if number <= MOST_RULES => Some(Task::Compile(number)),
         _ => None,
@@ -73,8 +71,8 @@ fn run<R: Print + Env + CpuClock + AllocGlobal>(rt: &R, alloc: Global) -> Result
         Task::Help => {
             println!(rt;
                 "bench: times what the crates do beside SHA-256 of the same bytes\n\
-                usage: bench read BYTES, a number of at most {LONGEST}\n       \
-                bench write BYTES, a number of at most {LONGEST}\n       \
+                usage: bench read BYTES, a number of at most {LONGEST_TEXT}\n       \
+                bench write BYTES, a number of at most {LONGEST_TEXT}\n       \
                 bench import MODULES, a number of at most {MOST}\n       \
                 bench compile RULES, a number of at most {MOST_RULES}"
             )?;

@@ -1,5 +1,5 @@
 -- The model host: its modules, and those of its last accepted load. This project's profile.
-use Rattle.std.specs.Prelude.{◌≡◌, ℕ, List, Option, Some, None, Result, Ok, Err}
+use Rattle.std.specs.Prelude.{◌≡◌, ℕ, ◌≤◌, List, Option, Some, None, Result, Ok, Err, OnErr}
 use Rattle.cil_decide.specs.declared.decision.Decision.{Decision}
 use Rattle.cil_decide.specs.Agrees.{Compiles}
 use Rattle.cil_decide.specs.Decides.{HasNoClass, HasNoContext, ModulesDecide}
@@ -13,6 +13,15 @@ pub record State : Type 0 where
   pub modules : List (List ℕ)
   pub loaded : Option (List (List ℕ))
 
+-- hosts with the same modules and the same loaded modules are one
+pub same_state : (a b : State) → a.modules ≡ b.modules → a.loaded ≡ b.loaded → a ≡ b
+same_state a b m l = λ i. record { modules = m i; loaded = l i }
+
+-- where an error leaves the modules and the loaded modules, it leaves the host
+pub unchanged : {X E : Type 0} (old new : State) (r : Result X E) → OnErr r (new.modules ≡ old.modules) → new.loaded ≡ old.loaded → OnErr r (new ≡ old)
+unchanged old new (Ok x) m l = tt
+unchanged old new (Err e) m l = same_state new old m l
+
 -- the modules compile
 pub record CanLoad (modules : List (List ℕ)) : Type 0 where
   pub table : Table
@@ -22,6 +31,12 @@ pub record CanLoad (modules : List (List ℕ)) : Type 0 where
 abbrev pub IsKept : Option Policy → Type 0
 IsKept None = Unit {0}
 IsKept (Some p) = Compiles p.modules p.tables
+
+-- what is true of every host: it keeps the tables of the loaded modules, and its cache may hold from 1 to 65,536 decisions
+pub record IsSound (policy : Option Policy) (capacity : ℕ) : Type 0 where
+  pub kept : IsKept policy
+  pub least : 1 ≤ capacity
+  pub most : capacity ≤ 65536
 
 -- ---- queries
 

@@ -1,15 +1,15 @@
--- What a load answers and leaves. This project's profile.
+-- The result of a load, and the host after it. This project's profile.
 use Rattle.std.specs.Prelude.{◌≡◌, Some, Result, Ok, Err, replicate}
 use Rattle.cil_syntax.specs.declared.failure.Failure.{Failure}
 use Rattle.cil_decide.specs.CompileRefusal.{CompileFails}
 use Rattle.cil_host.specs.Machine.{State, CanLoad}
 use Rattle.cil_host.specs.declared.host.Loaded.{Loaded}
 
--- until tables have bytes, their length is told as 0 and their digest as 32 zeros
+-- tables have no byte format yet: their length is reported as 0 and their digest as 32 zeros
 abbrev pub no_bytes : Loaded
 no_bytes = record { length = 0; digest = replicate 32 0 }
 
--- the policy is that of the modules, which are kept; or exactly their faults, and the host is as before
+-- the policy is that of the modules, which are kept; or the faults are exactly theirs, and the host is unchanged
 abbrev pub Loads : State → State → Result Loaded Failure → Type 0
 Loads old new (Ok loaded) = CanLoad old.modules × (loaded ≡ no_bytes) × (new ≡ record { modules = old.modules; loaded = Some old.modules })
 Loads old new (Err failure) = CompileFails old.modules failure × (new ≡ old)

@@ -2,16 +2,16 @@
 
 use std::fmt;
 
-/// Why a query has no answer. The variants stand in the order in which they are looked for.
+/// Why a query has no answer. The variants are in the order in which they are checked.
 #[derive(Clone, Copy, Debug, PartialEq, Eq)]
 pub enum QueryFault {
     /// No policy is loaded (71).
     NoPolicy,
-    /// The source is no valid context (72 1).
+    /// The source is not a valid context (72 1).
     BadSource,
-    /// The target is no valid context (72 2).
+    /// The target is not a valid context (72 2).
     BadTarget,
-    /// No class has this name (73).
+    /// There is no class of this name (73).
     NoClass,
 }
 
@@ -19,7 +19,7 @@ impl QueryFault {
     ghost use Rattle.std.specs.Prelude.{◌≡◌};
     ghost use Rattle.cil_host.specs.Codes.{number_of};
 
-    /// The number of this fault in the replies of a host, from 71 to 73. A bad source and a bad target share theirs.
+    /// The code of this fault in the replies of a host, from 71 to 73. A bad source and a bad target have the same code.
     pub fn number(self) -> u32
         ensures { result ≡ number_of self }
     {

@@ -1,12 +1,8 @@
-//! A host of modules with a loaded policy.
+//! A host: its modules, and the policy that is loaded from them.
 
-ghost use Rattle.std.specs.Prelude.{◌≡◌, ℕ, List, [], ◌∷◌, ◌+◌, length, map, Contains, None, Some, IfOk, IfErr, IfNone, IfSome, OnErr, OnOk, Ok, ◌↔◌, ◌≤◌};
-ghost use Rattle.cil_sexpr.specs.Refusal.{Refuses};
-ghost use Rattle.cil_sexpr.specs.Text.{IsReadable};
-ghost use Rattle.cil_modset.specs.Bundle.{IsBundle, bundle};
-ghost use Rattle.cil_modset.specs.Modules.{IsUnion};
-ghost use Rattle.cil_modset.specs.Refusal.{RefusesBundle};
-ghost use Rattle.cil_modset.specs.declared.set.Installed.{Installed};
+ghost use Rattle.std.specs.Prelude.{◌≡◌, ℕ, List, [], map, None, IfOk, IfNone, IfSome, ◌≤◌};
+ghost use Rattle.cil_modset.specs.Bundle.{bundle};
+ghost use Rattle.cil_modset.specs.Changes.{IsImported, IsInstalled};
 ghost use Rattle.cil_host.specs.Machine.{OfLoaded, Queries, State};
 ghost use Rattle.cil_host.specs.Permissions.{IsInOrder, IsPermissionOf};
 ghost use Rattle.cil_host.specs.Listed.{line_of};
@@ -22,23 +18,24 @@ use cil_syntax::Failure;
 use std::alloc::Global;
 use std::marker::Model;
 
-/// What a load answers: the length and the SHA-256 digest of the table's bytes. Until tables have bytes these are 0 and zeros.
+/// The result of a load: the length and the SHA-256 digest of the table's bytes. Tables have no byte format yet, so the
+/// length is 0 and the digest is 32 zeros.
 #[derive(Clone, Copy, Debug, PartialEq, Eq)]
 pub struct Loaded {
-    /// How many bytes the table has.
+    /// The length of the table in bytes.
     pub length: u64,
-    /// Their digest.
+    /// The digest of these bytes.
     pub digest: [u8; 32],
 }
 
-/// A policy with the modules that gave it.
+/// A policy, with the modules that it was compiled from.
 #[derive(Debug, Drop)]
 struct Policy {
     tables: Tables,
     modules: ModuleSet,
 }
 
-/// A host. Contracts see its modules, and those of its last accepted load.
+/// A host. In contracts it is its modules, and the modules of its last accepted load.
 #[derive(Debug, Drop)]
 pub struct Host<S: Drop> {
     modules: ModuleSet,
@@ -49,17 +46,18 @@ pub struct Host<S: Drop> {
 
 impl<S: Drop> Model for Host<S> {
     ghost use Rattle.std.specs.Option.{option_map};
-    ghost use Rattle.cil_host.specs.Machine.{IsKept, State};
+    ghost use Rattle.cil_host.specs.Machine.{IsSound, State};
 
     ghost Value = { State };
 
     ghost view = { λ a. record { modules = a.modules; loaded = option_map (λ p. p.modules) a.policy } };
 
-    ghost invariant = { λ a. IsKept a.policy };
+    ghost invariant = { λ a. IsSound a.policy a.capacity };
 }
 
 impl<S: Drop> Host<S> {
-    /// A host without modules and policy. The capacity, from 1 to 65,536, is that of the cache of decisions, which is not kept yet.
+    /// A host without modules and without a policy. `capacity`, from 1 to 65,536, is the size of the cache of decisions; the
+    /// cache itself is added later.
     pub fn new(alloc: Global, capacity: usize, hasher: S) -> Host<S>
         requires least { 1 ≤ capacity }
         requires most { capacity ≤ 65536 }
@@ -73,53 +71,45 @@ impl<S: Drop> Host<S> {
         }
     }
 
-    /// Installs a module, as the set of modules does, and answers whether it was known. The loaded policy stays.
+    /// Installs a module, as `ModuleSet::install` does, and returns whether it was new. The loaded policy does not change.
     ///
-    /// Errors: the first fault of the text, or want of memory. Both leave the host as it was.
+    /// Errors: the first fault of the text, or out of memory. If the call fails, the host is unchanged.
     pub fn install(&mut self, alloc: Global, text: &[u8]) -> Result<Installed, ReadError>
-        ensures known { (result ≡ Ok Installed.Known) ↔ Contains self.old.modules text.now }
-        ensures stays { result ≡ Ok Installed.Known → self.new ≡ self.old }
-        ensures new { result ≡ Ok Installed.New → IsUnion self.old.modules (text.now ∷ []) self.new.modules }
-        ensures readable { result ≡ Ok Installed.New → IsReadable text.now }
+        ensures modules { IsInstalled self.old.modules text.now result self.new.modules }
         ensures loaded { self.new.loaded ≡ self.old.loaded }
-        ensures refusal { IfErr result (Refuses text.now) }
-        ensures err { OnErr result (self.new ≡ self.old) }
     {
         self.modules.install(alloc, text)
     }
 
-    /// Takes in the modules of a bundle, as the set of modules does, and answers how many were new. The loaded policy stays.
+    /// Adds the modules of a bundle, as `ModuleSet::import` does, and returns how many were new. The loaded policy does not
+    /// change.
     ///
-    /// Errors: the first fault of bytes that are no bundle, or want of memory. Both leave the host as it was.
+    /// Errors: the first fault of bytes that are not a bundle, or out of memory. If the call fails, the host is unchanged.
     pub fn import(&mut self, alloc: Global, bytes: &[u8]) -> Result<u64, BundleError>
-        ensures bundle { OnOk result ((modules : List (List ℕ)) × IsBundle bytes.now modules) }
-        ensures union { (modules : List (List ℕ)) → IsBundle bytes.now modules
-            → OnOk result (IsUnion self.old.modules modules self.new.modules) }
-        ensures added { IfOk result (λ added. length self.new.modules ≡ length self.old.modules + added) }
+        ensures modules { IsImported self.old.modules bytes.now result self.new.modules }
         ensures loaded { self.new.loaded ≡ self.old.loaded }
-        ensures refusal { IfErr result (RefusesBundle bytes.now) }
-        ensures err { OnErr result (self.new ≡ self.old) }
     {
         self.modules.import(alloc, bytes)
     }
 
-    /// The bundle of the modules, which `import` reads on another host. Errors: want of memory.
+    /// The bundle of the modules, which `import` reads on another host. Error: out of memory.
     pub fn export(&self, alloc: Global) -> Result<Vec<u8>, NoMemory>
         ensures { IfOk result (λ bytes. bytes.items ≡ bundle self.now.modules) }
     {
         self.modules.export(alloc)
     }
 
-    /// A line for each module, in byte order of the texts. Errors: want of memory.
+    /// A line for each module, in byte order of the texts. Error: out of memory.
     pub fn list(&self, alloc: Global) -> Result<Vec<ListLine>, NoMemory>
         ensures { IfOk result (λ lines. lines.items ≡ map line_of self.now.modules) }
     {
         lines_of(alloc, &self.modules)
     }
 
-    /// Compiles the modules, and from then on answers by their policy.
+    /// Compiles the modules and loads their policy, by which queries are answered from then on.
     ///
-    /// Errors: the faults of the modules, all of the first step that has some, or want of memory. Both leave the host as it was.
+    /// Errors: the faults of the modules (all faults of the first step that has any), or out of memory. If the call fails,
+    /// the host is unchanged.
     pub fn load(&mut self, alloc: Global) -> Result<Loaded, Failure>
         ensures { Loads self.old self.new result }
     {
@@ -135,11 +125,11 @@ impl<S: Drop> Host<S> {
         })
     }
 
-    /// What a source may do to a target of a class, by the loaded policy. Contexts are `user:role:type`, a class is its name. It
-    /// takes no memory.
+    /// What a source may do to a target of a class, by the loaded policy. A context is `user:role:type`, a class is given by its
+    /// name. The call allocates no memory.
     ///
-    /// Errors, the first that applies: no policy is loaded, the source is no valid context, the target is none, no class has the
-    /// name. The host stays as it was.
+    /// Errors, the first that applies: no policy is loaded, the source is not a valid context, the target is not a valid
+    /// context, there is no class of this name. The host is unchanged.
     pub fn query(
         &mut self,
         source: &[u8],
@@ -165,8 +155,9 @@ impl<S: Drop> Host<S> {
         Ok(decide(&policy.tables, &from, &onto, class))
     }
 
-    /// The name of a permission of a class of the loaded policy, by its bit in the masks of decisions: its place in the byte order of
-    /// the class's permissions. None without a policy, where no class has the name, or where the class has no permission for the bit.
+    /// The name of a permission of a class of the loaded policy, by its bit in the masks of decisions: its position among the
+    /// permissions of the class in byte order. None if no policy is loaded, if there is no class of this name, or if the class
+    /// has no permission at this bit.
     pub fn permission(&self, class: &[u8], bit: u32) -> Option<&[u8]>
         ensures found { IfSome result (λ name. OfLoaded self.now (IsPermissionOf class.now bit name.now)) }
         ensures order { IfSome result (λ name. IsInOrder self.now class.now bit name.now) }
@@ -182,12 +173,12 @@ impl<S: Drop> Host<S> {
     }
 }
 
-/// A module in a list.
+/// A module in the listing of a host.
 #[derive(Clone, Copy, Debug, PartialEq, Eq)]
 pub struct ListLine {
     /// The SHA-256 digest of the text.
     pub digest: [u8; 32],
-    /// How many bytes the text has.
+    /// The length of the text in bytes.
     pub length: u64,
 }
 

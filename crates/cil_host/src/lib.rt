@@ -1,6 +1,7 @@
 //! One host: its modules, its loaded policy, and the answers to queries.
 //!
-//! Start at `host.rt`. Its contracts speak of a model host, `specs/Machine.antt`: the modules that it holds, and those of its last accepted load.
+//! Start at `host.rt`. Its contracts are about a model host, defined in `specs/Machine.antt`: the modules that it holds, and the
+//! modules of its last accepted load.
 #![tactic(auto)]
 
 mod fault;

@@ -11,7 +11,7 @@ use Rattle.cil_modset.specs.declared.error.BundleFault.TheVariants.{BadMagic, Sh
 use Rattle.cil_modset.specs.Bundle.{AreBytes}
 use Rattle.cil_modset.specs.Faults.{part_at, promised, HasHeader, HasModule, IsCut, AllBelow, HasFault}
 use Rattle.cil_modset.specs.Modules.{IsBelow}
-use Rattle.cil_modset.specs.Newcomers.{AreNew, HasPassed, IsLast, IsImportedUpTo, IsImportOf, RefusesModule}
+use Rattle.cil_modset.specs.NewTexts.{AreNew, HasPassed, IsLast, IsImportedUpTo, IsImportOf, RefusesModule}
 use Rattle.cil_modset.specs.Refusal.{RefusesBundle}
 use Rattle.cil_modset.proofs.BundleLemmas.{right_on, right_bundle}
 use Rattle.cil_modset.proofs.RisingLemmas.{below_trans, rising_none}

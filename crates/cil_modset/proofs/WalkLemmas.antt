@@ -8,7 +8,7 @@ use Rattle.cil_sexpr.specs.Lists.{contains_here, contains_later, contains_cases,
 use Rattle.cil_modset.specs.Faults.{AllBelow}
 use Rattle.cil_modset.specs.Gather.{AreApart}
 use Rattle.cil_modset.specs.Modules.{IsBelow, IsRising, IsUnion, AreModules, module_of}
-use Rattle.cil_modset.specs.Newcomers.{AreNew, HasPassed}
+use Rattle.cil_modset.specs.NewTexts.{AreNew, HasPassed}
 use Rattle.cil_modset.proofs.RisingLemmas.{compared, below_trans, not_below_itself, rising_none, rising_push, rising_at, rising_front, rising_across, number_of_member}
 
 -- a text is in a list, or it is not
@@ -102,7 +102,7 @@ above_front theirs i rising within x c =
     rising_front (take (i + 1) theirs) (drop (i + 1) theirs) (rw (take-append-drop (i + 1) theirs) rising) in
     rising_across (take i theirs) (module_of theirs i ∷ []) (rw more at front) x (module_of theirs i) c (contains_here (module_of theirs i) [])
 
--- the newcomers of a set are a set, and it has none of ours
+-- the new texts of a set are a set, and it has none of ours
 pub new_modules : (ours theirs fresh : List (List ℕ)) → AreNew ours theirs fresh → AreModules theirs → AreModules fresh
 new_modules ours theirs fresh new modules = record {
   rising = new.rising;
@@ -112,7 +112,7 @@ new_modules ours theirs fresh new modules = record {
 pub new_apart : (ours theirs fresh : List (List ℕ)) → AreNew ours theirs fresh → AreApart ours fresh
 new_apart ours theirs fresh new t c d = ((new.members t).0 d).1 c
 
--- with the newcomers comes all of the other set
+-- with the new texts comes all of the other set
 pub new_union : (ours theirs fresh both : List (List ℕ)) → AreNew ours theirs fresh → IsRising theirs → IsUnion ours fresh both → IsUnion ours theirs both
 new_union ours theirs fresh both new rising union = record {
   first = union.first;

@@ -1,8 +1,9 @@
 pub mod Bundle
+pub mod Changes
 pub mod Faults
 pub mod Gather
 pub mod Laws
 pub mod Modules
-pub mod Newcomers
+pub mod NewTexts
 pub mod Refusal
 pub mod Unions

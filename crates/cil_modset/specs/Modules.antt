@@ -1,4 +1,4 @@
--- What a set of modules holds, told by the one list of its texts in byte order.
+-- What a set of modules holds, given by the one list of its texts in byte order.
 use Rattle.std.specs.Prelude.{◌≡◌, ℕ, ◌<◌, ◌≤◌, ◌↔◌, ◌⊎◌, List, [], length, Contains, map, slice_index_or}
 use Rattle.std.specs.Global.{Vec}
 use Rattle.std.specs.declared.cmp.Ordering.TheVariants.{Less}
@@ -10,7 +10,7 @@ use Rattle.cil_sexpr.specs.Text.{IsReadable}
 abbrev pub IsBelow : List ℕ → List ℕ → Type 0
 IsBelow a b = text_cmp a b ≡ Less
 
--- each text comes before those behind it, so none stands twice
+-- each text is before those after it, so none is in the list twice
 abbrev pub IsRising : List (List ℕ) → Type 0
 IsRising = IsStrictlySortedBy text_cmp
 

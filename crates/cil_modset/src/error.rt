@@ -1,11 +1,11 @@
-//! What keeps a call from its answer.
+//! Errors of the calls on sets of modules.
 
 use cil_sexpr::{ReadError, ReadFault};
 use std::alloc::{AllocError, AllocFailed};
 use std::error::Error;
 use std::fmt;
 
-/// The machine had no memory for a call that can fail in no other way. The same call may succeed later.
+/// Out of memory: the error of a call that can fail in no other way. The same call may succeed later.
 #[derive(Clone, Copy, Debug, PartialEq, Eq)]
 pub struct NoMemory;
 
@@ -33,24 +33,24 @@ impl<T: Drop> From<AllocFailed<T>> for NoMemory {
     }
 }
 
-/// What is wrong with bytes that are no bundle. The first fault from the left decides; in one module it is
+/// What is wrong with bytes that are not a bundle. The first fault from the left is reported; in one module it is
 /// the first of `Short`, `NotRising` and `BadModule`.
 #[derive(Clone, Copy, Debug, PartialEq, Eq)]
 pub enum BundleFault {
-    /// One of the first five bytes is not that of a bundle.
+    /// The bytes do not start with the five bytes of a bundle.
     BadMagic,
-    /// The bytes end within the header, or within a module that the header promises.
+    /// The bytes end inside the header, or before the number of modules in the header is reached.
     Short,
-    /// A module does not come behind the one before it in byte order.
+    /// A module is not after the previous one in byte order.
     NotRising,
-    /// A module is no readable text.
+    /// A module is not a readable text.
     BadModule {
-        /// How many modules stand before it.
+        /// The number of modules before it.
         index: u64,
         /// The first fault of its text.
         fault: ReadFault,
     },
-    /// Bytes follow the last module.
+    /// There are bytes after the last module.
     Trailing,
 }
 
@@ -58,7 +58,7 @@ impl BundleFault {
     ghost use Rattle.std.specs.Prelude.{◌≡◌};
     ghost use Rattle.cil_modset.specs.Faults.{number_of};
 
-    /// The number of this cause in the replies of a host, from 11 to 15.
+    /// The code of this cause in the replies of a host, from 11 to 15.
     pub fn number(self) -> u32
         ensures { result ≡ number_of self }
     {
@@ -87,9 +87,9 @@ impl fmt::Display for BundleFault {
 /// Why bytes were not imported.
 #[derive(Clone, Copy, Debug, PartialEq, Eq)]
 pub enum BundleError {
-    /// The bytes are at fault: every machine refuses them.
+    /// The bytes are wrong: every machine rejects them.
     Fault(BundleFault),
-    /// The machine is at fault: the same call may succeed later.
+    /// The machine is out of memory: the same call may succeed later.
     NoMemory,
 }
 

@@ -1,4 +1,4 @@
-//! Writing a bundle.
+//! Writes bundles.
 
 ghost use Rattle.std.specs.Prelude.{◌≡◌, ◌++◌, IfOk, OnOk};
 ghost use Rattle.cil_modset.specs.Bundle.{bundle, entry};
@@ -18,7 +18,7 @@ pub(crate) fn write(alloc: Global, texts: &[Vec<u8>]) -> Result<Vec<u8>, AllocEr
     Ok(bytes)
 }
 
-/// Writes one module behind what was written.
+/// Writes one module after what is written already.
 fn write_entry(bytes: &mut Vec<u8>, text: &[u8]) -> Result<(), AllocError>
     ensures { OnOk result (bytes.new.items ≡ bytes.old.items ++ entry text.now) }
 {

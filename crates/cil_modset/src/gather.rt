@@ -1,4 +1,4 @@
-//! Two rising lists as one: texts are moved, not copied.
+//! Merges two sorted lists into one: texts are moved, not copied.
 
 ghost use Rattle.std.specs.Prelude.{◌≡◌, ◌+◌, ◌≤◌, false, [], length, IsTrue, IfSome, IfNone, vec_len, vec_capacity};
 ghost use Rattle.cil_modset.specs.Modules.{IsRising, IsUnion, texts_of};
@@ -6,7 +6,7 @@ ghost use Rattle.cil_modset.specs.Gather.{EndsLast, IsTakenFrom, AreApart};
 
 use crate::order::is_below;
 
-/// The texts of two rising lists that have none in common, as one rising list in the memory of `room`.
+/// The texts of two sorted lists that have none in common, as one sorted list in the memory of `room`.
 pub(crate) fn gather(
     mut low: Vec<Vec<u8>>,
     mut high: Vec<Vec<u8>>,
@@ -27,7 +27,7 @@ pub(crate) fn gather(
     room
 }
 
-/// Takes the last of all texts out of two rising lists.
+/// Removes the greatest text from two sorted lists, and returns it.
 fn take_last(low: &mut Vec<Vec<u8>>, high: &mut Vec<Vec<u8>>) -> Option<Vec<u8>>
     ensures taken { IfSome result (λ text. IsTakenFrom (texts_of low.old.items) (texts_of high.old.items)
         (texts_of low.new.items) (texts_of high.new.items) text.items) }
@@ -41,7 +41,8 @@ fn take_last(low: &mut Vec<Vec<u8>>, high: &mut Vec<Vec<u8>>) -> Option<Vec<u8>>
     }
 }
 
-/// Whether the end of the first list comes behind that of the second. Where only one has an end, it does.
+/// Whether the last text of the first list is after the last text of the second. The last text of a list is after an
+/// empty list.
 fn ends_last(first: &[Vec<u8>], second: &[Vec<u8>]) -> bool
     ensures first { IsTrue result → EndsLast (texts_of first.now) (texts_of second.now) }
     ensures second { result ≡ false → EndsLast (texts_of second.now) (texts_of first.now) }

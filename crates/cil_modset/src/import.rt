@@ -1,34 +1,34 @@
-//! Reading a bundle: one walk over its modules and over ours.
+//! Reads bundles: one pass over the modules of the bundle and over ours.
 
-ghost use Rattle.std.specs.Prelude.{◌≡◌, ℕ, ◌+◌, ◌<◌, ◌≤◌, ◌↔◌, length, IsTrue, IfOk, IfErr, OnOk, IfSome, IfNone};
+ghost use Rattle.std.specs.Prelude.{◌≡◌, ◌+◌, ◌<◌, ◌≤◌, ◌↔◌, length, IsTrue, IfOk, IfErr, OnOk, IfSome, IfNone};
 ghost use Rattle.cil_sexpr.specs.Text.{IsReadable};
 ghost use Rattle.cil_modset.specs.Faults.{HasHeader, HasModule, IsCut, number_at, promised};
 ghost use Rattle.cil_modset.specs.Modules.{AreModules, IsBelow, texts_of};
-ghost use Rattle.cil_modset.specs.Newcomers.{IsImportOf, IsImportedUpTo, RefusesModule};
+ghost use Rattle.cil_modset.specs.NewTexts.{IsImportOf, IsImportedUpTo, RefusesModule};
 ghost use Rattle.cil_modset.specs.Refusal.{RefusesBundle};
 
 use crate::error::{BundleError, BundleFault};
-use crate::newcomers::Newcomers;
+use crate::new_texts::NewTexts;
 use crate::order::is_below;
 use cil_sexpr::{ReadError, read};
 use std::alloc::Global;
 
-/// What the header of a bundle begins with.
+/// The first bytes of a bundle.
 const MAGIC: [u8; 5] = *b"CILB\x01";
 
-/// Where an import stands in the bytes.
+/// How far an import has read.
 #[derive(Drop)]
-struct Intake {
-    /// Where the text of the last module starts.
+struct Progress {
+    /// The byte offset of the text of the last module.
     start: usize,
-    /// Where that module ends.
+    /// The byte offset after that module.
     at: usize,
-    /// Which modules are not ours.
-    walk: Newcomers,
+    /// The modules that we do not have.
+    walk: NewTexts,
 }
 
-/// The modules of a bundle that are not ours.
-pub(crate) fn newcomers_of(
+/// The modules of a bundle that we do not have.
+pub(crate) fn new_texts_of(
     alloc: Global,
     ours: &[Vec<u8>],
     bytes: &[u8],
@@ -38,21 +38,21 @@ pub(crate) fn newcomers_of(
     ensures refusal { IfErr result (RefusesBundle bytes.now) }
 {
     let count = read_header(bytes)?;
-    let mut intake = Intake {
+    let mut progress = Progress {
         start: 13,
         at: 13,
-        walk: Newcomers::new(alloc),
+        walk: NewTexts::new(alloc),
     };
     for index in 0..count {
-        take_module(alloc, ours, bytes, index, &mut intake)?;
+        take_module(alloc, ours, bytes, index, &mut progress)?;
     }
-    if intake.at < bytes.len() {
+    if progress.at < bytes.len() {
         return Err(BundleError::Fault(BundleFault::Trailing));
     }
-    Ok(intake.walk.fresh)
+    Ok(progress.walk.fresh)
 }
 
-/// Reads the header, and answers how many modules it promises.
+/// Reads the header, and returns the number of modules in it.
 fn read_header(bytes: &[u8]) -> Result<u64, BundleError>
     ensures header { OnOk result (HasHeader bytes.now) }
     ensures count { IfOk result (λ count. count ≡ promised bytes.now) }
@@ -69,7 +69,7 @@ fn read_header(bytes: &[u8]) -> Result<u64, BundleError>
     Ok(read_number(bytes, 5))
 }
 
-/// The number that eight bytes spell.
+/// The big-endian number in the eight bytes at an offset.
 fn read_number(bytes: &[u8], at: usize) -> u64
     requires { at + 8 ≤ length bytes.now }
     ensures { result ≡ number_at bytes.now at }
@@ -78,7 +78,7 @@ fn read_number(bytes: &[u8], at: usize) -> u64
     u64::from_be_bytes([b[0], b[1], b[2], b[3], b[4], b[5], b[6], b[7]])
 }
 
-/// The module at a place, if the bytes do not end within it.
+/// The module at an offset; none if the bytes end inside it.
 fn module_at(bytes: &[u8], at: usize) -> Option<&[u8]>
     requires { at ≤ length bytes.now }
     ensures found { IfSome result (λ text. HasModule bytes.now at text.now) }
@@ -95,47 +95,47 @@ fn module_at(bytes: &[u8], at: usize) -> Option<&[u8]>
     Some(&bytes[at + 8..at + 8 + size as usize])
 }
 
-/// Takes the next module of the bundle.
+/// Reads the next module of the bundle.
 fn take_module(
     alloc: Global,
     ours: &[Vec<u8>],
     bytes: &[u8],
     index: u64,
-    intake: &mut Intake,
+    progress: &mut Progress,
 ) -> Result<(), BundleError>
     requires ours { AreModules (texts_of ours.now) }
     requires promised { index < promised bytes.now }
-    requires before { IsImportedUpTo bytes.now (texts_of ours.now) (texts_of intake.old.walk.fresh.items)
-        index intake.old.start intake.old.at intake.old.walk.passed }
-    ensures ok { OnOk result (IsImportedUpTo bytes.now (texts_of ours.now) (texts_of intake.new.walk.fresh.items)
-        (index + 1) intake.new.start intake.new.at intake.new.walk.passed) }
+    requires before { IsImportedUpTo bytes.now (texts_of ours.now) (texts_of progress.old.walk.fresh.items)
+        index progress.old.start progress.old.at progress.old.walk.passed }
+    ensures ok { OnOk result (IsImportedUpTo bytes.now (texts_of ours.now) (texts_of progress.new.walk.fresh.items)
+        (index + 1) progress.new.start progress.new.at progress.new.walk.passed) }
     ensures refusal { IfErr result (RefusesBundle bytes.now) }
 {
-    let Some(text) = module_at(bytes, intake.at) else {
+    let Some(text) = module_at(bytes, progress.at) else {
         return Err(BundleError::Fault(BundleFault::Short));
     };
-    let last = &bytes[intake.start..intake.at];
+    let last = &bytes[progress.start..progress.at];
     if !comes_next(index, last, text) {
         return Err(BundleError::Fault(BundleFault::NotRising));
     }
-    intake.start = intake.at + 8;
-    intake.at = intake.start + text.len();
-    if intake.walk.knows(ours, text) {
+    progress.start = progress.at + 8;
+    progress.at = progress.start + text.len();
+    if progress.walk.knows(ours, text) {
         return Ok(());
     }
     check_module(alloc, index, text)?;
-    intake.walk.keep(alloc, text)?;
+    progress.walk.keep(alloc, text)?;
     Ok(())
 }
 
-/// Whether a module comes behind the last one, if there was one.
+/// Whether a module is after the last one in byte order, if there was one.
 fn comes_next(index: u64, last: &[u8], text: &[u8]) -> bool
     ensures { IsTrue result ↔ (0 < index → IsBelow last.now text.now) }
 {
     index == 0 || is_below(last, text)
 }
 
-/// Reads a module for its faults alone.
+/// Checks that a module is a readable text.
 fn check_module(alloc: Global, index: u64, text: &[u8]) -> Result<(), BundleError>
     ensures readable { OnOk result (IsReadable text.now) }
     ensures refusal { IfErr result (RefusesModule index text.now) }

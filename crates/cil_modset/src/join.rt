@@ -1,32 +1,32 @@
-//! What can be joined with another of its kind, so that order and repeats do not matter.
+//! Values that can be merged, where neither order nor repeats matter.
 
 ghost use Rattle.std.specs.Prelude.{◌≡◌, ℕ, ◌+◌, List, length, OnOk, OnErr, IfOk};
 
 use crate::error::NoMemory;
 use std::alloc::Global;
 
-/// A value that takes in what another one holds.
+/// A value that can be merged with another of its type.
 pub trait Join {
-    /// What a value holds: the list of its texts.
+    /// The contents of a value: the list of its texts.
     ghost contents: { Self → List (List ℕ) };
 
-    /// The third value is what a merge makes of the first two.
+    /// The third value is the result of merging the second into the first.
     ghost is_join: { Self → Self → Self → Type 0 };
 
-    /// Takes in all that the other value holds, and answers how many texts were not there before. The other
-    /// value stays as it is. Want of memory leaves the contents as they were.
+    /// Adds the contents of the other value, and returns how many texts are new. The other value does not change. If the
+    /// call fails, the contents are unchanged.
     fn merge(&mut self, alloc: Global, other: &Self) -> Result<u64, NoMemory>
         ensures joined { OnOk result (is_join self.old other.now self.new) }
         ensures added { IfOk result (λ added. length (contents self.new) ≡ length (contents self.old) + added) }
         ensures err { OnErr result (contents self.new ≡ contents self.old) };
 
-    /// It does not matter which of two merges with which.
+    /// Merging two values in either order gives the same contents.
     ghost commutative: { (a b c d : Self) → is_join a b c → is_join b a d → contents c ≡ contents d };
 
-    /// It does not matter which two of three are merged first.
+    /// Of three values, it does not matter which two are merged first.
     ghost associative: { (a b c ab bc left right : Self) → is_join a b ab → is_join ab c left
         → is_join b c bc → is_join a bc right → contents left ≡ contents right };
 
-    /// A merge with what is there already changes nothing.
+    /// Merging a value with an equal one changes nothing.
     ghost idempotent: { (a b : Self) → is_join a a b → contents b ≡ contents a };
 }

@@ -1,23 +1,23 @@
-//! Laws that fix the definitions: what they say together of every set and of all bytes. No function here does
-//! anything; each one's contract is a law, and a call of a law of texts stands where one is needed.
+//! Laws of the definitions: what is true of every set and of all bytes. The functions do nothing when they are called; the
+//! contract of each is a law, and a proof that needs the law calls the function.
 
 ghost use Rattle.cil_modset.specs.Laws.{HasOneSet, NeverBoth, HasOneFault, AlwaysEither, AreNumbered};
 
 use cil_sexpr::laws as texts;
 
-/// Sets that have one bundle are one set.
+/// Two sets that have the same bundle are equal.
 pub fn one_set()
     ensures { HasOneSet }
 {}
 
-/// No bytes are the bundle of a set and have a fault, as no text is both readable and at fault.
+/// No bytes are the bundle of a set and also have a fault.
 pub fn never_both()
     ensures { NeverBoth }
 {
     texts::never_both();
 }
 
-/// Bytes have at most one fault, as a text has at most one.
+/// Bytes have at most one first fault.
 pub fn one_fault()
     ensures { HasOneFault }
 {
@@ -25,14 +25,14 @@ pub fn one_fault()
     texts::one_fault();
 }
 
-/// All bytes are a bundle or have a fault, as each text is readable or at fault.
+/// All bytes are the bundle of a set or have a fault.
 pub fn always_either()
     ensures { AlwaysEither }
 {
     texts::always_either();
 }
 
-/// The number of a module is how many modules come before it.
+/// The number of a module is the number of modules before it in byte order.
 pub fn numbered()
     ensures { AreNumbered }
 {}

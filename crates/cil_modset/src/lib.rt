@@ -1,9 +1,9 @@
-//! Sets of modules: what a host holds, whatever order, repeats and merges made it, and the bundles that carry
+//! Sets of modules, which do not depend on the order and the repeats of installations and merges, and the bundles that carry
 //! a set from host to host.
 //!
-//! Start at `set.rt`. `specs/Modules.antt` says what a set and a union are, `specs/Bundle.antt` how a set is
-//! spelled as bytes, and `specs/Faults.antt` what is wrong with bytes that spell none. What the texts mean as
-//! a policy is not known here.
+//! Start at `set.rt`. `specs/Modules.antt` defines sets and unions, `specs/Changes.antt` what `install` and `import` do,
+//! `specs/Bundle.antt` the bytes of a bundle, and `specs/Faults.antt` the fault of bytes that are not a bundle. The crates
+//! above give the texts their meaning as a policy.
 #![tactic(auto)]
 
 mod error;
@@ -12,7 +12,7 @@ mod gather;
 mod import;
 mod join;
 pub mod laws;
-mod newcomers;
+mod new_texts;
 mod order;
 mod set;
 

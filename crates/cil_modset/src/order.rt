@@ -1,9 +1,9 @@
-//! The order of texts: byte by byte, and a text before those that it begins.
+//! The order of texts: byte by byte, and a text is before those that it is a prefix of.
 
 ghost use Rattle.std.specs.Prelude.{◌≡◌, ◌↔◌, IsTrue};
 ghost use Rattle.cil_modset.specs.Modules.{IsBelow};
 
-/// Whether one text comes before another.
+/// Whether one text is before another.
 pub(crate) fn is_below(a: &[u8], b: &[u8]) -> bool
     ensures { IsTrue result ↔ IsBelow a.now b.now }
 {

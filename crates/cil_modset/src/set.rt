@@ -1,21 +1,19 @@
 //! A set of modules: the texts in byte order, each once.
 
-ghost use Rattle.std.specs.Prelude.{◌≡◌, ℕ, ◌+◌, ◌<◌, ◌↔◌, List, [], ◌∷◌, length, Contains, IsTrue, IfOk, IfErr, OnOk, OnErr};
-ghost use Rattle.cil_sexpr.specs.Refusal.{Refuses};
-ghost use Rattle.cil_sexpr.specs.Text.{IsReadable};
-ghost use Rattle.cil_modset.specs.Bundle.{bundle, IsBundle};
+ghost use Rattle.std.specs.Prelude.{◌≡◌, ℕ, ◌+◌, ◌<◌, ◌↔◌, List, [], length, Contains, IsTrue, IfOk, IfErr, OnOk, OnErr};
+ghost use Rattle.cil_modset.specs.Bundle.{bundle};
+ghost use Rattle.cil_modset.specs.Changes.{IsImported, IsInstalled};
 ghost use Rattle.cil_modset.specs.Gather.{AreApart};
 ghost use Rattle.cil_modset.specs.Modules.{AreModules, IsUnion, IsPlaceOf, IsRising, module_of, texts_of};
-ghost use Rattle.cil_modset.specs.Newcomers.{AreNew};
-ghost use Rattle.cil_modset.specs.Refusal.{RefusesBundle};
+ghost use Rattle.cil_modset.specs.NewTexts.{AreNew};
 ghost use Rattle.sha2.specs.Sha256.{sha256};
 
 use crate::error::{BundleError, NoMemory};
 use crate::export::write;
 use crate::gather::gather;
-use crate::import::newcomers_of;
+use crate::import::new_texts_of;
 use crate::join::Join;
-use crate::newcomers::Newcomers;
+use crate::new_texts::NewTexts;
 use crate::order::{is_below, is_same};
 use cil_sexpr::{ReadError, read};
 use sha2::{Digest, Sha256};
@@ -23,17 +21,17 @@ use std::alloc::{AllocError, Global};
 use std::marker::Model;
 use std::mem;
 
-/// What an installation did.
+/// The result of an installation.
 #[derive(Clone, Copy, Debug, PartialEq, Eq)]
 pub enum Installed {
-    /// The text was not in the set, and now is.
+    /// The text was not in the set, and is in it now.
     New,
     /// The text was in the set already.
     Known,
 }
 
-/// A finite set of readable texts. Contracts see it as the list of its texts in byte order; the number of a
-/// module is its place in that list, counted from 0.
+/// A finite set of readable texts. In contracts it is the list of its texts in byte order; the number of a
+/// module is its index in that list.
 #[derive(Debug, Drop)]
 pub struct ModuleSet {
     texts: Vec<Vec<u8>>,
@@ -60,17 +58,12 @@ impl ModuleSet {
         }
     }
 
-    /// Puts a text into the set, if it is readable and not there. One that is there is `Known`, whatever
-    /// memory is left.
+    /// Adds a text to the set, if it is readable and not in the set yet. A text that is in the set already is `Known`; that
+    /// answer needs no memory.
     ///
-    /// Errors: the first fault of an unreadable text, or want of memory. Both leave the set as it was.
+    /// Errors: the first fault of an unreadable text, or out of memory. If the call fails, the set is unchanged.
     pub fn install(&mut self, alloc: Global, text: &[u8]) -> Result<Installed, ReadError>
-        ensures known { (result ≡ Ok Installed.Known) ↔ Contains self.old text.now }
-        ensures stays { result ≡ Ok Installed.Known → self.new ≡ self.old }
-        ensures new { result ≡ Ok Installed.New → IsUnion self.old (text.now ∷ []) self.new }
-        ensures readable { result ≡ Ok Installed.New → IsReadable text.now }
-        ensures refusal { IfErr result (Refuses text.now) }
-        ensures err { OnErr result (self.new ≡ self.old) }
+        ensures { IsInstalled self.old text.now result self.new }
     {
         match place_of(self.texts.as_slice(), text) {
             Ok(_) => Ok(Installed::Known),
@@ -83,7 +76,7 @@ impl ModuleSet {
         }
     }
 
-    /// Another set with the same texts. Errors: want of memory.
+    /// Another set with the same texts. Error: out of memory.
     pub fn try_clone(&self, alloc: Global) -> Result<ModuleSet, NoMemory>
         ensures { IfOk result (λ copy. copy ≡ self.now) }
     {
@@ -91,7 +84,7 @@ impl ModuleSet {
         Ok(ModuleSet { texts })
     }
 
-    /// How many texts the set has.
+    /// The number of texts in the set.
     pub fn len(&self) -> usize
         ensures len { result ≡ length self.now }
         ensures modules { AreModules self.now }
@@ -99,7 +92,7 @@ impl ModuleSet {
         self.texts.as_slice().len()
     }
 
-    /// The module of a number below `len`.
+    /// The module of a number, which must be less than `len`.
     pub fn get(&self, i: usize) -> &[u8]
         requires { i < length self.now }
         ensures { result.now ≡ module_of self.now i }
@@ -114,7 +107,7 @@ impl ModuleSet {
         place_of(self.texts.as_slice(), text).is_ok()
     }
 
-    /// The SHA-256 digest of the module of a number below `len`.
+    /// The SHA-256 digest of the module of a number, which must be less than `len`.
     pub fn digest(&self, i: usize) -> [u8; 32]
         requires { i < length self.now }
         ensures { result ≡ sha256 (module_of self.now i) }
@@ -122,32 +115,25 @@ impl ModuleSet {
         Sha256::digest(self.get(i))
     }
 
-    /// The bundle of the set, which `import` reads on another host. Errors: want of memory.
+    /// The bundle of the set, which `import` reads on another host. Error: out of memory.
     pub fn export(&self, alloc: Global) -> Result<Vec<u8>, NoMemory>
         ensures { IfOk result (λ bytes. bytes.items ≡ bundle self.now) }
     {
         Ok(write(alloc, self.texts.as_slice())?)
     }
 
-    /// Takes in the modules of a bundle, and answers how many of them were not there before.
+    /// Adds the modules of a bundle, and returns how many of them are new.
     ///
-    /// Errors: the first fault of bytes that are no bundle, or want of memory. Both leave the set as it was.
+    /// Errors: the first fault of bytes that are not a bundle, or out of memory. If the call fails, the set is unchanged.
     pub fn import(&mut self, alloc: Global, bytes: &[u8]) -> Result<u64, BundleError>
-        // Bytes that were taken are the bundle of a set.
-        ensures bundle { OnOk result ((modules : List (List ℕ)) × IsBundle bytes.now modules) }
-        // Of whichever set they are the bundle, the modules of that set were taken in.
-        ensures union { (modules : List (List ℕ)) → IsBundle bytes.now modules
-            → OnOk result (IsUnion self.old modules self.new) }
-        ensures added { IfOk result (λ added. length self.new ≡ length self.old + added) }
-        ensures refusal { IfErr result (RefusesBundle bytes.now) }
-        ensures err { OnErr result (self.new ≡ self.old) }
+        ensures { IsImported self.old bytes.now result self.new }
     {
-        let fresh = newcomers_of(alloc, self.texts.as_slice(), bytes)?;
-        Ok(self.take_in(alloc, fresh)?)
+        let fresh = new_texts_of(alloc, self.texts.as_slice(), bytes)?;
+        Ok(self.add_all(alloc, fresh)?)
     }
 
-    /// Takes in texts that are not there, and answers how many they are. Where they are none, it takes no memory.
-    fn take_in(&mut self, alloc: Global, fresh: Vec<Vec<u8>>) -> Result<u64, AllocError>
+    /// Adds texts that are not in the set, and returns how many there are. If there are none, no memory is allocated.
+    fn add_all(&mut self, alloc: Global, fresh: Vec<Vec<u8>>) -> Result<u64, AllocError>
         requires modules { AreModules (texts_of fresh.items) }
         requires apart { AreApart self.old (texts_of fresh.items) }
         ensures union { OnOk result (IsUnion self.old (texts_of fresh.items) self.new) }
@@ -182,12 +168,12 @@ impl Join for ModuleSet {
 
     fn merge(&mut self, alloc: Global, other: &Self) -> Result<u64, NoMemory> {
         let fresh = missing_from(alloc, self.texts.as_slice(), other.texts.as_slice())?;
-        let added = self.take_in(alloc, fresh)?;
+        let added = self.add_all(alloc, fresh)?;
         Ok(added)
     }
 }
 
-/// The texts of a rising list that ours lacks.
+/// The texts of a sorted list that are not in ours.
 fn missing_from(
     alloc: Global,
     ours: &[Vec<u8>],
@@ -197,7 +183,7 @@ fn missing_from(
     requires theirs { IsRising (texts_of theirs.now) }
     ensures { IfOk result (λ fresh. AreNew (texts_of ours.now) (texts_of theirs.now) (texts_of fresh.items)) }
 {
-    let mut walk = Newcomers::new(alloc);
+    let mut walk = NewTexts::new(alloc);
     for text in theirs {
         let text = text.as_slice();
         if !walk.knows(ours, text) {
@@ -207,7 +193,7 @@ fn missing_from(
     Ok(walk.fresh)
 }
 
-/// The same texts in memory of their own.
+/// A copy of some texts.
 fn copy_of(alloc: Global, texts: &[Vec<u8>]) -> Result<Vec<Vec<u8>>, AllocError>
     ensures { IfOk result (λ copy. texts_of copy.items ≡ texts_of texts.now) }
 {
@@ -218,7 +204,7 @@ fn copy_of(alloc: Global, texts: &[Vec<u8>]) -> Result<Vec<Vec<u8>>, AllocError>
     Ok(copy)
 }
 
-/// Where a text is in a rising list, or else where its place would be.
+/// The index of a text in a sorted list, or else the index at which it would be inserted.
 fn place_of(texts: &[Vec<u8>], text: &[u8]) -> Result<usize, usize>
     requires { IsRising (texts_of texts.now) }
     ensures found { OnOk result (Contains (texts_of texts.now) text.now) }

@@ -4,9 +4,8 @@ use Rattle.cil_sexpr.specs.declared.fault.ReadError.{ReadError}
 use Rattle.cil_sexpr.specs.Lists.{Lists as ListsOf, text_cmp}
 use Rattle.cil_sexpr.specs.Refusal.{Refuses}
 use Rattle.cil_sexpr.specs.Text.{IsReadable}
-use Rattle.cil_modset.specs.Bundle.{IsBundle, bundle}
-use Rattle.cil_modset.specs.Modules.{IsUnion}
-use Rattle.cil_modset.specs.Refusal.{RefusesBundle}
+use Rattle.cil_modset.specs.Bundle.{bundle}
+use Rattle.cil_modset.specs.Changes.{IsImported, IsInstalled}
 use Rattle.cil_modset.specs.declared.error.BundleError.{BundleError}
 use Rattle.cil_modset.specs.declared.set.Installed.{Installed}
 use Rattle.cil_modset.specs.declared.set.Installed.TheVariants as installed
@@ -21,27 +20,6 @@ use Rattle.cil_host.specs.Refusal.{Loads as LoadsHost}
 use Rattle.cil_server.specs.Asked.{Request}
 use Rattle.cil_server.specs.Asked.Request.{Installs, Imports, Exports, Lists, Loads, Unasked, Asks}
 use Rattle.cil_server.specs.Replies.{no_memory, of_decision, of_export, of_import, of_install, of_list, of_load, of_query_fault, refused}
-
--- ---- what the calls of the host do
-
--- a readable text that the host lacked is there now, and one that it had changes nothing; of another text the fault
-pub record IsInstalled (old : State) (text : List ℕ) (result : Result Installed ReadError) (new : State) : Type 0 where
-  pub known : (result ≡ Ok installed.Known) ↔ Contains old.modules text
-  pub stays : result ≡ Ok installed.Known → new ≡ old
-  pub new_text : result ≡ Ok installed.New → IsUnion old.modules (text ∷ []) new.modules
-  pub readable : result ≡ Ok installed.New → IsReadable text
-  pub loaded : new.loaded ≡ old.loaded
-  pub refusal : IfErr result (Refuses text)
-  pub err : OnErr result (new ≡ old)
-
--- the host has the texts of a bundle too; or the fault of the bytes
-pub record IsImported (old : State) (bytes : List ℕ) (result : Result ℕ BundleError) (new : State) : Type 0 where
-  pub a_bundle : OnOk result ((modules : List (List ℕ)) × IsBundle bytes modules)
-  pub union : (modules : List (List ℕ)) → IsBundle bytes modules → OnOk result (IsUnion old.modules modules new.modules)
-  pub added : IfOk result (λ added. length new.modules ≡ length old.modules + added)
-  pub loaded : new.loaded ≡ old.loaded
-  pub refusal : IfErr result (RefusesBundle bytes)
-  pub err : OnErr result (new ≡ old)
 
 -- ---- names of masks
 
@@ -72,8 +50,10 @@ pub data MayLack : Request → Type 0 where
 
 -- from a host, a request may get this reply and leave that host
 pub data Step : State → Request → List ℕ → State → Type 0 where
-  install : {old new : State} {text : List ℕ} (result : Result Installed ReadError) → IsInstalled old text result new → Step old (Installs text) (of_install result) new
-  import_ : {old new : State} {bytes : List ℕ} (result : Result ℕ BundleError) → IsImported old bytes result new → Step old (Imports bytes) (of_import result) new
+  install : {old new : State} {text : List ℕ} (result : Result Installed ReadError) → IsInstalled old.modules text result new.modules
+      → new.loaded ≡ old.loaded → Step old (Installs text) (of_install result) new
+  import_ : {old new : State} {bytes : List ℕ} (result : Result ℕ BundleError) → IsImported old.modules bytes result new.modules
+      → new.loaded ≡ old.loaded → Step old (Imports bytes) (of_import result) new
   export_ : {h : State} → Step h Exports (of_export (bundle h.modules)) h
   list : {h : State} → Step h Lists (of_list (map line_of h.modules)) h
   load : {old new : State} (result : Result Loaded Failure) → LoadsHost old new result → Step old Loads (of_load result) new

@@ -1,9 +1,9 @@
 -- Laws that fix the definitions: what they say together of every text.
-use Rattle.std.specs.Prelude.{◌≡◌, ℕ, ◌⊎◌, List, slice_range}
+use Rattle.std.specs.Prelude.{◌≡◌, ℕ, ◌⊎◌, List, length, slice_range}
 use Rattle.cil_sexpr.specs.declared.fault.ReadCode.{ReadCode}
 use Rattle.cil_sexpr.specs.Faults.{FaultOf}
 use Rattle.cil_sexpr.specs.Text.{IsText, IsReadable}
-use Rattle.cil_sexpr.specs.Tree.{Node, Word, Quoted, Branch, Nodes, Lies}
+use Rattle.cil_sexpr.specs.Tree.{Node, Word, Quoted, Branch, Nodes, Lies, AreInOrder}
 
 -- a text has at most one tree
 abbrev pub HasOneTree : Type 0
@@ -36,3 +36,7 @@ IsSlice text (Branch place inner) = Unit {0}
 
 abbrev pub HasSlices : Type 0
 HasSlices = (text : List ℕ) (nodes : Nodes) (n : Node) → IsText text nodes → Lies n nodes → IsSlice text n
+
+-- the nodes of a tree stand one after another in the text, each inside the list round it
+abbrev pub IsInOrder : Type 0
+IsInOrder = (text : List ℕ) (nodes : Nodes) → IsText text nodes → AreInOrder 0 (length text) nodes

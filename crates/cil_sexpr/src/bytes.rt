@@ -1,6 +1,6 @@
 //! What each byte does in a text, and where a run of bytes ends.
 
-ghost use Rattle.std.specs.Prelude.{◌≡◌, ◌<◌, ◌↔◌, ℕ, IsTrue, IfSome, IfNone, length, slice_index};
+ghost use Rattle.std.specs.Prelude.{◌<◌, ◌↔◌, ℕ, IsTrue, IfSome, IfNone, length, slice_index};
 ghost use Rattle.cil_sexpr.specs.Bytes.{IsWordByte, HasByte, double_quote, semicolon};
 ghost use Rattle.cil_sexpr.specs.Text.{IsWord, IsString, IsComment};
 ghost use Rattle.cil_sexpr.specs.Reading.{IsOfKind};
@@ -8,19 +8,19 @@ ghost use Rattle.cil_sexpr.specs.Reading.{IsOfKind};
 /// What a byte outside strings and comments does.
 #[derive(Clone, Copy, Debug, PartialEq, Eq)]
 pub(crate) enum ByteKind {
-    /// Parts what stands before and behind it.
+    /// A blank: it separates what is before it from what is after it.
     Blank,
-    /// Begins a comment.
+    /// Starts a comment.
     Semicolon,
-    /// Begins a string.
+    /// Starts a string.
     Quote,
-    /// Begins a list.
+    /// Starts a list.
     Open,
     /// Ends a list.
     Close,
-    /// Belongs to a word.
+    /// Is part of a word.
     Word,
-    /// Has no place in a text.
+    /// Is not allowed in a text.
     Bad,
 }
 
@@ -45,7 +45,7 @@ fn is_word_byte(byte: u8) -> bool
     matches!(byte, 0x21..=0x7E) && !matches!(byte, b'(' | b')' | b'"' | b';')
 }
 
-/// Where the word ends that begins at `start`.
+/// The end of the word that starts at `start`.
 pub(crate) fn word_end(text: &[u8], start: usize) -> usize
     requires within { start < length text.now }
     requires begins { IsWordByte (slice_index text.now start) }
@@ -58,8 +58,8 @@ pub(crate) fn word_end(text: &[u8], start: usize) -> usize
     end
 }
 
-/// Where the string ends, its closing quote included, that begins at `start`. Without a closing quote on its
-/// line there is none.
+/// The end of the string that starts at `start`, after its closing quote; none if its line has no closing
+/// quote.
 pub(crate) fn string_end(text: &[u8], start: usize) -> Option<usize>
     requires { HasByte text.now start double_quote }
     ensures string { IfSome result (IsString text.now start) }
@@ -76,7 +76,7 @@ pub(crate) fn string_end(text: &[u8], start: usize) -> Option<usize>
     None
 }
 
-/// Where the comment ends, its newline included, that begins at `start`.
+/// The end of the comment that starts at `start`, after its newline.
 pub(crate) fn comment_end(text: &[u8], start: usize) -> usize
     requires { HasByte text.now start semicolon }
     ensures { IsComment text.now start result }

@@ -7,19 +7,19 @@ use std::fmt;
 /// What is wrong with a text.
 #[derive(Clone, Copy, Debug, PartialEq, Eq)]
 pub enum ReadCode {
-    /// The text has more bytes than a text may have.
+    /// The text is longer than 4,194,304 bytes.
     TooLong,
     /// The text ends inside a list.
     Unclosed,
-    /// A `)` closes no list.
+    /// A `)` does not close a list.
     StrayClose,
-    /// A `"` that no other closes before the end of its line.
+    /// A string is not closed before the end of its line.
     OpenQuote,
-    /// A byte that stands in no string or comment, is no blank and is not printed ASCII.
+    /// A byte outside strings and comments is neither a blank nor printable ASCII.
     BadByte,
-    /// A list lies inside too many others.
+    /// Lists are nested more than 128 deep.
     TooDeep,
-    /// A word or a string stands in no list.
+    /// A word or a string is outside all lists.
     OutsideList,
 }
 
@@ -27,7 +27,7 @@ impl ReadCode {
     ghost use Rattle.std.specs.Prelude.{◌≡◌};
     ghost use Rattle.cil_sexpr.specs.Faults.{number_of};
 
-    /// The number of this cause in the replies of a host, from 1 to 7.
+    /// The code of this cause in the replies of a host, from 1 to 7.
     pub fn number(self) -> u32
         ensures { result ≡ number_of self }
     {
@@ -57,12 +57,12 @@ impl fmt::Display for ReadCode {
     }
 }
 
-/// The first fault of a text: the least place, and there the least number.
+/// The first fault of a text: the one at the lowest byte offset and, if several share it, the lowest code.
 #[derive(Clone, Copy, Debug, PartialEq, Eq)]
 pub struct ReadFault {
     /// What is wrong.
     pub code: ReadCode,
-    /// Where, as a number of bytes from the start of the text: at most 4,194,304.
+    /// The byte offset from the start of the text: at most 4,194,304.
     pub at: u64,
 }
 
@@ -77,9 +77,9 @@ impl fmt::Display for ReadFault {
 /// Why there is no tree.
 #[derive(Clone, Copy, Debug, PartialEq, Eq)]
 pub enum ReadError {
-    /// The text is at fault: every machine refuses it.
+    /// The text is wrong: every machine rejects it.
     Fault(ReadFault),
-    /// The machine is at fault: the same call may succeed later.
+    /// The machine is out of memory: the same call may succeed later.
     NoMemory,
 }
 

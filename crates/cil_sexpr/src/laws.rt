@@ -1,6 +1,7 @@
-//! Laws that fix the definitions: what holds of every text. Nothing here is run.
+//! Laws of the definitions: what is true of every text. The functions do nothing when they are called; the contract of each is
+//! a law, and a proof that needs the law calls the function.
 
-ghost use Rattle.cil_sexpr.specs.Laws.{AlwaysEither, HasOneFault, HasOneTree, HasSlices, NeverBoth};
+ghost use Rattle.cil_sexpr.specs.Laws.{AlwaysEither, HasOneFault, HasOneTree, HasSlices, IsInOrder, NeverBoth};
 ghost use Rattle.cil_sexpr.specs.Lists.{HasOneList};
 
 /// A text has at most one tree.
@@ -23,12 +24,17 @@ pub fn always_either()
     ensures { AlwaysEither }
 {}
 
-/// The bytes of each word and each string of a tree are those of the text at its place.
+/// The bytes of each word and each string of a tree are those of the text at its position.
 pub fn slices()
     ensures { HasSlices }
 {}
 
-/// A set of texts has at most one rising list, so two that list it are equal.
+/// The nodes of a tree are one after another in the text, each inside the list that contains it.
+pub fn in_order()
+    ensures { IsInOrder }
+{}
+
+/// A set of texts has at most one sorted list without repeats, so two such lists of one set are equal.
 pub fn one_list()
     ensures { HasOneList }
 {}

@@ -1,8 +1,7 @@
 //! The texts of the Common Intermediate Language (CIL): from bytes to a tree of lists, words and strings.
 //!
-//! Start at `read` in `reader.rt`. `specs/Text.antt` says which tree a text stands for, and
-//! `specs/Faults.antt` which texts stand for none and what is their first fault. What the lists mean as
-//! statements is not known here.
+//! Start at `read` in `reader.rt`. `specs/Text.antt` defines the tree of a text, and `specs/Faults.antt` the
+//! texts that have none and the first fault of each. The crates above give the lists their meaning as statements.
 #![tactic(auto)]
 
 mod bytes;
@@ -13,4 +12,4 @@ mod reader;
 
 pub use fault::{ReadCode, ReadError, ReadFault};
 pub use node::{Node, Span, Tree};
-pub use reader::read;
+pub use reader::{LONGEST_TEXT, read};

@@ -1,26 +1,26 @@
-//! The tree of a text. It holds places alone; the bytes stay in the text.
+//! The tree of a text. It holds positions only; the bytes stay in the text.
 
 ghost use Rattle.std.specs.Prelude.{◌≡◌, ◌≤◌, ℕ, List, length, slice_range};
 ghost use Rattle.cil_sexpr.specs.Tree.{inner_of, span_of};
 ghost use Rattle.cil_sexpr.specs.View.{node_of, nodes_of, place_of, top_of};
 
-/// A part of a text: the bytes from `start` up to `end`, which is not one of them.
+/// A range of bytes of a text: from `start` up to, but not including, `end`.
 #[derive(Clone, Copy, Debug, PartialEq, Eq)]
 pub struct Span {
-    /// The number of bytes before the part.
+    /// The byte offset of the first byte.
     pub start: u32,
-    /// The number of bytes before what follows the part.
+    /// The byte offset after the last byte.
     pub end: u32,
 }
 
-/// What stands in a text: a word, a string or a list, with its place.
+/// A word, a string or a list of a text, with its position.
 #[derive(Debug, Drop)]
 pub enum Node {
-    /// A longest run of printed bytes without brackets, quotes and semicolons.
+    /// A word: a longest run of printable bytes without brackets, quotes and semicolons.
     Word(Span),
-    /// A string. Its place has both quotes.
+    /// A string. Its range includes both quotes.
     Quoted(Span),
-    /// A list with its items in the order of the text. Its place has both brackets.
+    /// A list, with its items in the order of the text. Its range includes both brackets.
     List(Span, Vec<Node>),
 }
 
@@ -28,7 +28,7 @@ pub enum Node {
 const _: () = prove!(size_of::<Node>() <= 40);
 
 impl Node {
-    /// The part of its text that this node takes.
+    /// The range of the text that this node covers.
     pub fn span(&self) -> Span
         ensures place { result ≡ place_of self.now }
         ensures node { (text : List ℕ) → result ≡ span_of (node_of text self.now) }
@@ -40,7 +40,7 @@ impl Node {
         }
     }
 
-    /// The items of a list, in the order of the text. A word or a string has none.
+    /// The items of a list, in the order of the text; empty for a word or a string.
     pub fn children(&self) -> &[Node]
         ensures { (text : List ℕ) → nodes_of text result.now ≡ inner_of (node_of text self.now) }
     {
@@ -51,7 +51,7 @@ impl Node {
     }
 
     /// The bytes of this node: a word as it is, a string with its quotes, a list with its brackets.
-    /// `text` is the one that the node was read from, or any other that has the node's place.
+    /// `text` is the text that the node was read from, or any other that is long enough for the node's range.
     pub fn bytes<'a>(&self, text: &'a [u8]) -> &'a [u8]
         requires order { (place_of self.now).start ≤ (place_of self.now).end }
         requires within { (place_of self.now).end ≤ length text.now }
@@ -69,7 +69,7 @@ pub struct Tree {
 }
 
 impl Tree {
-    /// The lists of the text, in its order.
+    /// The lists of the text, in order.
     pub fn children(&self) -> &[Node]
         ensures { result.now ≡ top_of self.now }
     {

@@ -1,6 +1,6 @@
-//! The reader: one pass over the bytes, with one call for each list that is open.
+//! The reader: one pass over the bytes, with one recursive call for each open list.
 
-ghost use Rattle.std.specs.Prelude.{◌≡◌, ◌<◌, ◌≤◌, IfOk, IfErr, length};
+ghost use Rattle.std.specs.Prelude.{◌≡◌, ◌≤◌, IfOk, IfErr, length};
 ghost use Rattle.cil_sexpr.specs.Faults.{FaultOf, Plain};
 ghost use Rattle.cil_sexpr.specs.Reading.{IsClean, IsLevel};
 ghost use Rattle.cil_sexpr.specs.Refusal.{Refuses};
@@ -13,22 +13,22 @@ use crate::fault::{ReadCode, ReadError, ReadFault};
 use crate::node::{Node, Span, Tree};
 use std::alloc::Global;
 
-/// How many bytes a text may have.
-const LONGEST_TEXT: usize = 4_194_304;
+/// The most bytes that a text may have.
+pub const LONGEST_TEXT: usize = 4_194_304;
 
-/// How many lists may lie in one another.
+/// How deep lists may be nested.
 const DEEPEST: u32 = 128;
 
 /// Reads a text: the tree of its lists, words and strings, or its first fault.
 ///
-/// The least place decides, and at one place the least number. A text of more than 4,194,304 bytes is
-/// refused at that place before anything else is looked at. One pass over the bytes; want of memory is
-/// answered where a list of nodes could not grow.
+/// The first fault is the one at the lowest byte offset and, if several share it, the lowest code. A text of more
+/// than 4,194,304 bytes is rejected at that offset, whatever is in it. The cost is one pass over the bytes. The
+/// error is `NoMemory` if the memory for a list of nodes could not be allocated.
 pub fn read(alloc: Global, text: &[u8]) -> Result<Tree, ReadError>
     ensures tree { IfOk result (λ t. IsText text.now (nodes_of text.now (top_of t))) }
 
-    // Each node lies within the list round it and behind the nodes before it, so its place may be passed to
-    // `Node::bytes` with this text.
+    // Each node is inside the list that contains it and after the nodes before it, so its range may be used with
+    // this text in `Node::bytes`.
     ensures places { IfOk result (λ t. AreInOrder 0 (length text.now) (nodes_of text.now (top_of t))) }
     ensures refusal { IfErr result (Refuses text.now) }
 {
@@ -39,16 +39,16 @@ pub fn read(alloc: Global, text: &[u8]) -> Result<Tree, ReadError>
     Ok(Tree { nodes })
 }
 
-/// The nodes of one list, or of the top, and the place of what ends them.
+/// The nodes of one list, or of the top level, and the byte offset of what ends them.
 #[derive(Drop)]
 struct Level {
     nodes: Vec<Node>,
     end: usize,
 }
 
-/// Reads the nodes from `from` on, with `depth` lists open round them, up to the bracket that closes the
-/// innermost of these or, at the top, to the end of the text. At most 129 calls lie in one another: the top, and
-/// one for each open list.
+/// Reads the nodes from `from` on, inside `depth` open lists, up to the bracket that closes the innermost of them
+/// or, at the top level, to the end of the text. At most 129 calls are nested: one for the top level, and one for
+/// each open list.
 fn read_level(alloc: Global, text: &[u8], from: usize, depth: u32) -> Result<Level, ReadError>
     requires clean { IsClean text.now Plain depth from }
     requires room { depth ≤ deepest }
@@ -110,7 +110,7 @@ fn fault(_text: &[u8], code: ReadCode, at: usize) -> ReadError
     })
 }
 
-/// A part of a text. That a text is short keeps its places narrow.
+/// A range of a text. A text is short enough that its offsets fit.
 fn span(text: &[u8], start: usize, end: usize) -> Span
     requires short { length text.now ≤ longest_text }
     requires order { start ≤ end }

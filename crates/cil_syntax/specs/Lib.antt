@@ -7,6 +7,7 @@ pub mod Grammar
 pub mod Kinds
 pub mod Laid
 pub mod Laws
+pub mod Listing
 pub mod Places
 pub mod Printed
 pub mod Refusal

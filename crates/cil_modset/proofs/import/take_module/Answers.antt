@@ -10,7 +10,7 @@ use Rattle.cil_modset.proofs.import.take_module.Goals as goal
 
 pub returns-then-not-comes_next-clause-refusal : goal.returns-then-not-comes_next-clause-refusal
 returns-then-not-comes_next-clause-refusal c =
-    let no : (0 < c.args.index → IsBelow (slice_range c.args.bytes.now c.args.intake.now.start c.args.intake.now.at) c.in-Some.text.now) → ⊥ =
+    let no : (0 < c.args.index → IsBelow (slice_range c.args.bytes.now c.args.progress.now.start c.args.progress.now.at) c.in-Some.text.now) → ⊥ =
     λ h. let yes = c.comes_next.ensures.1 h in cc (yes, c.if-not-comes_next.true) in
     elim (cases_lt 0 c.args.index) [
       | inl some ↦ falls_back _ _ _ _ _ _ _ _ c.requires.before c.requires.promised c.in-Some.ensures.found some (λ below. no (λ s. below))

@@ -1,6 +1,6 @@
 use Rattle.std.proofs.Common.{take}
 use Rattle.cil_modset.specs.Modules.{texts_of}
-use Rattle.cil_modset.specs.Newcomers.{AreNew, HasPassed}
+use Rattle.cil_modset.specs.NewTexts.{AreNew, HasPassed}
 use Rattle.cil_modset.proofs.set.missing_from.Given as goal
 
 abbrev pub invariant-loop-text : goal.invariant-loop-text

@@ -4,7 +4,7 @@ use Rattle.std.proofs.lemmas.Bool.{ltb-true, lt-ltb}
 use Rattle.cil_modset.specs.Modules.{module_of, texts_of}
 use Rattle.cil_modset.proofs.RisingLemmas.{text_read, length-texts_of, member_of_number}
 use Rattle.cil_modset.proofs.WalkLemmas.{stopped_at, passed_on}
-use Rattle.cil_modset.proofs.newcomers.Newcomers.knows.Goals as goal
+use Rattle.cil_modset.proofs.new_texts.NewTexts.knows.Goals as goal
 
 pub returns-then-self-ours-clause-known : goal.returns-then-self-ours-clause-known
 returns-then-self-ours-clause-known c = λ seen passed above.

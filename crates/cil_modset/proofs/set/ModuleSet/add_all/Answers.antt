@@ -1,5 +1,5 @@
 use Rattle.cil_modset.proofs.WalkLemmas.{union_modules}
-use Rattle.cil_modset.proofs.set.ModuleSet.take_in.Goals as goal
+use Rattle.cil_modset.proofs.set.ModuleSet.add_all.Goals as goal
 
 pub gather-requires-clause-apart : goal.gather-requires-clause-apart
 gather-requires-clause-apart c = rw (c.replace-ours.ensures.value, c.self.view_is) c.requires.apart

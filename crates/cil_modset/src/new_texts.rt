@@ -1,34 +1,34 @@
-//! Which texts of a rising list another one lacks: one walk over both.
+//! The texts of a sorted list that are not in another one: one pass over both.
 
-ghost use Rattle.std.specs.Prelude.{◌≡◌, ℕ, ◌+◌, ◌<◌, ◌≤◌, ◌↔◌, List, [], ◌∷◌, ◌++◌, length, IsTrue, OnOk, OnErr, Contains};
+ghost use Rattle.std.specs.Prelude.{◌≡◌, ℕ, ◌+◌, ◌<◌, ◌≤◌, ◌↔◌, List, [], ◌∷◌, ◌++◌, length, IsTrue, OnOk, Contains};
 ghost use Rattle.cil_modset.specs.Faults.{AllBelow};
 ghost use Rattle.cil_modset.specs.Modules.{IsBelow, IsRising, module_of, texts_of};
-ghost use Rattle.cil_modset.specs.Newcomers.{HasPassed};
+ghost use Rattle.cil_modset.specs.NewTexts.{HasPassed};
 
 use crate::order::{is_below, is_same};
 use std::alloc::{AllocError, Global};
 
-/// How far the walk has come.
+/// The new texts of a merge or an import, up to where it has read.
 #[derive(Drop)]
-pub(crate) struct Newcomers {
-    /// How many of our texts come before whatever is still to be seen.
+pub(crate) struct NewTexts {
+    /// The number of our texts that are before all texts that are still to be read.
     pub(crate) passed: usize,
-    /// What was seen and is not ours.
+    /// The texts that were read and that we do not have.
     pub(crate) fresh: Vec<Vec<u8>>,
 }
 
-impl Newcomers {
-    pub(crate) fn new(alloc: Global) -> Newcomers
+impl NewTexts {
+    pub(crate) fn new(alloc: Global) -> NewTexts
         ensures passed { result.passed ≡ 0 }
         ensures fresh { texts_of result.fresh.items ≡ [] }
     {
-        Newcomers {
+        NewTexts {
             passed: 0,
             fresh: Vec::new(alloc),
         }
     }
 
-    /// Goes on to the next text, which comes behind all that was seen, and tells whether it is ours.
+    /// Goes on to the next text, which is after all that were read, and returns whether we have it.
     pub(crate) fn knows(&mut self, ours: &[Vec<u8>], text: &[u8]) -> bool
         requires rising { IsRising (texts_of ours.now) }
         requires within { self.old.passed ≤ length ours.now }
@@ -42,7 +42,7 @@ impl Newcomers {
         self.passed < ours.len() && is_same(ours[self.passed].as_slice(), text)
     }
 
-    /// Keeps a text that is not ours.
+    /// Keeps a text that we do not have.
     pub(crate) fn keep(&mut self, alloc: Global, text: &[u8]) -> Result<(), AllocError>
         ensures kept { OnOk result (texts_of self.new.fresh.items ≡ texts_of self.old.fresh.items ++ text.now ∷ []) }
         ensures passed { self.new.passed ≡ self.old.passed }
@@ -53,7 +53,7 @@ impl Newcomers {
     }
 }
 
-/// The first place from `from` on whose text does not come before `text`.
+/// The first index from `from` on whose text is not before `text`.
 fn pass_below(ours: &[Vec<u8>], from: usize, text: &[u8]) -> usize
     requires { from ≤ length ours.now }
     ensures onward { from ≤ result }

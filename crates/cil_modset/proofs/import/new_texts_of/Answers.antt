@@ -1,6 +1,6 @@
 use Rattle.std.proofs.Common.{◌≡◌, ◌∙◌, arith}
 use Rattle.cil_modset.proofs.ImportLemmas.{import_none, import_whole}
-use Rattle.cil_modset.proofs.import.newcomers_of.Goals as goal
+use Rattle.cil_modset.proofs.import.new_texts_of.Goals as goal
 
 pub loop-index-init : goal.loop-index-init
 loop-index-init c = rw (c.new.ensures.fresh, c.new.ensures.passed) (import_none _ _ c.in_ok-count.ensures.header)

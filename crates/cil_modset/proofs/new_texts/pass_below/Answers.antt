@@ -1,6 +1,6 @@
 use Rattle.std.proofs.Common.{arith, refl}
 use Rattle.cil_modset.proofs.RisingLemmas.{below_step, text_read}
-use Rattle.cil_modset.proofs.newcomers.pass_below.Goals as goal
+use Rattle.cil_modset.proofs.new_texts.pass_below.Goals as goal
 
 pub loop-at-preserved : goal.loop-at-preserved
 loop-at-preserved c = record {

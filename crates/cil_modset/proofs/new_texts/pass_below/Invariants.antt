@@ -1,6 +1,6 @@
 use Rattle.std.proofs.Common.{length, ◌-◌, ℕ, ◌<◌, ◌≤◌}
 use Rattle.cil_modset.specs.Modules.{IsBelow, module_of, texts_of}
-use Rattle.cil_modset.proofs.newcomers.pass_below.Given as goal
+use Rattle.cil_modset.proofs.new_texts.pass_below.Given as goal
 
 abbrev pub invariant-loop-at : goal.invariant-loop-at
 invariant-loop-at l = record {

@@ -1,0 +1,125 @@
+-- Readable modules compile to tables or have a list of faults: step after step, as the compiler takes them.
+use Rattle.std.specs.Prelude.{Contains}
+use Rattle.std.proofs.Common.{◌≡◌, ℕ, ◌<◌, ◌≤◌, true, List, map, length, refl, sym, ◌∙◌, ap, subst, inl, inr, arith}
+use Rattle.std.proofs.lemmas.Bool.{cases_lt}
+use Rattle.cil_sexpr.specs.Lists.{Lists, text_cmp}
+use Rattle.cil_syntax.specs.declared.failure.Failure.TheVariants.{Faults}
+use Rattle.cil_syntax.specs.declared.fault.Fault.{Fault}
+use Rattle.cil_syntax.specs.declared.kind.Kind.{Kind}
+use Rattle.cil_syntax.specs.declared.kind.Kind.TheVariants as kinds
+use Rattle.cil_syntax.specs.Laws.{AlwaysHaveProgramOrFaults, Outcome as StepOutcome, succeeds, fails as step_fails}
+use Rattle.cil_syntax.specs.Table.{entry_of}
+use Rattle.cil_syntax.specs.Terms.{Leaf, Name, Form, Terms, nil, cons}
+use Rattle.cil_syntax.specs.Written.{Written, IsWritten, ShapeFault, written_cmp}
+use Rattle.cil_decide.specs.declared.tables.Class.{Class}
+use Rattle.cil_decide.specs.CompileRefusal.{CompileFails}
+use Rattle.cil_decide.specs.Compiled.{IsRowOf, IsTable}
+use Rattle.cil_decide.specs.Declarations.{Declaration, declarations, IsDeclaration, object, by, Declared, Thing, content_of}
+use Rattle.cil_decide.specs.Faults.{ClashFault, ClassFault, wide, ResolveFault}
+use Rattle.cil_decide.specs.Flat.{AreItems, item_of}
+use Rattle.cil_decide.specs.Item.{Namespace, ScopedWord, Item, nobody}
+use Rattle.cil_decide.specs.Laws.{AlwaysCompilesOrFails, Outcome, compiles, fails}
+use Rattle.cil_decide.specs.Passes.{AreFlat}
+use Rattle.cil_decide.specs.Resolves.{has_permission}
+use Rattle.cil_decide.specs.Table.{Table, IsOrderly, most_permissions}
+use Rattle.cil_decide.proofs.AgreesLemmas.{table_agrees}
+use Rattle.cil_decide.proofs.ClassStatements.{class_keyword}
+use Rattle.cil_decide.proofs.CompileLemmas.{clash_fails, words_fail, widths_fail, nothing_wrong}
+use Rattle.cil_decide.proofs.FiniteFaults.{finite_clashes, finite_unresolved, finite_wide, step_outcome}
+use Rattle.cil_decide.proofs.FinitePolicy.{Front}
+use Rattle.cil_decide.proofs.ListLemmas.{from_map}
+use Rattle.cil_decide.proofs.Naming.{of_own_kind}
+use Rattle.cil_decide.proofs.TablesExist.{tables}
+
+-- ---- tables are orderly where no class is too wide
+
+-- the name in front of terms that declare something
+record IsInFront (space : Namespace) (args : Terms ScopedWord) (d : Declaration) : Type 0 where
+  front : Front
+  says : args ≡ cons (Name front.0 front.1) front.2
+  named : d.name ≡ front.1
+  in_space : d.space ≡ space
+
+in_front : (space : Namespace) (ks : List Kind) (args : Terms ScopedWord) (d : Declaration) → Contains (declarations space ks args) d → IsInFront space args d
+in_front space ks nil d c = absurd (omega (arith, c.1))
+in_front space ks (cons (Leaf w) rest) d c = absurd (omega (arith, c.1))
+in_front space ks (cons (Form at op parts) rest) d c = absurd (omega (arith, c.1))
+in_front space ks (cons (Name at name) rest) d c =
+    let r = from_map (λ kind. record { kind = kind; space = space; name = name; content = content_of rest }) ks d c in
+    record { front = (at, name, rest); says = refl; named = ap (λ (e : Declaration). e.name) (sym r.2); in_space = ap (λ (e : Declaration). e.space) (sym r.2) }
+
+module _ (xs : List Item) (none : (f : Fault) → ClassFault nobody xs f → ⊥) where
+  wide_class : (c : Thing) (permissions : List (List ℕ)) (d : Declaration) → IsDeclaration xs nobody d → d.kind ≡ kinds.Class → d.space ≡ c.space → d.name ≡ c.name
+      → Lists text_cmp (λ p. has_permission xs c p ≡ true) permissions → most_permissions < length permissions → ⊥
+  wide_class c permissions d object k s n listed big = cc
+  wide_class c permissions d (by x e cx on by_it) k s n listed big =
+      let keyword = class_keyword x.keyword
+      (subst (λ j. Contains (entry_of x.keyword).declares j) k (of_own_kind x.space (entry_of x.keyword).declares x.args e by_it)) in
+      let f = in_front x.space (entry_of x.keyword).declares x.args e by_it in
+      let same : c ≡ record { space = x.space; name = f.front.1 } = λ i. record { space = (sym s ∙ f.in_space) i; name = (sym n ∙ f.named) i } in
+      none _ (wide x f.front.0 f.front.1 f.front.2 permissions cx on keyword f.says
+      (subst (λ t. Lists text_cmp (λ p. has_permission xs t p ≡ true) permissions) same listed) big)
+
+  few : (c : Thing) (row : Class) → Declared xs nobody kinds.Class c → IsRowOf xs c row → length row.permissions ≤ most_permissions
+  few c row d is = elim (cases_lt most_permissions (length row.permissions)) [
+    | inl big ↦ absurd (wide_class c row.permissions d.declaration d.declares d.of_kind d.in_space d.of_name is.permissions big)
+    | inr le ↦ le
+  ]
+
+  orderly : (t : Table) → IsTable xs nobody t → IsOrderly t
+  orderly t is = record {
+    users = is.users.rising;
+    roles = is.roles.rising;
+    types = is.types.rising;
+    classes = is.classes.rising;
+    each_class = λ row c. let k = is.classes.only row c in record { permissions = k.2.permissions.rising; few = few k.0 row k.1 k.2 };
+    user_roles = is.user_roles.rising;
+    role_types = is.role_types.rising;
+  }
+
+-- ---- the steps
+
+module _ (modules : List (List ℕ)) (program : List Written) (is_program : Lists written_cmp (IsWritten modules) program) (shape : (f : Fault) → ShapeFault modules f → ⊥) where
+  items : List Item
+  items = map item_of program
+
+  are_items : AreItems modules items
+  unfolding items
+  are_items = record { program = program; is_program = is_program; items = refl }
+
+  flat : AreFlat items
+  unfolding items
+  flat x c = let w = from_map item_of program x c in (ap (λ (y : Item). y.space) (sym w.2), ap (λ (y : Item). y.round) (sym w.2))
+
+  failed : (fs : List Fault) → CompileFails modules (Faults fs) → Outcome modules
+  failed fs h = fails fs h.0 h.1
+
+  without_faults : ((f : Fault) → ClashFault items f → ⊥) → ((f : Fault) → ResolveFault nobody items f → ⊥) → ((f : Fault) → ClassFault nobody items f → ⊥) → Outcome modules
+  without_faults apart named narrow =
+      let t = tables items flat in
+      compiles t.0 (orderly items narrow t.0 t.1) (record {
+        items = items;
+        are_items = are_items;
+        no_faults = nothing_wrong modules items are_items shape apart named narrow;
+        table = t.1;
+        agrees = table_agrees items flat t.0 t.1;
+      })
+
+  outcome : Outcome modules
+  outcome = elim (step_outcome (ClashFault items) (finite_clashes items)) [
+    | inl clash ↦ failed clash.0 (clash_fails modules items are_items shape (Faults clash.0) clash.1)
+    | inr apart ↦ elim (step_outcome (ResolveFault nobody items) (finite_unresolved items nobody)) [
+      | inl lost ↦ failed lost.0 (words_fail modules items are_items shape apart (Faults lost.0) lost.1)
+      | inr named ↦ elim (step_outcome (ClassFault nobody items) (finite_wide items nobody)) [
+        | inl broad ↦ failed broad.0 (widths_fail modules items are_items shape apart named (Faults broad.0) broad.1)
+        | inr narrow ↦ without_faults apart named narrow
+      ]
+    ]
+  ]
+
+by_shape : (modules : List (List ℕ)) → StepOutcome (Lists written_cmp (IsWritten modules)) (ShapeFault modules) → Outcome modules
+by_shape modules (succeeds program is none) = outcome modules program is none
+by_shape modules (step_fails faults are) = fails faults (inl are) are.some
+
+pub always_compiles_or_fails : AlwaysHaveProgramOrFaults → AlwaysCompilesOrFails
+always_compiles_or_fails law modules readable = by_shape modules (law modules readable)
