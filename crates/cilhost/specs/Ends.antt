@@ -1,6 +1,8 @@
 -- How the program ends. This project's profile.
-use Rattle.std.specs.Prelude.{◌≡◌, ℕ, ◌==◌, if◌then◌else◌, List}
+use Rattle.std.specs.Prelude.{◌≡◌, ◌≢◌, ◌⊎◌, ℕ, ◌==◌, if◌then◌else◌, List}
 use Rattle.std.specs.Borrow.{Bor}
+use Rattle.std.specs.declared.io.ErrorKind as io
+use Rattle.std.specs.declared.io.ErrorKind.TheVariants as io_kind
 use Rattle.clap.specs.declared.error.kind.ErrorKind.{ErrorKind}
 use Rattle.clap.specs.declared.error.kind.ErrorKind.TheVariants as kind
 use Rattle.cil_server.specs.declared.served.Served.{Served}
@@ -10,8 +12,8 @@ use Rattle.cil_sexpr.specs.declared.fault.ReadError.TheVariants as read
 use Rattle.cilhost.specs.declared.program.Streams.{Streams}
 use Rattle.cilhost.specs.declared.status.Status.{Status}
 use Rattle.cilhost.specs.declared.status.Status.TheVariants as status
-use Rattle.cilhost.specs.declared.trouble.Trouble.{Trouble}
-use Rattle.cilhost.specs.declared.trouble.Trouble.TheVariants as trouble
+use Rattle.cilhost.specs.declared.error.Error.{Error}
+use Rattle.cilhost.specs.declared.error.Error.TheVariants as errors
 
 -- the number that the program ends with
 abbrev pub number_of : Status → ℕ
@@ -30,16 +32,20 @@ status_of ReadFailed = status.Failed
 status_of WriteFailed = status.Failed
 
 -- the status where the program stops early
-abbrev pub trouble_status : Trouble → Status
-trouble_status trouble.Arguments = status.Usage
-trouble_status (trouble.Refused file fault) = status.Refused
-trouble_status (trouble.Failed file) = status.Failed
-trouble_status trouble.NoMemory = status.NoMemory
+abbrev pub error_status : Error → Status
+error_status errors.Arguments = status.Usage
+error_status (errors.Refused file fault) = status.Refused
+error_status (errors.Failed file) = status.Failed
+error_status errors.NoMemory = status.NoMemory
 
--- why the program stops at a file that the host does not take
-abbrev pub refusal : Bor (List ℕ) → ReadError → Trouble
-refusal file (read.Fault fault) = trouble.Refused file fault
-refusal file read.NoMemory = trouble.NoMemory
+-- why the program stops at a file that the host refuses
+abbrev pub refusal : Bor (List ℕ) → ReadError → Error
+refusal file (read.Fault fault) = errors.Refused file fault
+refusal file read.NoMemory = errors.NoMemory
+
+-- why the program stops at a file where a call of the system fails with an error of this kind
+abbrev pub IsFailure : io.ErrorKind → Bor (List ℕ) → Error → Type 0
+IsFailure kind file error = ((kind ≡ io_kind.OutOfMemory) × (error ≡ errors.NoMemory)) ⊎ ((kind ≢ io_kind.OutOfMemory) × (error ≡ errors.Failed file))
 
 -- nothing was read from the input, nor written to the output
 abbrev pub HasServedNothing : {R W E : Type 0} → Streams R W E → Streams R W E → Type 0

@@ -50,10 +50,19 @@ const HELP: &[(&[&str], &str)] = &[
     (&["-V"], "cilhost 0.1.0\n"),
     (&["-h"], "Usage: cilhost <COMMAND>"),
     (&["--help"], "Example:"),
+    (
+        &["--help"],
+        "type, class, role, user, roletype, userrole and allow",
+    ),
     (&["help"], "Example:"),
     (&["session", "-h"], "Usage: cilhost session [FILE]..."),
     (&["session", "--help"], "AV source target class"),
     (&["session", "--help"], "41  a word that names nothing"),
+    (
+        &["session", "--help"],
+        "22  a statement or form that cilhost does not support",
+    ),
+    (&["session", "--help"], "`head -c PLACE FILE | wc -l`"),
     (&["help", "session"], "AV source target class"),
 ];
 
@@ -109,13 +118,13 @@ fn help_that_cannot_be_printed_is_a_failure(rt: HostRuntime) -> Result<(), Fail>
         String::from_str(alloc, "cilhost")?,
         String::from_str(alloc, "--help")?,
     ];
-    let mut desk = FILLED;
+    let mut system = FILLED;
     let mut streams = Streams {
         input: b"".as_slice(),
         output: Closed,
         messages: Vec::new(alloc),
     };
-    let status = run(alloc, words.as_slice(), &mut desk, &mut streams);
+    let status = run(alloc, words.as_slice(), &mut system, &mut streams);
     assert!(rt; status == Status::Failed);
     assert!(rt; streams.messages.as_slice() == b"cilhost: -: failed\n".as_slice());
     Ok(())

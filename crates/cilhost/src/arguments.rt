@@ -1,8 +1,8 @@
 //! The arguments of the program: their words, and what they ask for.
 
+use crate::error::Error;
 use crate::help;
-use crate::trouble::Trouble;
-use clap::{Arg, ArgAction, ArgMatches, Command, Error};
+use clap::{Arg, ArgAction, ArgMatches, Command};
 use std::alloc::Global;
 use std::env;
 use std::io::ErrorKind;
@@ -14,18 +14,17 @@ pub const SESSION: &str = "session";
 /// The name of its files.
 pub const FILE: &str = "FILE";
 
-/// The arguments of the program, its own name first. Errors: want of memory, or arguments that cannot be read as text.
-pub fn words<R: Env + AllocGlobal>(rt: &R) -> Result<Vec<String>, Trouble<'static>> {
+/// The arguments of the program, its own name first. Fails out of memory, or where the arguments are not text.
+pub fn words<R: Env + AllocGlobal>(rt: &R) -> Result<Vec<String>, Error<'static>> {
     match env::args(rt) {
         Ok(words) => Ok(words.collect(rt.alloc())?),
-        Err(error) if error.kind() == ErrorKind::OutOfMemory => Err(Trouble::NoMemory),
-        Err(_) => Err(Trouble::Arguments),
+        Err(error) if error.kind() == ErrorKind::OutOfMemory => Err(Error::NoMemory),
+        Err(_) => Err(Error::Arguments),
     }
 }
 
-/// What the words ask for. Errors: words that ask for nothing that there is, want of memory; and help and the version, where they are
-/// asked for.
-pub fn matches<'a>(alloc: Global, words: &'a [String]) -> Result<ArgMatches<'a>, Error> {
+/// What the words ask for. The error is clap's: words that it does not accept, out of memory, or a request for help or the version.
+pub fn matches<'a>(alloc: Global, words: &'a [String]) -> Result<ArgMatches<'a>, clap::Error> {
     let file = Arg::new(alloc, FILE)
         .action(ArgAction::Append)
         .num_args(0..)

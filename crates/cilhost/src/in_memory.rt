@@ -1,20 +1,25 @@
 //! Files, streams and whole runs in memory, for the tests.
 
+ghost use Rattle.std.specs.Prelude.{◌≡◌, Some, find, option_map};
+ghost use Rattle.std.specs.Str.{bytes_eq};
+
 use crate::program::{Streams, run};
 use crate::session::run_session;
 use crate::status::Status;
-use crate::system::System;
+use crate::system::{System, note, start_of};
 use std::alloc::{AllocError, Global};
 use std::io::{self, ErrorKind, Read, Write};
 
-/// A file in memory, which may fail where its bytes end.
+/// A reader in memory, which may fail where its bytes end.
 #[derive(Drop)]
-pub struct Paper<'a> {
+pub struct MemoryReader<'a> {
     pub rest: &'a [u8],
     pub fails: Option<ErrorKind>,
 }
 
-impl Read for Paper<'_> {
+impl Read for MemoryReader<'_> {
+    ghost remaining = { λ r. Some r.rest.now };
+
     fn read(&mut self, buf: &mut [u8]) -> io::Result<usize> {
         match self.fails {
             Some(kind) if self.rest.is_empty() => Err(io::Error::from(kind)),
@@ -23,39 +28,58 @@ impl Read for Paper<'_> {
     }
 }
 
-/// Files in memory, each with its name, its bytes and how it fails behind them.
+/// A system in memory, with files whose bytes are known: the name of each, its bytes, and the error that reading it gives where they end.
 #[derive(Clone, Copy)]
-pub struct Desk<'a> {
-    pub papers: &'a [(&'a str, &'a [u8], Option<ErrorKind>)],
+pub struct MemorySystem<'a> {
+    pub files: &'a [(&'a str, &'a [u8], Option<ErrorKind>)],
     pub no_hasher: Option<ErrorKind>,
+    pub failure: Option<ErrorKind>,
 }
 
-impl<'a> System for Desk<'a> {
-    type File = Paper<'a>;
+impl System for MemorySystem<'_> {
+    ghost holds = { λ s name. option_map (λ f. f.1.now) (find (λ f. bytes_eq f.0.now name) s.files.now) };
+
+    ghost failure = { λ s. s.failure };
 
     type Hasher = u8;
 
-    fn open(&mut self, name: &str) -> io::Result<Paper<'a>> {
-        for (known, rest, fails) in self.papers {
-            if *known == name {
-                return Ok(Paper {
-                    rest: *rest,
+    fn read(&mut self, alloc: Global, name: &str, limit: u64) -> io::Result<Vec<u8>> {
+        let text = match file_named(self.files, name) {
+            Some((_, bytes, fails)) => start_of(
+                alloc,
+                MemoryReader {
+                    rest: *bytes,
                     fails: *fails,
-                });
-            }
-        }
-        Err(io::Error::from(ErrorKind::NotFound))
+                },
+                limit,
+            ),
+            None => Err(io::Error::from(ErrorKind::NotFound)),
+        };
+        note(&mut self.failure, &text);
+        text
     }
 
     fn hasher(&mut self) -> io::Result<u8> {
-        match self.no_hasher {
+        let hasher = match self.no_hasher {
             Some(kind) => Err(io::Error::from(kind)),
             None => Ok(0),
-        }
+        };
+        note(&mut self.failure, &hasher);
+        hasher
     }
 }
 
-/// An output that takes nothing.
+/// The first file of a name.
+fn file_named<'a>(
+    files: &'a [(&'a str, &'a [u8], Option<ErrorKind>)],
+    name: &str,
+) -> Option<&'a (&'a str, &'a [u8], Option<ErrorKind>)>
+    ensures { option_map (λ f. f.now) result ≡ find (λ f. bytes_eq f.0.now name.now) files.now }
+{
+    files.iter().find(|file| file.0 == name)
+}
+
+/// An output that always fails.
 #[derive(Drop)]
 pub struct Closed;
 
@@ -70,15 +94,17 @@ impl Write for Closed {
 }
 
 /// Files that are modules, and files that are not.
-pub const FILLED: Desk<'static> = Desk {
-    papers: &[
+pub const FILLED: MemorySystem<'static> = MemorySystem {
+    files: &[
         ("good.cil", b"(type a)", None),
         ("bad.cil", b"(type b))", None),
+        ("worse.cil", b"(type c", None),
         ("empty.cil", b"", None),
         ("cut.cil", b"(type a)", Some(ErrorKind::ConnectionReset)),
         ("large.cil", b"(type a)", Some(ErrorKind::OutOfMemory)),
     ],
     no_hasher: None,
+    failure: None,
 };
 
 /// What a run leaves: its status, its output and its messages.
@@ -122,9 +148,9 @@ fn what_is_left(status: Status, streams: Streams<&[u8], Vec<u8>, Vec<u8>>) -> Le
 }
 
 /// A session over files and an input in memory.
-pub fn session(alloc: Global, mut desk: Desk<'_>, files: &[&str], input: &[u8]) -> Left {
+pub fn session(alloc: Global, mut system: MemorySystem<'_>, files: &[&str], input: &[u8]) -> Left {
     let mut streams = streams(alloc, input);
-    let status = run_session(alloc, files, &mut desk, &mut streams);
+    let status = run_session(alloc, files, &mut system, &mut streams);
     what_is_left(status, streams)
 }
 
@@ -135,8 +161,8 @@ pub fn program(alloc: Global, words: &[&str]) -> Result<Left, AllocError> {
     for word in words {
         all.push(String::from_str(alloc, word)?)?;
     }
-    let mut desk = FILLED;
+    let mut system = FILLED;
     let mut streams = streams(alloc, b"");
-    let status = run(alloc, all.as_slice(), &mut desk, &mut streams);
+    let status = run(alloc, all.as_slice(), &mut system, &mut streams);
     Ok(what_is_left(status, streams))
 }

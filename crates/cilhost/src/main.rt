@@ -8,6 +8,7 @@
 #[cfg(test)]
 mod argument_tests;
 mod arguments;
+mod error;
 mod help;
 #[cfg(test)]
 mod in_memory;
@@ -17,7 +18,6 @@ mod status;
 mod system;
 #[cfg(test)]
 mod tests;
-mod trouble;
 
 use crate::arguments::words;
 use crate::program::{Streams, run};
@@ -37,7 +37,7 @@ fn main(rt: HostRuntime) -> ExitCode {
             &mut Machine::new(&rt),
             &mut streams,
         ),
-        Err(trouble) => trouble.tell(&mut streams.messages),
+        Err(error) => error.report(&mut streams.messages),
     };
     ExitCode::from(status.number())
 }

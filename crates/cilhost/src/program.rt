@@ -5,11 +5,10 @@ ghost use Rattle.clap.specs.Words.{kind_of};
 ghost use Rattle.cilhost.specs.Ends.{HasServedNothing, answer_to};
 
 use crate::arguments::{FILE, SESSION, matches};
+use crate::error::{Error, STREAMS};
 use crate::session::run_session;
 use crate::status::Status;
 use crate::system::System;
-use crate::trouble::{STREAMS, Trouble};
-use clap::Error;
 use clap::error::ErrorKind;
 use std::alloc::Global;
 use std::io::{Read, Write};
@@ -48,18 +47,18 @@ pub fn run<Y: System, R: Read, W: Write, E: Write>(
 }
 
 /// Prints the help or the version that was asked for, or what is wrong with the words.
-fn answer<R, W: Write, E: Write>(error: Error, streams: &mut Streams<R, W, E>) -> Status
+fn answer<R, W: Write, E: Write>(error: clap::Error, streams: &mut Streams<R, W, E>) -> Status
     // What was asked for may not be printed.
     ensures status { (result ≡ answer_to (kind_of error)) ⊎ ((answer_to (kind_of error) ≡ Status.Done) × (result ≡ Status.Failed)) }
     ensures unread { streams.new.input ≡ streams.old.input }
 {
     if error.kind() == ErrorKind::OutOfMemory {
-        Trouble::NoMemory.tell(&mut streams.messages)
+        Error::NoMemory.report(&mut streams.messages)
     } else if error.use_stderr() {
         let _ = write!(streams.messages, "{error}");
         Status::Usage
     } else if write!(streams.output, "{error}").is_err() {
-        Trouble::Failed(STREAMS).tell(&mut streams.messages)
+        Error::Failed(STREAMS).report(&mut streams.messages)
     } else {
         Status::Done
     }

@@ -1,33 +1,39 @@
-//! What a session takes from the system beside its streams.
+//! What a session needs of the system beside its streams.
 
-ghost use Rattle.std.specs.Prelude.{◌≡◌, ℕ, List, Option, None, Some, IfOk, IfSome};
+ghost use Rattle.std.specs.Prelude.{◌≡◌, ℕ, List, Option, None, Some, IfErr, IfOk, IfSome, OnOk, take};
+ghost use Rattle.std.specs.IoError.{error_kind};
+ghost use Rattle.cilhost.specs.Reading.{Failure, Known};
 
+use std::alloc::Global;
 use std::fs;
 use std::hash::RandomState;
-use std::io::{self, Read};
+use std::io::{self, ErrorKind, Read};
 use std::random::RandomSource;
 use std::rt::Files;
 
-/// What a session takes from the system: files by their names, and what the host hashes with.
+/// What a session needs of the system: files by their names, and what the host hashes with.
 pub trait System {
     /// The bytes of the file of this name, where they are known.
-    ghost holds: { Self → List ℕ → Option (List ℕ) } = { λ _ _. None };
+    ghost holds: { Self → List ℕ → Known } = { λ _ _. None };
 
-    /// A file that was opened.
-    type File: Read + Drop;
+    /// The kind of the error of the last call that failed.
+    ghost failure: { Self → Failure };
 
     /// What the host hashes with.
     type Hasher: Drop;
 
-    /// Opens a file for reading.
-    fn open(&mut self, name: &str) -> io::Result<Self::File>
-        ensures bytes { IfSome (holds self.old name.now)
-            (λ bytes. IfOk result (λ file. Self.File.remaining file ≡ Some bytes)) }
-        ensures stays { holds self.new ≡ holds self.old };
+    /// Reads a file: its first bytes up to a limit, or all of them.
+    fn read(&mut self, alloc: Global, name: &str, limit: u64) -> io::Result<Vec<u8>>
+        ensures bytes { IfOk result (λ text. IfSome (holds self.old name.now) (λ bytes. text.items ≡ take limit bytes)) }
+        ensures stays { holds self.new ≡ holds self.old }
+        ensures sound { OnOk result (failure self.new ≡ failure self.old) }
+        ensures failed { IfErr result (λ error. failure self.new ≡ Some (error_kind error)) };
 
     /// Makes what the host hashes with.
     fn hasher(&mut self) -> io::Result<Self::Hasher>
-        ensures { holds self.new ≡ holds self.old };
+        ensures stays { holds self.new ≡ holds self.old }
+        ensures sound { OnOk result (failure self.new ≡ failure self.old) }
+        ensures failed { IfErr result (λ error. failure self.new ≡ Some (error_kind error)) };
 }
 
 /// The machine that the program runs on: its files, and a hasher with random keys, so that nobody can choose
@@ -35,25 +41,56 @@ pub trait System {
 #[derive(Drop)]
 pub struct Machine<'a, R> {
     rt: &'a R,
+    failure: Option<ErrorKind>,
 }
 
 impl<'a, R> Machine<'a, R> {
     /// The machine of this runtime.
     pub fn new(rt: &'a R) -> Machine<'a, R> {
-        Machine { rt }
+        Machine { rt, failure: None }
     }
 }
 
 impl<R: Files + RandomSource> System for Machine<'_, R> {
-    type File = R::File;
+    ghost failure = { λ s. s.failure };
 
     type Hasher = RandomState;
 
-    fn open(&mut self, name: &str) -> io::Result<R::File> {
-        fs::open(self.rt, name)
+    fn read(&mut self, alloc: Global, name: &str, limit: u64) -> io::Result<Vec<u8>> {
+        let text = read_file(self.rt, alloc, name, limit);
+        note(&mut self.failure, &text);
+        text
     }
 
     fn hasher(&mut self) -> io::Result<RandomState> {
-        RandomState::new(self.rt)
+        let hasher = RandomState::new(self.rt);
+        note(&mut self.failure, &hasher);
+        hasher
     }
+}
+
+/// Notes the kind of the error where a call has failed.
+pub fn note<T>(failure: &mut Option<ErrorKind>, outcome: &io::Result<T>)
+    ensures sound { OnOk outcome.now (failure.new ≡ failure.old) }
+    ensures failed { IfErr outcome.now (λ error. failure.new ≡ Some (error_kind error)) }
+{
+    if let Err(error) = outcome {
+        *failure = Some(error.kind());
+    }
+}
+
+/// Reads a file of the machine, up to a limit.
+fn read_file<R: Files>(rt: &R, alloc: Global, name: &str, limit: u64) -> io::Result<Vec<u8>> {
+    let file = fs::open(rt, name)?;
+    start_of(alloc, file, limit)
+}
+
+/// Reads the first bytes of a reader up to a limit, or all of them.
+pub fn start_of<F: Read + Drop>(alloc: Global, reader: F, limit: u64) -> io::Result<Vec<u8>>
+    ensures { IfOk result (λ text. IfSome (F.remaining reader) (λ bytes. text.items ≡ take limit bytes)) }
+{
+    let mut start = reader.take(limit);
+    let mut text = Vec::new(alloc);
+    start.read_to_end(&mut text)?;
+    Ok(text)
 }

@@ -1,11 +1,12 @@
 //! The program over files and streams in memory, and over the machine.
 
-use crate::in_memory::{Closed, Desk, FILLED, Paper, session};
+use crate::in_memory::{Closed, FILLED, MemoryReader, MemorySystem, session};
 use crate::program::Streams;
 use crate::session::{end, run_session};
 use crate::status::Status;
 use crate::system::Machine;
 use cil_server::Served;
+use cil_sexpr::LONGEST_TEXT;
 use std::alloc::Global;
 use std::io::ErrorKind;
 
@@ -42,12 +43,12 @@ const WORKED: &[(&[&str], &[u8], Status, &str, &str)] = &[
 
 #[test]
 fn sessions_answer_as_worked(rt: HostRuntime) {
-    let desk = Desk {
-        papers: &[("first.cil", FIRST, None)],
-        no_hasher: None,
+    let system = MemorySystem {
+        files: &[("first.cil", FIRST, None)],
+        ..FILLED
     };
-    for &(files, input, status, output, messages) in WORKED {
-        let left = session(rt.alloc(), desk, files, input);
+    for &(names, input, status, output, messages) in WORKED {
+        let left = session(rt.alloc(), system, names, input);
         assert!(rt; left.is(status, output, messages), "{output:?}");
     }
 }
@@ -75,6 +76,16 @@ const INSTALLED: &[(&[&str], Status, &str)] = &[
         Status::Failed,
         "cilhost: none.cil: failed\n",
     ),
+    (
+        &["worse.cil", "bad.cil"],
+        Status::Refused,
+        "cilhost: worse.cil: refused 2 7\n",
+    ),
+    (
+        &["cut.cil", "none.cil"],
+        Status::Failed,
+        "cilhost: cut.cil: failed\n",
+    ),
 ];
 
 #[test]
@@ -92,19 +103,19 @@ fn ends_over(alloc: Global, size: usize, status: Status, messages: &str) -> bool
     let Ok(blanks) = vec![in alloc; b' '; size] else {
         return false;
     };
-    let papers = [("long.cil", blanks.as_slice(), None)];
-    let desk = Desk {
-        papers: &papers,
-        no_hasher: None,
+    let files = [("long.cil", blanks.as_slice(), None)];
+    let system = MemorySystem {
+        files: &files,
+        ..FILLED
     };
-    session(alloc, desk, &["long.cil"], b"").is(status, "", messages)
+    session(alloc, system, &["long.cil"], b"").is(status, "", messages)
 }
 
 #[test]
 fn the_limit_of_a_file_holds_to_the_byte(rt: HostRuntime) {
     let alloc = rt.alloc();
-    assert!(rt; ends_over(alloc, 4_194_304, Status::Done, ""));
-    assert!(rt; ends_over(alloc, 4_194_305, Status::Refused, TOO_LONG));
+    assert!(rt; ends_over(alloc, LONGEST_TEXT, Status::Done, ""));
+    assert!(rt; ends_over(alloc, LONGEST_TEXT + 1, Status::Refused, TOO_LONG));
     assert!(rt; ends_over(alloc, 5_000_000, Status::Refused, TOO_LONG));
 }
 
@@ -122,11 +133,11 @@ fn without_a_hasher_nothing_is_installed(rt: HostRuntime) {
             "cilhost: no memory\n",
         ),
     ] {
-        let desk = Desk {
-            papers: FILLED.papers,
+        let system = MemorySystem {
             no_hasher: Some(kind),
+            ..FILLED
         };
-        let left = session(rt.alloc(), desk, &["bad.cil"], b"");
+        let left = session(rt.alloc(), system, &["bad.cil"], b"");
         assert!(rt; left.is(status, "", messages), "{messages}");
     }
 }
@@ -159,8 +170,8 @@ fn a_message_that_cannot_be_written_changes_no_status(rt: HostRuntime) {
         output: Closed,
         messages: Closed,
     };
-    let mut desk = FILLED;
-    let status = run_session(rt.alloc(), &["bad.cil"], &mut desk, &mut streams);
+    let mut system = FILLED;
+    let status = run_session(rt.alloc(), &["bad.cil"], &mut system, &mut streams);
     assert!(rt; status == Status::Refused);
 }
 
@@ -181,15 +192,15 @@ fn the_machine_has_no_such_file(rt: HostRuntime) {
 #[test]
 fn an_input_that_fails_ends_the_session(rt: HostRuntime) {
     let mut streams = Streams {
-        input: Paper {
+        input: MemoryReader {
             rest: b"LIST\nLI",
             fails: Some(ErrorKind::ConnectionReset),
         },
         output: Vec::new(rt.alloc()),
         messages: Vec::new(rt.alloc()),
     };
-    let mut desk = FILLED;
-    let status = run_session(rt.alloc(), &[], &mut desk, &mut streams);
+    let mut system = FILLED;
+    let status = run_session(rt.alloc(), &[], &mut system, &mut streams);
     assert!(rt; status == Status::Failed);
     assert!(rt; streams.messages.as_slice() == b"cilhost: -: failed\n".as_slice());
 }
@@ -201,8 +212,8 @@ fn an_output_that_fails_ends_the_session(rt: HostRuntime) {
         output: Closed,
         messages: Vec::new(rt.alloc()),
     };
-    let mut desk = FILLED;
-    let status = run_session(rt.alloc(), &[], &mut desk, &mut streams);
+    let mut system = FILLED;
+    let status = run_session(rt.alloc(), &[], &mut system, &mut streams);
     assert!(rt; status == Status::Failed);
     assert!(rt; streams.messages.as_slice() == b"cilhost: -: failed\n".as_slice());
 }

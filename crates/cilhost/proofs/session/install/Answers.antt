@@ -1,18 +1,19 @@
 use Rattle.cil_host.specs.Machine.{same_state, unchanged}
-use Rattle.cilhost.proofs.ReadingLemmas.{has_installed, keeps_installed, part_there, refusal_due}
+use Rattle.cilhost.proofs.ReadingLemmas.{is_added, refusal_due, stays_readable}
 use Rattle.cilhost.proofs.session.install.Goals as goal
 
-pub returns-in-Ok-install-clause-installed : goal.returns-in-Ok-install-clause-installed
-returns-in-Ok-install-clause-installed g c =
+pub returns-in-Ok-install-clause-adds : goal.returns-in-Ok-install-clause-adds
+returns-in-Ok-install-clause-adds g c =
     let read = rw (← c.as_slice.ensures.value) at c.in-Ok.ensures.bytes in
-    part_there _ _ _ read (has_installed _ _ _ _ _ c.in-Ok-install.is c.install.ensures.modules.known
-    (λ k. same_state _ _ (c.install.ensures.modules.stays k) c.install.ensures.loaded) c.install.ensures.modules.joined)
+    is_added _ _ _ _ _ _ read c.in-Ok-install.is c.install.ensures.modules.known
+    (λ k. same_state _ _ (c.install.ensures.modules.stays k) c.install.ensures.loaded) c.install.ensures.modules.joined
 
-pub returns-in-Ok-install-clause-keeps : goal.returns-in-Ok-install-clause-keeps
-returns-in-Ok-install-clause-keeps g c = keeps_installed _ _ _ _ (λ k. same_state _ _ (c.install.ensures.modules.stays k) c.install.ensures.loaded) c.install.ensures.modules.joined
-    (unchanged _ _ _ c.install.ensures.modules.err c.install.ensures.loaded)
+pub returns-in-Ok-install-clause-readable : goal.returns-in-Ok-install-clause-readable
+returns-in-Ok-install-clause-readable g c =
+    stays_readable _ _ _ _ (λ k. same_state _ _ (c.install.ensures.modules.stays k) c.install.ensures.loaded) c.install.ensures.modules.joined
+    c.install.ensures.modules.readable (unchanged _ _ _ c.install.ensures.modules.err c.install.ensures.loaded)
 
 pub returns-clause-due : goal.returns-clause-due
 returns-clause-due g c =
     let refused = rw c.as_slice.ensures.value at c.in-Err-install.ensures.modules.refusal in
-    rw c.refused.ensures (refusal_due _ _ _ _ c.in-Ok.ensures.bytes refused)
+    rw c.refused.ensures (refusal_due _ _ _ _ _ _ c.in-Ok.ensures.bytes refused c.in-Ok.ensures.sound)

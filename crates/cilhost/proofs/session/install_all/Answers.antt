@@ -1,20 +1,21 @@
-use Rattle.std.proofs.Common.{◌∙◌, arith}
-use Rattle.std.proofs.lemmas.List.Elements.{Contains-get_or}
-use Rattle.cilhost.specs.Reading.{IsDue}
-use Rattle.cilhost.proofs.ReadingLemmas.{due_among, handed_on, next_there}
+use Rattle.std.proofs.Common.{◌∙◌, arith, refl}
+use Rattle.cilhost.proofs.ReadingLemmas.{handed_on, none_installed, one_more_installed, stops_at}
 use Rattle.cilhost.proofs.session.install_all.Goals as goal
 
 pub returns-in_err-install-clause-due : goal.returns-in_err-install-clause-due
 returns-in_err-install-clause-due g c =
-    let due = rw c.loop-file.invariant.0 at c.in_err-install.ensures.due in
-    handed_on (IsDue (g.Y.System.holds c.args.system.now) c.args.files.now) _ _ c.from_residual.ensures.1
-    (due_among _ _ _ _ (Contains-get_or c.args.files.now c.loop-file.file-index _ (omega (arith, c.loop-file-test.true))) due)
+    let due = rw (c.loop-file.invariant.0, c.loop-file.invariant.1) at c.in_err-install.ensures.due in
+    handed_on _ _ _ c.from_residual.ensures.1
+    (stops_at _ _ _ _ c.loop-file.file-index _ _ _ (omega (arith, c.loop-file-test.true)) c.loop-file.invariant.2 due)
 
 pub loop-file-preserved : goal.loop-file-preserved
 loop-file-preserved g c =
-    let stays = c.install.ensures.stays ∙ c.loop-file.invariant.0 in
-    let there = rw c.loop-file.invariant.0 at c.in_ok-install.ensures.installed in (
-      stays,
-      next_there (g.Y.System.holds c.args.system.now) c.args.files.now c.loop-file.file-index _ _ _ c.install.ensures.keeps (omega (arith, c.loop-file-test.true)) c.loop-file.invariant.1 there,
-      c.install.ensures.loaded ∙ c.loop-file.invariant.2,
+    let adds = rw c.loop-file.invariant.0 at c.in_ok-install.ensures.adds in (
+      c.install.ensures.stays ∙ c.loop-file.invariant.0,
+      c.in_ok-install.ensures.sound ∙ c.loop-file.invariant.1,
+      one_more_installed _ _ c.loop-file.file-index _ _ _ (omega (arith, c.loop-file-test.true)) adds c.install.ensures.readable c.loop-file.invariant.2,
+      c.install.ensures.loaded ∙ c.loop-file.invariant.3,
     )
+
+pub loop-file-init : goal.loop-file-init
+loop-file-init g c = (refl, refl, none_installed _ _ _ c.requires, refl)

@@ -11,8 +11,9 @@ returns-in-Ok-clause-session g c =
       has_files = c.in-Ok.ensures.installed;
       no_policy = c.in-Ok.ensures.no_policy;
       serves = c.serve-served.ensures;
-      told = c.end.ensures;
+      is_status = c.end.ensures;
+      sound = c.in-Ok.ensures.sound;
     })
 
 pub returns-in-Err-clause-refused : goal.returns-in-Err-clause-refused
-returns-in-Err-clause-refused g c = refused_due _ _ _ _ c.in-Err.ensures.due c.tell.ensures
+returns-in-Err-clause-refused g c = refused_due _ _ _ _ _ _ c.in-Err.ensures.due c.report.ensures
