@@ -1,22 +1,6 @@
 #!/usr/bin/env bash
 # Times sessions of the program cilhost over pipes: LOAD, AV and INSTALL. README.md says how to read the tables.
-set -eu
-here=$(cd "$(dirname "${BASH_SOURCE[0]}")" && pwd)
-crate=$here/../crates/cilhost
-program=$crate/out/cilhost
-work=$(mktemp -d)
-trap 'rm -rf "$work"' EXIT
-
-if ! (cd "$crate" && rt run -- --version </dev/null >"$work/build" 2>&1); then
-    cat "$work/build" >&2
-    exit 1
-fi
-
-# The request that installs the file $1.
-install_request() {
-    printf 'INSTALL %d\n' "$(wc -c <"$1")"
-    cat "$1"
-}
+. "$(dirname "$0")/session_common.sh"
 
 # Declarations: 30 classes of ten permissions, 5,000 types, a user and a role that has each type.
 declarations() {
@@ -75,29 +59,6 @@ wide_class() {
     install_request "$work/module"
 }
 
-# Runs the requests of the file $1 three times: the least time in microseconds goes to $work/us, the most memory
-# in kB to $work/peak, the replies to $work/replies.
-measure() {
-    local least= start stop
-    echo 0 >"$work/peak"
-    for _ in 1 2 3; do
-        start=$(date +%s%N)
-        cat "$1" | /usr/bin/time -f '%M' -o "$work/now" "$program" session >"$work/replies"
-        stop=$(date +%s%N)
-        if [ -z "$least" ] || [ $(((stop - start) / 1000)) -lt "$least" ]; then least=$(((stop - start) / 1000)); fi
-        if [ "$(cat "$work/now")" -gt "$(cat "$work/peak")" ]; then cp "$work/now" "$work/peak"; fi
-    done
-    echo "$least" >"$work/us"
-}
-
-# Ends where a reply in $work/replies is a refusal.
-expect_no_refusal() {
-    if grep -aq '^ERR\|^FAULTS' "$work/replies"; then
-        echo "a request was refused: $(grep -am1 '^ERR\|^FAULTS' "$work/replies")" >&2
-        exit 1
-    fi
-}
-
 growth=0
 last=
 # Keeps in $growth how many times as long as $last a session of $1 microseconds took, where that is the most so far.
@@ -107,14 +68,12 @@ doubled() {
     fi
     last=$1
 }
-# Tells how many times as long a doubling of $1 took at most, and begins again.
-told() {
+# Prints how many times as long a doubling of $1 took at most, and begins again.
+print_growth() {
     awk -v what="$1" -v growth="$growth" 'BEGIN { printf "a doubling of the %s takes at most %.2f times as long: %s\n", what, growth, growth <= 2.4 ? "at most 2.4" : "MORE THAN 2.4" }'
     growth=0
     last=
 }
-
-[ -x /usr/bin/time ] || { echo "this script needs /usr/bin/time" >&2; exit 2; }
 
 printf '%10s %12s %10s %14s %9s\n' rules 'INSTALL ms' 'LOAD ms' 'AV a second' 'peak MB'
 for count in 10000 100000; do
@@ -139,7 +98,7 @@ for count in 100 200 400; do
         'BEGIN { printf "%10d %12.1f %10.1f %9.1f\n", modules, i / 1000, (l - i) / 1000, peak * 1024 / 1000000 }'
     doubled "$loaded"
 done
-told modules
+print_growth modules
 
 printf '\n%11s %20s %9s\n' permissions 'INSTALL and LOAD ms' 'peak MB'
 for count in 50000 100000 200000; do
@@ -149,4 +108,4 @@ for count in 50000 100000 200000; do
     awk -v count="$count" -v us="$(cat "$work/us")" -v peak="$(cat "$work/peak")" 'BEGIN { printf "%11d %20.1f %9.1f\n", count, us / 1000, peak * 1024 / 1000000 }'
     doubled "$(cat "$work/us")"
 done
-told permissions
+print_growth permissions

@@ -1,6 +1,6 @@
 //! Times, and what they say: medians and ratios.
 
-use crate::trouble::Trouble;
+use crate::error::BenchError;
 use std::time::Duration;
 
 /// How often each thing is timed. The figure is the median.
@@ -24,7 +24,7 @@ fn hundredths(time: u64, other: u64) -> u64 {
 }
 
 /// Prints figures, a line for each.
-pub fn print<R: Print>(rt: &R, figures: &[(&str, u64)]) -> Result<(), Trouble> {
+pub fn print<R: Print>(rt: &R, figures: &[(&str, u64)]) -> Result<(), BenchError> {
     for &(name, figure) in figures {
         println!(rt; "{name} {figure}")?;
     }
@@ -32,7 +32,7 @@ pub fn print<R: Print>(rt: &R, figures: &[(&str, u64)]) -> Result<(), Trouble> {
 }
 
 /// Prints how many times as long as the second the first takes.
-pub fn print_ratio<R: Print>(rt: &R, time: u64, other: u64) -> Result<(), Trouble> {
+pub fn print_ratio<R: Print>(rt: &R, time: u64, other: u64) -> Result<(), BenchError> {
     let ratio = hundredths(time, other);
     let whole = ratio / 100;
     let part = ratio % 100;

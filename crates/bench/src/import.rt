@@ -1,14 +1,14 @@
 //! What importing a bundle costs, beside SHA-256 of the same bytes.
 
+use crate::error::BenchError;
 use crate::figures::{RUNS, median, micros, print, print_ratio};
 use crate::text::{self, Lines};
-use crate::trouble::Trouble;
 use cil_modset::ModuleSet;
 use sha2::{Digest, Sha256};
 use std::alloc::{AllocError, Global};
 use std::time::CpuClock;
 
-/// How many bytes a module has behind its first line, which tells it from the others.
+/// How many bytes a module has behind its first line, which differs from the others.
 const MODULE: usize = 61_440;
 
 /// A text that no other number has.
@@ -18,8 +18,8 @@ fn module(alloc: Global, n: usize) -> Result<Vec<u8>, AllocError> {
     Ok(text)
 }
 
-/// The bundle of so many modules.
-fn bundle(alloc: Global, modules: usize) -> Result<Vec<u8>, Trouble> {
+/// The bundle of this many modules.
+fn bundle(alloc: Global, modules: usize) -> Result<Vec<u8>, BenchError> {
     let mut set = ModuleSet::new(alloc);
     for n in 0..modules {
         set.install(alloc, module(alloc, n)?.as_slice())?;
@@ -32,7 +32,7 @@ fn time_once<R: CpuClock>(
     rt: &R,
     alloc: Global,
     bundle: &[u8],
-) -> Result<(u64, u64, u64), Trouble> {
+) -> Result<(u64, u64, u64), BenchError> {
     let mut set = ModuleSet::new(alloc);
     let start = rt.thread_cpu_time()?;
     set.import(alloc, bundle)?;
@@ -49,7 +49,7 @@ fn time_once<R: CpuClock>(
 }
 
 /// Times the import of a bundle of `modules` modules, and prints the figures.
-pub fn run<R: Print + CpuClock>(rt: &R, alloc: Global, modules: usize) -> Result<(), Trouble> {
+pub fn run<R: Print + CpuClock>(rt: &R, alloc: Global, modules: usize) -> Result<(), BenchError> {
     let bytes = bundle(alloc, modules)?;
     let mut first = [0; RUNS];
     let mut again = [0; RUNS];

@@ -5,14 +5,14 @@
 #![tactic(auto)]
 
 mod compiled;
+mod error;
 mod figures;
 mod import;
 mod read;
 mod text;
-mod trouble;
 mod write;
 
-use crate::trouble::Trouble;
+use crate::error::BenchError;
 use cil_sexpr::LONGEST_TEXT;
 use std::alloc::Global;
 use std::env;
@@ -28,15 +28,15 @@ const MOST_RULES: usize = 1_000_000;
 
 /// What is to be timed.
 enum Task {
-    /// How to call the program is printed, and nothing timed.
+    /// Printing the usage; nothing is timed.
     Help,
-    /// The reader, on a text of so many bytes.
+    /// The reader, on a text of this many bytes.
     Read(usize),
-    /// The writing out of the statements of a text of so many bytes.
+    /// The statements of a text of this many bytes.
     Write(usize),
-    /// The import of a bundle of so many modules.
+    /// The import of a bundle of this many modules.
     Import(usize),
-    /// The compiling of a policy of so many rules.
+    /// The compiling of a policy of this many rules.
     Compile(usize),
 }
 
@@ -58,15 +58,15 @@ fn task_of(words: &[String]) -> Option<Task> {
 }
 
 /// The task that the program is called for. Arguments that are no text are wrong ones.
-fn wanted<R: Env + AllocGlobal>(rt: &R, alloc: Global) -> Result<Task, Trouble> {
+fn wanted<R: Env + AllocGlobal>(rt: &R, alloc: Global) -> Result<Task, BenchError> {
     let Ok(words) = env::args(rt) else {
-        return Err(Trouble::Usage);
+        return Err(BenchError::Usage);
     };
     let words: Vec<String> = words.collect(alloc)?;
-    task_of(words.as_slice()).ok_or(Trouble::Usage)
+    task_of(words.as_slice()).ok_or(BenchError::Usage)
 }
 
-fn run<R: Print + Env + CpuClock + AllocGlobal>(rt: &R, alloc: Global) -> Result<(), Trouble> {
+fn run<R: Print + Env + CpuClock + AllocGlobal>(rt: &R, alloc: Global) -> Result<(), BenchError> {
     match wanted(rt, alloc)? {
         Task::Help => {
             println!(rt;
@@ -88,9 +88,9 @@ fn run<R: Print + Env + CpuClock + AllocGlobal>(rt: &R, alloc: Global) -> Result
 fn main(rt: HostRuntime) -> ExitCode {
     match run(&rt, rt.alloc()) {
         Ok(()) => ExitCode::SUCCESS,
-        Err(trouble) => {
-            let _ = eprintln!(rt; "bench: {trouble}");
-            ExitCode::from(trouble.status())
+        Err(error) => {
+            let _ = eprintln!(rt; "bench: {error}");
+            ExitCode::from(error.status())
         }
     }
 }

@@ -1,14 +1,14 @@
 //! What reading a text costs, beside SHA-256 of the same bytes.
 
+use crate::error::BenchError;
 use crate::figures::{RUNS, median, micros, print, print_ratio};
 use crate::text::{self, Lines};
-use crate::trouble::Trouble;
 use sha2::{Digest, Sha256};
 use std::alloc::Global;
 use std::time::CpuClock;
 
 /// Times the reader alone. What it costs to free a tree is not counted.
-pub fn time_read<R: CpuClock>(rt: &R, alloc: Global, text: &[u8]) -> Result<u64, Trouble> {
+pub fn time_read<R: CpuClock>(rt: &R, alloc: Global, text: &[u8]) -> Result<u64, BenchError> {
     let mut times = [0; RUNS];
     for i in 0..RUNS {
         let start = rt.thread_cpu_time()?;
@@ -24,7 +24,7 @@ fn time_once<R: CpuClock>(
     rt: &R,
     alloc: Global,
     text: &[u8],
-) -> Result<(u64, u64, usize), Trouble> {
+) -> Result<(u64, u64, usize), BenchError> {
     let start = rt.thread_cpu_time()?;
     let tree = cil_sexpr::read(alloc, text)?;
     let middle = rt.thread_cpu_time()?;
@@ -35,7 +35,7 @@ fn time_once<R: CpuClock>(
 }
 
 /// Times the reader on a text of `size` bytes, and prints the figures.
-pub fn run<R: Print + CpuClock>(rt: &R, alloc: Global, size: usize) -> Result<(), Trouble> {
+pub fn run<R: Print + CpuClock>(rt: &R, alloc: Global, size: usize) -> Result<(), BenchError> {
     let text = text::policy(alloc, size, Lines::Typical)?;
     let mut read = [0; RUNS];
     let mut hash = [0; RUNS];

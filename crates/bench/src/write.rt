@@ -1,9 +1,9 @@
 //! What writing out the statements of a text costs, beside reading it.
 
+use crate::error::BenchError;
 use crate::figures::{RUNS, median, micros, print, print_ratio};
 use crate::read::time_read;
 use crate::text::{self, Lines};
-use crate::trouble::Trouble;
 use cil_modset::ModuleSet;
 use cil_syntax::written;
 use std::alloc::Global;
@@ -15,7 +15,7 @@ fn time_written<R: CpuClock>(
     rt: &R,
     alloc: Global,
     set: &ModuleSet,
-) -> Result<(u64, usize), Trouble> {
+) -> Result<(u64, usize), BenchError> {
     let mut times = [0; RUNS];
     let mut statements = 0;
     for i in 0..RUNS {
@@ -30,7 +30,7 @@ fn time_written<R: CpuClock>(
 
 /// Times the writing out of a module of `size` bytes and the reading of its text, each by itself, and prints the
 /// figures.
-pub fn run<R: Print + CpuClock>(rt: &R, alloc: Global, size: usize) -> Result<(), Trouble> {
+pub fn run<R: Print + CpuClock>(rt: &R, alloc: Global, size: usize) -> Result<(), BenchError> {
     let text = text::policy(alloc, size, Lines::Flat)?;
     let mut set = ModuleSet::new(alloc);
     set.install(alloc, text.as_slice())?;
