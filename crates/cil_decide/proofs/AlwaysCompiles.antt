@@ -14,7 +14,7 @@ use Rattle.cil_syntax.specs.Written.{Written, IsWritten, ShapeFault, written_cmp
 use Rattle.cil_decide.specs.declared.tables.Class.{Class}
 use Rattle.cil_decide.specs.CompileRefusal.{CompileFails}
 use Rattle.cil_decide.specs.Compiled.{IsRowOf, IsTable}
-use Rattle.cil_decide.specs.Declarations.{Declaration, declarations, IsDeclaration, object, by, Declared, Thing, content_of}
+use Rattle.cil_decide.specs.Declarations.{Declaration, declarations, IsDeclaration, object, by, Declared, Symbol, content_of}
 use Rattle.cil_decide.specs.Faults.{ClashFault, ClassFault, wide, ResolveFault}
 use Rattle.cil_decide.specs.Flat.{AreItems, item_of}
 use Rattle.cil_decide.specs.Item.{Namespace, ScopedWord, Item, nobody}
@@ -49,7 +49,7 @@ in_front space ks (cons (Name at name) rest) d c =
     record { front = (at, name, rest); says = refl; named = ap (λ (e : Declaration). e.name) (sym r.2); in_space = ap (λ (e : Declaration). e.space) (sym r.2) }
 
 module _ (xs : List Item) (none : (f : Fault) → ClassFault nobody xs f → ⊥) where
-  wide_class : (c : Thing) (permissions : List (List ℕ)) (d : Declaration) → IsDeclaration xs nobody d → d.kind ≡ kinds.Class → d.space ≡ c.space → d.name ≡ c.name
+  wide_class : (c : Symbol) (permissions : List (List ℕ)) (d : Declaration) → IsDeclaration xs nobody d → d.kind ≡ kinds.Class → d.space ≡ c.space → d.name ≡ c.name
       → Lists text_cmp (λ p. has_permission xs c p ≡ true) permissions → most_permissions < length permissions → ⊥
   wide_class c permissions d object k s n listed big = cc
   wide_class c permissions d (by x e cx on by_it) k s n listed big =
@@ -60,7 +60,7 @@ module _ (xs : List Item) (none : (f : Fault) → ClassFault nobody xs f → ⊥
       none _ (wide x f.front.0 f.front.1 f.front.2 permissions cx on keyword f.says
       (subst (λ t. Lists text_cmp (λ p. has_permission xs t p ≡ true) permissions) same listed) big)
 
-  few : (c : Thing) (row : Class) → Declared xs nobody kinds.Class c → IsRowOf xs c row → length row.permissions ≤ most_permissions
+  few : (c : Symbol) (row : Class) → Declared xs nobody kinds.Class c → IsRowOf xs c row → length row.permissions ≤ most_permissions
   few c row d is = elim (cases_lt most_permissions (length row.permissions)) [
     | inl big ↦ absurd (wide_class c row.permissions d.declaration d.declares d.of_kind d.in_space d.of_name is.permissions big)
     | inr le ↦ le

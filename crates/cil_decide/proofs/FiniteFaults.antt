@@ -16,7 +16,7 @@ use Rattle.cil_syntax.specs.FaultOrder.{fault_cmp, fault_total, one_fault}
 use Rattle.cil_syntax.specs.Listing.{Listing}
 use Rattle.cil_syntax.specs.Spelling.{same_bytes}
 use Rattle.cil_syntax.specs.Terms.{Name, cons}
-use Rattle.cil_decide.specs.Declarations.{Declaration, declared_by, IsDeclaration, NameSpace, of_types, of_roles, of_users, of_classes, name_space, Clash, Thing}
+use Rattle.cil_decide.specs.Declarations.{Declaration, declared_by, IsDeclaration, NameSpace, of_types, of_roles, of_users, of_classes, name_space, Clash, Symbol}
 use Rattle.cil_decide.specs.Faults.{ClashFault, clash, ClassFault, wide, ResolveFault, unresolved, fault_at}
 use Rattle.cil_decide.specs.Item.{Item, OptSet, everybody, nobody, is_enabled}
 use Rattle.cil_decide.specs.Resolves.{fits, gives_permission, has_permission, is_judged, listed_permissions, resolves, told_word, Wanted, words_of}
@@ -131,7 +131,7 @@ module _ (xs : List Item) where
   candidates : List (List ℕ)
   candidates = flat_map (λ x. listed_permissions x.args) xs
 
-  candidate : (c : Thing) (p : List ℕ) → has_permission xs c p ≡ true → Contains candidates p
+  candidate : (c : Symbol) (p : List ℕ) → has_permission xs c p ≡ true → Contains candidates p
   unfolding has_permission candidates
   candidate c p e =
       let x = any_true (gives_permission c p) xs e in
@@ -139,19 +139,19 @@ module _ (xs : List Item) where
       let q = any_true (same_bytes p) (listed_permissions x.0.args) parts.1 in
       contains_flat (λ y. listed_permissions y.args) xs x.0 p x.1 (subst (Contains (listed_permissions x.0.args)) (sym ((bytes_decides p q.0).0 q.2)) q.1)
 
-  pub finite_permissions : (c : Thing) → Finite (λ p. has_permission xs c p ≡ true)
+  pub finite_permissions : (c : Symbol) → Finite (λ p. has_permission xs c p ≡ true)
   finite_permissions c =
       finite_same (λ p. Contains candidates p × (has_permission xs c p ≡ true)) (λ p. has_permission xs c p ≡ true) (λ p h. h.1) (λ p e. (candidate c p e, e))
       (finite_where (Contains candidates) (λ p. has_permission xs c p ≡ true) (finite_list candidates) (λ p d. bool_is (has_permission xs c p) true))
 
   -- the permissions of a class, in order
-  pub permissions_of : (c : Thing) → Listing text_cmp (λ p. has_permission xs c p ≡ true)
+  pub permissions_of : (c : Symbol) → Listing text_cmp (λ p. has_permission xs c p ≡ true)
   permissions_of c = finite_listing text_cmp nat_list_cmp_total exact_bytes (λ p. has_permission xs c p ≡ true) (finite_permissions c)
 
-  abbrev IsWide : Thing → Type 0
+  abbrev IsWide : Symbol → Type 0
   IsWide c = (ps : List (List ℕ)) × Lists text_cmp (λ p. has_permission xs c p ≡ true) ps × (most_permissions < length ps)
 
-  decided_wide : (c : Thing) → Decided (IsWide c)
+  decided_wide : (c : Symbol) → Decided (IsWide c)
   decided_wide c =
       let l = permissions_of c in
       elim (cases_lt most_permissions (length l.list)) [

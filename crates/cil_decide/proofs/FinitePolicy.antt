@@ -2,17 +2,17 @@
 use Rattle.std.specs.Prelude.{Contains, Option, Some, None, slice_get}
 use Rattle.std.proofs.Common.{◌≡◌, ◌⊎◌, ℕ, ◌<◌, true, List, length, refl, sym, ap, subst, inl, inr}
 use Rattle.std.proofs.lemmas.Option.{none-some, same_Some, slice_get_within}
+use Rattle.cil_syntax.specs.Forms.{rule_form, two_words}
 use Rattle.cil_syntax.specs.declared.kind.Kind.{Kind}
 use Rattle.cil_syntax.specs.declared.kind.Kind.TheVariants as kinds
 use Rattle.cil_syntax.specs.declared.term.Op.TheVariants as ops
 use Rattle.cil_syntax.specs.declared.term.Spot.{Spot}
 use Rattle.cil_syntax.specs.Terms.{Term, Leaf, Name, Form, Terms, nil, cons}
 use Rattle.cil_decide.specs.Compiled.{HasNumber, IsNameOf, IsNumbered}
-use Rattle.cil_decide.specs.Declarations.{Declaration, declared_by, IsDeclaration, object, by, object_role, Declared, Thing, name_of}
+use Rattle.cil_decide.specs.Declarations.{Declaration, declared_by, IsDeclaration, object, by, object_role, Declared, Symbol, name_of}
 use Rattle.cil_decide.specs.Item.{ScopedWord, Item, OptSet, is_enabled}
 use Rattle.cil_decide.specs.Members.{StandsFor}
 use Rattle.cil_decide.specs.Pairs.{HasPair, of_class, names_of}
-use Rattle.cil_decide.specs.Records.{rule_form, two_words}
 use Rattle.cil_decide.specs.Resolves.{asked, found_in, has_permission, is_wanted}
 use Rattle.cil_decide.proofs.DecidedEquality.{bool_is, kind_is, same_namespace, same_text}
 use Rattle.cil_decide.proofs.Finite.{Decided, Finite, decided_both, decided_same, decided_where, finite_all, finite_below, finite_either, finite_given, finite_image, finite_inverse, finite_list, finite_one, finite_same, finite_where, member}
@@ -168,7 +168,7 @@ module _ (xs : List Item) (s : OptSet) where
       parts d object = inl refl
       parts d (by x e c is_on by_it) = inr (x, c, (is_on, by_it))
 
-  pub decided_declared : (kind : Kind) (t : Thing) → Decided (Declared xs s kind t)
+  pub decided_declared : (kind : Kind) (t : Symbol) → Decided (Declared xs s kind t)
   decided_declared kind t =
       decided_same
       (λ h. record { declaration = h.0; declares = h.1; of_kind = h.2.0; in_space = h.2.1.0; of_name = h.2.1.1 })
@@ -176,22 +176,22 @@ module _ (xs : List Item) (s : OptSet) where
       (decided_where (IsDeclaration xs s) (λ d. (d.kind ≡ kind) × ((d.space ≡ t.space) × (d.name ≡ t.name))) finite_declarations
       (λ d is. decided_both (kind_is d.kind kind) (decided_both (same_namespace d.space t.space) (same_text d.name t.name))))
 
-  thing_of : Declaration → Thing
-  thing_of d = record { space = d.space; name = d.name }
+  symbol_of : Declaration → Symbol
+  symbol_of d = record { space = d.space; name = d.name }
 
   pub finite_declared : (kind : Kind) → Finite (Declared xs s kind)
-  unfolding thing_of
+  unfolding symbol_of
   finite_declared kind =
-      finite_same (λ t. (d : Declaration) × (IsDeclaration xs s d × (d.kind ≡ kind)) × (thing_of d ≡ t)) (Declared xs s kind)
-      (λ t h. record { declaration = h.0; declares = h.1.0; of_kind = h.1.1; in_space = ap (λ (u : Thing). u.space) h.2; of_name = ap (λ (u : Thing). u.name) h.2 })
+      finite_same (λ t. (d : Declaration) × (IsDeclaration xs s d × (d.kind ≡ kind)) × (symbol_of d ≡ t)) (Declared xs s kind)
+      (λ t h. record { declaration = h.0; declares = h.1.0; of_kind = h.1.1; in_space = ap (λ (u : Symbol). u.space) h.2; of_name = ap (λ (u : Symbol). u.name) h.2 })
       (λ t d. (d.declaration, (d.declares, d.of_kind), λ i. record { space = d.in_space i; name = d.of_name i }))
-      (finite_image (λ d. IsDeclaration xs s d × (d.kind ≡ kind)) thing_of
+      (finite_image (λ d. IsDeclaration xs s d × (d.kind ≡ kind)) symbol_of
       (finite_where (IsDeclaration xs s) (λ d. d.kind ≡ kind) finite_declarations (λ d is. kind_is d.kind kind)))
 
   pub finite_names : (kind : Kind) → Finite (IsNameOf xs s kind)
   finite_names kind =
-      finite_same (λ n. (t : Thing) × Declared xs s kind t × (name_of t ≡ n)) (IsNameOf xs s kind)
-      (λ n h. record { thing = h.0; declared = h.1; named = h.2 }) (λ n h. (h.thing, h.declared, h.named))
+      finite_same (λ n. (t : Symbol) × Declared xs s kind t × (name_of t ≡ n)) (IsNameOf xs s kind)
+      (λ n h. record { symbol = h.0; declared = h.1; named = h.2 }) (λ n h. (h.symbol, h.declared, h.named))
       (finite_image (Declared xs s kind) name_of (finite_declared kind))
 
   -- ---- what words stand for
@@ -204,17 +204,17 @@ module _ (xs : List Item) (s : OptSet) where
       (λ t d. decided_both (bool_is (is_wanted w.sign kind) true)
       (decided_both (is_this same_namespace (found_in xs s w) t.space) (same_text t.name (asked w.bytes).name))))
 
-  -- the numbers of the things for which a word stands
+  -- the numbers of the symbols for which a word stands
   pub finite_has_number : (types : List (List ℕ)) (w : ScopedWord) → Finite (HasNumber xs s types w)
   finite_has_number types w =
-      finite_same (λ n. (t : Thing) × StandsFor xs s kinds.Type_ w t × IsNumbered types t n) (HasNumber xs s types w)
-      (λ n h. record { type_ = h.0; stands = h.1; numbered = h.2 }) (λ n h. (h.type_, h.stands, h.numbered))
+      finite_same (λ n. (t : Symbol) × StandsFor xs s kinds.Type_ w t × IsNumbered types t n) (HasNumber xs s types w)
+      (λ n h. record { kind = h.0; stands = h.1; numbered = h.2 }) (λ n h. (h.kind, h.stands, h.numbered))
       (finite_all (λ t n. IsNumbered types t n) (StandsFor xs s kinds.Type_ w) (finite_stands kinds.Type_ w) (λ t st. finite_numbers types (name_of t)))
 
   -- ---- class permissions
 
   -- what gives a permission, by its parts
-  record PairBy (t : Term ScopedWord) (c : Thing) (p : List ℕ) : Type 0 where
+  record PairBy (t : Term ScopedWord) (c : Symbol) (p : List ℕ) : Type 0 where
     at : Spot
     word : ScopedWord
     expression : Term ScopedWord
@@ -223,12 +223,12 @@ module _ (xs : List Item) (s : OptSet) where
     has : has_permission xs c p ≡ true
     named : Contains (names_of expression) p
 
-  pair_parts : (t : Term ScopedWord) (c : Thing) (p : List ℕ) → HasPair xs s t c p → PairBy t c p
+  pair_parts : (t : Term ScopedWord) (c : Symbol) (p : List ℕ) → HasPair xs s t c p → PairBy t c p
   pair_parts t c p (of_class at word expression d q stands has named) =
       record { at = at; word = word; expression = expression; is = refl; stands = stands; has = has; named = named }
 
   -- the class of a permission that is given is declared
-  pub pair_class : (t : Term ScopedWord) (c : Thing) (p : List ℕ) → HasPair xs s t c p → Declared xs s kinds.Class c
+  pub pair_class : (t : Term ScopedWord) (c : Symbol) (p : List ℕ) → HasPair xs s t c p → Declared xs s kinds.Class c
   pair_class t c p h = (pair_parts t c p h).stands.declared
 
   -- the classes of which a class permission gives a permission
@@ -245,17 +245,17 @@ module _ (xs : List Item) (s : OptSet) where
       (λ g is. finite_where (StandsFor xs s kinds.Class g.1) (λ c. (p : List ℕ) × Contains (names_of g.2) p × (has_permission xs c p ≡ true)) (finite_stands kinds.Class g.1)
       (λ c st. decided_where (Contains (names_of g.2)) (λ p. has_permission xs c p ≡ true) (finite_list (names_of g.2)) (λ p n. bool_is (has_permission xs c p) true))))
 
-  pub decided_pair : (t : Term ScopedWord) (c : Thing) (p : List ℕ) → Decided (HasPair xs s t c p)
+  pub decided_pair : (t : Term ScopedWord) (c : Symbol) (p : List ℕ) → Decided (HasPair xs s t c p)
   decided_pair t c p =
       decided_same
       (λ h. subst (λ u. HasPair xs s u c p) (sym h.1) (of_class h.0.0 h.0.1 h.0.2 c p h.2.0 h.2.1.0 h.2.1.1))
       (λ h. let b = pair_parts t c p h in ((b.at, b.word, b.expression), b.is, (b.stands, (b.has, b.named))))
       (decided_where (λ g. t ≡ Form g.0 ops.ClassPermissions (cons (Leaf g.1) (cons g.2 nil)))
       (λ (g : Given). StandsFor xs s kinds.Class g.1 c × ((has_permission xs c p ≡ true) × Contains (names_of g.2) p)) (finite_parts t)
-      (λ g is. decided_both (member (StandsFor xs s kinds.Class g.1) (finite_stands kinds.Class g.1) same_thing c)
+      (λ g is. decided_both (member (StandsFor xs s kinds.Class g.1) (finite_stands kinds.Class g.1) same_symbol c)
       (decided_both (bool_is (has_permission xs c p) true) (member (Contains (names_of g.2)) (finite_list (names_of g.2)) same_text p))))
     where
-      same_thing : (a b : Thing) → Decided (a ≡ b)
-      same_thing a b =
-          decided_same (λ h i. record { space = h.0 i; name = h.1 i }) (λ e. (ap (λ (u : Thing). u.space) e, ap (λ (u : Thing). u.name) e))
+      same_symbol : (a b : Symbol) → Decided (a ≡ b)
+      same_symbol a b =
+          decided_same (λ h i. record { space = h.0 i; name = h.1 i }) (λ e. (ap (λ (u : Symbol). u.space) e, ap (λ (u : Symbol). u.name) e))
           (decided_both (same_namespace a.space b.space) (same_text a.name b.name))

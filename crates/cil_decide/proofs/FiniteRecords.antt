@@ -8,7 +8,7 @@ use Rattle.cil_syntax.specs.declared.term.Op.TheVariants as ops
 use Rattle.cil_syntax.specs.Terms.{Term, Leaf, Name, Form, nil, cons}
 use Rattle.cil_decide.specs.declared.tables.Link.{Link}
 use Rattle.cil_decide.specs.Compiled.{Case, HasTarget, IsCase, IsLink, IsNumbered}
-use Rattle.cil_decide.specs.Declarations.{Thing, name_of}
+use Rattle.cil_decide.specs.Declarations.{Symbol, name_of}
 use Rattle.cil_decide.specs.Item.{ScopedWord, Item, OptSet, is_enabled}
 use Rattle.cil_decide.specs.Members.{StandsFor}
 use Rattle.cil_decide.specs.Pairs.{HasPair}
@@ -30,20 +30,20 @@ module _ (xs : List Item) (s : OptSet) (keyword : Keyword) where
     link_of : ℕ → ℕ → Link
     link_of m n = record { holder = m; held = n }
 
-    abbrev Numbers : Thing → Thing → Link → Type 0
+    abbrev Numbers : Symbol → Symbol → Link → Type 0
     Numbers t u l = (m : ℕ) × IsNumbered holders t m × ((n : ℕ) × IsNumbered helds u n × (link_of m n ≡ l))
 
-    finite_pair_numbers : (t u : Thing) → Finite (Numbers t u)
+    finite_pair_numbers : (t u : Symbol) → Finite (Numbers t u)
     finite_pair_numbers t u =
         finite_all (λ m l. (n : ℕ) × IsNumbered helds u n × (link_of m n ≡ l)) (IsNumbered holders t) (finite_numbers holders (name_of t))
         (λ m e. finite_all (λ n l. link_of m n ≡ l) (IsNumbered helds u) (finite_numbers helds (name_of u)) (λ n f. finite_one (link_of m n)))
 
     abbrev Joins : ScopedWord × ScopedWord → Link → Type 0
-    Joins p l = (t : Thing) × StandsFor xs s holder_kind p.0 t × ((u : Thing) × StandsFor xs s held_kind p.1 u × Numbers t u l)
+    Joins p l = (t : Symbol) × StandsFor xs s holder_kind p.0 t × ((u : Symbol) × StandsFor xs s held_kind p.1 u × Numbers t u l)
 
     finite_joins : (p : ScopedWord × ScopedWord) → Finite (Joins p)
     finite_joins p =
-        finite_all (λ t l. (u : Thing) × StandsFor xs s held_kind p.1 u × Numbers t u l) (StandsFor xs s holder_kind p.0) (finite_stands xs s holder_kind p.0)
+        finite_all (λ t l. (u : Symbol) × StandsFor xs s held_kind p.1 u × Numbers t u l) (StandsFor xs s holder_kind p.0) (finite_stands xs s holder_kind p.0)
         (λ t st. finite_all (λ u l. Numbers t u l) (StandsFor xs s held_kind p.1) (finite_stands xs s held_kind p.1) (λ u su. finite_pair_numbers t u))
 
     abbrev Links : Item → Link → Type 0
@@ -93,23 +93,23 @@ module _ (xs : List Item) (s : OptSet) (keyword : Keyword) where
   decided_target (Form at ops.Itself parts) = inl tt
   decided_target (Form at op parts) = inr (λ h. h)
 
-  case_of : Three → Thing → Case
+  case_of : Three → Symbol → Case
   case_of q c = record { source = q.0; target = q.1; class_permission = q.2; class_ = c }
 
   abbrev Reaches : Three → Type 0
-  Reaches q = ((t : Thing) × StandsFor xs s kinds.Type_ q.0 t) × HasTarget xs s q.1
+  Reaches q = ((t : Symbol) × StandsFor xs s kinds.Type_ q.0 t) × HasTarget xs s q.1
 
   abbrev Cases : Item → Case → Type 0
   Cases x k =
       IsOn x × ((q : Three) × (x.args ≡ cons (Leaf q.0) (cons q.1 (cons q.2 nil)))
-      × (Reaches q × ((c : Thing) × ((p : List ℕ) × HasPair xs s q.2 c p) × (case_of q c ≡ k))))
+      × (Reaches q × ((c : Symbol) × ((p : List ℕ) × HasPair xs s q.2 c p) × (case_of q c ≡ k))))
 
   finite_cases_of : (x : Item) → Finite (Cases x)
   finite_cases_of x =
       finite_given (IsOn x) _ (decided_on x)
-      (finite_all (λ q k. Reaches q × ((c : Thing) × ((p : List ℕ) × HasPair xs s q.2 c p) × (case_of q c ≡ k)))
+      (finite_all (λ q k. Reaches q × ((c : Symbol) × ((p : List ℕ) × HasPair xs s q.2 c p) × (case_of q c ≡ k)))
       (λ q. x.args ≡ cons (Leaf q.0) (cons q.1 (cons q.2 nil))) (finite_three x.args)
-      (λ q e. finite_given (Reaches q) (λ k. (c : Thing) × ((p : List ℕ) × HasPair xs s q.2 c p) × (case_of q c ≡ k))
+      (λ q e. finite_given (Reaches q) (λ k. (c : Symbol) × ((p : List ℕ) × HasPair xs s q.2 c p) × (case_of q c ≡ k))
       (decided_both (decided_some (StandsFor xs s kinds.Type_ q.0) (finite_stands xs s kinds.Type_ q.0)) (decided_target q.1))
       (finite_all (λ c k. case_of q c ≡ k) (λ c. (p : List ℕ) × HasPair xs s q.2 c p) (finite_classes xs s q.2) (λ c h. finite_one (case_of q c)))))
 

@@ -21,10 +21,10 @@ use Rattle.cil_decide.specs.declared.tables.Rule.{Rule}
 use Rattle.cil_decide.specs.declared.tables.Target.{Target}
 use Rattle.cil_decide.specs.declared.tables.Target.TheVariants.{Types, Itself}
 use Rattle.cil_decide.specs.Compiled.{Case, HasBit, HasNumber, HasTarget, IsCase, IsLink, IsNameOf, IsRowOf, IsRuleOf, IsTable, IsTargetOf}
-use Rattle.cil_decide.specs.Declarations.{Declared, Thing}
+use Rattle.cil_decide.specs.Declarations.{Declared, Symbol}
 use Rattle.cil_decide.specs.Item.{ScopedWord, Item, nobody}
 use Rattle.cil_decide.specs.Pairs.{HasPair}
-use Rattle.cil_decide.specs.Passes.{AreFlat, global_thing}
+use Rattle.cil_decide.specs.Passes.{AreFlat, global_symbol}
 use Rattle.cil_decide.specs.Resolves.{has_permission}
 use Rattle.cil_decide.specs.Table.{Table, class_cmp, link_cmp, link_total, one_link, rule_cmp, rule_total, one_rule}
 use Rattle.cil_decide.proofs.BitLemmas.{none_set, set_in_either, set_is_one}
@@ -35,7 +35,7 @@ use Rattle.cil_decide.proofs.FiniteFaults.{permissions_of}
 use Rattle.cil_decide.proofs.FinitePolicy.{decided_pair, finite_has_number, finite_names, pair_class}
 use Rattle.cil_decide.proofs.FiniteRecords.{finite_cases, finite_links}
 use Rattle.cil_decide.proofs.ListLemmas.{contains_map, from_map}
-use Rattle.cil_decide.proofs.Naming.{declared_here, global_thing_of, name_declared, name_of_global}
+use Rattle.cil_decide.proofs.Naming.{declared_here, global_symbol_of, name_declared, name_of_global}
 use Rattle.cil_decide.proofs.SearchLemmas.{number_of_member}
 
 equal_numbers : (m n : ℕ) → nat_cmp m n ≡ Equal → m ≡ n
@@ -163,21 +163,21 @@ module _ (xs : List Item) where
     class_names = names_of (IsNameOf xs nobody kinds.Class) (finite_names xs nobody kinds.Class)
 
     row_of : List ℕ → Class
-    row_of name = record { name = name; permissions = (permissions_of xs (global_thing name)).list }
+    row_of name = record { name = name; permissions = (permissions_of xs (global_symbol name)).list }
 
     names_again : (names : List (List ℕ)) → map (λ (row : Class). row.name) (map row_of names) ≡ names
     unfolding row_of
     names_again [] = refl
     names_again (n ∷ ns) = ap (λ ms. n ∷ ms) (names_again ns)
 
-    row_is : (c : Thing) → Declared xs nobody kinds.Class c → IsRowOf xs c (row_of c.name)
+    row_is : (c : Symbol) → Declared xs nobody kinds.Class c → IsRowOf xs c (row_of c.name)
     unfolding row_of
     row_is c d =
-        let space = global_thing_of xs flat kinds.Class c d in record {
+        let space = global_symbol_of xs flat kinds.Class c d in record {
           named = sym (name_of_global xs flat c space);
           permissions =
-              subst (λ z. Lists text_cmp (λ p. has_permission xs (record { space = z; name = c.name }) p ≡ true) (permissions_of xs (global_thing c.name)).list) (sym space)
-              (permissions_of xs (global_thing c.name)).lists;
+              subst (λ z. Lists text_cmp (λ p. has_permission xs (record { space = z; name = c.name }) p ≡ true) (permissions_of xs (global_symbol c.name)).list) (sym space)
+              (permissions_of xs (global_symbol c.name)).lists;
         }
 
     classes : (rows : List Class) × Gives class_cmp (Declared xs nobody kinds.Class) (IsRowOf xs) rows
@@ -190,7 +190,7 @@ module _ (xs : List Item) where
         only = λ row c.
             let n = from_map row_of class_names.list row c in
             let d = declared_here xs flat kinds.Class n.0 ((class_names.lists.members n.0).0 n.1) in
-            (global_thing n.0, d, subst (IsRowOf xs (global_thing n.0)) n.2 (row_is (global_thing n.0) d));
+            (global_symbol n.0, d, subst (IsRowOf xs (global_symbol n.0)) n.2 (row_is (global_symbol n.0) d));
       },
     )
 

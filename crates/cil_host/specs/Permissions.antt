@@ -3,7 +3,7 @@ use Rattle.std.specs.Prelude.{◌≡◌, ℕ, ◌<◌, true, List, slice_get, So
 use Rattle.std.specs.declared.cmp.Ordering.TheVariants.{Less}
 use Rattle.cil_sexpr.specs.Lists.{Lists, text_cmp}
 use Rattle.cil_syntax.specs.declared.kind.Kind.TheVariants as kinds
-use Rattle.cil_decide.specs.Declarations.{Declared, Thing, name_of}
+use Rattle.cil_decide.specs.Declarations.{Declared, Symbol, name_of}
 use Rattle.cil_decide.specs.Flat.{AreItems}
 use Rattle.cil_decide.specs.Item.{Item, nobody}
 use Rattle.cil_decide.specs.Resolves.{has_permission}
@@ -12,7 +12,7 @@ use Rattle.cil_host.specs.Machine.{OfLoaded, State}
 -- the class of this name has this permission at this place of the byte order of its permissions
 pub record IsPermissionOf (class_name : List ℕ) (bit : ℕ) (permission : List ℕ) (modules : List (List ℕ)) : Type 0 where
   pub items : List Item
-  pub class_ : Thing
+  pub class_ : Symbol
   pub permissions : List (List ℕ)
   pub are_items : AreItems modules items
   pub a_class : Declared items nobody kinds.Class class_

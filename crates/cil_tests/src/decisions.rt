@@ -36,8 +36,8 @@ fn class_id(number: usize) -> ClassId {
     ClassId { number }
 }
 
-fn context(user: usize, role: usize, type_: usize) -> Context {
-    Context { user, role, type_ }
+fn context(user: usize, role: usize, kind: usize) -> Context {
+    Context { user, role, kind }
 }
 
 fn decision(allowed: u32, auditdeny: u32) -> Decision {
@@ -131,9 +131,9 @@ const NOT_VALID: &[&[u8]] = &[
 #[test]
 fn reads_valid_contexts_alone(rt: HostRuntime) -> Result<(), Fail> {
     let tables = wide_policy(rt.alloc())?;
-    for &(text, user, role, type_) in VALID {
+    for &(text, user, role, kind) in VALID {
         assert!(rt;
-            parse_context(&tables, text) == Some(context(user, role, type_)),
+            parse_context(&tables, text) == Some(context(user, role, kind)),
             "{text:?}"
         );
     }
