@@ -86,10 +86,11 @@ module _ (m : ℕ) (ts : List rust.Term) (t : rust.Term) (some : 1 ≤ length ts
   pub begins_with_name : (at : ℕ) (bytes : List ℕ) → t ≡ variants.Name at bytes → (spot : Spot) (shown : List ℕ) → spot ≡ spot_at m at → shown ≡ bytes
       → BeginsWithName (all_said m ts) spot shown
   begins_with_name at bytes is spot shown same also =
-      let view : said_of m (variants.Name at bytes) ≡ Name (spot_at m at) bytes = search (rules, the_lemmas) in
-      (all_said m (drop 1 ts),
-      first_said m ts t some first
-      ∙ ap (λ y. cons y (all_said m (drop 1 ts))) (ap (said_of m) is ∙ view ∙ ap (λ a. Name a bytes) (sym same) ∙ ap (Name spot) (sym also)))
+      let view : said_of m (variants.Name at bytes) ≡ Name (spot_at m at) bytes = search (rules, the_lemmas) in (
+        all_said m (drop 1 ts),
+        first_said m ts t some first
+            ∙ ap (λ y. cons y (all_said m (drop 1 ts))) (ap (said_of m) is ∙ view ∙ ap (λ a. Name a bytes) (sym same) ∙ ap (Name spot) (sym also)),
+      )
 
   pub word_has_no_name : (w : LookedUp) → t ≡ variants.Leaf w → name_in_front (all_said m ts) ≡ None
   word_has_no_name w is =
@@ -113,7 +114,7 @@ class_parted m t at op parts items r is same list found =
     let whole : said_of m t ≡ Form (spot_at m at) ops.ClassPermissions (all_said m items) =
     ap (said_of m) is ∙ view ∙ ap (λ o. Form (spot_at m at) o (all_said m parts.items)) list ∙ ap (λ ts. Form (spot_at m at) ops.ClassPermissions (all_said m ts)) (sym same) in
     parted r whole found
-    where
+  where
     parted : (r : Option ClassParts) → said_of m t ≡ Form (spot_at m at) ops.ClassPermissions (all_said m items)
         → MatchOption r (word_and_term (all_said m items) ≡ None) (λ f. all_said m items ≡ cons (Leaf f.class) (cons (said_of m f.permissions.now) nil))
         → MatchOption r (class_form (said_of m t) ≡ None) (λ f. IsClassForm (said_of m t) f.class (said_of m f.permissions.now))

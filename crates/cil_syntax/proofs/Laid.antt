@@ -4,8 +4,8 @@ use Rattle.cil_sexpr.specs.declared.node.Node as nodes
 use Rattle.cil_sexpr.specs.declared.node.Span.{Span}
 use Rattle.cil_sexpr.specs.Tree.{Node, Word, Quoted, Branch}
 use Rattle.cil_sexpr.specs.View.{node_of, nodes_of}
-use Rattle.cil_syntax.specs.Shapes.{Reading, Row, Shape, declared_name, looked_up, set_of, fixed, left_out, any_left_out, either, list_of, many, counted, a_string, is_meant, read_word, read_list, read_row, Cell, cell_of, cells_of}
-use Rattle.std.specs.Prelude.{Option, None, Result, IfOk}
+use Rattle.cil_syntax.specs.Shapes.{Row, Shape, declared_name, looked_up, set_of, fixed, left_out, any_left_out, either, list_of, many, counted, a_string, is_meant, read_word, read_list, read_row, Cell, cell_of, cells_of}
+use Rattle.std.specs.Prelude.{Option, None, Result}
 use Rattle.cil_syntax.specs.declared.fault.Fault.{Fault}
 use Rattle.cil_syntax.specs.declared.shape.Row.{the_lemmas}
 use Rattle.cil_syntax.specs.declared.shape.Shape as shapes
@@ -20,7 +20,7 @@ use Rattle.std.specs.Global.{Vec}
 use Rattle.std.proofs.lemmas.Bool.{eq-eqb, ne_eqb}
 use Rattle.std.proofs.lemmas.List.{length-map}
 use Rattle.cil_syntax.proofs.ItemsRead.{length-cells}
-use Rattle.cil_syntax.proofs.Heads.{word_view, quoted_view, list_view}
+use Rattle.cil_syntax.proofs.Heads.{quoted_view}
 
 -- no shape is meant for a string
 not_string : (shape : Shape) → false ≡ is_meant shape a_string

@@ -1,5 +1,5 @@
 -- The operands of an operator, and forms over terms that were read.
-use Rattle.std.proofs.Common.{◌≡◌, ◌≢◌, ℕ, suc, ◌+◌, ◌<◌, Bool, true, false, if◌then◌else◌, List, [], ◌∷◌, length, take, drop, ◌-◌, refl, sym, ◌∙◌, ap, subst, arith, rules}
+use Rattle.std.proofs.Common.{◌≡◌, ◌≢◌, ℕ, ◌+◌, ◌<◌, Bool, true, false, if◌then◌else◌, List, [], ◌∷◌, length, take, drop, ◌-◌, refl, sym, ◌∙◌, ap, subst, arith, rules}
 use Rattle.std.specs.Prelude.{Option, Some, None, Result, Ok, Err, IsErrAnd}
 use Rattle.std.specs.declared.vec.Vec.{Vec}
 use Rattle.std.specs.declared.alloc.Global.{Global}
@@ -18,7 +18,7 @@ use Rattle.cil_syntax.specs.declared.term.Term.TheVariants as variants
 use Rattle.cil_syntax.specs.declared.term.Word.{Word}
 use Rattle.cil_syntax.specs.Said.{said_of, all_said}
 use Rattle.cil_syntax.specs.Shapes.{Reading, Shape, set_of, Row, close, item, many, joined, read_row, formed, is_negation, operands, Cell, cells_of}
-use Rattle.cil_syntax.specs.Terms.{Term, Form, Terms, spot_at}
+use Rattle.cil_syntax.specs.Terms.{Form, Terms, spot_at}
 use Rattle.cil_syntax.specs.Told.{IsTold, AreTold, Tells, TellAll}
 use Rattle.cil_syntax.proofs.ItemsRead.{joined-none, length-cells}
 

@@ -78,7 +78,12 @@ impl<'a> Reader<'a> {
                 self.read_looked_up(sign, node, faults)
             }
             Node::Quoted(_) => Err(Stop::OtherShape),
-            Node::List(place, items) => self.read_set_list(sign, items.as_slice(), place.start, faults),
+            Node::List(place, items) => self.read_set_list(
+                sign,
+                items.as_slice(),
+                place.start,
+                faults,
+            ),
         }
     }
 

@@ -6,8 +6,8 @@ ghost use Rattle.cil_syntax.specs.Shapes.{a_list, a_word, cell_of, is_meant};
 ghost use Rattle.cil_syntax.specs.Laid.{shape_of};
 
 use crate::kind::Sign;
-use crate::term::Op;
 use crate::reader::bytes_at;
+use crate::term::Op;
 use cil_sexpr::Node;
 
 /// What one place of a statement may have.

@@ -50,11 +50,7 @@ impl<'a> Reader<'a> {
 
     /// Reads a declared name. A string or a list is none.
     #[tactic(auto, unfolding(crate::specs::Shapes::cell_of, crate::specs::Shapes::read_word, crate::specs::Shapes::read_list))]
-    pub(crate) fn read_name(
-        &self,
-        node: &Node,
-        faults: &mut Vec<Fault>,
-    ) -> Result<Term<'a>, Stop>
+    pub(crate) fn read_name(&self, node: &Node, faults: &mut Vec<Fault>) -> Result<Term<'a>, Stop>
         ensures { Tells self.now.number ((cell_of self.now.number (node_of self.now.text.now node.now)).read declared_name) faults.old.items faults.new.items result }
     {
         let Node::Word(place) = node else {

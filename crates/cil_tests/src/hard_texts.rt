@@ -1,6 +1,6 @@
 //! Texts that are hard on the reader of statements: each reserved word at each place, long names, very many faults.
 
-use crate::policies::{is_judged_in, set_of};
+use crate::policies::{judged_in, set_of};
 use cil_syntax::{Failure, Fault, written};
 use std::alloc::Global;
 use std::test::Fail;
@@ -53,27 +53,25 @@ const PLACES: &[(&str, &str)] = &[
     ("(allow s ", " (c (p)))"),
 ];
 
-/// Whether a reserved word is a fault at a place; or is taken, or is not supported, where it has a meaning.
-fn is_reserved_at(alloc: Global, front: &str, back: &str, word: &str) -> Result<bool, Fail> {
+/// How a reserved word is judged behind some bytes: it is a fault; or it is accepted, or not supported, where it has a meaning.
+fn judgement(alloc: Global, front: &str, word: &str) -> Result<String, Fail> {
     let at = front.len();
-    let want = match (word, front) {
+    Ok(match (word, front) {
         ("self", "(allow s ") => format!(in alloc; "written\n")?,
         ("all", "(allow s t (c (p ") | ("notself" | "other", "(allow s ") => {
             format!(in alloc; "22 0 {at} . {word}\n")?
         }
         _ => format!(in alloc; "26 0 {at} . {word}\n")?,
-    };
-    is_judged_in(alloc, (front, back), word, want.as_bytes())
+    })
 }
 
 #[test]
 fn each_reserved_word_is_a_fault_at_each_place(rt: HostRuntime) -> Result<(), Fail> {
     for &word in RESERVED {
         for &(front, back) in PLACES {
-            assert!(rt;
-                is_reserved_at(rt.alloc(), front, back, word)?,
-                "{front}{word}{back}"
-            );
+            let got = judged_in(rt.alloc(), (front, back), word)?;
+            let want = judgement(rt.alloc(), front, word)?;
+            assert_eq!(rt; got.as_str(), want.as_str(), "{front}{word}{back}");
         }
     }
     Ok(())
@@ -89,21 +87,25 @@ fn names_have_at_most_1024_bytes(rt: HostRuntime) -> Result<(), Fail> {
         ("(roletype r a.", ".b)"),
         ("(class c (", "))"),
     ] {
-        assert!(rt; is_judged_in(alloc, place, name.as_str(), b"written\n")?);
+        assert_eq!(rt;
+            judged_in(alloc, place, name.as_str())?.as_str(),
+            "written\n"
+        );
     }
     let want = format!(in alloc; "25 0 6 . {name}i\n")?;
-    assert!(rt; is_judged_in(alloc, ("(type ", "i)"), name.as_str(), want.as_bytes())?);
+    let got = judged_in(alloc, ("(type ", "i)"), name.as_str())?;
+    assert_eq!(rt; got.as_str(), want.as_str());
     Ok(())
 }
 
-/// Whether the faults are those of words at the sixth of each eight bytes.
-fn is_at_each_eighth(faults: &[Fault]) -> bool {
+/// The number and the place of the first fault that is not at the sixth of its eight bytes.
+fn misplaced(faults: &[Fault]) -> Option<(usize, u64)> {
     for (i, fault) in faults.iter().enumerate() {
         if fault.at != 8 * i as u64 + 6 {
-            return false;
+            return Some((i, fault.at));
         }
     }
-    true
+    None
 }
 
 #[test]
@@ -115,6 +117,6 @@ fn a_text_may_have_100_000_faults(rt: HostRuntime) -> Result<(), Fail> {
         return Err(Fail::from("no faults"));
     };
     assert_eq!(rt; list.len(), 100_000);
-    assert!(rt; is_at_each_eighth(list.as_slice()));
+    assert_eq!(rt; misplaced(list.as_slice()), None);
     Ok(())
 }

@@ -36,28 +36,30 @@ pub(crate) fn set_of(alloc: Global, texts: &[&str]) -> Result<ModuleSet, ReadErr
     Ok(modules)
 }
 
-/// Whether the statements of some texts are judged so: the lines of their faults, or the line `written`.
-pub(crate) fn are_judged(alloc: Global, texts: &[&str], want: &[u8]) -> bool {
-    let Ok(modules) = set_of(alloc, texts) else {
-        return false;
-    };
+/// What the statements of some texts are judged as: the lines of their faults, or the line `written`.
+pub(crate) fn judged(alloc: Global, texts: &[&str]) -> Result<String, Fail> {
+    let modules = set_of(alloc, texts)?;
     match written(alloc, &modules) {
-        Ok(_) => want == b"written\n".as_slice(),
-        Err(Failure::Faults(list)) => match render(alloc, &list) {
-            Ok(lines) => lines.as_slice() == want,
-            Err(_) => false,
-        },
-        Err(Failure::NoMemory) => false,
+        Ok(_) => Ok(format!(in alloc; "written\n")?),
+        Err(Failure::Faults(list)) => lines_of(render(alloc, &list)?),
+        Err(Failure::NoMemory) => Err(Fail::from("no memory")),
+    }
+}
+
+/// Printed lines as text.
+pub(crate) fn lines_of(bytes: Vec<u8>) -> Result<String, Fail> {
+    match String::from_utf8(bytes) {
+        Ok(lines) => Ok(lines),
+        Err(_) => Err(Fail::from("not UTF-8")),
     }
 }
 
 /// The same of a word between two parts of a text.
-pub(crate) fn is_judged_in(
+pub(crate) fn judged_in(
     alloc: Global,
     (front, back): (&str, &str),
     word: &str,
-    want: &[u8],
-) -> Result<bool, Fail> {
+) -> Result<String, Fail> {
     let text = format!(in alloc; "{front}{word}{back}")?;
-    Ok(are_judged(alloc, &[text.as_str()], want))
+    judged(alloc, &[text.as_str()])
 }

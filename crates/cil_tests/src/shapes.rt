@@ -1,6 +1,6 @@
 //! How statements are judged, a line for each reading of the rules.
 
-use crate::policies::{are_judged, is_judged_in};
+use crate::policies::{judged, judged_in};
 use std::alloc::Global;
 use std::test::Fail;
 
@@ -111,10 +111,11 @@ const SHAPES: &[(&str, &str)] = &[
 ];
 
 #[test]
-fn readings_of_shape_are_kept(rt: HostRuntime) {
+fn readings_of_shape_are_kept(rt: HostRuntime) -> Result<(), Fail> {
     for &(text, want) in SHAPES {
-        assert!(rt; are_judged(rt.alloc(), &[text], want.as_bytes()), "{text}");
+        assert_eq!(rt; judged(rt.alloc(), &[text])?.as_str(), want, "{text}");
     }
+    Ok(())
 }
 
 /// A word, and whether it is a declared name and a looked-up word.
@@ -142,26 +143,24 @@ const WORDS: &[(&str, bool, bool)] = &[
     ("t3", true, true),
 ];
 
-/// Whether a word is judged so behind some bytes: it is taken, or is no name at the place where it stands.
-fn is_taken_as(alloc: Global, front: &str, word: &str, is_taken: bool) -> Result<bool, Fail> {
+/// How a word is judged at the end of some bytes: it is accepted, or it is no name at the place where it is.
+fn judgement(alloc: Global, front: &str, word: &str, is_accepted: bool) -> Result<String, Fail> {
     let at = front.len();
-    let fault = format!(in alloc; "25 0 {at} . {word}\n")?;
-    let want = if is_taken {
-        "written\n"
-    } else {
-        fault.as_str()
-    };
-    is_judged_in(alloc, (front, ")"), word, want.as_bytes())
+    if is_accepted {
+        return Ok(format!(in alloc; "written\n")?);
+    }
+    Ok(format!(in alloc; "25 0 {at} . {word}\n")?)
 }
 
 #[test]
 fn names_and_words_are_spelled(rt: HostRuntime) -> Result<(), Fail> {
+    let alloc = rt.alloc();
     for &(word, is_name, is_path) in WORDS {
-        assert!(rt; is_taken_as(rt.alloc(), "(type ", word, is_name)?, "{word}");
-        assert!(rt;
-            is_taken_as(rt.alloc(), "(roletype r ", word, is_path)?,
-            "{word}"
-        );
+        for &(front, is_accepted) in &[("(type ", is_name), ("(roletype r ", is_path)] {
+            let got = judged_in(alloc, (front, ")"), word)?;
+            let want = judgement(alloc, front, word, is_accepted)?;
+            assert_eq!(rt; got.as_str(), want.as_str(), "{front}{word}");
+        }
     }
     Ok(())
 }

@@ -1,6 +1,6 @@
 //! Written statements: what they say, and how modules are numbered.
 
-use crate::policies::{FIRST, are_judged, set_of};
+use crate::policies::{FIRST, judged, lines_of, set_of};
 use cil_syntax::{Program, Term, written};
 use std::alloc::Global;
 use std::test::Fail;
@@ -44,12 +44,12 @@ fn show(alloc: Global, program: &Program) -> Result<Vec<u8>, Fail> {
     Ok(out)
 }
 
-/// Whether the statements of some texts are shown so.
-fn are_shown(alloc: Global, texts: &[&str], want: &str) -> Result<bool, Fail> {
+/// The statements of some texts, each in one line.
+fn shown(alloc: Global, texts: &[&str]) -> Result<String, Fail> {
     let modules = set_of(alloc, texts)?;
     match written(alloc, &modules) {
-        Ok(program) => Ok(show(alloc, &program)?.as_slice() == want.as_bytes()),
-        Err(_) => Ok(false),
+        Ok(program) => lines_of(show(alloc, &program)?),
+        Err(_) => Err(Fail::from("no statements")),
     }
 }
 
@@ -73,7 +73,7 @@ const SAID: &[(&[&str], &str)] = &[
 #[test]
 fn statements_say_what_is_written(rt: HostRuntime) -> Result<(), Fail> {
     for &(texts, want) in SAID {
-        assert!(rt; are_shown(rt.alloc(), texts, want)?, "{want}");
+        assert_eq!(rt; shown(rt.alloc(), texts)?.as_str(), want);
     }
     Ok(())
 }
@@ -96,8 +96,9 @@ const NUMBERED: &[(&[&str], &str)] = &[
 ];
 
 #[test]
-fn modules_are_numbered_by_byte_order(rt: HostRuntime) {
+fn modules_are_numbered_by_byte_order(rt: HostRuntime) -> Result<(), Fail> {
     for &(texts, want) in NUMBERED {
-        assert!(rt; are_judged(rt.alloc(), texts, want.as_bytes()), "{want}");
+        assert_eq!(rt; judged(rt.alloc(), texts)?.as_str(), want);
     }
+    Ok(())
 }

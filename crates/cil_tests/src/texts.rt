@@ -3,26 +3,39 @@
 use cil_sexpr::{Node, ReadCode, ReadError, ReadFault, Span, Tree, read};
 use std::test::Fail;
 
-/// What stands at the first child, and at the first child of that, so far down.
+/// The first list of a tree.
 fn first_at(tree: &Tree) -> Option<&Node> {
     tree.children().first()
+}
+
+/// Some nodes in one line: what each is, and from where to where; behind a list its items in brackets.
+fn show(out: &mut String, nodes: &[Node]) -> Result<(), Fail> {
+    for node in nodes {
+        let Span { start, end } = node.span();
+        match node {
+            Node::Word(_) => write!(out, " word {start}-{end}")?,
+            Node::Quoted(_) => write!(out, " string {start}-{end}")?,
+            Node::List(_, items) => {
+                write!(out, " list {start}-{end} [")?;
+                show(out, items.as_slice())?;
+                write!(out, " ]")?;
+            }
+        }
+    }
+    Ok(())
 }
 
 #[test]
 fn a_tree_has_all_that_stands_in_the_text(rt: HostRuntime) -> Result<(), Fail> {
     let text = b"; first\n(type a)\r\n(a\t\"b; (\"(c)x;)\n) ";
     let tree = read(rt.alloc(), text)?;
-    assert_eq!(rt; tree.children().len(), 2);
-    let first = first_at(&tree).ok_or("no list")?;
-    assert_eq!(rt; first.span(), Span { start: 8, end: 16 });
-    for (list, want) in tree.children().iter().zip([
-        [(9, 13), (14, 15), (0, 0), (0, 0)],
-        [(19, 20), (21, 27), (27, 30), (30, 31)],
-    ]) {
-        for (node, (start, end)) in list.children().iter().zip(want) {
-            assert_eq!(rt; node.span(), Span { start, end });
-        }
-    }
+    let mut shown = String::new(rt.alloc());
+    show(&mut shown, tree.children())?;
+    assert_eq!(rt;
+        shown.as_str(),
+        " list 8-16 [ word 9-13 word 14-15 ] \
+        list 18-35 [ word 19-20 string 21-27 list 27-30 [ word 28-29 ] word 30-31 ]"
+    );
     Ok(())
 }
 
