@@ -204,7 +204,7 @@ fn names_and_numbers_are_kept(rt: HostRuntime) -> Result<(), Fail> {
     assert!(rt;
         names.as_slice().len() == 1 && names.as_slice()[0].as_slice() == b"read".as_slice()
     );
-    let numbers = Numbers::from_vec(Vec::from_slice(alloc, &[1, 3])?);
+    let numbers = Numbers::from_slice(alloc, &[1, 3])?;
     assert!(rt; numbers.as_slice() == [1, 3].as_slice());
     Ok(())
 }

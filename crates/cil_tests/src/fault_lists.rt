@@ -125,7 +125,8 @@ fn lists_are_joined(rt: HostRuntime) -> Result<(), Fail> {
 fn bytes_are_kept(rt: HostRuntime) -> Result<(), Fail> {
     let word = bytes(rt.alloc(), "a.b")?;
     assert!(rt; word.as_slice() == b"a.b".as_slice());
-    assert!(rt; word.into_vec().as_slice() == b"a.b".as_slice());
+    let copy = Bytes::copy_of(rt.alloc(), word.as_slice())?;
+    assert!(rt; copy == word);
     let failure = Failure::NoMemory;
     assert!(rt; format!(in rt.alloc(); "{failure:?}")?.as_str() == "NoMemory");
     Ok(())

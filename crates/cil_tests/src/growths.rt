@@ -95,11 +95,10 @@ fn set_at_last(alloc: Global, texts: &[&str]) -> Option<ModuleSet> {
     }
 }
 
-/// The statements of some texts, or their faults, judged once more where a growth is refused.
-fn written_at_last(alloc: Global, texts: &[&str]) -> Option<Result<Program, FaultList>> {
-    let set = set_at_last(alloc, texts)?;
-    let answer = match written(alloc, &set) {
-        Err(Failure::NoMemory) => written(alloc, &set),
+/// The statements of some modules, or their faults, judged once more where a growth is refused.
+fn written_at_last(alloc: Global, set: &ModuleSet) -> Option<Result<Program<'_>, FaultList>> {
+    let answer = match written(alloc, set) {
+        Err(Failure::NoMemory) => written(alloc, set),
         answer => answer,
     };
     faults_apart(answer)
@@ -124,7 +123,10 @@ fn are_printed(alloc: Global, faults: &FaultList, want: &[u8]) -> bool {
 
 /// Whether texts without a fault are written.
 fn are_written(alloc: Global) -> bool {
-    match written_at_last(alloc, &["(class c (p))(allow a self (c (p)))"]) {
+    let Some(set) = set_at_last(alloc, &["(class c (p))(allow a self (c (p)))"]) else {
+        return false;
+    };
+    match written_at_last(alloc, &set) {
         Some(Ok(program)) => program.statements().len() == 2,
         _ => false,
     }
@@ -136,7 +138,10 @@ fn are_refused(alloc: Global) -> bool {
         "(class c (p))(allow a self (c (p)))",
         "(type 1x)(allow a b)",
     ];
-    match written_at_last(alloc, &texts) {
+    let Some(set) = set_at_last(alloc, &texts) else {
+        return false;
+    };
+    match written_at_last(alloc, &set) {
         Some(Err(faults)) => are_printed(alloc, &faults, b"23 1 9 . allow\n25 1 6 . 1x\n"),
         _ => false,
     }

@@ -15,6 +15,8 @@ mod decisions;
 #[cfg(test)]
 mod fault_lists;
 #[cfg(test)]
+mod forms;
+#[cfg(test)]
 mod growths;
 #[cfg(test)]
 mod hard_texts;

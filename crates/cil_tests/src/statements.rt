@@ -9,17 +9,15 @@ use std::test::Fail;
 fn show_term(out: &mut Vec<u8>, alloc: Global, term: &Term) -> Result<(), Fail> {
     match term {
         Term::Leaf(word) => {
-            let (sign, at) = (word.sign, word.at.at);
+            let (sign, at) = (word.sign, word.at);
             out.extend_from_slice(format!(in alloc; " {sign:?}:{at}:")?.as_bytes())?;
             out.extend_from_slice(word.bytes.as_slice())?;
         }
         Term::Name(at, bytes) => {
-            let at = at.at;
             out.extend_from_slice(format!(in alloc; " Name:{at}:")?.as_bytes())?;
             out.extend_from_slice(bytes.as_slice())?;
         }
         Term::Form(at, op, parts) => {
-            let at = at.at;
             out.extend_from_slice(format!(in alloc; " {op:?}:{at}[")?.as_bytes())?;
             for part in parts {
                 show_term(out, alloc, part)?;
