@@ -33,7 +33,7 @@ pub use failure::Failure;
 pub use fault::{Bytes, Fault, push_fault};
 pub use fault_list::FaultList;
 pub use forms::{ClassParts, DeclaredName, RuleParts, WordAndTerms, WordPair, word_and_terms};
-pub use kind::{Keyword, Kind, Place, Sign};
+pub use kind::{Keyword, Kind, Nesting, Sign};
 pub use printed::render;
 pub use program::{Program, Statement, written};
 pub use term::{Excerpt, LookedUp, Op, Spot, Term, Word};

@@ -13,11 +13,11 @@ use cil_sexpr::Span;
 use std::alloc::Global;
 
 /// The bytes of a text at a place, as far as the text goes.
-pub(crate) fn bytes_at(text: &[u8], place: Span) -> &[u8]
-    ensures { result.now ≡ slice_range text.now place.start place.end }
+pub(crate) fn bytes_at(text: &[u8], span: Span) -> &[u8]
+    ensures { result.now ≡ slice_range text.now span.start span.end }
 {
-    let end = (place.end as usize).min(text.len());
-    let start = (place.start as usize).min(end);
+    let end = (span.end as usize).min(text.len());
+    let start = (span.start as usize).min(end);
     &text[start..end]
 }
 

@@ -53,11 +53,11 @@ impl<'a> Reader<'a> {
     ) -> Result<Term<'a>, Stop>
         ensures { Tells self.now.number ((cell_of self.now.number (node_of self.now.text.now node.now)).read (list_of op (row_of row.now))) faults.old.items faults.new.items result }
     {
-        let Node::List(place, items) = node else {
+        let Node::List(span, items) = node else {
             return Err(Stop::OtherShape);
         };
         let parts = self.read_row(row, items.as_slice(), faults)?;
-        Ok(Term::Form(place.start, op, parts))
+        Ok(Term::Form(span.start, op, parts))
     }
 
     /// Reads the items of a list by a row.
@@ -96,8 +96,8 @@ impl<'a> Reader<'a> {
             return Err(Stop::OtherShape);
         }
         let mut terms = Vec::with_capacity(self.alloc, nodes.len())?;
-        for place in 0..nodes.len() {
-            let term = self.read_node(&shapes[place], &nodes[place], faults)?;
+        for index in 0..nodes.len() {
+            let term = self.read_node(&shapes[index], &nodes[index], faults)?;
             terms.push(term)?;
         }
         Ok(terms)

@@ -48,9 +48,9 @@ fn operator_at_head(text: &[u8], nodes: &[Node]) -> Option<(Op, Span)>
     ensures { MatchOption result (IsUnion text.now nodes.now) (λ found. HasOperator text.now nodes.now found.0 found.1) }
 {
     match nodes.first()? {
-        Node::Word(place) => {
-            let op = find_operator(bytes_at(text, *place))?;
-            Some((op, *place))
+        Node::Word(span) => {
+            let op = find_operator(bytes_at(text, *span))?;
+            Some((op, *span))
         }
         Node::Quoted(_) => None,
         Node::List(_, _) => None,
@@ -70,18 +70,18 @@ impl<'a> Reader<'a> {
         ensures { Tells self.now.number ((cell_of self.now.number (node_of self.now.text.now node.now)).read (set_of sign)) faults.old.items faults.new.items result }
     {
         match node {
-            Node::Word(place) => {
-                let word = bytes_at(self.text, *place);
+            Node::Word(span) => {
+                let word = bytes_at(self.text, *span);
                 if word == b"all".as_slice() {
-                    return self.read_left_out(word, place.start, Op::All, faults);
+                    return self.read_left_out(word, span.start, Op::All, faults);
                 }
                 self.read_looked_up(sign, node, faults)
             }
             Node::Quoted(_) => Err(Stop::OtherShape),
-            Node::List(place, items) => self.read_set_list(
+            Node::List(span, items) => self.read_set_list(
                 sign,
                 items.as_slice(),
-                place.start,
+                span.start,
                 faults,
             ),
         }
@@ -99,12 +99,12 @@ impl<'a> Reader<'a> {
     ) -> Result<Term<'a>, Stop>
         ensures { Tells self.now.number (set_reading (spot_at self.now.number at) sign (cells_of self.now.number (nodes_of self.now.text.now nodes.now))) faults.old.items faults.new.items result }
     {
-        let Some((op, place)) = operator_at_head(self.text, nodes) else {
+        let Some((op, span)) = operator_at_head(self.text, nodes) else {
             let parts = self.read_sets(sign, nodes, faults)?;
             return Ok(Term::Form(at, Op::Union, parts));
         };
-        let word = bytes_at(self.text, place);
-        self.report(faults, FaultCode::Unsupported, place.start, word)?;
+        let word = bytes_at(self.text, span);
+        self.report(faults, FaultCode::Unsupported, span.start, word)?;
         if nodes.len() != operand_count(op) + 1 {
             return Err(Stop::OtherShape);
         }

@@ -51,7 +51,7 @@ impl Shape {
         ensures { (m : ℕ) → result ≡ is_meant (shape_of self.now) (cell_of m (node_of text.now node.now)).face }
     {
         match node {
-            Node::Word(place) => self.is_meant_for_word(bytes_at(text, *place)),
+            Node::Word(span) => self.is_meant_for_word(bytes_at(text, *span)),
             Node::Quoted(_) => false,
             Node::List(_, _) => self.is_meant_for_list(),
         }

@@ -41,8 +41,8 @@ impl<'a> Reader<'a> {
     ) -> Result<Option<Statement<'a>>, NoMemory>
         ensures { IfOk result (IsJudged self.now.number (by_items (spot_at self.now.number at) (cells_of self.now.number (nodes_of self.now.text.now nodes.now))) faults.old.items faults.new.items) }
     {
-        if let [Node::Word(place), rest @ ..] = nodes {
-            return self.judge_behind(at, bytes_at(self.text, *place), rest, faults);
+        if let [Node::Word(span), rest @ ..] = nodes {
+            return self.judge_behind(at, bytes_at(self.text, *span), rest, faults);
         }
         self.report(faults, FaultCode::BadShape, at, b"")?;
         Ok(None)

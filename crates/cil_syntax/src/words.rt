@@ -53,12 +53,12 @@ impl<'a> Reader<'a> {
     pub(crate) fn read_name(&self, node: &Node, faults: &mut Vec<Fault>) -> Result<Term<'a>, Stop>
         ensures { Tells self.now.number ((cell_of self.now.number (node_of self.now.text.now node.now)).read declared_name) faults.old.items faults.new.items result }
     {
-        let Node::Word(place) = node else {
+        let Node::Word(span) = node else {
             return Err(Stop::OtherShape);
         };
-        let word = bytes_at(self.text, *place);
-        self.report_word(faults, place.start, is_name(word), word)?;
-        Ok(Term::Name(place.start, Excerpt::of(word)))
+        let word = bytes_at(self.text, *span);
+        self.report_word(faults, span.start, is_name(word), word)?;
+        Ok(Term::Name(span.start, Excerpt::of(word)))
     }
 
     /// Reads a word that is looked up. A string or a list is none.
@@ -71,14 +71,14 @@ impl<'a> Reader<'a> {
     ) -> Result<Term<'a>, Stop>
         ensures { Tells self.now.number ((cell_of self.now.number (node_of self.now.text.now node.now)).read (looked_up sign)) faults.old.items faults.new.items result }
     {
-        let Node::Word(place) = node else {
+        let Node::Word(span) = node else {
             return Err(Stop::OtherShape);
         };
-        let word = bytes_at(self.text, *place);
-        self.report_word(faults, place.start, is_spelled_for(sign, word), word)?;
+        let word = bytes_at(self.text, *span);
+        self.report_word(faults, span.start, is_spelled_for(sign, word), word)?;
         Ok(Term::Leaf(LookedUp {
             bytes: Excerpt::of(word),
-            at: place.start,
+            at: span.start,
             sign,
         }))
     }
@@ -108,13 +108,13 @@ impl<'a> Reader<'a> {
     ) -> Result<Term<'a>, Stop>
         ensures { Tells self.now.number ((cell_of self.now.number (node_of self.now.text.now node.now)).read (fixed_shape fixed.now op)) faults.old.items faults.new.items result }
     {
-        let Node::Word(place) = node else {
+        let Node::Word(span) = node else {
             return Err(Stop::OtherShape);
         };
-        if bytes_at(self.text, *place) != fixed {
+        if bytes_at(self.text, *span) != fixed {
             return Err(Stop::OtherShape);
         }
-        Ok(Term::Form(place.start, op, Vec::new(self.alloc)))
+        Ok(Term::Form(span.start, op, Vec::new(self.alloc)))
     }
 
     /// Reads one word that is not supported.
@@ -127,14 +127,14 @@ impl<'a> Reader<'a> {
     ) -> Result<Term<'a>, Stop>
         ensures { Tells self.now.number ((cell_of self.now.number (node_of self.now.text.now node.now)).read (left_out word.now)) faults.old.items faults.new.items result }
     {
-        let Node::Word(place) = node else {
+        let Node::Word(span) = node else {
             return Err(Stop::OtherShape);
         };
-        let written = bytes_at(self.text, *place);
+        let written = bytes_at(self.text, *span);
         if written != word {
             return Err(Stop::OtherShape);
         }
-        self.read_left_out(written, place.start, Op::LeftOut, faults)
+        self.read_left_out(written, span.start, Op::LeftOut, faults)
     }
 
     /// Reads any word, which is not supported.
@@ -146,10 +146,10 @@ impl<'a> Reader<'a> {
     ) -> Result<Term<'a>, Stop>
         ensures { Tells self.now.number ((cell_of self.now.number (node_of self.now.text.now node.now)).read any_left_out) faults.old.items faults.new.items result }
     {
-        let Node::Word(place) = node else {
+        let Node::Word(span) = node else {
             return Err(Stop::OtherShape);
         };
-        let word = bytes_at(self.text, *place);
-        self.read_left_out(word, place.start, Op::LeftOut, faults)
+        let word = bytes_at(self.text, *span);
+        self.read_left_out(word, span.start, Op::LeftOut, faults)
     }
 }

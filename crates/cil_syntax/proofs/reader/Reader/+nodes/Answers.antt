@@ -9,20 +9,20 @@ read_items-returns-then-nodes-shapes t c = wrong_length c.args.self.now.number c
 
 pub read_items-returns-in_err-term : goal.read_items-returns-in_err-term
 read_items-returns-in_err-term t c =
-    stop_told c.args.self.now.number _ _ _ _ _ _ _ _ _ _ c.loop-place.invariant
-    (items_more c.args.self.now.number c.args.self.now.text.now c.args.nodes.now c.args.shapes.now c.if-nodes-shapes.false _ _ _ c.loop-place-test.true c.index-nodes-place.is c.index-shapes-place.is)
+    stop_told c.args.self.now.number _ _ _ _ _ _ _ _ _ _ c.loop-index.invariant
+    (items_more c.args.self.now.number c.args.self.now.text.now c.args.nodes.now c.args.shapes.now c.if-nodes-shapes.false _ _ _ c.loop-index-test.true c.index-nodes-index.is c.index-shapes-index.is)
     c.in_err-term.ensures c.from_residual-in_err-term.ensures.1
 
-pub read_items-loop-place-preserved : goal.read_items-loop-place-preserved
-read_items-loop-place-preserved t c =
-    more_read c.args.self.now.number _ _ _ _ _ _ _ _ c.in_ok-term.term _ c.loop-place.invariant
-    (items_more c.args.self.now.number c.args.self.now.text.now c.args.nodes.now c.args.shapes.now c.if-nodes-shapes.false _ _ _ c.loop-place-test.true c.index-nodes-place.is c.index-shapes-place.is)
+pub read_items-loop-index-preserved : goal.read_items-loop-index-preserved
+read_items-loop-index-preserved t c =
+    more_read c.args.self.now.number _ _ _ _ _ _ _ _ c.in_ok-term.term _ c.loop-index.invariant
+    (items_more c.args.self.now.number c.args.self.now.text.now c.args.nodes.now c.args.shapes.now c.if-nodes-shapes.false _ _ _ c.loop-index-test.true c.index-nodes-index.is c.index-shapes-index.is)
     c.in_ok-term.ensures c.in_ok-push.ensures.items
 
 pub read_items-returns : goal.read_items-returns
 read_items-returns t c =
-    all_read c.args.self.now.number _ _ _ _ c.loop-place.terms c.loop-place.invariant
-    (items_end c.args.self.now.number c.args.self.now.text.now c.args.nodes.now c.args.shapes.now c.if-nodes-shapes.false _ c.loop-place-test.false)
+    all_read c.args.self.now.number _ _ _ _ c.loop-index.terms c.loop-index.invariant
+    (items_end c.args.self.now.number c.args.self.now.text.now c.args.nodes.now c.args.shapes.now c.if-nodes-shapes.false _ c.loop-index-test.false)
 
 pub read_many-returns-in_err-term : goal.read_many-returns-in_err-term
 read_many-returns-in_err-term t c =

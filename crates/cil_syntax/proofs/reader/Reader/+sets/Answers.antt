@@ -14,17 +14,17 @@ use Rattle.cil_syntax.proofs.reader.Reader.+sets.Goals as goal
 
 pub read_set-returns-then-eq : goal.read_set-returns-then-eq
 read_set-returns-then-eq t c =
-    all_told c.args.self.now.text.now c.args.self.now.number c.args.node.now c.in-Word.place c.args.sign c.bytes_at-word.result.now c.in-Word.is c.bytes_at-word.ensures
+    all_told c.args.self.now.text.now c.args.self.now.number c.args.node.now c.in-Word.span c.args.sign c.bytes_at-word.result.now c.in-Word.is c.bytes_at-word.ensures
     c.read_left_out.result _ _ (sym c.if-eq.true ∙ c.eq.ensures ∙ ap (same_bytes c.bytes_at-word.result.now) c.as_slice.ensures) c.read_left_out.ensures
 
 pub read_set-returns-else-eq : goal.read_set-returns-else-eq
 read_set-returns-else-eq t c =
-    looked_up_told c.args.self.now.text.now c.args.self.now.number c.args.node.now c.in-Word.place c.args.sign c.bytes_at-word.result.now c.in-Word.is c.bytes_at-word.ensures
+    looked_up_told c.args.self.now.text.now c.args.self.now.number c.args.node.now c.in-Word.span c.args.sign c.bytes_at-word.result.now c.in-Word.is c.bytes_at-word.ensures
     c.read_looked_up.result _ _ (sym c.if-eq.false ∙ c.eq.ensures ∙ ap (same_bytes c.bytes_at-word.result.now) c.as_slice.ensures) c.read_looked_up.ensures
 
 pub read_set-returns-in-List : goal.read_set-returns-in-List
 read_set-returns-in-List t c =
-    list_told c.args.self.now.text.now c.args.self.now.number c.args.node.now c.in-List.place c.args.sign c.read_set_list.result c.in-List.items c.as_slice-in-List.result.now _ _
+    list_told c.args.self.now.text.now c.args.self.now.number c.args.node.now c.in-List.span c.args.sign c.read_set_list.result c.in-List.items c.as_slice-in-List.result.now _ _
     c.in-List.is c.as_slice-in-List.ensures.value c.read_set_list.ensures
 
 pub read_sets-returns-in_err-term : goal.read_sets-returns-in_err-term
@@ -62,7 +62,7 @@ pub read_set_list-returns-then-nodes-operand_count :
     goal.read_set_list-returns-then-nodes-operand_count
 read_set_list-returns-then-nodes-operand_count t c =
     let m = c.args.self.now.number in
-    operator_told m (spot_at m c.args.at) c.args.sign c.args.self.now.text.now c.args.nodes.now c.in-Some.op c.in-Some.place c.bytes_at-word.result.now _ _ _ None
+    operator_told m (spot_at m c.args.at) c.args.sign c.args.self.now.text.now c.args.nodes.now c.in-Some.op c.in-Some.span c.bytes_at-word.result.now _ _ _ None
     c.in-Some.ensures c.bytes_at-word.ensures c.in_ok-report.ensures
     (wrong_operands m (spot_at m c.args.at) c.in-Some.op c.args.sign c.args.self.now.text.now c.args.nodes.now _
     (λ e. c.if-nodes-operand_count.true (e ∙ ap (λ n. n + 1) (rw c.operand_count.ensures refl))))
@@ -70,7 +70,7 @@ read_set_list-returns-then-nodes-operand_count t c =
 pub read_set_list-returns-in_err-operands : goal.read_set_list-returns-in_err-operands
 read_set_list-returns-in_err-operands t c =
     let m = c.args.self.now.number in
-    operator_stops m (spot_at m c.args.at) c.args.sign c.args.self.now.text.now c.args.nodes.now c.in-Some.op c.in-Some.place c.bytes_at-word.result.now _ _ _ _ _
+    operator_stops m (spot_at m c.args.at) c.args.sign c.args.self.now.text.now c.args.nodes.now c.in-Some.op c.in-Some.span c.bytes_at-word.result.now _ _ _ _ _
     c.in-Some.ensures c.bytes_at-word.ensures c.in_ok-report.ensures
     (stop_formed m (spot_at m c.args.at) c.in-Some.op
     (read_row (operands c.args.sign c.in-Some.op) (cells_of m (nodes_of c.args.self.now.text.now (drop 1 c.args.nodes.now))))
@@ -83,7 +83,7 @@ read_set_list-returns-in_err-operands t c =
 pub read_set_list-returns : goal.read_set_list-returns
 read_set_list-returns t c =
     let m = c.args.self.now.number in
-    operator_told m (spot_at m c.args.at) c.args.sign c.args.self.now.text.now c.args.nodes.now c.in-Some.op c.in-Some.place c.bytes_at-word.result.now _ _ _ _
+    operator_told m (spot_at m c.args.at) c.args.sign c.args.self.now.text.now c.args.nodes.now c.in-Some.op c.in-Some.span c.bytes_at-word.result.now _ _ _ _
     c.in-Some.ensures c.bytes_at-word.ensures c.in_ok-report.ensures
     (formed_told m c.args.at c.in-Some.op _ _ _ c.in_ok-operands.operands
     (operands_counted m (spot_at m c.args.at) c.in-Some.op c.args.sign c.args.self.now.text.now c.args.nodes.now (Ok c.in_ok-operands.operands)
