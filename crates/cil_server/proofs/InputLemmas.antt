@@ -1,37 +1,32 @@
--- The buffer of the input.
+-- The buffer of the input, and what is taken from it.
 use Rattle.std.specs.Prelude.{Option, None, Some, IfSome, IsSomeAnd, min, slice_range}
 use Rattle.std.specs.declared.vec.Vec.{Vec}
 use Rattle.std.specs.declared.alloc.Global.{Global}
-use Rattle.std.specs.Io.KnownBytes.{Consumes, IsAtEnd, Keeps}
+use Rattle.std.specs.Io.KnownBytes.{Consumes, IsAtEnd, Keeps, prepend_known}
 use Rattle.std.proofs.Common.{◌≡◌, ℕ, ◌+◌, ◌-◌, ◌<◌, ◌≤◌, List, [], ◌∷◌, ◌++◌, length, take, drop, set, refl, sym, ◌∙◌, ap, subst, arith, inl, inr}
 use Rattle.std.proofs.lemmas.List.{append_assoc, append-nil, drop-drop, drop-take, length-append, length-drop, length-take, length-take-le, take-append-drop, take_more_set}
 use Rattle.std.proofs.Math.Seq.{drop-append_seam}
 use Rattle.std.proofs.lemmas.List.Elements.{Contains-push_cases}
 use Rattle.cil_sexpr.specs.Lists.{contains_none}
-use Rattle.cil_server.specs.Streams.{unread}
-use Rattle.cil_server.specs.Taken.{TakesPlain, TakesSome}
-use Rattle.cil_server.proofs.StreamLemmas.{consumes_both, consumes_kept, consumes_none, keeps_consumes, keeps_same}
+use Rattle.cil_server.specs.Streams.{InputState, OutputState, unread}
+use Rattle.cil_server.specs.Taken.{Moves, TakesPlain, TakesSome}
+use Rattle.cil_server.specs.declared.streams.Broken.{Broken}
+use Rattle.cil_server.proofs.StreamLemmas.{consumes_both, consumes_kept, consumes_none, keeps_consumes, keeps_same, tells_after}
 
 pub skipped : (xs : List ℕ) (a k b : ℕ) → a + k ≤ b → slice_range xs (a + k) b ≡ drop k (slice_range xs a b)
 skipped xs a k b within =
     let parts : k + (b - (a + k)) ≡ b - a = omega (arith, within) in
     ap (λ z. take (b - (a + k)) z) (sym (drop-drop k a xs)) ∙ sym (drop-take k (b - (a + k)) (drop a xs)) ∙ ap (λ n. drop k (take n (drop a xs))) parts
 
-at_end_unread : (b : Option (List ℕ)) → IsAtEnd b → IsAtEnd (unread [] b)
+at_end_unread : (b : Option (List ℕ)) → IsAtEnd b → IsAtEnd (prepend_known [] b)
 at_end_unread None h = h
 at_end_unread (Some xs) h = h
 
 front_range : (xs : List ℕ) (n : ℕ) → slice_range xs 0 n ≡ take n xs
 front_range xs n = let all : n - 0 ≡ n = omega arith in ap (λ k. take k xs) all
 
-pub filled_some : (buffer : List ℕ) (n : ℕ) → n ≤ length buffer → (n ≡ 0 → ⊥) → 0 < length (slice_range buffer 0 n)
-filled_some buffer n within some = some_there (slice_range buffer 0 n) (ap length (front_range buffer n) ∙ length-take-le n buffer within)
-  where
-    some_there : (xs : List ℕ) → length xs ≡ n → 0 < length xs
-    some_there xs e = omega (arith, e, some)
-
-pub filled_none : (buffer : List ℕ) (n : ℕ) (b : Option (List ℕ)) → n ≡ 0 → IsAtEnd b → IsAtEnd (unread (slice_range buffer 0 n) b)
-filled_none buffer n b e end = subst (λ k. IsAtEnd (unread (slice_range buffer 0 k) b)) (sym e) (at_end_unread b end)
+pub filled_none : (buffer : List ℕ) (n : ℕ) (b : Option (List ℕ)) → n ≡ 0 → IsAtEnd b → IsAtEnd (prepend_known (slice_range buffer 0 n) b)
+filled_none buffer n b e end = subst (λ k. IsAtEnd (prepend_known (slice_range buffer 0 k) b)) (sym e) (at_end_unread b end)
 
 pub skip_within : (xs ys : List ℕ) (a b k : ℕ) → slice_range xs a b ≡ ys → a ≤ b → b ≤ length xs → k ≤ length ys → a + k ≤ b
 skip_within xs ys a b k e up within few =
@@ -93,20 +88,49 @@ body_more a b c d body next part count left s k f few more =
 
 -- the first bytes of the buffer are read
 pub skip_part : (buffer slice next : List ℕ) (m : ℕ) (r : Option (List ℕ)) → slice ≡ buffer → next ≡ drop (length (take m slice)) buffer
-    → Consumes (unread buffer r) (unread next r) (take m slice)
+    → Consumes (prepend_known buffer r) (prepend_known next r) (take m slice)
 skip_part buffer slice next m r e f =
     let same : next ≡ drop m slice =
     f ∙ ap (drop (length (take m slice))) (sym e ∙ sym (take-append-drop m slice)) ∙ drop-append_seam (take m slice) (drop m slice) in
-    subst (λ z. Consumes (unread z r) (unread next r) (take m slice)) e (subst (λ z. Consumes (unread slice r) (unread z r) (take m slice)) (sym same) (split r))
+    subst (λ z. Consumes (prepend_known z r) (prepend_known next r) (take m slice)) e (subst (λ z. Consumes (prepend_known slice r) (prepend_known z r) (take m slice)) (sym same) (split r))
   where
-    split : (o : Option (List ℕ)) → Consumes (unread slice o) (unread (drop m slice) o) (take m slice)
+    split : (o : Option (List ℕ)) → Consumes (prepend_known slice o) (prepend_known (drop m slice) o) (take m slice)
     split None = tt
     split (Some rest) = ap (λ z. z ++ rest) (sym (take-append-drop m slice)) ∙ append_assoc (take m slice) (drop m slice) rest
+
+pub skip_state : (i j : InputState) (slice : List ℕ) (m : ℕ) → slice ≡ i.buffered → j.buffered ≡ drop (length (take m slice)) i.buffered → j.left ≡ i.left
+    → Consumes (unread i) (unread j) (take m slice)
+skip_state i j slice m e f same =
+    subst (λ o. Consumes (unread i) (prepend_known j.buffered o) (take m slice)) (sym same) (skip_part i.buffered slice j.buffered m i.left e f)
 
 pub part_few : (slice : List ℕ) (m left len : ℕ) → m ≡ min len left → length (take m slice) ≤ left
 part_few slice m left len e = let l = length-take m slice in omega (arith, l, e)
 
+pub body_part_at : (a b c : Option (List ℕ)) (body : Option (Vec ℕ Global)) (count left : ℕ) → IsBodySoFar a b body count left → 0 < left → Keeps b c
+    → (n : ℕ) × (n < count) × TakesSome a c n
+body_part_at a b c body count left s some k =
+    (length s.bytes, omega (arith, s.len, some), record { bytes = s.bytes; consumed = consumes_kept a b c s.bytes s.consumed k; len = refl })
+
 pub body_cut_at : (a b c : Option (List ℕ)) (body : Option (Vec ℕ Global)) (count left : ℕ) → IsBodySoFar a b body count left → 0 < left → Keeps b c → IsAtEnd c
     → (n : ℕ) × (n < count) × TakesSome a c n × IsAtEnd c
 body_cut_at a b c body count left s some k end =
-    (length s.bytes, omega (arith, s.len, some), record { bytes = s.bytes; consumed = consumes_kept a b c s.bytes s.consumed k; len = refl }, end)
+    let part = body_part_at a b c body count left s some k in (part.0, part.1, part.2, end)
+
+-- ---- both streams
+
+pub moves_both : (i : InputState) (o : OutputState) (i' : InputState) (o' : OutputState) (j : InputState) (p : OutputState) (failed : Option Broken) → Moves i o i' o' None
+    → Moves i' o' j p failed → Moves i o j p failed
+moves_both i o i' o' j p failed f g = record {
+  told = tells_after o o' p [] f.told g.told;
+  reader = g.reader ∙ f.reader;
+  failures = all _ _ _ _ f.failures g.failures;
+  is_left = g.is_left;
+}
+  where
+    all : (a b c n : ℕ) → b ≡ a + 0 → c ≡ b + n → c ≡ a + n
+    all a b c n e h = omega (arith, e, h)
+
+-- bytes of the buffer are read
+pub moves_skipped : (i : InputState) (o : OutputState) (i' : InputState) (o' : OutputState) (j : InputState) → Moves i o i' o' None → j.failures ≡ i'.failures → j.reader ≡ i'.reader
+    → Moves i o j o' None
+moves_skipped i o i' o' j f same kept = record { told = f.told; reader = kept ∙ f.reader; failures = same ∙ f.failures; is_left = f.is_left }

@@ -1,3 +1,4 @@
+pub mod EndLemmas
 pub mod InputLemmas
 pub mod LineLemmas
 pub mod NameLemmas

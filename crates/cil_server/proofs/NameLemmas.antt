@@ -12,8 +12,8 @@ use Rattle.cil_host.specs.Machine.{OfLoaded, State}
 use Rattle.cil_host.specs.Permissions.{IsInOrder, IsPermissionOf}
 use Rattle.cil_server.specs.Replies.{listed}
 use Rattle.cil_server.specs.Step.{IsNamed, NamesOf}
-use Rattle.cil_server.specs.Streams.{Tells, Waiting}
-use Rattle.cil_server.specs.Turns.{IsPlaced, TellsBit, TellsNames, behind_comma}
+use Rattle.cil_server.specs.Streams.{OutputState, Tells}
+use Rattle.cil_server.specs.Turns.{IsPlaced, TellsName, TellsNames, behind_comma}
 use Rattle.cil_server.proofs.StreamLemmas.{tells_before, tells_both, tells_none}
 
 -- the names of a mask from a bit on, with so many bits left, bit by bit
@@ -142,62 +142,74 @@ pub record AreTold (h : State) (class_name : List ℕ) (mask bit : ℕ) (tells :
   pub told : tells (shown seen)
   pub first : is_none_yet seen ≡ is_first
 
-module _ (h : State) (class_name : List ℕ) (mask : ℕ) (a b c : Option (List ℕ)) (w v u : Waiting) where
-  pub told_none : AreTold h class_name mask 0 (Tells a w a w) true
-  told_none = record { seen = []; are_seen = seen_none h class_name mask; told = tells_none a w; first = refl }
+-- the name of a bit, told; and whether the next one is the first
+pub data TellsBit (h : State) (class_name : List ℕ) (mask bit : ℕ) (is_first : Bool) (tells : List ℕ → Type 0) : Bool → Type 0 where
+  named : (name : List ℕ) → IsPlaced h class_name mask bit name → tells (behind_comma is_first name) → TellsBit h class_name mask bit is_first tells false
+  skipped : {still : Bool} → ((name : List ℕ) → IsNamed h class_name mask bit name → ⊥) → tells [] → still ≡ is_first → TellsBit h class_name mask bit is_first tells still
 
-  told_name : (bit : ℕ) (is_first : Bool) (name : List ℕ) → AreTold h class_name mask bit (Tells a w b v) is_first → IsPlaced h class_name mask bit name
-      → Tells b v c u (behind_comma is_first name) → AreTold h class_name mask (bit + 1) (Tells a w c u) false
+module _ (h : State) (class_name : List ℕ) (mask : ℕ) (w v u : OutputState) where
+  pub told_none : AreTold h class_name mask 0 (Tells w w) true
+  told_none = record { seen = []; are_seen = seen_none h class_name mask; told = tells_none w; first = refl }
+
+  told_name : (bit : ℕ) (is_first : Bool) (name : List ℕ) → AreTold h class_name mask bit (Tells w v) is_first → IsPlaced h class_name mask bit name
+      → Tells v u (behind_comma is_first name) → AreTold h class_name mask (bit + 1) (Tells w u) false
   told_name bit is_first name t is tells = begin t.seen is_first t.are_seen t.told t.first tells
     where
-      begin : (seen : List (List ℕ)) (first : Bool) → AreSeen h class_name mask bit seen → Tells a w b v (shown seen) → is_none_yet seen ≡ first
-          → Tells b v c u (behind_comma first name) → AreTold h class_name mask (bit + 1) (Tells a w c u) false
+      begin : (seen : List (List ℕ)) (first : Bool) → AreSeen h class_name mask bit seen → Tells w v (shown seen) → is_none_yet seen ≡ first
+          → Tells v u (behind_comma first name) → AreTold h class_name mask (bit + 1) (Tells w u) false
       begin [] true s told e f = record {
         seen = name ∷ [];
         are_seen = seen_named h class_name mask bit [] name s is;
-        told = subst (Tells a w c u) (sym (shown_first name)) (tells_both a b c w v u [] name told f);
+        told = subst (Tells w u) (sym (shown_first name)) (tells_both w v u [] name told f);
         first = refl;
       }
       begin (n ∷ ns) false s told e f = record {
         seen = (n ∷ ns) ++ name ∷ [];
         are_seen = seen_named h class_name mask bit (n ∷ ns) name s is;
-        told = subst (Tells a w c u) (sym (append_assoc (shown (n ∷ ns)) (44 ∷ []) name) ∙ sym (shown_more n ns name)) (tells_both a b c w v u (shown (n ∷ ns)) (44 ∷ name) told f);
+        told = subst (Tells w u) (sym (append_assoc (shown (n ∷ ns)) (44 ∷ []) name) ∙ sym (shown_more n ns name)) (tells_both w v u (shown (n ∷ ns)) (44 ∷ name) told f);
         first = refl;
       }
       begin [] false s told e f = absurd cc
       begin (n ∷ ns) true s told e f = absurd cc
 
-  pub told_bit : (bit : ℕ) (is_first next : Bool) → AreTold h class_name mask bit (Tells a w b v) is_first
-      → TellsBit h class_name mask bit is_first (Tells b v c u) next → AreTold h class_name mask (bit + 1) (Tells a w c u) next
+  pub told_bit : (bit : ℕ) (is_first next : Bool) → AreTold h class_name mask bit (Tells w v) is_first
+      → TellsBit h class_name mask bit is_first (Tells v u) next → AreTold h class_name mask (bit + 1) (Tells w u) next
   told_bit bit is_first false t (TellsBit.named name is tells) = told_name bit is_first name t is tells
   told_bit bit is_first next t (TellsBit.skipped none tells e) = record {
     seen = t.seen;
     are_seen = seen_skipped h class_name mask bit t.seen t.are_seen none;
-    told = tells_before a b c w v u (shown t.seen) t.told tells;
+    told = tells_before w v u (shown t.seen) t.told tells;
     first = t.first ∙ sym e;
   }
 
-  pub told_hyphen : (bit : ℕ) (is_first : Bool) → AreTold h class_name mask bit (Tells a w b v) is_first → bit ≡ 32 → is_first ≡ true → Tells b v c u (codes "-")
-      → TellsNames h class_name mask (Tells a w c u)
+  pub told_hyphen : (bit : ℕ) (is_first : Bool) → AreTold h class_name mask bit (Tells w v) is_first → bit ≡ 32 → is_first ≡ true → Tells v u (codes "-")
+      → TellsNames h class_name mask (Tells w u)
   told_hyphen bit is_first t at e tells = end t.seen (subst (λ k. AreSeen h class_name mask k t.seen) at t.are_seen) t.told (t.first ∙ e)
     where
-      end : (seen : List (List ℕ)) → AreSeen h class_name mask 32 seen → Tells a w b v (shown seen) → is_none_yet seen ≡ true → TellsNames h class_name mask (Tells a w c u)
-      end [] s told e = record { names = []; are_names = seen_all h class_name mask [] s; told = tells_both a b c w v u [] (codes "-") told tells }
+      end : (seen : List (List ℕ)) → AreSeen h class_name mask 32 seen → Tells w v (shown seen) → is_none_yet seen ≡ true → TellsNames h class_name mask (Tells w u)
+      end [] s told e = record { names = []; are_names = seen_all h class_name mask [] s; told = tells_both w v u [] (codes "-") told tells }
       end (n ∷ ns) s told e = absurd cc
 
-  pub told_all : (bit : ℕ) (is_first : Bool) → AreTold h class_name mask bit (Tells a w b v) is_first → bit ≡ 32 → is_first ≡ false → TellsNames h class_name mask (Tells a w b v)
+  pub told_all : (bit : ℕ) (is_first : Bool) → AreTold h class_name mask bit (Tells w v) is_first → bit ≡ 32 → is_first ≡ false → TellsNames h class_name mask (Tells w v)
   told_all bit is_first t at e = end t.seen (subst (λ k. AreSeen h class_name mask k t.seen) at t.are_seen) t.told (t.first ∙ e)
     where
-      end : (seen : List (List ℕ)) → AreSeen h class_name mask 32 seen → Tells a w b v (shown seen) → is_none_yet seen ≡ false → TellsNames h class_name mask (Tells a w b v)
+      end : (seen : List (List ℕ)) → AreSeen h class_name mask 32 seen → Tells w v (shown seen) → is_none_yet seen ≡ false → TellsNames h class_name mask (Tells w v)
       end [] s told e = absurd cc
       end (n ∷ ns) s told e = record { names = n ∷ ns; are_names = seen_all h class_name mask (n ∷ ns) s; told = told }
 
-module _ (h : State) (class_name : List ℕ) (mask bit : ℕ) (is_first : Bool) (name : List ℕ) (tells : List ℕ → Type 0) where
-  pub bit_first : is_first ≡ true → IsPlaced h class_name mask bit name → tells name → TellsBit h class_name mask bit is_first tells false
-  bit_first e is told = TellsBit.named name is (subst (λ b. tells (behind_comma b name)) (sym e) told)
+-- the name of a bit, looked up and then told
+pub bit_of : (h : State) (class_name : List ℕ) (mask bit : ℕ) (is_first still : Bool) (name : Option (Bor (List ℕ))) (tells : List ℕ → Type 0)
+    → MatchOption name ((n : List ℕ) → IsNamed h class_name mask bit n → ⊥) (λ n. IsPlaced h class_name mask bit n.now) → TellsName is_first tells name still
+    → TellsBit h class_name mask bit is_first tells still
+bit_of h class_name mask bit is_first still None tells none t = TellsBit.skipped none t.0 t.1
+bit_of h class_name mask bit is_first still (Some name) tells is t =
+    subst (λ z. TellsBit h class_name mask bit is_first tells z) (sym t.1) (TellsBit.named name.now is t.0)
 
-  pub bit_later : is_first ≡ false → IsPlaced h class_name mask bit name → tells (44 ∷ name) → TellsBit h class_name mask bit is_first tells false
-  bit_later e is told = TellsBit.named name is (subst (λ b. tells (behind_comma b name)) (sym e) told)
+-- a name behind another one
+pub name_later : (is_first : Bool) (tells : List ℕ → Type 0) (option : Option (Bor (List ℕ))) (name : Bor (List ℕ)) → option ≡ Some name → is_first ≡ false
+    → tells (44 ∷ name.now) → TellsName is_first tells option false
+name_later is_first tells option name e f told =
+    subst (λ z. TellsName is_first tells z false) (sym e) (subst (λ b. tells (behind_comma b name.now)) (sym f) told, refl)
 
 -- the name of a bit that is set
 pub placed_at : (h : State) (class_name : List ℕ) (mask bit : ℕ) (r : Option (Bor (List ℕ))) → IsBitSet mask bit

@@ -1,13 +1,16 @@
 -- Bytes taken from a reader and told to a writer, part by part.
 use Rattle.std.specs.Prelude.{Option, None, Some, Bool, true, false, not}
+use Rattle.std.specs.Borrow.{GName}
 use Rattle.std.specs.Option.{unwrap_or}
 use Rattle.std.specs.Io.KnownBytes.{Appends, Consumes, IsAtEnd, Keeps}
 use Rattle.std.specs.List.{flat_map}
-use Rattle.std.proofs.Common.{◌≡◌, ℕ, ◌≤◌, List, [], ◌++◌, length, take, refl, sym, ◌∙◌, ap, subst}
-use Rattle.std.proofs.lemmas.List.{append_assoc, append-nil, take_all}
-use Rattle.cil_server.specs.Given.{Gives}
-use Rattle.cil_server.specs.Session.{IsFront}
-use Rattle.cil_server.specs.Streams.{Holds, IsHeld, Tells, Waiting, unread}
+use Rattle.std.proofs.Common.{◌≡◌, ℕ, ◌+◌, ◌<◌, ◌≤◌, List, [], ◌∷◌, ◌++◌, length, take, get_or, refl, sym, ◌∙◌, ap, subst, arith}
+use Rattle.std.proofs.lemmas.Grind.{flat_map-append}
+use Rattle.std.proofs.lemmas.List.{append_assoc, append-nil, take_all, take_more}
+use Rattle.std.proofs.lemmas.List.Concat.{flat_map-cons}
+use Rattle.cil_server.specs.Devices.{AppendsFront, IsFront}
+use Rattle.cil_server.specs.Given.{Gives, GivesCounted}
+use Rattle.cil_server.specs.Streams.{Grows, Holds, HoldsIn, IsHeld, OutputState, Tells, Writes, one_if}
 
 -- ---- taken
 
@@ -55,142 +58,173 @@ at_end None rest h e = absurd (none_some e)
     none_some h = cc
 at_end (Some p) rest h e = sym (ap (λ o. unwrap_or o p) e) ∙ h
 
+-- ---- a writer's bytes grow
+
+appends_none : (a : Option (List ℕ)) → Appends a a []
+appends_none None = tt
+appends_none (Some p) = sym (append-nil p)
+
+appends_both : (a b c : Option (List ℕ)) (xs ys : List ℕ) → Appends a b xs → Appends b c ys → Appends a c (xs ++ ys)
+appends_both None b c xs ys f g = f
+appends_both (Some p) (Some q) (Some r) xs ys f g = g ∙ ap (λ z. z ++ ys) f ∙ append_assoc p xs ys
+appends_both (Some p) None c xs ys f g = absurd f
+appends_both (Some p) (Some q) None xs ys f g = absurd g
+
+pub grows_both : (a b c : Option (List ℕ)) → Grows a b → Grows b c → Grows a c
+grows_both a b c f g = (f.0 ++ g.0, appends_both a b c f.0 g.0 f.1 g.1)
+
 -- ---- told
 
-pub tells_none : (a : Option (List ℕ)) (w : Waiting) → Tells a w a w []
-tells_none a w = λ before told h. subst (Holds before a w) (sym (append-nil told)) h
+pub writes_none : (w : OutputState) → Writes w w
+writes_none w = record { counts = refl; lasting = λ h. h; writer = refl }
 
-pub tells_both : (a b c : Option (List ℕ)) (w v u : Waiting) (xs ys : List ℕ) → Tells a w b v xs → Tells b v c u ys → Tells a w c u (xs ++ ys)
-tells_both a b c w v u xs ys f g = λ before told h. subst (Holds before c u) (append_assoc told xs ys) (g before (told ++ xs) (f before told h))
+pub writes_both : (w v u : OutputState) → Writes w v → Writes v u → Writes w u
+writes_both w v u f g = record { counts = all _ _ _ _ _ _ f.counts g.counts; lasting = λ h. g.lasting (f.lasting h); writer = g.writer ∙ f.writer }
+  where
+    all : (a b c x y z : ℕ) → b + x ≡ a + y → c + y ≡ b + z → c + x ≡ a + z
+    all a b c x y z e h = omega (arith, e, h)
+
+pub tells_none : (w : OutputState) → Tells w w []
+tells_none w = record { told = λ before told h. subst (Holds before w) (sym (append-nil told)) h; grows = ([], appends_none w.written); writes = writes_none w }
+
+pub tells_both : (w v u : OutputState) (xs ys : List ℕ) → Tells w v xs → Tells v u ys → Tells w u (xs ++ ys)
+tells_both w v u xs ys f g = record {
+  told = λ before told h. subst (Holds before u) (append_assoc told xs ys) (g.told before (told ++ xs) (f.told before told h));
+  grows = grows_both w.written v.written u.written f.grows g.grows;
+  writes = writes_both w v u f.writes g.writes;
+}
 
 -- three and four after another
-pub tells_three : (a b c d : Option (List ℕ)) (w v u t : Waiting) (xs ys zs : List ℕ) → Tells a w b v xs → Tells b v c u ys → Tells c u d t zs
-    → Tells a w d t (xs ++ ys ++ zs)
-tells_three a b c d w v u t xs ys zs f g h = tells_both a c d w u t (xs ++ ys) zs (tells_both a b c w v u xs ys f g) h
+pub tells_three : (w v u t : OutputState) (xs ys zs : List ℕ) → Tells w v xs → Tells v u ys → Tells u t zs → Tells w t (xs ++ ys ++ zs)
+tells_three w v u t xs ys zs f g h = tells_both w u t (xs ++ ys) zs (tells_both w v u xs ys f g) h
 
-pub tells_four : (a b c d e : Option (List ℕ)) (w v u t s : Waiting) (xs ys zs us : List ℕ) → Tells a w b v xs → Tells b v c u ys → Tells c u d t zs
-    → Tells d t e s us → Tells a w e s (xs ++ ys ++ zs ++ us)
-tells_four a b c d e w v u t s xs ys zs us f g h k = tells_both a d e w t s (xs ++ ys ++ zs) us (tells_three a b c d w v u t xs ys zs f g h) k
+pub tells_four : (w v u t s : OutputState) (xs ys zs us : List ℕ) → Tells w v xs → Tells v u ys → Tells u t zs → Tells t s us → Tells w s (xs ++ ys ++ zs ++ us)
+tells_four w v u t s xs ys zs us f g h k = tells_both w t s (xs ++ ys ++ zs) us (tells_three w v u t xs ys zs f g h) k
 
-pub tells_after : (a b c : Option (List ℕ)) (w v u : Waiting) (ys : List ℕ) → Tells a w b v [] → Tells b v c u ys → Tells a w c u ys
-tells_after a b c w v u ys f g = tells_both a b c w v u [] ys f g
+pub tells_after : (w v u : OutputState) (ys : List ℕ) → Tells w v [] → Tells v u ys → Tells w u ys
+tells_after w v u ys f g = tells_both w v u [] ys f g
 
-pub tells_before : (a b c : Option (List ℕ)) (w v u : Waiting) (xs : List ℕ) → Tells a w b v xs → Tells b v c u [] → Tells a w c u xs
-tells_before a b c w v u xs f g = subst (Tells a w c u) (append-nil xs) (tells_both a b c w v u xs [] f g)
+pub tells_before : (w v u : OutputState) (xs : List ℕ) → Tells w v xs → Tells v u [] → Tells w u xs
+tells_before w v u xs f g = subst (Tells w u) (append-nil xs) (tells_both w v u xs [] f g)
 
 front_more : (front told more : List ℕ) → IsFront front told → IsFront front (told ++ more)
 front_more front told more f = record { rest = f.rest ++ more; whole = ap (λ z. z ++ more) f.whole ∙ append_assoc front f.rest more }
 
--- after a failure nothing is written
-pub tells_lost : (a : Option (List ℕ)) (bs cs xs : List ℕ) → Tells a (record { bytes = bs; failed = true }) a (record { bytes = cs; failed = true }) xs
-tells_lost None bs cs xs = λ before told h. absurd h
-tells_lost (Some written) bs cs xs = λ before told h. (h.0, h.1, front_more h.0 told xs h.2)
-
--- bytes are put behind those that wait
-pub tells_waits : (a : Option (List ℕ)) (failed : Bool) (bs xs : List ℕ) → Tells a (record { bytes = bs; failed = failed }) a (record { bytes = bs ++ xs; failed = failed }) xs
-tells_waits None failed bs xs = λ before told h. absurd h
-tells_waits (Some written) true bs xs = λ before told h. (h.0, h.1, front_more h.0 told xs h.2)
-tells_waits (Some written) false bs xs = λ before told h. (h.0, h.1, ap (λ z. z ++ xs) h.2 ∙ append_assoc h.0 bs xs)
-
--- what waits is written
-pub tells_given : (a b : Option (List ℕ)) (bs : List ℕ) → Appends a b bs → Tells a (record { bytes = bs; failed = false }) b (record { bytes = []; failed = false }) []
-tells_given None b bs g = λ before told h. absurd h
-tells_given (Some written) None bs g = absurd g
-tells_given (Some written) (Some now) bs g = λ before told h.
-    (h.0 ++ bs, g ∙ ap (λ z. z ++ bs) h.1 ∙ append_assoc before h.0 bs, append-nil told ∙ h.2 ∙ sym (append-nil (h.0 ++ bs)))
-
--- bytes are written at once, where none wait
-pub tells_through : (a b : Option (List ℕ)) (xs : List ℕ) → Appends a b xs → Tells a (record { bytes = []; failed = false }) b (record { bytes = []; failed = false }) xs
-tells_through None b xs g = λ before told h. absurd h
-tells_through (Some written) None xs g = absurd g
-tells_through (Some written) (Some now) xs g = λ before told h.
-    (h.0 ++ xs, g ∙ ap (λ z. z ++ xs) h.1 ∙ append_assoc before h.0 xs, ap (λ z. z ++ xs) (h.2 ∙ append-nil h.0) ∙ sym (append-nil (h.0 ++ xs)))
-
 front_of : (out front xs more : List ℕ) → xs ≡ front ++ more → IsFront (out ++ front) (out ++ xs)
 front_of out front xs more e = record { rest = more; whole = ap (λ z. out ++ z) e ∙ sym (append_assoc out front more) }
 
--- the writer fails while what waits is written
-pub tells_broken : (a b : Option (List ℕ)) (bs cs front : List ℕ) → IsFront front bs → Appends a b front
-    → Tells a (record { bytes = bs; failed = false }) b (record { bytes = cs; failed = true }) []
-tells_broken None b bs cs front f g = λ before told h. absurd h
-tells_broken (Some written) None bs cs front f g = absurd g
-tells_broken (Some written) (Some now) bs cs front f g = λ before told h. (
-  h.0 ++ front,
-  g ∙ ap (λ z. z ++ front) h.1 ∙ append_assoc before h.0 front,
-  subst (λ z. IsFront (h.0 ++ front) z) (sym (append-nil told ∙ h.2)) (front_of h.0 front bs f.rest f.whole),
-)
+-- after a failure nothing is written
+pub tells_lost : (w v : OutputState) (xs : List ℕ) → w.has_failed ≡ true → v.has_failed ≡ true → v.written ≡ w.written → v.failures ≡ w.failures → v.writer ≡ w.writer
+    → Tells w v xs
+tells_lost w v xs e f same count name = record {
+  told = λ before told h. subst (λ o. HoldsIn before o v (told ++ xs)) (sym same) (lost before told w.written h);
+  grows = ([], subst (λ o. Appends w.written o []) (sym same) (appends_none w.written));
+  writes = record { counts = counts w.has_failed v.has_failed e f count; lasting = λ h. f; writer = name };
+}
+  where
+    lost : (before told : List ℕ) (o : Option (List ℕ)) → HoldsIn before o w told → HoldsIn before o v (told ++ xs)
+    lost before told None h = absurd h
+    lost before told (Some written) h =
+        let front : IsFront h.0 told = subst (λ z. IsHeld z w.waiting h.0 told) e h.2 in
+        (h.0, h.1, subst (λ z. IsHeld z v.waiting h.0 (told ++ xs)) (sym f) (front_more h.0 told xs front))
 
--- the writer fails while bytes are written at once
-pub tells_broken_through : (a b : Option (List ℕ)) (xs cs front : List ℕ) → IsFront front xs → Appends a b front
-    → Tells a (record { bytes = []; failed = false }) b (record { bytes = cs; failed = true }) xs
-tells_broken_through None b xs cs front f g = λ before told h. absurd h
-tells_broken_through (Some written) None xs cs front f g = absurd g
-tells_broken_through (Some written) (Some now) xs cs front f g = λ before told h. (
-  h.0 ++ front,
-  g ∙ ap (λ z. z ++ front) h.1 ∙ append_assoc before h.0 front,
-  subst (λ z. IsFront (h.0 ++ front) (z ++ xs)) (sym (h.2 ∙ append-nil h.0)) (front_of h.0 front xs f.rest f.whole),
-)
+    counts : (b c : Bool) → b ≡ true → c ≡ true → v.failures ≡ w.failures → v.failures + one_if b ≡ w.failures + one_if c
+    counts b c e f h = ap (λ z. v.failures + one_if z) e ∙ ap (λ n. n + 1) h ∙ ap (λ z. w.failures + one_if z) (sym f)
 
--- the writer fails, or does not, while nothing waits
-pub tells_kept : (a b : Option (List ℕ)) (failed : Bool) → Keeps a b → Tells a (record { bytes = []; failed = false }) b (record { bytes = []; failed = failed }) []
-tells_kept None b failed k = λ before told h. absurd h
-tells_kept (Some written) None failed k = absurd k
-tells_kept (Some written) (Some now) true k = λ before told h. (h.0, k ∙ h.1, record { rest = []; whole = append-nil told ∙ h.2 })
-tells_kept (Some written) (Some now) false k = λ before told h. (h.0, k ∙ h.1, append-nil told ∙ h.2)
+-- bytes are put behind those that wait
+pub tells_waits : (w v : OutputState) (xs : List ℕ) → v.has_failed ≡ w.has_failed → v.written ≡ w.written → v.failures ≡ w.failures → v.writer ≡ w.writer
+    → v.waiting ≡ w.waiting ++ xs → Tells w v xs
+tells_waits w v xs e same count name more = record {
+  told = λ before told h. subst (λ o. HoldsIn before o v (told ++ xs)) (sym same) (waits before told w.written h);
+  grows = ([], subst (λ o. Appends w.written o []) (sym same) (appends_none w.written));
+  writes = record {
+    counts = ap (λ n. n + one_if w.has_failed) count ∙ ap (λ z. w.failures + one_if z) (sym e);
+    lasting = λ h. e ∙ h;
+    writer = name;
+  };
+}
+  where
+    by_state : (b : Bool) (out told : List ℕ) → IsHeld b w.waiting out told → IsHeld b v.waiting out (told ++ xs)
+    by_state true out told h = front_more out told xs h
+    by_state false out told h = ap (λ z. z ++ xs) h ∙ append_assoc out w.waiting xs ∙ ap (λ z. out ++ z) (sym more)
 
--- the same of a value whose parts are known
-module _ (a b c : Option (List ℕ)) (w v : Waiting) (bs cs xs : List ℕ) (failed : Bool) where
-  pub lost_when : record { bytes = bs; failed = failed } ≡ w → failed ≡ true → Tells a w a (record { bytes = cs; failed = failed }) xs
-  lost_when e f =
-      subst (λ z. Tells a z a (record { bytes = cs; failed = failed }) xs) e
-      (subst (λ q. Tells a (record { bytes = bs; failed = q }) a (record { bytes = cs; failed = q }) xs) (sym f) (tells_lost a bs cs xs))
+    waits : (before told : List ℕ) (o : Option (List ℕ)) → HoldsIn before o w told → HoldsIn before o v (told ++ xs)
+    waits before told None h = absurd h
+    waits before told (Some written) h = (h.0, h.1, subst (λ z. IsHeld z v.waiting h.0 (told ++ xs)) (sym e) (by_state w.has_failed h.0 told h.2))
 
-  pub given_when : (r : Bool) → record { bytes = bs; failed = failed } ≡ w → failed ≡ false → Gives a b bs r → Tells a w b (record { bytes = []; failed = not r }) []
-  given_when r e f g =
-      subst (λ z. Tells a z b (record { bytes = []; failed = not r }) []) e
-      (subst (λ q. Tells a (record { bytes = bs; failed = q }) b (record { bytes = []; failed = not r }) []) (sym f) (by_result r g))
-    where
-      by_result : (s : Bool) → Gives a b bs s → Tells a (record { bytes = bs; failed = false }) b (record { bytes = []; failed = not s }) []
-      by_result true h = tells_given a b bs h
-      by_result false h = tells_broken a b bs [] h.0 h.1 h.2
+-- some bytes are given to the writer: those that wait, or where none wait those that are told
+pub tells_given : (w v : OutputState) (given xs : List ℕ) (r : Bool) → w.has_failed ≡ false → w.waiting ++ xs ≡ given → v.has_failed ≡ not r → v.waiting ≡ []
+    → Gives w.written v.written given r → GivesCounted w.failures v.failures r → v.writer ≡ w.writer → Tells w v xs
+tells_given w v given xs true fine e f none gives count name = record {
+  told = λ before told h. given_in before told w.written v.written gives h;
+  grows = (given, gives);
+  writes = record {
+    counts = ap (λ z. v.failures + one_if z) fine ∙ ap (λ n. n + 0) count ∙ ap (λ z. w.failures + one_if z) (sym f);
+    lasting = λ h. absurd (false_true (sym fine ∙ h));
+    writer = name;
+  };
+}
+  where
+    false_true : false ≡ true → ⊥
+    false_true h = cc
 
-  pub broken_when : (r : Bool) → record { bytes = bs; failed = failed } ≡ v → bs ≡ [] → failed ≡ false → Tells a w b v [] → Gives b c xs r → r ≡ false
-      → Tells a w c (record { bytes = bs; failed = true }) xs
-  broken_when r e none f told g broken =
-      let same : record { bytes = []; failed = false } ≡ v = sym (λ i. record { bytes = none i; failed = f i }) ∙ e in
-      let gives : Gives b c xs false = subst (Gives b c xs) broken g in
-      tells_after a b c w v (record { bytes = bs; failed = true }) xs told
-      (subst (λ z. Tells b z c (record { bytes = bs; failed = true }) xs) same (tells_broken_through b c xs bs gives.0 gives.1 gives.2))
+    given_in : (before told : List ℕ) (a b : Option (List ℕ)) → Appends a b given → HoldsIn before a w told → HoldsIn before b v (told ++ xs)
+    given_in before told None b g h = absurd h
+    given_in before told (Some written) None g h = absurd g
+    given_in before told (Some written) (Some now) g h =
+        let held : told ≡ h.0 ++ w.waiting = subst (λ z. IsHeld z w.waiting h.0 told) fine h.2 in
+        let all : told ++ xs ≡ (h.0 ++ given) ++ v.waiting =
+        ap (λ z. z ++ xs) held ∙ append_assoc h.0 w.waiting xs ∙ ap (λ z. h.0 ++ z) e ∙ sym (append-nil (h.0 ++ given)) ∙ ap (λ z. (h.0 ++ given) ++ z) (sym none) in
+        (h.0 ++ given, g ∙ ap (λ z. z ++ given) h.1 ∙ append_assoc before h.0 given, subst (λ z. IsHeld z v.waiting (h.0 ++ given) (told ++ xs)) (sym f) all)
+tells_given w v given xs false fine e f none gives count name = record {
+  told = λ before told h. given_in before told w.written v.written gives h;
+  grows = (gives.front, gives.appends);
+  writes = record {
+    counts = ap (λ z. v.failures + one_if z) fine ∙ lift (v.failures) (w.failures) count ∙ ap (λ z. w.failures + one_if z) (sym f);
+    lasting = λ h. f;
+    writer = name;
+  };
+}
+  where
+    lift : (m n : ℕ) → m ≡ n + 1 → m + 0 ≡ n + 1
+    lift m n e = omega (arith, e)
 
--- ---- the ends of a session
+    given_in : (before told : List ℕ) (a b : Option (List ℕ)) → AppendsFront a b given → HoldsIn before a w told → HoldsIn before b v (told ++ xs)
+    given_in before told None b g h = absurd h
+    given_in before told (Some written) None g h = absurd g.appends
+    given_in before told (Some written) (Some now) g h =
+        let held : told ≡ h.0 ++ w.waiting = subst (λ z. IsHeld z w.waiting h.0 told) fine h.2 in
+        let all : told ++ xs ≡ h.0 ++ given = ap (λ z. z ++ xs) held ∙ append_assoc h.0 w.waiting xs ∙ ap (λ z. h.0 ++ z) e in
+        let front : IsFront (h.0 ++ g.front) (told ++ xs) = subst (IsFront (h.0 ++ g.front)) (sym all) (front_of h.0 g.front given g.is_front.rest g.is_front.whole) in (
+          h.0 ++ g.front,
+          g.appends ∙ ap (λ z. z ++ g.front) h.1 ∙ append_assoc before h.0 g.front,
+          subst (λ z. IsHeld z v.waiting (h.0 ++ g.front) (told ++ xs)) (sym f) front,
+        )
 
--- at first nothing was told
-pub told_at_first : (a : Option (List ℕ)) (w : Waiting) (before : List ℕ) → a ≡ Some before → w ≡ record { bytes = []; failed = false } → Holds before a w []
-told_at_first a w before e f =
-    subst (λ o. Holds before o w []) (sym e) (subst (λ z. Holds before (Some before) z []) (sym f) ([], sym (append-nil before), refl))
-
--- at last all that was told is written
-pub told_at_last : (b : Option (List ℕ)) (v : Waiting) (before told : List ℕ) → v.bytes ≡ [] → v.failed ≡ false → Holds before b v told → b ≡ Some (before ++ told)
-told_at_last None v before told none fine h = absurd h
-told_at_last (Some written) v before told none fine h =
-    let all : told ≡ h.0 ++ v.bytes = subst (λ z. IsHeld z v.bytes h.0 told) fine h.2 in
-    let same : told ≡ h.0 = all ∙ ap (λ z. h.0 ++ z) none ∙ append-nil h.0 in
-    ap Some (h.1 ∙ ap (λ z. before ++ z) (sym same))
-
--- or the first of it
-pub told_in_part : (b : Option (List ℕ)) (v : Waiting) (before told : List ℕ) → v.failed ≡ true → Holds before b v told
-    → (front : List ℕ) × IsFront front told × (b ≡ Some (before ++ front))
-told_in_part None v before told broken h = absurd h
-told_in_part (Some written) v before told broken h = (h.0, subst (λ z. IsHeld z v.bytes h.0 told) broken h.2, ap Some h.1)
-
-pub unread_at_first : (buffered : List ℕ) (r : Option (List ℕ)) (input : List ℕ) → buffered ≡ [] → r ≡ Some input → unread buffered r ≡ Some input
-unread_at_first buffered r input none e = ap (λ z. unread z r) none ∙ ap (unread []) e
+-- bytes are written at once, behind those that waited; the output's parts are known
+pub through_when : (a : Option (List ℕ)) (bs : List ℕ) (failed : Bool) (n : ℕ) (name : GName) (w v u : OutputState) (xs : List ℕ) (r : Bool)
+    → record { written = a; waiting = bs; has_failed = failed; failures = n; writer = name } ≡ v → Tells w v [] → v.waiting ≡ [] → failed ≡ false → u.has_failed ≡ not r
+    → u.waiting ≡ bs → Gives a u.written xs r → GivesCounted n u.failures r → u.writer ≡ name → Tells w u xs
+through_when a bs failed n name w v u xs r e told none fine f same gives count kept =
+    let parts : OutputState = record { written = a; waiting = bs; has_failed = failed; failures = n; writer = name } in
+    let empty : bs ≡ [] = ap (λ z. z.waiting) e ∙ none in
+    tells_after w parts u xs (subst (λ z. Tells w z []) (sym e) told)
+    (tells_given parts u xs xs r fine (ap (λ z. z ++ xs) empty) f (same ∙ empty) gives count kept)
 
 -- ---- a list, told item by item
 
-module _ {X : Type 0} (f : X → List ℕ) (front : List ℕ) (items : List X) (a : Option (List ℕ)) (w : Waiting) where
-  pub items_none : (b : Option (List ℕ)) (v : Waiting) → Tells a w b v front → Tells a w b v (front ++ flat_map f (take 0 items))
-  items_none b v told = subst (Tells a w b v) (sym (append-nil front)) told
+module _ {X : Type 0} (f : X → List ℕ) (front : List ℕ) (items : List X) (w v : OutputState) where
+  pub items_none : Tells w v front → Tells w v (front ++ flat_map f (take 0 items))
+  items_none told = subst (Tells w v) (sym (append-nil front)) told
 
-  pub items_all : (b : Option (List ℕ)) (v : Waiting) (i : ℕ) → length items ≤ i → Tells a w b v (front ++ flat_map f (take i items)) → Tells a w b v (front ++ flat_map f items)
-  items_all b v i over told = subst (λ z. Tells a w b v (front ++ flat_map f z)) (take_all i items over) told
+  pub items_more : (u : OutputState) (i : ℕ) (d : X) → i < length items → Tells w v (front ++ flat_map f (take i items)) → Tells v u (f (get_or items i d))
+      → Tells w u (front ++ flat_map f (take (i + 1) items))
+  items_more u i d within told more =
+      let last : flat_map f (get_or items i d ∷ []) ≡ f (get_or items i d) = flat_map-cons f (get_or items i d) [] ∙ append-nil (f (get_or items i d)) in
+      let all : flat_map f (take (i + 1) items) ≡ flat_map f (take i items) ++ f (get_or items i d) =
+      ap (flat_map f) (take_more items i d within) ∙ flat_map-append f (take i items) (get_or items i d ∷ []) ∙ ap (λ z. flat_map f (take i items) ++ z) last in
+      subst (Tells w u) (append_assoc front (flat_map f (take i items)) (f (get_or items i d)) ∙ ap (λ z. front ++ z) (sym all))
+      (tells_both w v u (front ++ flat_map f (take i items)) (f (get_or items i d)) told more)
+
+  pub items_all : (i : ℕ) → length items ≤ i → Tells w v (front ++ flat_map f (take i items)) → Tells w v (front ++ flat_map f items)
+  items_all i over told = subst (λ z. Tells w v (front ++ flat_map f z)) (take_all i items over) told

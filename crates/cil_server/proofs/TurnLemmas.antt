@@ -1,7 +1,6 @@
--- Turns of a session, put together.
+-- The replies of requests, as steps of the model host.
 use Rattle.std.specs.Prelude.{Result, Ok, Err, codes, length, map}
-use Rattle.std.proofs.Common.{◌≡◌, ℕ, suc, List, [], ◌++◌, sym, subst}
-use Rattle.std.proofs.lemmas.List.{append_assoc}
+use Rattle.std.proofs.Common.{◌≡◌, ℕ, List, ◌++◌, sym, subst}
 use Rattle.cil_modset.specs.Bundle.{bundle}
 use Rattle.cil_syntax.specs.declared.failure.Failure.{Failure}
 use Rattle.cil_syntax.specs.declared.failure.Failure.TheVariants as failures
@@ -16,23 +15,8 @@ use Rattle.cil_host.specs.Machine.{Queries, State}
 use Rattle.cil_host.specs.Refusal.{Loads as LoadsHost}
 use Rattle.cil_server.specs.Asked.Request.{Asks, Exports, Lists, Loads}
 use Rattle.cil_server.specs.Replies.{newline, no_memory, of_decision, of_export, of_list, of_query_fault, ok, spaced}
-use Rattle.cil_server.specs.Session.{IsNext, Session}
 use Rattle.cil_server.specs.Step.{MayLack, Step}
 use Rattle.cil_server.specs.Turns.{IsAnswered, TellsDecision}
-use Rattle.cil_server.specs.declared.served.Served.{Served}
-
--- whatever follows completes the session
-abbrev pub Extends : ℕ → List ℕ → State → List ℕ → ℕ → List ℕ → State → Type 0
-Extends most bytes start replies left rest h =
-    (more : List ℕ) (new : State) (ending : Served) → Session left rest h more new ending → Session most bytes start (replies ++ more) new ending
-
-pub extends_none : (most : ℕ) (bytes : List ℕ) (h : State) → Extends most bytes h [] most bytes h
-extends_none most bytes h = λ more new ending s. s
-
-pub extends_more : (most left : ℕ) (bytes rest after replies reply : List ℕ) (start h mid : State) → Extends most bytes start replies (suc left) rest h
-    → (request : _) → IsNext rest request after → Step h request reply mid → Extends most bytes start (replies ++ reply) left after mid
-extends_more most left bytes rest after replies reply start h mid f request next step = λ more new ending s.
-    subst (λ z. Session most bytes start z new ending) (sym (append_assoc replies reply more)) (f (reply ++ more) new ending (Session.answered request after mid next step s))
 
 -- ---- replies
 

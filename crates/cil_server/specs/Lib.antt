@@ -1,4 +1,5 @@
 pub mod Asked
+pub mod Devices
 pub mod Given
 pub mod Laws
 pub mod Lines

@@ -42,9 +42,13 @@ refused code = codes "ERR" ++ spaced code ++ newline
 abbrev pub no_memory : List ℕ
 no_memory = refused 0
 
--- a refusal by its number, with a place in a text
+-- a refusal by its number, with a place
+abbrev pub refused_at : ℕ → ℕ → List ℕ
+refused_at code at = codes "ERR" ++ spaced code ++ spaced at ++ newline
+
+-- a refusal with a place in a text
 abbrev pub misread : ReadFault → List ℕ
-misread fault = codes "ERR" ++ spaced (read_number fault.code) ++ spaced fault.at ++ newline
+misread fault = refused_at (read_number fault.code) fault.at
 
 -- ---- by request
 
@@ -98,7 +102,7 @@ abbrev pub of_decision : List (List ℕ) → List (List ℕ) → List (List ℕ)
 of_decision allowed auditallow auditdeny = codes "OK " ++ joined allowed ++ codes " " ++ joined auditallow ++ codes " " ++ joined auditdeny ++ newline
 
 abbrev pub of_query_fault : QueryFault → List ℕ
-of_query_fault query.NoPolicy = codes "ERR 71" ++ newline
-of_query_fault query.BadSource = codes "ERR 72 1" ++ newline
-of_query_fault query.BadTarget = codes "ERR 72 2" ++ newline
-of_query_fault query.NoClass = codes "ERR 73" ++ newline
+of_query_fault query.NoPolicy = refused 71
+of_query_fault query.BadSource = refused_at 72 1
+of_query_fault query.BadTarget = refused_at 72 2
+of_query_fault query.NoClass = refused 73

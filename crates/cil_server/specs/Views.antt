@@ -1,6 +1,8 @@
 -- What the code reads in a line, as the definitions say it.
-use Rattle.std.specs.Prelude.{◌≡◌, ℕ, ◌<◌, ◌≤◌, List, [], ◌∷◌}
-use Rattle.cil_server.specs.Asked.{Line, by_words, longest_body}
+use Rattle.std.specs.Prelude.{◌≡◌, ℕ, suc, ◌<◌, ◌≤◌, List, [], ◌∷◌, length}
+use Rattle.cil_server.specs.Asked.{Line, by_words, longest_body, longest_line}
+use Rattle.cil_server.specs.Streams.{buffer_size}
+use Rattle.cil_server.specs.declared.session.Buffers.{Buffers}
 use Rattle.cil_server.specs.Asked.Line.{Export, List_, Load, Quit, Ask, Install, Import, TooBig, Unknown}
 use Rattle.cil_server.specs.declared.line.Line.{Line as Read}
 use Rattle.cil_server.specs.declared.line.Line.TheVariants as read
@@ -29,3 +31,9 @@ IsWords ws words.Other = by_words ws ≡ Unknown
 pub record IsCapped (value capped : ℕ) : Type 0 where
   pub small : value ≤ longest_body → capped ≡ value
   pub great : longest_body < value → longest_body < capped
+
+-- the memory of a session
+pub record HasSizes (b : Buffers) : Type 0 where
+  pub input : length b.input.items ≡ buffer_size
+  pub line : length b.line.items ≡ suc longest_line
+  pub output : b.output.items ≡ []

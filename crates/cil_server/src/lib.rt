@@ -1,10 +1,11 @@
 //! Requests from a stream of bytes, answered by a host.
 //!
-//! Start at `serve` in `session.rt`. What it promises stands in `specs/Session.antt`: how a stream is cut into requests, and
-//! what the model host of `specs/Step.antt` replies to each. `laws.rt` says of the grammar of lines, `specs/Lines.antt`, that a line
-//! asks for what it is spelled as.
+//! Start at `serve` in `session.rt`. What it promises is in `specs/Session.antt`: how a stream is cut into requests, what the model host
+//! of `specs/Step.antt` replies to each, how a session ends, and what a reader or a writer that fails leaves. `devices.rt` has what
+//! a session reads from and writes to. `laws.rt` says of the grammar of lines, `specs/Lines.antt`, that a line asks for what it is spelled as.
 #![tactic(auto)]
 
+mod devices;
 mod input;
 pub mod laws;
 mod line;
@@ -13,6 +14,9 @@ mod replies;
 mod requests;
 mod served;
 mod session;
+mod streams;
+mod turn;
 
+pub use devices::{Counted, Sink, Source};
 pub use served::Served;
 pub use session::serve;

@@ -1,107 +1,128 @@
 //! Bytes to a writer, given by the buffer.
 
-ghost use Rattle.std.specs.Prelude.{◌≡◌, ◌<◌, ◌≤◌, ℕ, List, [], ◌++◌, length, IfOk, false};
-ghost use Rattle.std.specs.Io.KnownBytes.{Appends};
-ghost use Rattle.cil_server.specs.Streams.{Tells, Waiting};
-ghost use Rattle.cil_server.specs.Given.{Gives};
+ghost use Rattle.std.specs.Prelude.{◌≡◌, ◌<◌, ◌≤◌, [], false, length, IfOk};
+ghost use Rattle.cil_server.specs.Devices.{most_failures};
+ghost use Rattle.cil_server.specs.Streams.{Tells, buffer_size};
+ghost use Rattle.cil_server.specs.Given.{Gives, GivesCounted};
 
+use crate::devices::Sink;
 use cil_modset::NoMemory;
 use std::alloc::Global;
-use std::io::Write;
 use std::marker::Model;
 
 /// How many bytes wait at most.
 const CHUNK: usize = 65_536;
 
-/// The bytes that wait to be written. Once the writer has failed, nothing more is written. Contracts see the bytes, and whether the writer has failed.
+/// The bytes that wait to be written. Once the writer has failed, nothing more is written. Contracts see these bytes, those that are
+/// written, and whether the writer has failed.
 #[derive(Drop)]
-pub(crate) struct Output {
+pub(crate) struct Output<'a, W: Sink> {
+    writer: &'a mut W,
     bytes: Vec<u8>,
     failed: bool,
 }
 
-impl Model for Output {
-    ghost use Rattle.cil_server.specs.Streams.{Waiting};
+impl<'a, W: Sink> Model for Output<'a, W> {
+    ghost use Rattle.std.specs.Prelude.{◌≡◌, ◌<◌, ◌≤◌, length, false};
+    ghost use Rattle.cil_server.specs.Devices.{most_failures};
+    ghost use Rattle.cil_server.specs.Streams.{OutputState, buffer_size};
 
-    ghost Value = { Waiting };
+    ghost Value = { OutputState };
 
-    ghost view = { λ a. record { bytes = a.bytes.items; failed = a.failed } };
+    ghost view = { λ a. record { written = W.contents a.writer.now; waiting = a.bytes.items; has_failed = a.failed; failures = W.failed a.writer.now; writer = a.writer.ghost_name } };
+
+    ghost invariant = { λ a. (length a.bytes.items ≤ buffer_size) × (a.failed ≡ false → W.failed a.writer.now < most_failures) };
 }
 
-impl Output {
-    pub(crate) fn new(alloc: Global) -> Result<Output, NoMemory>
-        ensures { IfOk result (λ output. output ≡ record { bytes = []; failed = false }) }
+/// Room for the bytes that wait.
+pub(crate) fn new_chunk(alloc: Global) -> Result<Vec<u8>, NoMemory>
+    ensures { IfOk result (λ chunk. chunk.items ≡ []) }
+{
+    Ok(Vec::with_capacity(alloc, CHUNK)?)
+}
+
+impl<'a, W: Sink> Output<'a, W> {
+    pub(crate) fn new(writer: &'a mut W, chunk: Vec<u8>) -> Output<'a, W>
+        requires empty { chunk.items ≡ [] }
+        requires sound { W.failed writer.old < most_failures }
+        ensures written { result.written ≡ W.contents writer.old }
+        ensures waiting { result.waiting ≡ [] }
+        ensures sound { result.has_failed ≡ false }
+        ensures failures { result.failures ≡ W.failed writer.old }
+        ensures writer { result.writer ≡ writer.entry.ghost_name }
     {
-        Ok(Output {
-            bytes: Vec::with_capacity(alloc, CHUNK)?,
+        Output {
+            writer,
+            bytes: chunk,
             failed: false,
-        })
+        }
     }
 
-    /// Whether a write or a flush has failed: what is told from then on is lost.
+    /// Gives the writer back. The bytes that wait are lost.
+    pub(crate) fn into_writer(self) -> &'a mut W
+        ensures writer { result.ghost_name ≡ self.entry.writer }
+        ensures written { W.contents result.now ≡ self.entry.written }
+        ensures failures { W.failed result.now ≡ self.entry.failures }
+    {
+        self.writer
+    }
+
+    /// Whether a call of the writer has failed. From then on all replies are lost.
     pub(crate) fn has_failed(&self) -> bool
-        ensures { result ≡ self.now.failed }
+        ensures failed { result ≡ self.now.has_failed }
+        ensures few { length self.now.waiting ≤ buffer_size }
     {
         self.failed
     }
 
     /// Tells some bytes. It takes no memory beside that of the buffer: what does not fit is written at once.
-    pub(crate) fn put<W: Write>(&mut self, writer: &mut W, bytes: &[u8])
-        ensures { Tells (W.contents writer.old) self.old (W.contents writer.new) self.new bytes.now }
+    pub(crate) fn put(&mut self, bytes: &[u8])
+        ensures { Tells self.old self.new bytes.now }
     {
         if bytes.len() > CHUNK.saturating_sub(self.bytes.len()) {
-            self.write_through(writer, bytes);
+            self.write_through(bytes);
         } else if self.bytes.extend_from_slice(bytes).is_err() {
-            self.write_through(writer, bytes);
+            self.write_through(bytes);
         }
     }
 
-    fn write_through<W: Write>(&mut self, writer: &mut W, bytes: &[u8])
-        ensures { Tells (W.contents writer.old) self.old (W.contents writer.new) self.new bytes.now }
+    fn write_through(&mut self, bytes: &[u8])
+        ensures { Tells self.old self.new bytes.now }
     {
-        self.give(writer);
+        self.flush();
         if self.failed {
             return;
         }
-        if !write_all(writer, bytes) {
+        if !write_all(self.writer, bytes) {
             self.failed = true;
         }
     }
 
     /// Writes all that waits.
-    pub(crate) fn flush<W: Write>(&mut self, writer: &mut W)
-        ensures told { Tells (W.contents writer.old) self.old (W.contents writer.new) self.new [] }
-        ensures none { self.new.bytes ≡ [] }
-    {
-        self.give(writer);
-        if self.failed {
-            return;
-        }
-        if writer.flush().is_err() {
-            self.failed = true;
-        }
-    }
-
-    fn give<W: Write>(&mut self, writer: &mut W)
-        ensures told { Tells (W.contents writer.old) self.old (W.contents writer.new) self.new [] }
-        ensures none { self.new.bytes ≡ [] }
+    pub(crate) fn flush(&mut self)
+        ensures told { Tells self.old self.new [] }
+        ensures none { self.new.waiting ≡ [] }
+        ensures idle { self.old.waiting ≡ [] → self.new ≡ self.old }
     {
         if self.failed {
             self.bytes.clear();
             return;
         }
-        self.failed = !write_all(writer, self.bytes.as_slice());
+        self.failed = !write_all(self.writer, self.bytes.as_slice());
         self.bytes.clear();
     }
 }
 
 /// Writes all of some bytes, and answers whether it did. An interrupted call is a failed one.
-fn write_all<W: Write>(writer: &mut W, bytes: &[u8]) -> bool
-    ensures { Gives (W.contents writer.old) (W.contents writer.new) bytes.now result }
+fn write_all<W: Sink>(writer: &mut W, bytes: &[u8]) -> bool
+    requires { W.failed writer.old < most_failures }
+    ensures gives { Gives (W.contents writer.old) (W.contents writer.new) bytes.now result }
+    ensures counts { GivesCounted (W.failed writer.old) (W.failed writer.new) result }
+    ensures idle { length bytes.now ≡ 0 → writer.new ≡ writer.old }
 {
     let mut written = 0;
     while written < bytes.len() {
-        match writer.write(&bytes[written..]) {
+        match writer.push(&bytes[written..]) {
             Ok(0) => return false,
             Ok(count) => written += count,
             Err(_) => return false,

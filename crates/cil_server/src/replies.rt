@@ -1,210 +1,200 @@
 //! The replies, told piece by piece, so that none of them takes memory.
 
 ghost use Rattle.std.specs.Prelude.{◌<◌, ◌++◌, ℕ, List, MatchOption, codes};
-ghost use Rattle.cil_server.specs.Replies.{misread, newline, of_bundle_fault, of_export, of_import, of_install, of_line, of_list, of_query_fault, ok_number, refused, spaced};
+ghost use Rattle.hex.specs.Hex.{encode_lower};
+ghost use Rattle.cil_server.specs.Replies.{newline, of_bundle_fault, of_export, of_import, of_install, of_line, of_list, of_query_fault, ok_number, refused, refused_at, spaced};
 ghost use Rattle.cil_server.specs.Step.{IsNamed};
 ghost use Rattle.cil_server.specs.Streams.{Tells};
-ghost use Rattle.cil_server.specs.Turns.{IsPlaced, TellsBit, TellsDecision, TellsNames};
+ghost use Rattle.cil_server.specs.Turns.{IsPlaced, TellsDecision, TellsName, TellsNames};
 
+use crate::devices::Sink;
 use crate::output::Output;
 use cil_decide::Decision;
 use cil_host::{Host, ListLine, QueryFault};
 use cil_modset::{BundleError, BundleFault, Installed};
-use cil_sexpr::{ReadError, ReadFault};
+use cil_sexpr::ReadError;
 use itoa::Buffer;
-use std::io::Write;
 
 /// A number behind a space.
-fn put_number<W: Write>(output: &mut Output, writer: &mut W, number: u64)
-    ensures { Tells (W.contents writer.old) output.old (W.contents writer.new) output.new (spaced number) }
+fn put_number<W: Sink>(output: &mut Output<'_, W>, number: u64)
+    ensures { Tells output.old output.new (spaced number) }
 {
-    output.put(writer, b" ");
+    output.put(b" ");
     let mut buffer = Buffer::new();
-    output.put(writer, buffer.format(number).as_bytes());
+    output.put(buffer.format(number).as_bytes());
 }
 
-pub(crate) fn put_ok_number<W: Write>(output: &mut Output, writer: &mut W, number: u64)
-    ensures { Tells (W.contents writer.old) output.old (W.contents writer.new) output.new (ok_number number) }
+pub(crate) fn put_ok_number<W: Sink>(output: &mut Output<'_, W>, number: u64)
+    ensures { Tells output.old output.new (ok_number number) }
 {
-    output.put(writer, b"OK");
-    put_number(output, writer, number);
-    output.put(writer, b"\n");
+    output.put(b"OK");
+    put_number(output, number);
+    output.put(b"\n");
 }
 
 /// A refusal by its number.
-pub(crate) fn put_refused<W: Write>(output: &mut Output, writer: &mut W, code: u32)
-    ensures { Tells (W.contents writer.old) output.old (W.contents writer.new) output.new (refused code) }
+pub(crate) fn put_refused<W: Sink>(output: &mut Output<'_, W>, code: u32)
+    ensures { Tells output.old output.new (refused code) }
 {
-    output.put(writer, b"ERR");
-    put_number(output, writer, code as u64);
-    output.put(writer, b"\n");
+    output.put(b"ERR");
+    put_number(output, code as u64);
+    output.put(b"\n");
 }
 
-fn put_misread<W: Write>(output: &mut Output, writer: &mut W, fault: ReadFault)
-    ensures { Tells (W.contents writer.old) output.old (W.contents writer.new) output.new (misread fault) }
+/// A refusal by its number, with a place.
+fn put_refused_at<W: Sink>(output: &mut Output<'_, W>, code: u32, at: u64)
+    ensures { Tells output.old output.new (refused_at code at) }
 {
-    output.put(writer, b"ERR");
-    put_number(output, writer, fault.code.number() as u64);
-    put_number(output, writer, fault.at);
-    output.put(writer, b"\n");
+    output.put(b"ERR");
+    put_number(output, code as u64);
+    put_number(output, at);
+    output.put(b"\n");
 }
 
-pub(crate) fn put_installed<W: Write>(
-    output: &mut Output,
-    writer: &mut W,
+pub(crate) fn put_installed<W: Sink>(
+    output: &mut Output<'_, W>,
     installed: Result<Installed, ReadError>,
 )
-    ensures { Tells (W.contents writer.old) output.old (W.contents writer.new) output.new (of_install installed) }
+    ensures { Tells output.old output.new (of_install installed) }
 {
     match installed {
-        Ok(Installed::New) => output.put(writer, b"OK new\n"),
-        Ok(Installed::Known) => output.put(writer, b"OK known\n"),
-        Err(ReadError::Fault(fault)) => put_misread(output, writer, fault),
-        Err(ReadError::NoMemory) => put_refused(output, writer, 0),
+        Ok(Installed::New) => output.put(b"OK new\n"),
+        Ok(Installed::Known) => output.put(b"OK known\n"),
+        Err(ReadError::Fault(fault)) => put_refused_at(output, fault.code.number(), fault.at),
+        Err(ReadError::NoMemory) => put_refused(output, 0),
     }
 }
 
-fn put_bundle_fault<W: Write>(output: &mut Output, writer: &mut W, fault: BundleFault)
-    ensures { Tells (W.contents writer.old) output.old (W.contents writer.new) output.new (of_bundle_fault fault) }
+fn put_bundle_fault<W: Sink>(output: &mut Output<'_, W>, fault: BundleFault)
+    ensures { Tells output.old output.new (of_bundle_fault fault) }
 {
     match fault {
         BundleFault::BadModule { index, fault } => {
-            output.put(writer, b"ERR");
-            put_number(output, writer, 14);
-            put_number(output, writer, index);
-            put_number(output, writer, fault.code.number() as u64);
-            put_number(output, writer, fault.at);
-            output.put(writer, b"\n");
+            output.put(b"ERR");
+            put_number(output, 14);
+            put_number(output, index);
+            put_number(output, fault.code.number() as u64);
+            put_number(output, fault.at);
+            output.put(b"\n");
         }
-        BundleFault::BadMagic => put_refused(output, writer, fault.number()),
-        BundleFault::Short => put_refused(output, writer, fault.number()),
-        BundleFault::NotRising => put_refused(output, writer, fault.number()),
-        BundleFault::Trailing => put_refused(output, writer, fault.number()),
+        BundleFault::BadMagic => put_refused(output, fault.number()),
+        BundleFault::Short => put_refused(output, fault.number()),
+        BundleFault::NotRising => put_refused(output, fault.number()),
+        BundleFault::Trailing => put_refused(output, fault.number()),
     }
 }
 
-pub(crate) fn put_imported<W: Write>(
-    output: &mut Output,
-    writer: &mut W,
-    imported: Result<u64, BundleError>,
-)
-    ensures { Tells (W.contents writer.old) output.old (W.contents writer.new) output.new (of_import imported) }
+pub(crate) fn put_imported<W: Sink>(output: &mut Output<'_, W>, imported: Result<u64, BundleError>)
+    ensures { Tells output.old output.new (of_import imported) }
 {
     match imported {
-        Ok(added) => put_ok_number(output, writer, added),
-        Err(BundleError::Fault(fault)) => put_bundle_fault(output, writer, fault),
-        Err(BundleError::NoMemory) => put_refused(output, writer, 0),
+        Ok(added) => put_ok_number(output, added),
+        Err(BundleError::Fault(fault)) => put_bundle_fault(output, fault),
+        Err(BundleError::NoMemory) => put_refused(output, 0),
     }
 }
 
-pub(crate) fn put_bundle<W: Write>(output: &mut Output, writer: &mut W, bytes: &[u8])
-    ensures { Tells (W.contents writer.old) output.old (W.contents writer.new) output.new (of_export bytes.now) }
+pub(crate) fn put_bundle<W: Sink>(output: &mut Output<'_, W>, bytes: &[u8])
+    ensures { Tells output.old output.new (of_export bytes.now) }
 {
-    put_ok_number(output, writer, bytes.len() as u64);
-    output.put(writer, bytes);
+    put_ok_number(output, bytes.len() as u64);
+    output.put(bytes);
 }
 
-pub(crate) fn put_lines<W: Write>(output: &mut Output, writer: &mut W, lines: &[ListLine])
-    ensures { Tells (W.contents writer.old) output.old (W.contents writer.new) output.new (of_list lines.now) }
+pub(crate) fn put_lines<W: Sink>(output: &mut Output<'_, W>, lines: &[ListLine])
+    ensures { Tells output.old output.new (of_list lines.now) }
 {
-    put_ok_number(output, writer, lines.len() as u64);
+    put_ok_number(output, lines.len() as u64);
     for line in lines {
-        put_line(output, writer, line);
+        put_line(output, line);
     }
 }
 
-fn put_line<W: Write>(output: &mut Output, writer: &mut W, line: &ListLine)
-    ensures { Tells (W.contents writer.old) output.old (W.contents writer.new) output.new (of_line line.now) }
+fn put_line<W: Sink>(output: &mut Output<'_, W>, line: &ListLine)
+    ensures { Tells output.old output.new (of_line line.now) }
+{
+    put_digest(output, line.digest);
+    put_number(output, line.length);
+    output.put(b"\n");
+}
+
+/// A digest in hexadecimal.
+fn put_digest<W: Sink>(output: &mut Output<'_, W>, digest: [u8; 32])
+    ensures { Tells output.old output.new (encode_lower digest) }
 {
     let mut digits = [0u8; 64];
-    if hex::encode_to_slice(line.digest.as_slice(), &mut digits).is_ok() {
-        output.put(writer, &digits);
+    if hex::encode_to_slice(digest.as_slice(), &mut digits).is_err() {
+        return;
     }
-    put_number(output, writer, line.length);
-    output.put(writer, b"\n");
+    output.put(&digits);
 }
 
 /// The lines of some faults, and how many there are.
-pub(crate) fn put_faults<W: Write>(output: &mut Output, writer: &mut W, count: usize, lines: &[u8])
-    ensures { Tells (W.contents writer.old) output.old (W.contents writer.new) output.new (codes "FAULTS" ++ spaced count ++ newline ++ lines.now) }
+pub(crate) fn put_faults<W: Sink>(output: &mut Output<'_, W>, count: usize, lines: &[u8])
+    ensures { Tells output.old output.new (codes "FAULTS" ++ spaced count ++ newline ++ lines.now) }
 {
-    output.put(writer, b"FAULTS");
-    put_number(output, writer, count as u64);
-    output.put(writer, b"\n");
-    output.put(writer, lines);
+    output.put(b"FAULTS");
+    put_number(output, count as u64);
+    output.put(b"\n");
+    output.put(lines);
 }
 
-pub(crate) fn put_query_fault<W: Write>(output: &mut Output, writer: &mut W, fault: QueryFault)
-    ensures { Tells (W.contents writer.old) output.old (W.contents writer.new) output.new (of_query_fault fault) }
+pub(crate) fn put_query_fault<W: Sink>(output: &mut Output<'_, W>, fault: QueryFault)
+    ensures { Tells output.old output.new (of_query_fault fault) }
 {
     match fault {
-        QueryFault::NoPolicy => output.put(writer, b"ERR 71\n"),
-        QueryFault::BadSource => output.put(writer, b"ERR 72 1\n"),
-        QueryFault::BadTarget => output.put(writer, b"ERR 72 2\n"),
-        QueryFault::NoClass => output.put(writer, b"ERR 73\n"),
+        QueryFault::BadSource => put_refused_at(output, fault.number(), 1),
+        QueryFault::BadTarget => put_refused_at(output, fault.number(), 2),
+        QueryFault::NoPolicy => put_refused(output, fault.number()),
+        QueryFault::NoClass => put_refused(output, fault.number()),
     }
 }
 
 /// A decision on a class, by the names of its permissions.
-pub(crate) fn put_decision<S: Drop, W: Write>(
-    output: &mut Output,
-    writer: &mut W,
+pub(crate) fn put_decision<S: Drop, W: Sink>(
+    output: &mut Output<'_, W>,
     host: &Host<S>,
     class: &[u8],
     decision: Decision,
 )
-    ensures { TellsDecision host.now class.now decision (Tells (W.contents writer.old) output.old (W.contents writer.new) output.new) }
+    ensures { TellsDecision host.now class.now decision (Tells output.old output.new) }
 {
-    output.put(writer, b"OK ");
-    put_names(output, writer, host, class, decision.allowed);
-    output.put(writer, b" ");
-    put_names(output, writer, host, class, decision.auditallow);
-    output.put(writer, b" ");
-    put_names(output, writer, host, class, decision.auditdeny);
-    output.put(writer, b"\n");
+    output.put(b"OK ");
+    put_names(output, host, class, decision.allowed);
+    output.put(b" ");
+    put_names(output, host, class, decision.auditallow);
+    output.put(b" ");
+    put_names(output, host, class, decision.auditdeny);
+    output.put(b"\n");
 }
 
 /// The names of the permissions of a mask, with commas between; a hyphen where there is none.
-fn put_names<S: Drop, W: Write>(
-    output: &mut Output,
-    writer: &mut W,
-    host: &Host<S>,
-    class: &[u8],
-    mask: u32,
-)
-    ensures { TellsNames host.now class.now mask (Tells (W.contents writer.old) output.old (W.contents writer.new) output.new) }
+fn put_names<S: Drop, W: Sink>(output: &mut Output<'_, W>, host: &Host<S>, class: &[u8], mask: u32)
+    ensures { TellsNames host.now class.now mask (Tells output.old output.new) }
 {
     let mut is_first = true;
     for bit in 0..u32::BITS {
-        is_first = put_bit(output, writer, host, class, mask, bit, is_first);
+        let name = named(host, class, mask, bit);
+        is_first = put_name(output, is_first, name);
     }
     if is_first {
-        output.put(writer, b"-");
+        output.put(b"-");
     }
 }
 
-/// The name of one bit, with a comma before it unless it is the first. Answers whether the next one is the first.
-fn put_bit<S: Drop, W: Write>(
-    output: &mut Output,
-    writer: &mut W,
-    host: &Host<S>,
-    class: &[u8],
-    mask: u32,
-    bit: u32,
-    is_first: bool,
-) -> bool
-    requires { bit < 32 }
-    ensures { TellsBit host.now class.now mask bit is_first (Tells (W.contents writer.old) output.old (W.contents writer.new) output.new) result }
+/// A name that there may be, with a comma before it unless it is the first. Answers whether the next one is the first.
+fn put_name<W: Sink>(output: &mut Output<'_, W>, is_first: bool, name: Option<&[u8]>) -> bool
+    ensures { TellsName is_first (Tells output.old output.new) name.entry result }
 {
-    match named(host, class, mask, bit) {
+    match name {
         None => is_first,
         Some(name) => {
             if is_first {
-                output.put(writer, name);
+                output.put(name);
                 return false;
             }
-            output.put(writer, b",");
-            output.put(writer, name);
+            output.put(b",");
+            output.put(name);
             false
         }
     }

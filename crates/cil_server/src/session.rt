@@ -1,28 +1,25 @@
 //! A session: requests from a reader, replies to a writer.
 
-ghost use Rattle.std.specs.Prelude.{◌≡◌, ◌≤◌, ℕ, List, [], length, suc, IfErr, IfOk, OnOk, Some, false};
-ghost use Rattle.std.specs.Io.KnownBytes.{Consumes};
-ghost use Rattle.cil_host.specs.Machine.{State};
+ghost use Rattle.std.specs.Prelude.{◌≡◌, ◌<◌, ◌≤◌, ◌+◌, ℕ, List, length, suc, IfOk, Some, false};
 ghost use Rattle.cil_server.specs.Asked.{longest_line};
-ghost use Rattle.cil_server.specs.Asked.{Line as said};
-ghost use Rattle.cil_server.specs.Session.{Serves};
-ghost use Rattle.cil_server.specs.Streams.{Tells, unread};
-ghost use Rattle.cil_server.specs.Replies.{refused};
-ghost use Rattle.cil_server.specs.Turns.{Announces, AnswersLine, Runs, Turns};
+ghost use Rattle.cil_server.specs.Devices.{most_failures};
+ghost use Rattle.cil_server.specs.Session.{Serves, reader_failures, writer_failures};
+ghost use Rattle.cil_server.specs.Streams.{Tells, buffer_size, unread};
+ghost use Rattle.cil_server.specs.Turns.{Goes, IsEndedAt, IsFinishedRun, IsRun, IsTurnedAt, Turns, turn_losses};
 ghost use Rattle.cil_server.specs.declared.served.Served.{Served};
-ghost use Rattle.cil_server.specs.declared.session.Turn.{Turn};
-ghost use Rattle.cil_server.specs.Views.{line_of};
+ghost use Rattle.cil_server.specs.Views.{HasSizes};
 
-use crate::input::{Body, Input, LineTaken};
-use crate::line::{Line, Query, read_line};
-use crate::output::Output;
+use crate::devices::{Sink, Source};
+use crate::input::{self, Input};
+use crate::line::read_line;
+use crate::output::{self, Output};
 use crate::replies::put_refused;
-use crate::requests::{ask, export, import, install, list, load};
 use crate::served::Served;
+use crate::streams::{LineTaken, Streams};
+use crate::turn::Turn;
 use cil_host::Host;
 use cil_modset::NoMemory;
 use std::alloc::Global;
-use std::io::{Read, Write};
 
 /// How many requests a session may have.
 const MOST_REQUESTS: u32 = 1_000_000;
@@ -30,198 +27,172 @@ const MOST_REQUESTS: u32 = 1_000_000;
 /// How many bytes a line may have, without its newline.
 const LONGEST_LINE: usize = 4096;
 
-/// What a session holds beside its host: all taken before the first byte is read.
+/// The memory of a session, all taken before the first byte is read.
 #[derive(Drop)]
 struct Buffers {
-    input: Input,
+    input: Vec<u8>,
     /// One byte more than a line may have.
     line: Vec<u8>,
-    output: Output,
+    output: Vec<u8>,
 }
 
-/// Whether a session goes on.
-#[derive(Clone, Copy)]
-enum Turn {
-    Next,
-    Ended(Served),
+/// A session without its host.
+#[derive(Drop)]
+struct Session<'r, 'w, R: Source, W: Sink> {
+    streams: Streams<'r, 'w, R, W>,
+    line: Vec<u8>,
 }
 
-/// Reads requests from a reader and writes the reply to each, until one of them or the end of the input ends the session. It runs at most
-/// 1,000,000 requests. The host is left as those requests leave it.
+/// Reads requests from a reader and writes the reply to each, until a request, the end of the input or a failed call ends the
+/// session. It runs at most 1,000,000 requests. The host is left as those requests leave it.
 ///
-/// Answers how the session ended: `Fault(0)` where there is no memory for its buffers, and then nothing was read or written.
-pub fn serve<S: Drop, R: Read, W: Write>(
+/// After the first call of the reader or the writer that fails, neither is called again and no request is started. The reader is
+/// asked for more bytes only when all replies so far are written and the buffer holds no whole request, so the other side may wait
+/// for each reply before it sends more. At most 65,536 bytes are read beyond the last request.
+///
+/// Returns how the session ended: `Fault(0)` if there is no memory for its buffers, and then nothing was read or written.
+pub fn serve<S: Drop, R: Source, W: Sink>(
     alloc: Global,
     host: &mut Host<S>,
     reader: &mut R,
     writer: &mut W,
 ) -> Served
-    ensures { (input before : List ℕ) → R.remaining reader.old ≡ Some input → W.contents writer.old ≡ Some before
-        → Serves input before (R.remaining reader.new) host.old host.new (W.contents writer.new) result }
+    requires reader { R.failed reader.old < most_failures }
+    requires writer { W.failed writer.old < most_failures }
+    // Exactly one call failed if the result names the reader or the writer, and none otherwise.
+    ensures reader_failed { R.failed reader.new ≡ R.failed reader.old + reader_failures result }
+    ensures writer_failed { W.failed writer.new ≡ W.failed writer.old + writer_failures result }
+    ensures untouched { result ≡ Served.Fault 0 → (host.new ≡ host.old) × (reader.new ≡ reader.old) × (writer.new ≡ writer.old) }
+    ensures serves { (input before : List ℕ) → R.rest reader.old ≡ Some input → W.contents writer.old ≡ Some before
+        → Serves input before (R.rest reader.new) host.old host.new (W.contents writer.new) result }
 {
     match new_buffers(alloc) {
-        Ok(mut buffers) => {
-            let served = session(alloc, host, reader, writer, &mut buffers);
-            buffers.output.flush(writer);
-            if buffers.output.has_failed() {
-                Served::WriteFailed
-            } else {
-                served
-            }
-        }
+        Ok(buffers) => serve_with(alloc, host, reader, writer, buffers),
         Err(NoMemory) => Served::Fault(0),
     }
 }
 
+/// Serves a session with the memory for it.
+fn serve_with<S: Drop, R: Source, W: Sink>(
+    alloc: Global,
+    host: &mut Host<S>,
+    reader: &mut R,
+    writer: &mut W,
+    buffers: Buffers,
+) -> Served
+    requires reader { R.failed reader.old < most_failures }
+    requires writer { W.failed writer.old < most_failures }
+    requires sizes { HasSizes buffers }
+    ensures reader_failed { R.failed reader.new ≡ R.failed reader.old + reader_failures result }
+    ensures writer_failed { W.failed writer.new ≡ W.failed writer.old + writer_failures result }
+    ensures some_fault { result ≡ Served.Fault 0 → ⊥ }
+    ensures serves { (input before : List ℕ) → R.rest reader.old ≡ Some input → W.contents writer.old ≡ Some before
+        → Serves input before (R.rest reader.new) host.old host.new (W.contents writer.new) result }
+{
+    let mut session = Session {
+        streams: Streams {
+            input: Input::new(reader, buffers.input),
+            output: Output::new(writer, buffers.output),
+        },
+        line: buffers.line,
+    };
+    let served = session.finish(alloc, host);
+    let (reader, writer) = session.into_devices();
+    // No effect at run time. The proof reads here what the session left of both.
+    let _ = &*reader;
+    let _ = &*writer;
+    served
+}
+
 fn new_buffers(alloc: Global) -> Result<Buffers, NoMemory>
-    ensures input { IfOk result (λ b. b.input ≡ []) }
-    ensures line { IfOk result (λ b. length b.line.items ≡ suc longest_line) }
-    ensures output { IfOk result (λ b. b.output ≡ record { bytes = []; failed = false }) }
+    ensures { IfOk result HasSizes }
 {
     Ok(Buffers {
-        input: Input::new(alloc)?,
+        input: input::new_chunk(alloc)?,
         line: vec![in alloc; 0; LONGEST_LINE + 1]?,
-        output: Output::new(alloc)?,
+        output: output::new_chunk(alloc)?,
     })
 }
 
-/// All requests of a session.
-fn session<S: Drop, R: Read, W: Write>(
-    alloc: Global,
-    host: &mut Host<S>,
-    reader: &mut R,
-    writer: &mut W,
-    buffers: &mut Buffers,
-) -> Served
-    requires { length buffers.old.line.items ≡ suc longest_line }
-    ensures { Runs (unread buffers.old.input (R.remaining reader.old)) host.old host.new
-        (Tells (W.contents writer.old) buffers.old.output (W.contents writer.new) buffers.new.output) result }
-{
-    for _count in 0..MOST_REQUESTS {
-        match next_turn(alloc, host, reader, writer, buffers) {
-            Turn::Next => {}
-            Turn::Ended(served) => return served,
+impl<'r, 'w, R: Source, W: Sink> Session<'r, 'w, R, W> {
+    /// Gives the reader and the writer back, without what is in the buffers.
+    fn into_devices(self) -> (&'r mut R, &'w mut W)
+        ensures few { length self.entry.streams.input.buffered ≤ buffer_size }
+        ensures reader { result.0.ghost_name ≡ self.entry.streams.input.reader }
+        ensures left { R.rest result.0.now ≡ self.entry.streams.input.left }
+        ensures reader_failed { R.failed result.0.now ≡ self.entry.streams.input.failures }
+        ensures writer { result.1.ghost_name ≡ self.entry.streams.output.writer }
+        ensures written { W.contents result.1.now ≡ self.entry.streams.output.written }
+        ensures writer_failed { W.failed result.1.now ≡ self.entry.streams.output.failures }
+    {
+        let Streams { input, output } = self.streams;
+        (input.into_reader(), output.into_writer())
+    }
+
+    /// Runs all requests of the session, and writes the replies that still wait.
+    fn finish<S: Drop>(&mut self, alloc: Global, host: &mut Host<S>) -> Served
+        requires room { length self.old.line.items ≡ suc longest_line }
+        requires reader { self.old.streams.input.failures < most_failures }
+        requires writer { self.old.streams.output.has_failed ≡ false }
+        ensures reader { self.new.streams.input.reader ≡ self.old.streams.input.reader }
+        ensures writer { self.new.streams.output.writer ≡ self.old.streams.output.writer }
+        ensures reader_failed { self.new.streams.input.failures ≡ self.old.streams.input.failures + reader_failures result }
+        ensures writer_failed { self.new.streams.output.failures ≡ self.old.streams.output.failures + writer_failures result }
+        ensures some_fault { result ≡ Served.Fault 0 → ⊥ }
+        ensures serves { IsFinishedRun self.old.streams.input self.old.streams.output host.old self.new.streams.input self.new.streams.output host.new result }
+    {
+        let served = self.run(alloc, host);
+        let output = &mut self.streams.output;
+        output.flush();
+        if output.has_failed() {
+            return Served::WriteFailed;
+        }
+        served
+    }
+
+    /// Runs all requests of the session.
+    fn run<S: Drop>(&mut self, alloc: Global, host: &mut Host<S>) -> Served
+        requires room { length self.old.line.items ≡ suc longest_line }
+        requires reader { self.old.streams.input.failures < most_failures }
+        requires writer { self.old.streams.output.has_failed ≡ false }
+        ensures runs { (bytes : List ℕ) → unread self.old.streams.input ≡ Some bytes → length self.old.streams.output.waiting ≤ buffer_size → IsRun bytes self.new.streams.input host.old host.new
+            self.old.streams.output self.new.streams.output result }
+        ensures goes { Goes self.old.streams.input self.old.streams.output self.new.streams.input self.new.streams.output (reader_failures result) }
+        ensures at { IsEndedAt result self.new.streams.input self.new.streams.output }
+    {
+        for _count in 0..MOST_REQUESTS {
+            match self.next_turn(alloc, host) {
+                Turn::Next => {}
+                Turn::Ended(served) => return served,
+            }
+            if self.streams.output.has_failed() {
+                return Served::WriteFailed;
+            }
+        }
+        put_refused(&mut self.streams.output, 85);
+        Served::Fault(85)
+    }
+
+    /// Reads the next line and answers it.
+    fn next_turn<S: Drop>(&mut self, alloc: Global, host: &mut Host<S>) -> Turn
+        requires room { length self.old.line.items ≡ suc longest_line }
+        requires reader { self.old.streams.input.failures < most_failures }
+        requires writer { self.old.streams.output.has_failed ≡ false }
+        ensures room { length self.new.line.items ≡ suc longest_line }
+        ensures turn { Turns (unread self.old.streams.input) (unread self.new.streams.input) host.old host.new
+            (Tells self.old.streams.output self.new.streams.output) result }
+        ensures goes { Goes self.old.streams.input self.old.streams.output self.new.streams.input self.new.streams.output (turn_losses result) }
+        ensures at { IsTurnedAt result self.new.streams.input self.new.streams.output }
+    {
+        match self.streams.take_line(&mut self.line) {
+            LineTaken::Whole(count) => {
+                let line = read_line(&self.line[..count]);
+                self.streams.answer(alloc, host, line)
+            }
+            LineTaken::End => Turn::Ended(Served::End),
+            LineTaken::TooLong => self.streams.refuse(82),
+            LineTaken::Cut => self.streams.refuse(83),
+            LineTaken::Failed(broken) => Turn::Ended(broken.ending()),
         }
     }
-    put_refused(&mut buffers.output, writer, 85);
-    Served::Fault(85)
-}
-
-/// Takes the next line, and answers what it asks for.
-fn next_turn<S: Drop, R: Read, W: Write>(
-    alloc: Global,
-    host: &mut Host<S>,
-    reader: &mut R,
-    writer: &mut W,
-    buffers: &mut Buffers,
-) -> Turn
-    requires { length buffers.old.line.items ≡ suc longest_line }
-    ensures line { length buffers.new.line.items ≡ suc longest_line }
-    ensures turn { Turns (unread buffers.old.input (R.remaining reader.old)) (unread buffers.new.input (R.remaining reader.new)) host.old host.new
-        (Tells (W.contents writer.old) buffers.old.output (W.contents writer.new) buffers.new.output) result }
-{
-    flush_unless_line(&buffers.input, &mut buffers.output, writer);
-    if buffers.output.has_failed() {
-        return Turn::Ended(Served::WriteFailed);
-    }
-    match buffers.input.take_line(reader, &mut buffers.line) {
-        LineTaken::Whole(count) => {
-            let line = read_line(&buffers.line[..count]);
-            let (input, output) = (&mut buffers.input, &mut buffers.output);
-            answer(alloc, host, reader, writer, input, output, line)
-        }
-        LineTaken::End => Turn::Ended(Served::End),
-        LineTaken::TooLong => refuse(&mut buffers.output, writer, 82),
-        LineTaken::Cut(_) => refuse(&mut buffers.output, writer, 83),
-        LineTaken::Failed => Turn::Ended(Served::ReadFailed),
-    }
-}
-
-/// Writes the replies so far, unless the next line is here: the other side may wait for them before it sends more.
-fn flush_unless_line<W: Write>(input: &Input, output: &mut Output, writer: &mut W)
-    ensures { Tells (W.contents writer.old) output.old (W.contents writer.new) output.new [] }
-{
-    if input.as_slice().contains(&b'\n') {
-        return;
-    }
-    output.flush(writer);
-}
-
-/// What a line asks for, and the body that follows it.
-fn answer<S: Drop, R: Read, W: Write>(
-    alloc: Global,
-    host: &mut Host<S>,
-    reader: &mut R,
-    writer: &mut W,
-    input: &mut Input,
-    output: &mut Output,
-    line: Line<'_>,
-) -> Turn
-    ensures { AnswersLine (line_of line.entry) (unread input.old (R.remaining reader.old)) (unread input.new (R.remaining reader.new)) host.old host.new
-        (Tells (W.contents writer.old) output.old (W.contents writer.new) output.new) result }
-{
-    match line {
-        Line::Install(count) => match body_behind(alloc, reader, writer, input, output, count) {
-            Ok(text) => install(alloc, host, writer, output, text.as_slice()),
-            Err(turn) => return turn,
-        },
-        Line::Import(count) => match body_behind(alloc, reader, writer, input, output, count) {
-            Ok(bundle) => import(alloc, host, writer, output, bundle.as_slice()),
-            Err(turn) => return turn,
-        },
-        Line::Export => export(alloc, host, writer, output),
-        Line::List => list(alloc, host, writer, output),
-        Line::Load => load(alloc, host, writer, output),
-        Line::Ask(
-            Query {
-                source,
-                target,
-                class,
-            },
-        ) => { ask(host, writer, output, source, target, class) }
-        Line::Unknown => put_refused(output, writer, 81),
-        Line::TooBig => return refuse(output, writer, 84),
-        Line::Quit => {
-            output.put(writer, b"OK\n");
-            return Turn::Ended(Served::Quit);
-        }
-    }
-    Turn::Next
-}
-
-/// The bytes that follow a line; or what becomes of its request, where they do not come or find no memory.
-fn body_behind<R: Read, W: Write>(
-    alloc: Global,
-    reader: &mut R,
-    writer: &mut W,
-    input: &mut Input,
-    output: &mut Output,
-    count: usize,
-) -> Result<Vec<u8>, Turn>
-    ensures body { IfOk result (λ bytes. Consumes (unread input.old (R.remaining reader.old)) (unread input.new (R.remaining reader.new)) bytes.items
-        × (length bytes.items ≡ count)) }
-    ensures told { OnOk result (Tells (W.contents writer.old) output.old (W.contents writer.new) output.new []) }
-    ensures turn { IfErr result (λ turn. (line : said) (h : State) → Announces line count
-        → AnswersLine line (unread input.old (R.remaining reader.old)) (unread input.new (R.remaining reader.new)) h h
-        (Tells (W.contents writer.old) output.old (W.contents writer.new) output.new) turn) }
-{
-    output.flush(writer);
-    match input.take_body(alloc, reader, count) {
-        Body::Whole(bytes) => Ok(bytes),
-        Body::Dropped => {
-            put_refused(output, writer, 0);
-            Err(Turn::Next)
-        }
-        Body::Cut => Err(refuse(output, writer, 83)),
-        Body::Failed => Err(Turn::Ended(Served::ReadFailed)),
-    }
-}
-
-/// Ends the session by a fault.
-fn refuse<W: Write>(output: &mut Output, writer: &mut W, code: u32) -> Turn
-    ensures turn { result ≡ Turn.Ended (Served.Fault code) }
-    ensures told { Tells (W.contents writer.old) output.old (W.contents writer.new) output.new (refused code) }
-{
-    put_refused(output, writer, code);
-    Turn::Ended(Served::Fault(code))
 }

@@ -11,7 +11,7 @@ use std::marker::Model;
 /// Bytes of a module's text, where they are written. Contracts see them as their list.
 #[derive(Debug, Drop)]
 pub struct Excerpt<'a> {
-    bytes: &'a [u8],
+    slice: &'a [u8],
 }
 
 impl<'a> Model for Excerpt<'a> {
@@ -19,7 +19,7 @@ impl<'a> Model for Excerpt<'a> {
 
     ghost Value = { List ℕ };
 
-    ghost view = { λ a. a.bytes.now };
+    ghost view = { λ a. a.slice.now };
 }
 
 impl<'a> Excerpt<'a> {
@@ -29,14 +29,14 @@ impl<'a> Excerpt<'a> {
     pub fn of(bytes: &'a [u8]) -> Excerpt<'a>
         ensures { result ≡ bytes.now }
     {
-        Excerpt { bytes }
+        Excerpt { slice: bytes }
     }
 
     /// The bytes.
     pub fn as_slice(&self) -> &'a [u8]
         ensures { result.now ≡ self.now }
     {
-        self.bytes
+        self.slice
     }
 }
 

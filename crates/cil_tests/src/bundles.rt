@@ -1,6 +1,6 @@
 //! Bundles: sets as bytes, and the first fault of other bytes.
 
-use crate::module_sets::{A, B, C, holds, set_of_texts};
+use crate::module_sets::{A, B, set_of_texts, texts_in};
 use cil_modset::{BundleError, BundleFault, ModuleSet, NoMemory};
 use cil_sexpr::{ReadCode, ReadFault};
 use std::alloc::Global;
@@ -12,28 +12,21 @@ pub(crate) const BUNDLE_OF_A: &[u8] = b"CILB\x01\0\0\0\0\0\0\0\x01\0\0\0\0\0\0\0
 pub(crate) const BUNDLE_OF_THREE: &[u8] =
     b"CILB\x01\0\0\0\0\0\0\0\x03\0\0\0\0\0\0\0\x08(type a)\0\0\0\0\0\0\0\x08(type b)\0\0\0\0\0\0\0\x08(type c)";
 
-/// Whether a set is written as these bytes.
-fn is_exported_as(alloc: Global, set: &ModuleSet, want: &[u8]) -> bool {
-    match set.export(alloc) {
-        Ok(bytes) => bytes.as_slice() == want,
-        Err(_) => false,
-    }
-}
-
 #[test]
 fn carries_sets_in_bundles(rt: HostRuntime) -> Result<(), Fail> {
     let alloc = rt.alloc();
-    let empty = ModuleSet::new(alloc);
-    assert!(rt; is_exported_as(alloc, &empty, b"CILB\x01\0\0\0\0\0\0\0\0"));
-    assert!(rt; is_exported_as(alloc, &set_of_texts(alloc, &[A])?, BUNDLE_OF_A));
-    assert!(rt; BUNDLE_OF_A.len() == 29);
+    let empty = ModuleSet::new(alloc).export(alloc)?;
+    assert_eq!(rt; empty.as_slice(), b"CILB\x01\0\0\0\0\0\0\0\0".as_slice());
+    let one = set_of_texts(alloc, &[A])?.export(alloc)?;
+    assert_eq!(rt; one.as_slice(), BUNDLE_OF_A);
+    assert_eq!(rt; BUNDLE_OF_A.len(), 29);
     let mut set = set_of_texts(alloc, &[B])?;
-    assert!(rt; set.import(alloc, BUNDLE_OF_A) == Ok(1));
-    assert!(rt; set.import(alloc, BUNDLE_OF_A) == Ok(0));
-    assert!(rt; set.export(alloc)?.len() == 45);
-    assert!(rt; set.import(alloc, BUNDLE_OF_THREE) == Ok(1));
-    assert!(rt; holds(&set, &[A, B, C]));
-    assert!(rt; is_exported_as(alloc, &set, BUNDLE_OF_THREE));
+    assert_eq!(rt; set.import(alloc, BUNDLE_OF_A), Ok(1));
+    assert_eq!(rt; set.import(alloc, BUNDLE_OF_A), Ok(0));
+    assert_eq!(rt; set.export(alloc)?.len(), 45);
+    assert_eq!(rt; set.import(alloc, BUNDLE_OF_THREE), Ok(1));
+    assert_eq!(rt; texts_in(alloc, &set)?.as_str(), "(type a)(type b)(type c)");
+    assert_eq!(rt; set.export(alloc)?.as_slice(), BUNDLE_OF_THREE);
     Ok(())
 }
 
@@ -88,79 +81,88 @@ const BAD: &[(&[u8], BundleFault, u32)] = &[
     ),
 ];
 
-/// Whether bytes have this first fault, and leave a set of `(type b)` as it is.
-fn are_refused(alloc: Global, set: &mut ModuleSet, bytes: &[u8], want: BundleFault) -> bool {
-    set.import(alloc, bytes) == Err(BundleError::Fault(want)) && holds(set, &[B])
+/// What an import of some bytes is refused for, and the texts that the set has then.
+fn refusal(alloc: Global, set: &mut ModuleSet, bytes: &[u8]) -> Result<String, Fail> {
+    let answer = set.import(alloc, bytes);
+    let texts = texts_in(alloc, set)?;
+    match answer {
+        Ok(added) => Ok(format!(in alloc; "{added} new; {texts}")?),
+        Err(BundleError::Fault(fault)) => Ok(format!(in alloc; "{fault:?}; {texts}")?),
+        Err(BundleError::NoMemory) => Err(Fail::from("no memory")),
+    }
+}
+
+/// The same where this fault is wanted, and the set is that of B.
+fn wanted(alloc: Global, fault: BundleFault) -> Result<String, Fail> {
+    Ok(format!(in alloc; "{fault:?}; (type b)")?)
 }
 
 #[test]
 fn refuses_bad_bundles(rt: HostRuntime) -> Result<(), Fail> {
     let alloc = rt.alloc();
     let mut set = set_of_texts(alloc, &[B])?;
-    assert!(rt; BAD[0].0.len() == 62);
-    for &(bytes, want, number) in BAD {
-        assert!(rt; are_refused(alloc, &mut set, bytes, want), "{number}");
-        assert!(rt; want.number() == number, "{number}");
+    assert_eq!(rt; BAD[0].0.len(), 62);
+    for &(bytes, fault, number) in BAD {
+        let got = refusal(alloc, &mut set, bytes)?;
+        assert_eq!(rt; got.as_str(), wanted(alloc, fault)?.as_str(), "{number}");
+        assert_eq!(rt; fault.number(), number);
     }
     let mut empty = ModuleSet::new(alloc);
     assert!(rt; empty.import(alloc, BAD[0].0).is_err());
-    assert!(rt; holds(&empty, &[]));
+    assert_eq!(rt; texts_in(alloc, &empty)?.as_str(), "");
     Ok(())
 }
 
 /// The same of the bundle of A, B and C with the high bit of one byte turned.
-fn is_refused_at(alloc: Global, set: &mut ModuleSet, place: usize, want: BundleFault) -> bool {
-    let Ok(mut bytes) = Vec::from_slice(alloc, BUNDLE_OF_THREE) else {
-        return false;
-    };
-    let Some(byte) = bytes.get_mut(place) else {
-        return false;
-    };
+fn refusal_at(alloc: Global, set: &mut ModuleSet, place: usize) -> Result<String, Fail> {
+    let mut bytes = Vec::from_slice(alloc, BUNDLE_OF_THREE)?;
+    let byte = bytes.get_mut(place).ok_or("no such byte")?;
     *byte ^= 0x80;
-    are_refused(alloc, set, bytes.as_slice(), want)
+    refusal(alloc, set, bytes.as_slice())
 }
 
 #[test]
 fn a_bundle_that_is_cut_changes_nothing(rt: HostRuntime) -> Result<(), Fail> {
     let alloc = rt.alloc();
     let mut set = set_of_texts(alloc, &[B])?;
+    let want = wanted(alloc, BundleFault::Short)?;
     for end in 0..BUNDLE_OF_THREE.len() {
-        let front = &BUNDLE_OF_THREE[..end];
-        assert!(rt;
-            are_refused(alloc, &mut set, front, BundleFault::Short),
-            "{end}"
-        );
+        let got = refusal(alloc, &mut set, &BUNDLE_OF_THREE[..end])?;
+        assert_eq!(rt; got.as_str(), want.as_str(), "{end}");
     }
     Ok(())
+}
+
+/// The fault of the bundle with one byte changed. Behind the magic bytes and the count, each module is eight bytes of length and
+/// eight of text, where no such byte may be.
+fn fault_at(place: usize) -> BundleFault {
+    if place < 5 {
+        return BundleFault::BadMagic;
+    }
+    if place < 13 || (place - 13) % 16 < 8 {
+        return BundleFault::Short;
+    }
+    BundleFault::BadModule {
+        index: ((place - 13) / 16) as u64,
+        fault: ReadFault {
+            code: ReadCode::BadByte,
+            at: ((place - 13) % 16 - 8) as u64,
+        },
+    }
 }
 
 #[test]
 fn a_changed_byte_changes_nothing(rt: HostRuntime) -> Result<(), Fail> {
     let alloc = rt.alloc();
     let mut set = set_of_texts(alloc, &[B])?;
-    for place in 0..5 {
-        assert!(rt;
-            is_refused_at(alloc, &mut set, place, BundleFault::BadMagic),
+    assert_eq!(rt; BUNDLE_OF_THREE.len(), 61);
+    for place in 0..BUNDLE_OF_THREE.len() {
+        let got = refusal_at(alloc, &mut set, place)?;
+        assert_eq!(rt;
+            got.as_str(),
+            wanted(alloc, fault_at(place))?.as_str(),
             "{place}"
         );
-    }
-    for place in 5..13 {
-        assert!(rt;
-            is_refused_at(alloc, &mut set, place, BundleFault::Short),
-            "{place}"
-        );
-    }
-    // Each module is eight bytes of length and eight of text, where no such byte may stand.
-    for &(index, start) in &[(0, 13), (1, 29), (2, 45)] {
-        for at in 0..8 {
-            let fault = ReadFault {
-                code: ReadCode::BadByte,
-                at: at as u64,
-            };
-            let bad = BundleFault::BadModule { index, fault };
-            assert!(rt; is_refused_at(alloc, &mut set, start + at, BundleFault::Short));
-            assert!(rt; is_refused_at(alloc, &mut set, start + 8 + at, bad));
-        }
     }
     Ok(())
 }
@@ -182,18 +184,15 @@ const SENTENCES: &[(BundleFault, &str)] = &[
     (BundleFault::Trailing, "bytes follow the last module"),
 ];
 
-/// Whether an error has this sentence.
-fn says(alloc: Global, error: &BundleError, want: &str) -> Result<bool, Fail> {
-    Ok(format!(in alloc; "{error}")?.as_str() == want)
-}
-
 #[test]
 fn says_what_is_wrong(rt: HostRuntime) -> Result<(), Fail> {
     let alloc = rt.alloc();
     for &(fault, want) in SENTENCES {
-        assert!(rt; says(alloc, &BundleError::Fault(fault), want)?, "{want}");
+        let error = BundleError::Fault(fault);
+        assert_eq!(rt; format!(in alloc; "{error}")?.as_str(), want);
     }
-    assert!(rt; says(alloc, &BundleError::NoMemory, "no memory")?);
-    assert!(rt; format!(in alloc; "{}", NoMemory)?.as_str() == "no memory");
+    let error = BundleError::NoMemory;
+    assert_eq!(rt; format!(in alloc; "{error}")?.as_str(), "no memory");
+    assert_eq!(rt; format!(in alloc; "{}", NoMemory)?.as_str(), "no memory");
     Ok(())
 }

@@ -1,54 +1,52 @@
 //! Whole policies: their tables, and their faults.
 
-use crate::policies::{FIRST, ORDERS, set_of};
+use crate::policies::{FIRST, ORDERS, lines_of, set_of};
 use cil_decide::compile;
 use cil_decide::tables::{Names, Numbers};
 use cil_syntax::{Bytes, Failure, render};
 use std::alloc::Global;
 use std::test::Fail;
 
-/// What modules compile to: their tables as they are printed for debugging, or the lines of their faults. None where there
-/// is no memory.
-fn answer(alloc: Global, texts: &[&str]) -> Option<Vec<u8>> {
-    let modules = set_of(alloc, texts).ok()?;
+/// What is printed for debugging, with each name as a word in place of its bytes.
+fn with_words(alloc: Global, printed: &str) -> Result<String, Fail> {
+    let mut out = Vec::new(alloc);
+    for (i, part) in printed.split("Bytes { bytes: [").enumerate() {
+        if i == 0 {
+            out.extend_from_slice(part.as_bytes())?;
+            continue;
+        }
+        let (numbers, rest) = part.split_once("] }").ok_or("no end of a name")?;
+        for number in numbers.split(", ") {
+            out.push(number.parse::<u8>().ok().ok_or("no byte of a name")?)?;
+        }
+        out.extend_from_slice(rest.as_bytes())?;
+    }
+    lines_of(out)
+}
+
+/// What modules compile to: their tables in one line, or the lines of their faults.
+fn answer(alloc: Global, texts: &[&str]) -> Result<String, Fail> {
+    let modules = set_of(alloc, texts)?;
     match compile(alloc, &modules) {
         Ok(compiled) => {
             let tables = &compiled.tables;
-            let printed = format!(in alloc; "{tables:?}").ok()?;
-            Some(printed.into_bytes())
+            with_words(alloc, format!(in alloc; "{tables:?}")?.as_str())
         }
-        Err(Failure::Faults(faults)) => render(alloc, &faults).ok(),
-        Err(Failure::NoMemory) => None,
-    }
-}
-
-/// Whether some modules have this answer.
-fn answers(alloc: Global, texts: &[&str], wanted: &str) -> bool {
-    answer(alloc, texts).is_some_and(|answer| answer.as_slice() == wanted.as_bytes())
-}
-
-/// Whether some modules have tables, and the same as some others.
-fn are_alike(alloc: Global, texts: &[&str], others: &[&str]) -> bool {
-    match (answer(alloc, texts), answer(alloc, others)) {
-        (Some(tables), Some(others)) => {
-            tables.starts_with(b"Tables") && tables.as_slice() == others.as_slice()
-        }
-        _ => false,
+        Err(Failure::Faults(faults)) => lines_of(render(alloc, &faults)?),
+        Err(Failure::NoMemory) => Err(Fail::from("no memory")),
     }
 }
 
 /// No user and no type, and the role `object_r` alone.
-const EMPTY: &str = "Tables { users: Names { names: [] }, \
-    roles: Names { names: [Bytes { bytes: [111, 98, 106, 101, 99, 116, 95, 114] }] }, \
-    types: Names { names: [] }, classes: [], user_roles: [], role_types: [], allow: [] }";
+const EMPTY: &str =
+    "Tables { users: Names { names: [] }, roles: Names { names: [object_r] }, types: Names { names: [] }, \
+    classes: [], user_roles: [], role_types: [], allow: [] }";
 
 /// The user `u`; the roles `object_r` and `r`; the types `a` and `b`; the class `file` with `open` and `read`; the user has
 /// the role r, and that has both types; a is allowed to read b.
-const SECTIONS: &str = "Tables { users: Names { names: [Bytes { bytes: [117] }] }, \
-    roles: Names { names: [Bytes { bytes: [111, 98, 106, 101, 99, 116, 95, 114] }, Bytes { bytes: [114] }] }, \
-    types: Names { names: [Bytes { bytes: [97] }, Bytes { bytes: [98] }] }, \
-    classes: [Class { name: Bytes { bytes: [102, 105, 108, 101] }, permissions: Names { \
-    names: [Bytes { bytes: [111, 112, 101, 110] }, Bytes { bytes: [114, 101, 97, 100] }] } }], \
+const SECTIONS: &str =
+    "Tables { users: Names { names: [u] }, roles: Names { names: [object_r, r] }, \
+    types: Names { names: [a, b] }, classes: [Class { name: file, permissions: Names { names: [open, read] } }], \
     user_roles: [Link { holder: 0, held: 1 }], \
     role_types: [Link { holder: 1, held: 0 }, Link { holder: 1, held: 1 }], \
     allow: [Rule { source: Numbers { numbers: [0] }, target: Types(Numbers { numbers: [1] }), class: 0, mask: 2 }] }";
@@ -89,10 +87,11 @@ const ANSWERS: &[(&[&str], &str)] = &[
 ];
 
 #[test]
-fn policies_have_tables_or_faults(rt: HostRuntime) {
+fn policies_have_tables_or_faults(rt: HostRuntime) -> Result<(), Fail> {
     for &(texts, wanted) in ANSWERS {
-        assert!(rt; answers(rt.alloc(), texts, wanted), "{wanted}");
+        assert_eq!(rt; answer(rt.alloc(), texts)?.as_str(), wanted);
     }
+    Ok(())
 }
 
 /// What stands behind the first policy, and the faults of both together.
@@ -111,7 +110,7 @@ fn code_41_is_a_word_that_names_nothing(rt: HostRuntime) -> Result<(), Fail> {
     let alloc = rt.alloc();
     for &(more, wanted) in UNRESOLVED {
         let text = format!(in alloc; "{FIRST}{more}")?;
-        assert!(rt; answers(alloc, &[text.as_str()], wanted), "{more}");
+        assert_eq!(rt; answer(alloc, &[text.as_str()])?.as_str(), wanted, "{more}");
     }
     Ok(())
 }
@@ -142,19 +141,26 @@ const ALIKE: &[(&[&str], &[&str])] = &[
 ];
 
 #[test]
-fn some_policies_are_alike(rt: HostRuntime) {
+fn some_policies_are_alike(rt: HostRuntime) -> Result<(), Fail> {
     let alloc = rt.alloc();
     for &(texts, others) in ALIKE {
-        assert!(rt; are_alike(alloc, texts, others));
+        let want = answer(alloc, others)?;
+        assert!(rt; want.as_str().starts_with("Tables"), "{want}");
+        assert_eq!(rt; answer(alloc, texts)?.as_str(), want.as_str());
     }
-    assert!(rt; !are_alike(alloc, ALIKE[1].0, &[CLASSES]));
+    let (rules, none) = (answer(alloc, ALIKE[1].0)?, answer(alloc, &[CLASSES])?);
+    assert!(rt; rules.as_str() != none.as_str(), "{rules}");
+    Ok(())
 }
 
 #[test]
-fn the_order_of_arrival_changes_nothing(rt: HostRuntime) {
+fn the_order_of_arrival_changes_nothing(rt: HostRuntime) -> Result<(), Fail> {
+    let want = answer(rt.alloc(), &ORDERS[0])?;
+    assert!(rt; want.as_str().starts_with("Tables"), "{want}");
     for texts in ORDERS {
-        assert!(rt; are_alike(rt.alloc(), texts, &ORDERS[0]));
+        assert_eq!(rt; answer(rt.alloc(), texts)?.as_str(), want.as_str());
     }
+    Ok(())
 }
 
 /// A class statement with so many permissions: `p` and a number.
@@ -171,13 +177,19 @@ fn class_of(alloc: Global, count: usize) -> Result<String, Fail> {
 fn code_55_is_a_class_of_more_than_32_permissions(rt: HostRuntime) -> Result<(), Fail> {
     let alloc = rt.alloc();
     let few = class_of(alloc, 32)?;
-    assert!(rt; are_alike(alloc, &[few.as_str()], &[few.as_str()]));
+    let tables = answer(alloc, &[few.as_str()])?;
+    assert!(rt;
+        tables
+            .as_str()
+            .contains("name: w, permissions: Names { names: [p0, p1, p10, "),
+        "{tables}"
+    );
     let many = class_of(alloc, 33)?;
-    assert!(rt; answers(alloc, &[many.as_str()], "55 0 7 . w\n"));
+    assert_eq!(rt; answer(alloc, &[many.as_str()])?.as_str(), "55 0 7 . w\n");
     let twice = format!(in alloc; "{many}{many}")?;
     let second = 7 + many.len();
     let wanted = format!(in alloc; "55 0 7 . w\n55 0 {second} . w\n")?;
-    assert!(rt; answers(alloc, &[twice.as_str()], wanted.as_str()));
+    assert_eq!(rt; answer(alloc, &[twice.as_str()])?.as_str(), wanted.as_str());
     Ok(())
 }
 
@@ -188,11 +200,13 @@ fn seventy_thousand_types_are_numbered(rt: HostRuntime) -> Result<(), Fail> {
         write!(text, "(type n{number})")?;
     }
     text.push_str("(class c (p))(allow n9999 n0 (c (p)))")?;
+    let answer = answer(rt.alloc(), &[text.as_str()])?;
+    let (_, rules) = answer.as_str().split_once("allow: ").ok_or("no rules")?;
     // `n9999` is the greatest name in byte order, and `n0` the least.
-    let wanted =
-        b"allow: [Rule { source: Numbers { numbers: [69999] }, target: Types(Numbers { numbers: [0] }), class: 0, mask: 1 }] }";
-    let answer = answer(rt.alloc(), &[text.as_str()]).ok_or("no tables")?;
-    assert!(rt; answer.ends_with(wanted));
+    assert_eq!(rt;
+        rules,
+        "[Rule { source: Numbers { numbers: [69999] }, target: Types(Numbers { numbers: [0] }), class: 0, mask: 1 }] }"
+    );
     Ok(())
 }
 
@@ -201,10 +215,9 @@ fn names_and_numbers_are_kept(rt: HostRuntime) -> Result<(), Fail> {
     let alloc = rt.alloc();
     let name = Bytes::from_vec(Vec::from_slice(alloc, b"read")?);
     let names = Names::from_vec(vec![in alloc; name]?);
-    assert!(rt;
-        names.as_slice().len() == 1 && names.as_slice()[0].as_slice() == b"read".as_slice()
-    );
+    assert_eq!(rt; names.as_slice().len(), 1);
+    assert_eq!(rt; names.as_slice()[0].as_slice(), b"read".as_slice());
     let numbers = Numbers::from_slice(alloc, &[1, 3])?;
-    assert!(rt; numbers.as_slice() == [1, 3].as_slice());
+    assert_eq!(rt; numbers.as_slice(), [1, 3].as_slice());
     Ok(())
 }

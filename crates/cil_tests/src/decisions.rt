@@ -48,36 +48,34 @@ fn decision(allowed: u32, auditdeny: u32) -> Decision {
     }
 }
 
-/// Whether the tables of the first policy answer: read is allowed, and both permissions are recorded when they are denied; the
-/// other way round nothing is allowed.
-fn answer_the_first_policy(tables: &Tables) -> bool {
-    let (a, b, file) = (context(0, 1, 0), context(0, 1, 1), class_id(0));
-    parse_context(tables, b"u:r:a") == Some(a)
-        && parse_context(tables, b"u:r:b") == Some(b)
-        && class_named(tables, b"file") == Some(file)
-        && class_named(tables, b"dir").is_none()
-        && permission_named(tables, file, b"open") == Some(0)
-        && permission_named(tables, file, b"write").is_none()
-        && permission_at(tables, file, 0) == Some(b"open".as_slice())
-        && permission_at(tables, file, 1) == Some(b"read".as_slice())
-        && decide(tables, &a, &b, file) == decision(0b10, 0b11)
-        && decide(tables, &b, &a, file) == decision(0, 0b11)
-}
-
-/// Whether the tables of no module answer.
-fn answer_the_empty_policy(tables: &Tables) -> bool {
-    let a = context(0, 0, 0);
-    parse_context(tables, b"u:r:a").is_none()
-        && parse_context(tables, b"u:object_r:a").is_none()
-        && class_named(tables, b"file").is_none()
-        && decide(tables, &a, &a, class_id(0)) == decision(0, 0)
-}
-
+/// The tables of the first policy: read is allowed, and both permissions are recorded when they are denied; the other way
+/// round nothing is allowed.
 #[test]
-fn answers_the_first_and_the_empty_policy(rt: HostRuntime) -> Result<(), Fail> {
-    let alloc = rt.alloc();
-    assert!(rt; answer_the_first_policy(&tables_of(alloc, FIRST).ok_or("no tables")?));
-    assert!(rt; answer_the_empty_policy(&tables_of(alloc, "").ok_or("no tables")?));
+fn answers_the_first_policy(rt: HostRuntime) -> Result<(), Fail> {
+    let tables = &tables_of(rt.alloc(), FIRST).ok_or("no tables")?;
+    let (a, b, file) = (context(0, 1, 0), context(0, 1, 1), class_id(0));
+    assert_eq!(rt; parse_context(tables, b"u:r:a"), Some(a));
+    assert_eq!(rt; parse_context(tables, b"u:r:b"), Some(b));
+    assert_eq!(rt; class_named(tables, b"file"), Some(file));
+    assert_eq!(rt; class_named(tables, b"dir"), None);
+    assert_eq!(rt; permission_named(tables, file, b"open"), Some(0));
+    assert_eq!(rt; permission_named(tables, file, b"write"), None);
+    assert_eq!(rt; permission_at(tables, file, 0), Some(b"open".as_slice()));
+    assert_eq!(rt; permission_at(tables, file, 1), Some(b"read".as_slice()));
+    assert_eq!(rt; decide(tables, &a, &b, file), decision(0b10, 0b11));
+    assert_eq!(rt; decide(tables, &b, &a, file), decision(0, 0b11));
+    Ok(())
+}
+
+/// The tables of no module.
+#[test]
+fn answers_the_empty_policy(rt: HostRuntime) -> Result<(), Fail> {
+    let tables = &tables_of(rt.alloc(), "").ok_or("no tables")?;
+    let a = context(0, 0, 0);
+    assert_eq!(rt; parse_context(tables, b"u:r:a"), None);
+    assert_eq!(rt; parse_context(tables, b"u:object_r:a"), None);
+    assert_eq!(rt; class_named(tables, b"file"), None);
+    assert_eq!(rt; decide(tables, &a, &a, class_id(0)), decision(0, 0));
     Ok(())
 }
 
@@ -132,13 +130,11 @@ const NOT_VALID: &[&[u8]] = &[
 fn reads_valid_contexts_alone(rt: HostRuntime) -> Result<(), Fail> {
     let tables = wide_policy(rt.alloc())?;
     for &(text, user, role, kind) in VALID {
-        assert!(rt;
-            parse_context(&tables, text) == Some(context(user, role, kind)),
-            "{text:?}"
-        );
+        let got = parse_context(&tables, text);
+        assert_eq!(rt; got, Some(context(user, role, kind)), "{text:?}");
     }
     for &text in NOT_VALID {
-        assert!(rt; parse_context(&tables, text).is_none(), "{text:?}");
+        assert_eq!(rt; parse_context(&tables, text), None, "{text:?}");
     }
     Ok(())
 }
@@ -153,13 +149,11 @@ const NO_CLASSES: &[&[u8]] = &[
 fn finds_classes_by_their_whole_names(rt: HostRuntime) -> Result<(), Fail> {
     let tables = wide_policy(rt.alloc())?;
     for &(number, name) in CLASSES {
-        assert!(rt;
-            class_named(&tables, name) == Some(class_id(number)),
-            "{name:?}"
-        );
+        let got = class_named(&tables, name);
+        assert_eq!(rt; got, Some(class_id(number)), "{name:?}");
     }
     for &name in NO_CLASSES {
-        assert!(rt; class_named(&tables, name).is_none(), "{name:?}");
+        assert_eq!(rt; class_named(&tables, name), None, "{name:?}");
     }
     Ok(())
 }
@@ -207,20 +201,18 @@ fn finds_permissions_by_their_whole_names(rt: HostRuntime) -> Result<(), Fail> {
     let tables = wide_policy(rt.alloc())?;
     let (file, wide) = (class_id(1), class_id(3));
     for &(bit, name) in PERMISSIONS {
-        assert!(rt; permission_named(&tables, wide, name) == Some(bit), "{bit}");
-        assert!(rt; permission_at(&tables, wide, bit) == Some(name), "{bit}");
+        assert_eq!(rt; permission_named(&tables, wide, name), Some(bit));
+        assert_eq!(rt; permission_at(&tables, wide, bit), Some(name));
     }
     for &name in NO_PERMISSIONS {
-        assert!(rt; permission_named(&tables, file, name).is_none(), "{name:?}");
+        assert_eq!(rt; permission_named(&tables, file, name), None, "{name:?}");
     }
     // A bit too many, and a class number without a row.
     for &(number, bit) in &[(1, 3), (3, 32), (1, u32::MAX), (4, 0)] {
-        assert!(rt;
-            permission_at(&tables, class_id(number), bit).is_none(),
-            "{number} {bit}"
-        );
+        let got = permission_at(&tables, class_id(number), bit);
+        assert_eq!(rt; got, None, "{number} {bit}");
     }
-    assert!(rt; permission_named(&tables, class_id(4), b"read").is_none());
+    assert_eq!(rt; permission_named(&tables, class_id(4), b"read"), None);
     Ok(())
 }
 
@@ -254,10 +246,8 @@ fn decides_by_the_rules(rt: HostRuntime) -> Result<(), Fail> {
     for &(source, target, number, allowed, auditdeny) in DECISIONS {
         let (from, to) = (context(0, 2, source), context(0, 2, target));
         let found = decide(&tables, &from, &to, class_id(number));
-        assert!(rt;
-            found == decision(allowed, auditdeny),
-            "{source} {target} {number}"
-        );
+        let want = decision(allowed, auditdeny);
+        assert_eq!(rt; found, want, "{source} {target} {number}");
     }
     Ok(())
 }

@@ -1,16 +1,12 @@
 //! Lists of faults, and how they are printed.
 
+use crate::policies::lines_of;
 use cil_syntax::{Bytes, Failure, Fault, FaultCode, FaultList, render};
 use std::alloc::{AllocError, Global};
 use std::test::Fail;
 
 fn bytes(alloc: Global, text: &str) -> Result<Bytes, AllocError> {
     Ok(Bytes::from_vec(Vec::from_slice(alloc, text.as_bytes())?))
-}
-
-/// Whether a cause has this number and this sentence.
-fn is_told_as(alloc: Global, code: FaultCode, number: u32, want: &str) -> Result<bool, Fail> {
-    Ok(code.number() == number && format!(in alloc; "{code}")?.as_str() == want)
 }
 
 #[test]
@@ -25,7 +21,8 @@ fn causes_have_their_numbers_and_sentences(rt: HostRuntime) -> Result<(), Fail> 
         (FaultCode::Unresolved, 41, "unresolved name"),
         (FaultCode::ClassWide, 55, "class with too many permissions"),
     ] {
-        assert!(rt; is_told_as(rt.alloc(), code, number, want)?, "{number}");
+        assert_eq!(rt; code.number(), number);
+        assert_eq!(rt; format!(in rt.alloc(); "{code}")?.as_str(), want);
     }
     Ok(())
 }
@@ -49,14 +46,6 @@ fn list_of(alloc: Global, rows: &[Row]) -> Option<FaultList> {
         faults.push(fault).ok()?;
     }
     FaultList::of(faults)
-}
-
-/// Whether a list has so many faults, and is printed so.
-fn is_printed(alloc: Global, list: &FaultList, count: usize, want: &[u8]) -> bool {
-    match render(alloc, list) {
-        Ok(lines) => list.len() == count && lines.as_slice() == want,
-        Err(_) => false,
-    }
 }
 
 /// Faults, how many they are, and their lines: sorted, and each once.
@@ -96,7 +85,8 @@ fn faults_are_sorted_and_printed_once(rt: HostRuntime) -> Result<(), Fail> {
     assert!(rt; list_of(alloc, &[]).is_none());
     for &(rows, count, want) in LISTS {
         let list = list_of(alloc, rows).ok_or("no list")?;
-        assert!(rt; is_printed(alloc, &list, count, want.as_bytes()), "{want}");
+        assert_eq!(rt; lines_of(render(alloc, &list)?)?.as_str(), want);
+        assert_eq!(rt; list.len(), count, "{want}");
     }
     Ok(())
 }
@@ -114,20 +104,23 @@ fn lists_are_joined(rt: HostRuntime) -> Result<(), Fail> {
     ];
     let list = list_of(alloc, &first).ok_or("no list")?;
     let list = list.join(list_of(alloc, &second).ok_or("no list")?)?;
-    assert!(rt; is_printed(alloc, &list, 3, b"25 0 1 . a\n25 0 2 . a\n25 0 3 . a\n"));
-    for (fault, &at) in list.as_slice().iter().zip(&[1, 2, 3]) {
-        assert!(rt; fault.at == at);
-    }
+    assert_eq!(rt; list.len(), 3);
+    assert_eq!(rt;
+        lines_of(render(alloc, &list)?)?.as_str(),
+        "25 0 1 . a\n25 0 2 . a\n25 0 3 . a\n"
+    );
+    let places: Vec<u64> = list.as_slice().iter().map(|fault| fault.at).collect(alloc)?;
+    assert_eq!(rt; places.as_slice(), [1, 2, 3].as_slice());
     Ok(())
 }
 
 #[test]
 fn bytes_are_kept(rt: HostRuntime) -> Result<(), Fail> {
     let word = bytes(rt.alloc(), "a.b")?;
-    assert!(rt; word.as_slice() == b"a.b".as_slice());
+    assert_eq!(rt; word.as_slice(), b"a.b".as_slice());
     let copy = Bytes::copy_of(rt.alloc(), word.as_slice())?;
-    assert!(rt; copy == word);
+    assert_eq!(rt; copy.as_slice(), b"a.b".as_slice());
     let failure = Failure::NoMemory;
-    assert!(rt; format!(in rt.alloc(); "{failure:?}")?.as_str() == "NoMemory");
+    assert_eq!(rt; format!(in rt.alloc(); "{failure:?}")?.as_str(), "NoMemory");
     Ok(())
 }

@@ -10,7 +10,7 @@ use cil_decide::{
 };
 use cil_host::{Host, QueryFault};
 use cil_modset::{Join, ModuleSet};
-use cil_server::{Served, serve};
+use cil_server::{Counted, Served, serve};
 use cil_sexpr::{ReadCode, ReadError, ReadFault, read};
 use cil_syntax::{Failure, FaultList, Program, render, written};
 use std::alloc::Global;
@@ -249,8 +249,8 @@ fn replies_at_last(
 ) -> bool {
     for _ in 0..2u8 {
         written.clear();
-        let mut reader = input;
-        let served = serve(alloc, host, &mut reader, written);
+        let mut reader = Counted::new(input);
+        let served = serve(alloc, host, &mut reader, &mut Counted::new(&mut *written));
         let is_lost = match served {
             Served::Fault(0) => written.is_empty(),
             Served::End => written.as_slice() == b"ERR 0\n".as_slice(),

@@ -3,7 +3,7 @@
 use crate::module_sets::{DIGEST_OF_A, DIGEST_OF_B};
 use crate::policies::FIRST;
 use cil_decide::Decision;
-use cil_host::{Host, QueryFault};
+use cil_host::{Host, ListLine, QueryFault};
 use cil_modset::{BundleError, BundleFault};
 use cil_sexpr::{ReadCode, ReadFault};
 use cil_syntax::Failure;
@@ -29,62 +29,93 @@ pub(crate) enum Call {
     Permission(&'static [u8], u32, Option<&'static [u8]>),
 }
 
-/// Whether a host lists modules of these lengths, in this order.
-fn lists(alloc: Global, host: &Host<u8>, lengths: &[u64]) -> bool {
-    let Ok(lines) = host.list(alloc) else {
-        return false;
-    };
-    for (line, length) in lines.iter().zip(lengths) {
-        if line.length != *length {
-            return false;
-        }
-    }
-    lines.len() == lengths.len()
+/// The lengths of the modules that a host lists.
+fn lengths(alloc: Global, host: &Host<u8>) -> Result<Vec<u64>, Fail> {
+    let lines = host.list(alloc)?;
+    Ok(lines.iter().map(|line| line.length).collect(alloc)?)
 }
 
-/// Whether a bundle has this answer.
-pub(crate) fn imports(
+/// What is wrong with the answer to an import; nothing where it is the wanted one.
+pub(crate) fn wrong_import(
     alloc: Global,
     host: &mut Host<u8>,
     bundle: &[u8],
     want: Result<u64, BundleFault>,
-) -> bool {
-    match host.import(alloc, bundle) {
-        Ok(added) => want == Ok(added),
-        Err(BundleError::Fault(fault)) => want == Err(fault),
-        Err(BundleError::NoMemory) => false,
+) -> Result<String, Fail> {
+    let got = match host.import(alloc, bundle) {
+        Ok(added) => Ok(added),
+        Err(BundleError::Fault(fault)) => Err(fault),
+        Err(BundleError::NoMemory) => return Err(Fail::from("no memory")),
+    };
+    if got == want {
+        return Ok(String::new(alloc));
     }
+    Ok(format!(in alloc; "import: got {got:?}, not {want:?}")?)
 }
 
-/// Whether a policy has so many faults.
-fn has_faults(alloc: Global, host: &mut Host<u8>, count: usize) -> bool {
-    match host.load(alloc) {
-        Err(Failure::Faults(faults)) => faults.len() == count,
-        _ => false,
+/// What is wrong with a load: the number of its faults, where others are wanted. A load without faults has none.
+fn wrong_load(alloc: Global, host: &mut Host<u8>, want: usize) -> Result<String, Fail> {
+    let got = match host.load(alloc) {
+        Ok(_) => 0,
+        Err(Failure::Faults(faults)) => faults.len(),
+        Err(Failure::NoMemory) => return Err(Fail::from("no memory")),
+    };
+    if got == want {
+        return Ok(String::new(alloc));
     }
+    Ok(format!(in alloc; "load: got {got} faults, not {want}")?)
 }
 
-/// Whether a host answers a call so.
-pub(crate) fn answers(alloc: Global, host: &mut Host<u8>, call: Call) -> bool {
+/// What is wrong with the list of the modules' lengths.
+fn wrong_list(alloc: Global, host: &Host<u8>, want: &[u64]) -> Result<String, Fail> {
+    let got = lengths(alloc, host)?;
+    if got.as_slice() == want {
+        return Ok(String::new(alloc));
+    }
+    Ok(format!(in alloc; "list: got {got:?}, not {want:?}")?)
+}
+
+/// What is wrong with the answer to a call; nothing where it is the wanted one.
+pub(crate) fn wrong(alloc: Global, host: &mut Host<u8>, call: Call) -> Result<String, Fail> {
     match call {
-        Call::Install(text) => host.install(alloc, text.as_bytes()).is_ok(),
-        Call::Import(bundle, want) => imports(alloc, host, bundle, want),
-        Call::List(lengths) => lists(alloc, host, lengths),
-        Call::Load => host.load(alloc).is_ok(),
-        Call::LoadFails(count) => has_faults(alloc, host, count),
-        Call::Query(source, target, class, want) => host.query(source, target, class) == want,
-        Call::Permission(class, bit, want) => host.permission(class, bit) == want,
-    }
-}
-
-/// Whether a host answers some calls so, one after the other.
-pub(crate) fn answers_all(alloc: Global, host: &mut Host<u8>, calls: &[Call]) -> bool {
-    for call in calls {
-        if !answers(alloc, host, *call) {
-            return false;
+        Call::Install(text) => {
+            host.install(alloc, text.as_bytes())?;
+            Ok(String::new(alloc))
+        }
+        Call::Import(bundle, want) => wrong_import(alloc, host, bundle, want),
+        Call::List(lengths) => wrong_list(alloc, host, lengths),
+        Call::Load => wrong_load(alloc, host, 0),
+        Call::LoadFails(count) => wrong_load(alloc, host, count),
+        Call::Query(source, target, class, want) => {
+            let got = host.query(source, target, class);
+            if got == want {
+                return Ok(String::new(alloc));
+            }
+            Ok(format!(in alloc; "query: got {got:?}, not {want:?}")?)
+        }
+        Call::Permission(class, bit, want) => {
+            let got = host.permission(class, bit);
+            if got == want {
+                return Ok(String::new(alloc));
+            }
+            Ok(format!(in alloc; "permission {bit}: got {got:?}, not {want:?}")?)
         }
     }
-    true
+}
+
+/// The first wrong answer to some calls, one after the other, behind the number of its call; nothing where all are right.
+pub(crate) fn first_wrong(
+    alloc: Global,
+    host: &mut Host<u8>,
+    calls: &[Call],
+) -> Result<String, Fail> {
+    for (number, call) in calls.iter().enumerate() {
+        let wrong = wrong(alloc, host, *call)?;
+        if !wrong.as_str().is_empty() {
+            return Ok(format!(in alloc; "call {number}: {wrong}")?);
+        }
+    }
+    Ok(String::new(alloc))
 }
 
 pub(crate) const A: &[u8] = b"u:r:a";
@@ -198,17 +229,14 @@ const WORKED: &[(&str, &[Call])] = &[
 ];
 
 #[test]
-fn hosts_answer_as_worked(rt: HostRuntime) {
+fn hosts_answer_as_worked(rt: HostRuntime) -> Result<(), Fail> {
     let alloc = rt.alloc();
     for &(name, calls) in WORKED {
         let mut host: Host<u8> = Host::new(alloc, 512, 0);
-        assert!(rt; answers_all(alloc, &mut host, calls), "{name}");
+        let wrong = first_wrong(alloc, &mut host, calls)?;
+        assert_eq!(rt; wrong.as_str(), "", "{name}");
     }
-}
-
-/// Whether a cause has this number and this sentence.
-fn is_told_as(alloc: Global, fault: QueryFault, number: u32, want: &str) -> Result<bool, Fail> {
-    Ok(fault.number() == number && format!(in alloc; "{fault}")?.as_str() == want)
+    Ok(())
 }
 
 #[test]
@@ -219,27 +247,14 @@ fn faults_have_their_numbers_and_sentences(rt: HostRuntime) -> Result<(), Fail> 
         (QueryFault::BadTarget, 72, "the target is no valid context"),
         (QueryFault::NoClass, 73, "no class has this name"),
     ] {
-        assert!(rt; is_told_as(rt.alloc(), fault, number, want)?, "{want}");
+        assert_eq!(rt; fault.number(), number);
+        assert_eq!(rt; format!(in rt.alloc(); "{fault}")?.as_str(), want);
     }
     Ok(())
 }
 
-/// Whether a host lists `(type a)` and `(type b)`.
-fn lists_a_and_b(alloc: Global, host: &Host<u8>) -> bool {
-    match host.list(alloc) {
-        Ok(lines) => {
-            lines.len() == 2
-                && lines[0].digest == DIGEST_OF_A
-                && lines[1].digest == DIGEST_OF_B
-                && lines[0].length == 8
-                && lines[1].length == 8
-        }
-        Err(_) => false,
-    }
-}
-
 #[test]
-fn modules_are_listed_in_byte_order(rt: HostRuntime) {
+fn modules_are_listed_in_byte_order(rt: HostRuntime) -> Result<(), Fail> {
     let alloc = rt.alloc();
     let mut host: Host<u8> = Host::new(alloc, 512, 0);
     let calls = [
@@ -247,6 +262,8 @@ fn modules_are_listed_in_byte_order(rt: HostRuntime) {
         Call::Install("(type a)"),
         Call::Install("(type b)"),
     ];
-    assert!(rt; answers_all(alloc, &mut host, &calls));
-    assert!(rt; lists_a_and_b(alloc, &host));
+    assert_eq!(rt; first_wrong(alloc, &mut host, &calls)?.as_str(), "");
+    let want = [DIGEST_OF_A, DIGEST_OF_B].map(|digest| ListLine { digest, length: 8 });
+    assert_eq!(rt; host.list(alloc)?.as_slice(), want.as_slice());
+    Ok(())
 }

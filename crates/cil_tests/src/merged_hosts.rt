@@ -1,9 +1,10 @@
 //! Hosts that were handed the same modules in different orders, with repeats and merges.
 
-use crate::hosts::{A, B, Call, NOTHING, READ, answers, answers_all, imports};
+use crate::hosts::{A, B, Call, NOTHING, READ, first_wrong, wrong_import};
 use crate::policies::ORDERS;
 use cil_host::Host;
 use std::alloc::Global;
+use std::test::Fail;
 
 /// What a host answers that has the three modules, whatever order they came in.
 const OF_THREE: &[Call] = &[
@@ -14,62 +15,71 @@ const OF_THREE: &[Call] = &[
 ];
 
 #[test]
-fn order_and_repeats_do_not_matter(rt: HostRuntime) {
+fn order_and_repeats_do_not_matter(rt: HostRuntime) -> Result<(), Fail> {
     let alloc = rt.alloc();
     for &[first, second, third] in ORDERS {
         let mut host: Host<u8> = Host::new(alloc, 512, 0);
         for &text in &[first, second, first, third] {
-            assert!(rt; answers(alloc, &mut host, Call::Install(text)));
+            host.install(alloc, text.as_bytes())?;
         }
-        assert!(rt; answers_all(alloc, &mut host, OF_THREE), "{first}");
+        let wrong = first_wrong(alloc, &mut host, OF_THREE)?;
+        assert_eq!(rt; wrong.as_str(), "", "{first}");
     }
+    Ok(())
 }
 
-/// Whether so many modules of one host are new to another.
-fn merges(alloc: Global, from: &Host<u8>, into: &mut Host<u8>, want: u64) -> bool {
-    match from.export(alloc) {
-        Ok(bundle) => imports(alloc, into, bundle.as_slice(), Ok(want)),
-        Err(_) => false,
-    }
+/// A host with one module.
+fn host_with(alloc: Global, text: &str) -> Result<Host<u8>, Fail> {
+    let mut host: Host<u8> = Host::new(alloc, 512, 0);
+    host.install(alloc, text.as_bytes())?;
+    Ok(host)
 }
 
-/// Whether two hosts have one list.
-fn have_one_list(alloc: Global, one: &Host<u8>, other: &Host<u8>) -> bool {
-    match (one.list(alloc), other.list(alloc)) {
-        (Ok(lines), Ok(others)) => lines.as_slice() == others.as_slice(),
-        _ => false,
-    }
+/// What is wrong with a merge of one host into another, of whose modules so many are new; nothing where it is right.
+fn wrong_merge(
+    alloc: Global,
+    from: &Host<u8>,
+    into: &mut Host<u8>,
+    want: u64,
+) -> Result<String, Fail> {
+    let bundle = from.export(alloc)?;
+    wrong_import(alloc, into, bundle.as_slice(), Ok(want))
 }
 
-/// Whether three hosts with a module each answer alike when they have merged each other.
-fn answer_alike(
+/// What is wrong when three hosts with a module each merge each other.
+fn wrong_merges(
     alloc: Global,
     first: &mut Host<u8>,
     second: &mut Host<u8>,
     third: &mut Host<u8>,
-) -> bool {
-    merges(alloc, first, second, 1)
-        && merges(alloc, second, third, 2)
-        && merges(alloc, third, second, 1)
-        && merges(alloc, second, first, 2)
-        && merges(alloc, first, third, 0)
-        && have_one_list(alloc, first, second)
-        && have_one_list(alloc, second, third)
-        && answers_all(alloc, first, OF_THREE)
-        && answers_all(alloc, second, OF_THREE)
-        && answers_all(alloc, third, OF_THREE)
+) -> Result<String, Fail> {
+    let mut wrong = wrong_merge(alloc, first, second, 1)?;
+    wrong.push_str(wrong_merge(alloc, second, third, 2)?.as_str())?;
+    wrong.push_str(wrong_merge(alloc, third, second, 1)?.as_str())?;
+    wrong.push_str(wrong_merge(alloc, second, first, 2)?.as_str())?;
+    wrong.push_str(wrong_merge(alloc, first, third, 0)?.as_str())?;
+    Ok(wrong)
+}
+
+/// Whether two hosts have one list.
+fn have_one_list(alloc: Global, one: &Host<u8>, other: &Host<u8>) -> Result<bool, Fail> {
+    Ok(one.list(alloc)?.as_slice() == other.list(alloc)?.as_slice())
 }
 
 #[test]
-fn hosts_that_merged_each_other_answer_alike(rt: HostRuntime) {
+fn hosts_that_merged_each_other_answer_alike(rt: HostRuntime) -> Result<(), Fail> {
     let alloc = rt.alloc();
-    for texts in ORDERS {
-        let mut first: Host<u8> = Host::new(alloc, 512, 0);
-        let mut second: Host<u8> = Host::new(alloc, 512, 0);
-        let mut third: Host<u8> = Host::new(alloc, 512, 0);
-        assert!(rt; answers(alloc, &mut first, Call::Install(texts[0])));
-        assert!(rt; answers(alloc, &mut second, Call::Install(texts[1])));
-        assert!(rt; answers(alloc, &mut third, Call::Install(texts[2])));
-        assert!(rt; answer_alike(alloc, &mut first, &mut second, &mut third));
+    for &[a, b, c] in ORDERS {
+        let mut first = host_with(alloc, a)?;
+        let mut second = host_with(alloc, b)?;
+        let mut third = host_with(alloc, c)?;
+        let wrong = wrong_merges(alloc, &mut first, &mut second, &mut third)?;
+        assert_eq!(rt; wrong.as_str(), "", "{a}");
+        assert!(rt; have_one_list(alloc, &first, &second)?, "{a}");
+        assert!(rt; have_one_list(alloc, &second, &third)?, "{a}");
+        for host in [&mut first, &mut second, &mut third] {
+            assert_eq!(rt; first_wrong(alloc, host, OF_THREE)?.as_str(), "", "{a}");
+        }
     }
+    Ok(())
 }

@@ -1,5 +1,6 @@
 //! Sets of modules: what they hold, whatever order, repeats and merges made them.
 
+use crate::policies::lines_of;
 use cil_modset::{Installed, Join, ModuleSet, NoMemory};
 use cil_sexpr::{ReadCode, ReadError, ReadFault};
 use std::alloc::Global;
@@ -44,25 +45,38 @@ pub(crate) fn holds(set: &ModuleSet, texts: &[&[u8]]) -> bool {
     true
 }
 
+/// The texts of a set in their order, one after another. A text that the set does not say it contains has a `?` before it.
+pub(crate) fn texts_in(alloc: Global, set: &ModuleSet) -> Result<String, Fail> {
+    let mut out = Vec::new(alloc);
+    for i in 0..set.len() {
+        if !set.contains(set.get(i)) {
+            out.push(b'?')?;
+        }
+        out.extend_from_slice(set.get(i))?;
+    }
+    lines_of(out)
+}
+
 #[test]
 fn installs_in_any_order(rt: HostRuntime) -> Result<(), Fail> {
     let alloc = rt.alloc();
     let mut set = ModuleSet::new(alloc);
-    assert!(rt; holds(&set, &[]));
+    assert_eq!(rt; texts_in(alloc, &set)?.as_str(), "");
     for &(text, want) in &[
         (A, Installed::New),
         (B, Installed::New),
         (A, Installed::Known),
         (A, Installed::Known),
     ] {
-        assert!(rt; set.install(alloc, text) == Ok(want));
+        assert_eq!(rt; set.install(alloc, text), Ok(want));
     }
-    assert!(rt; holds(&set, &[A, B]));
-    assert!(rt; holds(&set_of_texts(alloc, &[B, A, B])?, &[A, B]));
+    assert_eq!(rt; texts_in(alloc, &set)?.as_str(), "(type a)(type b)");
+    let again = set_of_texts(alloc, &[B, A, B])?;
+    assert_eq!(rt; texts_in(alloc, &again)?.as_str(), "(type a)(type b)");
     assert!(rt; !set.contains(C));
-    assert!(rt; set.len() == 2);
-    assert!(rt; set.digest(0) == DIGEST_OF_A);
-    assert!(rt; set.digest(1) == DIGEST_OF_B);
+    assert_eq!(rt; set.len(), 2);
+    assert_eq!(rt; set.digest(0), DIGEST_OF_A);
+    assert_eq!(rt; set.digest(1), DIGEST_OF_B);
     Ok(())
 }
 
@@ -73,8 +87,11 @@ fn refuses_an_unreadable_text(rt: HostRuntime) -> Result<(), Fail> {
         code: ReadCode::StrayClose,
         at: 8,
     };
-    assert!(rt; set.install(rt.alloc(), b"(type b))") == Err(ReadError::Fault(stray)));
-    assert!(rt; holds(&set, &[A]));
+    assert_eq!(rt;
+        set.install(rt.alloc(), b"(type b))"),
+        Err(ReadError::Fault(stray))
+    );
+    assert_eq!(rt; texts_in(rt.alloc(), &set)?.as_str(), "(type a)");
     Ok(())
 }
 
@@ -90,12 +107,15 @@ fn merges_into_a_clone(rt: HostRuntime) -> Result<(), Fail> {
     let both = set_of_texts(alloc, &[A, B])?;
     let one = set_of_texts(alloc, &[B])?;
     let mut merged = one.try_clone(alloc)?;
-    assert!(rt; merge_twice(alloc, &mut merged, &both) == Ok((1, 0)));
-    assert!(rt; holds(&merged, &[A, B]));
-    assert!(rt; holds(&one, &[B]));
-    assert!(rt; holds(&both, &[A, B]));
+    assert_eq!(rt; merge_twice(alloc, &mut merged, &both), Ok((1, 0)));
+    assert_eq!(rt; texts_in(alloc, &merged)?.as_str(), "(type a)(type b)");
+    assert_eq!(rt; texts_in(alloc, &one)?.as_str(), "(type b)");
+    assert_eq!(rt; texts_in(alloc, &both)?.as_str(), "(type a)(type b)");
     let mut outer = set_of_texts(alloc, &[A, C])?;
-    assert!(rt; merge_twice(alloc, &mut outer, &one) == Ok((1, 0)));
-    assert!(rt; holds(&outer, &[A, B, C]));
+    assert_eq!(rt; merge_twice(alloc, &mut outer, &one), Ok((1, 0)));
+    assert_eq!(rt;
+        texts_in(alloc, &outer)?.as_str(),
+        "(type a)(type b)(type c)"
+    );
     Ok(())
 }

@@ -1,8 +1,10 @@
 //! Which lines are requests, and the limits of requests.
 
 use crate::sessions::replies;
-use cil_server::Served;
+use cil_host::Host;
+use cil_server::{Counted, Served, serve};
 use std::alloc::Global;
+use std::io::Read;
 use std::test::Fail;
 
 /// Each of these lines is no request.
@@ -88,5 +90,39 @@ fn lines_have_a_limit(rt: HostRuntime) -> Result<(), Fail> {
     assert!(rt; replies(alloc, longer.as_slice(), b"ERR 82\n", Served::Fault(82)));
     longer.push(b'\n')?;
     assert!(rt; replies(alloc, longer.as_slice(), b"ERR 82\n", Served::Fault(82)));
+    Ok(())
+}
+
+/// A bundle of 15 modules: 4,000,000 spaces, one more, and so on.
+fn large_bundle(alloc: Global) -> Result<Vec<u8>, Fail> {
+    let mut bundle = Vec::with_capacity(alloc, 60_000_238)?;
+    bundle.extend_from_slice(b"CILB\x01")?;
+    bundle.extend_from_slice(15u64.to_be_bytes().as_slice())?;
+    for more in 0..15u64 {
+        let length = 4_000_000 + more;
+        bundle.extend_from_slice(length.to_be_bytes().as_slice())?;
+        let end = bundle.len().saturating_add(length as usize);
+        bundle.resize(end, b' ')?;
+    }
+    Ok(bundle)
+}
+
+/// Whether a new host replies to a request with a large body.
+fn replies_to_large(alloc: Global, line: &[u8], body: &[u8], output: &[u8]) -> bool {
+    let mut host: Host<u8> = Host::new(alloc, 512, 0);
+    let mut reader = Counted::new(line.chain(body));
+    let mut writer = Counted::new(Vec::new(alloc));
+    let served = serve(alloc, &mut host, &mut reader, &mut writer);
+    served == Served::End && writer.into_inner().as_slice() == output
+}
+
+#[test]
+fn large_bodies_are_read(rt: HostRuntime) -> Result<(), Fail> {
+    let alloc = rt.alloc();
+    let text = vec![in alloc; b' '; 4_194_304]?;
+    assert!(rt; replies_to_large(alloc, b"INSTALL 4194304\n", text.as_slice(), b"OK new\n"));
+    let bundle = large_bundle(alloc)?;
+    assert_eq!(rt; bundle.len(), 60_000_238);
+    assert!(rt; replies_to_large(alloc, b"IMPORT 60000238\n", bundle.as_slice(), b"OK 15\n"));
     Ok(())
 }

@@ -1,7 +1,7 @@
 //! Sessions over memory: the worked examples.
 
 use cil_host::Host;
-use cil_server::{Served, serve};
+use cil_server::{Counted, Served, serve};
 use std::alloc::Global;
 use std::test::Fail;
 
@@ -19,10 +19,10 @@ pub(crate) fn replies_of(
     output: &[u8],
     ending: Served,
 ) -> bool {
-    let mut reader = input;
-    let mut written = Vec::new(alloc);
-    let served = serve(alloc, host, &mut reader, &mut written);
-    written.as_slice() == output && served == ending
+    let mut reader = Counted::new(input);
+    let mut writer = Counted::new(Vec::new(alloc));
+    let served = serve(alloc, host, &mut reader, &mut writer);
+    writer.into_inner().as_slice() == output && served == ending
 }
 
 /// The SHA-256 digests of `(type a)` and `(type b)`, by another program, and their lengths.

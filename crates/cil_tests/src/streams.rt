@@ -1,60 +1,57 @@
-//! Readers and writers that move few bytes at a time, and fail.
+//! Readers and writers that move few bytes at a time, that wait for each other, and that fail.
 
 use cil_host::Host;
-use cil_server::{Served, serve};
+use cil_server::{Counted, Served, Sink, Source, serve};
+use std::alloc::Global;
+use std::cell::Cell;
 use std::io;
 use std::io::{Read, Write};
 use std::test::Fail;
 
-/// A reader that gives one byte a call, and fails behind the last.
-#[derive(Debug, Drop)]
-struct ByteByByte<'a> {
+/// A reader that gives at most so many bytes a call, and fails when it is asked once too often.
+#[derive(Drop)]
+struct Failing<'a> {
     bytes: &'a [u8],
+    step: usize,
+    calls: usize,
 }
 
-impl Read for ByteByByte<'_> {
+impl Read for Failing<'_> {
     fn read(&mut self, buffer: &mut [u8]) -> io::Result<usize> {
-        let [first, rest @ ..] = self.bytes else {
+        if self.calls == 0 {
             return Err(io::Error::from(io::ErrorKind::Interrupted));
-        };
-        let [place, ..] = buffer else {
-            return Ok(0);
-        };
-        *place = *first;
-        self.bytes = rest;
-        Ok(1)
+        }
+        self.calls -= 1;
+        let count = self.bytes.len().min(self.step).min(buffer.len());
+        buffer[..count].copy_from_slice(&self.bytes[..count]);
+        self.bytes = &self.bytes[count..];
+        Ok(count)
     }
 }
 
-#[test]
-fn a_reader_may_give_one_byte_a_call_and_fail(rt: HostRuntime) -> Result<(), Fail> {
-    let alloc = rt.alloc();
-    let mut host: Host<u8> = Host::new(alloc, 512, 0);
-    let mut reader = ByteByByte {
-        bytes: b"INSTALL 8\n(type a)LIS",
-    };
-    let mut written = Vec::new(alloc);
-    let served = serve(alloc, &mut host, &mut reader, &mut written);
-    assert_eq!(rt; served, Served::ReadFailed);
-    assert_eq!(rt; written.as_slice(), b"OK new\n".as_slice());
-    Ok(())
-}
-
-/// A writer that takes some bytes, and then none.
-#[derive(Debug, Drop)]
-struct Narrow {
+/// A writer that takes at most so many bytes a call, and fails when it is asked once too often: by an error, or by taking nothing.
+#[derive(Drop)]
+struct Closing {
     taken: Vec<u8>,
-    room: usize,
+    step: usize,
+    calls: usize,
+    takes_nothing: bool,
 }
 
-impl Write for Narrow {
+impl Write for Closing {
     fn write(&mut self, bytes: &[u8]) -> io::Result<usize> {
-        let part = &bytes[..bytes.len().min(self.room).min(2)];
-        if self.taken.extend_from_slice(part).is_err() {
-            return Err(io::Error::from(io::ErrorKind::OutOfMemory));
+        if self.calls == 0 && self.takes_nothing {
+            return Ok(0);
         }
-        self.room -= part.len();
-        Ok(part.len())
+        if self.calls == 0 {
+            return Err(io::Error::from(io::ErrorKind::BrokenPipe));
+        }
+        self.calls -= 1;
+        let part = &bytes[..bytes.len().min(self.step)];
+        match self.taken.extend_from_slice(part) {
+            Ok(()) => Ok(part.len()),
+            Err(_) => Err(io::Error::from(io::ErrorKind::OutOfMemory)),
+        }
     }
 
     fn flush(&mut self) -> io::Result<()> {
@@ -62,17 +59,241 @@ impl Write for Narrow {
     }
 }
 
+/// 28 bytes: a request ends behind the first 5 and the first 23, and the session behind all.
+const INPUT: &[u8] = b"LIST\nINSTALL 8\n(type a)QUIT\n";
+
+/// 15 bytes: a reply ends behind the first 5 and the first 12.
+const OUTPUT: &[u8] = b"OK 0\nOK new\nOK\n";
+
+/// How many modules a host has.
+fn modules_of(alloc: Global, host: &Host<u8>) -> usize {
+    match host.list(alloc) {
+        Ok(lines) => lines.len(),
+        Err(_) => 99,
+    }
+}
+
+/// Whether a session ends as it has to whose reader gives one byte a call, of the first of the input, and then fails.
+fn fails_to_read(alloc: Global, given: usize) -> bool {
+    let (replied, modules) = match given {
+        0..5 => (0, 0),
+        5..23 => (5, 0),
+        23..28 => (12, 1),
+        _ => (15, 1),
+    };
+    let ending = match replied {
+        15 => Served::Quit,
+        _ => Served::ReadFailed,
+    };
+    let mut host: Host<u8> = Host::new(alloc, 512, 0);
+    let mut reader = Counted::new(Failing {
+        bytes: INPUT,
+        step: 1,
+        calls: given,
+    });
+    let mut writer = Counted::new(Vec::new(alloc));
+    let served = serve(alloc, &mut host, &mut reader, &mut writer);
+    let failed = Source::failed(&reader);
+    served == ending
+        && writer.into_inner().as_slice() == &OUTPUT[..replied]
+        && modules_of(alloc, &host) == modules
+        && (failed == 1) == (ending == Served::ReadFailed)
+}
+
 #[test]
-fn a_writer_may_fail_within_a_reply(rt: HostRuntime) -> Result<(), Fail> {
+fn a_reader_may_fail_at_each_call(rt: HostRuntime) {
+    for given in 0..30usize {
+        assert!(rt; fails_to_read(rt.alloc(), given), "behind {given} bytes");
+    }
+}
+
+/// Whether a session ends as it has to whose reader gives this many bytes a call, and whose writer takes one a call and then fails.
+fn fails_to_write(alloc: Global, step: usize, taken: usize, takes_nothing: bool) -> bool {
+    let ending = match taken {
+        0..15 => Served::WriteFailed,
+        _ => Served::Quit,
+    };
+    // Where all requests come at once, their replies are written behind the last one. Byte by byte, each is written before the
+    // next request is read.
+    let (read, modules) = match (step, taken) {
+        (1, 0..5) => (5, 0),
+        (1, 5..12) => (23, 1),
+        _ => (28, 1),
+    };
+    let mut host: Host<u8> = Host::new(alloc, 512, 0);
+    let mut reader = Counted::new(Failing {
+        bytes: INPUT,
+        step,
+        calls: 28,
+    });
+    let mut writer = Counted::new(Closing {
+        taken: Vec::new(alloc),
+        step: 1,
+        calls: taken,
+        takes_nothing,
+    });
+    let served = serve(alloc, &mut host, &mut reader, &mut writer);
+    let failed = Sink::failed(&writer);
+    served == ending
+        && writer.into_inner().taken.as_slice() == &OUTPUT[..taken.min(15)]
+        && modules_of(alloc, &host) == modules
+        && reader.into_inner().bytes.len() == 28 - read
+        && (failed == 1) == (ending == Served::WriteFailed)
+}
+
+#[test]
+fn a_writer_may_fail_at_each_call(rt: HostRuntime) {
+    for taken in 0..17usize {
+        for &step in &[1usize, 100] {
+            assert!(rt; fails_to_write(rt.alloc(), step, taken, false), "behind {taken} bytes, {step} a read");
+            assert!(rt; fails_to_write(rt.alloc(), step, taken, true), "behind {taken} bytes, {step} a read");
+        }
+    }
+}
+
+/// A writer whose bytes come out when they are flushed, and not before.
+#[derive(Drop)]
+struct Held<'a> {
+    bytes: Vec<u8>,
+    out: &'a Cell<usize>,
+}
+
+impl Write for Held<'_> {
+    fn write(&mut self, bytes: &[u8]) -> io::Result<usize> {
+        match self.bytes.extend_from_slice(bytes) {
+            Ok(()) => Ok(bytes.len()),
+            Err(_) => Err(io::Error::from(io::ErrorKind::OutOfMemory)),
+        }
+    }
+
+    fn flush(&mut self) -> io::Result<()> {
+        self.out.set(self.bytes.len());
+        Ok(())
+    }
+}
+
+/// The other side of a `Held`: it sends a part only when this many bytes have come out to it, and it fails where it is asked for
+/// more before, or behind its last part.
+#[derive(Drop)]
+struct Asking<'a> {
+    parts: &'a [(usize, &'a [u8])],
+    out: &'a Cell<usize>,
+}
+
+impl Read for Asking<'_> {
+    fn read(&mut self, buffer: &mut [u8]) -> io::Result<usize> {
+        let [(out, part), rest @ ..] = self.parts else {
+            return Err(io::Error::from(io::ErrorKind::WouldBlock));
+        };
+        if self.out.get() != *out || part.len() > buffer.len() {
+            return Err(io::Error::from(io::ErrorKind::WouldBlock));
+        }
+        buffer[..part.len()].copy_from_slice(part);
+        self.parts = rest;
+        Ok(part.len())
+    }
+}
+
+/// What comes in call by call, each behind as many bytes of replies as have to be out before it, all replies, and how the session ends.
+const ASKED: &[(&[(usize, &[u8])], &[u8], Served)] = &[
+    // Each reply is out before more is read: behind a whole request, within a line, within a body, behind a body.
+    (
+        &[
+            (0, b"LIST\n"),
+            (5, b"LIST\nLI"),
+            (10, b"ST\nINSTALL 8\n(typ"),
+            (15, b"e a)"),
+            (22, b"INSTALL 8\n"),
+            (22, b"(type a)"),
+            (31, b"AV x\nQUIT\n"),
+        ],
+        b"OK 0\nOK 0\nOK 0\nOK new\nOK known\nERR 81\nOK\n",
+        Served::Quit,
+    ),
+    // Nothing is asked for behind QUIT, though more could come.
+    (&[(0, b"QUIT\n")], b"OK\n", Served::Quit),
+    (&[(0, b"QUIT\nLIST\n")], b"OK\n", Served::Quit),
+    // An empty part is the end of the input: nothing is asked for behind it.
+    (&[(0, b"LIST\n"), (5, b"")], b"OK 0\n", Served::End),
+    (&[(0, b"")], b"", Served::End),
+    (&[(0, b"LIST\nLI"), (5, b"")], b"OK 0\nERR 83\n", Served::Fault(83)),
+    (&[(0, b"INSTALL 67108865\n")], b"ERR 84\n", Served::Fault(84)),
+];
+
+/// Whether a session with a client that waits for its replies ends so, with all replies out.
+fn answers_as_asked(
+    alloc: Global,
+    parts: &[(usize, &[u8])],
+    output: &[u8],
+    ending: Served,
+) -> bool {
+    let out = Cell::new(0);
+    let mut host: Host<u8> = Host::new(alloc, 512, 0);
+    let mut reader = Counted::new(Asking { parts, out: &out });
+    let mut writer = Counted::new(Held {
+        bytes: Vec::new(alloc),
+        out: &out,
+    });
+    let served = serve(alloc, &mut host, &mut reader, &mut writer);
+    let is_out = out.get() == output.len();
+    served == ending && is_out && writer.into_inner().bytes.as_slice() == output
+}
+
+#[test]
+fn each_reply_is_out_before_more_is_asked_for(rt: HostRuntime) {
+    for &(parts, output, ending) in ASKED {
+        assert!(rt; answers_as_asked(rt.alloc(), parts, output, ending), "{output:?}");
+    }
+}
+
+/// Whether the writer fails in a long reply, and the request that came with it is not begun.
+fn stops_in_a_long_reply(alloc: Global) -> Result<bool, Fail> {
+    let mut host: Host<u8> = Host::new(alloc, 512, 0);
+    let body = vec![in alloc; b' '; 70_000]?;
+    host.install(alloc, body.as_slice())?;
+    let mut reader = Counted::new(b"EXPORT\nINSTALL 8\n(type a)QUIT\n".as_slice());
+    let mut writer = Counted::new(Closing {
+        taken: Vec::new(alloc),
+        step: 10,
+        calls: 3,
+        takes_nothing: false,
+    });
+    let served = serve(alloc, &mut host, &mut reader, &mut writer);
+    let is_front = writer.into_inner().taken.as_slice() == b"OK 70021\nCILB\x01\0\0\0\0\0\0\0\x01\0\0\0\0\0\x01\x11".as_slice();
+    Ok(served == Served::WriteFailed && is_front && modules_of(alloc, &host) == 1)
+}
+
+#[test]
+fn no_request_is_begun_once_the_writer_has_failed(rt: HostRuntime) -> Result<(), Fail> {
+    assert!(rt; stops_in_a_long_reply(rt.alloc())?);
+    Ok(())
+}
+
+/// A writer that takes all bytes and cannot hand them on.
+#[derive(Drop)]
+struct Stuck {
+    calls: usize,
+}
+
+impl Write for Stuck {
+    fn write(&mut self, bytes: &[u8]) -> io::Result<usize> {
+        self.calls = self.calls.saturating_add(1);
+        Ok(bytes.len())
+    }
+
+    fn flush(&mut self) -> io::Result<()> {
+        Err(io::Error::from(io::ErrorKind::BrokenPipe))
+    }
+}
+
+#[test]
+fn a_failed_flush_is_a_failed_write(rt: HostRuntime) {
     let alloc = rt.alloc();
     let mut host: Host<u8> = Host::new(alloc, 512, 0);
-    let mut reader = b"INSTALL 8\n(type a)LIST\nQUIT\n".as_slice();
-    let mut writer = Narrow {
-        taken: Vec::new(alloc),
-        room: 9,
-    };
+    let mut reader = Counted::new(b"LIST\nQUIT\n".as_slice());
+    let mut writer = Counted::new(Stuck { calls: 0 });
     let served = serve(alloc, &mut host, &mut reader, &mut writer);
     assert_eq!(rt; served, Served::WriteFailed);
-    assert_eq!(rt; writer.taken.as_slice(), b"OK new\nOK".as_slice());
-    Ok(())
+    assert_eq!(rt; Sink::failed(&writer), 1);
+    assert_eq!(rt; writer.into_inner().calls, 1);
 }

@@ -4,12 +4,12 @@ use cil_sexpr::{ReadCode, ReadError, ReadFault, read};
 use std::alloc::{AllocError, Global};
 use std::test::Fail;
 
-/// Whether a text is read, where no fault is wanted, or else has this first fault.
-fn is_read_so(alloc: Global, text: &[u8], want: Option<ReadFault>) -> bool {
+/// The first fault of a text; none where it is read.
+fn first_fault(alloc: Global, text: &[u8]) -> Result<Option<ReadFault>, ReadError> {
     match read(alloc, text) {
-        Ok(_) => want.is_none(),
-        Err(ReadError::Fault(fault)) => want == Some(fault),
-        Err(ReadError::NoMemory) => false,
+        Ok(_) => Ok(None),
+        Err(ReadError::Fault(fault)) => Ok(Some(fault)),
+        Err(ReadError::NoMemory) => Err(ReadError::NoMemory),
     }
 }
 
@@ -49,31 +49,31 @@ const FAULTS: &[(&str, ReadCode, u64)] = &[
 ];
 
 #[test]
-fn the_first_fault_is_told(rt: HostRuntime) {
+fn the_first_fault_is_told(rt: HostRuntime) -> Result<(), Fail> {
     for &(text, code, at) in FAULTS {
-        assert!(rt;
-            is_read_so(rt.alloc(), text.as_bytes(), fault(code, at)),
-            "{text}"
-        );
+        let got = first_fault(rt.alloc(), text.as_bytes())?;
+        assert_eq!(rt; got, fault(code, at), "{text}");
     }
-}
-
-/// Whether a byte is a fault within a list and outside, and none in a string or a comment.
-fn is_bad(alloc: Global, byte: u8) -> bool {
-    is_read_so(
-        alloc,
-        &[b'(', b'a', byte, b')'],
-        fault(ReadCode::BadByte, 2),
-    ) && is_read_so(alloc, &[byte], fault(ReadCode::BadByte, 0))
-        && is_read_so(alloc, &[b'(', b'"', byte, b'"', b')'], None)
-        && is_read_so(alloc, &[b';', byte, b'\n', b'(', b')'], None)
+    Ok(())
 }
 
 #[test]
-fn bytes_that_are_not_printed_are_bad(rt: HostRuntime) {
+fn bytes_that_are_not_printed_are_bad(rt: HostRuntime) -> Result<(), Fail> {
     for &byte in &[0, 8, 11, 12, 14, 31, 127, 128, 255] {
-        assert!(rt; is_bad(rt.alloc(), byte), "{byte}");
+        // In a list and outside it is a fault, in a string and a comment it is none.
+        for &(text, want) in &[
+            (
+                &[b'(', b'a', byte, b')'] as &[u8],
+                fault(ReadCode::BadByte, 2),
+            ),
+            (&[byte], fault(ReadCode::BadByte, 0)),
+            (&[b'(', b'"', byte, b'"', b')'], None),
+            (&[b';', byte, b'\n', b'(', b')'], None),
+        ] {
+            assert_eq!(rt; first_fault(rt.alloc(), text)?, want, "{byte}");
+        }
     }
+    Ok(())
 }
 
 /// That many brackets that open, and that many that close.
@@ -87,11 +87,13 @@ fn nested(alloc: Global, depth: usize) -> Result<Vec<u8>, AllocError> {
 fn the_limit_of_nesting_holds_to_the_byte(rt: HostRuntime) -> Result<(), Fail> {
     let alloc = rt.alloc();
     let mut text = nested(alloc, 128)?;
-    assert!(rt; is_read_so(alloc, text.as_slice(), None));
+    assert_eq!(rt; first_fault(alloc, text.as_slice())?, None);
     text.extend_from_slice(nested(alloc, 130)?.as_slice())?;
-    assert!(rt; is_read_so(alloc, text.as_slice(), fault(ReadCode::TooDeep, 384)));
+    let got = first_fault(alloc, text.as_slice())?;
+    assert_eq!(rt; got, fault(ReadCode::TooDeep, 384));
     let deeper = nested(alloc, 129)?;
-    assert!(rt; is_read_so(alloc, deeper.as_slice(), fault(ReadCode::TooDeep, 128)));
+    let got = first_fault(alloc, deeper.as_slice())?;
+    assert_eq!(rt; got, fault(ReadCode::TooDeep, 128));
     Ok(())
 }
 
@@ -100,11 +102,11 @@ fn the_limit_of_length_holds_to_the_byte(rt: HostRuntime) -> Result<(), Fail> {
     let alloc = rt.alloc();
     let too_long = fault(ReadCode::TooLong, 4_194_304);
     let mut spaces = vec![in alloc; b' '; 4_194_304]?;
-    assert!(rt; is_read_so(alloc, spaces.as_slice(), None));
+    assert_eq!(rt; first_fault(alloc, spaces.as_slice())?, None);
     spaces.push(b' ')?;
-    assert!(rt; is_read_so(alloc, spaces.as_slice(), too_long));
+    assert_eq!(rt; first_fault(alloc, spaces.as_slice())?, too_long);
     // Each byte is a fault of its own, but the length comes before all.
     let brackets = vec![in alloc; b')'; 4_194_305]?;
-    assert!(rt; is_read_so(alloc, brackets.as_slice(), too_long));
+    assert_eq!(rt; first_fault(alloc, brackets.as_slice())?, too_long);
     Ok(())
 }

@@ -1,5 +1,6 @@
 -- What the files leave among the modules, and at which file a session stops.
-use Rattle.std.proofs.Common.{◌≡◌, ℕ, List, [], None, Some, Contains, Result, Ok, Err, IfErr, IsErrAnd, refl, sym, subst, Bor, ◌+◌, ◌<◌, ◌≤◌, ◌⊎◌, ◌↔◌, ◌∷◌, inl, inr, OnErr, length, get_or, arith}
+use Rattle.std.proofs.Common.{Bool, true, false, ◌∙◌, ◌≡◌, ℕ, List, [], None, Some, Contains, Result, Ok, Err, IfErr, IsErrAnd, refl, sym, subst, Bor, ◌+◌, ◌<◌, ◌≤◌, ◌⊎◌, ◌↔◌, ◌∷◌, inl, inr, OnErr, length, get_or, arith}
+use Rattle.std.specs.Prelude.{◌==◌, if◌then◌else◌}
 use Rattle.std.proofs.lemmas.List.{get_or_default}
 use Rattle.std.proofs.lemmas.List.Elements.{Contains-get_or}
 use Rattle.std.specs.declared.io.ErrorKind.{ErrorKind}
@@ -14,8 +15,11 @@ use Rattle.cil_modset.specs.Modules.{IsUnion}
 use Rattle.cil_modset.specs.declared.set.Installed.{Installed}
 use Rattle.cil_modset.specs.declared.set.Installed.TheVariants.{New, Known as Again}
 use Rattle.cil_host.specs.Machine.{State}
-use Rattle.cilhost.specs.Ends.{IsFailure, error_status, refusal}
-use Rattle.cilhost.specs.Reading.{Adds, AreReadable, Failure, HasJust, HasRefused, HasText, IsDue, IsDueAt, IsFaultOfFile, IsModule, IsOfOne, IsTextOf, Known, StopsAt}
+use Rattle.cilhost.specs.Ends.{IsFailure, error_status, refusal, status_of}
+use Rattle.cil_server.specs.Session.{reader_failures, writer_failures}
+use Rattle.cil_server.specs.declared.served.Served.{Served}
+use Rattle.cil_server.specs.declared.served.Served.TheVariants as served
+use Rattle.cilhost.specs.Reading.{Adds, AreReadable, Failure, HasFailed, HasJust, HasRefused, HasText, IsDue, IsDueAt, IsFaultOfFile, IsModule, IsOfOne, IsTextOf, Known, StopsAt}
 use Rattle.cilhost.specs.declared.status.Status.{Status}
 use Rattle.cilhost.specs.declared.status.Status.TheVariants as statuses
 use Rattle.cilhost.specs.declared.error.Error.{Error}
@@ -172,3 +176,25 @@ refused_due holds before failure files (Refused file fault) status (inr (place, 
 refused_due holds before failure files Arguments status due is e = absurd cc
 refused_due holds before failure files (Failed file) status due is e = absurd cc
 refused_due holds before failure files NoMemory status due is e = absurd cc
+
+-- where the status is that of a failure before the session, the system failed
+pub failed_due : (holds : List ℕ → Known) (before failure : Failure) (files : List (Bor (List ℕ))) (error : Error) (status : Status)
+    → IsDue holds before failure files error → status ≡ error_status error → status ≡ statuses.Failed → HasFailed failure
+failed_due holds before failure files (Refused file fault) status due is e = absurd cc
+failed_due holds before failure files Arguments status due is e = absurd cc
+failed_due holds before failure files (Failed file) status (inl first) is e = first.1
+failed_due holds before failure files (Failed file) status (inr (place, stop)) is e = (stop.due file).1
+failed_due holds before failure files NoMemory status due is e = absurd cc
+
+-- where the status is that of a failure after a session, the reader or the writer failed
+pub stream_failed : (ending : Served) (status : Status) (reads reads_now writes writes_now : ℕ) → status ≡ status_of ending → status ≡ statuses.Failed
+    → reads_now ≡ reads + reader_failures ending → writes_now ≡ writes + writer_failures ending → (reads_now ≡ reads + 1) ⊎ (writes_now ≡ writes + 1)
+stream_failed served.ReadFailed status reads reads_now writes writes_now is e read written = inl read
+stream_failed served.WriteFailed status reads reads_now writes writes_now is e read written = inr written
+stream_failed served.Quit status reads reads_now writes writes_now is e read written = absurd cc
+stream_failed served.End status reads reads_now writes writes_now is e read written = absurd cc
+stream_failed (served.Fault code) status reads reads_now writes writes_now is e read written = absurd (of_fault (code == 0) (sym is ∙ e))
+  where
+    of_fault : (none : Bool) → (if none then statuses.NoMemory else statuses.Usage) ≡ statuses.Failed → ⊥
+    of_fault true is = absurd cc
+    of_fault false is = absurd cc

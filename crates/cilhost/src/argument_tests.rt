@@ -3,6 +3,7 @@
 use crate::in_memory::{Closed, FILLED, Left, program};
 use crate::program::{Streams, run};
 use crate::status::Status;
+use cil_server::Counted;
 use std::test::Fail;
 
 /// Whether a text has a part.
@@ -120,8 +121,8 @@ fn help_that_cannot_be_printed_is_a_failure(rt: HostRuntime) -> Result<(), Fail>
     ];
     let mut system = FILLED;
     let mut streams = Streams {
-        input: b"".as_slice(),
-        output: Closed,
+        input: Counted::new(b"".as_slice()),
+        output: Counted::new(Closed),
         messages: Vec::new(alloc),
     };
     let status = run(alloc, words.as_slice(), &mut system, &mut streams);

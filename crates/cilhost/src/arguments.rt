@@ -1,12 +1,16 @@
 //! The arguments of the program: their words, and what they ask for.
 
+ghost use Rattle.std.specs.Prelude.{◌≡◌, ℕ, List, IfErr, IfOk, map, string_bytes};
+ghost use Rattle.clap.specs.Words.{kind_of};
+ghost use Rattle.cilhost.specs.Arguments.{AreOfSession, AskForSession};
+
 use crate::error::Error;
 use crate::help;
+use clap::error::ErrorKind;
 use clap::{Arg, ArgAction, ArgMatches, Command};
 use std::alloc::Global;
-use std::env;
-use std::io::ErrorKind;
 use std::rt::Env;
+use std::{env, io};
 
 /// The name of the subcommand that serves requests.
 pub const SESSION: &str = "session";
@@ -18,13 +22,17 @@ pub const FILE: &str = "FILE";
 pub fn words<R: Env + AllocGlobal>(rt: &R) -> Result<Vec<String>, Error<'static>> {
     match env::args(rt) {
         Ok(words) => Ok(words.collect(rt.alloc())?),
-        Err(error) if error.kind() == ErrorKind::OutOfMemory => Err(Error::NoMemory),
+        Err(error) if error.kind() == io::ErrorKind::OutOfMemory => Err(Error::NoMemory),
         Err(_) => Err(Error::Arguments),
     }
 }
 
 /// What the words ask for. The error is clap's: words that it does not accept, out of memory, or a request for help or the version.
-pub fn matches<'a>(alloc: Global, words: &'a [String]) -> Result<ArgMatches<'a>, clap::Error> {
+pub fn matches<'a>(alloc: Global, words: &'a [String]) -> Result<ArgMatches<'a>, clap::Error>
+    ensures session { (files : List (List ℕ)) → AskForSession (map string_bytes words.now) files → IfOk result (AreOfSession files) }
+    ensures accepts { (files : List (List ℕ)) → AskForSession (map string_bytes words.now) files
+        → IfErr result (λ error. kind_of error ≡ ErrorKind.OutOfMemory) }
+{
     let file = Arg::new(alloc, FILE)
         .action(ArgAction::Append)
         .num_args(0..)

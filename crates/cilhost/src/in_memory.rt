@@ -7,6 +7,7 @@ use crate::program::{Streams, run};
 use crate::session::run_session;
 use crate::status::Status;
 use crate::system::{System, note, start_of};
+use cil_server::Counted;
 use std::alloc::{AllocError, Global};
 use std::io::{self, ErrorKind, Read, Write};
 
@@ -124,17 +125,11 @@ impl Left {
     }
 }
 
-/// Streams in memory.
-fn streams(alloc: Global, input: &[u8]) -> Streams<&[u8], Vec<u8>, Vec<u8>> {
-    Streams {
-        input,
-        output: Vec::new(alloc),
-        messages: Vec::new(alloc),
-    }
-}
-
 /// What a run left in its streams.
-fn what_is_left(status: Status, streams: Streams<&[u8], Vec<u8>, Vec<u8>>) -> Left {
+fn what_is_left(
+    status: Status,
+    streams: Streams<Counted<&[u8]>, Counted<Vec<u8>>, Vec<u8>>,
+) -> Left {
     let Streams {
         input: _,
         output,
@@ -142,14 +137,18 @@ fn what_is_left(status: Status, streams: Streams<&[u8], Vec<u8>, Vec<u8>>) -> Le
     } = streams;
     Left {
         status,
-        output,
+        output: output.into_inner(),
         messages,
     }
 }
 
 /// A session over files and an input in memory.
 pub fn session(alloc: Global, mut system: MemorySystem<'_>, files: &[&str], input: &[u8]) -> Left {
-    let mut streams = streams(alloc, input);
+    let mut streams = Streams {
+        input: Counted::new(input),
+        output: Counted::new(Vec::new(alloc)),
+        messages: Vec::new(alloc),
+    };
     let status = run_session(alloc, files, &mut system, &mut streams);
     what_is_left(status, streams)
 }
@@ -162,7 +161,11 @@ pub fn program(alloc: Global, words: &[&str]) -> Result<Left, AllocError> {
         all.push(String::from_str(alloc, word)?)?;
     }
     let mut system = FILLED;
-    let mut streams = streams(alloc, b"");
+    let mut streams = Streams {
+        input: Counted::new(b"".as_slice()),
+        output: Counted::new(Vec::new(alloc)),
+        messages: Vec::new(alloc),
+    };
     let status = run(alloc, all.as_slice(), &mut system, &mut streams);
     Ok(what_is_left(status, streams))
 }

@@ -22,12 +22,13 @@ mod tests;
 use crate::arguments::words;
 use crate::program::{Streams, run};
 use crate::system::Machine;
+use cil_server::Counted;
 use std::process::ExitCode;
 
 fn main(rt: HostRuntime) -> ExitCode {
     let mut streams = Streams {
-        input: rt.stdin(),
-        output: rt.stdout(),
+        input: Counted::new(rt.stdin()),
+        output: Counted::new(rt.stdout()),
         messages: rt.stderr(),
     };
     let status = match words(&rt) {

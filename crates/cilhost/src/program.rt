@@ -1,17 +1,21 @@
 //! The program over its words and its streams.
 
-ghost use Rattle.std.specs.Prelude.{◌≡◌, ◌⊎◌};
+ghost use Rattle.std.specs.Prelude.{◌≡◌, ◌≢◌, ◌⊎◌, ◌<◌, ℕ, List, IfErr, map, string_bytes};
 ghost use Rattle.clap.specs.Words.{kind_of};
-ghost use Rattle.cilhost.specs.Ends.{HasServedNothing, answer_to};
+ghost use Rattle.cil_server.specs.Devices.{most_failures};
+ghost use Rattle.cilhost.specs.Arguments.{AskForSession};
+ghost use Rattle.cilhost.specs.Ends.{HasServedNothing, answer_to, error_status};
+ghost use Rattle.cilhost.specs.Sessions.{RunsSession};
 
 use crate::arguments::{FILE, SESSION, matches};
 use crate::error::{Error, STREAMS};
 use crate::session::run_session;
 use crate::status::Status;
 use crate::system::System;
+use cil_server::{Sink, Source};
 use clap::error::ErrorKind;
 use std::alloc::Global;
-use std::io::{Read, Write};
+use std::io::Write;
 
 /// The streams of a program.
 #[derive(Drop)]
@@ -25,41 +29,87 @@ pub struct Streams<R, W, E> {
 }
 
 /// Does what the words ask for, of which the first is the program's name.
-pub fn run<Y: System, R: Read, W: Write, E: Write>(
+pub fn run<Y: System, R: Source, W: Sink, E: Write>(
     alloc: Global,
     words: &[String],
     system: &mut Y,
     streams: &mut Streams<R, W, E>,
 ) -> Status
+    requires reader { R.failed streams.old.input < most_failures }
+    requires writer { W.failed streams.old.output < most_failures }
+    // A session that is asked for by its name, over files whose names do not begin with `-`.
+    ensures session { (names : List (List ℕ)) → AskForSession (map string_bytes words.now) names
+        → RunsSession (Y.holds system.old) (Y.failure system.old) (Y.failure system.new) names
+        (record { bytes = R.rest streams.old.input; failures = R.failed streams.old.input }) (record { bytes = R.rest streams.new.input; failures = R.failed streams.new.input })
+        (record { bytes = W.contents streams.old.output; failures = W.failed streams.old.output }) (record { bytes = W.contents streams.new.output; failures = W.failed streams.new.output }) result }
     ensures unserved { result ≡ Status.Refused → HasServedNothing streams.old streams.new }
 {
     let matches = match matches(alloc, words) {
         Ok(matches) => matches,
-        Err(error) => return answer(error, streams),
+        Err(error) => return answer(alloc, error, streams),
     };
-    match matches.subcommand() {
-        Some((SESSION, session)) => {
-            let files = session.get_strs(FILE).unwrap_or(&[]);
-            run_session(alloc, files, system, streams)
-        }
-        _ => Status::Usage,
+    let Some((name, session)) = matches.subcommand() else {
+        return Status::Usage;
+    };
+    if name != SESSION {
+        return Status::Usage;
     }
+    let files = session.get_strs(FILE).unwrap_or(&[]);
+    run_session(alloc, files, system, streams)
 }
 
 /// Prints the help or the version that was asked for, or what is wrong with the words.
-fn answer<R, W: Write, E: Write>(error: clap::Error, streams: &mut Streams<R, W, E>) -> Status
+fn answer<R, W: Sink, E: Write>(
+    alloc: Global,
+    error: clap::Error,
+    streams: &mut Streams<R, W, E>,
+) -> Status
+    requires { W.failed streams.old.output < most_failures }
     // What was asked for may not be printed.
-    ensures status { (result ≡ answer_to (kind_of error)) ⊎ ((answer_to (kind_of error) ≡ Status.Done) × (result ≡ Status.Failed)) }
+    ensures status { (result ≡ answer_to (kind_of error)) ⊎ ((answer_to (kind_of error) ≡ Status.Done)
+        × ((result ≡ Status.Failed) ⊎ (result ≡ Status.NoMemory))) }
     ensures unread { streams.new.input ≡ streams.old.input }
+    ensures unwritten { answer_to (kind_of error) ≢ Status.Done → streams.new.output ≡ streams.old.output }
 {
     if error.kind() == ErrorKind::OutOfMemory {
-        Error::NoMemory.report(&mut streams.messages)
-    } else if error.use_stderr() {
-        let _ = write!(streams.messages, "{error}");
-        Status::Usage
-    } else if write!(streams.output, "{error}").is_err() {
-        Error::Failed(STREAMS).report(&mut streams.messages)
-    } else {
-        Status::Done
+        return Error::NoMemory.report(&mut streams.messages);
     }
+    if error.use_stderr() {
+        let _ = write!(streams.messages, "{error}");
+        return Status::Usage;
+    }
+    match print(alloc, &error, &mut streams.output) {
+        Ok(()) => Status::Done,
+        Err(error) => error.report(&mut streams.messages),
+    }
+}
+
+/// Prints the text of an error.
+fn print<W: Sink>(alloc: Global, error: &clap::Error, output: &mut W) -> Result<(), Error<'static>>
+    requires { W.failed output.old < most_failures }
+    ensures { IfErr result (λ error. (error_status error ≡ Status.Failed) ⊎ (error_status error ≡ Status.NoMemory)) }
+{
+    let mut text = Vec::new(alloc);
+    if let Err(error) = write!(text, "{error}") {
+        return Err(Error::failed(STREAMS, error));
+    }
+    if put_all(text.as_slice(), output) {
+        Ok(())
+    } else {
+        Err(Error::Failed(STREAMS))
+    }
+}
+
+/// Writes all of the bytes. Returns whether it could.
+fn put_all<W: Sink>(bytes: &[u8], output: &mut W) -> bool
+    requires { W.failed output.old < most_failures }
+{
+    let mut left = bytes;
+    while !left.is_empty() {
+        match output.push(left) {
+            Ok(0) | Err(_) => return false,
+            Ok(count) => left = &left[count..],
+        }
+    }
+    true
 }

@@ -1,8 +1,9 @@
 //! The subcommand `session`: a host that is given files, and then serves requests.
 
-ghost use Rattle.std.specs.Prelude.{◌≡◌, ℕ, [], None, IfErr, IfOk, OnErr, OnOk};
+ghost use Rattle.std.specs.Prelude.{◌≡◌, ◌<◌, ◌+◌, ◌⊎◌, ℕ, [], None, IfErr, IfOk, OnErr, OnOk};
+ghost use Rattle.cil_server.specs.Devices.{most_failures};
 ghost use Rattle.cilhost.specs.Ends.{HasServedNothing, status_of};
-ghost use Rattle.cilhost.specs.Reading.{Adds, AreReadable, HasJust, HasRefused, IsDue, IsDueAt, StopsAt};
+ghost use Rattle.cilhost.specs.Reading.{Adds, AreReadable, HasFailed, HasJust, HasRefused, IsDue, IsDueAt, StopsAt};
 ghost use Rattle.cilhost.specs.Sessions.{IsSession};
 
 use crate::error::{Error, STREAMS};
@@ -10,10 +11,10 @@ use crate::program::Streams;
 use crate::status::Status;
 use crate::system::System;
 use cil_host::Host;
-use cil_server::{Served, serve};
+use cil_server::{Served, Sink, Source, serve};
 use cil_sexpr::LONGEST_TEXT;
 use std::alloc::Global;
-use std::io::{Read, Write};
+use std::io::Write;
 
 /// The capacity of the host's cache of decisions, which it does not keep yet.
 const CAPACITY: usize = 512;
@@ -24,14 +25,19 @@ const LONGEST: u64 = LONGEST_TEXT as u64 + 1;
 /// Installs the files from the left, each read and installed before the next, and then serves the requests of
 /// the input on the output. A file that is refused, or cannot be opened or read, ends the session before anything is served.
 /// Returns the status to end with.
-pub fn run_session<Y: System, R: Read, W: Write, E: Write>(
+pub fn run_session<Y: System, R: Source, W: Sink, E: Write>(
     alloc: Global,
     files: &[&str],
     system: &mut Y,
     streams: &mut Streams<R, W, E>,
 ) -> Status
-    ensures session { IsSession (Y.holds system.old) (Y.failure system.old) (Y.failure system.new) files.now (R.remaining streams.old.input)
-        (R.remaining streams.new.input) (W.contents streams.old.output) (W.contents streams.new.output) result }
+    requires reader { R.failed streams.old.input < most_failures }
+    requires writer { W.failed streams.old.output < most_failures }
+    ensures session { IsSession (Y.holds system.old) (Y.failure system.old) (Y.failure system.new) files.now
+        (record { bytes = R.rest streams.old.input; failures = R.failed streams.old.input }) (record { bytes = R.rest streams.new.input; failures = R.failed streams.new.input })
+        (record { bytes = W.contents streams.old.output; failures = W.failed streams.old.output }) (record { bytes = W.contents streams.new.output; failures = W.failed streams.new.output }) result }
+    ensures failed { result ≡ Status.Failed → HasFailed (Y.failure system.new)
+        ⊎ ((R.failed streams.new.input ≡ R.failed streams.old.input + 1) ⊎ (W.failed streams.new.output ≡ W.failed streams.old.output + 1)) }
     ensures refused { result ≡ Status.Refused → HasRefused (Y.holds system.old) files.now }
     ensures unserved { result ≡ Status.Refused → HasServedNothing streams.old streams.new }
 {

@@ -5,7 +5,7 @@ use crate::program::Streams;
 use crate::session::{end, run_session};
 use crate::status::Status;
 use crate::system::Machine;
-use cil_server::Served;
+use cil_server::{Counted, Served};
 use cil_sexpr::LONGEST_TEXT;
 use std::alloc::Global;
 use std::io::ErrorKind;
@@ -166,8 +166,8 @@ fn a_session_that_fails_says_so(rt: HostRuntime) {
 #[test]
 fn a_message_that_cannot_be_written_changes_no_status(rt: HostRuntime) {
     let mut streams = Streams {
-        input: b"".as_slice(),
-        output: Closed,
+        input: Counted::new(b"".as_slice()),
+        output: Counted::new(Closed),
         messages: Closed,
     };
     let mut system = FILLED;
@@ -178,8 +178,8 @@ fn a_message_that_cannot_be_written_changes_no_status(rt: HostRuntime) {
 #[test]
 fn the_machine_has_no_such_file(rt: HostRuntime) {
     let mut streams = Streams {
-        input: b"".as_slice(),
-        output: Vec::new(rt.alloc()),
+        input: Counted::new(b"".as_slice()),
+        output: Counted::new(Vec::new(rt.alloc())),
         messages: Vec::new(rt.alloc()),
     };
     let mut machine = Machine::new(&rt);
@@ -192,11 +192,11 @@ fn the_machine_has_no_such_file(rt: HostRuntime) {
 #[test]
 fn an_input_that_fails_ends_the_session(rt: HostRuntime) {
     let mut streams = Streams {
-        input: MemoryReader {
+        input: Counted::new(MemoryReader {
             rest: b"LIST\nLI",
             fails: Some(ErrorKind::ConnectionReset),
-        },
-        output: Vec::new(rt.alloc()),
+        }),
+        output: Counted::new(Vec::new(rt.alloc())),
         messages: Vec::new(rt.alloc()),
     };
     let mut system = FILLED;
@@ -208,8 +208,8 @@ fn an_input_that_fails_ends_the_session(rt: HostRuntime) {
 #[test]
 fn an_output_that_fails_ends_the_session(rt: HostRuntime) {
     let mut streams = Streams {
-        input: b"LIST\nQUIT\n".as_slice(),
-        output: Closed,
+        input: Counted::new(b"LIST\nQUIT\n".as_slice()),
+        output: Counted::new(Closed),
         messages: Vec::new(rt.alloc()),
     };
     let mut system = FILLED;

@@ -5,5 +5,4 @@ use Rattle.cil_server.proofs.replies.put_bundle.Goals as goal
 
 pub returns : goal.returns
 returns g c =
-    tells_both (g.W.Write.contents c.args.writer.now) (g.W.Write.contents c.put_ok_number.new.writer) (g.W.Write.contents c.put.new.writer)
-    c.args.output.now c.put_ok_number.new.output c.put.new.self (ok_number (length c.args.bytes.now)) c.args.bytes.now c.put_ok_number.ensures c.put.ensures
+    tells_both c.args.output.now c.put_ok_number.new.output c.put.new.self (ok_number (length c.args.bytes.now)) c.args.bytes.now c.put_ok_number.ensures c.put.ensures

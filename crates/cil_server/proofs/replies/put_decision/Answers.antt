@@ -6,12 +6,12 @@ use Rattle.cil_server.proofs.replies.put_decision.Goals as goal
 
 pub returns : goal.returns
 returns g c =
-    let told1 = tells_both (g.W.Write.contents c.args.writer.now) (g.W.Write.contents c.put.new.writer) (g.W.Write.contents c.put_names.new.writer) c.args.output.now c.put.new.self c.put_names.new.output ((codes "OK ")) (joined c.put_names.ensures.names) c.put.ensures c.put_names.ensures.told in
-    let told2 = tells_both (g.W.Write.contents c.args.writer.now) (g.W.Write.contents c.put_names.new.writer) (g.W.Write.contents c.put-2.new.writer) c.args.output.now c.put_names.new.output c.put-2.new.self ((codes "OK ") ++ (joined c.put_names.ensures.names)) (codes " ") told1 c.put-2.ensures in
-    let told3 = tells_both (g.W.Write.contents c.args.writer.now) (g.W.Write.contents c.put-2.new.writer) (g.W.Write.contents c.put_names-2.new.writer) c.args.output.now c.put-2.new.self c.put_names-2.new.output ((codes "OK ") ++ (joined c.put_names.ensures.names) ++ (codes " ")) (joined c.put_names-2.ensures.names) told2 c.put_names-2.ensures.told in
-    let told4 = tells_both (g.W.Write.contents c.args.writer.now) (g.W.Write.contents c.put_names-2.new.writer) (g.W.Write.contents c.put-3.new.writer) c.args.output.now c.put_names-2.new.output c.put-3.new.self ((codes "OK ") ++ (joined c.put_names.ensures.names) ++ (codes " ") ++ (joined c.put_names-2.ensures.names)) (codes " ") told3 c.put-3.ensures in
-    let told5 = tells_both (g.W.Write.contents c.args.writer.now) (g.W.Write.contents c.put-3.new.writer) (g.W.Write.contents c.put_names-3.new.writer) c.args.output.now c.put-3.new.self c.put_names-3.new.output ((codes "OK ") ++ (joined c.put_names.ensures.names) ++ (codes " ") ++ (joined c.put_names-2.ensures.names) ++ (codes " ")) (joined c.put_names-3.ensures.names) told4 c.put_names-3.ensures.told in
-    let told6 = tells_both (g.W.Write.contents c.args.writer.now) (g.W.Write.contents c.put_names-3.new.writer) (g.W.Write.contents c.put-4.new.writer) c.args.output.now c.put_names-3.new.output c.put-4.new.self ((codes "OK ") ++ (joined c.put_names.ensures.names) ++ (codes " ") ++ (joined c.put_names-2.ensures.names) ++ (codes " ") ++ (joined c.put_names-3.ensures.names)) newline told5 c.put-4.ensures in
+    let told1 = tells_both c.args.output.now c.put.new.self c.put_names.new.output ((codes "OK ")) (joined c.put_names.ensures.names) c.put.ensures c.put_names.ensures.told in
+    let told2 = tells_both c.args.output.now c.put_names.new.output c.put-2.new.self ((codes "OK ") ++ (joined c.put_names.ensures.names)) (codes " ") told1 c.put-2.ensures in
+    let told3 = tells_both c.args.output.now c.put-2.new.self c.put_names-2.new.output ((codes "OK ") ++ (joined c.put_names.ensures.names) ++ (codes " ")) (joined c.put_names-2.ensures.names) told2 c.put_names-2.ensures.told in
+    let told4 = tells_both c.args.output.now c.put_names-2.new.output c.put-3.new.self ((codes "OK ") ++ (joined c.put_names.ensures.names) ++ (codes " ") ++ (joined c.put_names-2.ensures.names)) (codes " ") told3 c.put-3.ensures in
+    let told5 = tells_both c.args.output.now c.put-3.new.self c.put_names-3.new.output ((codes "OK ") ++ (joined c.put_names.ensures.names) ++ (codes " ") ++ (joined c.put_names-2.ensures.names) ++ (codes " ")) (joined c.put_names-3.ensures.names) told4 c.put_names-3.ensures.told in
+    let told6 = tells_both c.args.output.now c.put_names-3.new.output c.put-4.new.self ((codes "OK ") ++ (joined c.put_names.ensures.names) ++ (codes " ") ++ (joined c.put_names-2.ensures.names) ++ (codes " ") ++ (joined c.put_names-3.ensures.names)) newline told5 c.put-4.ensures in
     record {
       allowed = c.put_names.ensures.names;
       auditallow = c.put_names-2.ensures.names;

@@ -5,5 +5,4 @@ use Rattle.cil_server.proofs.replies.put_faults.Goals as goal
 
 pub returns : goal.returns
 returns g c =
-    tells_four (g.W.Write.contents c.args.writer.now) (g.W.Write.contents c.put.new.writer) (g.W.Write.contents c.put_number.new.writer) (g.W.Write.contents c.put-2.new.writer) (g.W.Write.contents c.put-3.new.writer)
-    c.args.output.now c.put.new.self c.put_number.new.output c.put-2.new.self c.put-3.new.self (codes "FAULTS") (spaced c.args.count) newline c.args.lines.now c.put.ensures c.put_number.ensures c.put-2.ensures c.put-3.ensures
+    tells_four c.args.output.now c.put.new.self c.put_number.new.output c.put-2.new.self c.put-3.new.self (codes "FAULTS") (spaced c.args.count) newline c.args.lines.now c.put.ensures c.put_number.ensures c.put-2.ensures c.put-3.ensures

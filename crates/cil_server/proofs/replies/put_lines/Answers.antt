@@ -1,14 +1,18 @@
 use Rattle.std.proofs.Common.{length}
 use Rattle.cil_server.specs.Replies.{of_line, ok_number}
-use Rattle.cil_server.proofs.StreamLemmas.{items_none, items_all}
+use Rattle.cil_server.proofs.StreamLemmas.{items_all, items_more, items_none}
 use Rattle.cil_server.proofs.replies.put_lines.Goals as goal
 
 pub loop-line-init : goal.loop-line-init
 loop-line-init g c =
-    items_none of_line (ok_number (length c.args.lines.now)) c.args.lines.now (g.W.Write.contents c.args.writer.now) c.args.output.now (g.W.Write.contents c.put_ok_number.new.writer)
-    c.put_ok_number.new.output c.put_ok_number.ensures
+    items_none of_line (ok_number (length c.args.lines.now)) c.args.lines.now c.args.output.now c.put_ok_number.new.output c.put_ok_number.ensures
+
+pub loop-line-preserved : goal.loop-line-preserved
+loop-line-preserved g c =
+    items_more of_line (ok_number (length c.args.lines.now)) c.args.lines.now c.args.output.now c.loop-line.output c.put_line.new.output c.loop-line.line-index _ c.loop-line-test.true
+    c.loop-line.invariant c.put_line.ensures
 
 pub returns : goal.returns
 returns g c =
-    items_all of_line (ok_number (length c.args.lines.now)) c.args.lines.now (g.W.Write.contents c.args.writer.now) c.args.output.now (g.W.Write.contents c.loop-line.writer) c.loop-line.output
+    items_all of_line (ok_number (length c.args.lines.now)) c.args.lines.now c.args.output.now c.loop-line.output
     c.loop-line.line-index c.loop-line-test.false c.loop-line.invariant

@@ -6,4 +6,4 @@ use Rattle.cil_server.proofs.replies.put_lines.Given as goal
 
 abbrev pub invariant-loop-line : goal.invariant-loop-line
 invariant-loop-line g l =
-    Tells (g.W.Write.contents l.fn.writer) l.fn.output (g.W.Write.contents l.writer) l.output (ok_number (length l.lines) ++ flat_map of_line (take l.line-index l.lines))
+    Tells l.fn.output l.output (ok_number (length l.lines) ++ flat_map of_line (take l.line-index l.lines))

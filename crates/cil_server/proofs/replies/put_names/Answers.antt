@@ -1,20 +1,19 @@
 use Rattle.std.proofs.Common.{◌≡◌, arith}
-use Rattle.cil_server.proofs.NameLemmas.{told_all, told_bit, told_hyphen}
+use Rattle.cil_server.specs.Streams.{Tells}
+use Rattle.cil_server.proofs.NameLemmas.{bit_of, told_all, told_bit, told_hyphen}
 use Rattle.cil_server.proofs.replies.put_names.Goals as goal
 
 pub loop-bit-preserved : goal.loop-bit-preserved
 loop-bit-preserved g c =
-    told_bit _ _ _ (g.W.Write.contents c.args.writer.now) (g.W.Write.contents c.loop-bit.writer) (g.W.Write.contents c.put_bit-is_first.new.writer) c.args.output.now c.loop-bit.output
-    c.put_bit-is_first.new.output _ _ _ c.loop-bit.invariant c.put_bit-is_first.ensures
+    told_bit _ _ _ c.args.output.now c.loop-bit.output c.put_name-is_first.new.output _ _ _ c.loop-bit.invariant
+    (bit_of _ _ _ _ _ _ c.named-name.result (Tells c.loop-bit.output c.put_name-is_first.new.output) c.named-name.ensures c.put_name-is_first.ensures)
 
 pub returns-then-is_first : goal.returns-then-is_first
 returns-then-is_first g c =
     let at : c.loop-bit.bit ≡ 32 = omega (arith, c.loop-bit-test.false, c.loop-bit.auto.bit-end) in
-    told_hyphen _ _ _ (g.W.Write.contents c.args.writer.now) (g.W.Write.contents c.loop-bit.writer) (g.W.Write.contents c.put.new.writer) c.args.output.now c.loop-bit.output c.put.new.self
-    _ _ c.loop-bit.invariant at c.if-is_first.true c.put.ensures
+    told_hyphen _ _ _ c.args.output.now c.loop-bit.output c.put.new.self _ _ c.loop-bit.invariant at c.if-is_first.true c.put.ensures
 
 pub returns-else-is_first : goal.returns-else-is_first
 returns-else-is_first g c =
     let at : c.loop-bit.bit ≡ 32 = omega (arith, c.loop-bit-test.false, c.loop-bit.auto.bit-end) in
-    told_all _ _ _ (g.W.Write.contents c.args.writer.now) (g.W.Write.contents c.loop-bit.writer) (g.W.Write.contents c.loop-bit.writer) c.args.output.now c.loop-bit.output c.loop-bit.output
-    _ _ c.loop-bit.invariant at c.if-is_first.false
+    told_all _ _ _ c.args.output.now c.loop-bit.output c.loop-bit.output _ _ c.loop-bit.invariant at c.if-is_first.false

@@ -4,4 +4,4 @@ use Rattle.cil_server.proofs.replies.put_names.Given as goal
 
 abbrev pub invariant-loop-bit : goal.invariant-loop-bit
 invariant-loop-bit g l =
-    AreTold l.host l.class l.mask l.bit (Tells (g.W.Write.contents l.fn.writer) l.fn.output (g.W.Write.contents l.writer) l.output) l.is_first
+    AreTold l.host l.class l.mask l.bit (Tells l.fn.output l.output) l.is_first

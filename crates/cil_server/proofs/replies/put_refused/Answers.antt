@@ -5,5 +5,4 @@ use Rattle.cil_server.proofs.replies.put_refused.Goals as goal
 
 pub returns : goal.returns
 returns g c =
-    tells_three (g.W.Write.contents c.args.writer.now) (g.W.Write.contents c.put.new.writer) (g.W.Write.contents c.put_number.new.writer) (g.W.Write.contents c.put-2.new.writer)
-    c.args.output.now c.put.new.self c.put_number.new.output c.put-2.new.self (codes "ERR") (spaced c.args.code) newline c.put.ensures c.put_number.ensures c.put-2.ensures
+    tells_three c.args.output.now c.put.new.self c.put_number.new.output c.put-2.new.self (codes "ERR") (spaced c.args.code) newline c.put.ensures c.put_number.ensures c.put-2.ensures
