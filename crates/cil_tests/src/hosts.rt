@@ -29,93 +29,117 @@ pub(crate) enum Call {
     Permission(&'static [u8], u32, Option<&'static [u8]>),
 }
 
-/// The lengths of the modules that a host lists.
-fn lengths(alloc: Global, host: &Host<u8>) -> Result<Vec<u64>, Fail> {
-    let lines = host.list(alloc)?;
-    Ok(lines.iter().map(|line| line.length).collect(alloc)?)
-}
+// Each of these functions writes down what is wrong with an answer, and nothing where it is the wanted one.
 
-/// What is wrong with the answer to an import; nothing where it is the wanted one.
-pub(crate) fn wrong_import(
+pub(crate) fn note_import(
+    out: &mut String,
     alloc: Global,
     host: &mut Host<u8>,
     bundle: &[u8],
     want: Result<u64, BundleFault>,
-) -> Result<String, Fail> {
+) -> Result<(), Fail> {
     let got = match host.import(alloc, bundle) {
         Ok(added) => Ok(added),
         Err(BundleError::Fault(fault)) => Err(fault),
         Err(BundleError::NoMemory) => return Err(Fail::from("no memory")),
     };
-    if got == want {
-        return Ok(String::new(alloc));
+    if got != want {
+        write!(out, "import: got {got:?}, not {want:?}; ")?;
     }
-    Ok(format!(in alloc; "import: got {got:?}, not {want:?}")?)
+    Ok(())
 }
 
-/// What is wrong with a load: the number of its faults, where others are wanted. A load without faults has none.
-fn wrong_load(alloc: Global, host: &mut Host<u8>, want: usize) -> Result<String, Fail> {
+/// A load without faults has none.
+fn note_load(
+    out: &mut String,
+    alloc: Global,
+    host: &mut Host<u8>,
+    want: usize,
+) -> Result<(), Fail> {
     let got = match host.load(alloc) {
         Ok(_) => 0,
         Err(Failure::Faults(faults)) => faults.len(),
         Err(Failure::NoMemory) => return Err(Fail::from("no memory")),
     };
-    if got == want {
-        return Ok(String::new(alloc));
+    if got != want {
+        write!(out, "load: got {got} faults, not {want}; ")?;
     }
-    Ok(format!(in alloc; "load: got {got} faults, not {want}")?)
+    Ok(())
 }
 
-/// What is wrong with the list of the modules' lengths.
-fn wrong_list(alloc: Global, host: &Host<u8>, want: &[u64]) -> Result<String, Fail> {
-    let got = lengths(alloc, host)?;
-    if got.as_slice() == want {
-        return Ok(String::new(alloc));
+fn note_list(out: &mut String, alloc: Global, host: &Host<u8>, want: &[u64]) -> Result<(), Fail> {
+    let lines = host.list(alloc)?;
+    if lines.len() != want.len() {
+        let got = lines.len();
+        write!(out, "list: got {got} modules; ")?;
     }
-    Ok(format!(in alloc; "list: got {got:?}, not {want:?}")?)
+    for (line, want) in lines.iter().zip(want) {
+        let got = line.length;
+        if got != *want {
+            write!(out, "list: got a module of {got} bytes, not {want}; ")?;
+        }
+    }
+    Ok(())
 }
 
-/// What is wrong with the answer to a call; nothing where it is the wanted one.
-pub(crate) fn wrong(alloc: Global, host: &mut Host<u8>, call: Call) -> Result<String, Fail> {
+fn note_query(
+    out: &mut String,
+    host: &mut Host<u8>,
+    (source, target, class): (&[u8], &[u8], &[u8]),
+    want: Result<Decision, QueryFault>,
+) -> Result<(), Fail> {
+    let got = host.query(source, target, class);
+    if got != want {
+        write!(out, "query: got {got:?}, not {want:?}; ")?;
+    }
+    Ok(())
+}
+
+fn note_permission(
+    out: &mut String,
+    host: &Host<u8>,
+    class: &[u8],
+    bit: u32,
+    want: Option<&[u8]>,
+) -> Result<(), Fail> {
+    if host.permission(class, bit) == want {
+        return Ok(());
+    }
+    match host.permission(class, bit) {
+        Some(name) => write!(out, "permission {bit}: got {name:?}; ")?,
+        None => write!(out, "permission {bit}: got none; ")?,
+    }
+    Ok(())
+}
+
+fn note_call(out: &mut String, alloc: Global, host: &mut Host<u8>, call: Call) -> Result<(), Fail> {
     match call {
         Call::Install(text) => {
             host.install(alloc, text.as_bytes())?;
-            Ok(String::new(alloc))
+            Ok(())
         }
-        Call::Import(bundle, want) => wrong_import(alloc, host, bundle, want),
-        Call::List(lengths) => wrong_list(alloc, host, lengths),
-        Call::Load => wrong_load(alloc, host, 0),
-        Call::LoadFails(count) => wrong_load(alloc, host, count),
+        Call::Import(bundle, want) => note_import(out, alloc, host, bundle, want),
+        Call::List(lengths) => note_list(out, alloc, host, lengths),
+        Call::Load => note_load(out, alloc, host, 0),
+        Call::LoadFails(count) => note_load(out, alloc, host, count),
         Call::Query(source, target, class, want) => {
-            let got = host.query(source, target, class);
-            if got == want {
-                return Ok(String::new(alloc));
-            }
-            Ok(format!(in alloc; "query: got {got:?}, not {want:?}")?)
+            note_query(out, host, (source, target, class), want)
         }
-        Call::Permission(class, bit, want) => {
-            let got = host.permission(class, bit);
-            if got == want {
-                return Ok(String::new(alloc));
-            }
-            Ok(format!(in alloc; "permission {bit}: got {got:?}, not {want:?}")?)
-        }
+        Call::Permission(class, bit, want) => note_permission(out, host, class, bit, want),
     }
 }
 
-/// The first wrong answer to some calls, one after the other, behind the number of its call; nothing where all are right.
-pub(crate) fn first_wrong(
+/// The calls are made one after the other.
+pub(crate) fn note_calls(
+    out: &mut String,
     alloc: Global,
     host: &mut Host<u8>,
     calls: &[Call],
-) -> Result<String, Fail> {
-    for (number, call) in calls.iter().enumerate() {
-        let wrong = wrong(alloc, host, *call)?;
-        if !wrong.as_str().is_empty() {
-            return Ok(format!(in alloc; "call {number}: {wrong}")?);
-        }
+) -> Result<(), Fail> {
+    for call in calls {
+        note_call(out, alloc, host, *call)?;
     }
-    Ok(String::new(alloc))
+    Ok(())
 }
 
 pub(crate) const A: &[u8] = b"u:r:a";
@@ -233,7 +257,8 @@ fn hosts_answer_as_worked(rt: HostRuntime) -> Result<(), Fail> {
     let alloc = rt.alloc();
     for &(name, calls) in WORKED {
         let mut host: Host<u8> = Host::new(alloc, 512, 0);
-        let wrong = first_wrong(alloc, &mut host, calls)?;
+        let mut wrong = String::new(alloc);
+        note_calls(&mut wrong, alloc, &mut host, calls)?;
         assert_eq!(rt; wrong.as_str(), "", "{name}");
     }
     Ok(())
@@ -262,7 +287,9 @@ fn modules_are_listed_in_byte_order(rt: HostRuntime) -> Result<(), Fail> {
         Call::Install("(type a)"),
         Call::Install("(type b)"),
     ];
-    assert_eq!(rt; first_wrong(alloc, &mut host, &calls)?.as_str(), "");
+    let mut wrong = String::new(alloc);
+    note_calls(&mut wrong, alloc, &mut host, &calls)?;
+    assert_eq!(rt; wrong.as_str(), "");
     let want = [DIGEST_OF_A, DIGEST_OF_B].map(|digest| ListLine { digest, length: 8 });
     assert_eq!(rt; host.list(alloc)?.as_slice(), want.as_slice());
     Ok(())

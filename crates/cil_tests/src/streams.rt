@@ -145,8 +145,14 @@ fn fails_to_write(alloc: Global, step: usize, taken: usize, takes_nothing: bool)
 fn a_writer_may_fail_at_each_call(rt: HostRuntime) {
     for taken in 0..17usize {
         for &step in &[1usize, 100] {
-            assert!(rt; fails_to_write(rt.alloc(), step, taken, false), "behind {taken} bytes, {step} a read");
-            assert!(rt; fails_to_write(rt.alloc(), step, taken, true), "behind {taken} bytes, {step} a read");
+            assert!(rt;
+                fails_to_write(rt.alloc(), step, taken, false),
+                "behind {taken} bytes, {step} a read"
+            );
+            assert!(rt;
+                fails_to_write(rt.alloc(), step, taken, true),
+                "behind {taken} bytes, {step} a read"
+            );
         }
     }
 }
@@ -216,8 +222,16 @@ const ASKED: &[(&[(usize, &[u8])], &[u8], Served)] = &[
     // An empty part is the end of the input: nothing is asked for behind it.
     (&[(0, b"LIST\n"), (5, b"")], b"OK 0\n", Served::End),
     (&[(0, b"")], b"", Served::End),
-    (&[(0, b"LIST\nLI"), (5, b"")], b"OK 0\nERR 83\n", Served::Fault(83)),
-    (&[(0, b"INSTALL 67108865\n")], b"ERR 84\n", Served::Fault(84)),
+    (
+        &[(0, b"LIST\nLI"), (5, b"")],
+        b"OK 0\nERR 83\n",
+        Served::Fault(83),
+    ),
+    (
+        &[(0, b"INSTALL 67108865\n")],
+        b"ERR 84\n",
+        Served::Fault(84),
+    ),
 ];
 
 /// Whether a session with a client that waits for its replies ends so, with all replies out.
@@ -242,7 +256,10 @@ fn answers_as_asked(
 #[test]
 fn each_reply_is_out_before_more_is_asked_for(rt: HostRuntime) {
     for &(parts, output, ending) in ASKED {
-        assert!(rt; answers_as_asked(rt.alloc(), parts, output, ending), "{output:?}");
+        assert!(rt;
+            answers_as_asked(rt.alloc(), parts, output, ending),
+            "{output:?}"
+        );
     }
 }
 
@@ -259,7 +276,8 @@ fn stops_in_a_long_reply(alloc: Global) -> Result<bool, Fail> {
         takes_nothing: false,
     });
     let served = serve(alloc, &mut host, &mut reader, &mut writer);
-    let is_front = writer.into_inner().taken.as_slice() == b"OK 70021\nCILB\x01\0\0\0\0\0\0\0\x01\0\0\0\0\0\x01\x11".as_slice();
+    let is_front = writer.into_inner().taken.as_slice()
+        == b"OK 70021\nCILB\x01\0\0\0\0\0\0\0\x01\0\0\0\0\0\x01\x11".as_slice();
     Ok(served == Served::WriteFailed && is_front && modules_of(alloc, &host) == 1)
 }
 
