@@ -1,4 +1,4 @@
-//! The replies, told piece by piece, so that none of them takes memory.
+//! The replies, written piece by piece, so that none of them needs memory.
 
 ghost use Rattle.std.specs.Prelude.{◌<◌, ◌++◌, ℕ, List, MatchOption, codes};
 ghost use Rattle.hex.specs.Hex.{encode_lower};

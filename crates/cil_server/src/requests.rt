@@ -16,7 +16,7 @@ use cil_modset::NoMemory;
 use cil_syntax::{Failure, render};
 use std::alloc::Global;
 
-/// INSTALL: hands a text to the host, and tells whether it was new.
+/// INSTALL: hands a text to the host, and replies whether it was new.
 pub(crate) fn install<S: Drop, W: Sink>(
     alloc: Global,
     host: &mut Host<S>,
@@ -30,7 +30,7 @@ pub(crate) fn install<S: Drop, W: Sink>(
     put_installed(output, installed);
 }
 
-/// IMPORT: hands a bundle to the host, and tells how many modules were new.
+/// IMPORT: hands a bundle to the host, and replies how many modules were new.
 pub(crate) fn import<S: Drop, W: Sink>(
     alloc: Global,
     host: &mut Host<S>,

@@ -29,7 +29,7 @@ const WRONG: &[(&[&str], &str)] = &[
     (&["help", "serve"], "unrecognized subcommand 'serve'"),
 ];
 
-/// Whether wrong words are told on standard error, and nothing else.
+/// Whether wrong words are reported on standard error, and nothing else.
 fn are_refused(left: &Left, part: &str) -> bool {
     left.status == Status::Usage && left.output.is_empty() && has(left.messages.as_slice(), part)
 }
@@ -67,7 +67,7 @@ const HELP: &[(&[&str], &str)] = &[
     (&["help", "session"], "AV source target class"),
 ];
 
-/// Whether help is told on standard output, and nothing else.
+/// Whether help is on standard output, and nothing else.
 fn is_helped(left: &Left, part: &str) -> bool {
     left.status == Status::Done && left.messages.is_empty() && has(left.output.as_slice(), part)
 }
