@@ -74,9 +74,24 @@ fn statements_are_asked_by_their_forms(rt: HostRuntime) -> Result<(), Fail> {
     Ok(())
 }
 
+/// The word in front of terms, where there is one.
+fn word_in_front<'t, 'a>(terms: &'t [Term<'a>], module: u64) -> Option<&'a str> {
+    match word_and_terms(terms, module) {
+        Some(found) => Some(text(found.word.bytes.as_slice())),
+        None => None,
+    }
+}
+
+/// How many terms are behind the word in front, where there is one.
+fn terms_behind<'t, 'a>(terms: &'t [Term<'a>], module: u64) -> Option<usize> {
+    match word_and_terms(terms, module) {
+        Some(found) => Some(found.terms.len()),
+        None => None,
+    }
+}
+
 #[test]
 fn terms_are_asked_by_their_forms(rt: HostRuntime) -> Result<(), Fail> {
-    let alloc = rt.alloc();
     let bytes = Excerpt::of(b"file");
     let word = LookedUp {
         bytes,
@@ -84,11 +99,10 @@ fn terms_are_asked_by_their_forms(rt: HostRuntime) -> Result<(), Fail> {
         sign: Sign::Classes,
     };
     assert_eq!(rt; word.in_module(2).at, Spot::of(2, 7));
-    let terms = vec![in alloc; Term::Leaf(word), Term::Name(12, Excerpt::of(b"read"))]?;
-    let found = word_and_terms(terms.as_slice(), 2).ok_or("no word in front")?;
-    assert_eq!(rt; found.word.bytes.as_slice(), b"file".as_slice());
-    assert_eq!(rt; found.terms.len(), 1);
-    assert!(rt; word_and_terms(found.terms, 2).is_none());
+    let terms = [Term::Leaf(word), Term::Name(12, Excerpt::of(b"read"))];
+    assert_eq!(rt; word_in_front(&terms, 2), Some("file"));
+    assert_eq!(rt; terms_behind(&terms, 2), Some(1));
+    assert_eq!(rt; word_in_front(&[], 2), None);
     assert!(rt; Op::ClassPermissions.is_class_list());
     assert!(rt; !Op::Union.is_class_list());
     Ok(())
