@@ -21,11 +21,11 @@ use Rattle.cil_decide.specs.declared.tables.Rule.{Rule}
 use Rattle.cil_decide.specs.declared.tables.Target.{Target}
 use Rattle.cil_decide.specs.declared.tables.Target.TheVariants.{Types, Itself}
 use Rattle.cil_decide.specs.Compiled.{Case, HasBit, HasNumber, HasTarget, IsCase, IsLink, IsNameOf, IsRowOf, IsRuleOf, IsTable, IsTargetOf}
-use Rattle.cil_decide.specs.Declarations.{Declared, Symbol}
-use Rattle.cil_decide.specs.Item.{ScopedWord, Item, nobody}
+use Rattle.cil_names.specs.Declarations.{Declared, Symbol}
+use Rattle.cil_names.specs.Item.{ScopedWord, Item, nobody}
 use Rattle.cil_decide.specs.Pairs.{HasPair}
 use Rattle.cil_decide.specs.Passes.{AreFlat, global_symbol}
-use Rattle.cil_decide.specs.Resolves.{has_permission}
+use Rattle.cil_names.specs.Resolves.{has_permission}
 use Rattle.cil_decide.specs.Table.{Table, class_cmp, link_cmp, link_total, one_link, rule_cmp, rule_total, one_rule}
 use Rattle.cil_decide.proofs.BitLemmas.{none_set, set_in_either, set_is_one}
 use Rattle.cil_decide.proofs.CompileLemmas.{rising_by}

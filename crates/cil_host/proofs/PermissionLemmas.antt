@@ -15,11 +15,11 @@ use Rattle.cil_syntax.specs.declared.kind.Kind.TheVariants as kinds
 use Rattle.cil_syntax.specs.Written.{IsWritten, written_cmp, written_total}
 use Rattle.cil_decide.specs.declared.tables.Class.{Class}
 use Rattle.cil_decide.specs.Agrees.{Compiles}
-use Rattle.cil_decide.specs.Declarations.{Declared}
+use Rattle.cil_names.specs.Declarations.{Declared}
 use Rattle.cil_decide.specs.Flat.{AreItems, item_of}
-use Rattle.cil_decide.specs.Item.{Item, nobody}
+use Rattle.cil_names.specs.Item.{Item, nobody}
 use Rattle.cil_decide.specs.Meaning.{IsClassAt, IsPermissionAt}
-use Rattle.cil_decide.specs.Resolves.{has_permission}
+use Rattle.cil_names.specs.Resolves.{has_permission}
 use Rattle.cil_decide.specs.Table.{Table, class_cmp}
 use Rattle.cil_host.specs.Permissions.{IsPermissionOf}
 

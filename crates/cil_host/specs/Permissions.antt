@@ -3,10 +3,10 @@ use Rattle.std.specs.Prelude.{◌≡◌, ℕ, ◌<◌, true, List, slice_get, So
 use Rattle.std.specs.declared.cmp.Ordering.TheVariants.{Less}
 use Rattle.cil_sexpr.specs.Lists.{Lists, text_cmp}
 use Rattle.cil_syntax.specs.declared.kind.Kind.TheVariants as kinds
-use Rattle.cil_decide.specs.Declarations.{Declared, Symbol, name_of}
+use Rattle.cil_names.specs.Declarations.{Declared, Symbol, name_of}
 use Rattle.cil_decide.specs.Flat.{AreItems}
-use Rattle.cil_decide.specs.Item.{Item, nobody}
-use Rattle.cil_decide.specs.Resolves.{has_permission}
+use Rattle.cil_names.specs.Item.{Item, nobody}
+use Rattle.cil_names.specs.Resolves.{has_permission}
 use Rattle.cil_host.specs.Machine.{OfLoaded, State}
 
 -- the class of this name has this permission at this place of the byte order of its permissions

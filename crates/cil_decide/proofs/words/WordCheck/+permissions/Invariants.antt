@@ -1,5 +1,5 @@
 use Rattle.std.specs.Prelude.{◌≡◌, ◌++◌, take}
-use Rattle.cil_decide.specs.Item.{all_words_in}
+use Rattle.cil_names.specs.Item.{all_words_in}
 use Rattle.cil_decide.specs.Passes.{all_scoped}
 use Rattle.cil_decide.specs.Unresolved.{faults_unless_listed}
 use Rattle.cil_decide.proofs.words.WordCheck.+permissions.Given as goal

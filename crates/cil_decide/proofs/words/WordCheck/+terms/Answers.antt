@@ -1,7 +1,7 @@
 use Rattle.std.proofs.Common.{◌≡◌, ◌++◌, sym, ◌∙◌, subst}
 use Rattle.cil_syntax.specs.declared.term.Word.{Word}
 use Rattle.cil_decide.specs.Flat.{globally}
-use Rattle.cil_decide.specs.Resolves.{Word as AWord}
+use Rattle.cil_names.specs.Resolves.{Word as AWord}
 use Rattle.cil_decide.specs.Unresolved.{faults_of_wanted}
 use Rattle.cil_decide.proofs.WordLemmas.{leaf_told, name_told, class_told, form_told, nothing_untold, more_untold, all_untold}
 use Rattle.cil_decide.proofs.words.WordCheck.+terms.Goals as goal

@@ -1,7 +1,7 @@
 use Rattle.std.specs.Prelude.{◌≡◌, ◌++◌, List, take}
-use Rattle.cil_decide.specs.Item.{Item}
+use Rattle.cil_names.specs.Item.{Item}
 use Rattle.cil_decide.specs.Passes.{AreSymbols, all_scoped}
-use Rattle.cil_decide.specs.Resolves.{all_wanted_in}
+use Rattle.cil_names.specs.Resolves.{all_wanted_in}
 use Rattle.cil_decide.specs.Unresolved.{faults_of_all}
 use Rattle.cil_decide.proofs.words.WordCheck.+terms.Given as goal
 

@@ -1,0 +1,131 @@
+-- The entries that a word could name.
+use Rattle.std.proofs.Common.{◌≡◌, ℕ, zero, suc, ◌≤◌, ◌&&◌, Bool, true, false, cond, List, [], ◌∷◌, ◌++◌, length, refl, sym, ◌∙◌, ap, inl, inr, arith}
+use Rattle.std.specs.Prelude.{Option, Some, None, MatchOption, slice_get}
+use Rattle.std.specs.Option.{option_map}
+use Rattle.std.specs.Cmp.Lexicographic.{bytes_decides, pointwise_decides}
+use Rattle.std.proofs.lemmas.Bool.{cases_Bool, true≢false}
+use Rattle.cil_syntax.specs.declared.kind.Sign.{Sign}
+use Rattle.cil_syntax.specs.Spelling.{same_bytes}
+use Rattle.cil_names.specs.declared.entry.Entry.{Entry}
+use Rattle.cil_names.specs.declared.space.Space.{Space}
+use Rattle.cil_names.specs.Entries.{AreOrdered, HasNoEntry, IsEntryAt, candidate, is_entry, is_entry_of, place_where}
+use Rattle.cil_names.specs.Item.{Namespace}
+use Rattle.cil_names.specs.Resolves.{is_wanted, names_backwards, same_space}
+use Rattle.cil_names.specs.Spaces.{AreSpaces, HasNoNumber, IsAskedAt, IsAskedNowhere, IsNumber, space_at}
+use Rattle.cil_names.proofs.EntryLemmas.{parts_fit, they_fit}
+use Rattle.cil_names.proofs.SearchLemmas.{member_of_number}
+use Rattle.cil_names.proofs.SpaceLemmas.{same_number}
+
+module _ {X : Type 0} (p : X → Bool) where
+  passed : (x : X) (xs : List X) → p x ≡ true → place_where p (x ∷ xs) ≡ Some 0
+  unfolding place_where
+  passed x xs e = ap (λ b. cond b (Some 0) (option_map suc (place_where p xs))) e
+
+  failed : (x : X) (xs : List X) → p x ≡ false → place_where p (x ∷ xs) ≡ option_map suc (place_where p xs)
+  unfolding place_where
+  failed x xs e = ap (λ b. cond b (Some 0) (option_map suc (place_where p xs))) e
+
+  pub place_none : (xs : List X) → ((m : ℕ) (x : X) → slice_get xs m ≡ Some x → p x ≡ true → ⊥) → place_where p xs ≡ None
+  unfolding place_where
+  place_none [] none = refl
+  place_none (x ∷ xs) none =
+      elim (cases_Bool (p x)) [
+        | inl t ↦ absurd (none 0 x refl t)
+        | inr f ↦ failed x xs f ∙ ap (option_map suc) (place_none xs (λ m y at. none (suc m) y at))
+      ]
+
+  pub place_some : (xs : List X) (d : ℕ) (e : X) → slice_get xs d ≡ Some e → p e ≡ true → ((m : ℕ) (x : X) → slice_get xs m ≡ Some x → p x ≡ true → m ≡ d)
+      → place_where p xs ≡ Some d
+  place_some [] d e at fits only = absurd cc
+  place_some (x ∷ xs) zero e at fits only = passed x xs (ap p (let s : x ≡ e = cc in s) ∙ fits)
+  place_some (x ∷ xs) (suc d) e at fits only =
+      elim (cases_Bool (p x)) [
+        | inl t ↦ absurd (let z = only 0 x refl t in omega (arith, z))
+        | inr f ↦ failed x xs f ∙ ap (option_map suc) (place_some xs d e at fits (λ m y is t. let z = only (suc m) y is t in omega (arith, z)))
+      ]
+
+  one_number : (a b : ℕ) → Some a ≡ Some b → a ≡ b
+  one_number a b e = cc
+
+  behind : (x : X) (xs : List X) (d : ℕ) (o : Option ℕ) → ((k : ℕ) → o ≡ Some k → (y : X) × (slice_get xs k ≡ Some y) × (p y ≡ true)) → option_map suc o ≡ Some d
+      → (y : X) × (slice_get (x ∷ xs) d ≡ Some y) × (p y ≡ true)
+  behind x xs d None more e = absurd (let g : None ≡ Some d = e in cc)
+  behind x xs d (Some k) more e =
+      let z : suc k ≡ d = one_number (suc k) d e in
+      let (y, at, t) = more k refl in
+      (y, ap (slice_get (x ∷ xs)) (sym z) ∙ at, t)
+
+  pub place_is : (xs : List X) (d : ℕ) → place_where p xs ≡ Some d → (x : X) × (slice_get xs d ≡ Some x) × (p x ≡ true)
+  unfolding place_where
+  place_is [] d e = absurd (let g : None ≡ Some d = e in cc)
+  place_is (x ∷ xs) d e =
+      elim (cases_Bool (p x)) [
+        | inl t ↦ let z : 0 ≡ d = one_number 0 d (sym (passed x xs t) ∙ e) in (x, ap (slice_get (x ∷ xs)) (sym z), t)
+        | inr f ↦ behind x xs d (place_where p xs) (place_is xs) (sym (failed x xs f) ∙ e)
+      ]
+
+pub spaces_decide : (a b : Namespace) → (same_space a b ≡ true → a ≡ b) × (a ≡ b → same_space a b ≡ true)
+spaces_decide a b = pointwise_decides bytes_decides a b
+
+both_true : (a b : Bool) → (a && b) ≡ true → (a ≡ true) × (b ≡ true)
+both_true true b e = (refl, e)
+both_true false b e = absurd (true≢false (sym e))
+
+heads : (x y : List ℕ) (m n : Namespace) → x ∷ m ≡ y ∷ n → x ≡ y
+heads x y m n e = cc
+
+tails : (x y : List ℕ) (m n : Namespace) → x ∷ m ≡ y ∷ n → m ≡ n
+tails x y m n e = cc
+
+-- what an entry of a namespace is
+pub parts_of : (ss : List Space) (name : List ℕ) (sign : Sign) (n : Namespace) (e : Entry) → is_entry_of ss name sign n e ≡ true
+    → (space_at ss e.space ≡ n) × (e.name ≡ name) × (is_wanted sign e.kind ≡ true)
+parts_of ss name sign n e fits =
+    let (front, wanted) = both_true (same_space (space_at ss e.space) n && same_bytes e.name name) (is_wanted sign e.kind) fits in
+    let (space, named) = both_true (same_space (space_at ss e.space) n) (same_bytes e.name name) front in
+    ((spaces_decide (space_at ss e.space) n).0 space, (bytes_decides e.name name).0 named, wanted)
+
+pub they_are : (ss : List Space) (name : List ℕ) (sign : Sign) (n : Namespace) (e : Entry) → space_at ss e.space ≡ n → e.name ≡ name → is_wanted sign e.kind ≡ true
+    → is_entry_of ss name sign n e ≡ true
+they_are ss name sign n e p q r =
+    ap (λ b. b && same_bytes e.name name && is_wanted sign e.kind) ((spaces_decide (space_at ss e.space) n).1 p)
+    ∙ ap (λ b. b && is_wanted sign e.kind) ((bytes_decides e.name name).1 q)
+    ∙ r
+
+module _ (ss : List Space) (are : AreSpaces ss) (es : List Entry) (ordered : AreOrdered ss es) (name : List ℕ) (sign : Sign) (n : Namespace) where
+  within_at : (m : ℕ) (e : Entry) → slice_get es m ≡ Some e → e.space ≤ length ss
+  within_at m e at = ordered.within e (member_of_number es m e at)
+
+  pub no_space : HasNoNumber ss n → None ≡ candidate ss es name sign n
+  no_space none =
+      sym (place_none (is_entry_of ss name sign n) es (λ m e at t.
+      let (space, named, wanted) = parts_of ss name sign n e t in none e.space (record { within = within_at m e at; is = space })))
+
+  module _ (k : ℕ) (numbered : IsNumber ss n k) where
+    pub by_number : (m : ℕ) (e : Entry) → slice_get es m ≡ Some e → is_entry_of ss name sign n e ≡ true → is_entry name sign k e ≡ true
+    by_number m e at t =
+        let (space, named, wanted) = parts_of ss name sign n e t in
+        they_fit name sign k e (same_number ss are n e.space k (record { within = within_at m e at; is = space }) numbered) named wanted
+
+    pub by_space : (e : Entry) → is_entry name sign k e ≡ true → is_entry_of ss name sign n e ≡ true
+    by_space e t =
+        let (space, named, wanted) = parts_fit name sign k e t in
+        they_are ss name sign n e (ap (space_at ss) space ∙ numbered.is) named wanted
+
+    pub answer : (r : Option ℕ) → MatchOption r (HasNoEntry es name sign k) (IsEntryAt es name sign k) → r ≡ candidate ss es name sign n
+    answer None none = sym (place_none (is_entry_of ss name sign n) es (λ m e at t. none m e at (by_number m e at t)))
+    answer (Some d) some =
+        sym (place_some (is_entry_of ss name sign n) es d some.entry some.at (by_space some.entry some.fits) (λ m e at t. some.only m e at (by_number m e at t)))
+
+module _ (ss : List Space) (are : AreSpaces ss) (es : List Entry) (ordered : AreOrdered ss es) (sign : Sign) (from : ℕ) (path : List ℕ) where
+  pub nowhere : IsAskedNowhere ss from path → (name : List ℕ) (inner : List (List ℕ)) → names_backwards path ≡ name ∷ inner
+      → None ≡ candidate ss es name sign (inner ++ space_at ss from)
+  nowhere none name inner e = no_space ss are es ordered name sign (inner ++ space_at ss from) (none name inner e)
+
+  pub somewhere : (k : ℕ) (given : List ℕ) → IsAskedAt ss from path k given → (r : Option ℕ) → MatchOption r (HasNoEntry es given sign k) (IsEntryAt es given sign k)
+      → (name : List ℕ) (inner : List (List ℕ)) → names_backwards path ≡ name ∷ inner → r ≡ candidate ss es name sign (inner ++ space_at ss from)
+  somewhere k given at r found name inner e =
+      let both : given ∷ at.inner ≡ name ∷ inner = sym at.taken ∙ e in
+      answer ss are es ordered given sign (at.inner ++ space_at ss from) k at.numbered r found
+      ∙ ap (λ x. candidate ss es x sign (at.inner ++ space_at ss from)) (heads given name at.inner inner both)
+      ∙ ap (λ m. candidate ss es name sign (m ++ space_at ss from)) (tails given name at.inner inner both)

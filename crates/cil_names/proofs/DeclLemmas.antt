@@ -1,0 +1,95 @@
+-- A namespace has a name exactly where an entry of it is declared.
+use Rattle.std.proofs.Common.{◌≡◌, ℕ, ◌&&◌, ◌||◌, Bool, true, false, List, [], ◌∷◌, refl, sym, ◌∙◌, ap, inl, inr}
+use Rattle.std.specs.Prelude.{Contains}
+use Rattle.std.specs.List.{list_any}
+use Rattle.std.specs.Cmp.Lexicographic.{bytes_decides}
+use Rattle.std.proofs.lemmas.Bool.{or_cases, and_parts, and_from, true≢false}
+use Rattle.cil_sexpr.specs.Lists.{contains_here, contains_later, contains_cases, contains_none}
+use Rattle.cil_syntax.specs.declared.kind.Sign.{Sign}
+use Rattle.cil_syntax.specs.Spelling.{same_bytes}
+use Rattle.cil_names.specs.declared.entry.Entry.{Entry}
+use Rattle.cil_names.specs.declared.instance.Instance.{Instance}
+use Rattle.cil_names.specs.declared.space.Space.{Space}
+use Rattle.cil_names.specs.Declarations.{Declaration, IsDeclaration, by, declared_by, object, object_role}
+use Rattle.cil_names.specs.Entries.{AreEntries, is_declared_in, is_entry_of, items_of}
+use Rattle.cil_names.specs.Item.{Item, Namespace, OptSet, is_enabled}
+use Rattle.cil_names.specs.Resolves.{fits, has, is_wanted, same_space}
+use Rattle.cil_names.proofs.CandidateLemmas.{parts_of, spaces_decide, they_are}
+use Rattle.cil_names.proofs.SearchLemmas.{member_of_number, number_of_member}
+
+or_second : (a b : Bool) → b ≡ true → (a || b) ≡ true
+or_second true b h = refl
+or_second false b h = h
+
+module _ {X : Type 0} (p : X → Bool) where
+  any_from : (xs : List X) (x : X) → Contains xs x → p x ≡ true → list_any p xs ≡ true
+  any_from [] x c e = absurd (contains_none x c)
+  any_from (y ∷ ys) x c e =
+      elim (contains_cases x y ys c) [
+        | inl s ↦ ap (λ b. b || list_any p ys) (ap p s ∙ e)
+        | inr d ↦ or_second (p y) (list_any p ys) (any_from ys x d e)
+      ]
+
+  any_true : (xs : List X) → list_any p xs ≡ true → (x : X) × Contains xs x × (p x ≡ true)
+  any_true [] e = absurd (let f : false ≡ true = e in cc)
+  any_true (x ∷ xs) e =
+      elim (or_cases (p x) (list_any p xs) e) [
+        | inl h ↦ (x, contains_here x xs, h)
+        | inr h ↦ let r = any_true xs h in (r.0, contains_later r.0 x xs r.1, r.2)
+      ]
+
+module _ (xs : List Item) (s : OptSet) (name : List ℕ) (sign : Sign) (n : Namespace) where
+  pub has_true : has xs s name sign n ≡ true → (d : Declaration) × IsDeclaration xs s d × (fits name sign n d ≡ true)
+  unfolding has
+  has_true e =
+      elim (or_cases (fits name sign n object_role) _ e) [
+        | inl h ↦ (object_role, object, h)
+        | inr h ↦
+            let some = any_true (λ x. is_enabled s x && list_any (fits name sign n) (declared_by x)) xs h in
+            let both = and_parts (is_enabled s some.0) (list_any (fits name sign n) (declared_by some.0)) some.2 in
+            let one = any_true (fits name sign n) (declared_by some.0) both.1 in
+            (one.0, by some.0 one.0 some.1 both.0 one.1, one.2)
+      ]
+
+  pub has_from : (d : Declaration) → IsDeclaration xs s d → fits name sign n d ≡ true → has xs s name sign n ≡ true
+  unfolding has
+  has_from d object h = ap (λ b. b || list_any (λ x. is_enabled s x && list_any (fits name sign n) (declared_by x)) xs) h
+  has_from d (by x e c is_on by_it) h =
+      or_second (fits name sign n object_role) _
+      (any_from (λ y. is_enabled s y && list_any (fits name sign n) (declared_by y)) xs x c
+      (and_from (is_enabled s x) (list_any (fits name sign n) (declared_by x)) is_on (any_from (fits name sign n) (declared_by x) d by_it h)))
+
+same_truth : (a b : Bool) → (a ≡ true → b ≡ true) → (b ≡ true → a ≡ true) → a ≡ b
+same_truth true b f g = sym (f refl)
+same_truth false true f g = absurd (true≢false (sym (g refl)))
+same_truth false false f g = refl
+
+module _ (ss : List Space) (is : List Instance) (es : List Entry) (entries : AreEntries ss is es) (s : OptSet) (name : List ℕ) (sign : Sign) (n : Namespace) where
+  abbrev both : Entry → Bool
+  both e = is_entry_of ss name sign n e && is_declared_in s e
+
+  there : has (items_of ss is) s name sign n ≡ true → list_any both es ≡ true
+  there h =
+      let (d, is_d, f) = has_true (items_of ss is) s name sign n h in
+      let (front, spaced) = and_parts (same_bytes d.name name && is_wanted sign d.kind) (same_space d.space n) f in
+      let (named, wanted) = and_parts (same_bytes d.name name) (is_wanted sign d.kind) front in
+      let (i, e) = entries.each s d is_d in
+      any_from both es e.entry (member_of_number es i e.entry e.at)
+      (and_from (is_entry_of ss name sign n e.entry) (is_declared_in s e.entry)
+      (they_are ss name sign n e.entry (e.in_space ∙ (spaces_decide d.space n).0 spaced) (e.of_name ∙ (bytes_decides d.name name).0 named) (ap (is_wanted sign) e.of_kind ∙ wanted))
+      e.live)
+
+  back : list_any both es ≡ true → has (items_of ss is) s name sign n ≡ true
+  back h =
+      let (e, c, f) = any_true both es h in
+      let (fits_it, live) = and_parts (is_entry_of ss name sign n e) (is_declared_in s e) f in
+      let (space, named, wanted) = parts_of ss name sign n e fits_it in
+      let (i, at) = number_of_member es e c in
+      let (d, is_d, k, m, l) = entries.only s i e at live in
+      has_from (items_of ss is) s name sign n d is_d
+      (and_from (same_bytes d.name name && is_wanted sign d.kind) (same_space d.space n)
+      (and_from (same_bytes d.name name) (is_wanted sign d.kind) ((bytes_decides d.name name).1 (l ∙ named)) (ap (is_wanted sign) k ∙ wanted))
+      ((spaces_decide d.space n).1 (m ∙ space)))
+
+  pub has_as : has (items_of ss is) s name sign n ≡ list_any both es
+  has_as = same_truth _ _ there back

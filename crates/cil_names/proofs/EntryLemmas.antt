@@ -1,0 +1,75 @@
+-- Entries, by their keys and by what words want.
+use Rattle.std.proofs.Common.{◌≡◌, ℕ, ◌&&◌, ◌==◌, Bool, true, false, List, get_or, refl, sym, ◌∙◌, ap, arith}
+use Rattle.std.specs.Prelude.{Some, slice_get}
+use Rattle.std.specs.Cmp.Lexicographic.{bytes_decides}
+use Rattle.std.proofs.lemmas.Bool.{true≢false}
+use Rattle.std.proofs.lemmas.Option.{slice_get_within, slice_get-get_or}
+use Rattle.std.proofs.lemmas.Bool.Decides.{nat_tests}
+use Rattle.cil_syntax.specs.declared.kind.Kind.{Kind}
+use Rattle.cil_syntax.specs.declared.kind.Sign.{Sign}
+use Rattle.cil_syntax.specs.Spelling.{same_bytes}
+use Rattle.cil_names.specs.declared.entry.Entry.{Entry}
+use Rattle.cil_names.specs.Entries.{HasNoEntry, IsEntryAt, Key, is_entry, key_of, rank}
+use Rattle.cil_names.specs.Found.{IsFound, IsMissing}
+use Rattle.cil_names.specs.Resolves.{is_wanted}
+
+one_some : (x y : Entry) → Some x ≡ Some y → x ≡ y
+one_some x y e = cc
+
+both_true : (a b : Bool) → (a && b) ≡ true → (a ≡ true) × (b ≡ true)
+both_true true b e = (refl, e)
+both_true false b e = absurd (true≢false (sym e))
+
+same_number : (a b : ℕ) → (a == b) ≡ true → a ≡ b
+same_number a b e = grind (arith, nat_tests)
+
+is_itself : (a : ℕ) → (a == a) ≡ true
+is_itself a = grind (arith, nat_tests)
+
+-- what an entry that fits is
+pub parts_fit : (name : List ℕ) (sign : Sign) (k : ℕ) (e : Entry) → is_entry name sign k e ≡ true → (e.space ≡ k) × (e.name ≡ name) × (is_wanted sign e.kind ≡ true)
+parts_fit name sign k e fits =
+    let (front, wanted) = both_true ((e.space == k) && same_bytes e.name name) (is_wanted sign e.kind) fits in
+    let (space, named) = both_true (e.space == k) (same_bytes e.name name) front in
+    (same_number e.space k space, (bytes_decides e.name name).0 named, wanted)
+
+pub they_fit : (name : List ℕ) (sign : Sign) (k : ℕ) (e : Entry) → e.space ≡ k → e.name ≡ name → is_wanted sign e.kind ≡ true → is_entry name sign k e ≡ true
+they_fit name sign k e p q r =
+    ap (λ b. b && same_bytes e.name name && is_wanted sign e.kind) (ap (λ j. e.space == j) (sym p) ∙ is_itself e.space)
+    ∙ ap (λ b. b && is_wanted sign e.kind) ((bytes_decides e.name name).1 q)
+    ∙ r
+
+key_is : (e : Entry) (name : List ℕ) (k r : ℕ) → e.space ≡ k → e.name ≡ name → rank e.kind ≡ r → key_of e ≡ record { space = k; name = name; rank = r }
+key_is e name k r p q s = λ i. record { space = p i; name = q i; rank = s i }
+
+module _ (es : List Entry) (name : List ℕ) (sign : Sign) (k r : ℕ) (of_rank : (kind : Kind) → is_wanted sign kind ≡ true → rank kind ≡ r) where
+  has_key : (e : Entry) → is_entry name sign k e ≡ true → key_of e ≡ record { space = k; name = name; rank = r }
+  has_key e fits = let (space, named, wanted) = parts_fit name sign k e fits in key_is e name k r space named (of_rank e.kind wanted)
+
+  pub entry_missing : IsMissing key_of es (record { space = k; name = name; rank = r }) → HasNoEntry es name sign k
+  entry_missing none m e at fits = none m e at (has_key e fits)
+
+  module _ (d : ℕ) (found : IsFound key_of es (record { space = k; name = name; rank = r }) d) where
+    pub entry_found : (e : Entry) → slice_get es d ≡ Some e → is_wanted sign e.kind ≡ true → IsEntryAt es name sign k d
+    entry_found e at wanted =
+        let same : found.item ≡ e = one_some found.item e (sym found.at ∙ at) in
+        record {
+          entry = e;
+          at = at;
+          fits = they_fit name sign k e (ap (λ (e : Entry). e.space) (sym same) ∙ ap (λ (k : Key). k.space) found.has_key) (ap (λ (e : Entry). e.name) (sym same) ∙ ap (λ (k : Key). k.name) found.has_key) wanted;
+          only = λ m x is fits. found.only m x is (has_key x fits);
+        }
+
+    pub entry_other : (e : Entry) → slice_get es d ≡ Some e → is_wanted sign e.kind ≡ false → HasNoEntry es name sign k
+    entry_other e at unwanted m x is fits =
+        let same : x ≡ e = one_some x e (sym is ∙ ap (slice_get es) (found.only m x is (has_key x fits)) ∙ at) in
+        let (space, named, wanted) = parts_fit name sign k x fits in
+        true≢false (sym wanted ∙ ap (λ (e : Entry). is_wanted sign e.kind) same ∙ unwanted)
+
+pub unwanted_missing : (es : List Entry) (name : List ℕ) (sign : Sign) (k : ℕ) → ((kind : Kind) → is_wanted sign kind ≡ false) → HasNoEntry es name sign k
+unwanted_missing es name sign k none m e at fits =
+    let (space, named, wanted) = parts_fit name sign k e fits in true≢false (sym wanted ∙ none e.kind)
+
+-- an entry at an index
+pub indexed : (es : List Entry) (d : ℕ) (item e : Entry) → slice_get es d ≡ Some item → e ≡ get_or es d e → slice_get es d ≡ Some e
+indexed es d item e at is = slice_get-get_or es d e (slice_get_within es d item at) ∙ ap Some (sym is)

@@ -1,0 +1,9 @@
+pub mod AnswerLemmas
+pub mod CandidateLemmas
+pub mod DeclLemmas
+pub mod EntryLemmas
+pub mod OrderLemmas
+pub mod PathLemmas
+pub mod ScopeLemmas
+pub mod SearchLemmas
+pub mod SpaceLemmas

@@ -1,0 +1,95 @@
+-- What a word could name, namespace by namespace.
+use Rattle.std.proofs.Common.{◌≡◌, ℕ, suc, ◌+◌, ◌<◌, ◌≤◌, Bool, true, false, cond, List, [], ◌∷◌, ◌++◌, length, get_or, drop, map, refl, sym, ◌∙◌, ap, arith, append_assoc, append-nil, drop-cons}
+use Rattle.std.specs.Prelude.{Option, Some, None, find}
+use Rattle.std.specs.List.{flat_map}
+use Rattle.std.specs.Option.{is_some, option_or}
+use Rattle.std.proofs.lemmas.Bool.{true≢false}
+use Rattle.std.proofs.lemmas.List.Folds.{find-append}
+use Rattle.std.proofs.lemmas.List.{drop_all}
+use Rattle.cil_syntax.specs.declared.term.Word.{Word}
+use Rattle.cil_names.specs.declared.entry.Entry.{Entry}
+use Rattle.cil_names.specs.declared.space.Space.{Space}
+use Rattle.cil_names.specs.Entries.{candidate, candidates_of, listed, numbers_asked, scope_of, scoped}
+use Rattle.cil_names.specs.Resolves.{asked, asked_by, names_backwards}
+use Rattle.cil_names.specs.Spaces.{AreSpaces, IsTaken, space_at}
+use Rattle.cil_names.proofs.PathLemmas.{never_none}
+use Rattle.cil_names.proofs.SpaceLemmas.{global_at}
+
+-- the entry that a word could name in one namespace
+abbrev pub could_name : List Space → List Entry → Word → ℕ → List ℕ
+could_name ss es w k = listed (candidate ss es (asked w.bytes).name w.sign ((asked w.bytes).inner ++ space_at ss k))
+
+-- ---- the word taken apart
+
+by_parts : (global : Bool) (backwards : List (List ℕ)) → (backwards ≡ [] → ⊥) → backwards ≡ (asked_by global backwards).name ∷ (asked_by global backwards).inner
+by_parts global [] none = absurd (none refl)
+by_parts global (x ∷ xs) none = refl
+
+global_by : (global : Bool) (backwards : List (List ℕ)) → (asked_by global backwards).global ≡ global
+global_by global [] = refl
+global_by global (x ∷ xs) = refl
+
+module _ (word : List ℕ) (global : Bool) (path : List ℕ) (taken : IsTaken word global path) where
+  pub is_parted : names_backwards path ≡ (asked word).name ∷ (asked word).inner
+  is_parted = by_parts global (names_backwards path) (never_none path) ∙ ap (λ a. a.name ∷ a.inner) (sym taken.asks)
+
+  pub is_global : (asked word).global ≡ global
+  is_global = ap (λ a. a.global) taken.asks ∙ global_by global (names_backwards path)
+
+-- what was asked in one namespace is what the word could name there
+pub asked_there : (ss : List Space) (es : List Entry) (w : Word) (global : Bool) (path : List ℕ) → IsTaken w.bytes global path → (k : ℕ) (r : Option ℕ)
+    → ((name : List ℕ) (inner : List (List ℕ)) → names_backwards path ≡ name ∷ inner → r ≡ candidate ss es name w.sign (inner ++ space_at ss k))
+    → listed r ≡ could_name ss es w k
+asked_there ss es w global path taken k r is = ap listed (is (asked w.bytes).name (asked w.bytes).inner (is_parted w.bytes global path taken))
+
+-- ---- all namespaces
+
+module _ (ss : List Space) (are : AreSpaces ss) (es : List Entry) (w : Word) where
+  each_name : (ks : List ℕ) → flat_map (λ n. listed (candidate ss es (asked w.bytes).name w.sign n)) (map (λ n. (asked w.bytes).inner ++ n) (scope_of ss ks))
+      ≡ flat_map (could_name ss es w) ks
+  each_name [] = refl
+  each_name (k ∷ ks) = ap (λ l. could_name ss es w k ++ l) (each_name ks)
+
+  pub whole : (scope : List ℕ) (global : Bool) → (asked w.bytes).global ≡ global
+      → candidates_of ss es (scoped ss scope w) ≡ flat_map (could_name ss es w) (numbers_asked global scope)
+  unfolding candidates_of
+  whole scope true e =
+      ap (λ b. flat_map (λ n. listed (candidate ss es (asked w.bytes).name w.sign n)) (cond b ((asked w.bytes).inner ∷ []) (map (λ n. (asked w.bytes).inner ++ n) (scope_of ss scope)))) e
+      ∙ ap (λ n. listed (candidate ss es (asked w.bytes).name w.sign n) ++ []) (sym (append-nil (asked w.bytes).inner) ∙ ap (λ n. (asked w.bytes).inner ++ n) (sym (global_at ss are)))
+  whole scope false e =
+      ap (λ b. flat_map (λ n. listed (candidate ss es (asked w.bytes).name w.sign n)) (cond b ((asked w.bytes).inner ∷ []) (map (λ n. (asked w.bytes).inner ++ n) (scope_of ss scope)))) e
+      ∙ each_name scope
+
+-- ---- steps over a list
+
+module _ {X Y : Type 0} (f : X → List Y) (xs : List X) (i : ℕ) (x d : X) (within : i < length xs) (is : x ≡ get_or xs i d) where
+  cut : drop i xs ≡ x ∷ drop (i + 1) xs
+  cut = drop-cons xs i d within ∙ ap (λ y. y ∷ drop (suc i) xs) (sym is) ∙ ap (λ k. x ∷ drop k xs) (let e : suc i ≡ i + 1 = omega arith in e)
+
+  pub next : flat_map f (drop i xs) ≡ f x ++ flat_map f (drop (i + 1) xs)
+  next = ap (flat_map f) cut
+
+  pub passed_on : (before all : List Y) → before ++ flat_map f (drop i xs) ≡ all → (before ++ f x) ++ flat_map f (drop (i + 1) xs) ≡ all
+  passed_on before all so = append_assoc before (f x) (flat_map f (drop (i + 1) xs)) ∙ ap (λ l. before ++ l) (sym next) ∙ so
+
+  module _ (p : Y → Bool) (so : find p (flat_map f xs) ≡ find p (flat_map f (drop i xs))) where
+    pub not_yet : None ≡ find p (f x) → find p (flat_map f xs) ≡ find p (flat_map f (drop (i + 1) xs))
+    not_yet none = so ∙ ap (find p) next ∙ find-append p (f x) (flat_map f (drop (i + 1) xs)) ∙ ap (λ o. option_or o (find p (flat_map f (drop (i + 1) xs)))) (sym none)
+
+    pub by_now : (y : Y) → Some y ≡ find p (f x) → Some y ≡ find p (flat_map f xs)
+    by_now y some = sym (so ∙ ap (find p) next ∙ find-append p (f x) (flat_map f (drop (i + 1) xs)) ∙ ap (λ o. option_or o (find p (flat_map f (drop (i + 1) xs)))) (sym some))
+
+    pub passed_by : (r : Option Y) → r ≡ find p (f x) → is_some r ≡ false → find p (flat_map f xs) ≡ find p (flat_map f (drop (i + 1) xs))
+    passed_by None e none = not_yet e
+    passed_by (Some y) e none = absurd (true≢false none)
+
+    pub found_by : (r : Option Y) → r ≡ find p (f x) → is_some r ≡ true → r ≡ find p (flat_map f xs)
+    found_by None e some = absurd (true≢false (sym some))
+    found_by (Some y) e some = by_now y e
+
+module _ {X Y : Type 0} (f : X → List Y) (xs : List X) (i : ℕ) (over : length xs ≤ i) where
+  pub all_passed : (before all : List Y) → before ++ flat_map f (drop i xs) ≡ all → before ≡ all
+  all_passed before all so = sym (append-nil before) ∙ ap (λ l. before ++ flat_map f l) (sym (drop_all i xs over)) ∙ so
+
+  pub never : (p : Y → Bool) → find p (flat_map f xs) ≡ find p (flat_map f (drop i xs)) → None ≡ find p (flat_map f xs)
+  never p so = sym (so ∙ ap (λ l. find p (flat_map f l)) (drop_all i xs over))

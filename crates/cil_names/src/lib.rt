@@ -1,0 +1,21 @@
+//! What words name: namespaces as numbers, declared names as entries, and look-up in scopes.
+//!
+//! Start at `names.rt`: `Names::resolve` and `Names::candidates`. `specs/Resolves.antt` says what a word names, over statements as
+//! `specs/Item.antt` has them; `specs/Declarations.antt` what is declared; `specs/Entries.antt` how entries and numbers of
+//! namespaces stand for that. What permissions a class has is not asked here.
+#![tactic(auto)]
+
+mod entry;
+mod instance;
+mod kinds;
+mod look;
+mod names;
+mod opt_set;
+mod path;
+mod space;
+
+pub use entry::Entry;
+pub use instance::Instance;
+pub use names::Names;
+pub use opt_set::OptSet;
+pub use space::{Space, Spaces};

@@ -1,0 +1,166 @@
+//! Look-up, over slices of namespaces and entries.
+
+ghost use Rattle.std.specs.Prelude.{◌≡◌, ◌∷◌, List, MatchOption, length, ℕ, ◌≤◌, ◌++◌, All, IfOk, OnOk, IsTrue, find};
+ghost use Rattle.std.specs.List.{list_all, list_any};
+ghost use Rattle.std.specs.List.Sorted.{IsStrictlySortedBy};
+ghost use Rattle.std.specs.Ordering.{on};
+ghost use Rattle.cil_names.specs.Entries.{AreOrdered, HasNoEntry, IsEntryAt, candidate, candidates_of, is_declared_at, is_declared_in, is_in, key_cmp, key_of, listed, scoped};
+ghost use Rattle.cil_names.specs.Found.{IsFound, IsMissing};
+ghost use Rattle.cil_names.specs.Resolves.{names_backwards};
+ghost use Rattle.cil_names.specs.Spaces.{AreSpaces, IsDotless, space_at};
+
+use crate::entry::Entry;
+use crate::kinds::{rank_of, rank_wanted, wants};
+use crate::opt_set::OptSet;
+use crate::path::{Path, asked_scope, path_of};
+use crate::space::{Space, asked_in};
+use cil_modset::NoMemory;
+use cil_syntax::{Sign, Word};
+use std::alloc::Global;
+
+/// The place of the entry with this key.
+fn place_of(entries: &[Entry], space: usize, name: &[u8], rank: u8) -> Option<usize>
+    requires { IsStrictlySortedBy (on key_of key_cmp) entries.now }
+    ensures { MatchOption result (IsMissing key_of entries.now (record { space = space; name = name.now; rank = rank })) (IsFound key_of entries.now (record { space = space; name = name.now; rank = rank })) }
+{
+    entries
+        .binary_search_by(|e| {
+            e.space
+                .cmp(&space)
+                .then(e.name.as_slice().cmp(name))
+                .then(rank_of(e.kind).cmp(&rank))
+        })
+        .ok()
+}
+
+/// The number of the entry of a wanted kind under this name in a namespace. It costs one search by halving.
+fn entry_in(entries: &[Entry], space: usize, name: &[u8], sign: Sign) -> Option<usize>
+    requires { IsStrictlySortedBy (on key_of key_cmp) entries.now }
+    ensures { MatchOption result (HasNoEntry entries.now name.now sign space) (IsEntryAt entries.now name.now sign space) }
+{
+    let rank = rank_wanted(sign)?;
+    let place = place_of(entries, space, name, rank)?;
+    if !wants(sign, entries[place].kind) {
+        return None;
+    }
+    Some(place)
+}
+
+/// The number of the entry that a path could name in a namespace, whatever is enabled.
+fn named_in(
+    spaces: &[Space],
+    entries: &[Entry],
+    from: usize,
+    path: &Path,
+    sign: Sign,
+) -> Option<usize>
+    requires spaces { AreSpaces spaces.now }
+    requires entries { AreOrdered spaces.now entries.now }
+    requires within { from ≤ length spaces.now }
+    requires dotless { IsTrue path.now.dotless → IsDotless path.now.names.now }
+    ensures { (name : List ℕ) (inner : List (List ℕ)) → names_backwards path.now.names.now ≡ name ∷ inner → result ≡ candidate spaces.now entries.now name sign (inner ++ space_at spaces.now from) }
+{
+    if path.dotless {
+        return entry_in(entries, from, path.names, sign);
+    }
+    let place = asked_in(spaces, from, path.names)?;
+    entry_in(entries, place.space, place.name, sign)
+}
+
+/// The numbers of the entries that a word could name, whatever is enabled, in the order of its scope.
+pub fn candidates(
+    alloc: Global,
+    spaces: &[Space],
+    entries: &[Entry],
+    word: &Word,
+    scope: &[usize],
+) -> Result<Vec<usize>, NoMemory>
+    requires spaces { AreSpaces spaces.now }
+    requires entries { AreOrdered spaces.now entries.now }
+    requires within { All (λ k. k ≤ length spaces.now) scope.now }
+    ensures { IfOk result (λ ds. ds.items ≡ candidates_of spaces.now entries.now (scoped spaces.now scope.now word.now)) }
+{
+    let path = path_of(word.bytes.as_slice());
+    let mut found = Vec::new(alloc);
+    for from in asked_scope(path.global, scope) {
+        push_listed(
+            &mut found,
+            named_in(spaces, entries, *from, &path, word.sign),
+        )?;
+    }
+    Ok(found)
+}
+
+/// Adds a number, if there is one.
+fn push_listed(found: &mut Vec<usize>, named: Option<usize>) -> Result<(), NoMemory>
+    ensures { OnOk result (found.new.items ≡ found.old.items ++ listed named) }
+{
+    if let Some(d) = named {
+        found.push(d)?;
+    }
+    Ok(())
+}
+
+/// The number of the entry that a word names where these optionals are enabled.
+pub fn resolve(
+    spaces: &[Space],
+    entries: &[Entry],
+    enabled: &OptSet,
+    word: &Word,
+    scope: &[usize],
+) -> Option<usize>
+    requires spaces { AreSpaces spaces.now }
+    requires entries { AreOrdered spaces.now entries.now }
+    requires within { All (λ k. k ≤ length spaces.now) scope.now }
+    ensures { result ≡ find (is_declared_at (is_in enabled.now) entries.now) (candidates_of spaces.now entries.now (scoped spaces.now scope.now word.now)) }
+{
+    let path = path_of(word.bytes.as_slice());
+    for from in asked_scope(path.global, scope) {
+        let named = named_in(spaces, entries, *from, &path, word.sign);
+        let declared = where_declared(enabled, entries, named);
+        if declared.is_some() {
+            return declared;
+        }
+    }
+    None
+}
+
+/// Whether an entry is declared where these optionals are enabled. It costs a step for each statement that declares it,
+/// until one is enabled.
+fn is_declared(enabled: &OptSet, entry: &Entry) -> bool
+    ensures { result ≡ is_declared_in (is_in enabled.now) entry.now }
+{
+    if entry.always {
+        return true;
+    }
+    has_one(enabled, entry.rounds.as_slice())
+}
+
+/// Whether one of these rounds is in the set.
+fn has_one(enabled: &OptSet, rounds: &[Vec<usize>]) -> bool
+    ensures { result ≡ list_any (λ r. list_all (is_in enabled.now) r.items) rounds.now }
+{
+    rounds.iter().any(|round| enabled.has_all(round.as_slice()))
+}
+
+/// Whether the entry of this number is declared where these optionals are enabled.
+fn has_declared(enabled: &OptSet, entries: &[Entry], d: usize) -> bool
+    ensures { result ≡ is_declared_at (is_in enabled.now) entries.now d }
+{
+    match entries.get(d) {
+        Some(entry) => is_declared(enabled, entry),
+        None => false,
+    }
+}
+
+/// The number, where its entry is declared where these optionals are enabled.
+fn where_declared(enabled: &OptSet, entries: &[Entry], named: Option<usize>) -> Option<usize>
+    ensures { result ≡ find (is_declared_at (is_in enabled.now) entries.now) (listed named) }
+{
+    let d = named?;
+    if has_declared(enabled, entries, d) {
+        Some(d)
+    } else {
+        None
+    }
+}

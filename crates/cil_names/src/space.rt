@@ -1,0 +1,95 @@
+//! Namespaces by their numbers.
+
+ghost use Rattle.std.specs.Prelude.{◌≡◌, ◌≤◌, ◌∷◌, length, MatchOption};
+ghost use Rattle.cil_names.specs.Spaces.{AreSpaces, HasNoNumber, IsAskedAt, IsAskedNowhere, IsNumber, space_at};
+
+use crate::path::parted;
+use cil_syntax::Excerpt;
+use std::marker::Model;
+
+/// A namespace that is not the global one. Its number is its place in the list of all, counted from 1; the global
+/// namespace has the number 0.
+#[derive(Debug, Drop)]
+pub struct Space<'a> {
+    /// The number of the namespace in which it is.
+    pub outer: usize,
+    /// Its own name.
+    pub name: Excerpt<'a>,
+}
+
+/// The namespaces of a policy, by rising number of the one round them and by name; each comes after the one round it.
+/// Contracts see them as a list.
+#[derive(Debug, Drop)]
+pub struct Spaces<'a> {
+    spaces: Vec<Space<'a>>,
+}
+
+impl<'a> Model for Spaces<'a> {
+    ghost use Rattle.std.specs.Prelude.{List};
+    ghost use Rattle.cil_names.specs.declared.space.Space.{Space};
+    ghost use Rattle.cil_names.specs.Spaces.{AreSpaces};
+
+    ghost Value = { List Space };
+
+    ghost view = { λ a. a.spaces.items };
+
+    ghost invariant = { λ a. AreSpaces a.spaces.items };
+}
+
+impl<'a> Spaces<'a> {
+    ghost use Rattle.std.specs.Prelude.{◌≡◌};
+    ghost use Rattle.cil_names.specs.Spaces.{AreSpaces};
+
+    /// These namespaces.
+    pub fn of(spaces: Vec<Space<'a>>) -> Spaces<'a>
+        requires { AreSpaces spaces.items }
+        ensures { result ≡ spaces.entry.items }
+    {
+        Spaces { spaces }
+    }
+
+    /// The namespaces, in order.
+    pub fn as_slice(&self) -> &[Space<'a>]
+        ensures value { result.now ≡ self.now }
+        ensures numbered { AreSpaces result.now }
+    {
+        self.spaces.as_slice()
+    }
+}
+
+/// The number of the namespace of this name in another one.
+fn child(spaces: &[Space], outer: usize, name: &[u8]) -> Option<usize>
+    requires spaces { AreSpaces spaces.now }
+    requires within { outer ≤ length spaces.now }
+    ensures { MatchOption result (HasNoNumber spaces.now (name.now ∷ space_at spaces.now outer)) (IsNumber spaces.now (name.now ∷ space_at spaces.now outer)) }
+{
+    match spaces.binary_search_by(|s| s.outer.cmp(&outer).then(s.name.as_slice().cmp(name))) {
+        Ok(place) => Some(place + 1),
+        Err(_) => None,
+    }
+}
+
+/// Where names ask: the number of a namespace, and the last name.
+#[derive(Clone, Copy)]
+pub struct Place<'a> {
+    /// The number of the namespace.
+    pub space: usize,
+    /// The name.
+    pub name: &'a [u8],
+}
+
+/// Where names ask in a namespace; none where that namespace is not there. Each name before a dot costs one search by
+/// halving.
+pub fn asked_in<'a>(spaces: &[Space], from: usize, path: &'a [u8]) -> Option<Place<'a>>
+    requires spaces { AreSpaces spaces.now }
+    requires within { from ≤ length spaces.now }
+    ensures { MatchOption result (IsAskedNowhere spaces.now from path.now) (λ p. IsAskedAt spaces.now from path.now p.space p.name.now) }
+{
+    let mut space = from;
+    let mut rest = path;
+    while let Some(parts) = parted(rest) {
+        space = child(spaces, space, parts.first)?;
+        rest = parts.rest;
+    }
+    Some(Place { space, name: rest })
+}
