@@ -1,6 +1,6 @@
 -- What look-up answers is what a word names.
-use Rattle.std.proofs.Common.{◌≡◌, ℕ, zero, suc, ◌&&◌, ◌||◌, Bool, true, false, cond, List, [], ◌∷◌, ◌++◌, refl, sym, ◌∙◌, ap, inl, inr}
-use Rattle.std.specs.Prelude.{Option, Some, None, MatchOption, find, slice_get}
+use Rattle.std.proofs.Common.{◌≡◌, ℕ, zero, suc, ◌&&◌, ◌||◌, Bool, true, false, cond, List, [], ◌∷◌, ◌++◌, refl, sym, ◌∙◌, ap, subst, inl, inr}
+use Rattle.std.specs.Prelude.{IfSome, ◌<◌, length, Option, Some, None, MatchOption, find, slice_get}
 use Rattle.std.specs.List.{flat_map, list_any}
 use Rattle.std.specs.Option.{option_map, option_map_or}
 use Rattle.std.proofs.lemmas.Bool.{cases_Bool, true≢false}
@@ -18,6 +18,7 @@ use Rattle.cil_names.specs.Spaces.{AreSpaces}
 use Rattle.cil_names.proofs.DeclLemmas.{has_as}
 use Rattle.cil_names.proofs.CandidateLemmas.{parts_of, place_is}
 use Rattle.cil_names.proofs.OrderLemmas.{key_total, one_key}
+use Rattle.std.proofs.lemmas.Option.{slice_get_within}
 use Rattle.cil_names.proofs.SearchLemmas.{member_of_number, one_number}
 use Rattle.cil_names.proofs.SpaceLemmas.{same_number}
 
@@ -199,3 +200,18 @@ module _ (ss : List Space) (are : AreSpaces ss) (is : List Instance) (es : List 
   pub answer_is : IsAnswer ss is es s w (find (is_declared_at s es) (candidates_of ss es w))
   unfolding candidates_of
   answer_is = from_found _ (first_found ss are is es entries s (asked w.bytes).name w.sign (spaces_asked (asked w.bytes) w.scope))
+
+-- ---- an entry that is named is there
+
+module _ (s : OptSet) (es : List Entry) where
+  there_within : (d : ℕ) (o : Option Entry) → slice_get es d ≡ o → option_map_or (is_declared_in s) o false ≡ true → d < length es
+  there_within d None at e = absurd (true≢false (sym e))
+  there_within d (Some x) at e = slice_get_within es d x at
+
+  pub found_within : (ds : List ℕ) → IfSome (find (is_declared_at s es) ds) (λ d. d < length es)
+  found_within [] = tt
+  found_within (d ∷ ds) =
+      elim (cases_Bool (is_declared_at s es d)) [
+        | inl t ↦ subst (λ b. IfSome (cond b (Some d) (find (is_declared_at s es) ds)) (λ k. k < length es)) (sym t) (there_within d (slice_get es d) refl t)
+        | inr f ↦ subst (λ b. IfSome (cond b (Some d) (find (is_declared_at s es) ds)) (λ k. k < length es)) (sym f) (found_within ds)
+      ]

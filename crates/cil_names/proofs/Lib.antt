@@ -2,8 +2,11 @@ pub mod AnswerLemmas
 pub mod CandidateLemmas
 pub mod DeclLemmas
 pub mod EntryLemmas
+pub mod MeaningLemmas
 pub mod OrderLemmas
 pub mod PathLemmas
+pub mod RowLemmas
 pub mod ScopeLemmas
 pub mod SearchLemmas
 pub mod SpaceLemmas
+pub mod TableLemmas

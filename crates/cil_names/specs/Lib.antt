@@ -3,5 +3,7 @@ pub mod Entries
 pub mod Faults
 pub mod Found
 pub mod Item
+pub mod Meanings
 pub mod Resolves
+pub mod Rows
 pub mod Spaces

@@ -9,13 +9,17 @@ mod entry;
 mod instance;
 mod kinds;
 mod look;
+mod meaning;
 mod names;
 mod opt_set;
 mod path;
 mod space;
+mod table;
 
 pub use entry::Entry;
 pub use instance::Instance;
+pub use meaning::Meaning;
 pub use names::Names;
 pub use opt_set::OptSet;
 pub use space::{Space, Spaces};
+pub use table::{Lookup, Words, words_of};

@@ -1,6 +1,6 @@
 //! The declared names of a policy, and what words name.
 
-ghost use Rattle.std.specs.Prelude.{◌≡◌, ◌≤◌, All, IfOk, List, find, length};
+ghost use Rattle.std.specs.Prelude.{◌≡◌, ◌≤◌, ◌<◌, All, IfOk, IfSome, List, find, length};
 ghost use Rattle.cil_names.specs.declared.instance.Instance.{Instance};
 ghost use Rattle.cil_names.specs.Entries.{AreEntries, AreOrdered, IsAnswer, candidates_of, is_declared_at, is_in, scoped};
 
@@ -90,6 +90,7 @@ impl<'a> Names<'a> {
         requires ordered { AreOrdered spaces.now self.now }
         requires within { All (λ k. k ≤ length spaces.now) scope.now }
         ensures first { result ≡ find (is_declared_at (is_in enabled.now) self.now) (candidates_of spaces.now self.now (scoped spaces.now scope.now word.now)) }
+        ensures within { IfSome result (λ d. d < length self.now) }
         // Where these are the declared names of some instances, it is what the word names among them.
         ensures names { (is : List Instance) → AreEntries spaces.now is self.now → IsAnswer spaces.now is self.now (is_in enabled.now) (scoped spaces.now scope.now word.now) result }
     {

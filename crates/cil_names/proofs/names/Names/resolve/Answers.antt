@@ -1,6 +1,7 @@
+use Rattle.std.specs.Prelude.{IfSome, Option, ◌<◌, ℕ, length}
 use Rattle.std.proofs.Common.{rules, subst}
-use Rattle.cil_names.specs.Entries.{IsAnswer, is_in, scoped}
-use Rattle.cil_names.proofs.AnswerLemmas.{answer_is}
+use Rattle.cil_names.specs.Entries.{IsAnswer, candidates_of, is_in, scoped}
+use Rattle.cil_names.proofs.AnswerLemmas.{answer_is, found_within}
 use Rattle.cil_names.proofs.names.Names.resolve.Goals as goal
 
 pub returns-clause-names : goal.returns-clause-names
@@ -9,3 +10,8 @@ returns-clause-names c =
     subst (IsAnswer c.args.spaces.now is c.args.self.now (is_in c.args.enabled.now) (scoped c.args.spaces.now c.args.scope.now c.args.word.now))
     (search rules)
     (answer_is c.args.spaces.now (search rules) is c.args.self.now entries (is_in c.args.enabled.now) (scoped c.args.spaces.now c.args.scope.now c.args.word.now))
+
+pub returns-clause-within : goal.returns-clause-within
+returns-clause-within c =
+    subst (λ (r : Option ℕ). IfSome r (λ d. d < length c.args.self.now)) (search rules)
+    (found_within (is_in c.args.enabled.now) c.args.self.now (candidates_of c.args.spaces.now c.args.self.now (scoped c.args.spaces.now c.args.scope.now c.args.word.now)))
