@@ -124,7 +124,7 @@ module _ {X : Type 0} (p : X → Bool) where
   at_behind y ys f none zero x at t = let same : y ≡ x = let s : y ≡ x = cc in s in true≢false (sym t ∙ ap p (sym same) ∙ f)
   at_behind y ys f none (suc m) x at t = none m x at t
 
-  none_where : (xs : List X) → place_where p xs ≡ None → (m : ℕ) (x : X) → slice_get xs m ≡ Some x → p x ≡ true → ⊥
+  pub none_where : (xs : List X) → place_where p xs ≡ None → (m : ℕ) (x : X) → slice_get xs m ≡ Some x → p x ≡ true → ⊥
   unfolding place_where
   none_where [] e m x at t = absurd cc
   none_where (y ∷ ys) e m x at t =

@@ -2,11 +2,16 @@ pub mod AnswerLemmas
 pub mod CandidateLemmas
 pub mod DeclLemmas
 pub mod EntryLemmas
+pub mod KindLemmas
+pub mod ListLemmas
 pub mod MeaningLemmas
+pub mod NumberLemmas
 pub mod OrderLemmas
 pub mod PathLemmas
 pub mod RowLemmas
 pub mod ScopeLemmas
 pub mod SearchLemmas
+pub mod SortedLists
 pub mod SpaceLemmas
+pub mod SpelledLemmas
 pub mod TableLemmas

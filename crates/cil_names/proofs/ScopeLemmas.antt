@@ -63,7 +63,7 @@ module _ (ss : List Space) (are : AreSpaces ss) (es : List Entry) (w : Word) whe
 -- ---- steps over a list
 
 module _ {X Y : Type 0} (f : X → List Y) (xs : List X) (i : ℕ) (x d : X) (within : i < length xs) (is : x ≡ get_or xs i d) where
-  cut : drop i xs ≡ x ∷ drop (i + 1) xs
+  pub cut : drop i xs ≡ x ∷ drop (i + 1) xs
   cut = drop-cons xs i d within ∙ ap (λ y. y ∷ drop (suc i) xs) (sym is) ∙ ap (λ k. x ∷ drop k xs) (let e : suc i ≡ i + 1 = omega arith in e)
 
   pub next : flat_map f (drop i xs) ≡ f x ++ flat_map f (drop (i + 1) xs)

@@ -4,6 +4,7 @@ pub mod Faults
 pub mod Found
 pub mod Item
 pub mod Meanings
+pub mod Numbers
 pub mod Resolves
 pub mod Rows
 pub mod Spaces

@@ -11,15 +11,18 @@ mod kinds;
 mod look;
 mod meaning;
 mod names;
+mod numbers;
 mod opt_set;
 mod path;
 mod space;
+mod spelled;
 mod table;
 
 pub use entry::Entry;
 pub use instance::Instance;
 pub use meaning::Meaning;
 pub use names::Names;
+pub use numbers::{Numbering, Sections, numbered};
 pub use opt_set::OptSet;
 pub use space::{Space, Spaces};
 pub use table::{Lookup, Words, words_of};

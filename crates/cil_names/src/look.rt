@@ -127,7 +127,7 @@ pub fn resolve(
 
 /// Whether an entry is declared where these optionals are enabled. It costs a step for each statement that declares it,
 /// until one is enabled.
-fn is_declared(enabled: &OptSet, entry: &Entry) -> bool
+pub fn is_declared(enabled: &OptSet, entry: &Entry) -> bool
     ensures { result ≡ is_declared_in (is_in enabled.now) entry.now }
 {
     if entry.always {

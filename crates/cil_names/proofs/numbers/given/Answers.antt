@@ -1,0 +1,28 @@
+use Rattle.std.proofs.Common.{◌∙◌, sym, ap}
+use Rattle.cil_names.specs.Entries.{is_in}
+use Rattle.cil_names.specs.Numbers.{name_given}
+use Rattle.cil_names.proofs.NumberLemmas.{entry_within, none_given, one_given}
+use Rattle.cil_names.proofs.ScopeLemmas.{all_passed}
+use Rattle.cil_names.proofs.numbers.given.Goals as goal
+use Rattle.cil_names.proofs.numbers.given.Goals.{then-is_wanted+in_ok-push_name, else-is_wanted}
+use Rattle.std.specs.Global.{Vec}
+use Rattle.cil_syntax.specs.declared.fault.Bytes.{Bytes}
+
+pub push_name-requires-clause-within : goal.push_name-requires-clause-within
+push_name-requires-clause-within c =
+    entry_within c.args.spaces.now c.args.entries.now c.requires.ordered c.loop-entry.entry-index c.entry-item.result c.loop-entry-test.true c.entry-item.is
+
+pub loop-entry-preserved : goal.loop-entry-preserved
+loop-entry-preserved c =
+    elim c.if-is_wanted.branch [
+      | then-is_wanted+in_ok-push_name w ↦
+          one_given c.args.spaces.now (is_in c.args.enabled.now) c.args.kind c.args.entries.now c.loop-entry.entry-index c.entry-item.result c.loop-entry-test.true c.entry-item.is
+          c.loop-entry.names.items _ _ c.loop-entry.invariant (sym c.is_wanted.ensures ∙ w.if-is_wanted.true) (ap (λ (v : Vec Bytes). v.items) w.names-is ∙ w.in_ok-push_name.ensures)
+      | else-is_wanted w ↦
+          none_given c.args.spaces.now (is_in c.args.enabled.now) c.args.kind c.args.entries.now c.loop-entry.entry-index c.entry-item.result c.loop-entry-test.true c.entry-item.is
+          c.loop-entry.names.items _ _ c.loop-entry.invariant (sym c.is_wanted.ensures ∙ w.if-is_wanted.false) (ap (λ (v : Vec Bytes). v.items) w.names-is)
+    ]
+
+pub returns : goal.returns
+returns c =
+    all_passed (name_given c.args.spaces.now (is_in c.args.enabled.now) c.args.kind) c.args.entries.now c.loop-entry.entry-index c.loop-entry-test.false c.loop-entry.names.items _ c.loop-entry.invariant

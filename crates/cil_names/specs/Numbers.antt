@@ -1,0 +1,71 @@
+-- The numbers of declared symbols: for each kind that has a section, the place of the qualified name among all of that kind. This
+-- project's profile.
+use Rattle.std.specs.Prelude.{◌≡◌, ℕ, Bool, true, false, ◌&&◌, nat_eq, List, [], ◌∷◌, ◌++◌, Contains, Some, slice_get, get_or, reverse, if◌then◌else◌}
+use Rattle.std.specs.List.{flat_map}
+use Rattle.std.specs.Option.{unwrap_or}
+use Rattle.cil_sexpr.specs.Lists.{Lists, text_cmp}
+use Rattle.cil_syntax.specs.declared.kind.Kind.{Kind}
+use Rattle.cil_syntax.specs.declared.kind.Kind.TheVariants as kinds
+use Rattle.cil_syntax.specs.Spelling.{same_bytes}
+use Rattle.cil_names.specs.declared.entry.Entry.{Entry}
+use Rattle.cil_names.specs.declared.numbers.Sections.{Sections}
+use Rattle.cil_names.specs.declared.space.Space.{Space}
+use Rattle.cil_names.specs.Declarations.{Symbol, name_of}
+use Rattle.cil_names.specs.Entries.{is_declared_in, place_where}
+use Rattle.cil_names.specs.Item.{Namespace, OptSet}
+use Rattle.cil_names.specs.Resolves.{kind_number}
+use Rattle.cil_names.specs.Spaces.{space_at}
+
+-- the names of a namespace from the outermost on, each with a dot behind it
+abbrev pub dotted : Namespace → List ℕ
+dotted n = flat_map (λ x. x ++ 46 ∷ []) (reverse n)
+
+-- the symbol that an entry declares
+abbrev pub symbol_of : List Space → Entry → Symbol
+symbol_of ss e = record { space = space_at ss e.space; name = e.name }
+
+-- the qualified name of an entry
+abbrev pub spelled_of : List Space → Entry → List ℕ
+spelled_of ss e = name_of (symbol_of ss e)
+
+-- the entry is of this kind, and is declared where these optionals are enabled
+abbrev pub is_of : OptSet → Kind → Entry → Bool
+is_of s kind e = nat_eq (kind_number e.kind) (kind_number kind) && is_declared_in s e
+
+-- the qualified name of a declared symbol of this kind
+pub record IsNameAmong (ss : List Space) (es : List Entry) (s : OptSet) (kind : Kind) (name : List ℕ) : Type 0 where
+  pub entry : Entry
+  pub among : Contains es entry
+  pub of_kind : entry.kind ≡ kind
+  pub live : is_declared_in s entry ≡ true
+  pub spelled : spelled_of ss entry ≡ name
+
+-- the kinds whose symbols have a section
+abbrev pub has_section : Kind → Bool
+has_section kinds.Type_ = true
+has_section kinds.Role = true
+has_section kinds.User = true
+has_section kinds.Class = true
+has_section kind = false
+
+-- the names of the symbols of one kind
+abbrev pub names_of : Sections → Kind → List (List ℕ)
+names_of sections kinds.Type_ = sections.types.items
+names_of sections kinds.Role = sections.roles.items
+names_of sections kinds.User = sections.users.items
+names_of sections kinds.Class = sections.classes.items
+names_of sections kind = []
+
+-- the qualified names of the entries of one kind, as they come
+abbrev pub name_given : List Space → OptSet → Kind → Entry → List (List ℕ)
+name_given ss s kind e = if is_of s kind e then spelled_of ss e ∷ [] else []
+
+-- the place of a name in a list, and 0 where it is not there
+abbrev pub place_in : List (List ℕ) → List ℕ → ℕ
+place_in names name = unwrap_or (place_where (λ x. same_bytes x name) names) 0
+
+-- each section lists the names of the declared symbols of its kind, and each entry has the place of its name in its section
+pub record AreNumbers (ss : List Space) (es : List Entry) (s : OptSet) (names : Kind → List (List ℕ)) (numbers : List ℕ) : Type 0 where
+  pub lists : (kind : Kind) → has_section kind ≡ true → Lists text_cmp (IsNameAmong ss es s kind) (names kind)
+  pub at : (d : ℕ) (e : Entry) → slice_get es d ≡ Some e → has_section e.kind ≡ true → is_declared_in s e ≡ true
+      → slice_get (names e.kind) (get_or numbers d 0) ≡ Some (spelled_of ss e)

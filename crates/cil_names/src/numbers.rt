@@ -1,0 +1,184 @@
+//! The numbers of declared symbols: the order of their qualified names, kind by kind.
+
+ghost use Rattle.std.specs.Prelude.{◌≡◌, ◌++◌, ◌∷◌, [], ◌↔◌, Contains, IfOk, IsTrue, OnOk, map, length, ◌≤◌, true};
+ghost use Rattle.std.specs.List.{flat_map};
+ghost use Rattle.std.specs.List.Sorted.{IsStrictlySortedBy};
+ghost use Rattle.cil_sexpr.specs.Lists.{Lists, text_cmp};
+ghost use Rattle.cil_syntax.specs.declared.kind.Kind as kinds;
+ghost use Rattle.cil_names.specs.Entries.{AreOrdered, is_in};
+ghost use Rattle.cil_names.specs.Numbers.{AreNumbers, IsNameAmong, has_section, is_of, name_given, names_of, place_in, spelled_of};
+ghost use Rattle.cil_names.specs.Spaces.{AreSpaces};
+
+use crate::entry::Entry;
+use crate::look::is_declared;
+use crate::opt_set::OptSet;
+use crate::space::Space;
+use crate::spelled::spelled;
+use crate::table::Lookup;
+use cil_modset::NoMemory;
+use cil_syntax::{Bytes, Kind};
+use std::alloc::Global;
+
+/// The qualified names of the declared symbols that have sections, each kind in byte order.
+#[derive(Debug, Drop)]
+pub struct Sections {
+    /// The users.
+    pub users: Vec<Bytes>,
+    /// The roles.
+    pub roles: Vec<Bytes>,
+    /// The types.
+    pub types: Vec<Bytes>,
+    /// The classes.
+    pub classes: Vec<Bytes>,
+}
+
+/// Numbering symbols: the names of each section, and the number of each entry in the section of its kind.
+#[derive(Debug, Drop)]
+pub struct Numbering {
+    /// The names.
+    pub sections: Sections,
+    /// For each entry its number; 0 for those that have none.
+    pub numbers: Vec<usize>,
+}
+
+/// Numbers the declared symbols. It costs a sort of the names of each kind, and a search by halving for each entry.
+pub fn numbered(alloc: Global, lookup: &Lookup) -> Result<Numbering, NoMemory>
+    requires { AreOrdered lookup.now.spaces.now lookup.now.names.now }
+    ensures { IfOk result (λ n. AreNumbers lookup.now.spaces.now lookup.now.names.now (is_in lookup.now.enabled.now) (names_of n.sections) n.numbers.items) }
+{
+    let spaces = lookup.spaces.as_slice();
+    let entries = lookup.names.entries();
+    let sections = sections_of(alloc, spaces, entries, lookup.enabled)?;
+    let numbers = numbers_of(alloc, spaces, entries, &sections)?;
+    Ok(Numbering { sections, numbers })
+}
+
+/// The names of all sections.
+fn sections_of(
+    alloc: Global,
+    spaces: &[Space],
+    entries: &[Entry],
+    enabled: &OptSet,
+) -> Result<Sections, NoMemory>
+    requires spaces { AreSpaces spaces.now }
+    requires ordered { AreOrdered spaces.now entries.now }
+    ensures { IfOk result (λ n. (kind : kinds.Kind) → has_section kind ≡ true → Lists text_cmp (IsNameAmong spaces.now entries.now (is_in enabled.now) kind) (names_of n kind)) }
+{
+    let users = section_of(alloc, spaces, entries, enabled, Kind::User)?;
+    let roles = section_of(alloc, spaces, entries, enabled, Kind::Role)?;
+    let types = section_of(alloc, spaces, entries, enabled, Kind::Type_)?;
+    let classes = section_of(alloc, spaces, entries, enabled, Kind::Class)?;
+    Ok(Sections {
+        users,
+        roles,
+        types,
+        classes,
+    })
+}
+
+/// The names of the declared symbols of one kind, in byte order, each once.
+fn section_of(
+    alloc: Global,
+    spaces: &[Space],
+    entries: &[Entry],
+    enabled: &OptSet,
+    kind: Kind,
+) -> Result<Vec<Bytes>, NoMemory>
+    requires spaces { AreSpaces spaces.now }
+    requires ordered { AreOrdered spaces.now entries.now }
+    ensures { IfOk result (λ names. Lists text_cmp (IsNameAmong spaces.now entries.now (is_in enabled.now) kind) names.items) }
+{
+    let mut names = given(alloc, spaces, entries, enabled, kind)?;
+    names.sort_unstable();
+    names.dedup();
+    Ok(names)
+}
+
+/// The names of the declared symbols of one kind, as they come.
+fn given(
+    alloc: Global,
+    spaces: &[Space],
+    entries: &[Entry],
+    enabled: &OptSet,
+    kind: Kind,
+) -> Result<Vec<Bytes>, NoMemory>
+    requires spaces { AreSpaces spaces.now }
+    requires ordered { AreOrdered spaces.now entries.now }
+    ensures { IfOk result (λ names. names.items ≡ flat_map (name_given spaces.now (is_in enabled.now) kind) entries.now) }
+{
+    let mut names = Vec::new(alloc);
+    for entry in entries {
+        if is_wanted(enabled, entry, kind) {
+            push_name(alloc, &mut names, spaces, entry)?;
+        }
+    }
+    Ok(names)
+}
+
+/// Adds the qualified name of an entry.
+fn push_name(
+    alloc: Global,
+    names: &mut Vec<Bytes>,
+    spaces: &[Space],
+    entry: &Entry,
+) -> Result<(), NoMemory>
+    requires spaces { AreSpaces spaces.now }
+    requires within { entry.now.space ≤ length spaces.now }
+    ensures { OnOk result (names.new.items ≡ names.old.items ++ spelled_of spaces.now entry.now ∷ []) }
+{
+    names.push(spelled(alloc, spaces, entry.space, entry.name.as_slice())?)?;
+    Ok(())
+}
+
+/// Whether an entry is of a kind, and declared where these optionals are enabled.
+fn is_wanted(enabled: &OptSet, entry: &Entry, kind: Kind) -> bool
+    ensures { result ≡ is_of (is_in enabled.now) kind entry.now }
+{
+    entry.kind == kind && is_declared(enabled, entry)
+}
+
+/// The place of the name of each entry in the section of its kind.
+fn numbers_of(
+    alloc: Global,
+    spaces: &[Space],
+    entries: &[Entry],
+    sections: &Sections,
+) -> Result<Vec<usize>, NoMemory>
+    requires spaces { AreSpaces spaces.now }
+    requires ordered { AreOrdered spaces.now entries.now }
+    requires rising { (kind : kinds.Kind) → IsStrictlySortedBy text_cmp (names_of sections.now kind) }
+    ensures { IfOk result (λ numbers. numbers.items ≡ map (λ e. place_in (names_of sections.now e.kind) (spelled_of spaces.now e)) entries.now) }
+{
+    let mut numbers = Vec::new(alloc);
+    for entry in entries {
+        let name = spelled(alloc, spaces, entry.space, entry.name.as_slice())?;
+        numbers.push(place_of(sections.names(entry.kind), name.as_slice()))?;
+    }
+    Ok(numbers)
+}
+
+/// The place of a name in rising names; 0 where it is not there.
+fn place_of(names: &[Bytes], name: &[u8]) -> usize
+    requires { IsStrictlySortedBy text_cmp names.now }
+    ensures { result ≡ place_in names.now name.now }
+{
+    match names.binary_search_by(|known| known.as_slice().cmp(name)) {
+        Ok(place) => place,
+        Err(_) => 0,
+    }
+}
+
+impl Sections {
+    /// The names of the symbols of one kind.
+    pub fn names(&self, kind: Kind) -> &[Bytes]
+        ensures { result.now ≡ names_of self.now kind }
+    {
+        match kind {
+            Kind::User => self.users.as_slice(),
+            Kind::Role => self.roles.as_slice(),
+            Kind::Type_ => self.types.as_slice(),
+            Kind::Class => self.classes.as_slice(),
+            _ => &[],
+        }
+    }
+}

@@ -1,0 +1,43 @@
+//! Qualified names: the names of a namespace from the outermost on, and the name of a symbol, joined by dots.
+
+ghost use Rattle.std.specs.Prelude.{◌≡◌, ◌≤◌, ◌∷◌, ◌++◌, IfOk, OnOk, length};
+ghost use Rattle.cil_syntax.specs.Written.{qualified};
+ghost use Rattle.cil_names.specs.Numbers.{dotted};
+ghost use Rattle.cil_names.specs.Spaces.{AreSpaces, space_at};
+
+use crate::space::Space;
+use cil_modset::NoMemory;
+use cil_syntax::Bytes;
+use std::alloc::Global;
+
+/// The qualified name of a symbol in the namespace of this number.
+pub fn spelled(
+    alloc: Global,
+    spaces: &[Space],
+    space: usize,
+    name: &[u8],
+) -> Result<Bytes, NoMemory>
+    requires spaces { AreSpaces spaces.now }
+    requires within { space ≤ length spaces.now }
+    ensures { IfOk result (λ bytes. bytes ≡ qualified (name.now ∷ space_at spaces.now space)) }
+{
+    let mut bytes = Vec::new(alloc);
+    push_dotted(&mut bytes, spaces, space)?;
+    bytes.extend_from_slice(name)?;
+    Ok(Bytes::from_vec(bytes))
+}
+
+/// Adds the names of the namespace of a number from the outermost on, each with a dot behind it.
+fn push_dotted(bytes: &mut Vec<u8>, spaces: &[Space], number: usize) -> Result<(), NoMemory>
+    requires spaces { AreSpaces spaces.now }
+    requires within { number ≤ length spaces.now }
+    ensures { OnOk result (bytes.new.items ≡ bytes.old.items ++ dotted (space_at spaces.now number)) }
+{
+    if number > 0 {
+        let space = &spaces[number - 1];
+        push_dotted(bytes, spaces, space.outer)?;
+        bytes.extend_from_slice(space.name.as_slice())?;
+        bytes.push(b'.')?;
+    }
+    Ok(())
+}
