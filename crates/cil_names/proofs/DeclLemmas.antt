@@ -22,7 +22,7 @@ or_second true b h = refl
 or_second false b h = h
 
 module _ {X : Type 0} (p : X → Bool) where
-  any_from : (xs : List X) (x : X) → Contains xs x → p x ≡ true → list_any p xs ≡ true
+  pub any_from : (xs : List X) (x : X) → Contains xs x → p x ≡ true → list_any p xs ≡ true
   any_from [] x c e = absurd (contains_none x c)
   any_from (y ∷ ys) x c e =
       elim (contains_cases x y ys c) [
@@ -30,7 +30,7 @@ module _ {X : Type 0} (p : X → Bool) where
         | inr d ↦ or_second (p y) (list_any p ys) (any_from ys x d e)
       ]
 
-  any_true : (xs : List X) → list_any p xs ≡ true → (x : X) × Contains xs x × (p x ≡ true)
+  pub any_true : (xs : List X) → list_any p xs ≡ true → (x : X) × Contains xs x × (p x ≡ true)
   any_true [] e = absurd (let f : false ≡ true = e in cc)
   any_true (x ∷ xs) e =
       elim (or_cases (p x) (list_any p xs) e) [

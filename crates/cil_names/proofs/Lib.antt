@@ -1,6 +1,16 @@
 pub mod AnswerLemmas
 pub mod CandidateLemmas
 pub mod DeclLemmas
+pub mod DeclareContents
+pub mod DeclareDecided
+pub mod DeclareDone
+pub mod DeclareEntryLemmas
+pub mod DeclareFaults
+pub mod DeclareLists
+pub mod DeclareNamed
+pub mod DeclareRowLemmas
+pub mod DeclareRunLemmas
+pub mod DeclareSpelled
 pub mod EntryLemmas
 pub mod KindLemmas
 pub mod ListLemmas

@@ -1,3 +1,5 @@
+pub mod DeclareRows
+pub mod DeclareRuns
 pub mod Declarations
 pub mod Entries
 pub mod Faults
@@ -5,6 +7,7 @@ pub mod Found
 pub mod Item
 pub mod Meanings
 pub mod Numbers
+pub mod Placed
 pub mod Resolves
 pub mod Rows
 pub mod Spaces

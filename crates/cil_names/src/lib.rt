@@ -1,11 +1,14 @@
 //! What words name: namespaces as numbers, declared names as entries, and look-up in scopes.
 //!
-//! Start at `names.rt`: `Names::resolve` and `Names::candidates`. `specs/Resolves.antt` says what a word names, over statements as
+//! Start at `gather.rt` (`declare`) and `names.rt` (`Names::resolve`, `Names::candidates`). `specs/Resolves.antt` says what a word names, over statements as
 //! `specs/Item.antt` has them; `specs/Declarations.antt` what is declared; `specs/Entries.antt` how entries and numbers of
 //! namespaces stand for that. What permissions a class has is not asked here.
 #![tactic(auto)]
 
+mod clash;
+mod content;
 mod entry;
+mod gather;
 mod instance;
 mod kinds;
 mod look;
@@ -14,11 +17,14 @@ mod names;
 mod numbers;
 mod opt_set;
 mod path;
+mod row;
+mod run;
 mod space;
 mod spelled;
 mod table;
 
 pub use entry::Entry;
+pub use gather::declare;
 pub use instance::Instance;
 pub use meaning::Meaning;
 pub use names::Names;

@@ -1,0 +1,168 @@
+-- The entries of runs without faults are the declared names.
+use Rattle.std.specs.Prelude.{◌≤◌, Contains, Option, Some, None, slice_get}
+use Rattle.std.specs.List.{AllByRecursion, flat_map, list_all, list_any}
+use Rattle.std.specs.List.Sorted.{IsStrictlySortedBy}
+use Rattle.std.specs.declared.cmp.Ordering.{Ordering}
+use Rattle.std.specs.declared.cmp.Ordering.TheVariants.{Less}
+use Rattle.std.specs.Option.{option_map, unwrap_or}
+use Rattle.std.specs.Ordering.{on}
+use Rattle.std.specs.Global.{Vec}
+use Rattle.std.proofs.Common.{◌≡◌, ℕ, Bool, true, false, ◌||◌, List, [], ◌∷◌, ◌++◌, map, length, refl, sym, ◌∙◌, ap, subst}
+use Rattle.std.proofs.lemmas.Option.{slice_get-map}
+use Rattle.cil_names.specs.declared.entry.Entry.{Entry}
+use Rattle.cil_names.specs.declared.instance.Instance.{Instance}
+use Rattle.cil_names.specs.declared.row.Row.{Row}
+use Rattle.cil_names.specs.declared.run.Run.{Run}
+use Rattle.cil_names.specs.declared.space.Space.{Space}
+use Rattle.cil_names.specs.Declarations.{Declaration, IsDeclaration}
+use Rattle.cil_names.specs.DeclareRows.{TellsDiffering, declaration_of, is_row_enabled, round_at}
+use Rattle.cil_names.specs.DeclareRuns.{Said, entry_of_run, is_always, has_none, listed_unless, rounds_by, run_key, said_by}
+use Rattle.cil_names.specs.Entries.{AreEntries, IsEntryFor, Key, is_declared_in, items_of, key_cmp, key_of, rank}
+use Rattle.cil_names.specs.Item.{OptSet}
+use Rattle.cil_names.specs.Spaces.{space_at}
+use Rattle.cil_names.proofs.DeclareDone.{AreRunsOf, declared_row, in_rows, placed_in, row_declared, run_of, space_within}
+use Rattle.cil_names.proofs.DeclLemmas.{any_from, any_true}
+use Rattle.cil_names.proofs.SearchLemmas.{member_of_number, number_of_member}
+
+-- ---- where an entry is declared
+
+or_moved : (a x b : Bool) → (a || (x || b)) ≡ (x || (a || b))
+or_moved true true b = refl
+or_moved true false b = refl
+or_moved false x b = refl
+
+any_map : {X Y : Type 0} (f : X → Y) (p : Y → Bool) (xs : List X) → list_any p (map f xs) ≡ list_any (λ x. p (f x)) xs
+any_map f p [] = refl
+any_map f p (x ∷ xs) = ap (λ b. p (f x) || b) (any_map f p xs)
+
+module _ (s : OptSet) where
+  abbrev lives : List Row → Bool
+  lives rows = list_any is_always rows || list_any (list_all s) (flat_map rounds_by rows)
+
+  one_more : (round : List ℕ) (a : Bool) (rest : List (List ℕ)) → ((has_none round || a) || list_any (list_all s) (listed_unless (has_none round) round ++ rest))
+      ≡ (list_all s round || (a || list_any (list_all s) rest))
+  one_more [] a rest = refl
+  one_more (o ∷ os) a rest = or_moved a (list_all s (o ∷ os)) (list_any (list_all s) rest)
+
+  lives_as : (rows : List Row) → lives rows ≡ list_any (is_row_enabled s) rows
+  unfolding rounds_by
+  lives_as [] = refl
+  lives_as (r ∷ rs) =
+      one_more (round_at r.instance) (list_any is_always rs) (flat_map rounds_by rs) ∙ ap (λ b. is_row_enabled s r || b) (lives_as rs)
+
+  -- an entry is declared where a row of its run is enabled
+  pub lives_in : (e : Entry) (run : Run) → said_by e ≡ entry_of_run run → is_declared_in s e ≡ list_any (is_row_enabled s) run.rows.now
+  lives_in e run says =
+      ap (λ b. e.always || b) (sym (any_map (λ (round : Vec ℕ). round.items) (list_all s) e.rounds.items))
+      ∙ ap (λ (z : Said). z.always || list_any (list_all s) z.rounds) says
+      ∙ lives_as run.rows.now
+
+-- ---- the places of entries and runs
+
+some_of : {X Y : Type 0} (f : X → Y) (o : Option X) (y : Y) → option_map f o ≡ Some y → (x : X) × (o ≡ Some x) × (f x ≡ y)
+some_of f None y e = absurd cc
+some_of f (Some x) y e = (x, refl, ap (λ z. unwrap_or z y) e)
+
+module _ (es : List Entry) (runs : List Run) (says : map said_by es ≡ map entry_of_run runs) where
+  same_at : (n : ℕ) → option_map said_by (slice_get es n) ≡ option_map entry_of_run (slice_get runs n)
+  same_at n = sym (slice_get-map said_by es n) ∙ ap (λ z. slice_get z n) says ∙ slice_get-map entry_of_run runs n
+
+  pub entry_for : (run : Run) → Contains runs run → (n : ℕ) × (e : Entry) × (slice_get es n ≡ Some e) × (said_by e ≡ entry_of_run run)
+  entry_for run c =
+      let (n, at) = number_of_member runs run c in
+      let (e, is, same) = some_of said_by (slice_get es n) (entry_of_run run) (same_at n ∙ ap (option_map entry_of_run) at) in
+      (n, e, is, same)
+
+  pub run_for : (n : ℕ) (e : Entry) → slice_get es n ≡ Some e → (run : Run) × Contains runs run × (said_by e ≡ entry_of_run run)
+  run_for n e at =
+      let (run, is, same) = some_of entry_of_run (slice_get runs n) (said_by e) (sym (same_at n) ∙ ap (option_map said_by) at) in
+      (run, member_of_number runs n run is, sym same)
+
+-- ---- the order of entries
+
+below_map : {X Y : Type 0} (f : X → Y) (order : Y → Y → Ordering) (y : Y) (xs : List X) → AllByRecursion (λ x. order y (f x) ≡ Less) xs → AllByRecursion (λ z. order y z ≡ Less) (map f xs)
+below_map f order y [] all = tt
+below_map f order y (x ∷ xs) all = (all.0, below_map f order y xs all.1)
+
+rises_map : {X Y : Type 0} (f : X → Y) (order : Y → Y → Ordering) (xs : List X) → IsStrictlySortedBy (on f order) xs → IsStrictlySortedBy order (map f xs)
+unfolding IsStrictlySortedBy
+rises_map f order [] up = tt
+rises_map f order (x ∷ xs) up = (below_map f order (f x) xs up.0, rises_map f order xs up.1)
+
+below_unmap : {X Y : Type 0} (f : X → Y) (order : Y → Y → Ordering) (y : Y) (xs : List X) → AllByRecursion (λ z. order y z ≡ Less) (map f xs) → AllByRecursion (λ x. order y (f x) ≡ Less) xs
+below_unmap f order y [] all = tt
+below_unmap f order y (x ∷ xs) all = (all.0, below_unmap f order y xs all.1)
+
+unmap_rises : {X Y : Type 0} (f : X → Y) (order : Y → Y → Ordering) (xs : List X) → IsStrictlySortedBy order (map f xs) → IsStrictlySortedBy (on f order) xs
+unfolding IsStrictlySortedBy
+unmap_rises f order [] up = tt
+unmap_rises f order (x ∷ xs) up = (below_unmap f order (f x) xs up.0, unmap_rises f order xs up.1)
+
+key_said : Said → Key
+key_said z = record { space = z.space; name = z.name; rank = rank z.kind }
+
+keys_said : (es : List Entry) → map key_of es ≡ map key_said (map said_by es)
+unfolding key_said
+keys_said [] = refl
+keys_said (e ∷ es) = ap (λ z. key_of e ∷ z) (keys_said es)
+
+keys_run : (runs : List Run) → map run_key runs ≡ map key_said (map entry_of_run runs)
+unfolding key_said
+keys_run [] = refl
+keys_run (run ∷ runs) = ap (λ z. run_key run ∷ z) (keys_run runs)
+
+pub entries_rise : (es : List Entry) (runs : List Run) → map said_by es ≡ map entry_of_run runs → IsStrictlySortedBy (on run_key key_cmp) runs → IsStrictlySortedBy (on key_of key_cmp) es
+entries_rise es runs says up =
+    unmap_rises key_of key_cmp es
+    (subst (IsStrictlySortedBy key_cmp) (keys_run runs ∙ ap (map key_said) (sym says) ∙ sym (keys_said es)) (rises_map run_key key_cmp runs up))
+
+-- ---- the entries are the declared names
+
+all_one : (ss : List Space) (first : Row) (rows : List Row) (b : Bool) → b ≡ false → TellsDiffering ss first rows b → (r : Row) → Contains rows r
+    → declaration_of ss first ≡ declaration_of ss r
+all_one ss first rows b is tells = subst (TellsDiffering ss first rows) is tells
+
+module _ (ss : List Space) (is : List Instance) (rows : List Row) (runs : List Run) (of : AreRunsOf ss is rows runs)
+    (clean : (run : Run) → Contains runs run → run.differing ≡ false) (es : List Entry) (says : map said_by es ≡ map entry_of_run runs) where
+  one : (run : Run) → Contains runs run → (r : Row) → Contains run.rows.now r → declaration_of ss run.first.now ≡ declaration_of ss r
+  one run c = all_one ss run.first.now run.rows.now run.differing (clean run c) (of.are.each run c).tells
+
+  named_each : (s : OptSet) (d : Declaration) → IsDeclaration (items_of ss is) s d → (i : ℕ) × IsEntryFor ss es s d.kind d.space d.name i
+  named_each s d declared =
+      let (r, in_all, same, enabled) = declared_row ss of.spaces is s d declared in
+      let (run, in_runs, in_run) = run_of ss is rows runs of r in_all in
+      let (n, e, at, said) = entry_for es runs says run in_runs in
+      let whole = one run in_runs r in_run ∙ same in (
+        n,
+        record {
+          entry = e;
+          at = at;
+          of_kind = ap (λ (z : Said). z.kind) said ∙ ap (λ (x : Declaration). x.kind) whole;
+          in_space = ap (λ (z : Said). space_at ss z.space) said ∙ ap (λ (x : Declaration). x.space) whole;
+          of_name = ap (λ (z : Said). z.name) said ∙ ap (λ (x : Declaration). x.name) whole;
+          live = lives_in s e run said ∙ any_from (is_row_enabled s) run.rows.now r in_run enabled;
+        },
+      )
+
+  named_only : (s : OptSet) (i : ℕ) (e : Entry) → slice_get es i ≡ Some e → is_declared_in s e ≡ true
+      → (d : Declaration) × IsDeclaration (items_of ss is) s d × (d.kind ≡ e.kind) × (d.space ≡ space_at ss e.space) × (d.name ≡ e.name)
+  named_only s i e at live =
+      let (run, in_runs, said) = run_for es runs says i e at in
+      let (r, in_run, enabled) = any_true (is_row_enabled s) run.rows.now (sym (lives_in s e run said) ∙ live) in
+      let same = sym (one run in_runs r in_run) in (
+        declaration_of ss r,
+        row_declared ss of.spaces is s r (in_rows ss is rows runs of run r in_runs in_run) enabled,
+        ap (λ (x : Declaration). x.kind) same ∙ sym (ap (λ (z : Said). z.kind) said),
+        ap (λ (x : Declaration). x.space) same ∙ sym (ap (λ (z : Said). space_at ss z.space) said),
+        ap (λ (x : Declaration). x.name) same ∙ sym (ap (λ (z : Said). z.name) said),
+      )
+
+  stands_within : (e : Entry) → Contains es e → e.space ≤ length ss
+  stands_within e c =
+      let (n, at) = number_of_member es e c in
+      let (run, in_runs, said) = run_for es runs says n e at in
+      let within = space_within ss run.first.now (placed_in ss is rows runs of run run.first.now in_runs (of.are.each run in_runs).first) in
+      subst (λ k. k ≤ length ss) (sym (ap (λ (z : Said). z.space) said)) within
+
+  pub are_named : AreEntries ss is es
+  are_named = record { ordered = record { rising = entries_rise es runs says of.are.rising; within = stands_within }; each = named_each; only = named_only }

@@ -1,0 +1,18 @@
+use Rattle.cil_names.proofs.DeclareRunLemmas.{next_parted, next_above, row_at, row_within, some_within}
+use Rattle.cil_names.proofs.run.run_at.Goals as goal
+
+pub returns : goal.returns
+returns c =
+    let rest = c.from-rest.ensures in
+    let bound = c.run_length.ensures.within in
+    record {
+      parted = next_parted c.args.rows.now c.args.start c.run_length.result _ rest bound;
+      some = some_within _ _ c.run_length.ensures.first;
+      above = next_above c.args.rows.now c.args.start c.run_length.result _ rest c.index-rows-start.result bound c.run_length.ensures.above;
+      is_run = λ ss spaces placed. record {
+        first = c.run_length.ensures.first;
+        same = c.run_length.ensures.same;
+        tells = c.is_differing.ensures ss spaces (placed _ (row_at c.args.rows.now c.args.start _ c.requires.within c.index-rows-start.is))
+            (λ r d. placed r (row_within c.args.rows.now c.args.start c.run_length.result _ rest r d));
+      };
+    }

@@ -1,0 +1,107 @@
+-- The rows of one key as runs, and the entries and faults that they give. No other crate needs these words.
+use Rattle.std.specs.Prelude.{◌≡◌, ℕ, ◌+◌, ◌<◌, Bool, true, false, if◌then◌else◌, List, [], ◌∷◌, ◌++◌, map, drop, length, Contains, Option, Some, None}
+use Rattle.std.specs.List.{flat_map, list_any}
+use Rattle.std.specs.List.Sorted.{IsStrictlySortedBy}
+use Rattle.std.specs.declared.cmp.Ordering.TheVariants.{Less}
+use Rattle.std.specs.Ordering.{on}
+use Rattle.cil_syntax.specs.declared.code.FaultCode.TheVariants as causes
+use Rattle.cil_syntax.specs.declared.fault.Fault.{Fault}
+use Rattle.cil_syntax.specs.declared.kind.Kind.{Kind}
+use Rattle.cil_syntax.specs.declared.term.Word.{Word}
+use Rattle.cil_syntax.specs.Said.{args_of}
+use Rattle.cil_syntax.specs.Terms.{Leaf, Name, Form, Terms, nil, cons}
+use Rattle.cil_names.specs.declared.entry.Entry.{Entry}
+use Rattle.cil_names.specs.declared.instance.Instance.{Instance}
+use Rattle.cil_names.specs.declared.row.Row.{Row}
+use Rattle.cil_names.specs.declared.run.Run.{Run}
+use Rattle.cil_names.specs.declared.space.Space.{Space}
+use Rattle.cil_names.specs.DeclareRows.{IsPlacedRow, TellsDiffering, round_at, row_key}
+use Rattle.cil_names.specs.Entries.{Key, key_cmp}
+use Rattle.cil_names.specs.Faults.{fault_at}
+use Rattle.cil_names.specs.Item.{Namespace}
+use Rattle.cil_names.specs.Spaces.{AreSpaces, space_at}
+
+abbrev pub run_key : Run → Key
+run_key run = row_key run.first.now
+
+abbrev pub rows_in : Run → List Row
+rows_in run = run.rows.now
+
+-- the rows of a run share its key, and the flag tells whether some of them declares another symbol than the first
+pub record IsRun (ss : List Space) (run : Run) : Type 0 where
+  pub first : Contains run.rows.now run.first.now
+  pub same : (r : Row) → Contains run.rows.now r → row_key r ≡ row_key run.first.now
+  pub tells : TellsDiffering ss run.first.now run.rows.now run.differing
+
+-- the run that begins at a place of rows
+pub record IsNextRun (rows : List Row) (start : ℕ) (run : Run) : Type 0 where
+  pub some : 0 < length run.rows.now
+  pub parted : drop start rows ≡ run.rows.now ++ drop (start + length run.rows.now) rows
+  pub above : (r : Row) → Contains (drop (start + length run.rows.now) rows) r → key_cmp (row_key run.first.now) (row_key r) ≡ Less
+  pub is_run : (ss : List Space) → AreSpaces ss → ((r : Row) → Contains rows r → IsPlacedRow ss r) → IsRun ss run
+
+-- the runs are these rows, parted by their keys
+pub record AreRuns (ss : List Space) (rows : List Row) (runs : List Run) : Type 0 where
+  pub whole : flat_map rows_in runs ≡ rows
+  pub rising : IsStrictlySortedBy (on run_key key_cmp) runs
+  pub each : (run : Run) → Contains runs run → IsRun ss run
+
+-- ---- faults
+
+-- the fault of a statement that begins with a name: it stands at that name
+abbrev pub faults_named : Namespace → Terms Word → List Fault
+faults_named space nil = []
+faults_named space (cons (Leaf w) rest) = []
+faults_named space (cons (Name at name) rest) = fault_at causes.Clash at space name ∷ []
+faults_named space (cons (Form at op parts) rest) = []
+
+abbrev pub faults_at : List Space → Option Instance → List Fault
+faults_at ss None = []
+faults_at ss (Some i) = faults_named (space_at ss i.space) (args_of i.statement.now)
+
+-- the fault of a row, where its declaration differs from another one
+unfoldable pub row_faults : List Space → Row → List Fault
+row_faults ss r = faults_at ss r.instance
+
+-- where some rows of a run differ, each of them is at fault
+unfoldable pub run_faults : List Space → Run → List Fault
+run_faults ss run = if run.differing then flat_map (row_faults ss) run.rows.now else []
+
+-- ---- entries
+
+abbrev pub has_none : List ℕ → Bool
+has_none [] = true
+has_none (o ∷ os) = false
+
+abbrev pub listed_unless : {X : Type 0} → Bool → X → List X
+listed_unless true x = []
+listed_unless false x = x ∷ []
+
+-- whether the declaration of a row stands outside all optionals
+abbrev pub is_always : Row → Bool
+is_always r = has_none (round_at r.instance)
+
+-- the optionals round the statement of a row, where there are some
+unfoldable pub rounds_by : Row → List (List ℕ)
+rounds_by r = listed_unless (is_always r) (round_at r.instance)
+
+-- what an entry says
+pub record Said : Type 0 where
+  pub space : ℕ
+  pub name : List ℕ
+  pub kind : Kind
+  pub always : Bool
+  pub rounds : List (List ℕ)
+
+abbrev pub said_by : Entry → Said
+said_by e = record { space = e.space; name = e.name; kind = e.kind; always = e.always; rounds = map (λ round. round.items) e.rounds.items }
+
+-- the entry of a run
+abbrev pub entry_of_run : Run → Said
+entry_of_run run = record {
+  space = run.first.now.space;
+  name = run.first.now.name;
+  kind = run.first.now.kind;
+  always = list_any is_always run.rows.now;
+  rounds = flat_map rounds_by run.rows.now;
+}

@@ -1,0 +1,129 @@
+//! Declarations that differ: the faults of their statements.
+
+ghost use Rattle.std.specs.Prelude.{◌≡◌, ◌≤◌, ◌++◌, Contains, IfOk, OnOk, length};
+ghost use Rattle.std.specs.List.{flat_map};
+ghost use Rattle.cil_syntax.specs.Refusal.{Answers};
+ghost use Rattle.cil_syntax.specs.Written.{qualified};
+ghost use Rattle.cil_names.specs.declared.row.Row.{Row};
+ghost use Rattle.cil_names.specs.declared.run.Run.{Run};
+ghost use Rattle.cil_names.specs.DeclareRows.{IsPlacedRow};
+ghost use Rattle.cil_names.specs.DeclareRuns.{faults_at, row_faults, run_faults};
+ghost use Rattle.cil_names.specs.Spaces.{AreSpaces, space_at};
+
+use crate::instance::Instance;
+use crate::row::Row;
+use crate::run::Run;
+use crate::space::Space;
+use crate::spelled::spelled;
+use cil_modset::NoMemory;
+use cil_syntax::{Bytes, Failure, Fault, FaultCode, FaultList};
+use std::alloc::Global;
+
+/// Refuses with these faults, where there are some.
+pub fn refuse(faults: Vec<Fault>) -> Result<(), Failure>
+    ensures { Answers (λ done. Unit {0}) (Contains faults.items) result }
+{
+    match FaultList::of(faults) {
+        Some(list) => Err(Failure::Faults(list)),
+        None => Ok(()),
+    }
+}
+
+/// The faults of runs whose rows differ: one for each declaring statement.
+pub fn clashes(alloc: Global, spaces: &[Space], runs: &[Run]) -> Result<Vec<Fault>, NoMemory>
+    requires spaces { AreSpaces spaces.now }
+    requires placed { (run : Run) (r : Row) → Contains runs.now run → Contains run.rows.now r → IsPlacedRow spaces.now r }
+    ensures { IfOk result (λ faults. faults.items ≡ flat_map (run_faults spaces.now) runs.now) }
+{
+    let mut faults = Vec::new(alloc);
+    for run in runs {
+        push_run(alloc, &mut faults, spaces, run)?;
+    }
+    Ok(faults)
+}
+
+fn push_run(
+    alloc: Global,
+    faults: &mut Vec<Fault>,
+    spaces: &[Space],
+    run: &Run,
+) -> Result<(), NoMemory>
+    requires spaces { AreSpaces spaces.now }
+    requires placed { (r : Row) → Contains run.now.rows.now r → IsPlacedRow spaces.now r }
+    ensures { OnOk result (faults.new.items ≡ faults.old.items ++ run_faults spaces.now run.now) }
+{
+    if !run.differing {
+        return Ok(());
+    }
+    push_rows(alloc, faults, spaces, run.rows)
+}
+
+fn push_rows(
+    alloc: Global,
+    faults: &mut Vec<Fault>,
+    spaces: &[Space],
+    rows: &[Row],
+) -> Result<(), NoMemory>
+    requires spaces { AreSpaces spaces.now }
+    requires placed { (r : Row) → Contains rows.now r → IsPlacedRow spaces.now r }
+    ensures { OnOk result (faults.new.items ≡ faults.old.items ++ flat_map (row_faults spaces.now) rows.now) }
+{
+    for row in rows {
+        push_row(alloc, faults, spaces, row)?;
+    }
+    Ok(())
+}
+
+fn push_row(
+    alloc: Global,
+    faults: &mut Vec<Fault>,
+    spaces: &[Space],
+    row: &Row,
+) -> Result<(), NoMemory>
+    requires spaces { AreSpaces spaces.now }
+    requires placed { IsPlacedRow spaces.now row.now }
+    ensures { OnOk result (faults.new.items ≡ faults.old.items ++ row_faults spaces.now row.now) }
+{
+    let Some(instance) = row.instance else {
+        return Ok(());
+    };
+    push_clash(alloc, faults, spaces, &instance)
+}
+
+fn push_clash(
+    alloc: Global,
+    faults: &mut Vec<Fault>,
+    spaces: &[Space],
+    instance: &Instance,
+) -> Result<(), NoMemory>
+    requires spaces { AreSpaces spaces.now }
+    requires within { instance.now.space ≤ length spaces.now }
+    ensures { OnOk result (faults.new.items ≡ faults.old.items ++ faults_at spaces.now (Some instance.now)) }
+{
+    let Some(name) = instance.statement.declared_name() else {
+        return Ok(());
+    };
+    let space = spelled_space(alloc, spaces, instance.space)?;
+    let word = Bytes::copy_of(alloc, name.bytes)?;
+    faults.push(Fault {
+        code: FaultCode::Clash,
+        module: name.at.module,
+        at: name.at.at,
+        space,
+        word,
+    })?;
+    Ok(())
+}
+
+/// The qualified name of the namespace of a number: that of the global namespace is empty.
+fn spelled_space(alloc: Global, spaces: &[Space], number: usize) -> Result<Bytes, NoMemory>
+    requires spaces { AreSpaces spaces.now }
+    requires within { number ≤ length spaces.now }
+    ensures { IfOk result (λ bytes. bytes ≡ qualified (space_at spaces.now number)) }
+{
+    if number == 0 {
+        return Ok(Bytes::from_vec(Vec::new(alloc)));
+    }
+    let space = &spaces[number - 1];
+    spelled(alloc, spaces, space.outer, space.name.as_slice())
+}
