@@ -278,19 +278,25 @@ fn faults_have_their_numbers_and_sentences(rt: HostRuntime) -> Result<(), Fail> 
     Ok(())
 }
 
+/// The modules of a host that was called so, as it lists them.
+fn listed(alloc: Global, calls: &[Call]) -> Result<Vec<ListLine>, Fail> {
+    let mut host: Host<u8> = Host::new(alloc, 512, 0);
+    let mut wrong = String::new(alloc);
+    note_calls(&mut wrong, alloc, &mut host, calls)?;
+    if !wrong.is_empty() {
+        return Err(Fail::from(wrong));
+    }
+    Ok(host.list(alloc)?)
+}
+
 #[test]
 fn modules_are_listed_in_byte_order(rt: HostRuntime) -> Result<(), Fail> {
-    let alloc = rt.alloc();
-    let mut host: Host<u8> = Host::new(alloc, 512, 0);
     let calls = [
         Call::Install("(type b)"),
         Call::Install("(type a)"),
         Call::Install("(type b)"),
     ];
-    let mut wrong = String::new(alloc);
-    note_calls(&mut wrong, alloc, &mut host, &calls)?;
-    assert_eq!(rt; wrong.as_str(), "");
     let want = [DIGEST_OF_A, DIGEST_OF_B].map(|digest| ListLine { digest, length: 8 });
-    assert_eq!(rt; host.list(alloc)?.as_slice(), want.as_slice());
+    assert_eq!(rt; listed(rt.alloc(), &calls)?.as_slice(), want.as_slice());
     Ok(())
 }

@@ -2,7 +2,7 @@
 
 use crate::hosts::{A, B, Call, NOTHING, READ, note_calls, note_import};
 use crate::policies::ORDERS;
-use cil_host::Host;
+use cil_host::{Host, ListLine};
 use std::alloc::Global;
 use std::test::Fail;
 
@@ -29,64 +29,72 @@ fn order_and_repeats_do_not_matter(rt: HostRuntime) -> Result<(), Fail> {
     Ok(())
 }
 
-/// Writes down what is wrong with a merge of one host into another, of whose modules so many are new.
-fn note_merge(
-    out: &mut String,
-    alloc: Global,
-    from: &Host<u8>,
-    into: &mut Host<u8>,
-    want: u64,
-) -> Result<(), Fail> {
-    let bundle = from.export(alloc)?;
-    note_import(out, alloc, into, bundle.as_slice(), Ok(want))
+/// Three hosts with a module each merge each other: from which host into which other one, and how many of its modules are new
+/// there.
+const MERGES: &[(usize, usize, u64)] = &[(0, 1, 1), (1, 2, 2), (2, 1, 1), (1, 0, 2), (0, 2, 0)];
+
+/// Hosts with one of these modules each.
+fn hosts_of(alloc: Global, texts: &[&str]) -> Result<Vec<Host<u8>>, Fail> {
+    let mut hosts = Vec::new(alloc);
+    for text in texts {
+        hosts.push(host_of(alloc, text)?)?;
+    }
+    Ok(hosts)
 }
 
-/// Writes down that two hosts have different lists, where they do.
-fn note_lists(
-    out: &mut String,
-    alloc: Global,
-    one: &Host<u8>,
-    other: &Host<u8>,
-) -> Result<(), Fail> {
-    if one.list(alloc)?.as_slice() != other.list(alloc)?.as_slice() {
-        write!(out, "two lists; ")?;
+/// A new host with one module.
+fn host_of(alloc: Global, text: &str) -> Result<Host<u8>, Fail> {
+    let mut host: Host<u8> = Host::new(alloc, 512, 0);
+    host.install(alloc, text.as_bytes())?;
+    Ok(host)
+}
+
+/// The bundle of the host of this number.
+fn bundle_of(alloc: Global, hosts: &[Host<u8>], from: usize) -> Result<Vec<u8>, Fail> {
+    let host = hosts.get(from).ok_or("no such host")?;
+    Ok(host.export(alloc)?)
+}
+
+/// Makes the merges, and writes down what is wrong with them.
+fn note_merges(out: &mut String, alloc: Global, hosts: &mut [Host<u8>]) -> Result<(), Fail> {
+    for &(from, into, want) in MERGES {
+        let bundle = bundle_of(alloc, hosts, from)?;
+        let host = hosts.get_mut(into).ok_or("no such host")?;
+        note_import(out, alloc, host, bundle.as_slice(), Ok(want))?;
     }
     Ok(())
 }
 
-/// Three hosts with a module each merge each other. Writes down where they do not answer alike.
-fn note_merges(
+/// Writes down where a host does not have this list, or does not answer as one with the three modules.
+fn note_differences(
     out: &mut String,
     alloc: Global,
-    first: &mut Host<u8>,
-    second: &mut Host<u8>,
-    third: &mut Host<u8>,
+    hosts: &mut [Host<u8>],
+    list: &[ListLine],
 ) -> Result<(), Fail> {
-    note_merge(out, alloc, first, second, 1)?;
-    note_merge(out, alloc, second, third, 2)?;
-    note_merge(out, alloc, third, second, 1)?;
-    note_merge(out, alloc, second, first, 2)?;
-    note_merge(out, alloc, first, third, 0)?;
-    note_lists(out, alloc, first, second)?;
-    note_lists(out, alloc, second, third)?;
-    note_calls(out, alloc, first, OF_THREE)?;
-    note_calls(out, alloc, second, OF_THREE)?;
-    note_calls(out, alloc, third, OF_THREE)
+    for host in hosts {
+        if host.list(alloc)?.as_slice() != list {
+            write!(out, "another list; ")?;
+        }
+        note_calls(out, alloc, host, OF_THREE)?;
+    }
+    Ok(())
+}
+
+/// What is wrong where hosts with one of these modules each merge each other.
+fn wrong_of(alloc: Global, texts: &[&str]) -> Result<String, Fail> {
+    let mut hosts = hosts_of(alloc, texts)?;
+    let mut wrong = String::new(alloc);
+    note_merges(&mut wrong, alloc, hosts.as_mut_slice())?;
+    let list = hosts.first().ok_or("no host")?.list(alloc)?;
+    note_differences(&mut wrong, alloc, hosts.as_mut_slice(), list.as_slice())?;
+    Ok(wrong)
 }
 
 #[test]
 fn hosts_that_merged_each_other_answer_alike(rt: HostRuntime) -> Result<(), Fail> {
-    let alloc = rt.alloc();
     for texts in ORDERS {
-        let mut wrong = String::new(alloc);
-        let mut first: Host<u8> = Host::new(alloc, 512, 0);
-        let mut second: Host<u8> = Host::new(alloc, 512, 0);
-        let mut third: Host<u8> = Host::new(alloc, 512, 0);
-        first.install(alloc, texts[0].as_bytes())?;
-        second.install(alloc, texts[1].as_bytes())?;
-        third.install(alloc, texts[2].as_bytes())?;
-        note_merges(&mut wrong, alloc, &mut first, &mut second, &mut third)?;
-        assert_eq!(rt; wrong.as_str(), "");
+        assert_eq!(rt; wrong_of(rt.alloc(), texts)?.as_str(), "");
     }
     Ok(())
 }
