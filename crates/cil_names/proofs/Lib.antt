@@ -18,6 +18,7 @@ pub mod MeaningLemmas
 pub mod NumberLemmas
 pub mod OrderLemmas
 pub mod PathLemmas
+pub mod RisingLemmas
 pub mod RowLemmas
 pub mod ScopeLemmas
 pub mod SearchLemmas

@@ -1,10 +1,14 @@
 //! The declared names of a policy, and what words name.
 
-ghost use Rattle.std.specs.Prelude.{◌≡◌, ◌≤◌, ◌<◌, All, IfOk, IfSome, List, find, length};
+ghost use Rattle.std.specs.Prelude.{◌≡◌, ◌↔◌, ◌≤◌, ◌<◌, ℕ, All, IfOk, IfSome, IsTrue, List, MatchOption, Some, find, length, slice_get};
+ghost use Rattle.std.specs.List.Sorted.{IsStrictlySortedBy};
+ghost use Rattle.std.specs.Ordering.{on};
 ghost use Rattle.cil_names.specs.declared.instance.Instance.{Instance};
-ghost use Rattle.cil_names.specs.Entries.{AreEntries, AreOrdered, IsAnswer, candidates_of, is_declared_at, is_in, scoped};
+ghost use Rattle.cil_names.specs.declared.entry.Entry.{Entry};
+ghost use Rattle.cil_names.specs.Entries.{AreEntries, AreOrdered, IsAnswer, candidates_of, is_declared_at, is_in, key_cmp, key_of, scoped};
 
 use crate::entry::Entry;
+use crate::kinds::rank_of;
 use crate::look;
 use crate::opt_set::OptSet;
 use crate::space::Spaces;
@@ -35,7 +39,8 @@ impl<'a> Model for Names<'a> {
 }
 
 impl<'a> Names<'a> {
-    ghost use Rattle.std.specs.Prelude.{◌≡◌};
+    ghost use Rattle.std.specs.Prelude.{◌≡◌, MatchOption};
+    ghost use Rattle.cil_names.specs.Entries.{AreOrdered};
     ghost use Rattle.std.specs.List.Sorted.{IsStrictlySortedBy};
     ghost use Rattle.std.specs.Ordering.{on};
     ghost use Rattle.cil_names.specs.Entries.{key_cmp, key_of};
@@ -46,6 +51,20 @@ impl<'a> Names<'a> {
         ensures { result ≡ entries.entry.items }
     {
         Names { entries }
+    }
+
+    /// These entries; none where they do not rise, or one is in none of the namespaces.
+    pub fn checked(spaces: &Spaces, entries: Vec<Entry<'a>>) -> Option<Names<'a>>
+        ensures { MatchOption result (AreOrdered spaces.now entries.entry.items → ⊥)
+            (λ names. (names ≡ entries.entry.items) × AreOrdered spaces.now names) }
+    {
+        if !rise(entries.as_slice()) {
+            return None;
+        }
+        if !are_within(spaces, entries.as_slice()) {
+            return None;
+        }
+        Some(Names { entries })
     }
 
     /// The entries, in order.
@@ -102,4 +121,30 @@ impl<'a> Names<'a> {
             scope,
         )
     }
+}
+
+/// Whether entries rise by the numbers of their namespaces, names and name spaces.
+fn rise(entries: &[Entry]) -> bool
+    ensures { IsTrue result ↔ IsStrictlySortedBy (on key_of key_cmp) entries.now }
+{
+    entries.is_sorted_by(|a, b| {
+        a.space
+            .cmp(&b.space)
+            .then(a.name.as_slice().cmp(b.name.as_slice()))
+            .then(rank_of(a.kind).cmp(&rank_of(b.kind)))
+            .is_lt()
+    })
+}
+
+/// Whether each entry is in one of the namespaces.
+fn are_within(spaces: &Spaces, entries: &[Entry]) -> bool
+    ensures { IsTrue result ↔ ((i : ℕ) (e : Entry) → slice_get entries.now i ≡ Some e → e.space ≤ length spaces.now) }
+{
+    let most = spaces.as_slice().len();
+    for entry in entries {
+        if entry.space > most {
+            return false;
+        }
+    }
+    true
 }

@@ -1,7 +1,9 @@
 //! Namespaces by their numbers.
 
-ghost use Rattle.std.specs.Prelude.{◌≡◌, ◌≤◌, ◌∷◌, length, MatchOption};
-ghost use Rattle.cil_names.specs.Spaces.{AreSpaces, HasNoNumber, IsAskedAt, IsAskedNowhere, IsNumber, space_at};
+ghost use Rattle.std.specs.Prelude.{◌≡◌, ◌↔◌, ◌≤◌, ◌∷◌, ℕ, IsTrue, Some, length, MatchOption, slice_get};
+ghost use Rattle.std.specs.List.Sorted.{IsStrictlySortedBy};
+ghost use Rattle.std.specs.Ordering.{on};
+ghost use Rattle.cil_names.specs.Spaces.{AreSpaces, HasNoNumber, IsAskedAt, IsAskedNowhere, IsNumber, place_cmp, place_of, space_at};
 
 use crate::path::parted;
 use cil_syntax::Excerpt;
@@ -37,7 +39,7 @@ impl<'a> Model for Spaces<'a> {
 }
 
 impl<'a> Spaces<'a> {
-    ghost use Rattle.std.specs.Prelude.{◌≡◌};
+    ghost use Rattle.std.specs.Prelude.{◌≡◌, ◌↔◌, ◌≤◌, All, IsTrue, MatchOption, length};
     ghost use Rattle.cil_names.specs.Spaces.{AreSpaces};
 
     /// These namespaces.
@@ -48,6 +50,32 @@ impl<'a> Spaces<'a> {
         Spaces { spaces }
     }
 
+    /// These namespaces; none where they do not rise, or one does not come after the one round it.
+    pub fn checked(spaces: Vec<Space<'a>>) -> Option<Spaces<'a>>
+        ensures { MatchOption result (AreSpaces spaces.entry.items → ⊥) (λ s. s ≡ spaces.entry.items) }
+    {
+        if !rise(spaces.as_slice()) {
+            return None;
+        }
+        if !come_after(spaces.as_slice()) {
+            return None;
+        }
+        Some(Spaces { spaces })
+    }
+
+    /// Whether these are numbers of namespaces.
+    pub fn has_all(&self, numbers: &[usize]) -> bool
+        ensures { IsTrue result ↔ All (λ k. k ≤ length self.now) numbers.now }
+    {
+        let most = self.spaces.len();
+        for number in numbers {
+            if *number > most {
+                return false;
+            }
+        }
+        true
+    }
+
     /// The namespaces, in order.
     pub fn as_slice(&self) -> &[Space<'a>]
         ensures value { result.now ≡ self.now }
@@ -55,6 +83,30 @@ impl<'a> Spaces<'a> {
     {
         self.spaces.as_slice()
     }
+}
+
+/// Whether namespaces rise by the number of the one round them and by name.
+fn rise(spaces: &[Space]) -> bool
+    ensures { IsTrue result ↔ IsStrictlySortedBy (on place_of place_cmp) spaces.now }
+{
+    spaces.is_sorted_by(|a, b| {
+        a.outer
+            .cmp(&b.outer)
+            .then(a.name.as_slice().cmp(b.name.as_slice()))
+            .is_lt()
+    })
+}
+
+/// Whether each namespace comes after the one round it.
+fn come_after(spaces: &[Space]) -> bool
+    ensures { IsTrue result ↔ ((i : ℕ) (s : Space) → slice_get spaces.now i ≡ Some s → s.outer ≤ i) }
+{
+    for (i, space) in spaces.iter().enumerate() {
+        if space.outer > i {
+            return false;
+        }
+    }
+    true
 }
 
 /// The number of the namespace of this name in another one.
