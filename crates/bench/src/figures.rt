@@ -3,7 +3,7 @@
 use crate::error::BenchError;
 use std::time::Duration;
 
-/// How often each symbol is timed. The figure is the median.
+/// How often a time is taken. The figure is the median.
 pub const RUNS: usize = 5;
 
 /// The time from one moment to another, in microseconds.

@@ -1,6 +1,7 @@
 //! Times what the crates do beside SHA-256 of the same bytes, on texts that it makes in memory.
 //!
-//! Start at `run`. `text.rt` makes the texts; `read.rt`, `write.rt`, `import.rt` and `compiled.rt` take the times.
+//! Start at `run`. `text.rt` makes the texts; `read.rt`, `write.rt`, `import.rt`, `compiled.rt` and
+//! `look_up.rt` take the times.
 //! `bench/README.md` says how the figures are read.
 #![tactic(auto)]
 
@@ -8,6 +9,7 @@ mod compiled;
 mod error;
 mod figures;
 mod import;
+mod look_up;
 mod read;
 mod text;
 mod write;
@@ -26,6 +28,9 @@ const MOST: usize = 4096;
 /// How many rules a policy may have here.
 const MOST_RULES: usize = 1_000_000;
 
+/// How many namespaces a scope may have here, the global one among them.
+const MOST_SCOPE: usize = look_up::SPACES + 1;
+
 /// What is to be timed.
 enum Task {
     /// Printing the usage; nothing is timed.
@@ -38,6 +43,8 @@ enum Task {
     Import(usize),
     /// The compiling of a policy of this many rules.
     Compile(usize),
+    /// The look-up of words in scopes of this many namespaces.
+    LookUp(usize),
 }
 
 /// The task of the program's words, its own name first. None is a call for help.
@@ -53,6 +60,7 @@ fn task_of(words: &[String]) -> Option<Task> {
         "write" if number <= LONGEST_TEXT => Some(Task::Write(number)),
         "import" if number <= MOST => Some(Task::Import(number)),
         "compile" if number <= MOST_RULES => Some(Task::Compile(number)),
+        "look-up" if number > 0 && number <= MOST_SCOPE => Some(Task::LookUp(number)),
         _ => None,
     }
 }
@@ -74,7 +82,8 @@ fn run<R: Print + Env + CpuClock + AllocGlobal>(rt: &R, alloc: Global) -> Result
                 usage: bench read BYTES, a number of at most {LONGEST_TEXT}\n       \
                 bench write BYTES, a number of at most {LONGEST_TEXT}\n       \
                 bench import MODULES, a number of at most {MOST}\n       \
-                bench compile RULES, a number of at most {MOST_RULES}"
+                bench compile RULES, a number of at most {MOST_RULES}\n       \
+                bench look-up NAMESPACES, a number from 1 to {MOST_SCOPE}"
             )?;
             Ok(())
         }
@@ -82,6 +91,7 @@ fn run<R: Print + Env + CpuClock + AllocGlobal>(rt: &R, alloc: Global) -> Result
         Task::Write(size) => write::run(rt, alloc, size),
         Task::Import(modules) => import::run(rt, alloc, modules),
         Task::Compile(rules) => compiled::run(rt, alloc, rules),
+        Task::LookUp(scope) => look_up::run(rt, alloc, scope),
     }
 }
 

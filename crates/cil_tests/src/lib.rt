@@ -23,6 +23,8 @@ mod hard_texts;
 #[cfg(test)]
 mod hosts;
 #[cfg(test)]
+mod look_ups;
+#[cfg(test)]
 mod merged_hosts;
 #[cfg(test)]
 mod module_sets;

@@ -1,0 +1,245 @@
+//! Look-up of words in scopes of several namespaces.
+
+use cil_names::{Entry, Names, OptSet, Space, Spaces};
+use cil_syntax::{Excerpt, Kind, Sign, Spot, Word};
+use std::alloc::Global;
+use std::test::Fail;
+
+/// Namespaces, each by the number of the one round it and its own name: `p` has the number 1, `r` 2 and `p.q` 3.
+const SPACES: &[(usize, &[u8])] = &[(0, b"p"), (0, b"r"), (1, b"q")];
+
+/// A declared name: its namespace, its name, its kind, and the optionals round each of its statements.
+type Declared = (usize, &'static [u8], Kind, &'static [&'static [usize]]);
+
+/// Declared names, in order. A name with no optionals is declared outside all.
+const DECLARED: &[Declared] = &[
+    (0, b"o", Kind::Type_, &[]),
+    (0, b"x", Kind::Type_, &[]),
+    (0, b"x", Kind::Role, &[]),
+    (1, b"o", Kind::Type_, &[&[0]]),
+    (1, b"x", Kind::Type_, &[]),
+    (2, b"x", Kind::TypeAttribute, &[]),
+    (2, b"y", Kind::Role, &[]),
+    (3, b"x", Kind::Type_, &[&[0, 1], &[2]]),
+    (3, b"z", Kind::Class, &[]),
+];
+
+/// The namespaces of the first list, and then those of the second.
+fn spaces_of(
+    alloc: Global,
+    first: &[(usize, &'static [u8])],
+    second: &[(usize, &'static [u8])],
+) -> Result<Vec<Space<'static>>, Fail> {
+    let mut spaces = Vec::new(alloc);
+    for &(outer, name) in first.iter().chain(second) {
+        spaces.push(Space {
+            outer,
+            name: Excerpt::of(name),
+        })?;
+    }
+    Ok(spaces)
+}
+
+fn spaces(alloc: Global) -> Result<Spaces<'static>, Fail> {
+    Ok(Spaces::checked(spaces_of(alloc, SPACES, &[])?).ok_or("they do not rise")?)
+}
+
+fn rounds(alloc: Global, optionals: &[&[usize]]) -> Result<Vec<Vec<usize>>, Fail> {
+    let mut rounds = Vec::new(alloc);
+    for round in optionals {
+        let mut copy = Vec::new(alloc);
+        copy.extend_from_slice(round)?;
+        rounds.push(copy)?;
+    }
+    Ok(rounds)
+}
+
+fn entries(alloc: Global) -> Result<Vec<Entry<'static>>, Fail> {
+    let mut entries = Vec::new(alloc);
+    for &(space, name, kind, optionals) in DECLARED {
+        entries.push(Entry {
+            space,
+            name: Excerpt::of(name),
+            kind,
+            always: optionals.is_empty(),
+            rounds: rounds(alloc, optionals)?,
+        })?;
+    }
+    Ok(entries)
+}
+
+fn word(bytes: &'static [u8], sign: Sign) -> Word<'static> {
+    Word {
+        at: Spot::of(0, 0),
+        bytes: Excerpt::of(bytes),
+        sign,
+    }
+}
+
+/// The number of the declared name that a word names in a scope where some optionals are enabled.
+fn named(
+    alloc: Global,
+    word: &Word<'static>,
+    scope: &[usize],
+    flags: &[bool],
+) -> Result<Option<usize>, Fail> {
+    let spaces = spaces(alloc)?;
+    let names = Names::checked(&spaces, entries(alloc)?).ok_or("they do not rise")?;
+    let mut enabled = Vec::new(alloc);
+    enabled.extend_from_slice(flags)?;
+    if !spaces.has_all(scope) {
+        return Err(Fail::from("no namespace"));
+    }
+    Ok(names.resolve(&spaces, word, scope, &OptSet::of(enabled)))
+}
+
+/// A word, what it wants, its scope, the enabled optionals, and the number of the declared name that it names.
+type Row = (&'static [u8], Sign, &'static [usize], &'static [bool], Option<usize>);
+
+const NAMED: &[(&str, &[Row])] = &[
+    (
+        "the first namespace of the scope that has the name",
+        &[
+            (b"x", Sign::Types, &[1, 2, 0], &[], Some(4)),
+            (b"x", Sign::Types, &[2, 1, 0], &[], Some(5)),
+            (b"x", Sign::Types, &[3, 1, 0], &[], Some(4)),
+            (b"y", Sign::Roles, &[3, 1, 2, 0], &[], Some(6)),
+        ],
+    ),
+    (
+        "the global namespace, last",
+        &[
+            (b"o", Sign::Types, &[2, 0], &[], Some(0)),
+            (b"x", Sign::Types, &[0], &[], Some(1)),
+            (b"y", Sign::Roles, &[1, 0], &[], None),
+        ],
+    ),
+    (
+        "a leading dot asks the global namespace alone",
+        &[
+            (b".x", Sign::Types, &[1, 2, 0], &[], Some(1)),
+            (b".y", Sign::Roles, &[2, 0], &[], None),
+            (b".p.x", Sign::Types, &[2, 0], &[], Some(4)),
+        ],
+    ),
+    (
+        "names before a dot are those of namespaces",
+        &[
+            (b"p.x", Sign::Types, &[0], &[], Some(4)),
+            (b"r.x", Sign::Types, &[1, 0], &[], Some(5)),
+            (b"q.z", Sign::Classes, &[1, 0], &[], Some(8)),
+            (b"q.z", Sign::Classes, &[2, 0], &[], None),
+            (b"p.q.z", Sign::Classes, &[2, 1, 0], &[], Some(8)),
+            (b"p.r.x", Sign::Types, &[0], &[], None),
+            (b"s.x", Sign::Types, &[1, 2, 0], &[], None),
+        ],
+    ),
+    (
+        "a name of another name space hides nothing",
+        &[
+            (b"x", Sign::Roles, &[1, 2, 0], &[], Some(2)),
+            (b"y", Sign::Types, &[2, 0], &[], None),
+            (b"x", Sign::Users, &[1, 2, 0], &[], None),
+            (b"x", Sign::Classes, &[1, 2, 0], &[], None),
+        ],
+    ),
+    (
+        "a permission is no name",
+        &[(b"x", Sign::Permission, &[1, 2, 0], &[], None)],
+    ),
+    (
+        "a name in an optional is there where that is enabled",
+        &[
+            (b"o", Sign::Types, &[1, 0], &[], Some(0)),
+            (b"o", Sign::Types, &[1, 0], &[false], Some(0)),
+            (b"o", Sign::Types, &[1, 0], &[true], Some(3)),
+            (b"q.x", Sign::Types, &[1, 0], &[true, false], None),
+            (b"q.x", Sign::Types, &[1, 0], &[true, true], Some(7)),
+            (b"q.x", Sign::Types, &[1, 0], &[false, false, true], Some(7)),
+        ],
+    ),
+];
+
+#[test]
+fn words_name_the_first_that_is_declared(rt: HostRuntime) -> Result<(), Fail> {
+    for &(name, rows) in NAMED {
+        for &(bytes, sign, scope, flags, wanted) in rows {
+            assert_eq!(rt; named(rt.alloc(), &word(bytes, sign), scope, flags)?, wanted, "{name}");
+        }
+    }
+    Ok(())
+}
+
+/// The numbers of the declared names that a word could name in a scope, whatever is enabled.
+fn could_name(alloc: Global, word: &Word<'static>, scope: &[usize]) -> Result<Vec<usize>, Fail> {
+    let spaces = spaces(alloc)?;
+    let names = Names::checked(&spaces, entries(alloc)?).ok_or("they do not rise")?;
+    if !spaces.has_all(scope) {
+        return Err(Fail::from("no namespace"));
+    }
+    Ok(names.candidates(alloc, &spaces, word, scope)?)
+}
+
+/// A word, what it wants, its scope, and the numbers of the declared names that it could name.
+const CANDIDATES: &[(&[u8], Sign, &[usize], &[usize])] = &[
+    (b"x", Sign::Types, &[1, 2, 0], &[4, 5, 1]),
+    (b"x", Sign::Types, &[3, 2, 1, 0], &[7, 5, 4, 1]),
+    (b".x", Sign::Types, &[1, 2, 0], &[1]),
+    (b"o", Sign::Types, &[1, 0], &[3, 0]),
+    (b"p.q.x", Sign::Types, &[1, 0], &[7]),
+    (b"x", Sign::Roles, &[1, 2, 0], &[2]),
+    (b"x", Sign::Permission, &[1, 2, 0], &[]),
+];
+
+#[test]
+fn candidates_are_there_whatever_is_enabled(rt: HostRuntime) -> Result<(), Fail> {
+    for &(bytes, sign, scope, wanted) in CANDIDATES {
+        let got = could_name(rt.alloc(), &word(bytes, sign), scope)?;
+        assert_eq!(rt; got.as_slice(), wanted);
+    }
+    Ok(())
+}
+
+/// One more namespace, and whether the namespaces rise with it at their end.
+const ONE_MORE_SPACE: &[(usize, &[u8], bool)] = &[
+    (1, b"r", true),
+    (3, b"a", true),
+    (4, b"a", false),
+    (1, b"q", false),
+    (0, b"z", false),
+];
+
+/// One more class, and whether the declared names rise with it at their end.
+const ONE_MORE_NAME: &[(usize, &[u8], bool)] = &[
+    (3, b"zz", true),
+    (4, b"zz", false),
+    (3, b"z", false),
+    (2, b"zz", false),
+];
+
+#[test]
+fn namespaces_and_names_have_to_rise(rt: HostRuntime) -> Result<(), Fail> {
+    for &(outer, name, is_made) in ONE_MORE_SPACE {
+        assert_eq!(rt; with_space(rt.alloc(), outer, name)?, is_made, "{outer}");
+    }
+    for &(space, name, is_made) in ONE_MORE_NAME {
+        assert_eq!(rt; with_name(rt.alloc(), space, name)?, is_made, "{space}");
+    }
+    Ok(())
+}
+
+fn with_space(alloc: Global, outer: usize, name: &'static [u8]) -> Result<bool, Fail> {
+    Ok(Spaces::checked(spaces_of(alloc, SPACES, &[(outer, name)])?).is_some())
+}
+
+fn with_name(alloc: Global, space: usize, name: &'static [u8]) -> Result<bool, Fail> {
+    let mut entries = entries(alloc)?;
+    entries.push(Entry {
+        space,
+        name: Excerpt::of(name),
+        kind: Kind::Class,
+        always: true,
+        rounds: Vec::new(alloc),
+    })?;
+    Ok(Names::checked(&spaces(alloc)?, entries).is_some())
+}
