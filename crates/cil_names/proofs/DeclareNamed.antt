@@ -18,7 +18,7 @@ use Rattle.cil_names.specs.Declarations.{Declaration, IsDeclaration}
 use Rattle.cil_names.specs.DeclareRows.{TellsDiffering, declaration_of, is_row_enabled, round_at}
 use Rattle.cil_names.specs.DeclareRuns.{Said, entry_of_run, is_always, has_none, listed_unless, rounds_by, run_key, said_by}
 use Rattle.cil_names.specs.Entries.{AreEntries, IsEntryFor, Key, is_declared_in, items_of, key_cmp, key_of, rank}
-use Rattle.cil_names.specs.Item.{OptSet}
+use Rattle.cil_names.specs.Item.{OptSet, everybody}
 use Rattle.cil_names.specs.Spaces.{space_at}
 use Rattle.cil_names.proofs.DeclareDone.{AreRunsOf, declared_row, in_rows, placed_in, row_declared, run_of, space_within}
 use Rattle.cil_names.proofs.DeclLemmas.{any_from, any_true}
@@ -118,6 +118,10 @@ entries_rise es runs says up =
 
 -- ---- the entries are the declared names
 
+all_enabled : (os : List ℕ) → list_all everybody os ≡ true
+all_enabled [] = refl
+all_enabled (o ∷ os) = all_enabled os
+
 all_one : (ss : List Space) (first : Row) (rows : List Row) (b : Bool) → b ≡ false → TellsDiffering ss first rows b → (r : Row) → Contains rows r
     → declaration_of ss first ≡ declaration_of ss r
 all_one ss first rows b is tells = subst (TellsDiffering ss first rows) is tells
@@ -157,6 +161,12 @@ module _ (ss : List Space) (is : List Instance) (rows : List Row) (runs : List R
         ap (λ (x : Declaration). x.name) same ∙ sym (ap (λ (z : Said). z.name) said),
       )
 
+  named_used : (i : ℕ) (e : Entry) → slice_get es i ≡ Some e → is_declared_in everybody e ≡ true
+  named_used i e at =
+      let (run, in_runs, said) = run_for es runs says i e at in
+      lives_in everybody e run said
+      ∙ any_from (is_row_enabled everybody) run.rows.now run.first.now (of.are.each run in_runs).first (all_enabled (round_at run.first.now.instance))
+
   stands_within : (e : Entry) → Contains es e → e.space ≤ length ss
   stands_within e c =
       let (n, at) = number_of_member es e c in
@@ -165,4 +175,4 @@ module _ (ss : List Space) (is : List Instance) (rows : List Row) (runs : List R
       subst (λ k. k ≤ length ss) (sym (ap (λ (z : Said). z.space) said)) within
 
   pub are_named : AreEntries ss is es
-  are_named = record { ordered = record { rising = entries_rise es runs says of.are.rising; within = stands_within }; each = named_each; only = named_only }
+  are_named = record { ordered = record { rising = entries_rise es runs says of.are.rising; within = stands_within }; each = named_each; only = named_only; used = named_used }

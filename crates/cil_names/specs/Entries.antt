@@ -16,7 +16,7 @@ use Rattle.cil_names.specs.declared.entry.Entry.{Entry}
 use Rattle.cil_names.specs.declared.instance.Instance.{Instance}
 use Rattle.cil_names.specs.declared.space.Space.{Space}
 use Rattle.cil_names.specs.Declarations.{Declaration, IsDeclaration, NameSpace, of_types, of_roles, of_users, of_classes, name_space}
-use Rattle.cil_names.specs.Item.{Namespace, Scope, ScopedWord, Item, OptSet, all_replaced}
+use Rattle.cil_names.specs.Item.{Namespace, Scope, ScopedWord, Item, OptSet, all_replaced, everybody}
 use Rattle.cil_names.specs.Resolves.{asked, found_in, is_wanted, same_space, spaces_asked}
 use Rattle.cil_names.specs.Spaces.{space_at}
 
@@ -133,12 +133,13 @@ pub record IsEntryFor (ss : List Space) (es : List Entry) (s : OptSet) (kind : K
   pub of_name : entry.name ≡ name
   pub live : is_declared_in s entry ≡ true
 
--- the entries are the declarations of the items, whatever is enabled: each declaration has one, and each that is declared has a declaration
+-- the entries are the declarations of the items, whatever is enabled: each declaration has one, each that is declared has a declaration, and each is declared where all optionals are enabled
 pub record AreEntries (ss : List Space) (is : List Instance) (es : List Entry) : Type 0 where
   pub ordered : AreOrdered ss es
   pub each : (s : OptSet) (d : Declaration) → IsDeclaration (items_of ss is) s d → (i : ℕ) × IsEntryFor ss es s d.kind d.space d.name i
   pub only : (s : OptSet) (i : ℕ) (e : Entry) → slice_get es i ≡ Some e → is_declared_in s e ≡ true
       → (d : Declaration) × IsDeclaration (items_of ss is) s d × (d.kind ≡ e.kind) × (d.space ≡ space_at ss e.space) × (d.name ≡ e.name)
+  pub used : (i : ℕ) (e : Entry) → slice_get es i ≡ Some e → is_declared_in everybody e ≡ true
 
 -- the word names this entry: it is declared, of a wanted kind, and has the name of the word in the namespace in which the word is found
 pub record IsNamed (ss : List Space) (is : List Instance) (es : List Entry) (s : OptSet) (w : ScopedWord) (d : ℕ) : Type 0 where

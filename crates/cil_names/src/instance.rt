@@ -1,5 +1,9 @@
 //! A statement as it takes part in a policy.
 
+ghost use Rattle.std.specs.Prelude.{◌≡◌, ◌↔◌, IsTrue};
+ghost use Rattle.cil_names.specs.Placed.{ArePlaced, IsPlaced};
+
+use crate::space::Spaces;
 use cil_syntax::Statement;
 
 /// A statement with the namespace in which it is, the scope of its words and the optionals round it, all by their numbers.
@@ -13,4 +17,23 @@ pub struct Instance<'a> {
     pub scope: &'a [usize],
     /// The numbers of the optionals round it, the innermost first.
     pub round: &'a [usize],
+}
+
+/// Whether the namespaces of all these instances have numbers.
+pub fn are_placed(spaces: &Spaces, instances: &[Instance]) -> bool
+    ensures { IsTrue result ↔ ArePlaced spaces.now instances.now }
+{
+    for instance in instances {
+        if !is_placed(spaces, instance) {
+            return false;
+        }
+    }
+    true
+}
+
+/// Whether the namespaces of an instance have numbers.
+fn is_placed(spaces: &Spaces, instance: &Instance) -> bool
+    ensures { IsTrue result ↔ IsPlaced spaces.now instance.now }
+{
+    instance.space <= spaces.as_slice().len() && spaces.has_all(instance.scope)
 }

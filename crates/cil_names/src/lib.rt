@@ -25,7 +25,7 @@ mod table;
 
 pub use entry::Entry;
 pub use gather::declare;
-pub use instance::Instance;
+pub use instance::{Instance, are_placed};
 pub use meaning::Meaning;
 pub use names::Names;
 pub use numbers::{Numbering, Sections, numbered};
