@@ -13,7 +13,7 @@ use Rattle.cil_names.specs.Entries.{HasNoEntry, IsEntryAt, Key, is_entry, key_of
 use Rattle.cil_names.specs.Found.{IsFound, IsMissing}
 use Rattle.cil_names.specs.Resolves.{is_wanted}
 
-one_some : (x y : Entry) → Some x ≡ Some y → x ≡ y
+pub one_some : (x y : Entry) → Some x ≡ Some y → x ≡ y
 one_some x y e = cc
 
 both_true : (a b : Bool) → (a && b) ≡ true → (a ≡ true) × (b ≡ true)

@@ -14,6 +14,7 @@ pub mod DeclareSpelled
 pub mod EntryLemmas
 pub mod KindLemmas
 pub mod ListLemmas
+pub mod ListedLemmas
 pub mod MeaningLemmas
 pub mod NumberLemmas
 pub mod OrderLemmas
@@ -26,3 +27,4 @@ pub mod SortedLists
 pub mod SpaceLemmas
 pub mod SpelledLemmas
 pub mod TableLemmas
+pub mod UnresolvedLemmas

@@ -1,9 +1,9 @@
 -- The numbers of entries are the places of their names.
 use Rattle.std.proofs.Common.{◌≡◌, ℕ, ◌+◌, ◌<◌, ◌≤◌, true, false, List, [], ◌∷◌, ◌++◌, length, map, drop, get_or, refl, sym, ◌∙◌, ap, subst, inl, inr, append_assoc, append-nil}
-use Rattle.std.specs.Prelude.{Contains, Option, Some, None, slice_get, nat_eq, if◌then◌else◌}
-use Rattle.std.specs.List.{flat_map}
+use Rattle.std.specs.Prelude.{Contains, MatchOption, Option, Some, None, slice_get, nat_eq, if◌then◌else◌}
+use Rattle.std.specs.List.{flat_map, list_any}
 use Rattle.std.specs.List.Sorted.{IsStrictlySortedBy}
-use Rattle.std.specs.Option.{option_map, unwrap_or}
+use Rattle.std.specs.Option.{is_some, option_map, unwrap_or}
 use Rattle.std.specs.Cmp.Lexicographic.{bytes_decides}
 use Rattle.std.proofs.lemmas.Bool.{cases_Bool, true≢false, and_parts, and_from}
 use Rattle.std.proofs.lemmas.List.{drop_all}
@@ -24,19 +24,34 @@ use Rattle.cil_names.specs.Numbers.{AreNumbers, IsNameAmong, has_section, is_of,
 use Rattle.cil_names.specs.Resolves.{kind_number}
 use Rattle.cil_names.proofs.AnswerLemmas.{none_where}
 use Rattle.cil_names.proofs.CandidateLemmas.{place_is, place_none, place_some}
+use Rattle.cil_names.proofs.DeclLemmas.{any_from, any_true}
 use Rattle.cil_names.proofs.KindLemmas.{one_kind, same_kind}
 use Rattle.cil_names.proofs.ListLemmas.{contains_flat, from_flat}
 use Rattle.cil_names.proofs.ScopeLemmas.{cut, passed_on}
 use Rattle.cil_names.proofs.SearchLemmas.{member_of_number, number_of_member}
 
-pub found_place : (names : List (List ℕ)) (name : List ℕ) (n : ℕ) → IsFound (λ x. x) names name n → n ≡ place_in names name
-found_place names name n f =
-    ap (λ o. unwrap_or o 0)
-    (sym (place_some (λ x. same_bytes x name) names n f.item f.at ((bytes_decides f.item name).1 f.has_key) (λ m x at t. f.only m x at ((bytes_decides x name).0 t))))
+pub place_found : (names : List (List ℕ)) (name : List ℕ) (r : Option ℕ) → MatchOption r (IsMissing (λ x. x) names name) (IsFound (λ x. x) names name)
+    → r ≡ place_where (λ x. same_bytes x name) names
+place_found names name (Some n) f =
+    sym (place_some (λ x. same_bytes x name) names n f.item f.at ((bytes_decides f.item name).1 f.has_key) (λ m x at t. f.only m x at ((bytes_decides x name).0 t)))
+place_found names name None none = sym (place_none (λ x. same_bytes x name) names (λ m x at t. none m x at ((bytes_decides x name).0 t)))
 
-pub missing_place : (names : List (List ℕ)) (name : List ℕ) → IsMissing (λ x. x) names name → 0 ≡ place_in names name
-missing_place names name none =
-    ap (λ o. unwrap_or o 0) (sym (place_none (λ x. same_bytes x name) names (λ m x at t. none m x at ((bytes_decides x name).0 t))))
+-- a name is listed where it has a place
+some_listed : (names : List (List ℕ)) (name : List ℕ) (r : Option ℕ) → place_where (λ x. same_bytes x name) names ≡ r → is_some r ≡ list_any (same_bytes name) names
+some_listed names name (Some n) e =
+    let (x, at, t) = place_is (λ x. same_bytes x name) names n e in
+    sym (any_from (same_bytes name) names x (member_of_number names n x at) ((bytes_decides name x).1 (sym ((bytes_decides x name).0 t))))
+some_listed names name None e =
+    elim (cases_Bool (list_any (same_bytes name) names)) [
+      | inl t ↦
+          let (x, c, u) = any_true (same_bytes name) names t in
+          let (m, at) = number_of_member names x c in
+          absurd (none_where (λ x. same_bytes x name) names e m x at ((bytes_decides x name).1 (sym ((bytes_decides name x).0 u))))
+      | inr f ↦ sym f
+    ]
+
+pub is_listed_by : (names : List (List ℕ)) (name : List ℕ) (r : Option ℕ) → r ≡ place_where (λ x. same_bytes x name) names → is_some r ≡ list_any (same_bytes name) names
+is_listed_by names name r e = some_listed names name r (sym e)
 
 -- ---- a name that is there has its place
 
@@ -114,7 +129,7 @@ all_sections P n u r t c kinds.RoleAttribute e = absurd (true≢false (sym e))
 all_sections P n u r t c kinds.UserAttribute e = absurd (true≢false (sym e))
 all_sections P n u r t c kinds.ClassMap e = absurd (true≢false (sym e))
 
-nothing_rises : IsStrictlySortedBy text_cmp []
+pub nothing_rises : IsStrictlySortedBy text_cmp []
 unfolding IsStrictlySortedBy
 nothing_rises = tt
 

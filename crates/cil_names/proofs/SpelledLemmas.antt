@@ -48,3 +48,20 @@ module _ (ss : List Space) (are : AreSpaces ss) where
       ∙ append_assoc (old ++ dotted (space_at ss s.outer)) s.name (46 ∷ [])
       ∙ append_assoc old (dotted (space_at ss s.outer)) (with_dot s.name)
       ∙ ap (λ l. old ++ l) (sym (ap dotted (next_at ss are i s at) ∙ dotted_more s.name (space_at ss s.outer)))
+
+  -- ---- the qualified name of a namespace
+
+  pub global_spelled : (k : ℕ) → k ≡ 0 → [] ≡ qualified (space_at ss k)
+  global_spelled k e = sym (ap (λ j. qualified (space_at ss j)) e ∙ ap qualified (global_at ss are))
+
+  inner_at : (k : ℕ) (s d : Space) → (k ≡ 0 → ⊥) → k ≤ length ss → s ≡ get_or ss (k - 1) d → (i : ℕ) × (k ≡ suc i) × (slice_get ss i ≡ Some s)
+  inner_at zero s d some within is = absurd (some refl)
+  inner_at (suc i) s d some within is =
+      (i, refl, slice_get-get_or ss i d (omega (arith, within)) ∙ ap Some (ap (λ j. get_or ss j d) (let e : i ≡ (suc i) - 1 = omega arith in e) ∙ sym is))
+
+  pub outer_within : (k : ℕ) (s d : Space) → (k ≡ 0 → ⊥) → k ≤ length ss → s ≡ get_or ss (k - 1) d → s.outer ≤ length ss
+  outer_within k s d some within is = let (i, e, at) = inner_at k s d some within is in let b = are.behind i s at in omega (arith, b, e, within)
+
+  pub inner_spelled : (k : ℕ) (s d : Space) → (k ≡ 0 → ⊥) → k ≤ length ss → s ≡ get_or ss (k - 1) d → qualified (s.name ∷ space_at ss s.outer) ≡ qualified (space_at ss k)
+  inner_spelled k s d some within is =
+      let (i, e, at) = inner_at k s d some within is in sym (ap (λ j. qualified (space_at ss j)) e ∙ ap qualified (next_at ss are i s at))

@@ -5,9 +5,11 @@ pub mod Entries
 pub mod Faults
 pub mod Found
 pub mod Item
+pub mod Judging
 pub mod Meanings
 pub mod Numbers
 pub mod Placed
 pub mod Resolves
 pub mod Rows
 pub mod Spaces
+pub mod Unresolved

@@ -10,6 +10,7 @@ mod content;
 mod entry;
 mod gather;
 mod instance;
+mod judge;
 mod kinds;
 mod look;
 mod meaning;

@@ -34,7 +34,7 @@ fn place_of(entries: &[Entry], space: usize, name: &[u8], rank: u8) -> Option<us
 }
 
 /// The number of the entry of a wanted kind under this name in a namespace. It costs one search by halving.
-fn entry_in(entries: &[Entry], space: usize, name: &[u8], sign: Sign) -> Option<usize>
+pub fn entry_in(entries: &[Entry], space: usize, name: &[u8], sign: Sign) -> Option<usize>
     requires { IsStrictlySortedBy (on key_of key_cmp) entries.now }
     ensures { MatchOption result (HasNoEntry entries.now name.now sign space) (IsEntryAt entries.now name.now sign space) }
 {

@@ -5,7 +5,8 @@ ghost use Rattle.std.specs.List.{flat_map};
 ghost use Rattle.std.specs.List.Sorted.{IsStrictlySortedBy};
 ghost use Rattle.cil_sexpr.specs.Lists.{Lists, text_cmp};
 ghost use Rattle.cil_syntax.specs.declared.kind.Kind as kinds;
-ghost use Rattle.cil_names.specs.Entries.{AreOrdered, is_in};
+ghost use Rattle.cil_syntax.specs.Spelling.{same_bytes};
+ghost use Rattle.cil_names.specs.Entries.{AreOrdered, is_in, place_where};
 ghost use Rattle.cil_names.specs.Numbers.{AreNumbers, IsNameAmong, has_section, is_of, name_given, names_of, place_in, spelled_of};
 ghost use Rattle.cil_names.specs.Spaces.{AreSpaces};
 
@@ -162,10 +163,17 @@ fn place_of(names: &[Bytes], name: &[u8]) -> usize
     requires { IsStrictlySortedBy text_cmp names.now }
     ensures { result ≡ place_in names.now name.now }
 {
-    match names.binary_search_by(|known| known.as_slice().cmp(name)) {
-        Ok(place) => place,
-        Err(_) => 0,
-    }
+    place_among(names, name).unwrap_or(0)
+}
+
+/// The place of a name in rising names, if it is there.
+pub fn place_among(names: &[Bytes], name: &[u8]) -> Option<usize>
+    requires { IsStrictlySortedBy text_cmp names.now }
+    ensures { result ≡ place_where (λ x. same_bytes x name.now) names.now }
+{
+    names
+        .binary_search_by(|known| known.as_slice().cmp(name))
+        .ok()
 }
 
 impl Sections {

@@ -27,6 +27,20 @@ pub fn spelled(
     Ok(Bytes::from_vec(bytes))
 }
 
+/// The qualified name of the namespace of this number; empty for the global one.
+pub fn spelled_space(alloc: Global, spaces: &[Space], number: usize) -> Result<Bytes, NoMemory>
+    requires spaces { AreSpaces spaces.now }
+    requires within { number ≤ length spaces.now }
+    ensures { IfOk result (λ bytes. bytes ≡ qualified (space_at spaces.now number)) }
+{
+    if number == 0 {
+        return Ok(Bytes::from_vec(Vec::new(alloc)));
+    }
+    let space = &spaces[number - 1];
+    let name = spelled(alloc, spaces, space.outer, space.name.as_slice())?;
+    Ok(name)
+}
+
 /// Adds the names of the namespace of a number from the outermost on, each with a dot behind it.
 fn push_dotted(bytes: &mut Vec<u8>, spaces: &[Space], number: usize) -> Result<(), NoMemory>
     requires spaces { AreSpaces spaces.now }

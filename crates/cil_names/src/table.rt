@@ -1,9 +1,9 @@
 //! What the words of all instances mean: each word is looked up once.
 
-ghost use Rattle.std.specs.Prelude.{◌≡◌, ◌≤◌, ◌++◌, [], ◌∷◌, All, Contains, IfOk, List, OnOk, Option, Some, length, map, slice_get, slice_range, ℕ, ◌+◌};
-ghost use Rattle.cil_syntax.specs.Said.{all_said, said_of, word_in};
+ghost use Rattle.std.specs.Prelude.{◌≡◌, ◌≤◌, ◌++◌, [], ◌∷◌, All, Contains, IfOk, IfSome, ◌<◌, List, OnOk, Option, Some, length, map, slice_get, slice_range, ℕ, ◌+◌};
+ghost use Rattle.cil_syntax.specs.Said.{all_said, said_of};
 ghost use Rattle.cil_names.specs.declared.instance.Instance.{Instance};
-ghost use Rattle.cil_names.specs.Entries.{AreOrdered, is_in, scoped};
+ghost use Rattle.cil_names.specs.Entries.{AreEntries, AreOrdered, IsAnswer, is_in, scoped};
 ghost use Rattle.cil_names.specs.Item.{all_words_in, words_in};
 ghost use Rattle.cil_names.specs.Meanings.{meanings, meant};
 ghost use Rattle.cil_names.specs.Rows.{IsTableOf};
@@ -14,7 +14,7 @@ use crate::names::Names;
 use crate::opt_set::OptSet;
 use crate::space::Spaces;
 use cil_modset::NoMemory;
-use cil_syntax::{LookedUp, Term};
+use cil_syntax::{Term, Word};
 use std::alloc::Global;
 
 /// What words are looked up in: the namespaces, the declared names, and the optionals that are enabled.
@@ -30,18 +30,23 @@ pub struct Lookup<'s, 'a> {
 
 /// The words of one instance: where they are looked up, and the number of their module.
 #[derive(Clone, Copy)]
-struct Filling<'s, 'a> {
-    spaces: &'s Spaces<'a>,
-    names: &'s Names<'a>,
-    enabled: &'s OptSet,
-    scope: &'s [usize],
-    module: u64,
+pub struct Filling<'s, 'a> {
+    /// The namespaces.
+    pub spaces: &'s Spaces<'a>,
+    /// The declared names.
+    pub names: &'s Names<'a>,
+    /// The optionals that are enabled.
+    pub enabled: &'s OptSet,
+    /// The numbers of the namespaces in which the words are looked up.
+    pub scope: &'s [usize],
+    /// The number of the module in which they are written.
+    pub module: u64,
 }
 
 impl<'s, 'a> Filling<'s, 'a> {
     /// Adds what the words among some terms mean, in order.
     #[cycle(terms)]
-    fn terms(&self, words: &mut Vec<Meaning>, terms: &[Term]) -> Result<(), NoMemory>
+    pub fn terms(&self, words: &mut Vec<Meaning>, terms: &[Term]) -> Result<(), NoMemory>
         requires ordered { AreOrdered self.now.spaces.now self.now.names.now }
         requires within { All (λ k. k ≤ length self.now.spaces.now) self.now.scope.now }
         ensures { OnOk result (words.new.items ≡ words.old.items
@@ -61,7 +66,7 @@ impl<'s, 'a> Filling<'s, 'a> {
             ++ map (λ w. meant self.now.spaces.now self.now.names.now (is_in self.now.enabled.now) (scoped self.now.spaces.now self.now.scope.now w)) (words_in (said_of self.now.«module» term.now))) }
     {
         match term {
-            Term::Leaf(word) => self.word(words, word)?,
+            Term::Leaf(word) => self.word(words, &word.in_module(self.module))?,
             Term::Name(_, _) => {}
             Term::Form(_, _, parts) => self.terms(words, parts.as_slice())?,
         }
@@ -69,20 +74,27 @@ impl<'s, 'a> Filling<'s, 'a> {
     }
 
     /// Adds what a word means.
-    fn word(&self, words: &mut Vec<Meaning>, word: &LookedUp) -> Result<(), NoMemory>
+    fn word(&self, words: &mut Vec<Meaning>, word: &Word) -> Result<(), NoMemory>
         requires ordered { AreOrdered self.now.spaces.now self.now.names.now }
         requires within { All (λ k. k ≤ length self.now.spaces.now) self.now.scope.now }
         ensures { OnOk result (words.new.items ≡ words.old.items
-            ++ meant self.now.spaces.now self.now.names.now (is_in self.now.enabled.now) (scoped self.now.spaces.now self.now.scope.now (word_in self.now.«module» word.now)) ∷ []) }
+            ++ meant self.now.spaces.now self.now.names.now (is_in self.now.enabled.now) (scoped self.now.spaces.now self.now.scope.now word.now) ∷ []) }
     {
-        let named = self.names.resolve(
-            self.spaces,
-            &word.in_module(self.module),
-            self.scope,
-            self.enabled,
-        );
-        words.push(Meaning::of(self.names.entries(), named))?;
+        words.push(Meaning::of(self.names.entries(), self.named(word)))?;
         Ok(())
+    }
+
+    /// The entry that a word names.
+    pub fn named(&self, word: &Word) -> Option<usize>
+        requires ordered { AreOrdered self.now.spaces.now self.now.names.now }
+        requires within { All (λ k. k ≤ length self.now.spaces.now) self.now.scope.now }
+        ensures first { result ≡ meant self.now.spaces.now self.now.names.now (is_in self.now.enabled.now) (scoped self.now.spaces.now self.now.scope.now word.now) }
+        ensures within { IfSome result (λ d. d < length self.now.names.now) }
+        ensures names { (is : List Instance) → AreEntries self.now.spaces.now is self.now.names.now
+            → IsAnswer self.now.spaces.now is self.now.names.now (is_in self.now.enabled.now) (scoped self.now.spaces.now self.now.scope.now word.now) result }
+    {
+        self.names
+            .resolve(self.spaces, word, self.scope, self.enabled)
     }
 }
 

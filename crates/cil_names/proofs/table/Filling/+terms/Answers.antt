@@ -1,3 +1,5 @@
+use Rattle.std.proofs.Common.{◌≡◌, ◌++◌, ◌∷◌, [], subst}
+use Rattle.cil_syntax.specs.declared.term.Word.{Word}
 use Rattle.cil_names.specs.Entries.{is_in, scoped}
 use Rattle.cil_names.specs.Meanings.{meant}
 use Rattle.cil_names.proofs.TableLemmas.{no_more, of_form, of_leaf, of_name, one_more}
@@ -6,7 +8,8 @@ use Rattle.cil_names.proofs.table.Filling.+terms.Goals as goal
 pub term-returns-in_ok-word-in-Leaf : goal.term-returns-in_ok-word-in-Leaf
 term-returns-in_ok-word-in-Leaf t c =
     of_leaf c.args.self.now.«module» (λ w. meant c.args.self.now.spaces.now c.args.self.now.names.now (is_in c.args.self.now.enabled.now) (scoped c.args.self.now.spaces.now c.args.self.now.scope.now w)) c.args.term.now c.args.words.now.items _ c.in-Leaf.word c.in-Leaf.is
-    c.in_ok-word-in-Leaf.ensures
+    (subst (λ (w : Word). c.word.new.words.items ≡ c.args.words.now.items ++ meant c.args.self.now.spaces.now c.args.self.now.names.now (is_in c.args.self.now.enabled.now) (scoped c.args.self.now.spaces.now c.args.self.now.scope.now w) ∷ [])
+    c.in_module.ensures c.in_ok-word-in-Leaf.ensures)
 
 pub term-returns-in-Name : goal.term-returns-in-Name
 term-returns-in-Name t c = of_name c.args.self.now.«module» (λ w. meant c.args.self.now.spaces.now c.args.self.now.names.now (is_in c.args.self.now.enabled.now) (scoped c.args.self.now.spaces.now c.args.self.now.scope.now w)) c.args.term.now c.args.words.now.items c.args.words.now.items c.in-Name.field-0 c.in-Name.field-1 c.in-Name.is

@@ -1,0 +1,92 @@
+-- The permissions that are listed for the class of a word are those that the class has.
+use Rattle.std.proofs.Common.{◌≡◌, ℕ, ◌≤◌, ◌&&◌, Bool, false, List, [], length, refl, sym, ◌∙◌, ap, subst, inl, inr}
+use Rattle.std.specs.Prelude.{Option, Some, None, slice_get}
+use Rattle.std.specs.Global.{Vec}
+use Rattle.std.specs.List.{list_any}
+use Rattle.std.specs.Option.{is_some, option_map_or}
+use Rattle.std.specs.Cmp.Lexicographic.{bytes_decides}
+use Rattle.std.proofs.lemmas.Bool.{and_parts, cases_Bool}
+use Rattle.cil_syntax.specs.declared.fault.Bytes.{Bytes}
+use Rattle.cil_syntax.specs.declared.kind.Sign.TheVariants as signs
+use Rattle.cil_syntax.specs.Spelling.{same_bytes}
+use Rattle.cil_names.specs.declared.entry.Entry.{Entry}
+use Rattle.cil_names.specs.declared.instance.Instance.{Instance}
+use Rattle.cil_names.specs.declared.space.Space.{Space}
+use Rattle.cil_names.specs.Declarations.{Symbol, by, declared_by}
+use Rattle.cil_names.specs.Entries.{AreEntries, HasNoEntry, IsAnswer, IsEntryAt, IsNamed, is_in, items_of}
+use Rattle.cil_names.specs.Item.{OptSet, ScopedWord, is_enabled, nobody}
+use Rattle.cil_names.specs.Numbers.{symbol_of}
+use Rattle.cil_names.specs.Resolves.{Permission as APermission, asked, fits, found_in, gives_permission, has_permission, is_wanted, listed_permissions, resolves, same_space}
+use Rattle.cil_names.specs.Spaces.{AreSpaces, space_at}
+use Rattle.cil_names.specs.Unresolved.{ArePermissions, listed_at}
+use Rattle.cil_names.proofs.CandidateLemmas.{parts_of, spaces_decide}
+use Rattle.cil_names.proofs.DeclLemmas.{any_true}
+use Rattle.cil_names.proofs.EntryLemmas.{one_some, parts_fit, they_fit}
+use Rattle.cil_names.proofs.SearchLemmas.{member_of_number}
+use Rattle.cil_names.proofs.SpaceLemmas.{same_number}
+
+-- an answer tells whether the word is found
+pub answered_found : (ss : List Space) (is : List Instance) (es : List Entry) (s : OptSet) (w : ScopedWord) (r : Option ℕ) → IsAnswer ss is es s w r
+    → is_some r ≡ is_some (found_in (items_of ss is) s w)
+answered_found ss is es s w None none = ap is_some (sym none)
+answered_found ss is es s w (Some d) named = ap is_some (sym named.found)
+
+module _ (ss : List Space) (are : AreSpaces ss) (is : List Instance) (es : List Entry) (entries : AreEntries ss is es) where
+  -- a permission is given to a class that is declared
+  no_class : (k : ℕ) (name : List ℕ) → k ≤ length ss → HasNoEntry es name signs.Classes k → (p : List ℕ) → has_permission (items_of ss is) (record { space = space_at ss k; name = name }) p ≡ false
+  unfolding has_permission
+  no_class k name within none p =
+      elim (cases_Bool (list_any (gives_permission (record { space = space_at ss k; name = name }) p) (items_of ss is))) [
+        | inl t ↦
+            let (x, cx, gives) = any_true (gives_permission (record { space = space_at ss k; name = name }) p) (items_of ss is) t in
+            let (front, lists) = and_parts (is_enabled nobody x && list_any (fits name signs.Classes (space_at ss k)) (declared_by x)) (list_any (same_bytes p) (listed_permissions x.args)) gives in
+            let (on, some) = and_parts (is_enabled nobody x) (list_any (fits name signs.Classes (space_at ss k)) (declared_by x)) front in
+            let (d, cd, fit) = any_true (fits name signs.Classes (space_at ss k)) (declared_by x) some in
+            let (named, spaced) = and_parts (same_bytes d.name name && is_wanted signs.Classes d.kind) (same_space d.space (space_at ss k)) fit in
+            let (same, wanted) = and_parts (same_bytes d.name name) (is_wanted signs.Classes d.kind) named in
+            let (i, e) = entries.each nobody d (by x d cx on cd) in
+            absurd (none i e.entry e.at
+            (they_fit name signs.Classes k e.entry
+            (same_number ss are (space_at ss k) e.entry.space k
+            (record { within = entries.ordered.within e.entry (member_of_number es i e.entry e.at); is = e.in_space ∙ (spaces_decide d.space (space_at ss k)).0 spaced })
+            (record { within = within; is = refl }))
+            (e.of_name ∙ (bytes_decides d.name name).0 same) (ap (is_wanted signs.Classes) e.of_kind ∙ wanted)))
+        | inr f ↦ f
+      ]
+
+  module _ (flags : List Bool) (off : flags ≡ []) (w : ScopedWord) (d : ℕ) (named : IsNamed ss is es (is_in flags) w d) (e : Entry) (at : slice_get es d ≡ Some e) where
+    plainly : IsNamed ss is es nobody w d
+    plainly = subst (λ (fl : List Bool). IsNamed ss is es (is_in fl) w d) off named
+
+    abbrev found_symbol : Symbol
+    found_symbol = record { space = plainly.space; name = (asked w.bytes).name }
+
+    one_symbol : symbol_of ss e ≡ found_symbol
+    one_symbol =
+        let (space, name, wanted) = parts_of ss (asked w.bytes).name w.sign plainly.space plainly.entry plainly.fits in
+        let same : plainly.entry ≡ e = one_some plainly.entry e (sym plainly.at ∙ at) in
+        ap (symbol_of ss) (sym same) ∙ alike (symbol_of ss plainly.entry) found_symbol space name
+      where
+        alike : (t u : Symbol) → t.space ≡ u.space → t.name ≡ u.name → t ≡ u
+        alike t u p q = λ i. record { space = p i; name = q i }
+
+    asks_symbol : (s : OptSet) (q : ScopedWord) → resolves (items_of ss is) s (APermission w q) ≡ has_permission (items_of ss is) (symbol_of ss e) q.bytes
+    asks_symbol s q =
+        ap (λ o. option_map_or (λ n. has_permission (items_of ss is) (record { space = n; name = (asked w.bytes).name }) q.bytes) o false) plainly.found
+        ∙ ap (λ (t : Symbol). has_permission (items_of ss is) t q.bytes) (sym one_symbol)
+
+    -- the class has no entry
+    pub listed_of_none : HasNoEntry es e.name signs.Classes e.space → (s : OptSet) (q : ScopedWord) → false ≡ resolves (items_of ss is) s (APermission w q)
+    listed_of_none none s q = sym (asks_symbol s q ∙ no_class e.space e.name (entries.ordered.within e (member_of_number es d e at)) none q.bytes)
+
+    -- the class has one
+    pub listed_of_class : (lists : List (Vec Bytes)) → ArePermissions ss es (items_of ss is) lists → (c : ℕ) → IsEntryAt es e.name signs.Classes e.space c → (l : List (List ℕ))
+        → l ≡ listed_at lists c → (s : OptSet) (q : ScopedWord) → list_any (same_bytes q.bytes) l ≡ resolves (items_of ss is) s (APermission w q)
+    listed_of_class lists permissions c class_ l same s q =
+        let (space, name, wanted) = parts_fit e.name signs.Classes e.space class_.entry class_.fits in
+        ap (list_any (same_bytes q.bytes)) same ∙ permissions.each c class_.entry class_.at wanted q.bytes
+        ∙ ap (λ (t : Symbol). has_permission (items_of ss is) t q.bytes) (alike (symbol_of ss class_.entry) (symbol_of ss e) (ap (space_at ss) space) name)
+        ∙ sym (asks_symbol s q)
+      where
+        alike : (t u : Symbol) → t.space ≡ u.space → t.name ≡ u.name → t ≡ u
+        alike t u p q = λ i. record { space = p i; name = q i }

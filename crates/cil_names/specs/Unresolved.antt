@@ -1,0 +1,69 @@
+-- The faults of words that name nothing, as lists. No other crate needs these words.
+use Rattle.std.specs.Prelude.{◌≡◌, ℕ, Bool, true, false, ◌&&◌, not, if◌then◌else◌, List, [], ◌∷◌, Contains, Some, slice_get}
+use Rattle.std.specs.Global.{Vec}
+use Rattle.std.specs.List.{flat_map, list_any}
+use Rattle.std.specs.List.Sorted.{IsStrictlySortedBy}
+use Rattle.std.specs.Option.{option_map_or}
+use Rattle.cil_sexpr.specs.Lists.{text_cmp}
+use Rattle.cil_syntax.specs.declared.code.FaultCode.TheVariants as causes
+use Rattle.cil_syntax.specs.declared.fault.Bytes.{Bytes}
+use Rattle.cil_syntax.specs.declared.fault.Fault.{Fault}
+use Rattle.cil_syntax.specs.declared.kind.Sign.TheVariants as signs
+use Rattle.cil_syntax.specs.declared.term.Term as rust
+use Rattle.cil_syntax.specs.Said.{all_said, said_of}
+use Rattle.cil_syntax.specs.Spelling.{same_bytes}
+use Rattle.cil_syntax.specs.Terms.{Term, Terms}
+use Rattle.cil_names.specs.declared.entry.Entry.{Entry}
+use Rattle.cil_names.specs.declared.instance.Instance.{Instance}
+use Rattle.cil_names.specs.declared.space.Space.{Space}
+use Rattle.cil_names.specs.Entries.{item_of, scoped}
+use Rattle.cil_names.specs.Faults.{fault_at}
+use Rattle.cil_names.specs.Item.{Namespace, ScopedWord, Item, OptSet, all_replaced, replaced}
+use Rattle.cil_names.specs.Numbers.{symbol_of}
+use Rattle.cil_names.specs.Resolves.{Wanted, has_permission, is_judged, is_wanted, resolves, told_word, words_of}
+use Rattle.cil_names.specs.Spaces.{space_at}
+
+-- the terms of an instance, each word with the namespaces that it asks
+abbrev pub scoped_term : List Space → List ℕ → ℕ → rust.Term → Term ScopedWord
+scoped_term ss scope m t = replaced (λ at. at) (scoped ss scope) (said_of m t)
+
+abbrev pub scoped_terms : List Space → List ℕ → ℕ → List rust.Term → Terms ScopedWord
+scoped_terms ss scope m ts = all_replaced (λ at. at) (scoped ss scope) (all_said m ts)
+
+-- the fault of a word of a statement in a namespace
+abbrev pub fault_of_word : Namespace → ScopedWord → Fault
+fault_of_word n w = fault_at causes.Unresolved w.at n w.bytes
+
+-- where something is asked that is not there, its fault
+unfoldable pub faults_of_wanted : List Item → OptSet → Namespace → Wanted → List Fault
+faults_of_wanted xs s n w = if is_judged xs s w && not (resolves xs s w) then fault_of_word n (told_word w) ∷ [] else []
+
+abbrev pub faults_of_all : List Item → OptSet → Namespace → List Wanted → List Fault
+faults_of_all xs s n ws = flat_map (faults_of_wanted xs s n) ws
+
+-- the faults of permissions that a class lacks
+abbrev pub fault_unless_listed : List (List ℕ) → Namespace → ScopedWord → List Fault
+fault_unless_listed permissions n w = if list_any (same_bytes w.bytes) permissions then [] else fault_of_word n w ∷ []
+
+abbrev pub faults_unless_listed : List (List ℕ) → Namespace → List ScopedWord → List Fault
+faults_unless_listed permissions n ws = flat_map (fault_unless_listed permissions n) ws
+
+-- the faults of the words of an instance, where it is in no optional
+abbrev pub is_outside : List ℕ → Bool
+is_outside [] = true
+is_outside (o ∷ os) = false
+
+abbrev pub faults_in : List Item → OptSet → List Space → Instance → List Fault
+faults_in xs s ss i = if is_outside i.round.now then faults_of_all xs s (space_at ss i.space) (words_of (item_of ss i)) else []
+
+-- ---- permissions, by the entries of their classes
+
+-- the permissions that are listed for an entry
+abbrev pub listed_at : List (Vec Bytes) → ℕ → List (List ℕ)
+listed_at lists d = option_map_or (λ (v : Vec Bytes). v.items) (slice_get lists d) []
+
+-- for each entry of a class or a class map, these are its permissions
+pub record ArePermissions (ss : List Space) (es : List Entry) (xs : List Item) (lists : List (Vec Bytes)) : Type 0 where
+  pub rising : (v : Vec Bytes) → Contains lists v → IsStrictlySortedBy text_cmp v.items
+  pub each : (d : ℕ) (e : Entry) → slice_get es d ≡ Some e → is_wanted signs.Classes e.kind ≡ true
+      → (p : List ℕ) → list_any (same_bytes p) (listed_at lists d) ≡ has_permission xs (symbol_of ss e) p
