@@ -12,6 +12,7 @@ pub mod DeclareRowLemmas
 pub mod DeclareRunLemmas
 pub mod DeclareSpelled
 pub mod EntryLemmas
+pub mod FillLemmas
 pub mod KindLemmas
 pub mod ListLemmas
 pub mod ListedLemmas

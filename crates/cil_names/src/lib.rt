@@ -8,6 +8,7 @@
 mod clash;
 mod content;
 mod entry;
+mod fill;
 mod gather;
 mod instance;
 mod judge;
@@ -25,6 +26,7 @@ mod spelled;
 mod table;
 
 pub use entry::Entry;
+pub use fill::words_of;
 pub use gather::declare;
 pub use instance::{Instance, are_placed};
 pub use meaning::Meaning;
@@ -32,4 +34,4 @@ pub use names::Names;
 pub use numbers::{Numbering, Sections, numbered};
 pub use opt_set::OptSet;
 pub use space::{Space, Spaces};
-pub use table::{Lookup, Words, words_of};
+pub use table::{Lookup, Words};

@@ -8,7 +8,6 @@ ghost use Rattle.cil_names.specs.Item.{all_words_in, words_in};
 ghost use Rattle.cil_names.specs.Meanings.{meanings, meant};
 ghost use Rattle.cil_names.specs.Rows.{IsTableOf};
 
-use crate::instance::Instance;
 use crate::meaning::Meaning;
 use crate::names::Names;
 use crate::opt_set::OptSet;
@@ -106,30 +105,15 @@ pub struct Words {
     words: Vec<Meaning>,
 }
 
-/// The table of the words of all instances. Each word costs one look-up.
-pub fn words_of(alloc: Global, lookup: &Lookup, instances: &[Instance]) -> Result<Words, NoMemory>
-    requires ordered { AreOrdered lookup.now.spaces.now lookup.now.names.now }
-    requires within { (i : Instance) → Contains instances.now i → All (λ k. k ≤ length lookup.now.spaces.now) i.scope.now }
-    ensures { IfOk result (IsTableOf (map (meanings lookup.now.spaces.now lookup.now.names.now (is_in lookup.now.enabled.now)) instances.now)) }
-{
-    let mut starts = Vec::new(alloc);
-    let mut words = Vec::new(alloc);
-    for instance in instances {
-        starts.push(words.len())?;
-        let filling = Filling {
-            spaces: lookup.spaces,
-            names: lookup.names,
-            enabled: lookup.enabled,
-            scope: instance.scope,
-            module: instance.statement.at.module,
-        };
-        filling.terms(&mut words, instance.statement.args.as_slice())?;
-    }
-    starts.push(words.len())?;
-    Ok(Words { starts, words })
-}
-
 impl Words {
+    /// A table of words that begin at these places.
+    pub(crate) fn of(starts: Vec<usize>, words: Vec<Meaning>) -> Words
+        ensures starts { result.starts.items ≡ starts.items }
+        ensures words { result.words.items ≡ words.items }
+    {
+        Words { starts, words }
+    }
+
     /// What the words of one instance mean, in order.
     pub fn row(&self, i: usize) -> &[Meaning]
         ensures { (rows : List (List (Option ℕ))) (row : List (Option ℕ)) → IsTableOf rows self.now → slice_get rows i ≡ Some row → result.now ≡ row }
