@@ -2,7 +2,7 @@
 use Rattle.std.specs.Prelude.{Contains, ◌&&◌}
 use Rattle.std.specs.Cmp.Lexicographic.{bytes_decides}
 use Rattle.std.specs.List.{list_any, flat_map}
-use Rattle.std.proofs.Common.{◌≡◌, ◌⊎◌, ℕ, ◌<◌, true, false, List, [], length, refl, sym, ap, subst, inl, inr, arith}
+use Rattle.std.proofs.Common.{◌≡◌, ◌⊎◌, ℕ, zero, suc, ◌<◌, true, false, List, [], length, refl, sym, ◌∙◌, ap, subst, inl, inr, arith}
 use Rattle.std.proofs.lemmas.Bool.{and_parts, cases_lt}
 use Rattle.std.proofs.lemmas.Cmp.{nat_list_cmp_total}
 use Rattle.std.proofs.lemmas.Map.Lookups.{exact_bytes}
@@ -16,7 +16,7 @@ use Rattle.cil_syntax.specs.FaultOrder.{fault_cmp, fault_total, one_fault}
 use Rattle.cil_syntax.specs.Listing.{Listing}
 use Rattle.cil_syntax.specs.Spelling.{same_bytes}
 use Rattle.cil_syntax.specs.Terms.{Name, cons}
-use Rattle.cil_names.specs.Declarations.{Declaration, declared_by, IsDeclaration, NameSpace, of_types, of_roles, of_users, of_classes, name_space, Clash, Symbol}
+use Rattle.cil_names.specs.Declarations.{Declaration, declared_by, IsDeclaration, NameSpace, of_types, of_roles, of_users, of_classes, of_blocks, name_space, Clash, Symbol}
 use Rattle.cil_decide.specs.Faults.{ClassFault, wide}
 use Rattle.cil_names.specs.Faults.{ClashFault, clash, ResolveFault, unresolved, fault_at}
 use Rattle.cil_names.specs.Item.{Item, OptSet, everybody, nobody, is_enabled}
@@ -34,25 +34,25 @@ space_number of_types = 0
 space_number of_roles = 1
 space_number of_users = 2
 space_number of_classes = 3
+space_number of_blocks = 4
+
+space_at : ℕ → NameSpace
+space_at zero = of_types
+space_at (suc zero) = of_roles
+space_at (suc (suc zero)) = of_users
+space_at (suc (suc (suc zero))) = of_classes
+space_at (suc (suc (suc (suc n)))) = of_blocks
+
+space_back : (a : NameSpace) → space_at (space_number a) ≡ a
+unfolding space_number space_at
+space_back of_types = refl
+space_back of_roles = refl
+space_back of_users = refl
+space_back of_classes = refl
+space_back of_blocks = refl
 
 one_space : (a b : NameSpace) → space_number a ≡ space_number b → a ≡ b
-unfolding space_number
-one_space of_types of_types e = refl
-one_space of_types of_roles e = absurd (omega (arith, e))
-one_space of_types of_users e = absurd (omega (arith, e))
-one_space of_types of_classes e = absurd (omega (arith, e))
-one_space of_roles of_types e = absurd (omega (arith, e))
-one_space of_roles of_roles e = refl
-one_space of_roles of_users e = absurd (omega (arith, e))
-one_space of_roles of_classes e = absurd (omega (arith, e))
-one_space of_users of_types e = absurd (omega (arith, e))
-one_space of_users of_roles e = absurd (omega (arith, e))
-one_space of_users of_users e = refl
-one_space of_users of_classes e = absurd (omega (arith, e))
-one_space of_classes of_types e = absurd (omega (arith, e))
-one_space of_classes of_roles e = absurd (omega (arith, e))
-one_space of_classes of_users e = absurd (omega (arith, e))
-one_space of_classes of_classes e = refl
+one_space a b e = sym (space_back a) ∙ ap space_at e ∙ space_back b
 
 same_name_space : (a b : NameSpace) → Decided (a ≡ b)
 same_name_space a b = decided_same (one_space a b) (ap space_number) (same_number (space_number a) (space_number b))

@@ -94,11 +94,24 @@ sign_number signs.Roles = 1
 sign_number signs.Users = 2
 sign_number signs.Classes = 3
 sign_number signs.Permission = 4
+sign_number signs.PlainClass = 5
+sign_number signs.Blocks = 6
+sign_number signs.Macros = 7
+sign_number signs.Text = 8
+sign_number signs.Unread = 9
 
 sign_at : ℕ → Sign
 sign_at n =
     if n == 0 then signs.Types
-    else (if n == 1 then signs.Roles else (if n == 2 then signs.Users else (if n == 3 then signs.Classes else signs.Permission)))
+    else (if n == 1 then signs.Roles
+    else (if n == 2 then signs.Users
+    else (if n == 3 then signs.Classes
+    else (if n == 4 then signs.Permission
+    else (if n == 5 then signs.PlainClass
+    else (if n == 6 then signs.Blocks
+    else (if n == 7 then signs.Macros
+    else (if n == 8 then signs.Text
+    else signs.Unread))))))))
 
 sign_back : (s : Sign) → sign_at (sign_number s) ≡ s
 unfolding sign_number sign_at
@@ -107,6 +120,11 @@ sign_back signs.Roles = refl
 sign_back signs.Users = refl
 sign_back signs.Classes = refl
 sign_back signs.Permission = refl
+sign_back signs.PlainClass = refl
+sign_back signs.Blocks = refl
+sign_back signs.Macros = refl
+sign_back signs.Text = refl
+sign_back signs.Unread = refl
 
 sign_is : (a b : Sign) → Decided (a ≡ b)
 sign_is = by_number sign_number sign_at sign_back
@@ -122,6 +140,17 @@ op_number ops.Xor = 6
 op_number ops.All = 7
 op_number ops.Itself = 8
 op_number ops.LeftOut = 9
+op_number ops.Parameters = 10
+op_number ops.Parameter = 11
+op_number ops.TypeKind = 12
+op_number ops.RoleKind = 13
+op_number ops.UserKind = 14
+op_number ops.ClassKind = 15
+op_number ops.NameKind = 16
+op_number ops.TextKind = 17
+op_number ops.Arguments = 18
+op_number ops.UnreadList = 19
+op_number ops.UnreadText = 20
 
 op_at : ℕ → Op
 op_at n =
@@ -130,7 +159,22 @@ op_at n =
     else (if n == 2 then ops.Union
     else (if n == 3 then ops.Not
     else (if n == 4 then ops.And
-    else (if n == 5 then ops.Or else (if n == 6 then ops.Xor else (if n == 7 then ops.All else (if n == 8 then ops.Itself else ops.LeftOut))))))))
+    else (if n == 5 then ops.Or
+    else (if n == 6 then ops.Xor
+    else (if n == 7 then ops.All
+    else (if n == 8 then ops.Itself
+    else (if n == 9 then ops.LeftOut
+    else (if n == 10 then ops.Parameters
+    else (if n == 11 then ops.Parameter
+    else (if n == 12 then ops.TypeKind
+    else (if n == 13 then ops.RoleKind
+    else (if n == 14 then ops.UserKind
+    else (if n == 15 then ops.ClassKind
+    else (if n == 16 then ops.NameKind
+    else (if n == 17 then ops.TextKind
+    else (if n == 18 then ops.Arguments
+    else (if n == 19 then ops.UnreadList
+    else ops.UnreadText)))))))))))))))))))
 
 op_back : (o : Op) → op_at (op_number o) ≡ o
 unfolding op_number op_at
@@ -144,6 +188,17 @@ op_back ops.Xor = refl
 op_back ops.All = refl
 op_back ops.Itself = refl
 op_back ops.LeftOut = refl
+op_back ops.Parameters = refl
+op_back ops.Parameter = refl
+op_back ops.TypeKind = refl
+op_back ops.RoleKind = refl
+op_back ops.UserKind = refl
+op_back ops.ClassKind = refl
+op_back ops.NameKind = refl
+op_back ops.TextKind = refl
+op_back ops.Arguments = refl
+op_back ops.UnreadList = refl
+op_back ops.UnreadText = refl
 
 op_is : (a b : Op) → Decided (a ≡ b)
 op_is = by_number op_number op_at op_back

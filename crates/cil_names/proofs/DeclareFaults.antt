@@ -23,7 +23,7 @@ use Rattle.cil_names.specs.declared.instance.Instance.{Instance}
 use Rattle.cil_names.specs.declared.row.Row.{Row}
 use Rattle.cil_names.specs.declared.run.Run.{Run}
 use Rattle.cil_names.specs.declared.space.Space.{Space}
-use Rattle.cil_names.specs.Declarations.{Declaration, NameSpace, declared_by, name_space, of_classes, of_roles, of_types, of_users}
+use Rattle.cil_names.specs.Declarations.{Declaration, NameSpace, declared_by, name_space, of_classes, of_blocks, of_roles, of_types, of_users}
 use Rattle.cil_names.specs.DeclareRows.{TellsDiffering, all_rows, declaration_of, is_row_enabled, object_row, round_at, row_key, rows_by, rows_named}
 use Rattle.cil_names.specs.DeclareRuns.{faults_at, faults_named, row_faults, run_faults, run_key}
 use Rattle.cil_names.specs.Entries.{Key, item_of, items_of, key_cmp, rank}
@@ -44,6 +44,7 @@ rank_from of_types = 0
 rank_from of_roles = 1
 rank_from of_users = 2
 rank_from of_classes = 3
+rank_from of_blocks = 4
 
 ranked : (k : Kind) → rank k ≡ rank_from (name_space k)
 unfolding rank_from
@@ -56,12 +57,15 @@ ranked kinds.User = refl
 ranked kinds.UserAttribute = refl
 ranked kinds.Class = refl
 ranked kinds.ClassMap = refl
+ranked kinds.Block = refl
+ranked kinds.Macro = refl
 
 name_space_at : ℕ → NameSpace
 name_space_at zero = of_types
 name_space_at (suc zero) = of_roles
 name_space_at (suc (suc zero)) = of_users
-name_space_at (suc (suc (suc n))) = of_classes
+name_space_at (suc (suc (suc zero))) = of_classes
+name_space_at (suc (suc (suc (suc n)))) = of_blocks
 
 ranked_back : (n : NameSpace) → name_space_at (rank_from n) ≡ n
 unfolding rank_from name_space_at
@@ -69,6 +73,7 @@ ranked_back of_types = refl
 ranked_back of_roles = refl
 ranked_back of_users = refl
 ranked_back of_classes = refl
+ranked_back of_blocks = refl
 
 same_name_space : (j k : Kind) → rank j ≡ rank k → name_space j ≡ name_space k
 same_name_space j k e =
@@ -79,7 +84,7 @@ same_rank j k e = ranked j ∙ ap rank_from e ∙ sym (ranked k)
 
 -- ---- the statement of a row
 
-all_enabled : (round : List ℕ) → list_all everybody round ≡ true
+pub all_enabled : (round : List ℕ) → list_all everybody round ≡ true
 all_enabled [] = refl
 all_enabled (o ∷ os) = all_enabled os
 

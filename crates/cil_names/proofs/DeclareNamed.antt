@@ -20,6 +20,7 @@ use Rattle.cil_names.specs.DeclareRuns.{Said, entry_of_run, is_always, has_none,
 use Rattle.cil_names.specs.Entries.{AreEntries, IsEntryFor, Key, is_declared_in, items_of, key_cmp, key_of, rank}
 use Rattle.cil_names.specs.Item.{OptSet, everybody}
 use Rattle.cil_names.specs.Spaces.{space_at}
+use Rattle.cil_names.proofs.DeclareFaults.{all_enabled}
 use Rattle.cil_names.proofs.DeclareDone.{AreRunsOf, declared_row, in_rows, placed_in, row_declared, run_of, space_within}
 use Rattle.cil_names.proofs.DeclLemmas.{any_from, any_true}
 use Rattle.cil_names.proofs.SearchLemmas.{member_of_number, number_of_member}
@@ -117,10 +118,6 @@ entries_rise es runs says up =
     (subst (IsStrictlySortedBy key_cmp) (keys_run runs ∙ ap (map key_said) (sym says) ∙ sym (keys_said es)) (rises_map run_key key_cmp runs up))
 
 -- ---- the entries are the declared names
-
-all_enabled : (os : List ℕ) → list_all everybody os ≡ true
-all_enabled [] = refl
-all_enabled (o ∷ os) = all_enabled os
 
 all_one : (ss : List Space) (first : Row) (rows : List Row) (b : Bool) → b ≡ false → TellsDiffering ss first rows b → (r : Row) → Contains rows r
     → declaration_of ss first ≡ declaration_of ss r

@@ -15,7 +15,9 @@ kind_from (suc (suc (suc (suc zero)))) = kinds.RoleAttribute
 kind_from (suc (suc (suc (suc (suc zero))))) = kinds.User
 kind_from (suc (suc (suc (suc (suc (suc zero)))))) = kinds.UserAttribute
 kind_from (suc (suc (suc (suc (suc (suc (suc zero))))))) = kinds.Class
-kind_from (suc (suc (suc (suc (suc (suc (suc (suc n)))))))) = kinds.ClassMap
+kind_from (suc (suc (suc (suc (suc (suc (suc (suc zero)))))))) = kinds.ClassMap
+kind_from (suc (suc (suc (suc (suc (suc (suc (suc (suc zero))))))))) = kinds.Block
+kind_from (suc (suc (suc (suc (suc (suc (suc (suc (suc (suc n)))))))))) = kinds.Macro
 
 back : (k : Kind) → kind_from (kind_number k) ≡ k
 unfolding kind_from
@@ -28,6 +30,8 @@ back kinds.User = refl
 back kinds.UserAttribute = refl
 back kinds.Class = refl
 back kinds.ClassMap = refl
+back kinds.Block = refl
+back kinds.Macro = refl
 
 pub same_kind : (k j : Kind) → k ≡ j → nat_eq (kind_number k) (kind_number j) ≡ true
 same_kind k j e = eq-eqb (kind_number k) (kind_number j) (ap kind_number e)

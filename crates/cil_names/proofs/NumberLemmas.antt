@@ -128,6 +128,8 @@ all_sections P n u r t c kinds.TypeAttribute e = absurd (true≢false (sym e))
 all_sections P n u r t c kinds.RoleAttribute e = absurd (true≢false (sym e))
 all_sections P n u r t c kinds.UserAttribute e = absurd (true≢false (sym e))
 all_sections P n u r t c kinds.ClassMap e = absurd (true≢false (sym e))
+all_sections P n u r t c kinds.Block e = absurd (true≢false (sym e))
+all_sections P n u r t c kinds.Macro e = absurd (true≢false (sym e))
 
 pub nothing_rises : IsStrictlySortedBy text_cmp []
 unfolding IsStrictlySortedBy
@@ -143,6 +145,8 @@ all_rise n rise kinds.TypeAttribute = nothing_rises
 all_rise n rise kinds.RoleAttribute = nothing_rises
 all_rise n rise kinds.UserAttribute = nothing_rises
 all_rise n rise kinds.ClassMap = nothing_rises
+all_rise n rise kinds.Block = nothing_rises
+all_rise n rise kinds.Macro = nothing_rises
 
 -- ---- all numbers
 

@@ -15,7 +15,7 @@ use Rattle.cil_syntax.specs.Spelling.{same_bytes}
 use Rattle.cil_names.specs.declared.entry.Entry.{Entry}
 use Rattle.cil_names.specs.declared.instance.Instance.{Instance}
 use Rattle.cil_names.specs.declared.space.Space.{Space}
-use Rattle.cil_names.specs.Declarations.{Declaration, IsDeclaration, NameSpace, of_types, of_roles, of_users, of_classes, name_space}
+use Rattle.cil_names.specs.Declarations.{Declaration, IsDeclaration, NameSpace, of_types, of_roles, of_users, of_classes, of_blocks, name_space}
 use Rattle.cil_names.specs.Item.{Namespace, Scope, ScopedWord, Item, OptSet, all_replaced, everybody}
 use Rattle.cil_names.specs.Resolves.{asked, found_in, is_wanted, same_space, spaces_asked}
 use Rattle.cil_names.specs.Spaces.{space_at}
@@ -51,6 +51,7 @@ rank kind = rank_of (name_space kind)
     rank_of of_roles = 1
     rank_of of_users = 2
     rank_of of_classes = 3
+    rank_of of_blocks = 4
 
 -- what tells entries apart: the number of the namespace, the name, and the name space
 pub record Key : Type 0 where

@@ -15,6 +15,7 @@ pub fn rank_of(kind: Kind) -> u8
         Kind::Role | Kind::RoleAttribute => 1,
         Kind::User | Kind::UserAttribute => 2,
         Kind::Class | Kind::ClassMap => 3,
+        Kind::Block | Kind::Macro => 4,
     }
 }
 
@@ -26,8 +27,9 @@ pub fn rank_wanted(sign: Sign) -> Option<u8>
         Sign::Types => Some(0),
         Sign::Roles => Some(1),
         Sign::Users => Some(2),
-        Sign::Classes => Some(3),
-        Sign::Permission => None,
+        Sign::Classes | Sign::PlainClass => Some(3),
+        Sign::Blocks | Sign::Macros => Some(4),
+        Sign::Permission | Sign::Text | Sign::Unread => None,
     }
 }
 
@@ -40,6 +42,9 @@ pub fn wants(sign: Sign, kind: Kind) -> bool
         Sign::Roles => matches!(kind, Kind::Role | Kind::RoleAttribute),
         Sign::Users => matches!(kind, Kind::User | Kind::UserAttribute),
         Sign::Classes => matches!(kind, Kind::Class | Kind::ClassMap),
-        Sign::Permission => false,
+        Sign::PlainClass => matches!(kind, Kind::Class),
+        Sign::Blocks => matches!(kind, Kind::Block),
+        Sign::Macros => matches!(kind, Kind::Macro),
+        Sign::Permission | Sign::Text | Sign::Unread => false,
     }
 }

@@ -79,6 +79,8 @@ fn kind_declared(keyword: Keyword) -> Option<Kind>
         Keyword::Role => Some(Kind::Role),
         Keyword::User => Some(Kind::User),
         Keyword::RoleType | Keyword::UserRole | Keyword::Allow => None,
+        Keyword::Block | Keyword::BlockAbstract | Keyword::BlockInherit => None,
+        Keyword::Macro | Keyword::Call | Keyword::SetAside => None,
     }
 }
 

@@ -1,11 +1,10 @@
 -- Nodes read by shapes.
-use Rattle.std.proofs.Common.{◌≡◌, ℕ, Bool, true, false, if◌then◌else◌, ◌||◌, List, map, length, refl, sym, ◌∙◌, ap, subst, Bor, rules}
+use Rattle.std.proofs.Common.{◌≡◌, ℕ, Bool, true, false, if◌then◌else◌, List, map, length, refl, sym, ◌∙◌, ap, subst, Bor, rules}
 use Rattle.cil_sexpr.specs.declared.node.Node as nodes
-use Rattle.cil_sexpr.specs.declared.node.Span.{Span}
 use Rattle.cil_sexpr.specs.Tree.{Node, Word, Quoted, Branch}
-use Rattle.cil_sexpr.specs.View.{node_of, nodes_of}
-use Rattle.cil_syntax.specs.Shapes.{Row, Shape, declared_name, looked_up, set_of, fixed, left_out, any_left_out, either, list_of, many, counted, a_string, is_meant, read_word, read_list, read_row, Cell, cell_of, cells_of}
-use Rattle.std.specs.Prelude.{Option, None, Result}
+use Rattle.cil_sexpr.specs.View.{nodes_of}
+use Rattle.cil_syntax.specs.Shapes.{Row, Shape, declared_name, looked_up, set_of, fixed, left_out, any_left_out, either, list_of, unread, any_text, many, counted, statements, anything, is_meant, read_word, read_string, read_list, read_row, Cell, cell_of, cells_of}
+use Rattle.std.specs.Prelude.{Result}
 use Rattle.cil_syntax.specs.declared.fault.Fault.{Fault}
 use Rattle.cil_syntax.specs.declared.shape.Row.{the_lemmas}
 use Rattle.cil_syntax.specs.declared.shape.Shape as shapes
@@ -13,42 +12,20 @@ use Rattle.cil_syntax.specs.declared.term.Term as rust
 use Rattle.cil_syntax.specs.declared.kind.Sign.{Sign}
 use Rattle.cil_syntax.specs.declared.shape.Row as rows
 use Rattle.cil_syntax.specs.declared.term.Op.{Op}
-use Rattle.cil_syntax.specs.Laid.{items_of, row_of, shape_of}
+use Rattle.cil_syntax.specs.Laid.{items_before, items_of, row_of, shape_of}
 use Rattle.cil_syntax.specs.declared.stop.Stop.{Stop}
 use Rattle.cil_syntax.specs.Told.{TellAll, Tells}
 use Rattle.std.specs.Global.{Vec}
 use Rattle.std.proofs.lemmas.Bool.{eq-eqb, ne_eqb}
 use Rattle.std.proofs.lemmas.List.{length-map}
 use Rattle.cil_syntax.proofs.ItemsRead.{length-cells}
-use Rattle.cil_syntax.proofs.Heads.{quoted_view}
-
--- no shape is meant for a string
-not_string : (shape : Shape) → false ≡ is_meant shape a_string
-not_string declared_name = refl
-not_string (looked_up sign) = refl
-not_string (set_of sign) = refl
-not_string (fixed word op) = refl
-not_string (left_out word) = refl
-not_string any_left_out = refl
-not_string (either first second) = not_string second ∙ ap (λ b. b || is_meant second a_string) (not_string first)
-not_string (list_of op row) = refl
-
-pub no_string : (text : List ℕ) (m : ℕ) (n : nodes.Node) (place : Span) (shape : Shape) → n ≡ nodes.Quoted place
-    → false ≡ is_meant shape (cell_of m (node_of text n)).face
-unfolding cell_of
-no_string text m n place shape is =
-    not_string shape ∙ sym (ap (λ x. is_meant shape (cell_of m (node_of text x)).face) is ∙ ap (λ v. is_meant shape (cell_of m v).face) (quoted_view text place))
-
-same_either : {T : Type 0} (b : Bool) → (let nothing : Option T = None in (nothing ≡ (if b then nothing else nothing)))
-same_either true = refl
-same_either false = refl
 
 -- one of two shapes reads as the one that is meant
 either_read : (m : ℕ) (n : Node) (first second : Shape)
     → (cell_of m n).read (either first second) ≡ (if is_meant first (cell_of m n).face then (cell_of m n).read first else (cell_of m n).read second)
-unfolding cell_of read_word read_list
+unfolding cell_of read_word read_string read_list
 either_read m (Word place bytes) first second = refl
-either_read m (Quoted place bytes) first second = same_either (is_meant first a_string)
+either_read m (Quoted place bytes) first second = refl
 either_read m (Branch place inner) first second = refl
 
 module _ (m : ℕ) (n : Node) (first second : Shape) where
@@ -111,7 +88,19 @@ either_is a b = search (rules, the_lemmas)
 pub listed_view : (op : Op) (row : rows.Row) → shape_of (shapes.ListOf op row) ≡ list_of op (row_of row)
 listed_view op row = search (rules, the_lemmas)
 
-pub ruleset the_views = (items_view, many_view, one_of_view, name_view, looked_up_view, set_view, fixed_view, left_out_view, any_view, either_is, listed_view)
+pub body_view : (b : Bor (List shapes.Shape)) → row_of (rows.Body b) ≡ items_before statements (map shape_of b.now)
+body_view b = search (rules, the_lemmas)
+
+pub anything_view : row_of rows.Anything ≡ anything
+anything_view = search (rules, the_lemmas)
+
+pub unread_view : shape_of shapes.Unread ≡ unread
+unread_view = search (rules, the_lemmas)
+
+pub text_view : shape_of shapes.AnyText ≡ any_text
+text_view = search (rules, the_lemmas)
+
+pub ruleset the_views = (body_view, anything_view, unread_view, text_view, items_view, many_view, one_of_view, name_view, looked_up_view, set_view, fixed_view, left_out_view, any_view, either_is, listed_view)
 
 -- ---- which of two rows reads some items
 

@@ -12,6 +12,7 @@ mod failure;
 mod fault;
 mod fault_list;
 mod forms;
+mod kept;
 mod kind;
 pub mod laws;
 mod printed;

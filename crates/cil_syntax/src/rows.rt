@@ -2,11 +2,12 @@
 
 ghost use Rattle.std.specs.Prelude.{map};
 ghost use Rattle.cil_sexpr.specs.View.{node_of, nodes_of};
-ghost use Rattle.cil_syntax.specs.Laid.{items_of, row_of, shape_of};
-ghost use Rattle.cil_syntax.specs.Shapes.{cell_of, cells_of, list_of, many, read_row as row_reading};
+ghost use Rattle.cil_syntax.specs.Laid.{items_before, items_of, row_of, shape_of};
+ghost use Rattle.cil_syntax.specs.Shapes.{cell_of, cells_of, list_of, many, read_row as row_reading, statements};
 ghost use Rattle.cil_syntax.specs.Told.{TellAll, Tells};
 
 use crate::fault::Fault;
+use crate::kind::Sign;
 use crate::reader::Reader;
 use crate::shape::{Row, Shape};
 use crate::stop::Stop;
@@ -38,12 +39,14 @@ impl<'a> Reader<'a> {
                 self.read_node(second, node, faults)
             }
             Shape::ListOf(op, row) => self.read_list(*op, row, node, faults),
+            Shape::Unread => self.keep(node),
+            Shape::AnyText => self.keep_text(Sign::Text, node),
         }
     }
 
     /// Reads a list by a row.
     #[cycle(nodes)]
-    #[tactic(auto, unfolding(crate::specs::Shapes::cell_of, crate::specs::Shapes::read_word, crate::specs::Shapes::read_list))]
+    #[tactic(auto, unfolding(crate::specs::Shapes::cell_of, crate::specs::Shapes::read_word, crate::specs::Shapes::read_string, crate::specs::Shapes::read_list))]
     fn read_list(
         &self,
         op: Op,
@@ -79,7 +82,28 @@ impl<'a> Reader<'a> {
                 }
                 self.read_items(second, nodes, faults)
             }
+            Row::Body(shapes) => self.read_before_lists(shapes, nodes, faults),
+            Row::Anything => Ok(Vec::new(self.alloc)),
         }
+    }
+
+    /// Reads items, behind which lists are to be.
+    #[cycle(nodes)]
+    fn read_before_lists(
+        &self,
+        shapes: &[Shape],
+        nodes: &[Node],
+        faults: &mut Vec<Fault>,
+    ) -> Result<Vec<Term<'a>>, Stop>
+        ensures { TellAll self.now.number (row_reading (items_before statements (map shape_of shapes.now)) (cells_of self.now.number (nodes_of self.now.text.now nodes.now))) faults.old.items faults.new.items result }
+    {
+        if nodes.len() < shapes.len() {
+            return Err(Stop::OtherShape);
+        }
+        if !self.all_lists(&nodes[shapes.len()..]) {
+            return Err(Stop::OtherShape);
+        }
+        self.read_items(shapes, &nodes[..shapes.len()], faults)
     }
 
     /// Reads just as many items as there are shapes.

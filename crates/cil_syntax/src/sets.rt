@@ -60,7 +60,7 @@ fn operator_at_head(text: &[u8], nodes: &[Node]) -> Option<(Op, Span)>
 impl<'a> Reader<'a> {
     /// Reads a set: a word, a list of sets, or an operator with its operands. Operators and `all` are not supported yet.
     #[cycle(sets)]
-    #[tactic(auto, unfolding(crate::specs::Shapes::cell_of))]
+    #[tactic(auto, unfolding(crate::specs::Shapes::cell_of, crate::specs::Shapes::read_string))]
     pub(crate) fn read_set(
         &self,
         sign: Sign,

@@ -2,7 +2,7 @@
 
 ghost use Rattle.std.specs.Prelude.{◌≡◌, ℕ};
 ghost use Rattle.cil_sexpr.specs.View.{node_of};
-ghost use Rattle.cil_syntax.specs.Shapes.{a_list, a_word, cell_of, is_meant};
+ghost use Rattle.cil_syntax.specs.Shapes.{a_list, a_string, a_word, cell_of, is_meant};
 ghost use Rattle.cil_syntax.specs.Laid.{shape_of};
 
 use crate::kind::Sign;
@@ -30,6 +30,10 @@ pub(crate) enum Shape {
     Either(&'static Shape, &'static Shape),
     /// A list with these items.
     ListOf(Op, Row),
+    /// Anything, kept as it is.
+    Unread,
+    /// Any word or string, which is not looked up.
+    AnyText,
 }
 
 /// What a list may have.
@@ -42,6 +46,10 @@ pub(crate) enum Row {
     Many(&'static Shape),
     /// The first of two, where there are just as many items as it has; else the second. So an item may be optional.
     OneOf(&'static [Shape], &'static [Shape]),
+    /// These, and behind them lists, each a statement that is judged by itself.
+    Body(&'static [Shape]),
+    /// Whatever stands there; nothing of it is kept.
+    Anything,
 }
 
 impl Shape {
@@ -52,7 +60,7 @@ impl Shape {
     {
         match node {
             Node::Word(span) => self.is_meant_for_word(bytes_at(text, *span)),
-            Node::Quoted(_) => false,
+            Node::Quoted(_) => self.is_meant_for_string(),
             Node::List(_, _) => self.is_meant_for_list(),
         }
     }
@@ -72,6 +80,28 @@ impl Shape {
                 first.is_meant_for_word(word) || second.is_meant_for_word(word)
             }
             Shape::ListOf(_, _) => false,
+            Shape::Unread => true,
+            Shape::AnyText => true,
+        }
+    }
+
+    /// Whether the shape is meant for a string.
+    fn is_meant_for_string(&self) -> bool
+        ensures { result ≡ is_meant (shape_of self.now) a_string }
+    {
+        match self {
+            Shape::DeclaredName => false,
+            Shape::LookedUp(_) => false,
+            Shape::SetOf(_) => false,
+            Shape::Fixed(_, _) => false,
+            Shape::LeftOut(_) => false,
+            Shape::AnyLeftOut => false,
+            Shape::Either(first, second) => {
+                first.is_meant_for_string() || second.is_meant_for_string()
+            }
+            Shape::ListOf(_, _) => false,
+            Shape::Unread => true,
+            Shape::AnyText => true,
         }
     }
 
@@ -88,6 +118,8 @@ impl Shape {
             Shape::AnyLeftOut => false,
             Shape::Either(first, second) => first.is_meant_for_list() || second.is_meant_for_list(),
             Shape::ListOf(_, _) => true,
+            Shape::Unread => true,
+            Shape::AnyText => false,
         }
     }
 }

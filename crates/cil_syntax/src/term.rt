@@ -119,6 +119,28 @@ pub enum Op {
     Itself,
     /// A word that is not supported, and that is reported.
     LeftOut,
+    /// The parameters of a macro.
+    Parameters,
+    /// One parameter: its kind and its name.
+    Parameter,
+    /// The kind of a parameter: types.
+    TypeKind,
+    /// The kind of a parameter: roles.
+    RoleKind,
+    /// The kind of a parameter: users.
+    UserKind,
+    /// The kind of a parameter: a class.
+    ClassKind,
+    /// The kind of a parameter: a name.
+    NameKind,
+    /// The kind of a parameter: a string.
+    TextKind,
+    /// The arguments of a call.
+    Arguments,
+    /// A list that is not read yet, with its items.
+    UnreadList,
+    /// A string, with its text as a name.
+    UnreadText,
 }
 
 /// What a statement says: a word, a declared name, or a list or fixed word with its parts. A term is of the module of its

@@ -26,6 +26,11 @@ pub(crate) fn is_spelled_for(sign: Sign, word: &[u8]) -> bool
         Sign::Roles => is_path(word),
         Sign::Users => is_path(word),
         Sign::Classes => is_path(word),
+        Sign::PlainClass => is_path(word),
+        Sign::Blocks => is_path(word),
+        Sign::Macros => is_path(word),
+        Sign::Text => true,
+        Sign::Unread => true,
     }
 }
 
@@ -49,7 +54,7 @@ impl<'a> Reader<'a> {
     }
 
     /// Reads a declared name. A string or a list is none.
-    #[tactic(auto, unfolding(crate::specs::Shapes::cell_of, crate::specs::Shapes::read_word, crate::specs::Shapes::read_list))]
+    #[tactic(auto, unfolding(crate::specs::Shapes::cell_of, crate::specs::Shapes::read_word, crate::specs::Shapes::read_string, crate::specs::Shapes::read_list))]
     pub(crate) fn read_name(&self, node: &Node, faults: &mut Vec<Fault>) -> Result<Term<'a>, Stop>
         ensures { Tells self.now.number ((cell_of self.now.number (node_of self.now.text.now node.now)).read declared_name) faults.old.items faults.new.items result }
     {
@@ -62,7 +67,7 @@ impl<'a> Reader<'a> {
     }
 
     /// Reads a word that is looked up. A string or a list is none.
-    #[tactic(auto, unfolding(crate::specs::Shapes::cell_of, crate::specs::Shapes::read_word, crate::specs::Shapes::read_list))]
+    #[tactic(auto, unfolding(crate::specs::Shapes::cell_of, crate::specs::Shapes::read_word, crate::specs::Shapes::read_string, crate::specs::Shapes::read_list))]
     pub(crate) fn read_looked_up(
         &self,
         sign: Sign,
@@ -98,7 +103,7 @@ impl<'a> Reader<'a> {
     }
 
     /// Reads one word, as it is.
-    #[tactic(auto, unfolding(crate::specs::Shapes::cell_of, crate::specs::Shapes::read_word, crate::specs::Shapes::read_list))]
+    #[tactic(auto, unfolding(crate::specs::Shapes::cell_of, crate::specs::Shapes::read_word, crate::specs::Shapes::read_string, crate::specs::Shapes::read_list))]
     pub(crate) fn read_fixed(
         &self,
         fixed: &[u8],
@@ -118,7 +123,7 @@ impl<'a> Reader<'a> {
     }
 
     /// Reads one word that is not supported.
-    #[tactic(auto, unfolding(crate::specs::Shapes::cell_of, crate::specs::Shapes::read_word, crate::specs::Shapes::read_list))]
+    #[tactic(auto, unfolding(crate::specs::Shapes::cell_of, crate::specs::Shapes::read_word, crate::specs::Shapes::read_string, crate::specs::Shapes::read_list))]
     pub(crate) fn read_this_left_out(
         &self,
         word: &[u8],
@@ -138,7 +143,7 @@ impl<'a> Reader<'a> {
     }
 
     /// Reads any word, which is not supported.
-    #[tactic(auto, unfolding(crate::specs::Shapes::cell_of, crate::specs::Shapes::read_word, crate::specs::Shapes::read_list))]
+    #[tactic(auto, unfolding(crate::specs::Shapes::cell_of, crate::specs::Shapes::read_word, crate::specs::Shapes::read_string, crate::specs::Shapes::read_list))]
     pub(crate) fn read_any_left_out(
         &self,
         node: &Node,

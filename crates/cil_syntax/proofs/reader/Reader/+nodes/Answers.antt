@@ -2,6 +2,7 @@ use Rattle.cil_sexpr.specs.View.{node_of}
 use Rattle.cil_syntax.specs.Laid.{shape_of}
 use Rattle.cil_syntax.proofs.ItemsRead.{more_read, stop_told, all_read, many_more, many_end, items_more, items_end, wrong_length}
 use Rattle.cil_syntax.proofs.Laid.{first_told, second_told, first_row_told, second_row_told}
+use Rattle.cil_syntax.proofs.Unread.{unread_told, text_told, anything_told, short_told, no_lists_told, body_told}
 use Rattle.cil_syntax.proofs.reader.Reader.+nodes.Goals as goal
 
 pub read_items-returns-then-nodes-shapes : goal.read_items-returns-then-nodes-shapes
@@ -60,3 +61,31 @@ pub read_row-returns-else-nodes-first : goal.read_row-returns-else-nodes-first
 read_row-returns-else-nodes-first t c =
     second_row_told c.args.self.now.number c.args.self.now.text.now c.args.nodes.now c.args.row.now c.in-OneOf.first c.in-OneOf.second c.in-OneOf.is _ _ _
     c.if-nodes-first.false c.read_items-in-OneOf.ensures
+
+pub read_node-returns-in-Unread : goal.read_node-returns-in-Unread
+read_node-returns-in-Unread t c =
+    unread_told c.args.self.now.number (node_of c.args.self.now.text.now c.args.node.now) c.args.shape.now _ _ c.keep.result c.in-Unread.is
+    (c.keep.ensures c.args.faults.now.items)
+
+pub read_node-returns-in-AnyText : goal.read_node-returns-in-AnyText
+read_node-returns-in-AnyText t c =
+    text_told c.args.self.now.number (node_of c.args.self.now.text.now c.args.node.now) c.args.shape.now _ _ c.keep_text.result c.in-AnyText.is
+    (c.keep_text.ensures c.args.faults.now.items)
+
+pub read_row-returns-in-Anything : goal.read_row-returns-in-Anything
+read_row-returns-in-Anything t c = anything_told c.args.self.now.number _ c.args.row.now _ c.new.result c.in-Anything.is c.new.ensures.items
+
+pub read_before_lists-returns-then-nodes-shapes : goal.read_before_lists-returns-then-nodes-shapes
+read_before_lists-returns-then-nodes-shapes t c =
+    short_told c.args.self.now.number c.args.self.now.text.now c.args.nodes.now c.args.shapes.now _ c.if-nodes-shapes.true
+
+pub read_before_lists-returns-then-not-all_lists :
+    goal.read_before_lists-returns-then-not-all_lists
+read_before_lists-returns-then-not-all_lists t c =
+    no_lists_told c.args.self.now.number c.args.self.now.text.now c.args.nodes.now c.args.shapes.now _ c.if-nodes-shapes.false c.all_lists.result
+    c.all_lists.ensures c.if-not-all_lists.true
+
+pub read_before_lists-returns : goal.read_before_lists-returns
+read_before_lists-returns t c =
+    body_told c.args.self.now.number c.args.self.now.text.now c.args.nodes.now c.args.shapes.now _ c.if-nodes-shapes.false _ _ c.all_lists.result
+    c.all_lists.ensures c.if-not-all_lists.false c.read_items.ensures

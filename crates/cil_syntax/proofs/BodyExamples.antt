@@ -1,0 +1,102 @@
+-- Statements with statements inside, calls and set-aside statements, read by the definition of their rows.
+use Rattle.std.specs.Prelude.{◌≡◌, ℕ, ◌+◌, List, [], ◌∷◌, length, codes, Option, Some, None, refl}
+use Rattle.cil_sexpr.specs.Tree.{Node, Word as TextWord, Quoted, Branch, Nodes, none, next}
+use Rattle.cil_syntax.specs.declared.code.FaultCode.{FaultCode}
+use Rattle.cil_syntax.specs.declared.code.FaultCode.TheVariants as causes
+use Rattle.cil_syntax.specs.declared.kind.Keyword.{Keyword}
+use Rattle.cil_syntax.specs.declared.kind.Keyword.TheVariants as keywords
+use Rattle.cil_syntax.specs.declared.kind.Sign.{Sign}
+use Rattle.cil_syntax.specs.declared.kind.Sign.TheVariants as signs
+use Rattle.cil_syntax.specs.declared.term.Op.TheVariants as ops
+use Rattle.cil_syntax.specs.declared.term.Spot.{Spot}
+use Rattle.cil_syntax.specs.declared.term.Word.{Word}
+use Rattle.cil_syntax.specs.Shapes.{Inner, Reading, reads, read_word, read_string, read_row, read_list, cell_of, cells_of}
+use Rattle.cil_syntax.specs.Table.{entry_of}
+use Rattle.cil_syntax.specs.Terms.{Term, Leaf, Name, Form, Terms, nil, cons}
+
+-- a word at a place, a list that begins at one, and the string "a"
+abbrev word : ℕ → List ℕ → Node
+word at bytes = TextWord (record { start = at; end = at + length bytes }) bytes
+
+abbrev list : ℕ → Nodes → Node
+list at items = Branch (record { start = at; end = at + 2 }) items
+
+abbrev string : ℕ → Node
+string at = Quoted (record { start = at; end = at + 3 }) (34 ∷ 97 ∷ 34 ∷ [])
+
+abbrev fault : FaultCode → ℕ → List ℕ → Inner
+fault code at bytes = record { code = code; at = at; word = bytes }
+
+abbrev spot : ℕ → Spot
+spot at = record { «module» = 7; at = at }
+
+abbrev leaf : ℕ → Sign → List ℕ → Term Word
+leaf at sign bytes = Leaf record { at = spot at; bytes = bytes; sign = sign }
+
+-- what stands behind the word of a statement, by its row
+abbrev read : Keyword → Nodes → Option (Reading (Terms Word))
+read keyword items = read_row (entry_of keyword).row (cells_of 7 items)
+
+abbrev faults_of : Option (Reading (Terms Word)) → List Inner
+faults_of None = []
+faults_of (Some r) = r.faults
+
+-- `(block b)`, `(block b ((x)) ())`, `(block b (x) y)`, `(block)`, `(block "a")`, `(block all)`
+blocks : (read keywords.Block (next (word 7 (codes "b")) none) ≡ reads (cons (Name (spot 7) (codes "b")) nil) [])
+    × (read keywords.Block (next (word 7 (codes "b")) (next (list 9 (next (list 10 (next (word 11 (codes "x")) none)) none)) (next (list 15 none) none)))
+    ≡ reads (cons (Name (spot 7) (codes "b")) nil) [])
+    × (read keywords.Block (next (word 7 (codes "b")) (next (list 9 (next (word 10 (codes "x")) none)) (next (word 13 (codes "y")) none))) ≡ None)
+    × (read keywords.Block none ≡ None)
+    × (read keywords.Block (next (string 7) none) ≡ None)
+    × (faults_of (read keywords.Block (next (word 7 (codes "all")) none)) ≡ fault causes.ReservedName 7 (codes "all") ∷ [])
+unfolding cells_of cell_of read_row read_word read_string read_list entry_of
+blocks = (refl, refl, refl, refl, refl, refl)
+
+-- `(blockabstract b)`, `(blockinherit .a.b)`, `(blockinherit (a))`, `(blockinherit a b)`
+block_words : (read keywords.BlockAbstract (next (word 15 (codes "b")) none) ≡ reads (cons (leaf 15 signs.Blocks (codes "b")) nil) [])
+    × (read keywords.BlockInherit (next (word 14 (codes ".a.b")) none) ≡ reads (cons (leaf 14 signs.Blocks (codes ".a.b")) nil) [])
+    × (read keywords.BlockInherit (next (list 14 (next (word 15 (codes "a")) none)) none) ≡ None)
+    × (read keywords.BlockInherit (next (word 14 (codes "a")) (next (word 16 (codes "b")) none)) ≡ None)
+unfolding cells_of cell_of read_row read_word read_string read_list entry_of
+block_words = (refl, refl, refl, refl)
+
+-- `(macro m PARAMETERS (x))`
+abbrev macro : Nodes → Nodes
+macro parameters = next (word 7 (codes "m")) (next (list 9 parameters) (next (list 40 (next (word 41 (codes "x")) none)) none))
+
+abbrev parameter : ℕ → List ℕ → List ℕ → Node
+parameter at kind name = list at (next (word (at + 1) kind) (next (word (at + 8) name) none))
+
+-- `()`, `((type x))`, `((boolean x))`, `((type x.y))`, `((type))`, `(type x)`; and a macro without parameters at all
+macros : (read keywords.Macro (macro none) ≡ reads (cons (Name (spot 7) (codes "m")) (cons (Form (spot 9) ops.Parameters nil) nil)) [])
+    × (read keywords.Macro (macro (next (parameter 10 (codes "type") (codes "x")) none))
+    ≡ reads (cons (Name (spot 7) (codes "m")) (cons (Form (spot 9) ops.Parameters
+    (cons (Form (spot 10) ops.Parameter (cons (Form (spot 11) ops.TypeKind nil) (cons (Name (spot 18) (codes "x")) nil))) nil)) nil)) [])
+    × (faults_of (read keywords.Macro (macro (next (parameter 10 (codes "boolean") (codes "x")) none))) ≡ fault causes.Unsupported 11 (codes "boolean") ∷ [])
+    × (faults_of (read keywords.Macro (macro (next (parameter 10 (codes "type") (codes "x.y")) none))) ≡ fault causes.BadName 18 (codes "x.y") ∷ [])
+    × (read keywords.Macro (macro (next (list 10 (next (word 11 (codes "type")) none)) none)) ≡ None)
+    × (read keywords.Macro (macro (next (word 10 (codes "type")) (next (word 15 (codes "x")) none))) ≡ None)
+    × (read keywords.Macro (next (word 7 (codes "m")) (next (word 9 (codes "x")) none)) ≡ None)
+unfolding cells_of cell_of read_row read_word read_string read_list entry_of
+macros = (refl, refl, refl, refl, refl, refl, refl)
+
+-- `(call m)`, `(call m (p))`, `(call m (all (b) "a"))`, `(call m a)`, `(call m (a) (b))`, `(call (m))`
+calls : (read keywords.Call (next (word 6 (codes "m")) none) ≡ reads (cons (leaf 6 signs.Macros (codes "m")) nil) [])
+    × (read keywords.Call (next (word 6 (codes "lib.m")) (next (list 12 (next (word 13 (codes "p")) none)) none))
+    ≡ reads (cons (leaf 6 signs.Macros (codes "lib.m")) (cons (Form (spot 12) ops.Arguments (cons (leaf 13 signs.Unread (codes "p")) nil)) nil)) [])
+    × (read keywords.Call (next (word 6 (codes "m"))
+    (next (list 8 (next (word 9 (codes "all")) (next (list 13 (next (word 14 (codes "b")) none)) (next (string 17) none)))) none))
+    ≡ reads (cons (leaf 6 signs.Macros (codes "m")) (cons (Form (spot 8) ops.Arguments (cons (leaf 9 signs.Unread (codes "all"))
+    (cons (Form (spot 13) ops.UnreadList (cons (leaf 14 signs.Unread (codes "b")) nil))
+    (cons (Form (spot 17) ops.UnreadText (cons (Name (spot 17) (34 ∷ 97 ∷ 34 ∷ [])) nil)) nil)))) nil)) [])
+    × (read keywords.Call (next (word 6 (codes "m")) (next (word 8 (codes "a")) none)) ≡ None)
+    × (read keywords.Call (next (word 6 (codes "m")) (next (list 8 none) (next (list 11 none) none))) ≡ None)
+    × (read keywords.Call (next (list 6 (next (word 7 (codes "m")) none)) none) ≡ None)
+unfolding cells_of cell_of read_row read_word read_string read_list entry_of
+calls = (refl, refl, refl, refl, refl, refl)
+
+-- a set-aside statement has any contents, and says nothing
+set_aside_statements : (read keywords.SetAside none ≡ reads nil [])
+    × (read keywords.SetAside (next (string 9) (next (word 13 (codes "all")) (next (list 17 (next (list 18 none) none)) none))) ≡ reads nil [])
+unfolding cells_of cell_of read_row read_word read_string read_list entry_of
+set_aside_statements = (refl, refl)
