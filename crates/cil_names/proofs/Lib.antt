@@ -20,6 +20,7 @@ pub mod MeaningLemmas
 pub mod NumberLemmas
 pub mod OrderLemmas
 pub mod PathLemmas
+pub mod Qualified
 pub mod RisingLemmas
 pub mod RowLemmas
 pub mod ScopeLemmas

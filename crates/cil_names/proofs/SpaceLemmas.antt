@@ -56,7 +56,7 @@ heads x y m n e = cc
 tails : (x y : List ℕ) (m n : Namespace) → x ∷ m ≡ y ∷ n → m ≡ n
 tails x y m n e = cc
 
-member_at : (ss : List Space) (i : ℕ) → i < length ss → (s : Space) × (slice_get ss i ≡ Some s)
+pub member_at : (ss : List Space) (i : ℕ) → i < length ss → (s : Space) × (slice_get ss i ≡ Some s)
 member_at [] i h = absurd (omega (arith, h))
 member_at (s ∷ ss) zero h = (s, refl)
 member_at (s ∷ ss) (suc i) h = member_at ss i (omega (arith, h))

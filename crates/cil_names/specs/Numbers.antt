@@ -6,7 +6,7 @@ use Rattle.std.specs.Option.{unwrap_or}
 use Rattle.cil_sexpr.specs.Lists.{Lists, text_cmp}
 use Rattle.cil_syntax.specs.declared.kind.Kind.{Kind}
 use Rattle.cil_syntax.specs.declared.kind.Kind.TheVariants as kinds
-use Rattle.cil_syntax.specs.Spelling.{same_bytes}
+use Rattle.cil_syntax.specs.Spelling.{is_name, same_bytes}
 use Rattle.cil_names.specs.declared.entry.Entry.{Entry}
 use Rattle.cil_names.specs.declared.numbers.Sections.{Sections}
 use Rattle.cil_names.specs.declared.space.Space.{Space}
@@ -14,7 +14,7 @@ use Rattle.cil_names.specs.Declarations.{Symbol, name_of}
 use Rattle.cil_names.specs.Entries.{is_declared_in, place_where}
 use Rattle.cil_names.specs.Item.{Namespace, OptSet}
 use Rattle.cil_names.specs.Resolves.{kind_number}
-use Rattle.cil_names.specs.Spaces.{space_at}
+use Rattle.cil_names.specs.Spaces.{IsDotless, space_at}
 
 -- the names of a namespace from the outermost on, each with a dot behind it
 abbrev pub dotted : Namespace → List ℕ
@@ -69,3 +69,24 @@ pub record AreNumbers (ss : List Space) (es : List Entry) (s : OptSet) (names : 
   pub lists : (kind : Kind) → has_section kind ≡ true → Lists text_cmp (IsNameAmong ss es s kind) (names kind)
   pub at : (d : ℕ) (e : Entry) → slice_get es d ≡ Some e → has_section e.kind ≡ true → is_declared_in s e ≡ true
       → slice_get (names e.kind) (get_or numbers d 0) ≡ Some (spelled_of ss e)
+
+-- ---- one number is of one symbol
+
+-- a name that is not empty, and has no dot
+pub record IsPlain (name : List ℕ) : Type 0 where
+  pub some : name ≡ [] → ⊥
+  pub dotless : IsDotless name
+
+abbrev pub ArePlain : List (List ℕ) → Type 0
+ArePlain names = (x : List ℕ) → Contains names x → IsPlain x
+
+-- all names are names as the language has them
+pub record ArePlainNames (ss : List Space) (es : List Entry) : Type 0 where
+  pub spaces : (s : Space) → Contains ss s → is_name s.name ≡ true
+  pub entries : (e : Entry) → Contains es e → is_name e.name ≡ true
+
+-- two declared symbols of one kind have two numbers
+abbrev pub AreApart : List Entry → OptSet → List ℕ → Type 0
+AreApart es s numbers =
+    (d k : ℕ) (e f : Entry) → slice_get es d ≡ Some e → slice_get es k ≡ Some f → e.kind ≡ f.kind → has_section e.kind ≡ true → is_declared_in s e ≡ true → is_declared_in s f ≡ true
+    → get_or numbers d 0 ≡ get_or numbers k 0 → d ≡ k

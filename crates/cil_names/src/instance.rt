@@ -6,7 +6,7 @@ ghost use Rattle.cil_names.specs.Placed.{ArePlaced, IsPlaced};
 use crate::space::Spaces;
 use cil_syntax::Statement;
 
-/// A statement with the namespace in which it is, the scope of its words and the optionals round it, all by their numbers.
+/// A statement with the namespace in which it is, the scope of its words and the optionals round it, by their numbers.
 #[derive(Clone, Copy, Debug)]
 pub struct Instance<'a> {
     /// What is written.

@@ -7,7 +7,7 @@ ghost use Rattle.cil_sexpr.specs.Lists.{Lists, text_cmp};
 ghost use Rattle.cil_syntax.specs.declared.kind.Kind as kinds;
 ghost use Rattle.cil_syntax.specs.Spelling.{same_bytes};
 ghost use Rattle.cil_names.specs.Entries.{AreOrdered, is_in, place_where};
-ghost use Rattle.cil_names.specs.Numbers.{AreNumbers, IsNameAmong, has_section, is_of, name_given, names_of, place_in, spelled_of};
+ghost use Rattle.cil_names.specs.Numbers.{AreApart, AreNumbers, ArePlainNames, IsNameAmong, has_section, is_of, name_given, names_of, place_in, spelled_of};
 ghost use Rattle.cil_names.specs.Spaces.{AreSpaces};
 
 use crate::entry::Entry;
@@ -45,7 +45,9 @@ pub struct Numbering {
 /// Numbers the declared symbols. It costs a sort of the names of each kind, and a search by halving for each entry.
 pub fn numbered(alloc: Global, lookup: &Lookup) -> Result<Numbering, NoMemory>
     requires { AreOrdered lookup.now.spaces.now lookup.now.names.now }
-    ensures { IfOk result (λ n. AreNumbers lookup.now.spaces.now lookup.now.names.now (is_in lookup.now.enabled.now) (names_of n.sections) n.numbers.items) }
+    ensures numbers { IfOk result (λ n. AreNumbers lookup.now.spaces.now lookup.now.names.now (is_in lookup.now.enabled.now) (names_of n.sections) n.numbers.items) }
+    // Where no name has a dot, two symbols of one kind have two numbers.
+    ensures apart { IfOk result (λ n. ArePlainNames lookup.now.spaces.now lookup.now.names.now → AreApart lookup.now.names.now (is_in lookup.now.enabled.now) n.numbers.items) }
 {
     let spaces = lookup.spaces.as_slice();
     let entries = lookup.names.entries();
