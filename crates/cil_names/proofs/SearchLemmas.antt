@@ -1,4 +1,5 @@
--- Search by halving in a rising list: what std's search answers, for any key of the items and any total order of the keys.
+-- Search by halving in a rising list: what std's search answers, for any key of the items and any total order of the
+-- keys.
 use Rattle.std.proofs.Common.{◌≡◌, ℕ, zero, suc, ◌<◌, ◌≤◌, List, [], ◌∷◌, length, get_or, refl, sym, ◌∙◌, ap, subst, inl, inr, arith}
 use Rattle.std.specs.Prelude.{Contains, Option, Some, IfSome, IfNone, Result, Ok, Err, MatchOption, MatchResult, slice_get}
 use Rattle.std.specs.Result.{result_ok}

@@ -1,5 +1,5 @@
--- Declarations as entries: one for each name of a name space in a namespace, with the optionals round its declaring statements.
--- This project's profile.
+-- Declarations as entries: one for each name of a name space in a namespace, with the optionals round its declaring
+-- statements. This project's profile.
 use Rattle.std.specs.Prelude.{◌≡◌, suc, cond, ◌≤◌, ℕ, Bool, true, false, ◌&&◌, ◌||◌, ◌==◌, List, [], ◌∷◌, map, length, get_or, Contains, Option, Some, None, MatchOption, slice_get}
 use Rattle.std.specs.List.{flat_map, list_all, list_any}
 use Rattle.std.specs.Option.{option_map, option_map_or}
@@ -134,7 +134,8 @@ pub record IsEntryFor (ss : List Space) (es : List Entry) (s : OptSet) (kind : K
   pub of_name : entry.name ≡ name
   pub live : is_declared_in s entry ≡ true
 
--- the entries are the declarations of the items, whatever is enabled: each declaration has one, each that is declared has a declaration, and each is declared where all optionals are enabled
+-- the entries are the declarations of the items, whatever is enabled: each declaration has one, each that is declared
+-- has a declaration, and each is declared where all optionals are enabled
 pub record AreEntries (ss : List Space) (is : List Instance) (es : List Entry) : Type 0 where
   pub ordered : AreOrdered ss es
   pub each : (s : OptSet) (d : Declaration) → IsDeclaration (items_of ss is) s d → (i : ℕ) × IsEntryFor ss es s d.kind d.space d.name i
@@ -142,7 +143,8 @@ pub record AreEntries (ss : List Space) (is : List Instance) (es : List Entry) :
       → (d : Declaration) × IsDeclaration (items_of ss is) s d × (d.kind ≡ e.kind) × (d.space ≡ space_at ss e.space) × (d.name ≡ e.name)
   pub used : (i : ℕ) (e : Entry) → slice_get es i ≡ Some e → is_declared_in everybody e ≡ true
 
--- the word names this entry: it is declared, of a wanted kind, and has the name of the word in the namespace in which the word is found
+-- the word names this entry: it is declared, of a wanted kind, and has the name of the word in the namespace in which
+-- the word is found
 pub record IsNamed (ss : List Space) (is : List Instance) (es : List Entry) (s : OptSet) (w : ScopedWord) (d : ℕ) : Type 0 where
   pub space : Namespace
   pub found : found_in (items_of ss is) s w ≡ Some space

@@ -1,4 +1,5 @@
--- What is wrong with the names of a policy: declarations that differ, and words that name nothing. This project's profile.
+-- What is wrong with the names of a policy: declarations that differ, and words that name nothing. This project's
+-- profile.
 use Rattle.std.specs.Prelude.{◌≡◌, ℕ, true, false, List, [], Contains}
 use Rattle.cil_syntax.specs.declared.code.FaultCode.{FaultCode}
 use Rattle.cil_syntax.specs.declared.code.FaultCode.TheVariants as causes

@@ -1,4 +1,5 @@
--- What the words of a statement mean: for each the number of the entry that it names, or nothing. This project's profile.
+-- What the words of a statement mean: for each the number of the entry that it names, or nothing. This project's
+-- profile.
 use Rattle.std.specs.Prelude.{ℕ, List, map, find, Option, Some, None, zero, suc}
 use Rattle.cil_syntax.specs.Said.{args_of}
 use Rattle.cil_names.specs.declared.entry.Entry.{Entry}

@@ -1,5 +1,5 @@
--- The numbers of declared symbols: for each kind that has a section, the place of the qualified name among all of that kind. This
--- project's profile.
+-- The numbers of declared symbols: for each kind that has a section, the place of the qualified name among all of
+-- that kind. This project's profile.
 use Rattle.std.specs.Prelude.{◌≡◌, ℕ, Bool, true, false, ◌&&◌, nat_eq, List, [], ◌∷◌, ◌++◌, Contains, Some, slice_get, get_or, reverse, if◌then◌else◌}
 use Rattle.std.specs.List.{flat_map}
 use Rattle.std.specs.Option.{unwrap_or}
@@ -64,7 +64,8 @@ name_given ss s kind e = if is_of s kind e then spelled_of ss e ∷ [] else []
 abbrev pub place_in : List (List ℕ) → List ℕ → ℕ
 place_in names name = unwrap_or (place_where (λ x. same_bytes x name) names) 0
 
--- each section lists the names of the declared symbols of its kind, and each entry has the place of its name in its section
+-- each section lists the names of the declared symbols of its kind, and each entry has the place of its name in its
+-- section
 pub record AreNumbers (ss : List Space) (es : List Entry) (s : OptSet) (names : Kind → List (List ℕ)) (numbers : List ℕ) : Type 0 where
   pub lists : (kind : Kind) → has_section kind ≡ true → Lists text_cmp (IsNameAmong ss es s kind) (names kind)
   pub at : (d : ℕ) (e : Entry) → slice_get es d ≡ Some e → has_section e.kind ≡ true → is_declared_in s e ≡ true

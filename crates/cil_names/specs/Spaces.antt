@@ -1,5 +1,5 @@
--- Namespaces as numbers: number 0 is the global one, and each other one has the number of the one round it and its own name.
--- This project's profile.
+-- Namespaces as numbers: number 0 is the global one, and each other one has the number of the one round it and its
+-- own name. This project's profile.
 use Rattle.std.specs.Prelude.{◌≡◌, ◌≤◌, ◌==◌, All, ℕ, Bool, false, List, [], ◌∷◌, ◌++◌, length, get_or, Some, slice_get}
 use Rattle.std.specs.declared.cmp.Ordering.{Ordering}
 use Rattle.std.specs.Ordering.{nat_cmp, on, then_cmp}

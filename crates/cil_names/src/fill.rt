@@ -23,9 +23,9 @@ use cil_modset::NoMemory;
 use cil_syntax::{Bytes, Failure, Fault, FaultList};
 use std::alloc::Global;
 
-/// The table of the words of all instances; or, where words of instances outside all optionals name nothing, their faults.
-/// Permissions are given as a list in byte order for each entry that is a class. Each word costs one look-up, and each class
-/// word of a list of permissions two more.
+/// The table of the words of all instances; or, where words of instances outside all optionals name nothing, their
+/// faults. Permissions are given as a list in byte order for each entry that is a class. Each word costs one look-up,
+/// and each class word of a list of permissions two more.
 ///
 /// Errors: the faults, or out of memory.
 pub fn words_of(

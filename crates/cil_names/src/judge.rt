@@ -124,8 +124,8 @@ impl<'s, 'a> Judge<'s, 'a> {
         Ok(())
     }
 
-    /// Notes the words of a class list. It reports a class word that names nothing, or else the permissions that its class
-    /// lacks.
+    /// Notes the words of a class list. It reports a class word that names nothing, or else the permissions that its
+    /// class lacks.
     fn class_list(
         &self,
         words: &mut Vec<Meaning>,
