@@ -11,8 +11,10 @@ use Rattle.cil_syntax.specs.declared.term.Op.TheVariants as ops
 use Rattle.cil_syntax.specs.declared.term.Spot.{Spot}
 use Rattle.cil_syntax.specs.declared.term.Word.{Word}
 use Rattle.cil_syntax.specs.Shapes.{Inner, Reading, reads, read_word, read_string, read_row, read_list, cell_of, cells_of}
-use Rattle.cil_syntax.specs.Table.{entry_of}
+use Rattle.cil_syntax.specs.declared.kind.Nesting.TheVariants as nestings
+use Rattle.cil_syntax.specs.Table.{entry_of, table}
 use Rattle.cil_syntax.specs.Terms.{Term, Leaf, Name, Form, Terms, nil, cons}
+use Rattle.cil_syntax.specs.Written.{Context, at_top, Verdict, Refused, Shaped, by_entry, verdict_of}
 
 -- a word at a place, a list that begins at one, and the string "a"
 abbrev word : ℕ → List ℕ → Node
@@ -100,3 +102,67 @@ set_aside_statements : (read keywords.SetAside none ≡ reads nil [])
     × (read keywords.SetAside (next (string 9) (next (word 13 (codes "all")) (next (list 17 (next (list 18 none) none)) none))) ≡ reads nil [])
 unfolding cells_of cell_of read_row read_word read_string read_list entry_of
 set_aside_statements = (refl, refl)
+
+-- ---- places, and names of parameters
+
+abbrev faults_by : Verdict → List Inner
+faults_by (Refused i) = i ∷ []
+faults_by (Shaped s faults) = faults
+
+-- what is said of a statement that begins with a word, in a context
+abbrev told : Context → Keyword → Nodes → List Inner
+told context keyword items = faults_by (by_entry context (spot 0) (entry_of keyword).word (cells_of 7 items) (Some (entry_of keyword)))
+
+-- in the body of a macro with the parameter x, and directly in the block b in the block a
+abbrev in_macro : Context
+in_macro = record {
+  nesting = nestings.InOptional;
+  space = [];
+  under = Some (spot 3);
+  macro = Some record { at = spot 3; parameters = codes "x" ∷ [] };
+}
+
+abbrev in_block : Context
+in_block = record { nesting = nestings.InBlock; space = codes "b" ∷ codes "a" ∷ []; under = Some (spot 3); macro = None }
+
+-- in a macro: a block, a macro, a class and a set-aside statement are 24, whatever their shape is; a call is not
+macro_places : (told in_macro keywords.Block (next (word 7 (codes "b")) none) ≡ fault causes.BadPlace 0 (codes "block") ∷ [])
+    × (told in_macro keywords.Block none ≡ fault causes.BadPlace 0 (codes "block") ∷ [])
+    × (told in_macro keywords.Macro (macro none) ≡ fault causes.BadPlace 0 (codes "macro") ∷ [])
+    × (told in_macro keywords.Class none ≡ fault causes.BadPlace 0 (codes "class") ∷ [])
+    × (told in_macro keywords.SetAside none ≡ fault causes.BadPlace 0 [] ∷ [])
+    × (told in_macro keywords.Call (next (word 6 (codes "m")) none) ≡ [])
+unfolding cells_of cell_of read_row read_word read_string read_list entry_of
+macro_places = (refl, refl, refl, refl, refl, refl)
+
+-- `(blockabstract b)` on top, in the block a.b and with other words: of another block it is 24 and no 25 or 26, and 23
+-- where its shape is wrong
+abstractions : (told at_top keywords.BlockAbstract (next (word 15 (codes "b")) none) ≡ fault causes.BadPlace 0 (codes "blockabstract") ∷ [])
+    × (told in_block keywords.BlockAbstract (next (word 15 (codes "b")) none) ≡ [])
+    × (told in_block keywords.BlockAbstract (next (word 15 (codes "a")) none) ≡ fault causes.BadPlace 0 (codes "blockabstract") ∷ [])
+    × (told in_block keywords.BlockAbstract (next (word 15 (codes "a.b")) none) ≡ fault causes.BadPlace 0 (codes "blockabstract") ∷ [])
+    × (told in_block keywords.BlockAbstract (next (word 15 (codes "all")) none) ≡ fault causes.BadPlace 0 (codes "blockabstract") ∷ [])
+    × (told in_block keywords.BlockAbstract none ≡ fault causes.BadShape 0 (codes "blockabstract") ∷ [])
+    × (told in_block keywords.BlockInherit (next (word 14 (codes "c")) none) ≡ [])
+unfolding cells_of cell_of read_row read_word read_string read_list entry_of
+abstractions = (refl, refl, refl, refl, refl, refl, refl)
+
+-- a parameter that is named twice, and three times: 27 at each later one
+parameters : (told at_top keywords.Macro (macro (next (parameter 10 (codes "type") (codes "x")) (next (parameter 20 (codes "role") (codes "y")) none))) ≡ [])
+    × (told at_top keywords.Macro (macro (next (parameter 10 (codes "type") (codes "x")) (next (parameter 20 (codes "role") (codes "x")) none)))
+    ≡ fault causes.ParameterClash 28 (codes "x") ∷ [])
+    × (told at_top keywords.Macro (macro (next (parameter 10 (codes "type") (codes "x"))
+    (next (parameter 20 (codes "type") (codes "x")) (next (parameter 30 (codes "type") (codes "x")) none))))
+    ≡ fault causes.ParameterClash 28 (codes "x") ∷ fault causes.ParameterClash 38 (codes "x") ∷ [])
+unfolding cells_of cell_of read_row read_word read_string read_list entry_of
+parameters = (refl, refl, refl)
+
+-- `(type x)` and `(type y)` in the body of a macro with the parameter x, and `(type x)` on top
+abbrev a_type : List ℕ → Node
+a_type name = list 0 (next (word 1 (codes "type")) (next (word 6 name) none))
+
+declared_in_macro : (faults_by (verdict_of 7 in_macro (a_type (codes "x"))) ≡ fault causes.ParameterClash 6 (codes "x") ∷ [])
+    × (faults_by (verdict_of 7 in_macro (a_type (codes "y"))) ≡ [])
+    × (faults_by (verdict_of 7 at_top (a_type (codes "x"))) ≡ [])
+unfolding verdict_of cells_of cell_of read_row read_word read_string read_list table entry_of
+declared_in_macro = (refl, refl, refl)

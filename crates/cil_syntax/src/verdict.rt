@@ -39,7 +39,7 @@ impl<'a> Reader<'a> {
         nodes: &[Node],
         faults: &mut Vec<Fault>,
     ) -> Result<Option<Statement<'a>>, NoMemory>
-        ensures { IfOk result (IsJudged self.now.number (by_items (spot_at self.now.number at) (cells_of self.now.number (nodes_of self.now.text.now nodes.now))) faults.old.items faults.new.items) }
+        ensures { IfOk result (IsJudged self.now.number (by_items at_top (spot_at self.now.number at) (cells_of self.now.number (nodes_of self.now.text.now nodes.now))) faults.old.items faults.new.items) }
     {
         if let [Node::Word(span), rest @ ..] = nodes {
             return self.judge_behind(at, bytes_at(self.text, *span), rest, faults);
@@ -56,7 +56,7 @@ impl<'a> Reader<'a> {
         nodes: &[Node],
         faults: &mut Vec<Fault>,
     ) -> Result<Option<Statement<'a>>, NoMemory>
-        ensures { IfOk result (IsJudged self.now.number (by_entry (spot_at self.now.number at) word.now (cells_of self.now.number (nodes_of self.now.text.now nodes.now)) (entry_named word.now)) faults.old.items faults.new.items) }
+        ensures { IfOk result (IsJudged self.now.number (by_entry at_top (spot_at self.now.number at) word.now (cells_of self.now.number (nodes_of self.now.text.now nodes.now)) (entry_named word.now)) faults.old.items faults.new.items) }
     {
         let Some(entry) = find_entry(word) else {
             self.report(faults, refusal_of(word), at, word)?;
