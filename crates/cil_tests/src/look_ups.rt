@@ -94,7 +94,13 @@ fn named(
 }
 
 /// A word, what it wants, its scope, the enabled optionals, and the number of the declared name that it names.
-type Row = (&'static [u8], Sign, &'static [usize], &'static [bool], Option<usize>);
+type Row = (
+    &'static [u8],
+    Sign,
+    &'static [usize],
+    &'static [bool],
+    Option<usize>,
+);
 
 const NAMED: &[(&str, &[Row])] = &[
     (
@@ -164,7 +170,11 @@ const NAMED: &[(&str, &[Row])] = &[
 fn words_name_the_first_that_is_declared(rt: HostRuntime) -> Result<(), Fail> {
     for &(name, rows) in NAMED {
         for &(bytes, sign, scope, flags, wanted) in rows {
-            assert_eq!(rt; named(rt.alloc(), &word(bytes, sign), scope, flags)?, wanted, "{name}");
+            assert_eq!(rt;
+                named(rt.alloc(), &word(bytes, sign), scope, flags)?,
+                wanted,
+                "{name}"
+            );
         }
     }
     Ok(())

@@ -18,9 +18,12 @@ returns-then-not-are_within c = λ ordered.
     cc
 
 pub returns : goal.returns
-returns c = (refl, record {
-  rising = rw c.as_slice.ensures.value at (c.rise.ensures.0 c.if-not-rise.false);
-  within = λ e member.
-      let (i, at) = number_of_member _ e member in
-      c.are_within.ensures.0 c.if-not-are_within.false i e (rw c.as_slice-2.ensures.value at);
-})
+returns c = (
+  refl,
+  record {
+    rising = rw c.as_slice.ensures.value at (c.rise.ensures.0 c.if-not-rise.false);
+    within = λ e member.
+        let (i, at) = number_of_member _ e member in
+        c.are_within.ensures.0 c.if-not-are_within.false i e (rw c.as_slice-2.ensures.value at);
+  },
+)
