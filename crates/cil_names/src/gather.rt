@@ -24,10 +24,10 @@ use std::alloc::Global;
 ///
 /// Errors: where declarations of one name differ in their kind or in what they say, a fault at each of them; or out of
 /// memory.
-pub fn declare<'a>(
+pub fn declare<'s, 'a>(
     alloc: Global,
-    spaces: &Spaces<'a>,
-    instances: &[Instance<'a>],
+    spaces: &Spaces,
+    instances: &[Instance<'s, 'a>],
 ) -> Result<Names<'a>, Failure>
     requires { ArePlaced spaces.now instances.now }
     ensures { Answers (AreEntries spaces.now instances.now) (ClashFault (items_of spaces.now instances.now)) result }
@@ -41,7 +41,7 @@ pub fn declare<'a>(
 }
 
 /// The entries of runs.
-fn entries_of<'a>(alloc: Global, runs: &[Run<'_, 'a>]) -> Result<Vec<Entry<'a>>, NoMemory>
+fn entries_of<'a>(alloc: Global, runs: &[Run<'_, '_, 'a>]) -> Result<Vec<Entry<'a>>, NoMemory>
     ensures { IfOk result (λ entries. map said_by entries.items ≡ map entry_of_run runs.now) }
 {
     let mut entries = Vec::new(alloc);
@@ -51,7 +51,7 @@ fn entries_of<'a>(alloc: Global, runs: &[Run<'_, 'a>]) -> Result<Vec<Entry<'a>>,
     Ok(entries)
 }
 
-fn entry_of<'a>(alloc: Global, run: &Run<'_, 'a>) -> Result<Entry<'a>, NoMemory>
+fn entry_of<'a>(alloc: Global, run: &Run<'_, '_, 'a>) -> Result<Entry<'a>, NoMemory>
     ensures { IfOk result (λ entry. said_by entry ≡ entry_of_run run.now) }
 {
     let rounds = rounds_of(alloc, run.rows)?;

@@ -8,15 +8,15 @@ use cil_syntax::Statement;
 
 /// A statement with the namespace in which it is, the scope of its words and the optionals round it, by their numbers.
 #[derive(Clone, Copy, Debug)]
-pub struct Instance<'a> {
+pub struct Instance<'s, 'a> {
     /// What is written.
-    pub statement: &'a Statement<'a>,
+    pub statement: &'s Statement<'a>,
     /// The number of the namespace in which it is.
     pub space: usize,
     /// The numbers of the namespaces in which its words are looked up, in this order.
-    pub scope: &'a [usize],
+    pub scope: &'s [usize],
     /// The numbers of the optionals round it, the innermost first.
-    pub round: &'a [usize],
+    pub round: &'s [usize],
 }
 
 /// Whether the namespaces of all these instances have numbers.

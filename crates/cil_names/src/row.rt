@@ -14,7 +14,7 @@ use std::cmp::Ordering;
 
 /// A declaration: that of a statement, or that of object_r, which has no statement.
 #[derive(Drop)]
-pub struct Row<'a> {
+pub struct Row<'s, 'a> {
     /// The number of the namespace.
     pub space: usize,
     /// The declared name.
@@ -22,23 +22,26 @@ pub struct Row<'a> {
     /// The declared kind.
     pub kind: Kind,
     /// Where it is declared.
-    pub instance: Option<Instance<'a>>,
+    pub instance: Option<Instance<'s, 'a>>,
 }
 
 /// The rows of all declarations of some instances.
-pub fn rows_of<'a>(alloc: Global, instances: &[Instance<'a>]) -> Result<Vec<Row<'a>>, NoMemory>
+pub fn rows_of<'s, 'a>(
+    alloc: Global,
+    instances: &[Instance<'s, 'a>],
+) -> Result<Vec<Row<'s, 'a>>, NoMemory>
     ensures { IfOk result (λ rows. rows.items ≡ all_rows instances.now) }
 {
     let mut rows = Vec::new(alloc);
-    rows.push(object_row())?;
+    rows.push(object_row(instances))?;
     for instance in instances {
         push_rows(&mut rows, instance)?;
     }
     Ok(rows)
 }
 
-/// The row of the role that every policy has.
-fn object_row<'a>() -> Row<'a>
+/// The row of the role that every policy has. The instances are there for their lifetimes alone.
+fn object_row<'s, 'a>(_instances: &[Instance<'s, 'a>]) -> Row<'s, 'a>
     ensures { result ≡ object_row }
 {
     Row {
@@ -50,7 +53,10 @@ fn object_row<'a>() -> Row<'a>
 }
 
 /// Adds the rows of an instance.
-fn push_rows<'a>(rows: &mut Vec<Row<'a>>, instance: &Instance<'a>) -> Result<(), NoMemory>
+fn push_rows<'s, 'a>(
+    rows: &mut Vec<Row<'s, 'a>>,
+    instance: &Instance<'s, 'a>,
+) -> Result<(), NoMemory>
     ensures { OnOk result (rows.new.items ≡ rows.old.items ++ rows_by instance.now) }
 {
     let Some(kind) = kind_declared(instance.statement.keyword) else {
@@ -84,7 +90,7 @@ fn kind_declared(keyword: Keyword) -> Option<Kind>
     }
 }
 
-impl<'a> Row<'a> {
+impl<'s, 'a> Row<'s, 'a> {
     /// The order of rows: by namespace, name and name space.
     pub fn compare(&self, other: &Row) -> Ordering
         ensures { result ≡ key_cmp (row_key self.now) (row_key other.now) }
@@ -96,7 +102,7 @@ impl<'a> Row<'a> {
     }
 
     /// The numbers of the optionals round the declaring statement.
-    pub fn round(&self) -> &'a [usize]
+    pub fn round(&self) -> &'s [usize]
         ensures { result.now ≡ round_at self.now.instance }
     {
         match self.instance {
@@ -106,7 +112,7 @@ impl<'a> Row<'a> {
     }
 
     /// The numbers of the namespaces in which the words of the declaring statement are looked up.
-    pub fn scope(&self) -> &'a [usize]
+    pub fn scope(&self) -> &'s [usize]
         ensures { result.now ≡ scope_numbers self.now.instance }
     {
         match self.instance {
@@ -116,14 +122,27 @@ impl<'a> Row<'a> {
     }
 
     /// What the declaring statement says behind the declared name.
-    pub fn content(&self) -> &'a [Term<'a>]
+    pub fn content(&self) -> &'s [Term<'a>]
         ensures { result.now ≡ terms_behind self.now.instance }
     {
-        match self.instance {
-            Some(instance) => behind_first(instance.statement.args.as_slice()),
-            None => &[],
-        }
+        behind_name(self.instance)
     }
+}
+
+/// What the statement of an instance says behind its first term; nothing where there is no instance.
+fn behind_name<'s, 'a>(instance: Option<Instance<'s, 'a>>) -> &'s [Term<'a>]
+    ensures { result.now ≡ terms_behind instance.entry }
+{
+    match instance {
+        Some(instance) => behind_first(instance.statement.args.as_slice()),
+        None => no_terms(),
+    }
+}
+
+fn no_terms<'t, 'a>() -> &'t [Term<'a>]
+    ensures { result.now ≡ [] }
+{
+    &[]
 }
 
 fn behind_first<'t, 'a>(terms: &'t [Term<'a>]) -> &'t [Term<'a>]

@@ -18,17 +18,17 @@ use std::alloc::Global;
 
 /// The rows of one name of a name space in a namespace.
 #[derive(Clone, Copy)]
-pub struct Run<'r, 'a> {
+pub struct Run<'r, 's, 'a> {
     /// The first of them.
-    pub first: &'r Row<'a>,
+    pub first: &'r Row<'s, 'a>,
     /// All of them.
-    pub rows: &'r [Row<'a>],
+    pub rows: &'r [Row<'s, 'a>],
     /// Whether one of them declares another symbol than the first.
     pub differing: bool,
 }
 
 /// The rows in the order of their keys.
-pub fn sorted_rows<'a>(mut rows: Vec<Row<'a>>) -> Vec<Row<'a>>
+pub fn sorted_rows<'s, 'a>(mut rows: Vec<Row<'s, 'a>>) -> Vec<Row<'s, 'a>>
     ensures same { IsPermutation rows.entry.items result.items }
     ensures sorted { IsSortedByKey row_key key_cmp result.items }
 {
@@ -37,7 +37,10 @@ pub fn sorted_rows<'a>(mut rows: Vec<Row<'a>>) -> Vec<Row<'a>>
 }
 
 /// The runs of sorted rows. Each costs a search by halving, and a comparison of each row with the first.
-pub fn runs_of<'r, 'a>(alloc: Global, rows: &'r [Row<'a>]) -> Result<Vec<Run<'r, 'a>>, NoMemory>
+pub fn runs_of<'r, 's, 'a>(
+    alloc: Global,
+    rows: &'r [Row<'s, 'a>],
+) -> Result<Vec<Run<'r, 's, 'a>>, NoMemory>
     requires { IsSortedByKey row_key key_cmp rows.now }
     ensures { IfOk result (λ runs. (ss : List Space) → AreSpaces ss → ((r : Row) → Contains rows.now r → IsPlacedRow ss r) → AreRuns ss rows.now runs.items) }
 {
@@ -52,7 +55,7 @@ pub fn runs_of<'r, 'a>(alloc: Global, rows: &'r [Row<'a>]) -> Result<Vec<Run<'r,
 }
 
 /// The run that begins at a place of sorted rows.
-fn run_at<'r, 'a>(rows: &'r [Row<'a>], start: usize) -> Run<'r, 'a>
+fn run_at<'r, 's, 'a>(rows: &'r [Row<'s, 'a>], start: usize) -> Run<'r, 's, 'a>
     requires sorted { IsSortedByKey row_key key_cmp rows.now }
     requires within { start < length rows.now }
     ensures { IsNextRun rows.now start result }
@@ -67,7 +70,7 @@ fn run_at<'r, 'a>(rows: &'r [Row<'a>], start: usize) -> Run<'r, 'a>
     }
 }
 
-fn from<'r, 'a>(rows: &'r [Row<'a>], start: usize) -> &'r [Row<'a>]
+fn from<'r, 's, 'a>(rows: &'r [Row<'s, 'a>], start: usize) -> &'r [Row<'s, 'a>]
     requires { start ≤ length rows.now }
     ensures { result.now ≡ drop start rows.now }
 {

@@ -13,6 +13,8 @@ mod compiling;
 #[cfg(test)]
 mod decisions;
 #[cfg(test)]
+mod declared_names;
+#[cfg(test)]
 mod fault_lists;
 #[cfg(test)]
 mod forms;
