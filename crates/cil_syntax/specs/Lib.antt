@@ -10,6 +10,7 @@ pub mod Laws
 pub mod Listing
 pub mod Places
 pub mod Printed
+pub mod Program
 pub mod Refusal
 pub mod Reported
 pub mod Said

@@ -26,6 +26,8 @@ pub struct Statement<'a> {
     pub keyword: Keyword,
     /// Where its list begins.
     pub at: Spot,
+    /// The number of the statement in which it directly stands; none at the top of its module.
+    pub under: Option<usize>,
     /// What is behind its word.
     pub args: Vec<Term<'a>>,
 }

@@ -67,6 +67,7 @@ impl<'a> Reader<'a> {
             Ok(args) => Ok(Some(Statement {
                 keyword: entry.keyword,
                 at: Spot::of(self.number, at),
+                under: None,
                 args,
             })),
             Err(Stop::OtherShape) => {

@@ -1,5 +1,5 @@
 use Rattle.std.proofs.Common.{◌≡◌, length, rules, subst, sym}
-use Rattle.std.specs.Prelude.{Some}
+use Rattle.std.specs.Prelude.{Some, None}
 use Rattle.cil_sexpr.specs.View.{nodes_of}
 use Rattle.cil_syntax.specs.declared.term.Spot.{Spot}
 use Rattle.cil_syntax.specs.Shapes.{cells_of}
@@ -22,7 +22,7 @@ returns-in-Ok c =
     let m = c.args.self.now.number in
     let cells = cells_of m (nodes_of c.args.self.now.text.now c.args.nodes.now) in
     subst (λ (s : Spot). IsJudged m (by_entry at_top (spot_at m c.args.at) c.args.word.now cells (entry_named c.args.word.now)) c.args.faults.now.items
-    c.read_row.new.faults.items (Some record { keyword = c.in-Some.entry.now.keyword; at = s; args = c.in-Ok.args }))
+    c.read_row.new.faults.items (Some record { keyword = c.in-Some.entry.now.keyword; at = s; under = None; args = c.in-Ok.args }))
     (sym c.of.ensures)
     (judged_shaped (spot_at m c.args.at) c.args.word.now cells c.in-Some.entry.now c.in-Some.ensures c.args.faults.now.items c.read_row.new.faults.items
     c.in-Ok.args c.in-Ok.ensures)
