@@ -8,7 +8,7 @@ use Rattle.cil_syntax.specs.declared.kind.Sign.{Sign}
 use Rattle.cil_syntax.specs.Spelling.{same_bytes}
 use Rattle.cil_names.specs.declared.entry.Entry.{Entry}
 use Rattle.cil_names.specs.declared.space.Space.{Space}
-use Rattle.cil_names.specs.Entries.{AreOrdered, HasNoEntry, IsEntryAt, candidate, is_entry, is_entry_of, place_where}
+use Rattle.cil_names.specs.Entries.{AreOrdered, HasNoEntry, IsEntryAt, candidate, is_entry, is_entry_of, place_where, HasNoEntryIn, IsEntryIn}
 use Rattle.cil_names.specs.Item.{Namespace}
 use Rattle.cil_names.specs.Resolves.{is_wanted, names_backwards, same_space}
 use Rattle.cil_names.specs.Spaces.{AreSpaces, HasNoNumber, IsAskedAt, IsAskedNowhere, IsNumber, space_at}
@@ -116,6 +116,10 @@ module _ (ss : List Space) (are : AreSpaces ss) (es : List Entry) (ordered : Are
     answer None none = sym (place_none (is_entry_of ss name sign n) es (λ m e at t. none m e at (by_number m e at t)))
     answer (Some d) some =
         sym (place_some (is_entry_of ss name sign n) es d some.entry some.at (by_space some.entry some.fits) (λ m e at t. some.only m e at (by_number m e at t)))
+
+    pub entry_in_space : (r : Option ℕ) → MatchOption r (HasNoEntry es name sign k) (IsEntryAt es name sign k) → MatchOption r (HasNoEntryIn ss es name sign n) (IsEntryIn ss es name sign n)
+    entry_in_space None none = λ m e at t. none m e at (by_number m e at t)
+    entry_in_space (Some d) some = record { entry = some.entry; at = some.at; fits = by_space some.entry some.fits; only = λ m e at t. some.only m e at (by_number m e at t) }
 
 module _ (ss : List Space) (are : AreSpaces ss) (es : List Entry) (ordered : AreOrdered ss es) (sign : Sign) (from : ℕ) (path : List ℕ) where
   pub nowhere : IsAskedNowhere ss from path → (name : List ℕ) (inner : List (List ℕ)) → names_backwards path ≡ name ∷ inner

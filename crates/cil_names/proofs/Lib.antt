@@ -10,7 +10,6 @@ pub mod DeclareLists
 pub mod DeclareNamed
 pub mod DeclareRowLemmas
 pub mod DeclareRunLemmas
-pub mod DeclareSpelled
 pub mod EntryLemmas
 pub mod FillLemmas
 pub mod KindLemmas
@@ -20,6 +19,7 @@ pub mod MeaningLemmas
 pub mod NumberLemmas
 pub mod OrderLemmas
 pub mod PathLemmas
+pub mod PermissionLemmas
 pub mod Qualified
 pub mod RisingLemmas
 pub mod RowLemmas

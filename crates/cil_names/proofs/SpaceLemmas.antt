@@ -1,6 +1,8 @@
 -- Namespaces and their numbers: each number has one namespace, and each namespace at most one number.
-use Rattle.std.proofs.Common.{◌≡◌, ℕ, zero, suc, ◌+◌, ◌<◌, ◌≤◌, List, [], ◌∷◌, ◌++◌, length, get_or, refl, sym, ◌∙◌, ap, arith}
-use Rattle.std.specs.Prelude.{Some, slice_get}
+use Rattle.std.proofs.Common.{◌≡◌, ℕ, zero, suc, ◌+◌, ◌<◌, ◌≤◌, List, [], ◌∷◌, ◌++◌, length, get_or, refl, sym, ◌∙◌, ap, subst, arith}
+use Rattle.std.specs.Prelude.{Some, None, slice_get}
+use Rattle.std.specs.List.Sorted.{IsStrictlySortedBy}
+use Rattle.std.specs.Ordering.{on}
 use Rattle.std.proofs.lemmas.List.{get_or_append_left, length-append}
 use Rattle.std.proofs.Math.Seq.{get_or-append_seam}
 use Rattle.std.proofs.lemmas.Option.{slice_get_within}
@@ -132,3 +134,11 @@ module _ (ss : List Space) (are : AreSpaces ss) where
       (same_number (space_at ss outer) s.outer outer
       (record { within = omega (arith, b, p.within); is = tails _ _ _ _ e }) (record { within = within; is = refl }))
       (heads _ _ _ _ e))
+
+-- no namespace but the global one
+nothing_rises : IsStrictlySortedBy (on place_of place_cmp) []
+unfolding IsStrictlySortedBy
+nothing_rises = tt
+
+pub no_spaces : (ss : List Space) → ss ≡ [] → AreSpaces ss
+no_spaces ss e = subst AreSpaces (sym e) (record { rising = nothing_rises; behind = λ i s at. absurd (let f : None ≡ Some s = at in cc) })

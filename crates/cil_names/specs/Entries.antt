@@ -102,6 +102,16 @@ place_where p (x ∷ xs) = cond (p x) (Some 0) (option_map suc (place_where p xs
 abbrev pub is_entry_of : List Space → List ℕ → Sign → Namespace → Entry → Bool
 is_entry_of ss name sign n e = same_space (space_at ss e.space) n && same_bytes e.name name && is_wanted sign e.kind
 
+-- the number of the entry of a wanted kind, with this name in this namespace
+pub record IsEntryIn (ss : List Space) (es : List Entry) (name : List ℕ) (sign : Sign) (n : Namespace) (d : ℕ) : Type 0 where
+  pub entry : Entry
+  pub at : slice_get es d ≡ Some entry
+  pub fits : is_entry_of ss name sign n entry ≡ true
+  pub only : (m : ℕ) (e : Entry) → slice_get es m ≡ Some e → is_entry_of ss name sign n e ≡ true → m ≡ d
+
+abbrev pub HasNoEntryIn : List Space → List Entry → List ℕ → Sign → Namespace → Type 0
+HasNoEntryIn ss es name sign n = (m : ℕ) (e : Entry) → slice_get es m ≡ Some e → is_entry_of ss name sign n e ≡ true → ⊥
+
 -- the number of the entry of a wanted kind under this name in a namespace
 abbrev pub candidate : List Space → List Entry → List ℕ → Sign → Namespace → Option ℕ
 candidate ss es name sign n = place_where (is_entry_of ss name sign n) es

@@ -8,6 +8,7 @@ pub mod Item
 pub mod Judging
 pub mod Meanings
 pub mod Numbers
+pub mod Permissions
 pub mod Placed
 pub mod Resolves
 pub mod Rows

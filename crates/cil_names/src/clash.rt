@@ -3,18 +3,17 @@
 ghost use Rattle.std.specs.Prelude.{◌≡◌, ◌≤◌, ◌++◌, Contains, IfOk, OnOk, length};
 ghost use Rattle.std.specs.List.{flat_map};
 ghost use Rattle.cil_syntax.specs.Refusal.{Answers};
-ghost use Rattle.cil_syntax.specs.Written.{qualified};
 ghost use Rattle.cil_names.specs.declared.row.Row.{Row};
 ghost use Rattle.cil_names.specs.declared.run.Run.{Run};
 ghost use Rattle.cil_names.specs.DeclareRows.{IsPlacedRow};
 ghost use Rattle.cil_names.specs.DeclareRuns.{faults_at, row_faults, run_faults};
-ghost use Rattle.cil_names.specs.Spaces.{AreSpaces, space_at};
+ghost use Rattle.cil_names.specs.Spaces.{AreSpaces};
 
 use crate::instance::Instance;
 use crate::row::Row;
 use crate::run::Run;
 use crate::space::Space;
-use crate::spelled::spelled;
+use crate::spelled::spelled_space;
 use cil_modset::NoMemory;
 use cil_syntax::{Bytes, Failure, Fault, FaultCode, FaultList};
 use std::alloc::Global;
@@ -113,17 +112,4 @@ fn push_clash(
         word,
     })?;
     Ok(())
-}
-
-/// The qualified name of the namespace of a number: that of the global namespace is empty.
-fn spelled_space(alloc: Global, spaces: &[Space], number: usize) -> Result<Bytes, NoMemory>
-    requires spaces { AreSpaces spaces.now }
-    requires within { number ≤ length spaces.now }
-    ensures { IfOk result (λ bytes. bytes ≡ qualified (space_at spaces.now number)) }
-{
-    if number == 0 {
-        return Ok(Bytes::from_vec(Vec::new(alloc)));
-    }
-    let space = &spaces[number - 1];
-    spelled(alloc, spaces, space.outer, space.name.as_slice())
 }

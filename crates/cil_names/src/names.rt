@@ -5,7 +5,8 @@ ghost use Rattle.std.specs.List.Sorted.{IsStrictlySortedBy};
 ghost use Rattle.std.specs.Ordering.{on};
 ghost use Rattle.cil_names.specs.declared.instance.Instance.{Instance};
 ghost use Rattle.cil_names.specs.declared.entry.Entry.{Entry};
-ghost use Rattle.cil_names.specs.Entries.{AreEntries, AreOrdered, IsAnswer, candidates_of, is_declared_at, is_in, key_cmp, key_of, scoped};
+ghost use Rattle.cil_names.specs.Entries.{AreEntries, AreOrdered, HasNoEntryIn, IsAnswer, IsEntryIn, candidates_of, is_declared_at, is_in, key_cmp, key_of, scoped};
+ghost use Rattle.cil_names.specs.Spaces.{space_at};
 
 use crate::entry::Entry;
 use crate::kinds::rank_of;
@@ -13,7 +14,7 @@ use crate::look;
 use crate::opt_set::OptSet;
 use crate::space::Spaces;
 use cil_modset::NoMemory;
-use cil_syntax::Word;
+use cil_syntax::{Sign, Word};
 use std::alloc::Global;
 use std::marker::Model;
 
@@ -73,6 +74,18 @@ impl<'a> Names<'a> {
         ensures rising { IsStrictlySortedBy (on key_of key_cmp) result.now }
     {
         self.entries.as_slice()
+    }
+
+    /// The number of the entry of a wanted kind under this name in the namespace of this number, whatever is enabled. It
+    /// costs one search by halving.
+    pub fn entry(&self, spaces: &Spaces, space: usize, name: &[u8], sign: Sign) -> Option<usize>
+        requires ordered { AreOrdered spaces.now self.now }
+        requires within { space ≤ length spaces.now }
+        ensures { MatchOption result (HasNoEntryIn spaces.now self.now name.now sign (space_at spaces.now space)) (IsEntryIn spaces.now self.now name.now sign (space_at spaces.now space)) }
+    {
+        // What is known of the numbers of namespaces.
+        let _ = spaces.as_slice();
+        look::entry_in(self.entries.as_slice(), space, name, sign)
     }
 
     /// The numbers of the entries that a word could name, whatever is enabled, in the order of its scope. Each

@@ -7,6 +7,7 @@ ghost use Rattle.cil_names.specs.Spaces.{AreSpaces, HasNoNumber, IsAskedAt, IsAs
 
 use crate::path::parted;
 use cil_syntax::Excerpt;
+use std::alloc::Global;
 use std::marker::Model;
 
 /// A namespace that is not the global one. Its number is its place in the list of all, counted from 1; the global
@@ -39,8 +40,17 @@ impl<'a> Model for Spaces<'a> {
 }
 
 impl<'a> Spaces<'a> {
-    ghost use Rattle.std.specs.Prelude.{◌≡◌, ◌↔◌, ◌≤◌, All, IsTrue, MatchOption, length};
+    ghost use Rattle.std.specs.Prelude.{◌≡◌, ◌↔◌, ◌≤◌, [], All, IsTrue, MatchOption, length};
     ghost use Rattle.cil_names.specs.Spaces.{AreSpaces};
+
+    /// No namespace but the global one.
+    pub fn global(alloc: Global) -> Spaces<'a>
+        ensures { result ≡ [] }
+    {
+        Spaces {
+            spaces: Vec::new(alloc),
+        }
+    }
 
     /// These namespaces.
     pub fn of(spaces: Vec<Space<'a>>) -> Spaces<'a>

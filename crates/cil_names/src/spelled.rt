@@ -5,7 +5,7 @@ ghost use Rattle.cil_syntax.specs.Written.{qualified};
 ghost use Rattle.cil_names.specs.Numbers.{dotted};
 ghost use Rattle.cil_names.specs.Spaces.{AreSpaces, space_at};
 
-use crate::space::Space;
+use crate::space::{Space, Spaces};
 use cil_modset::NoMemory;
 use cil_syntax::Bytes;
 use std::alloc::Global;
@@ -25,6 +25,20 @@ pub fn spelled(
     push_dotted(&mut bytes, spaces, space)?;
     bytes.extend_from_slice(name)?;
     Ok(Bytes::from_vec(bytes))
+}
+
+impl Spaces<'_> {
+    ghost use Rattle.std.specs.Prelude.{◌≡◌, ◌≤◌, IfOk, length};
+    ghost use Rattle.cil_syntax.specs.Written.{qualified};
+    ghost use Rattle.cil_names.specs.Spaces.{space_at};
+
+    /// The qualified name of the namespace of this number; empty for the global one.
+    pub fn spelled(&self, alloc: Global, number: usize) -> Result<Bytes, NoMemory>
+        requires { number ≤ length self.now }
+        ensures { IfOk result (λ bytes. bytes ≡ qualified (space_at self.now number)) }
+    {
+        spelled_space(alloc, self.as_slice(), number)
+    }
 }
 
 /// The qualified name of the namespace of this number; empty for the global one.

@@ -1,0 +1,458 @@
+-- The permissions that statements list for classes.
+use Rattle.std.specs.Prelude.{Contains, Option, Some, None, slice_get}
+use Rattle.std.specs.Cmp.Lexicographic.{bytes_decides}
+use Rattle.std.specs.Global.{Vec}
+use Rattle.std.specs.List.{list_all, list_any}
+use Rattle.std.specs.List.Sorted.{IsStrictlySortedBy}
+use Rattle.std.specs.Option.{option_map_or, unwrap_or}
+use Rattle.std.proofs.Common.{◌≡◌, ◌⊎◌, ℕ, ◌+◌, ◌<◌, ◌≤◌, ◌&&◌, ◌||◌, Bool, true, false, List, [], ◌∷◌, ◌++◌, length, take, get_or, set, refl, sym, ◌∙◌, ap, subst, inl, inr, arith, append_assoc}
+use Rattle.std.proofs.lemmas.Bool.{and_from, and_parts, cases_Bool, cases_eq, or_cases, true≢false}
+use Rattle.std.proofs.lemmas.List.{append-nil, take_more, take_all, length-set, get_or-set_same, get_or-set_other}
+use Rattle.std.proofs.lemmas.List.Elements.{Contains-append_cases, Contains-append_left, Contains-append_right}
+use Rattle.std.proofs.lemmas.List.Folds.{list_any-append}
+use Rattle.std.proofs.lemmas.Option.{slice_get-get_or, slice_get_within, get_or_from_slice_get}
+use Rattle.cil_sexpr.specs.Lists.{Lists, text_cmp, contains_cases, contains_here, contains_none}
+use Rattle.cil_syntax.specs.declared.fault.Bytes.{Bytes}
+use Rattle.cil_syntax.specs.declared.kind.Keyword.{Keyword}
+use Rattle.cil_syntax.specs.declared.kind.Keyword.TheVariants as keywords
+use Rattle.cil_syntax.specs.declared.kind.Kind.{Kind}
+use Rattle.cil_syntax.specs.declared.kind.Kind.TheVariants as kinds
+use Rattle.cil_syntax.specs.declared.kind.Sign.{Sign}
+use Rattle.cil_syntax.specs.declared.kind.Sign.TheVariants as signs
+use Rattle.cil_syntax.specs.declared.term.Spot.{Spot}
+use Rattle.cil_syntax.specs.declared.term.Term as rust
+use Rattle.cil_syntax.specs.declared.term.Word.{Word}
+use Rattle.cil_syntax.specs.Forms.{listed_behind_name}
+use Rattle.cil_syntax.specs.Said.{all_said, args_of, said_of}
+use Rattle.cil_syntax.specs.Spelling.{same_bytes}
+use Rattle.cil_syntax.specs.Table.{entry_of}
+use Rattle.cil_syntax.specs.Terms.{Leaf, Name, Form, Term, Terms, nil, cons}
+use Rattle.cil_names.specs.declared.entry.Entry.{Entry}
+use Rattle.cil_names.specs.declared.instance.Instance.{Instance}
+use Rattle.cil_names.specs.declared.space.Space.{Space}
+use Rattle.cil_names.specs.Declarations.{Declaration, Symbol, content_of, declarations, declared_by}
+use Rattle.cil_names.specs.Entries.{AreOrdered, HasNoEntry, IsEntryAt, item_of, items_of, scoped}
+use Rattle.cil_names.specs.Item.{Item, ScopedWord, all_replaced, is_enabled, names_in, nobody}
+use Rattle.cil_names.specs.Numbers.{symbol_of}
+use Rattle.cil_names.specs.Permissions.{AreEmpty, DeclaresClass, DeclaresNoClass}
+use Rattle.cil_names.specs.Placed.{IsPlaced}
+use Rattle.cil_names.specs.Resolves.{fits, gives_permission, has_permission, is_wanted, listed_permissions, same_space}
+use Rattle.cil_names.specs.Spaces.{AreSpaces, space_at}
+use Rattle.cil_names.specs.Unresolved.{ArePermissions, listed_at}
+use Rattle.cil_names.proofs.CandidateLemmas.{spaces_decide}
+use Rattle.cil_names.proofs.DeclLemmas.{any_from, any_true}
+use Rattle.cil_names.proofs.EntryLemmas.{one_some, parts_fit, they_fit}
+use Rattle.cil_names.proofs.ListLemmas.{from_map}
+use Rattle.cil_names.proofs.NumberLemmas.{nothing_rises}
+use Rattle.cil_names.proofs.SearchLemmas.{member_of_number, number_of_member}
+use Rattle.cil_names.proofs.SpaceLemmas.{same_number}
+
+same_bools : (a b : Bool) → (a ≡ true → b ≡ true) → (b ≡ true → a ≡ true) → a ≡ b
+same_bools true b there back = sym (there refl)
+same_bools false true there back = back refl
+same_bools false false there back = refl
+
+-- ---- the names among terms
+
+names_of_first : (t : Term Word) (ts : Terms Word) → names_in (cons t ts) ≡ names_in (cons t nil) ++ names_in ts
+unfolding names_in
+names_of_first (Leaf w) ts = refl
+names_of_first (Name at name) ts = refl
+names_of_first (Form at op parts) ts = refl
+
+module _ (m : ℕ) where
+  no_names : names_in (all_said m []) ≡ []
+  unfolding names_in
+  no_names = refl
+
+  names_of_two : (xs : List rust.Term) (t : rust.Term) → names_in (all_said m (xs ++ t ∷ [])) ≡ names_in (all_said m xs) ++ names_in (all_said m (t ∷ []))
+  names_of_two [] t = sym (ap (λ z. z ++ names_in (all_said m (t ∷ []))) no_names)
+  names_of_two (x ∷ xs) t =
+      names_of_first (said_of m x) (all_said m (xs ++ t ∷ []))
+      ∙ ap (λ z. names_in (cons (said_of m x) nil) ++ z) (names_of_two xs t)
+      ∙ sym (append_assoc (names_in (cons (said_of m x) nil)) (names_in (all_said m xs)) (names_in (all_said m (t ∷ []))))
+      ∙ ap (λ z. z ++ names_in (all_said m (t ∷ []))) (sym (names_of_first (said_of m x) (all_said m xs)))
+
+  pub names_begun : (xs : List rust.Term) (old : List (List ℕ)) → old ≡ old ++ names_in (all_said m (take 0 xs))
+  names_begun [] old = sym (ap (λ z. old ++ z) no_names ∙ append-nil old)
+  names_begun (x ∷ xs) old = sym (ap (λ z. old ++ z) no_names ∙ append-nil old)
+
+  pub names_more : (xs : List rust.Term) (i : ℕ) (x : rust.Term) (start old new : List (List ℕ)) → i < length xs → x ≡ get_or xs i x
+      → old ≡ start ++ names_in (all_said m (take i xs)) → new ≡ old ++ names_in (all_said m (x ∷ [])) → new ≡ start ++ names_in (all_said m (take (i + 1) xs))
+  names_more xs i x start old new within is was push =
+      push ∙ ap (λ z. z ++ names_in (all_said m (x ∷ []))) was
+      ∙ append_assoc start (names_in (all_said m (take i xs))) (names_in (all_said m (x ∷ [])))
+      ∙ ap (λ z. start ++ z) (sym (ap (λ ts. names_in (all_said m ts)) (take_more xs i x within ∙ ap (λ z. take i xs ++ z ∷ []) (sym is)) ∙ names_of_two (take i xs) x))
+
+  pub names_all : (xs : List rust.Term) (i : ℕ) (start new : List (List ℕ)) → new ≡ start ++ names_in (all_said m (take i xs)) → length xs ≤ i
+      → new ≡ start ++ names_in (all_said m xs)
+  names_all xs i start new is over = is ∙ ap (λ ts. start ++ names_in (all_said m ts)) (take_all i xs over)
+
+-- ---- what a statement lists, as an item
+
+module _ (f : Word → ScopedWord) where
+  names_said : (ts : Terms Word) → names_in (all_replaced (λ at. at) f ts) ≡ names_in ts
+  unfolding names_in all_replaced
+  names_said nil = refl
+  names_said (cons (Leaf w) ts) = names_said ts
+  names_said (cons (Name at name) ts) = ap (λ z. name ∷ z) (names_said ts)
+  names_said (cons (Form at op parts) ts) = names_said ts
+
+  listed_said : (ts : Terms Word) → listed_permissions (all_replaced (λ at. at) f ts) ≡ listed_permissions ts
+  unfolding all_replaced
+  listed_said nil = refl
+  listed_said (cons (Leaf w) ts) = refl
+  listed_said (cons (Form at op parts) ts) = refl
+  listed_said (cons (Name at name) nil) = refl
+  listed_said (cons (Name at name) (cons (Leaf w) ts)) = refl
+  listed_said (cons (Name at name) (cons (Name bt other) ts)) = refl
+  listed_said (cons (Name at name) (cons (Form bt op parts) ts)) = names_said parts
+
+permissions_in : (ts : Terms Word) → listed_permissions ts ≡ option_map_or names_in (listed_behind_name ts) []
+permissions_in nil = refl
+permissions_in (cons (Leaf w) ts) = refl
+permissions_in (cons (Form at op parts) ts) = refl
+permissions_in (cons (Name at name) nil) = refl
+permissions_in (cons (Name at name) (cons (Leaf w) ts)) = refl
+permissions_in (cons (Name at name) (cons (Name bt other) ts)) = refl
+permissions_in (cons (Name at name) (cons (Form bt op parts) ts)) = refl
+
+-- only a class statement declares what is wanted as a class
+class_keyword : (k : Keyword) (kind : Kind) → Contains (entry_of k).declares kind → is_wanted signs.Classes kind ≡ true → k ≡ keywords.Class
+unfolding entry_of
+class_keyword keywords.Class kind c wanted = refl
+class_keyword keywords.Type_ kind c wanted = absurd (elim (contains_cases kind kinds.Type_ [] c) [ inl e ↦ true≢false (sym wanted ∙ ap (is_wanted signs.Classes) (sym e)) | inr n ↦ contains_none kind n ])
+class_keyword keywords.Role kind c wanted = absurd (elim (contains_cases kind kinds.Role [] c) [ inl e ↦ true≢false (sym wanted ∙ ap (is_wanted signs.Classes) (sym e)) | inr n ↦ contains_none kind n ])
+class_keyword keywords.User kind c wanted = absurd (elim (contains_cases kind kinds.User [] c) [ inl e ↦ true≢false (sym wanted ∙ ap (is_wanted signs.Classes) (sym e)) | inr n ↦ contains_none kind n ])
+class_keyword keywords.RoleType kind c wanted = absurd (contains_none kind c)
+class_keyword keywords.UserRole kind c wanted = absurd (contains_none kind c)
+class_keyword keywords.Allow kind c wanted = absurd (contains_none kind c)
+class_keyword keywords.Block kind c wanted = absurd (contains_none kind c)
+class_keyword keywords.BlockAbstract kind c wanted = absurd (contains_none kind c)
+class_keyword keywords.BlockInherit kind c wanted = absurd (contains_none kind c)
+class_keyword keywords.Macro kind c wanted = absurd (contains_none kind c)
+class_keyword keywords.Call kind c wanted = absurd (contains_none kind c)
+class_keyword keywords.SetAside kind c wanted = absurd (contains_none kind c)
+
+class_declares : (entry_of keywords.Class).declares ≡ kinds.Class ∷ []
+unfolding entry_of
+class_declares = refl
+
+-- ---- what an instance gives
+
+none_on : (round : List ℕ) → list_all nobody round ≡ true → round ≡ []
+none_on [] e = refl
+none_on (o ∷ os) e = absurd (true≢false (sym e))
+
+module _ (ss : List Space) (i : Instance) where
+  abbrev f : Word → ScopedWord
+  f = scoped ss i.scope.now
+
+  -- where a declaration comes from
+  record IsFront (declares : List Kind) (args : Terms Word) (d : Declaration) : Type 0 where
+    at : Spot
+    name : List ℕ
+    rest : Terms Word
+    says : args ≡ cons (Name at name) rest
+    named : d.name ≡ name
+    spaced : d.space ≡ space_at ss i.space
+    declared : Contains declares d.kind
+
+  front_of : (declares : List Kind) (args : Terms Word) (d : Declaration) → Contains (declarations (space_at ss i.space) declares (all_replaced (λ at. at) f args)) d → IsFront declares args d
+  unfolding all_replaced
+  front_of declares nil d c = absurd (contains_none d c)
+  front_of declares (cons (Leaf w) rest) d c = absurd (contains_none d c)
+  front_of declares (cons (Form at op parts) rest) d c = absurd (contains_none d c)
+  front_of declares (cons (Name at name) rest) d c =
+      let (kind, ck, e) = from_map (λ (k : Kind). record { kind = k; space = space_at ss i.space; name = name; content = content_of (all_replaced (λ bt. bt) f rest) }) declares d c in
+      record {
+        at = at;
+        name = name;
+        rest = rest;
+        says = refl;
+        named = ap (λ (x : Declaration). x.name) (sym e);
+        spaced = ap (λ (x : Declaration). x.space) (sym e);
+        declared = subst (Contains declares) (ap (λ (x : Declaration). x.kind) e) ck;
+      }
+
+  -- what gives a permission to a class declares it
+  record Gives (c : Symbol) (p : List ℕ) : Type 0 where
+    declares : DeclaresClass i c.name
+    spaced : space_at ss i.space ≡ c.space
+    lists : list_any (same_bytes p) (listed_permissions (args_of i.statement.now)) ≡ true
+
+  gives_only : (c : Symbol) (p : List ℕ) → gives_permission c p (item_of ss i) ≡ true → Gives c p
+  gives_only c p e =
+      let x = item_of ss i in
+      let (front, lists) = and_parts (is_enabled nobody x && list_any (fits c.name signs.Classes c.space) (declared_by x)) (list_any (same_bytes p) (listed_permissions x.args)) e in
+      let (on, some) = and_parts (is_enabled nobody x) (list_any (fits c.name signs.Classes c.space) (declared_by x)) front in
+      let (d, cd, fit) = any_true (fits c.name signs.Classes c.space) (declared_by x) some in
+      let (named, spaced) = and_parts (same_bytes d.name c.name && is_wanted signs.Classes d.kind) (same_space d.space c.space) fit in
+      let (same, wanted) = and_parts (same_bytes d.name c.name) (is_wanted signs.Classes d.kind) named in
+      let is = front_of (entry_of i.statement.now.keyword).declares (args_of i.statement.now) d cd in
+      record {
+        declares = record {
+          outside = none_on i.round.now on;
+          keyword = class_keyword i.statement.now.keyword d.kind is.declared wanted;
+          at = is.at;
+          rest = is.rest;
+          says = is.says ∙ ap (λ n. cons (Name is.at n) is.rest) (sym is.named ∙ (bytes_decides d.name c.name).0 same);
+        };
+        spaced = sym is.spaced ∙ (spaces_decide d.space c.space).0 spaced;
+        lists = ap (list_any (same_bytes p)) (sym (listed_said f (args_of i.statement.now))) ∙ lists;
+      }
+
+  begun : (at : Spot) (name : List ℕ) (rest : Terms Word)
+      → declarations (space_at ss i.space) (kinds.Class ∷ []) (all_replaced (λ bt. bt) f (cons (Name at name) rest))
+      ≡ record { kind = kinds.Class; space = space_at ss i.space; name = name; content = content_of (all_replaced (λ bt. bt) f rest) } ∷ []
+  unfolding all_replaced
+  begun at name rest = refl
+
+  gives_from : (c : Symbol) (p : List ℕ) → Gives c p → gives_permission c p (item_of ss i) ≡ true
+  gives_from c p g =
+      and_from _ _
+      (and_from _ _ (ap (list_all nobody) g.declares.outside)
+      (any_from (fits c.name signs.Classes c.space) (declared_by (item_of ss i)) d (subst (λ ds. Contains ds d) (sym declared) (contains_here d []))
+      (and_from _ _ (and_from _ _ ((bytes_decides c.name c.name).1 refl) refl) ((spaces_decide (space_at ss i.space) c.space).1 g.spaced))))
+      (ap (list_any (same_bytes p)) (listed_said f (args_of i.statement.now)) ∙ g.lists)
+    where
+      d : Declaration
+      d = record { kind = kinds.Class; space = space_at ss i.space; name = c.name; content = content_of (all_replaced (λ bt. bt) f g.declares.rest) }
+
+      declared : declared_by (item_of ss i) ≡ d ∷ []
+      declared =
+          ap (λ k. declarations (space_at ss i.space) (entry_of k).declares (all_replaced (λ bt. bt) f (args_of i.statement.now))) g.declares.keyword
+          ∙ ap (λ ks. declarations (space_at ss i.space) ks (all_replaced (λ bt. bt) f (args_of i.statement.now))) class_declares
+          ∙ ap (λ ts. declarations (space_at ss i.space) (kinds.Class ∷ []) (all_replaced (λ bt. bt) f ts)) g.declares.says
+          ∙ begun g.declares.at c.name g.declares.rest
+
+-- ---- the lists of all entries
+
+get_set_same : {X : Type 0} (xs : List X) (n : ℕ) (a : X) → n < length xs → slice_get (set xs n a) n ≡ Some a
+get_set_same xs n a within =
+    let len = length-set xs n a in
+    slice_get-get_or (set xs n a) n a (omega (arith, within, len)) ∙ ap Some (get_or-set_same xs n a a within)
+
+get_set_other : {X : Type 0} (xs : List X) (n m : ℕ) (a : X) → (m ≡ n → ⊥) → slice_get (set xs n a) m ≡ slice_get xs m
+get_set_other {X} xs n m a differ = at _ refl
+  where
+    back : (x : X) → slice_get xs m ≡ Some x → slice_get (set xs n a) m ≡ Some x
+    back x e =
+        let len = length-set xs n a in
+        let within = slice_get_within xs m x e in
+        slice_get-get_or (set xs n a) m x (omega (arith, within, len)) ∙ ap Some (get_or-set_other xs n m a x differ ∙ get_or_from_slice_get xs m x x e)
+
+    there : (x : X) → slice_get (set xs n a) m ≡ Some x → slice_get xs m ≡ Some x
+    there x e =
+        let len = length-set xs n a in
+        let within = slice_get_within (set xs n a) m x e in
+        slice_get-get_or xs m x (omega (arith, within, len)) ∙ ap Some (sym (get_or-set_other xs n m a x differ) ∙ get_or_from_slice_get (set xs n a) m x x e)
+
+    at : (o : Option X) → slice_get xs m ≡ o → slice_get (set xs n a) m ≡ slice_get xs m
+    at (Some x) e = back x e ∙ sym e
+    at None e = missing _ refl ∙ sym e
+      where
+        missing : (o : Option X) → slice_get (set xs n a) m ≡ o → slice_get (set xs n a) m ≡ None
+        missing None g = g
+        missing (Some y) g = absurd (let h : None ≡ Some y = sym e ∙ there y g in cc)
+
+listed_some : (lists : List (Vec Bytes)) (d : ℕ) (v : Vec Bytes) → slice_get lists d ≡ Some v → listed_at lists d ≡ v.items
+listed_some lists d v e = ap (λ o. option_map_or (λ (w : Vec Bytes). w.items) o []) e
+
+-- the number of an entry is a place of the lists
+pub class_within : (lists : List (Vec Bytes)) (es : List Entry) (name : List ℕ) (sign : Sign) (k d : ℕ) → length lists ≡ length es → IsEntryAt es name sign k d → d < length lists
+class_within lists es name sign k d len is = let h = slice_get_within es d is.entry is.at in omega (arith, len, h)
+
+module _ (ss : List Space) (es : List Entry) where
+  empty_at : (lists : List (Vec Bytes)) → AreEmpty es lists → (d : ℕ) → listed_at lists d ≡ []
+  empty_at lists empty d = at _ refl
+    where
+      at : (o : Option (Vec Bytes)) → slice_get lists d ≡ o → listed_at lists d ≡ []
+      at None e = ap (λ o. option_map_or (λ (w : Vec Bytes). w.items) o []) e
+      at (Some v) e = listed_some lists d v e ∙ empty.each v (member_of_number lists d v e)
+
+  -- no instance lists nothing
+  pub nothing_listed : (lists : List (Vec Bytes)) → AreEmpty es lists → ArePermissions ss es (items_of ss (take 0 [])) lists
+  unfolding has_permission
+  nothing_listed lists empty = record {
+    rising = λ v c. subst (IsStrictlySortedBy text_cmp) (sym (empty.each v c)) nothing_rises;
+    each = λ d e at wanted p. ap (list_any (same_bytes p)) (empty_at lists empty d);
+  }
+
+  module _ (xs : List Item) (i : Instance) where
+    abbrev more : List Item
+    more = xs ++ item_of ss i ∷ []
+
+    has_more : (c : Symbol) (p : List ℕ) → has_permission more c p ≡ (has_permission xs c p || (gives_permission c p (item_of ss i) || false))
+    unfolding has_permission
+    has_more c p = list_any-append (gives_permission c p) xs (item_of ss i ∷ [])
+
+    has_same : (c : Symbol) (p : List ℕ) → gives_permission c p (item_of ss i) ≡ false → has_permission more c p ≡ has_permission xs c p
+    has_same c p e = has_more c p ∙ ap (λ b. has_permission xs c p || (b || false)) e ∙ or_false (has_permission xs c p)
+      where
+        or_false : (b : Bool) → (b || false) ≡ b
+        or_false true = refl
+        or_false false = refl
+
+    no_gift : (c : Symbol) (p : List ℕ) → (Gives ss i c p → ⊥) → gives_permission c p (item_of ss i) ≡ false
+    no_gift c p none = elim (cases_Bool (gives_permission c p (item_of ss i))) [ inl t ↦ absurd (none (gives_only ss i c p t)) | inr e ↦ e ]
+
+    kept : (lists : List (Vec Bytes)) → ((d : ℕ) (e : Entry) (p : List ℕ) → slice_get es d ≡ Some e → is_wanted signs.Classes e.kind ≡ true → Gives ss i (symbol_of ss e) p → ⊥)
+        → ArePermissions ss es xs lists → ArePermissions ss es more lists
+    kept lists none are = record {
+      rising = are.rising;
+      each = λ d e at wanted p. are.each d e at wanted p ∙ sym (has_same (symbol_of ss e) p (no_gift (symbol_of ss e) p (none d e p at wanted)));
+    }
+
+    -- the instance declares no class
+    pub kept_without : (lists : List (Vec Bytes)) → DeclaresNoClass i → ArePermissions ss es xs lists → ArePermissions ss es more lists
+    kept_without lists without = kept lists (λ d e p at wanted g. without e.name g.declares)
+
+    module _ (spaces : AreSpaces ss) (ordered : AreOrdered ss es) (placed : IsPlaced ss i) where
+      one_space : (e : Entry) → Contains es e → space_at ss i.space ≡ space_at ss e.space → e.space ≡ i.space
+      one_space e c same =
+          same_number ss spaces (space_at ss e.space) e.space i.space (record { within = ordered.within e c; is = refl }) (record { within = placed.stands; is = same })
+
+      one_name : (a b : List ℕ) → DeclaresClass i a → DeclaresClass i b → a ≡ b
+      one_name a b x y = let e : cons (Name x.at a) x.rest ≡ cons (Name y.at b) y.rest = sym x.says ∙ y.says in cc
+
+      module _ (name : List ℕ) (declares : DeclaresClass i name) where
+        fits_here : (d : ℕ) (e : Entry) (p : List ℕ) → slice_get es d ≡ Some e → is_wanted signs.Classes e.kind ≡ true → Gives ss i (symbol_of ss e) p
+            → (e.space ≡ i.space) × (e.name ≡ name)
+        fits_here d e p at wanted g = (one_space e (member_of_number es d e at) g.spaced, one_name e.name name g.declares declares)
+
+        -- the class has no entry
+        pub kept_unknown : (lists : List (Vec Bytes)) → HasNoEntry es name signs.Classes i.space → ArePermissions ss es xs lists → ArePermissions ss es more lists
+        kept_unknown lists none =
+            kept lists (λ d e p at wanted g. let (space, same) = fits_here d e p at wanted g in none d e at (they_fit name signs.Classes i.space e space same wanted))
+
+        -- the class statement has no list
+        pub kept_unlisted : (lists : List (Vec Bytes)) → listed_behind_name (args_of i.statement.now) ≡ None → ArePermissions ss es xs lists → ArePermissions ss es more lists
+        kept_unlisted lists none =
+            kept lists (λ d e p at wanted g.
+            let empty : listed_permissions (args_of i.statement.now) ≡ [] = permissions_in (args_of i.statement.now) ∙ ap (λ o. option_map_or names_in o []) none in
+            true≢false (sym g.lists ∙ ap (list_any (same_bytes p)) empty))
+
+        -- the names that the statement lists are added to those of the class
+        module _ (old : List (Vec Bytes)) (class_ : ℕ) (is : IsEntryAt es name signs.Classes i.space class_) (before none_yet after : Vec Bytes) (m : ℕ) (items : List rust.Term)
+            (len : length old ≡ length es) (was : slice_get old class_ ≡ Some before) (listed : listed_behind_name (args_of i.statement.now) ≡ Some (all_said m items))
+            (all : Lists text_cmp (Contains (before.items ++ names_in (all_said m items))) after.items) where
+          abbrev new : List (Vec Bytes)
+          new = set (set old class_ none_yet) class_ after
+
+          pub new_len : length new ≡ length es
+          new_len = length-set (set old class_ none_yet) class_ after ∙ length-set old class_ none_yet ∙ len
+
+          within : class_ < length (set old class_ none_yet)
+          within = let a = length-set old class_ none_yet in let b = slice_get_within old class_ before was in omega (arith, a, b)
+
+          here : slice_get new class_ ≡ Some after
+          here = get_set_same (set old class_ none_yet) class_ after within
+
+          elsewhere : (d : ℕ) → (d ≡ class_ → ⊥) → slice_get new d ≡ slice_get old d
+          elsewhere d differ = get_set_other (set old class_ none_yet) class_ d after differ ∙ get_set_other old class_ d none_yet differ
+
+          rises : ((v : Vec Bytes) → Contains old v → IsStrictlySortedBy text_cmp v.items) → (v : Vec Bytes) → Contains new v → IsStrictlySortedBy text_cmp v.items
+          rises up v c =
+              let (d, at) = number_of_member new v c in
+              elim (cases_eq d class_) [
+                | inl e ↦ subst (λ (w : Vec Bytes). IsStrictlySortedBy text_cmp w.items) (some_vec (sym here ∙ ap (slice_get new) (sym e) ∙ at)) all.rising
+                | inr differ ↦ up v (member_of_number old d v (sym (elsewhere d differ) ∙ at))
+              ]
+            where
+              some_vec : {a b : Vec Bytes} → Some a ≡ Some b → a ≡ b
+              some_vec {a} {b} e = ap (λ o. unwrap_or o a) e
+
+          said : listed_permissions (args_of i.statement.now) ≡ names_in (all_said m items)
+          said = permissions_in (args_of i.statement.now) ∙ ap (λ o. option_map_or names_in o []) listed
+
+          -- a name is among the new ones where it was among the old ones or is listed
+          any_all : (p : List ℕ) → list_any (same_bytes p) after.items ≡ (list_any (same_bytes p) before.items || list_any (same_bytes p) (listed_permissions (args_of i.statement.now)))
+          any_all p =
+              same_bools (list_any (same_bytes p) after.items) (list_any (same_bytes p) (before.items ++ names_in (all_said m items)))
+              (λ t. let (x, c, same) = any_true (same_bytes p) after.items t in any_from (same_bytes p) _ x ((all.members x).0 c) same)
+              (λ t. let (x, c, same) = any_true (same_bytes p) (before.items ++ names_in (all_said m items)) t in any_from (same_bytes p) after.items x ((all.members x).1 c) same)
+              ∙ list_any-append (same_bytes p) before.items (names_in (all_said m items))
+              ∙ ap (λ l. list_any (same_bytes p) before.items || list_any (same_bytes p) l) (sym said)
+
+          gives_all : (e : Entry) → slice_get es class_ ≡ Some e → (p : List ℕ)
+              → gives_permission (symbol_of ss e) p (item_of ss i) ≡ list_any (same_bytes p) (listed_permissions (args_of i.statement.now))
+          gives_all e at p =
+              let (space, same, wanted) = parts_fit name signs.Classes i.space is.entry is.fits in
+              let one : is.entry ≡ e = one_some is.entry e (sym is.at ∙ at) in
+              same_bools _ _
+              (λ t. (gives_only ss i (symbol_of ss e) p t).lists)
+              (λ t. gives_from ss i (symbol_of ss e) p (record {
+                declares = subst (DeclaresClass i) (sym same ∙ ap (λ (x : Entry). x.name) one) declares;
+                spaced = ap (space_at ss) (sym space ∙ ap (λ (x : Entry). x.space) one);
+                lists = t;
+              }))
+
+          pub added : ArePermissions ss es xs old → ArePermissions ss es more new
+          added are = record {
+            rising = rises are.rising;
+            each = λ d e at wanted p. elim (cases_eq d class_) [
+              | inl same ↦
+                  let at_class : slice_get es class_ ≡ Some e = ap (slice_get es) (sym same) ∙ at in
+                  ap (λ k. list_any (same_bytes p) (listed_at new k)) same
+                  ∙ ap (list_any (same_bytes p)) (listed_some new class_ after here)
+                  ∙ any_all p
+                  ∙ ap (λ b. b || list_any (same_bytes p) (listed_permissions (args_of i.statement.now))) (ap (list_any (same_bytes p)) (sym (listed_some old class_ before was)) ∙ are.each class_ e at_class wanted p)
+                  ∙ ap (λ b. has_permission xs (symbol_of ss e) p || b) (sym (gives_all e at_class p) ∙ or_last (gives_permission (symbol_of ss e) p (item_of ss i)))
+                  ∙ sym (has_more (symbol_of ss e) p)
+              | inr differ ↦
+                  ap (λ o. list_any (same_bytes p) (option_map_or (λ (w : Vec Bytes). w.items) o [])) (elsewhere d differ)
+                  ∙ are.each d e at wanted p
+                  ∙ sym (has_same (symbol_of ss e) p (no_gift (symbol_of ss e) p (λ g. let (space, same) = fits_here d e p at wanted g in
+                  differ (is.only d e at (they_fit name signs.Classes i.space e space same wanted)))))
+            ];
+          }
+            where
+              or_last : (b : Bool) → b ≡ (b || false)
+              or_last true = refl
+              or_last false = refl
+
+-- ---- instance by instance
+
+taken_more : (ss : List Space) (is : List Instance) (n : ℕ) (i : Instance) → n < length is → i ≡ get_or is n i → items_of ss (take n is) ++ item_of ss i ∷ [] ≡ items_of ss (take (n + 1) is)
+taken_more ss is n i within e =
+    sym (ap (items_of ss) (take_more is n i within ∙ ap (λ z. take n is ++ z ∷ []) (sym e)) ∙ mapped (take n is))
+  where
+    mapped : (ys : List Instance) → items_of ss (ys ++ i ∷ []) ≡ items_of ss ys ++ item_of ss i ∷ []
+    mapped [] = refl
+    mapped (y ∷ ys) = ap (λ z. item_of ss y ∷ z) (mapped ys)
+
+pub listed_more : (ss : List Space) (es : List Entry) (is : List Instance) (n : ℕ) (i : Instance) (lists : List (Vec Bytes)) → n < length is → i ≡ get_or is n i
+    → ArePermissions ss es (items_of ss (take n is) ++ item_of ss i ∷ []) lists → ArePermissions ss es (items_of ss (take (n + 1) is)) lists
+listed_more ss es is n i lists within e are = subst (λ xs. ArePermissions ss es xs lists) (taken_more ss is n i within e) are
+
+pub listed_all : (ss : List Space) (es : List Entry) (is : List Instance) (n : ℕ) (lists : List (Vec Bytes)) → length is ≤ n
+    → ArePermissions ss es (items_of ss (take n is)) lists → ArePermissions ss es (items_of ss is) lists
+listed_all ss es is n lists over are = subst (λ js. ArePermissions ss es (items_of ss js) lists) (take_all n is over) are
+
+pub listed_none : (ss : List Space) (es : List Entry) (is : List Instance) (lists : List (Vec Bytes)) → AreEmpty es lists → ArePermissions ss es (items_of ss (take 0 is)) lists
+listed_none ss es [] lists empty = nothing_listed ss es lists empty
+listed_none ss es (i ∷ is) lists empty = nothing_listed ss es lists empty
+
+-- ---- no lists
+
+pub empty_more : {X : Type 0} (es : List X) (k : ℕ) (x : X) (lists new : List (Vec Bytes)) (v : Vec Bytes) → k < length es → x ≡ get_or es k x → AreEmpty (take k es) lists → v.items ≡ []
+    → new ≡ lists ++ v ∷ [] → AreEmpty (take (k + 1) es) new
+empty_more es k x lists new v within e empty none push = subst (AreEmpty (take (k + 1) es)) (sym push) (record {
+  len = len lists v ∙ ap (λ n. n + 1) empty.len ∙ sym (ap length (take_more es k x within ∙ ap (λ z. take k es ++ z ∷ []) (sym e)) ∙ len (take k es) x);
+  each = λ w c. elim (Contains-append_cases lists (v ∷ []) w c) [
+    | inl old ↦ empty.each w old
+    | inr last ↦ elim (contains_cases w v [] last) [ inl same ↦ ap (λ (z : Vec Bytes). z.items) (sym same) ∙ none | inr n ↦ absurd (contains_none w n) ]
+  ];
+})
+  where
+    len : {Y : Type 0} (ys : List Y) (y : Y) → length (ys ++ y ∷ []) ≡ length ys + 1
+    len [] y = refl
+    len (z ∷ ys) y = let r = len ys y in omega (arith, r)
+
+pub empty_all : {X : Type 0} (es : List X) (k : ℕ) (lists : List (Vec Bytes)) → length es ≤ k → AreEmpty (take k es) lists → AreEmpty es lists
+empty_all es k lists over empty = subst (λ xs. AreEmpty xs lists) (take_all k es over) empty
+
+pub empty_none : {X : Type 0} (es : List X) (lists : List (Vec Bytes)) → lists ≡ [] → AreEmpty (take 0 es) lists
+empty_none [] lists e = subst (AreEmpty []) (sym e) (record { len = refl; each = λ v c. absurd (contains_none v c) })
+empty_none (x ∷ xs) lists e = subst (AreEmpty []) (sym e) (record { len = refl; each = λ v c. absurd (contains_none v c) })

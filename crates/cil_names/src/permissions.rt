@@ -1,0 +1,149 @@
+//! The permissions of classes, as statements list them.
+
+ghost use Rattle.std.specs.Prelude.{◌≡◌, ◌↔◌, ◌∷◌, ◌++◌, [], Contains, IfOk, IsTrue, List, MatchOption, OnOk, length, ℕ};
+ghost use Rattle.std.specs.List.Sorted.{IsStrictlySortedBy};
+ghost use Rattle.std.specs.Ordering.{on};
+ghost use Rattle.cil_sexpr.specs.Lists.{Lists, text_cmp};
+ghost use Rattle.cil_syntax.specs.declared.kind.Keyword.TheVariants as keywords;
+ghost use Rattle.cil_syntax.specs.Said.{all_said};
+ghost use Rattle.cil_names.specs.declared.space.Space.{Space};
+ghost use Rattle.cil_names.specs.Entries.{AreOrdered, item_of, items_of, key_cmp, key_of};
+ghost use Rattle.cil_names.specs.Item.{Item, names_in};
+ghost use Rattle.cil_names.specs.Permissions.{AreEmpty, DeclaresClass, DeclaresNoClass};
+ghost use Rattle.cil_names.specs.Placed.{ArePlaced, IsPlaced};
+ghost use Rattle.cil_names.specs.Spaces.{AreSpaces};
+ghost use Rattle.cil_names.specs.Unresolved.{ArePermissions};
+
+use crate::entry::Entry;
+use crate::instance::Instance;
+use crate::look::entry_in;
+use crate::names::Names;
+use crate::space::Spaces;
+use cil_modset::NoMemory;
+use cil_syntax::{Bytes, DeclaredName, Keyword, Sign, Term};
+use std::alloc::Global;
+use std::mem;
+
+/// The permissions of classes: for each declared name those that statements outside all optionals list for the class of
+/// this name, in byte order, each once; none for what is no class. Classes do not hang on optionals. Each class statement
+/// costs one search by halving, and a sort of what is listed for its class so far.
+pub fn permissions_of(
+    alloc: Global,
+    spaces: &Spaces,
+    names: &Names,
+    instances: &[Instance],
+) -> Result<Vec<Vec<Bytes>>, NoMemory>
+    requires ordered { AreOrdered spaces.now names.now }
+    requires placed { ArePlaced spaces.now instances.now }
+    ensures len { IfOk result (λ lists. length lists.items ≡ length names.now) }
+    ensures permissions { IfOk result (λ lists. ArePermissions spaces.now names.now (items_of spaces.now instances.now) lists.items) }
+{
+    // What is known of the numbers of namespaces.
+    let _ = spaces.as_slice();
+    let entries = names.entries();
+    let mut lists = no_lists(alloc, entries)?;
+    for instance in instances {
+        add_listed(alloc, &mut lists, entries, instance)?;
+    }
+    Ok(lists)
+}
+
+/// An empty list for each entry.
+fn no_lists(alloc: Global, entries: &[Entry]) -> Result<Vec<Vec<Bytes>>, NoMemory>
+    ensures { IfOk result (λ lists. AreEmpty entries.now lists.items) }
+{
+    let mut lists = Vec::new(alloc);
+    for _entry in entries {
+        lists.push(Vec::new(alloc))?;
+    }
+    Ok(lists)
+}
+
+/// Adds the permissions that an instance lists for a class.
+fn add_listed(
+    alloc: Global,
+    lists: &mut Vec<Vec<Bytes>>,
+    entries: &[Entry],
+    instance: &Instance,
+) -> Result<(), NoMemory>
+    requires rising { IsStrictlySortedBy (on key_of key_cmp) entries.now }
+    requires len { length lists.old.items ≡ length entries.now }
+    ensures len { OnOk result (length lists.new.items ≡ length entries.now) }
+    ensures listed { OnOk result ((ss : List Space) (xs : List Item) → AreSpaces ss → AreOrdered ss entries.now → IsPlaced ss instance.now
+        → ArePermissions ss entries.now xs lists.old.items → ArePermissions ss entries.now (xs ++ item_of ss instance.now ∷ []) lists.new.items) }
+{
+    let Some(name) = class_declared(instance) else {
+        return Ok(());
+    };
+    let Some(class) = entry_in(entries, instance.space, name.bytes, Sign::Classes) else {
+        return Ok(());
+    };
+    let Some(items) = instance.statement.listed_behind_name() else {
+        return Ok(());
+    };
+    let listed = mem::replace(&mut lists[class], Vec::new(alloc));
+    lists[class] = with_names(alloc, listed, items)?;
+    Ok(())
+}
+
+/// The name of the class that an instance declares outside all optionals.
+fn class_declared<'a>(instance: &Instance<'_, 'a>) -> Option<DeclaredName<'a>>
+    ensures { MatchOption result (DeclaresNoClass instance.now) (λ name. DeclaresClass instance.now name.bytes.now) }
+{
+    if !is_outside(instance.round) {
+        return None;
+    }
+    if !is_class(instance.statement.keyword) {
+        return None;
+    }
+    let name = instance.statement.declared_name()?;
+    Some(name)
+}
+
+/// Whether there are no optionals.
+fn is_outside(round: &[usize]) -> bool
+    ensures { IsTrue result ↔ (round.now ≡ []) }
+{
+    match round {
+        [] => true,
+        [_, ..] => false,
+    }
+}
+
+fn is_class(keyword: Keyword) -> bool
+    ensures { IsTrue result ↔ (keyword ≡ keywords.Class) }
+{
+    keyword == Keyword::Class
+}
+
+/// Some names and those among terms, in byte order, each once.
+fn with_names(alloc: Global, mut names: Vec<Bytes>, terms: &[Term]) -> Result<Vec<Bytes>, NoMemory>
+    ensures { IfOk result (λ all. (m : ℕ) → Lists text_cmp (Contains (names.items ++ names_in (all_said m terms.now))) all.items) }
+{
+    push_names(alloc, &mut names, terms)?;
+    names.sort_unstable();
+    names.dedup();
+    Ok(names)
+}
+
+/// Adds the names among terms.
+fn push_names(alloc: Global, names: &mut Vec<Bytes>, terms: &[Term]) -> Result<(), NoMemory>
+    ensures { OnOk result ((m : ℕ) → names.new.items ≡ names.old.items ++ names_in (all_said m terms.now)) }
+{
+    for term in terms {
+        push_name(alloc, names, term)?;
+    }
+    Ok(())
+}
+
+#[tactic(auto, unfolding(crate::specs::Item::names_in))]
+fn push_name(alloc: Global, names: &mut Vec<Bytes>, term: &Term) -> Result<(), NoMemory>
+    ensures { OnOk result ((m : ℕ) → names.new.items ≡ names.old.items ++ names_in (all_said m (term.now ∷ []))) }
+{
+    match term {
+        Term::Name(_, name) => names.push(Bytes::copy_of(alloc, name.as_slice())?)?,
+        Term::Leaf(_) => {}
+        Term::Form(_, _, _) => {}
+    }
+    Ok(())
+}
