@@ -6,6 +6,7 @@ pub mod Faults
 pub mod Found
 pub mod Item
 pub mod Judging
+pub mod Laws
 pub mod Meanings
 pub mod Numbers
 pub mod Permissions

@@ -15,6 +15,7 @@ mod gather;
 mod instance;
 mod judge;
 mod kinds;
+pub mod laws;
 mod look;
 mod meaning;
 mod names;

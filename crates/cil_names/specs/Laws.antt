@@ -1,0 +1,14 @@
+-- Laws of look-up: what it answers, said of all instances and sets of optionals at once.
+use Rattle.std.specs.Prelude.{List}
+use Rattle.cil_names.specs.declared.entry.Entry.{Entry}
+use Rattle.cil_names.specs.declared.instance.Instance.{Instance}
+use Rattle.cil_names.specs.declared.space.Space.{Space}
+use Rattle.cil_names.specs.Entries.{AreEntries, IsAnswer}
+use Rattle.cil_names.specs.Item.{OptSet, ScopedWord}
+use Rattle.cil_names.specs.Meanings.{meant}
+use Rattle.cil_names.specs.Spaces.{AreSpaces}
+
+-- what a word means is the entry that it names, and nothing where it names nothing
+abbrev pub MeansWhatItNames : Type 0
+MeansWhatItNames =
+    (ss : List Space) (is : List Instance) (es : List Entry) (s : OptSet) (w : ScopedWord) → AreSpaces ss → AreEntries ss is es → IsAnswer ss is es s w (meant ss es s w)
