@@ -2,7 +2,6 @@
 //! look-up: each word was looked up once, when the table of words was filled.
 
 ghost use Rattle.std.specs.Prelude.{◌≡◌, ◌↔◌, ℕ, IsTrue, List, MatchOption, None, get_or, true};
-ghost use Rattle.std.specs.List.{list_all};
 ghost use Rattle.cil_syntax.specs.declared.kind.Kind as kinds;
 ghost use Rattle.cil_names.specs.declared.instance.Instance.{Instance as AnInstance};
 ghost use Rattle.cil_names.specs.Item.{ScopedWord, is_enabled};
