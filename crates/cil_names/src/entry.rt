@@ -1,5 +1,7 @@
 //! The declared names of a policy.
 
+use crate::look::is_declared;
+use crate::opt_set::OptSet;
 use cil_syntax::{Excerpt, Kind};
 
 /// A declared symbol: a name of a kind in a namespace, and where it is declared.
@@ -15,4 +17,17 @@ pub struct Entry<'a> {
     pub always: bool,
     /// For each other statement that declares it, the numbers of the optionals round that statement.
     pub rounds: Vec<Vec<usize>>,
+}
+
+impl Entry<'_> {
+    ghost use Rattle.std.specs.Prelude.{◌≡◌};
+    ghost use Rattle.cil_names.specs.Entries.{is_in};
+    ghost use Rattle.cil_names.specs.Numbers.{is_of};
+
+    /// Whether it is of a kind, and declared where these optionals are enabled.
+    pub fn is_declared_as(&self, kind: Kind, enabled: &OptSet) -> bool
+        ensures { result ≡ is_of (is_in enabled.now) kind self.now }
+    {
+        self.kind == kind && is_declared(enabled, self)
+    }
 }

@@ -7,11 +7,10 @@ ghost use Rattle.cil_sexpr.specs.Lists.{Lists, text_cmp};
 ghost use Rattle.cil_syntax.specs.declared.kind.Kind as kinds;
 ghost use Rattle.cil_syntax.specs.Spelling.{same_bytes};
 ghost use Rattle.cil_names.specs.Entries.{AreOrdered, is_in, place_where};
-ghost use Rattle.cil_names.specs.Numbers.{AreApart, AreNumbers, ArePlainNames, IsNameAmong, has_section, is_of, name_given, names_of, place_in, spelled_of};
+ghost use Rattle.cil_names.specs.Numbers.{AreApart, AreNumbers, ArePlainNames, IsNameAmong, has_section, name_given, names_of, place_in, spelled_of};
 ghost use Rattle.cil_names.specs.Spaces.{AreSpaces};
 
 use crate::entry::Entry;
-use crate::look::is_declared;
 use crate::opt_set::OptSet;
 use crate::space::Space;
 use crate::spelled::spelled;
@@ -111,7 +110,7 @@ fn given(
 {
     let mut names = Vec::new(alloc);
     for entry in entries {
-        if is_wanted(enabled, entry, kind) {
+        if entry.is_declared_as(kind, enabled) {
             push_name(alloc, &mut names, spaces, entry)?;
         }
     }
@@ -131,13 +130,6 @@ fn push_name(
 {
     names.push(spelled(alloc, spaces, entry.space, entry.name.as_slice())?)?;
     Ok(())
-}
-
-/// Whether an entry is of a kind, and declared where these optionals are enabled.
-fn is_wanted(enabled: &OptSet, entry: &Entry, kind: Kind) -> bool
-    ensures { result ≡ is_of (is_in enabled.now) kind entry.now }
-{
-    entry.kind == kind && is_declared(enabled, entry)
 }
 
 /// The place of the name of each entry in the section of its kind.

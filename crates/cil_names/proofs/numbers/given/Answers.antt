@@ -4,7 +4,7 @@ use Rattle.cil_names.specs.Numbers.{name_given}
 use Rattle.cil_names.proofs.NumberLemmas.{entry_within, none_given, one_given}
 use Rattle.cil_names.proofs.ScopeLemmas.{all_passed}
 use Rattle.cil_names.proofs.numbers.given.Goals as goal
-use Rattle.cil_names.proofs.numbers.given.Goals.{then-is_wanted+in_ok-push_name, else-is_wanted}
+use Rattle.cil_names.proofs.numbers.given.Goals.{then-is_declared_as+in_ok-push_name, else-is_declared_as}
 use Rattle.std.specs.Global.{Vec}
 use Rattle.cil_syntax.specs.declared.fault.Bytes.{Bytes}
 
@@ -14,13 +14,13 @@ push_name-requires-clause-within c =
 
 pub loop-entry-preserved : goal.loop-entry-preserved
 loop-entry-preserved c =
-    elim c.if-is_wanted.branch [
-      | then-is_wanted+in_ok-push_name w ↦
+    elim c.if-is_declared_as.branch [
+      | then-is_declared_as+in_ok-push_name w ↦
           one_given c.args.spaces.now (is_in c.args.enabled.now) c.args.kind c.args.entries.now c.loop-entry.entry-index c.entry-item.result c.loop-entry-test.true c.entry-item.is
-          c.loop-entry.names.items _ _ c.loop-entry.invariant (sym c.is_wanted.ensures ∙ w.if-is_wanted.true) (ap (λ (v : Vec Bytes). v.items) w.names-is ∙ w.in_ok-push_name.ensures)
-      | else-is_wanted w ↦
+          c.loop-entry.names.items _ _ c.loop-entry.invariant (sym c.is_declared_as.ensures ∙ w.if-is_declared_as.true) (ap (λ (v : Vec Bytes). v.items) w.names-is ∙ w.in_ok-push_name.ensures)
+      | else-is_declared_as w ↦
           none_given c.args.spaces.now (is_in c.args.enabled.now) c.args.kind c.args.entries.now c.loop-entry.entry-index c.entry-item.result c.loop-entry-test.true c.entry-item.is
-          c.loop-entry.names.items _ _ c.loop-entry.invariant (sym c.is_wanted.ensures ∙ w.if-is_wanted.false) (ap (λ (v : Vec Bytes). v.items) w.names-is)
+          c.loop-entry.names.items _ _ c.loop-entry.invariant (sym c.is_declared_as.ensures ∙ w.if-is_declared_as.false) (ap (λ (v : Vec Bytes). v.items) w.names-is)
     ]
 
 pub returns : goal.returns
