@@ -1,0 +1,267 @@
+-- Classes with too many permissions, by the entries of their names.
+use Rattle.std.specs.Prelude.{Contains, Some, None, slice_get}
+use Rattle.std.specs.Cmp.Lexicographic.{bytes_decides}
+use Rattle.std.specs.Global.{Vec}
+use Rattle.std.specs.List.{list_any}
+use Rattle.std.proofs.Common.{◌≡◌, ◌⊎◌, ℕ, ◌+◌, ◌<◌, ◌≤◌, true, false, List, [], ◌∷◌, ◌++◌, length, take, get_or, refl, sym, ◌∙◌, ap, subst, inl, inr, arith}
+use Rattle.std.proofs.lemmas.Bool.{true≢false}
+use Rattle.std.proofs.lemmas.Cmp.{nat_list_cmp_total}
+use Rattle.std.proofs.lemmas.List.{take_more, take_all}
+use Rattle.std.proofs.lemmas.List.Elements.{Contains-append_cases, Contains-append_left, Contains-append_right}
+use Rattle.cil_sexpr.specs.Lists.{Lists, text_cmp, contains_cases, contains_here, contains_later, contains_none, one_list}
+use Rattle.cil_syntax.specs.declared.code.FaultCode.TheVariants as causes
+use Rattle.cil_syntax.specs.declared.fault.Bytes.{Bytes}
+use Rattle.cil_syntax.specs.declared.fault.Fault.{Fault}
+use Rattle.cil_syntax.specs.declared.kind.Keyword.TheVariants as keywords
+use Rattle.cil_syntax.specs.declared.kind.Kind.TheVariants as kinds
+use Rattle.cil_syntax.specs.declared.kind.Sign.TheVariants as signs
+use Rattle.cil_syntax.specs.declared.term.Spot.{Spot}
+use Rattle.cil_syntax.specs.declared.term.Word.{Word}
+use Rattle.cil_syntax.specs.Said.{args_of}
+use Rattle.cil_syntax.specs.Spelling.{same_bytes}
+use Rattle.cil_syntax.specs.Table.{entry_of}
+use Rattle.cil_syntax.specs.Terms.{Leaf, Name, Form, Terms, nil, cons}
+use Rattle.cil_names.specs.declared.entry.Entry.{Entry}
+use Rattle.cil_names.specs.declared.instance.Instance.{Instance}
+use Rattle.cil_names.specs.declared.space.Space.{Space}
+use Rattle.cil_names.specs.Declarations.{Declaration, IsDeclaration, Symbol, by, content_of, declarations, declared_by}
+use Rattle.cil_names.specs.Entries.{AreEntries, HasNoEntryIn, IsEntryIn, is_entry_of, item_of, items_of, scoped}
+use Rattle.cil_names.specs.Faults.{fault_at}
+use Rattle.cil_names.specs.Item.{Item, OptSet, ScopedWord, all_replaced, is_enabled}
+use Rattle.cil_names.specs.Numbers.{symbol_of}
+use Rattle.cil_names.specs.Resolves.{has_permission, is_wanted, same_space}
+use Rattle.cil_names.specs.Spaces.{space_at}
+use Rattle.cil_names.specs.Unresolved.{ArePermissions, listed_at}
+use Rattle.cil_decide.specs.Faults.{ClassFault, wide}
+use Rattle.cil_decide.specs.Table.{most_permissions}
+use Rattle.cil_decide.specs.Widths.{DeclaresClass, DeclaresNoClass, IsWide}
+use Rattle.cil_decide.proofs.ListLemmas.{any_from, any_true, contains_map, from_map}
+use Rattle.cil_decide.proofs.SearchLemmas.{member_of_number}
+use Rattle.std.specs.Cmp.Lexicographic.{pointwise_decides}
+use Rattle.std.specs.List.Sorted.{IsStrictlySortedBy}
+use Rattle.std.specs.Option.{option_map_or, unwrap_or}
+use Rattle.std.specs.Prelude.{Option}
+use Rattle.std.proofs.Common.{◌&&◌, Bool}
+use Rattle.std.proofs.lemmas.Bool.{and_from, and_parts}
+use Rattle.cil_decide.proofs.StepLemmas.{nothing_rises}
+use Rattle.std.proofs.lemmas.List.Elements.{Contains-get_or}
+use Rattle.cil_names.specs.Placed.{ArePlaced, IsPlaced}
+
+some_same : {X : Type 0} {a b : X} → Some a ≡ Some b → a ≡ b
+some_same {X} {a} {b} e = ap (λ o. unwrap_or o a) e
+
+-- ---- the permissions that are listed for an entry
+
+module _ (lists : List (Vec Bytes)) (d : ℕ) where
+  listed_rises : ((v : Vec Bytes) → Contains lists v → IsStrictlySortedBy text_cmp v.items) → IsStrictlySortedBy text_cmp (listed_at lists d)
+  listed_rises up = at _ refl
+    where
+      at : (o : Option (Vec Bytes)) → slice_get lists d ≡ o → IsStrictlySortedBy text_cmp (listed_at lists d)
+      at None e = subst (IsStrictlySortedBy text_cmp) (sym (ap (λ o. option_map_or (λ (w : Vec Bytes). w.items) o []) e)) nothing_rises
+      at (Some v) e = subst (IsStrictlySortedBy text_cmp) (sym (ap (λ o. option_map_or (λ (w : Vec Bytes). w.items) o []) e)) (up v (member_of_number lists d v e))
+
+  -- they are those of its class
+  pub listed_are : (ss : List Space) (es : List Entry) (xs : List Item) → ArePermissions ss es xs lists → (e : Entry) → slice_get es d ≡ Some e → is_wanted signs.Classes e.kind ≡ true
+      → Lists text_cmp (λ p. has_permission xs (symbol_of ss e) p ≡ true) (listed_at lists d)
+  listed_are ss es xs are e at wanted = record {
+    rising = listed_rises are.rising;
+    members = λ p. (
+      (λ c. sym (are.each d e at wanted p) ∙ any_from (same_bytes p) (listed_at lists d) p c ((bytes_decides p p).1 refl)),
+      (λ has. let (q, c, same) = any_true (same_bytes p) (listed_at lists d) (are.each d e at wanted p ∙ has) in subst (Contains (listed_at lists d)) (sym ((bytes_decides p q).0 same)) c),
+    );
+  }
+
+-- ---- the parts of an entry
+
+pub entry_parts : (ss : List Space) (name : List ℕ) (n : List (List ℕ)) (e : Entry) → is_entry_of ss name signs.Classes n e ≡ true
+    → (space_at ss e.space ≡ n) × (e.name ≡ name) × (is_wanted signs.Classes e.kind ≡ true)
+entry_parts ss name n e fits =
+    let (front, wanted) = and_parts (same_space (space_at ss e.space) n && same_bytes e.name name) (is_wanted signs.Classes e.kind) fits in
+    let (space, named) = and_parts (same_space (space_at ss e.space) n) (same_bytes e.name name) front in
+    ((pointwise_decides bytes_decides (space_at ss e.space) n).0 space, (bytes_decides e.name name).0 named, wanted)
+
+entry_fits : (ss : List Space) (name : List ℕ) (n : List (List ℕ)) (e : Entry) → space_at ss e.space ≡ n → e.name ≡ name → is_wanted signs.Classes e.kind ≡ true
+    → is_entry_of ss name signs.Classes n e ≡ true
+entry_fits ss name n e p q r =
+    and_from _ _ (and_from _ _ ((pointwise_decides bytes_decides (space_at ss e.space) n).1 p) ((bytes_decides e.name name).1 q)) r
+
+-- ---- class statements
+
+class_declares : (entry_of keywords.Class).declares ≡ kinds.Class ∷ []
+unfolding entry_of
+class_declares = refl
+
+module _ (f : Word → ScopedWord) where
+  said_front : (args : Terms Word) (at : Spot) (name : List ℕ) (rest : Terms ScopedWord) → all_replaced (λ at. at) f args ≡ cons (Name at name) rest
+      → (more : Terms Word) × (args ≡ cons (Name at name) more)
+  unfolding all_replaced
+  said_front nil at name rest e = absurd cc
+  said_front (cons (Leaf w) ts) at name rest e = absurd cc
+  said_front (cons (Form bt op parts) ts) at name rest e = absurd cc
+  said_front (cons (Name bt n) ts) at name rest e =
+      let p : bt ≡ at = cc in let q : n ≡ name = cc in (ts, λ i. cons (Name (p i) (q i)) ts)
+
+  begun : (n : List (List ℕ)) (at : Spot) (name : List ℕ) (rest : Terms Word)
+      → declarations n (kinds.Class ∷ []) (all_replaced (λ bt. bt) f (cons (Name at name) rest))
+      ≡ record { kind = kinds.Class; space = n; name = name; content = content_of (all_replaced (λ bt. bt) f rest) } ∷ []
+  unfolding all_replaced
+  begun n at name rest = refl
+
+  item_says : (at : Spot) (name : List ℕ) (rest : Terms Word) → all_replaced (λ bt. bt) f (cons (Name at name) rest) ≡ cons (Name at name) (all_replaced (λ bt. bt) f rest)
+  unfolding all_replaced
+  item_says at name rest = refl
+
+module _ (ss : List Space) (is : List Instance) (es : List Entry) (s : OptSet) (i : Instance) where
+  abbrev x : Item
+  x = item_of ss i
+
+  abbrev xs : List Item
+  xs = items_of ss is
+
+  -- the instance is not enabled
+  pub not_enabled : is_enabled s x ≡ false → (f : Fault) → IsWide s xs x f → ⊥
+  not_enabled off f w = true≢false (sym w.enabled ∙ off)
+
+  declares_by : (f : Fault) (w : IsWide s xs x f) → DeclaresClass i.statement.now w.at w.name
+  declares_by f w =
+      let (more, says) = said_front (scoped ss i.scope.now) (args_of i.statement.now) w.at w.name w.rest w.says in
+      record { keyword = w.keyword; rest = more; says = says }
+
+  pub declares_none : DeclaresNoClass i.statement.now → (f : Fault) → IsWide s xs x f → ⊥
+  declares_none none f w = none w.at w.name (declares_by f w)
+
+  module _ (at : Spot) (name : List ℕ) (declares : DeclaresClass i.statement.now at name) where
+    one_class : (bt : Spot) (other : List ℕ) → DeclaresClass i.statement.now bt other → (bt ≡ at) × (other ≡ name)
+    one_class bt other d =
+        let e : cons (Name bt other) d.rest ≡ cons (Name at name) declares.rest = sym d.says ∙ declares.says in (cc, cc)
+
+    abbrev declaration : Declaration
+    declaration = record { kind = kinds.Class; space = space_at ss i.space; name = name; content = content_of (all_replaced (λ bt. bt) (scoped ss i.scope.now) declares.rest) }
+
+    declared : Contains (declared_by x) declaration
+    declared =
+        subst (λ ds. Contains ds declaration)
+        (sym (ap (λ k. declarations (space_at ss i.space) (entry_of k).declares (all_replaced (λ bt. bt) (scoped ss i.scope.now) (args_of i.statement.now))) declares.keyword
+        ∙ ap (λ ks. declarations (space_at ss i.space) ks (all_replaced (λ bt. bt) (scoped ss i.scope.now) (args_of i.statement.now))) class_declares
+        ∙ ap (λ ts. declarations (space_at ss i.space) (kinds.Class ∷ []) (all_replaced (λ bt. bt) (scoped ss i.scope.now) ts)) declares.says
+        ∙ begun (scoped ss i.scope.now) (space_at ss i.space) at name declares.rest))
+        (contains_here declaration [])
+
+    module _ (entries : AreEntries ss is es) (member : Contains is i) where
+      -- an enabled class has an entry
+      pub no_entry : HasNoEntryIn ss es name signs.Classes (space_at ss i.space) → (f : Fault) → IsWide s xs x f → ⊥
+      no_entry none f w =
+          let (d, e) = entries.each s declaration (by x declaration (contains_map (item_of ss) is i member) w.enabled declared) in
+          none d e.entry e.at (entry_fits ss name (space_at ss i.space) e.entry e.in_space e.of_name (ap (is_wanted signs.Classes) e.of_kind))
+
+      module _ (lists : List (Vec Bytes)) (permissions : ArePermissions ss es xs lists) (d : ℕ) (entry : IsEntryIn ss es name signs.Classes (space_at ss i.space) d) where
+        symbol_is : symbol_of ss entry.entry ≡ record { space = space_at ss i.space; name = name }
+        symbol_is = let (space, named, wanted) = entry_parts ss name (space_at ss i.space) entry.entry entry.fits in λ j. record { space = space j; name = named j }
+
+        listed : Lists text_cmp (λ p. has_permission xs (record { space = space_at ss i.space; name = name }) p ≡ true) (listed_at lists d)
+        listed =
+            let (space, named, wanted) = entry_parts ss name (space_at ss i.space) entry.entry entry.fits in
+            subst (λ (c : Symbol). Lists text_cmp (λ p. has_permission xs c p ≡ true) (listed_at lists d)) symbol_is (listed_are lists d ss es xs permissions entry.entry entry.at wanted)
+
+        pub few : length (listed_at lists d) ≤ most_permissions → (f : Fault) → IsWide s xs x f → ⊥
+        few short f w =
+            let (spot, same) = one_class w.at w.name (declares_by f w) in
+            let here : Lists text_cmp (λ p. has_permission xs (record { space = space_at ss i.space; name = name }) p ≡ true) w.permissions =
+            subst (λ n. Lists text_cmp (λ p. has_permission xs (record { space = space_at ss i.space; name = n }) p ≡ true) w.permissions) same w.listed in
+            let one = ap length (one_list text_cmp nat_list_cmp_total (λ p. has_permission xs (record { space = space_at ss i.space; name = name }) p ≡ true) w.permissions (listed_at lists d) here listed) in
+            let big = w.wide in
+            omega (arith, short, one, big)
+
+        pub many : is_enabled s x ≡ true → most_permissions < length (listed_at lists d) → (f : Fault)
+            → (IsWide s xs x f → f ≡ fault_at causes.ClassWide at (space_at ss i.space) name) × (f ≡ fault_at causes.ClassWide at (space_at ss i.space) name → IsWide s xs x f)
+        many on big f = (
+          (λ w. let (spot, same) = one_class w.at w.name (declares_by f w) in w.told ∙ (λ j. fault_at causes.ClassWide (spot j) (space_at ss i.space) (same j))),
+          (λ told. record {
+            at = at;
+            name = name;
+            rest = all_replaced (λ bt. bt) (scoped ss i.scope.now) declares.rest;
+            permissions = listed_at lists d;
+            enabled = on;
+            keyword = declares.keyword;
+            says = ap (all_replaced (λ bt. bt) (scoped ss i.scope.now)) declares.says ∙ item_says (scoped ss i.scope.now) at name declares.rest;
+            listed = listed;
+            wide = big;
+            told = told;
+          }),
+        )
+
+-- ---- instance by instance
+
+-- a fault more, or none
+pub none_more : (old : List Fault) (P : Fault → Type 0) → ((f : Fault) → P f → ⊥) → (f : Fault) → (Contains old f → Contains old f ⊎ P f) × (Contains old f ⊎ P f → Contains old f)
+none_more old P none f = ((λ c. inl c), (λ e. elim e [ inl c ↦ c | inr p ↦ absurd (none f p) ]))
+
+pub one_more : (old new : List Fault) (g : Fault) (P : Fault → Type 0) → new ≡ old ++ g ∷ [] → ((f : Fault) → (P f → f ≡ g) × (f ≡ g → P f))
+    → (f : Fault) → (Contains new f → Contains old f ⊎ P f) × (Contains old f ⊎ P f → Contains new f)
+one_more old new g P push told f = (
+  (λ c. elim (Contains-append_cases old (g ∷ []) f (subst (λ z. Contains z f) push c)) [
+    | inl d ↦ inl d
+    | inr d ↦ elim (contains_cases f g [] d) [ inl e ↦ inr ((told f).1 (sym e)) | inr n ↦ absurd (contains_none f n) ]
+  ]),
+  (λ e. subst (λ z. Contains z f) (sym push) (elim e [
+    | inl c ↦ Contains-append_left old (g ∷ []) f c
+    | inr p ↦ Contains-append_right old (g ∷ []) f (subst (λ z. Contains (z ∷ []) f) ((told f).0 p) (contains_here f []))
+  ])),
+)
+
+module _ (ss : List Space) (is : List Instance) (s : OptSet) where
+  -- the faults are those of these instances
+  abbrev pub AreToldOf : List Instance → List Fault → Type 0
+  AreToldOf some faults =
+      (f : Fault) → (Contains faults f → (i : Instance) × Contains some i × IsWide s (items_of ss is) (item_of ss i) f)
+      × ((i : Instance) × Contains some i × IsWide s (items_of ss is) (item_of ss i) f → Contains faults f)
+
+  pub told_none : (faults : List Fault) → faults ≡ [] → AreToldOf (take 0 is) faults
+  told_none faults e f = ((λ c. absurd (contains_none f (subst (λ z. Contains z f) e c))), (λ t. absurd (nobody is t.0 t.1)))
+    where
+      nobody : (js : List Instance) (i : Instance) → Contains (take 0 js) i → ⊥
+      nobody [] i c = contains_none i c
+      nobody (j ∷ js) i c = contains_none i c
+
+  pub told_more : (k : ℕ) (i : Instance) (old new : List Fault) → k < length is → i ≡ get_or is k i
+      → ((f : Fault) → (Contains new f → Contains old f ⊎ IsWide s (items_of ss is) (item_of ss i) f) × (Contains old f ⊎ IsWide s (items_of ss is) (item_of ss i) f → Contains new f))
+      → AreToldOf (take k is) old → AreToldOf (take (k + 1) is) new
+  told_more k i old new within at step are f =
+      let taken = take_more is k i within ∙ ap (λ z. take k is ++ z ∷ []) (sym at) in (
+        (λ c. elim ((step f).0 c) [
+          | inl d ↦ let t = (are f).0 d in (t.0, subst (λ z. Contains z t.0) (sym taken) (Contains-append_left (take k is) (i ∷ []) t.0 t.1), t.2)
+          | inr w ↦ (i, subst (λ z. Contains z i) (sym taken) (Contains-append_right (take k is) (i ∷ []) i (contains_here i [])), w)
+        ]),
+        (λ t. (step f).1 (elim (Contains-append_cases (take k is) (i ∷ []) t.0 (subst (λ z. Contains z t.0) taken t.1)) [
+          | inl d ↦ inl ((are f).1 (t.0, d, t.2))
+          | inr d ↦ elim (contains_cases t.0 i [] d) [
+            | inl e ↦ inr (subst (λ (j : Instance). IsWide s (items_of ss is) (item_of ss j) f) (sym e) t.2)
+            | inr n ↦ absurd (contains_none t.0 n)
+          ]
+        ])),
+      )
+
+  module _ (k : ℕ) (faults : List Fault) (over : length is ≤ k) (are : AreToldOf (take k is) faults) where
+    pub wide_there : (f : Fault) → Contains faults f → ClassFault s (items_of ss is) f
+    wide_there f c =
+        let (i, ci, w) = (are f).0 c in
+        subst (ClassFault s (items_of ss is)) (sym w.told)
+        (wide (item_of ss i) w.at w.name w.rest w.permissions (contains_map (item_of ss) is i (subst (λ z. Contains z i) (take_all k is over) ci)) w.enabled w.keyword w.says w.listed w.wide)
+
+    pub wide_back : (f : Fault) → ClassFault s (items_of ss is) f → Contains faults f
+    wide_back f (wide y at name rest permissions c on keyword says listed big) =
+        let (i, ci, e) = from_map (item_of ss) is y c in
+        (are (fault_at causes.ClassWide at y.space name)).1 (
+          i,
+          subst (λ z. Contains z i) (sym (take_all k is over)) ci,
+          subst (λ (z : Item). IsWide s (items_of ss is) z (fault_at causes.ClassWide at y.space name)) (sym e)
+              (record { at = at; name = name; rest = rest; permissions = permissions; enabled = on; keyword = keyword; says = says; listed = listed; wide = big; told = refl }),
+        )
+
+-- ---- the instances one by one
+
+pub member_at : (is : List Instance) (k : ℕ) (i : Instance) → k < length is → i ≡ get_or is k i → Contains is i
+member_at is k i within e = subst (Contains is) (sym e) (Contains-get_or is k i within)
+
+pub placed_at : (ss : List Space) (is : List Instance) → ArePlaced ss is → (k : ℕ) (i : Instance) → k < length is → i ≡ get_or is k i → IsPlaced ss i
+placed_at ss is placed k i within e = placed i (member_at is k i within e)

@@ -1,0 +1,143 @@
+//! Classes with more permissions than a mask has bits.
+
+ghost use Rattle.std.specs.Prelude.{◌≡◌, ◌↔◌, ◌⊎◌, Contains, IsTrue, List, MatchOption, OnOk, length};
+ghost use Rattle.cil_syntax.specs.declared.fault.Fault.{Fault as AFault};
+ghost use Rattle.cil_syntax.specs.declared.kind.Keyword.TheVariants as keywords;
+ghost use Rattle.cil_syntax.specs.declared.code.FaultCode.TheVariants as causes;
+ghost use Rattle.cil_syntax.specs.Refusal.{Answers};
+ghost use Rattle.cil_names.specs.declared.instance.Instance.{Instance as AnInstance};
+ghost use Rattle.cil_names.specs.Entries.{AreEntries, AreOrdered, is_in, item_of, items_of};
+ghost use Rattle.cil_names.specs.Faults.{fault_at};
+ghost use Rattle.cil_names.specs.Placed.{ArePlaced, IsPlaced};
+ghost use Rattle.cil_names.specs.Spaces.{space_at};
+ghost use Rattle.cil_names.specs.Unresolved.{ArePermissions, listed_at};
+ghost use Rattle.cil_decide.specs.Faults.{ClassFault};
+ghost use Rattle.cil_decide.specs.Widths.{DeclaresClass, DeclaresNoClass, IsWide};
+
+use cil_modset::NoMemory;
+use cil_names::{Instance, Lookup};
+use cil_syntax::{
+    Bytes, DeclaredName, Failure, Fault, FaultCode, FaultList, Keyword, Sign, Statement,
+};
+use std::alloc::Global;
+
+/// How many permissions a class may have.
+const MOST_PERMISSIONS: usize = 32;
+
+/// Refuses enabled classes with more permissions than a mask has bits: a fault at each of their statements. Each class
+/// statement costs one search by halving.
+///
+/// Errors: the faults, or out of memory.
+pub fn check_widths(
+    alloc: Global,
+    lookup: &Lookup,
+    permissions: &[Vec<Bytes>],
+    instances: &[Instance],
+) -> Result<(), Failure>
+    requires entries { AreEntries lookup.now.spaces.now instances.now lookup.now.names.now }
+    requires permissions { ArePermissions lookup.now.spaces.now lookup.now.names.now (items_of lookup.now.spaces.now instances.now) permissions.now }
+    requires placed { ArePlaced lookup.now.spaces.now instances.now }
+    ensures { Answers (λ done. Unit {0}) (ClassFault (is_in lookup.now.enabled.now) (items_of lookup.now.spaces.now instances.now)) result }
+{
+    let mut faults = Vec::new(alloc);
+    for instance in instances {
+        push_wide(alloc, &mut faults, lookup, permissions, instance)?;
+    }
+    refuse(faults)
+}
+
+/// Refuses with these faults, where there are some.
+fn refuse(faults: Vec<Fault>) -> Result<(), Failure>
+    ensures { Answers (λ done. Unit {0}) (Contains faults.items) result }
+{
+    match FaultList::of(faults) {
+        Some(list) => Err(Failure::Faults(list)),
+        None => Ok(()),
+    }
+}
+
+/// Reports an instance that declares a class with too many permissions.
+fn push_wide(
+    alloc: Global,
+    faults: &mut Vec<Fault>,
+    lookup: &Lookup,
+    permissions: &[Vec<Bytes>],
+    instance: &Instance,
+) -> Result<(), NoMemory>
+    requires ordered { AreOrdered lookup.now.spaces.now lookup.now.names.now }
+    requires placed { IsPlaced lookup.now.spaces.now instance.now }
+    ensures { OnOk result ((is : List AnInstance) → AreEntries lookup.now.spaces.now is lookup.now.names.now → Contains is instance.now
+        → ArePermissions lookup.now.spaces.now lookup.now.names.now (items_of lookup.now.spaces.now is) permissions.now
+        → (f : AFault) → Contains faults.new.items f ↔ (Contains faults.old.items f ⊎ IsWide (is_in lookup.now.enabled.now) (items_of lookup.now.spaces.now is) (item_of lookup.now.spaces.now instance.now) f)) }
+{
+    let Some(name) = wide_class(lookup, permissions, instance) else {
+        return Ok(());
+    };
+    let space = lookup.spaces.spelled(alloc, instance.space)?;
+    let word = Bytes::copy_of(alloc, name.bytes)?;
+    faults.push(Fault {
+        code: FaultCode::ClassWide,
+        module: name.at.module,
+        at: name.at.at,
+        space,
+        word,
+    })?;
+    Ok(())
+}
+
+/// The name of the enabled class that an instance declares, if it has too many permissions.
+fn wide_class<'a>(
+    lookup: &Lookup,
+    permissions: &[Vec<Bytes>],
+    instance: &Instance<'_, 'a>,
+) -> Option<DeclaredName<'a>>
+    requires ordered { AreOrdered lookup.now.spaces.now lookup.now.names.now }
+    requires placed { IsPlaced lookup.now.spaces.now instance.now }
+    ensures { (is : List AnInstance) → AreEntries lookup.now.spaces.now is lookup.now.names.now → Contains is instance.now
+        → ArePermissions lookup.now.spaces.now lookup.now.names.now (items_of lookup.now.spaces.now is) permissions.now
+        → MatchOption result ((f : AFault) → IsWide (is_in lookup.now.enabled.now) (items_of lookup.now.spaces.now is) (item_of lookup.now.spaces.now instance.now) f → ⊥)
+        (λ name. (f : AFault) → IsWide (is_in lookup.now.enabled.now) (items_of lookup.now.spaces.now is) (item_of lookup.now.spaces.now instance.now) f
+        ↔ (f ≡ fault_at causes.ClassWide name.at (space_at lookup.now.spaces.now instance.now.space) name.bytes.now)) }
+{
+    if !lookup.enabled.has_all(instance.round) {
+        return None;
+    }
+    let Some(name) = class_declared(instance.statement) else {
+        return None;
+    };
+    let names = lookup.names;
+    let Some(class) = names.entry(lookup.spaces, instance.space, name.bytes, Sign::Classes) else {
+        return None;
+    };
+    if listed_count(permissions, class) <= MOST_PERMISSIONS {
+        return None;
+    }
+    Some(name)
+}
+
+/// The name of the class that a statement declares.
+fn class_declared<'a>(statement: &Statement<'a>) -> Option<DeclaredName<'a>>
+    ensures { MatchOption result (DeclaresNoClass statement.now) (λ name. DeclaresClass statement.now name.at name.bytes.now) }
+{
+    if !is_class(statement.keyword) {
+        return None;
+    }
+    let name = statement.declared_name()?;
+    Some(name)
+}
+
+fn is_class(keyword: Keyword) -> bool
+    ensures { IsTrue result ↔ (keyword ≡ keywords.Class) }
+{
+    keyword == Keyword::Class
+}
+
+/// How many permissions are listed for an entry.
+fn listed_count(permissions: &[Vec<Bytes>], d: usize) -> usize
+    ensures { result ≡ length (listed_at permissions.now d) }
+{
+    match permissions.get(d) {
+        Some(list) => list.as_slice().len(),
+        None => 0,
+    }
+}
