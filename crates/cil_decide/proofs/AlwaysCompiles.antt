@@ -17,63 +17,29 @@ use Rattle.cil_decide.specs.Compiled.{IsRowOf, IsTable}
 use Rattle.cil_names.specs.Declarations.{Declaration, declarations, IsDeclaration, object, by, Declared, Symbol, content_of}
 use Rattle.cil_decide.specs.Faults.{ClassFault, wide}
 use Rattle.cil_names.specs.Faults.{ClashFault, ResolveFault}
-use Rattle.cil_decide.specs.Flat.{AreItems, item_of}
+use Rattle.cil_decide.specs.Flat.{AreFlat, AreItems, item_of}
 use Rattle.cil_names.specs.Item.{Namespace, ScopedWord, Item, nobody}
 use Rattle.cil_decide.specs.Laws.{AlwaysCompilesOrFails, Outcome, compiles, fails}
-use Rattle.cil_decide.specs.Passes.{AreFlat}
 use Rattle.cil_names.specs.Resolves.{has_permission}
 use Rattle.cil_decide.specs.Table.{Table, IsOrderly, most_permissions}
 use Rattle.cil_decide.proofs.AgreesLemmas.{table_agrees}
-use Rattle.cil_decide.proofs.ClassStatements.{class_keyword}
 use Rattle.cil_decide.proofs.CompileLemmas.{clash_fails, words_fail, widths_fail, nothing_wrong}
 use Rattle.cil_decide.proofs.FiniteFaults.{finite_clashes, finite_unresolved, finite_wide, step_outcome}
 use Rattle.cil_decide.proofs.FinitePolicy.{Front}
 use Rattle.cil_decide.proofs.ListLemmas.{from_map}
-use Rattle.cil_decide.proofs.Naming.{of_own_kind}
 use Rattle.cil_decide.proofs.TablesExist.{tables}
+use Rattle.cil_decide.proofs.WideClasses.{few}
 
 -- ---- tables are orderly where no class is too wide
 
--- the name in front of terms that declare something
-record IsInFront (space : Namespace) (args : Terms ScopedWord) (d : Declaration) : Type 0 where
-  front : Front
-  says : args ≡ cons (Name front.0 front.1) front.2
-  named : d.name ≡ front.1
-  in_space : d.space ≡ space
-
-in_front : (space : Namespace) (ks : List Kind) (args : Terms ScopedWord) (d : Declaration) → Contains (declarations space ks args) d → IsInFront space args d
-in_front space ks nil d c = absurd (omega (arith, c.1))
-in_front space ks (cons (Leaf w) rest) d c = absurd (omega (arith, c.1))
-in_front space ks (cons (Form at op parts) rest) d c = absurd (omega (arith, c.1))
-in_front space ks (cons (Name at name) rest) d c =
-    let r = from_map (λ kind. record { kind = kind; space = space; name = name; content = content_of rest }) ks d c in
-    record { front = (at, name, rest); says = refl; named = ap (λ (e : Declaration). e.name) (sym r.2); in_space = ap (λ (e : Declaration). e.space) (sym r.2) }
-
 module _ (xs : List Item) (none : (f : Fault) → ClassFault nobody xs f → ⊥) where
-  wide_class : (c : Symbol) (permissions : List (List ℕ)) (d : Declaration) → IsDeclaration xs nobody d → d.kind ≡ kinds.Class → d.space ≡ c.space → d.name ≡ c.name
-      → Lists text_cmp (λ p. has_permission xs c p ≡ true) permissions → most_permissions < length permissions → ⊥
-  wide_class c permissions d object k s n listed big = cc
-  wide_class c permissions d (by x e cx on by_it) k s n listed big =
-      let keyword = class_keyword x.keyword
-      (subst (λ j. Contains (entry_of x.keyword).declares j) k (of_own_kind x.space (entry_of x.keyword).declares x.args e by_it)) in
-      let f = in_front x.space (entry_of x.keyword).declares x.args e by_it in
-      let same : c ≡ record { space = x.space; name = f.front.1 } = λ i. record { space = (sym s ∙ f.in_space) i; name = (sym n ∙ f.named) i } in
-      none _ (wide x f.front.0 f.front.1 f.front.2 permissions cx on keyword f.says
-      (subst (λ t. Lists text_cmp (λ p. has_permission xs t p ≡ true) permissions) same listed) big)
-
-  few : (c : Symbol) (row : Class) → Declared xs nobody kinds.Class c → IsRowOf xs c row → length row.permissions ≤ most_permissions
-  few c row d is = elim (cases_lt most_permissions (length row.permissions)) [
-    | inl big ↦ absurd (wide_class c row.permissions d.declaration d.declares d.of_kind d.in_space d.of_name is.permissions big)
-    | inr le ↦ le
-  ]
-
   orderly : (t : Table) → IsTable xs nobody t → IsOrderly t
   orderly t is = record {
     users = is.users.rising;
     roles = is.roles.rising;
     types = is.types.rising;
     classes = is.classes.rising;
-    each_class = λ row c. let k = is.classes.only row c in record { permissions = k.2.permissions.rising; few = few k.0 row k.1 k.2 };
+    each_class = λ row c. let k = is.classes.only row c in record { permissions = k.2.permissions.rising; few = few xs nobody none k.0 row k.1 k.2 };
     user_roles = is.user_roles.rising;
     role_types = is.role_types.rising;
   }

@@ -24,7 +24,7 @@ use Rattle.cil_decide.specs.Compiled.{Case, HasBit, HasNumber, HasTarget, IsCase
 use Rattle.cil_names.specs.Declarations.{Declared, Symbol}
 use Rattle.cil_names.specs.Item.{ScopedWord, Item, nobody}
 use Rattle.cil_decide.specs.Pairs.{HasPair}
-use Rattle.cil_decide.specs.Passes.{AreFlat, global_symbol}
+use Rattle.cil_decide.specs.Flat.{AreFlat, global_symbol}
 use Rattle.cil_names.specs.Resolves.{has_permission}
 use Rattle.cil_decide.specs.Table.{Table, class_cmp, link_cmp, link_total, one_link, rule_cmp, rule_total, one_rule}
 use Rattle.cil_decide.proofs.BitLemmas.{none_set, set_in_either, set_is_one}
@@ -35,7 +35,7 @@ use Rattle.cil_decide.proofs.FiniteFaults.{permissions_of}
 use Rattle.cil_decide.proofs.FinitePolicy.{decided_pair, finite_has_number, finite_names, pair_class}
 use Rattle.cil_decide.proofs.FiniteRecords.{finite_cases, finite_links}
 use Rattle.cil_decide.proofs.ListLemmas.{contains_map, from_map}
-use Rattle.cil_decide.proofs.Naming.{declared_here, global_symbol_of, name_declared, name_of_global}
+use Rattle.cil_decide.proofs.FlatLemmas.{declared_here, global_symbol_of, name_declared, name_of_global}
 use Rattle.cil_decide.proofs.SearchLemmas.{number_of_member}
 
 equal_numbers : (m n : ℕ) → nat_cmp m n ≡ Equal → m ≡ n

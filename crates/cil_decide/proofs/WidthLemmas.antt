@@ -92,7 +92,7 @@ unfolding entry_of
 class_declares = refl
 
 module _ (f : Word → ScopedWord) where
-  said_front : (args : Terms Word) (at : Spot) (name : List ℕ) (rest : Terms ScopedWord) → all_replaced (λ at. at) f args ≡ cons (Name at name) rest
+  pub said_front : (args : Terms Word) (at : Spot) (name : List ℕ) (rest : Terms ScopedWord) → all_replaced (λ at. at) f args ≡ cons (Name at name) rest
       → (more : Terms Word) × (args ≡ cons (Name at name) more)
   unfolding all_replaced
   said_front nil at name rest e = absurd cc

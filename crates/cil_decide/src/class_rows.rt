@@ -14,7 +14,7 @@ use cil_syntax::{Bytes, Kind};
 use std::alloc::Global;
 
 /// The rows of the classes, in the order of their names. A class costs a copy of its name and of its permissions.
-pub fn class_rows(
+pub(crate) fn class_rows(
     alloc: Global,
     lookup: &Lookup,
     numbering: &Numbering,

@@ -28,7 +28,7 @@ const MOST_PERMISSIONS: usize = 32;
 /// statement costs one search by halving.
 ///
 /// Errors: the faults, or out of memory.
-pub fn check_widths(
+pub(crate) fn check_widths(
     alloc: Global,
     lookup: &Lookup,
     permissions: &[Vec<Bytes>],

@@ -1,6 +1,6 @@
 use Rattle.std.proofs.Common.{◌∙◌}
 use Rattle.std.proofs.lemmas.List.{map-id}
-use Rattle.cil_decide.proofs.DeclaredNames.{mapped_more, mapped_all}
+use Rattle.cil_decide.proofs.ListLemmas.{mapped_more, mapped_all}
 use Rattle.cil_decide.proofs.class_rows.copied_all.Goals as goal
 
 pub loop-name-init : goal.loop-name-init

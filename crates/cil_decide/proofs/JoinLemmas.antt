@@ -1,0 +1,60 @@
+-- The compiler goes by instances: what is known of them, and the table of their parts.
+use Rattle.std.specs.Prelude.{Bool, Contains}
+use Rattle.std.proofs.Common.{◌≡◌, ℕ, List, [], map, refl, sym, ◌∙◌, ap, subst}
+use Rattle.cil_sexpr.specs.Gives.{Gives}
+use Rattle.cil_sexpr.specs.Lists.{Lists, text_cmp}
+use Rattle.cil_syntax.specs.declared.kind.Keyword.TheVariants as keywords
+use Rattle.cil_syntax.specs.declared.kind.Kind.{Kind}
+use Rattle.cil_syntax.specs.declared.kind.Kind.TheVariants as kinds
+use Rattle.cil_syntax.specs.declared.program.Program.{Program}
+use Rattle.cil_syntax.specs.declared.program.Statement.{Statement}
+use Rattle.cil_syntax.specs.Said.{all_written, written_of}
+use Rattle.cil_syntax.specs.Written.{IsWritten, written_cmp}
+use Rattle.cil_names.specs.declared.instance.Instance.{Instance}
+use Rattle.cil_names.specs.declared.space.Space.{Space}
+use Rattle.cil_names.specs.Declarations.{Declared}
+use Rattle.cil_names.specs.Entries.{is_in, items_of}
+use Rattle.cil_names.specs.Item.{Item, OptSet, nobody}
+use Rattle.cil_names.specs.Placed.{ArePlaced}
+use Rattle.cil_decide.specs.declared.tables.Class.{Class}
+use Rattle.cil_decide.specs.declared.tables.Link.{Link}
+use Rattle.cil_decide.specs.declared.tables.Rule.{Rule}
+use Rattle.cil_decide.specs.Compiled.{IsCase, IsLink, IsNameOf, IsRowOf, IsRuleOf, IsTable}
+use Rattle.cil_decide.specs.Flat.{AreFlat, AreInstances, AreItems, flat_items}
+use Rattle.cil_decide.specs.Table.{class_cmp, link_cmp, rule_cmp}
+use Rattle.cil_decide.proofs.CompileLemmas.{items_are}
+use Rattle.cil_decide.proofs.FlatLemmas.{flat_all, flat_is_flat, flat_placed}
+
+-- no optional is enabled
+pub none_enabled : (flags : List Bool) → flags ≡ [] → is_in flags ≡ nobody
+none_enabled flags off = ap is_in off
+
+-- the instances of flat programs, in namespaces of which there are none
+module _ (ss : List Statement) (is : List Instance) (are : AreInstances ss is) (spaces : List Space) (global : spaces ≡ []) (js : List Instance) (sliced : js ≡ is) where
+  items_path : items_of spaces js ≡ flat_items ss
+  items_path = (λ k. items_of (global k) (sliced k)) ∙ flat_all ss is are
+
+  pub items_here : (modules : List (List ℕ)) (program : Program) → map written_of ss ≡ all_written program → Lists written_cmp (IsWritten modules) (all_written program)
+      → AreItems modules (items_of spaces js)
+  items_here modules program same listed = subst (AreItems modules) (sym items_path) (items_are modules program ss same listed)
+
+  pub flat_here : AreFlat (items_of spaces js)
+  flat_here = subst AreFlat (sym items_path) (flat_is_flat ss)
+
+  pub placed_here : ArePlaced spaces js
+  placed_here = subst (λ (z : List Space). ArePlaced z js) (sym global) (subst (λ (z : List Instance). ArePlaced [] z) (sym sliced) (flat_placed ss is are))
+
+-- the sections, as a table
+module _ (xs : List Item) (s : OptSet) (names : Kind → List (List ℕ)) (users roles types : List (List ℕ)) (classes : List Class) (user_roles role_types : List Link) (allow : List Rule) where
+  pub table_of : users ≡ names kinds.User → roles ≡ names kinds.Role → types ≡ names kinds.Type_
+      → Lists text_cmp (IsNameOf xs s kinds.User) (names kinds.User) → Lists text_cmp (IsNameOf xs s kinds.Role) (names kinds.Role) → Lists text_cmp (IsNameOf xs s kinds.Type_) (names kinds.Type_)
+      → Gives class_cmp (Declared xs s kinds.Class) (IsRowOf xs) classes
+      → Lists link_cmp (IsLink xs s keywords.UserRole kinds.User kinds.Role (names kinds.User) (names kinds.Role)) user_roles
+      → Lists link_cmp (IsLink xs s keywords.RoleType kinds.Role kinds.Type_ (names kinds.Role) (names kinds.Type_)) role_types
+      → Gives rule_cmp (IsCase xs s keywords.Allow) (IsRuleOf xs s (names kinds.Type_) classes) allow
+      → IsTable xs s (record { users = users; roles = roles; types = types; classes = classes; user_roles = user_roles; role_types = role_types; allow = allow })
+  table_of u r t us rs ts cs urs rts al =
+      subst (λ (z : List (List ℕ)). IsTable xs s (record { users = z; roles = roles; types = types; classes = classes; user_roles = user_roles; role_types = role_types; allow = allow })) (sym u)
+      (subst (λ (z : List (List ℕ)). IsTable xs s (record { users = names kinds.User; roles = z; types = types; classes = classes; user_roles = user_roles; role_types = role_types; allow = allow })) (sym r)
+      (subst (λ (z : List (List ℕ)). IsTable xs s (record { users = names kinds.User; roles = names kinds.Role; types = z; classes = classes; user_roles = user_roles; role_types = role_types; allow = allow })) (sym t)
+      (record { users = us; roles = rs; types = ts; classes = cs; user_roles = urs; role_types = rts; allow = al })))

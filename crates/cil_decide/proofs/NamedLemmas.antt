@@ -1,0 +1,155 @@
+-- The sections of the tables, from the entries of the declared names.
+use Rattle.std.specs.Prelude.{Contains, Some, slice_get}
+use Rattle.std.specs.Global.{Vec}
+use Rattle.std.specs.List.Sorted.{IsStrictlySortedBy}
+use Rattle.std.specs.Option.{option_map, unwrap_or}
+use Rattle.std.proofs.Common.{◌≡◌, ℕ, true, List, [], get_or, map, refl, sym, ◌∙◌, ap, subst}
+use Rattle.std.proofs.lemmas.Option.{slice_get-map}
+use Rattle.cil_sexpr.specs.Gives.{Gives}
+use Rattle.cil_sexpr.specs.Lists.{Lists, text_cmp, contains_none}
+use Rattle.cil_syntax.specs.declared.fault.Bytes.{Bytes}
+use Rattle.cil_syntax.specs.declared.kind.Kind.{Kind}
+use Rattle.cil_syntax.specs.declared.kind.Kind.TheVariants as kinds
+use Rattle.cil_syntax.specs.declared.kind.Sign.TheVariants as signs
+use Rattle.cil_syntax.specs.declared.program.Statement.{Statement}
+use Rattle.cil_syntax.specs.declared.term.Word.{Word}
+use Rattle.cil_syntax.specs.Said.{args_of}
+use Rattle.cil_syntax.specs.Sorted.{lists_of}
+use Rattle.cil_syntax.specs.Spelling.{is_name}
+use Rattle.cil_syntax.specs.Table.{entry_of}
+use Rattle.cil_syntax.specs.Terms.{Name, Terms, cons}
+use Rattle.cil_names.specs.declared.entry.Entry.{Entry}
+use Rattle.cil_names.specs.declared.instance.Instance.{Instance}
+use Rattle.cil_names.specs.declared.numbers.Sections.{Sections}
+use Rattle.cil_names.specs.declared.space.Space.{Space}
+use Rattle.cil_names.specs.Declarations.{Declaration, IsDeclaration, object, by, declared_by, Declared, Symbol, name_of}
+use Rattle.cil_names.specs.Entries.{AreEntries, is_declared_in, item_of, items_of, scoped}
+use Rattle.cil_names.specs.Item.{Item, OptSet, everybody}
+use Rattle.cil_names.specs.Numbers.{AreApart, AreNumbers, ArePlainNames, IsNameAmong, has_section, names_of, spelled_of, symbol_of}
+use Rattle.cil_names.specs.Resolves.{has_permission, is_wanted}
+use Rattle.cil_names.specs.Unresolved.{ArePermissions, listed_at}
+use Rattle.cil_decide.specs.ClassRows.{AreRowsOf, IsRowOfEntry}
+use Rattle.cil_decide.specs.Compiled.{IsNameOf, IsRowOf}
+use Rattle.cil_decide.specs.declared.tables.Class.{Class}
+use Rattle.cil_decide.specs.Known.{AreClasses}
+use Rattle.cil_decide.specs.Table.{class_cmp}
+use Rattle.cil_decide.proofs.ClassRowLemmas.{class_from, class_named, class_parts}
+use Rattle.cil_decide.proofs.CompileLemmas.{AreNamed, rising_by}
+use Rattle.cil_decide.proofs.ListLemmas.{from_map}
+use Rattle.cil_decide.proofs.SearchLemmas.{member_of_number, number_is, number_of_member}
+use Rattle.cil_decide.proofs.WideClasses.{in_front, of_own_kind}
+use Rattle.cil_decide.proofs.WidthLemmas.{listed_are, said_front}
+
+module _ (ss : List Space) (is : List Instance) (es : List Entry) (entries : AreEntries ss is es) where
+  -- ---- names of entries, as names of items
+
+  module _ (s : OptSet) (kind : Kind) where
+    name_there : (name : List ℕ) → IsNameAmong ss es s kind name → IsNameOf (items_of ss is) s kind name
+    name_there name among =
+        let (i, at) = number_of_member es among.entry among.among in
+        let (d, declares, of_kind, in_space, of_name) = entries.only s i among.entry at among.live in
+        record {
+          symbol = symbol_of ss among.entry;
+          declared = record { declaration = d; declares = declares; of_kind = of_kind ∙ among.of_kind; in_space = in_space; of_name = of_name };
+          named = among.spelled;
+        }
+
+    name_back : (name : List ℕ) → IsNameOf (items_of ss is) s kind name → IsNameAmong ss es s kind name
+    name_back name of =
+        let d = of.declared in
+        let (i, e) = entries.each s d.declaration d.declares in
+        let same : symbol_of ss e.entry ≡ of.symbol = λ j. record { space = (e.in_space ∙ d.in_space) j; name = (e.of_name ∙ d.of_name) j } in
+        record {
+          entry = e.entry;
+          among = member_of_number es i e.entry e.at;
+          of_kind = e.of_kind ∙ d.of_kind;
+          live = e.live;
+          spelled = ap name_of same ∙ of.named;
+        }
+
+    pub names_are : (names : List (List ℕ)) → Lists text_cmp (IsNameAmong ss es s kind) names → Lists text_cmp (IsNameOf (items_of ss is) s kind) names
+    names_are names = lists_of text_cmp (IsNameAmong ss es s kind) (IsNameOf (items_of ss is) s kind) names name_there name_back
+
+  -- ---- the rows of the classes
+
+  module _ (s : OptSet) (n : Sections) (numbers : List ℕ) (numbered : AreNumbers ss es s (names_of n) numbers) (apart : AreApart es s numbers)
+      (lists : List (Vec Bytes)) (permissions : ArePermissions ss es (items_of ss is) lists) (rows : List Class) (are : AreRowsOf ss es s lists n.classes.items rows) where
+    sorted : IsStrictlySortedBy text_cmp n.classes.items
+    sorted = (numbered.lists kinds.Class refl).rising
+
+    -- two entries of classes with one name are one
+    one_entry : (d k : ℕ) (e f : Entry) → slice_get es d ≡ Some e → slice_get es k ≡ Some f → e.kind ≡ kinds.Class → f.kind ≡ kinds.Class → is_declared_in s e ≡ true → is_declared_in s f ≡ true
+        → spelled_of ss e ≡ spelled_of ss f → e ≡ f
+    one_entry d k e f at bt ke kf le lf same =
+        let one : get_or numbers d 0 ≡ get_or numbers k 0 =
+        (number_is n.classes.items (spelled_of ss f) (get_or numbers k 0) (class_named ss es s n numbers numbered k f bt (class_from s f kf lf)) sorted).only (get_or numbers d 0)
+        (class_named ss es s n numbers numbered d e at (class_from s e ke le) ∙ ap Some same) in
+        let number = apart d k e f at bt (ke ∙ sym kf) (ap has_section ke) le lf one in
+        ap (λ o. unwrap_or o e) (sym at ∙ ap (slice_get es) number ∙ bt)
+
+    pub classes_are : AreClasses (items_of ss is) s n.classes.items rows
+    classes_are = record {
+      named = are.named;
+      each = λ row c member d named.
+          let (k, at) = number_of_member rows row member in
+          let row_is = are.each k row at in
+          let (kind, live) = class_parts s row_is.entry row_is.is_class in
+          let (i, e) = entries.each s d.declaration d.declares in
+          let symbol : symbol_of ss e.entry ≡ c = λ j. record { space = (e.in_space ∙ d.in_space) j; name = (e.of_name ∙ d.of_name) j } in
+          let same = one_entry row_is.number i row_is.entry e.entry row_is.at e.at kind (e.of_kind ∙ d.of_kind) live e.live (row_is.spelled ∙ named ∙ sym (ap name_of symbol)) in
+          subst (Lists text_cmp (λ p. has_permission (items_of ss is) c p ≡ true)) (sym row_is.listed)
+          (subst (λ (t : Symbol). Lists text_cmp (λ p. has_permission (items_of ss is) t p ≡ true) (listed_at lists row_is.number)) (ap (symbol_of ss) same ∙ symbol)
+          (listed_are lists row_is.number ss es (items_of ss is) permissions row_is.entry row_is.at (ap (is_wanted signs.Classes) kind)));
+    }
+
+    name_at : (k : ℕ) (row : Class) → slice_get rows k ≡ Some row → slice_get n.classes.items k ≡ Some row.name
+    name_at k row at = ap (λ l. slice_get l k) (sym are.named) ∙ slice_get-map (λ (r : Class). r.name) rows k ∙ ap (option_map (λ r. r.name)) at
+
+    class_names : Lists text_cmp (IsNameOf (items_of ss is) s kinds.Class) n.classes.items
+    class_names = names_are s kinds.Class n.classes.items (numbered.lists kinds.Class refl)
+
+    pub classes_rise : IsStrictlySortedBy class_cmp rows
+    classes_rise = rising_by (λ (c : Class). c.name) rows (subst (IsStrictlySortedBy text_cmp) (sym are.named) sorted)
+
+    -- each row is that of a declared class
+    pub class_of_row : (row : Class) → Contains rows row → (c : Symbol) × Declared (items_of ss is) s kinds.Class c × IsRowOf (items_of ss is) c row
+    class_of_row row member =
+        let (k, at) = number_of_member rows row member in
+        let of = (class_names.members row.name).0 (member_of_number n.classes.items k row.name (name_at k row at)) in
+        (of.symbol, of.declared, record { named = sym of.named; permissions = classes_are.each row of.symbol member of.declared (sym of.named) })
+
+    -- each declared class has a row
+    row_of_class : (c : Symbol) → Declared (items_of ss is) s kinds.Class c → (row : Class) × IsRowOf (items_of ss is) c row × Contains rows row
+    row_of_class c d =
+        let member = (class_names.members (name_of c)).1 (record { symbol = c; declared = d; named = refl }) in
+        let (row, c_row, named) = from_map (λ (r : Class). r.name) rows (name_of c) (subst (λ l. Contains l (name_of c)) (sym are.named) member) in
+        (row, record { named = named; permissions = classes_are.each row c c_row d named }, c_row)
+
+    pub classes_given : Gives class_cmp (Declared (items_of ss is) s kinds.Class) (IsRowOf (items_of ss is)) rows
+    classes_given = record { rising = classes_rise; each = row_of_class; only = class_of_row }
+
+    pub rows_rise : (row : Class) → Contains rows row → IsStrictlySortedBy text_cmp row.permissions
+    rows_rise row member = (class_of_row row member).2.permissions.rising
+
+-- ---- names as the language has them
+
+-- where no namespace is inside another one, all names are those that statements declare
+pub plain_names : (ss : List Statement) (is : List Instance) (es : List Entry) → AreNamed ss → ((i : Instance) → Contains is i → Contains ss i.statement.now)
+    → AreEntries [] is es → ArePlainNames [] es
+plain_names ss is es named among entries = record {
+  spaces = λ s c. absurd (contains_none s c);
+  entries = λ e c.
+      let (i, at) = number_of_member es e c in
+      let (d, declares, of_kind, in_space, of_name) = entries.only everybody i e at (entries.used i e at) in
+      subst (λ n. is_name n ≡ true) of_name (plain d declares);
+}
+  where
+    plain : (d : Declaration) → IsDeclaration (items_of [] is) everybody d → is_name d.name ≡ true
+    plain d object = refl
+    plain d (by x f c on declares) =
+        let (i, ci, e) = from_map (item_of []) is x c in
+        let declares_here : Contains (declared_by (item_of [] i)) f = subst (λ (y : Item). Contains (declared_by y) f) (sym e) declares in
+        let kind = of_own_kind (item_of [] i).space (entry_of i.statement.now.keyword).declares (item_of [] i).args f declares_here in
+        let front = in_front (item_of [] i).space (entry_of i.statement.now.keyword).declares (item_of [] i).args f declares_here in
+        let (more, says) = said_front (scoped [] i.scope.now) (args_of i.statement.now) front.at f.name front.rest front.says in
+        named i.statement.now f.kind front.at f.name more (among i ci) kind says
