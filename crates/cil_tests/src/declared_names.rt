@@ -10,7 +10,7 @@ use std::test::Fail;
 const SPACES: &[(usize, &[u8])] = &[(0, b"p"), (0, b"r"), (1, b"q")];
 
 /// None where there is no memory.
-fn spaces(alloc: Global) -> Option<Spaces<'static>> {
+pub(crate) fn spaces(alloc: Global) -> Option<Spaces<'static>> {
     let mut spaces = Vec::new(alloc);
     for &(outer, name) in SPACES {
         let space = Space {

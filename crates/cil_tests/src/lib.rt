@@ -31,6 +31,8 @@ mod merged_hosts;
 #[cfg(test)]
 mod module_sets;
 #[cfg(test)]
+mod placed_words;
+#[cfg(test)]
 mod policies;
 #[cfg(test)]
 mod requests;
@@ -43,6 +45,10 @@ mod statements;
 #[cfg(test)]
 mod streams;
 #[cfg(test)]
+mod symbol_numbers;
+#[cfg(test)]
 mod text_faults;
 #[cfg(test)]
 mod texts;
+#[cfg(test)]
+mod word_meanings;

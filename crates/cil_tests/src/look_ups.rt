@@ -8,10 +8,11 @@ use std::test::Fail;
 /// Namespaces, each by the number of the one round it and its own name: `p` has the number 1, `r` 2 and `p.q` 3.
 const SPACES: &[(usize, &[u8])] = &[(0, b"p"), (0, b"r"), (1, b"q")];
 
-/// A declared name: its namespace, its name, its kind, and the optionals round each of its statements.
-type Declared = (usize, &'static [u8], Kind, &'static [&'static [usize]]);
+/// A declared name: its namespace, its name, its kind, and the optionals round each of its statements. A name with no
+/// optionals is declared outside all.
+pub(crate) type Declared = (usize, &'static [u8], Kind, &'static [&'static [usize]]);
 
-/// Declared names, in order. A name with no optionals is declared outside all.
+/// Declared names, in order.
 const DECLARED: &[Declared] = &[
     (0, b"o", Kind::Type_, &[]),
     (0, b"x", Kind::Type_, &[]),
@@ -54,9 +55,10 @@ fn rounds(alloc: Global, optionals: &[&[usize]]) -> Result<Vec<Vec<usize>>, Fail
     Ok(rounds)
 }
 
-fn entries(alloc: Global) -> Result<Vec<Entry<'static>>, Fail> {
+/// The entries of declared names.
+pub(crate) fn entries(alloc: Global, declared: &[Declared]) -> Result<Vec<Entry<'static>>, Fail> {
     let mut entries = Vec::new(alloc);
-    for &(space, name, kind, optionals) in DECLARED {
+    for &(space, name, kind, optionals) in declared {
         entries.push(Entry {
             space,
             name: Excerpt::of(name),
@@ -84,7 +86,7 @@ fn named(
     flags: &[bool],
 ) -> Result<Option<usize>, Fail> {
     let spaces = spaces(alloc)?;
-    let names = Names::checked(&spaces, entries(alloc)?).ok_or("they do not rise")?;
+    let names = Names::checked(&spaces, entries(alloc, DECLARED)?).ok_or("they do not rise")?;
     let mut enabled = Vec::new(alloc);
     enabled.extend_from_slice(flags)?;
     if !spaces.has_all(scope) {
@@ -183,7 +185,7 @@ fn words_name_the_first_that_is_declared(rt: HostRuntime) -> Result<(), Fail> {
 /// The numbers of the declared names that a word could name in a scope, whatever is enabled.
 fn could_name(alloc: Global, word: &Word<'static>, scope: &[usize]) -> Result<Vec<usize>, Fail> {
     let spaces = spaces(alloc)?;
-    let names = Names::checked(&spaces, entries(alloc)?).ok_or("they do not rise")?;
+    let names = Names::checked(&spaces, entries(alloc, DECLARED)?).ok_or("they do not rise")?;
     if !spaces.has_all(scope) {
         return Err(Fail::from("no namespace"));
     }
@@ -243,7 +245,7 @@ fn with_space(alloc: Global, outer: usize, name: &'static [u8]) -> Result<bool, 
 }
 
 fn with_name(alloc: Global, space: usize, name: &'static [u8]) -> Result<bool, Fail> {
-    let mut entries = entries(alloc)?;
+    let mut entries = entries(alloc, DECLARED)?;
     entries.push(Entry {
         space,
         name: Excerpt::of(name),

@@ -1,0 +1,241 @@
+//! The numbers of declared symbols, and the permissions of classes.
+
+use crate::declared_names::spaces;
+use crate::look_ups::{Declared, entries};
+use crate::placed_words::{GLOBAL, INNER, OPTIONAL, P, PQ, Place, R, instances, show_entry};
+use crate::policies::set_of;
+use cil_names::{Lookup, Names, Numbering, OptSet, are_placed, declare, numbered, permissions_of};
+use cil_syntax::{Bytes, Kind, Statement, written};
+use std::alloc::Global;
+use std::test::Fail;
+
+/// Adds some names, with blanks between and in parentheses.
+fn show_names(out: &mut String, names: &[Bytes]) -> Result<(), Fail> {
+    write!(out, "(")?;
+    for (i, name) in names.iter().enumerate() {
+        let name = str::from_utf8(name.as_slice()).ok().ok_or("no text")?;
+        let blank = if i > 0 { " " } else { "" };
+        write!(out, "{blank}{name}")?;
+    }
+    write!(out, ")")?;
+    Ok(())
+}
+
+/// The users, roles, types and classes, and the number of each entry.
+fn show_numbers(alloc: Global, numbering: &Numbering) -> Result<String, Fail> {
+    let mut out = String::new(alloc);
+    for kind in [Kind::User, Kind::Role, Kind::Type_, Kind::Class] {
+        show_names(&mut out, numbering.sections.names(kind))?;
+    }
+    for number in numbering.numbers.as_slice() {
+        write!(out, " {number}")?;
+    }
+    Ok(out)
+}
+
+/// The numbers of declared names where some optionals are enabled.
+fn numbers(alloc: Global, declared: &[Declared], flags: &[bool]) -> Result<String, Fail> {
+    let spaces = spaces(alloc).ok_or("no namespaces")?;
+    let names = Names::checked(&spaces, entries(alloc, declared)?).ok_or("they do not rise")?;
+    let enabled = OptSet::of(Vec::from_slice(alloc, flags)?);
+    let lookup = Lookup {
+        spaces: &spaces,
+        names: &names,
+        enabled: &enabled,
+    };
+    show_numbers(alloc, &numbered(alloc, &lookup)?)
+}
+
+/// What the rows below are about, the declared names by namespace, name and name space, and for some sets of optionals the
+/// users, roles, types and classes, and the number of each name.
+type Numbered = (
+    &'static str,
+    &'static [Declared],
+    &'static [(&'static [bool], &'static str)],
+);
+
+const NUMBERED: &[Numbered] = &[
+    ("nothing", &[], &[(&[], "()()()()")]),
+    (
+        "each kind in a section of its own",
+        &[
+            (0, b"c", Kind::Class, &[]),
+            (0, b"object_r", Kind::Role, &[]),
+            (0, b"u", Kind::User, &[]),
+            (0, b"z", Kind::Role, &[]),
+            (1, b"c", Kind::Class, &[]),
+            (1, b"r", Kind::Role, &[]),
+            (2, b"a", Kind::Role, &[]),
+            (3, b"t", Kind::Type_, &[]),
+            (3, b"u", Kind::User, &[]),
+        ],
+        &[(
+            &[],
+            "(p.q.u u)(object_r p.r r.a z)(p.q.t)(c p.c) 0 0 1 3 1 1 2 0 0",
+        )],
+    ),
+    (
+        // A hyphen comes before the dot, digits and letters come behind it.
+        "qualified names in byte order",
+        &[
+            (0, b"p", Kind::Type_, &[]),
+            (0, b"p-x", Kind::Type_, &[]),
+            (0, b"p0", Kind::Type_, &[]),
+            (0, b"pa", Kind::Type_, &[]),
+            (0, b"q", Kind::Type_, &[]),
+            (1, b"X", Kind::Type_, &[]),
+            (1, b"x", Kind::Type_, &[]),
+            (2, b"a", Kind::Type_, &[]),
+            (3, b"x", Kind::Type_, &[]),
+        ],
+        &[(
+            &[],
+            "()()(p p-x p.X p.q.x p.x p0 pa q r.a)() 0 1 5 6 7 2 4 8 3",
+        )],
+    ),
+    (
+        "aliases, attributes, class maps, blocks and macros have no section",
+        &[
+            (0, b"a", Kind::TypeAttribute, &[]),
+            (0, b"b", Kind::Type_, &[]),
+            (0, b"b", Kind::RoleAttribute, &[]),
+            (0, b"b", Kind::UserAttribute, &[]),
+            (0, b"b", Kind::ClassMap, &[]),
+            (0, b"b", Kind::Block, &[]),
+            (0, b"c", Kind::TypeAlias, &[]),
+            (0, b"c", Kind::Macro, &[]),
+            (0, b"d", Kind::Type_, &[]),
+        ],
+        &[(&[], "()()(b d)() 0 0 0 0 0 0 0 0 1")],
+    ),
+    (
+        "a type and a role of one name",
+        &[
+            (0, b"a", Kind::Role, &[]),
+            (0, b"x", Kind::Type_, &[]),
+            (0, b"x", Kind::Role, &[]),
+        ],
+        &[(&[], "()(a x)(x)() 0 0 1")],
+    ),
+    (
+        "names in optionals, where these are enabled",
+        &[
+            (0, b"a", Kind::Type_, &[&[0]]),
+            (0, b"b", Kind::Type_, &[]),
+            (0, b"c", Kind::Type_, &[&[1, 0], &[2]]),
+            (1, b"a", Kind::Type_, &[&[1]]),
+        ],
+        &[
+            (&[], "()()(b)() 0 0 0 0"),
+            (&[true], "()()(a b)() 0 1 0 0"),
+            (&[false, true], "()()(b p.a)() 0 0 0 1"),
+            (&[true, true], "()()(a b c p.a)() 0 1 2 3"),
+            (&[false, false, true], "()()(b c)() 0 0 1 0"),
+        ],
+    ),
+];
+
+#[test]
+fn symbols_are_numbered_by_their_names(rt: HostRuntime) -> Result<(), Fail> {
+    for &(name, declared, rows) in NUMBERED {
+        for &(flags, wanted) in rows {
+            assert_eq!(rt;
+                numbers(rt.alloc(), declared, flags)?.as_str(),
+                wanted,
+                "{name}"
+            );
+        }
+    }
+    Ok(())
+}
+
+/// The permissions of each declared name.
+fn show_permissions(
+    alloc: Global,
+    names: &Names,
+    permissions: &[Vec<Bytes>],
+) -> Result<String, Fail> {
+    let mut out = String::new(alloc);
+    for (entry, listed) in names.entries().iter().zip(permissions) {
+        write!(out, "[")?;
+        show_entry(&mut out, entry)?;
+        show_names(&mut out, listed.as_slice())?;
+        write!(out, "]")?;
+    }
+    Ok(out)
+}
+
+/// The permissions that statements at their places list.
+fn listed(alloc: Global, statements: &[Statement], places: &[Place]) -> Result<String, Fail> {
+    let spaces = spaces(alloc).ok_or("no namespaces")?;
+    let instances = instances(alloc, statements, places).ok_or("no instances")?;
+    let instances = instances.as_slice();
+    if !are_placed(&spaces, instances) {
+        return Err(Fail::from("no namespace"));
+    }
+    let names = declare(alloc, &spaces, instances)?;
+    let permissions = permissions_of(alloc, &spaces, &names, instances)?;
+    show_permissions(alloc, &names, permissions.as_slice())
+}
+
+/// The same of the statements of a text.
+fn permissions(alloc: Global, text: &str, places: &[Place]) -> Result<String, Fail> {
+    let modules = set_of(alloc, &[text])?;
+    let program = written(alloc, &modules)?;
+    listed(alloc, program.statements(), places)
+}
+
+/// A text, the places of its statements, and the permissions of each declared name.
+const LISTED: &[(&str, &[Place], &str)] = &[
+    ("", &[], "[Role object_r()]"),
+    ("(class w ())", &[GLOBAL], "[Role object_r()][Class w()]"),
+    (
+        "(class file (read append open))",
+        &[GLOBAL],
+        "[Class file(append open read)][Role object_r()]",
+    ),
+    // In byte order, each once.
+    (
+        "(class w (b a_ a B a1 b a-))",
+        &[PQ],
+        "[Role object_r()][Class p.q.w(B a a- a1 a_ b)]",
+    ),
+    (
+        "(class w (q p))(class w (q p))",
+        &[GLOBAL, GLOBAL],
+        "[Role object_r()][Class w(p q)]",
+    ),
+    (
+        "(class w (b a))(class w (c a))(class v (d))(class w ())",
+        &[R, P, P, PQ],
+        "[Role object_r()][Class p.v(d)][Class p.w(a c)][Class r.w(a b)][Class p.q.w()]",
+    ),
+    (
+        "(class w (p))(type w)(type p)(allow p w (w (p)))",
+        &[GLOBAL, GLOBAL, GLOBAL, GLOBAL],
+        "[Role object_r()][Type_ p()][Type_ w()][Class w(p)]",
+    ),
+    // In optionals, and outside all of them too.
+    (
+        "(class v (p))(class w (p))",
+        &[INNER, OPTIONAL],
+        "[Role object_r()][Class v()][Class w()]",
+    ),
+    (
+        "(class w (p))(class w (p))",
+        &[OPTIONAL, GLOBAL],
+        "[Role object_r()][Class w(p)]",
+    ),
+];
+
+#[test]
+fn classes_have_the_permissions_that_are_listed(rt: HostRuntime) -> Result<(), Fail> {
+    for &(text, places, wanted) in LISTED {
+        assert_eq!(rt;
+            permissions(rt.alloc(), text, places)?.as_str(),
+            wanted,
+            "{text}"
+        );
+    }
+    Ok(())
+}
