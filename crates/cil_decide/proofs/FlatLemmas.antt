@@ -75,7 +75,7 @@ pub none_yet : (ss : List Statement) (is : List Instance) → is ≡ [] → AreI
 none_yet [] is e = subst (AreInstances []) (sym e) (record { statements = refl; each = λ i c. absurd (contains_none i c) })
 none_yet (s ∷ ss) is e = subst (AreInstances []) (sym e) (record { statements = refl; each = λ i c. absurd (contains_none i c) })
 
-pub one_more : (ss : List Statement) (k : ℕ) (s : Statement) (i : Instance) (old new : List Instance) → k < length ss → s ≡ get_or ss k s → i.statement.now ≡ s → IsGlobal i
+pub one_more : (ss : List Statement) (k : ℕ) (s : Statement) (i : Instance) (old new : List Instance) → k < length ss → s ≡ get_or ss k s → i.statement.now ≡ s → IsGlobal i.place.now
     → new ≡ old ++ i ∷ [] → AreInstances (take k ss) old → AreInstances (take (k + 1) ss) new
 one_more ss k s i old new within at is global push are = record {
   statements =
@@ -85,14 +85,14 @@ one_more ss k s i old new within at is global push are = record {
       ∙ sym (take_more ss k s within);
   each = λ j c. elim (Contains-append_cases old (i ∷ []) j (subst (λ z. Contains z j) push c)) [
     | inl d ↦ are.each j d
-    | inr d ↦ elim (contains_cases j i [] d) [ inl e ↦ subst IsGlobal e global | inr n ↦ absurd (contains_none j n) ]
+    | inr d ↦ elim (contains_cases j i [] d) [ inl e ↦ subst (λ (k : Instance). IsGlobal k.place.now) e global | inr n ↦ absurd (contains_none j n) ]
   ];
 }
 
 pub all_yet : (ss : List Statement) (k : ℕ) (is : List Instance) → length ss ≤ k → AreInstances (take k ss) is → AreInstances ss is
 all_yet ss k is over are = subst (λ z. AreInstances z is) (take_all k ss over) are
 
-module _ (i : Instance) (global : IsGlobal i) where
+module _ (i : Instance) (global : IsGlobal i.place.now) where
   one_scope : scoped [] (0 ∷ []) ≡ globally
   unfolding space_at spaces_from
   one_scope = refl
@@ -124,7 +124,7 @@ module _ (ss : List Statement) (is : List Instance) (are : AreInstances ss is) w
   pub flat_all : items_of [] is ≡ flat_items ss
   flat_all = each is are.each ∙ ap (map flat_item) are.statements
     where
-      each : (js : List Instance) → ((i : Instance) → Contains js i → IsGlobal i) → map (item_of []) js ≡ map flat_item (map (λ (i : Instance). i.statement.now) js)
+      each : (js : List Instance) → ((i : Instance) → Contains js i → IsGlobal i.place.now) → map (item_of []) js ≡ map flat_item (map (λ (i : Instance). i.statement.now) js)
       each [] all = refl
       each (j ∷ js) all =
           λ k. flat_one j (all j (contains_here j js)) k ∷ each js (λ i c. all i (contains_later i j js c)) k

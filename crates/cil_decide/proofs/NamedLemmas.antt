@@ -151,5 +151,5 @@ plain_names ss is es named among entries = record {
         let declares_here : Contains (declared_by (item_of [] i)) f = subst (λ (y : Item). Contains (declared_by y) f) (sym e) declares in
         let kind = of_own_kind (item_of [] i).space (entry_of i.statement.now.keyword).declares (item_of [] i).args f declares_here in
         let front = in_front (item_of [] i).space (entry_of i.statement.now.keyword).declares (item_of [] i).args f declares_here in
-        let (more, says) = said_front (scoped [] i.scope.now) (args_of i.statement.now) front.at f.name front.rest front.says in
+        let (more, says) = said_front (scoped [] i.place.now.scope.items) (args_of i.statement.now) front.at f.name front.rest front.says in
         named i.statement.now f.kind front.at f.name more (among i ci) kind says

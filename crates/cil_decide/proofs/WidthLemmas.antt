@@ -124,7 +124,7 @@ module _ (ss : List Space) (is : List Instance) (es : List Entry) (s : OptSet) (
 
   declares_by : (f : Fault) (w : IsWide s xs x f) → DeclaresClass i.statement.now w.at w.name
   declares_by f w =
-      let (more, says) = said_front (scoped ss i.scope.now) (args_of i.statement.now) w.at w.name w.rest w.says in
+      let (more, says) = said_front (scoped ss i.place.now.scope.items) (args_of i.statement.now) w.at w.name w.rest w.says in
       record { keyword = w.keyword; rest = more; says = says }
 
   pub declares_none : DeclaresNoClass i.statement.now → (f : Fault) → IsWide s xs x f → ⊥
@@ -136,54 +136,54 @@ module _ (ss : List Space) (is : List Instance) (es : List Entry) (s : OptSet) (
         let e : cons (Name bt other) d.rest ≡ cons (Name at name) declares.rest = sym d.says ∙ declares.says in (cc, cc)
 
     abbrev declaration : Declaration
-    declaration = record { kind = kinds.Class; space = space_at ss i.space; name = name; content = content_of (all_replaced (λ bt. bt) (scoped ss i.scope.now) declares.rest) }
+    declaration = record { kind = kinds.Class; space = space_at ss i.place.now.space; name = name; content = content_of (all_replaced (λ bt. bt) (scoped ss i.place.now.scope.items) declares.rest) }
 
     declared : Contains (declared_by x) declaration
     declared =
         subst (λ ds. Contains ds declaration)
-        (sym (ap (λ k. declarations (space_at ss i.space) (entry_of k).declares (all_replaced (λ bt. bt) (scoped ss i.scope.now) (args_of i.statement.now))) declares.keyword
-        ∙ ap (λ ks. declarations (space_at ss i.space) ks (all_replaced (λ bt. bt) (scoped ss i.scope.now) (args_of i.statement.now))) class_declares
-        ∙ ap (λ ts. declarations (space_at ss i.space) (kinds.Class ∷ []) (all_replaced (λ bt. bt) (scoped ss i.scope.now) ts)) declares.says
-        ∙ begun (scoped ss i.scope.now) (space_at ss i.space) at name declares.rest))
+        (sym (ap (λ k. declarations (space_at ss i.place.now.space) (entry_of k).declares (all_replaced (λ bt. bt) (scoped ss i.place.now.scope.items) (args_of i.statement.now))) declares.keyword
+        ∙ ap (λ ks. declarations (space_at ss i.place.now.space) ks (all_replaced (λ bt. bt) (scoped ss i.place.now.scope.items) (args_of i.statement.now))) class_declares
+        ∙ ap (λ ts. declarations (space_at ss i.place.now.space) (kinds.Class ∷ []) (all_replaced (λ bt. bt) (scoped ss i.place.now.scope.items) ts)) declares.says
+        ∙ begun (scoped ss i.place.now.scope.items) (space_at ss i.place.now.space) at name declares.rest))
         (contains_here declaration [])
 
     module _ (entries : AreEntries ss is es) (member : Contains is i) where
       -- an enabled class has an entry
-      pub no_entry : HasNoEntryIn ss es name signs.Classes (space_at ss i.space) → (f : Fault) → IsWide s xs x f → ⊥
+      pub no_entry : HasNoEntryIn ss es name signs.Classes (space_at ss i.place.now.space) → (f : Fault) → IsWide s xs x f → ⊥
       no_entry none f w =
           let (d, e) = entries.each s declaration (by x declaration (contains_map (item_of ss) is i member) w.enabled declared) in
-          none d e.entry e.at (entry_fits ss name (space_at ss i.space) e.entry e.in_space e.of_name (ap (is_wanted signs.Classes) e.of_kind))
+          none d e.entry e.at (entry_fits ss name (space_at ss i.place.now.space) e.entry e.in_space e.of_name (ap (is_wanted signs.Classes) e.of_kind))
 
-      module _ (lists : List (Vec Bytes)) (permissions : ArePermissions ss es xs lists) (d : ℕ) (entry : IsEntryIn ss es name signs.Classes (space_at ss i.space) d) where
-        symbol_is : symbol_of ss entry.entry ≡ record { space = space_at ss i.space; name = name }
-        symbol_is = let (space, named, wanted) = entry_parts ss name (space_at ss i.space) entry.entry entry.fits in λ j. record { space = space j; name = named j }
+      module _ (lists : List (Vec Bytes)) (permissions : ArePermissions ss es xs lists) (d : ℕ) (entry : IsEntryIn ss es name signs.Classes (space_at ss i.place.now.space) d) where
+        symbol_is : symbol_of ss entry.entry ≡ record { space = space_at ss i.place.now.space; name = name }
+        symbol_is = let (space, named, wanted) = entry_parts ss name (space_at ss i.place.now.space) entry.entry entry.fits in λ j. record { space = space j; name = named j }
 
-        listed : Lists text_cmp (λ p. has_permission xs (record { space = space_at ss i.space; name = name }) p ≡ true) (listed_at lists d)
+        listed : Lists text_cmp (λ p. has_permission xs (record { space = space_at ss i.place.now.space; name = name }) p ≡ true) (listed_at lists d)
         listed =
-            let (space, named, wanted) = entry_parts ss name (space_at ss i.space) entry.entry entry.fits in
+            let (space, named, wanted) = entry_parts ss name (space_at ss i.place.now.space) entry.entry entry.fits in
             subst (λ (c : Symbol). Lists text_cmp (λ p. has_permission xs c p ≡ true) (listed_at lists d)) symbol_is (listed_are lists d ss es xs permissions entry.entry entry.at wanted)
 
         pub few : length (listed_at lists d) ≤ most_permissions → (f : Fault) → IsWide s xs x f → ⊥
         few short f w =
             let (spot, same) = one_class w.at w.name (declares_by f w) in
-            let here : Lists text_cmp (λ p. has_permission xs (record { space = space_at ss i.space; name = name }) p ≡ true) w.permissions =
-            subst (λ n. Lists text_cmp (λ p. has_permission xs (record { space = space_at ss i.space; name = n }) p ≡ true) w.permissions) same w.listed in
-            let one = ap length (one_list text_cmp nat_list_cmp_total (λ p. has_permission xs (record { space = space_at ss i.space; name = name }) p ≡ true) w.permissions (listed_at lists d) here listed) in
+            let here : Lists text_cmp (λ p. has_permission xs (record { space = space_at ss i.place.now.space; name = name }) p ≡ true) w.permissions =
+            subst (λ n. Lists text_cmp (λ p. has_permission xs (record { space = space_at ss i.place.now.space; name = n }) p ≡ true) w.permissions) same w.listed in
+            let one = ap length (one_list text_cmp nat_list_cmp_total (λ p. has_permission xs (record { space = space_at ss i.place.now.space; name = name }) p ≡ true) w.permissions (listed_at lists d) here listed) in
             let big = w.wide in
             omega (arith, short, one, big)
 
         pub many : is_enabled s x ≡ true → most_permissions < length (listed_at lists d) → (f : Fault)
-            → (IsWide s xs x f → f ≡ fault_at causes.ClassWide at (space_at ss i.space) name) × (f ≡ fault_at causes.ClassWide at (space_at ss i.space) name → IsWide s xs x f)
+            → (IsWide s xs x f → f ≡ fault_at causes.ClassWide at (space_at ss i.place.now.space) name) × (f ≡ fault_at causes.ClassWide at (space_at ss i.place.now.space) name → IsWide s xs x f)
         many on big f = (
-          (λ w. let (spot, same) = one_class w.at w.name (declares_by f w) in w.told ∙ (λ j. fault_at causes.ClassWide (spot j) (space_at ss i.space) (same j))),
+          (λ w. let (spot, same) = one_class w.at w.name (declares_by f w) in w.told ∙ (λ j. fault_at causes.ClassWide (spot j) (space_at ss i.place.now.space) (same j))),
           (λ told. record {
             at = at;
             name = name;
-            rest = all_replaced (λ bt. bt) (scoped ss i.scope.now) declares.rest;
+            rest = all_replaced (λ bt. bt) (scoped ss i.place.now.scope.items) declares.rest;
             permissions = listed_at lists d;
             enabled = on;
             keyword = declares.keyword;
-            says = ap (all_replaced (λ bt. bt) (scoped ss i.scope.now)) declares.says ∙ item_says (scoped ss i.scope.now) at name declares.rest;
+            says = ap (all_replaced (λ bt. bt) (scoped ss i.place.now.scope.items)) declares.says ∙ item_says (scoped ss i.place.now.scope.items) at name declares.rest;
             listed = listed;
             wide = big;
             told = told;

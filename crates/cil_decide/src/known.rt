@@ -42,7 +42,7 @@ impl<'s, 'a> Known<'s, 'a> {
     pub fn is_enabled(&self, instance: &Instance) -> bool
         ensures { result ≡ is_enabled (enabled_in self.now) (item_in self.now instance.now) }
     {
-        self.lookup.enabled.has_all(instance.round)
+        self.lookup.enabled.has_all(instance.place.round.as_slice())
     }
 }
 

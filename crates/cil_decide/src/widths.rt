@@ -5,9 +5,9 @@ ghost use Rattle.cil_syntax.specs.declared.fault.Fault.{Fault as AFault};
 ghost use Rattle.cil_syntax.specs.declared.kind.Keyword.TheVariants as keywords;
 ghost use Rattle.cil_syntax.specs.declared.code.FaultCode.TheVariants as causes;
 ghost use Rattle.cil_syntax.specs.Refusal.{Answers};
+ghost use Rattle.cil_syntax.specs.Reported.{fault_at};
 ghost use Rattle.cil_names.specs.declared.instance.Instance.{Instance as AnInstance};
 ghost use Rattle.cil_names.specs.Entries.{AreEntries, AreOrdered, is_in, item_of, items_of};
-ghost use Rattle.cil_names.specs.Faults.{fault_at};
 ghost use Rattle.cil_names.specs.Placed.{ArePlaced, IsPlaced};
 ghost use Rattle.cil_names.specs.Spaces.{space_at};
 ghost use Rattle.cil_names.specs.Unresolved.{ArePermissions, listed_at};
@@ -73,7 +73,7 @@ fn push_wide(
     let Some(name) = wide_class(lookup, permissions, instance) else {
         return Ok(());
     };
-    let space = lookup.spaces.spelled(alloc, instance.space)?;
+    let space = lookup.spaces.spelled(alloc, instance.place.space)?;
     let word = Bytes::copy_of(alloc, name.bytes)?;
     faults.push(Fault {
         code: FaultCode::ClassWide,
@@ -97,16 +97,21 @@ fn wide_class<'a>(
         → ArePermissions lookup.now.spaces.now lookup.now.names.now (items_of lookup.now.spaces.now is) permissions.now
         → MatchOption result ((f : AFault) → IsWide (is_in lookup.now.enabled.now) (items_of lookup.now.spaces.now is) (item_of lookup.now.spaces.now instance.now) f → ⊥)
         (λ name. (f : AFault) → IsWide (is_in lookup.now.enabled.now) (items_of lookup.now.spaces.now is) (item_of lookup.now.spaces.now instance.now) f
-        ↔ (f ≡ fault_at causes.ClassWide name.at (space_at lookup.now.spaces.now instance.now.space) name.bytes.now)) }
+        ↔ (f ≡ fault_at causes.ClassWide name.at (space_at lookup.now.spaces.now instance.now.place.now.space) name.bytes.now)) }
 {
-    if !lookup.enabled.has_all(instance.round) {
+    if !lookup.enabled.has_all(instance.place.round.as_slice()) {
         return None;
     }
     let Some(name) = class_declared(instance.statement) else {
         return None;
     };
     let names = lookup.names;
-    let Some(class) = names.entry(lookup.spaces, instance.space, name.bytes, Sign::Classes) else {
+    let Some(class) = names.entry(
+        lookup.spaces,
+        instance.place.space,
+        name.bytes,
+        Sign::Classes,
+    ) else {
         return None;
     };
     if listed_count(permissions, class) <= MOST_PERMISSIONS {

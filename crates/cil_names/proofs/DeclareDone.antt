@@ -32,27 +32,27 @@ use Rattle.cil_names.proofs.SpaceLemmas.{global_at}
 
 module _ (ss : List Space) (i : Instance) where
   abbrev pub said : Terms Word → Terms ScopedWord
-  said args = all_replaced (λ at. at) (scoped ss i.scope.now) args
+  said args = all_replaced (λ at. at) (scoped ss i.place.now.scope.items) args
 
   -- the row is one of the instance, and declares what it declares
   pub record IsRowOf (declares : List Kind) (args : Terms Word) (r : Row) : Type 0 where
     pub instance : r.instance ≡ Some i
-    pub space : r.space ≡ i.space
-    pub declared : Contains (declarations (space_at ss i.space) declares (said args)) (declaration_of ss r)
+    pub space : r.space ≡ i.place.now.space
+    pub declared : Contains (declarations (space_at ss i.place.now.space) declares (said args)) (declaration_of ss r)
 
   module _ (declares : List Kind) where
     row_named : (at : Spot) (name : List ℕ) (rest : Terms Word) → args_of i.statement.now ≡ cons (Name at name) rest → (r : Row)
         → Contains (rows_named i declares (cons (Name at name) rest)) r → IsRowOf declares (cons (Name at name) rest) r
     unfolding all_replaced
     row_named at name rest is r c =
-        let f : Kind → Row = λ kind. record { space = i.space; name = name; kind = kind; instance = Some i } in
-        let g : Kind → Declaration = λ kind. record { kind = kind; space = space_at ss i.space; name = name; content = content_of (said rest) } in
+        let f : Kind → Row = λ kind. record { space = i.place.now.space; name = name; kind = kind; instance = Some i } in
+        let g : Kind → Declaration = λ kind. record { kind = kind; space = space_at ss i.place.now.space; name = name; content = content_of (said rest) } in
         let k = from_map f declares r c in
         let same : content_of (said rest) ≡ content_at ss (Some i) = ap (λ args. content_of (behind (said args))) (sym is) in
         subst (IsRowOf declares (cons (Name at name) rest)) k.2 (record {
           instance = refl;
           space = refl;
-          declared = subst (λ content. Contains (map g declares) (record { kind = k.0; space = space_at ss i.space; name = name; content = content })) same (contains_map g declares k.0 k.1);
+          declared = subst (λ content. Contains (map g declares) (record { kind = k.0; space = space_at ss i.place.now.space; name = name; content = content })) same (contains_map g declares k.0 k.1);
         })
 
     row_declares : (args : Terms Word) → args_of i.statement.now ≡ args → (r : Row) → Contains (rows_named i declares args) r → IsRowOf declares args r
@@ -62,17 +62,17 @@ module _ (ss : List Space) (i : Instance) where
     row_declares (cons (Form at op parts) rest) is r c = absurd (contains_none r c)
 
     named_row : (at : Spot) (name : List ℕ) (rest : Terms Word) → args_of i.statement.now ≡ cons (Name at name) rest → (d : Declaration)
-        → Contains (declarations (space_at ss i.space) declares (said (cons (Name at name) rest))) d
+        → Contains (declarations (space_at ss i.place.now.space) declares (said (cons (Name at name) rest))) d
         → (r : Row) × Contains (rows_named i declares (cons (Name at name) rest)) r × (declaration_of ss r ≡ d)
     unfolding all_replaced
     named_row at name rest is d c =
-        let f : Kind → Row = λ kind. record { space = i.space; name = name; kind = kind; instance = Some i } in
-        let g : Kind → Declaration = λ kind. record { kind = kind; space = space_at ss i.space; name = name; content = content_of (said rest) } in
+        let f : Kind → Row = λ kind. record { space = i.place.now.space; name = name; kind = kind; instance = Some i } in
+        let g : Kind → Declaration = λ kind. record { kind = kind; space = space_at ss i.place.now.space; name = name; content = content_of (said rest) } in
         let k = from_map g declares d c in
         let same : content_at ss (Some i) ≡ content_of (said rest) = ap (λ args. content_of (behind (said args))) is in
-        (f k.0, contains_map f declares k.0 k.1, (λ j. record { kind = k.0; space = space_at ss i.space; name = name; content = same j }) ∙ k.2)
+        (f k.0, contains_map f declares k.0 k.1, (λ j. record { kind = k.0; space = space_at ss i.place.now.space; name = name; content = same j }) ∙ k.2)
 
-    declares_row : (args : Terms Word) → args_of i.statement.now ≡ args → (d : Declaration) → Contains (declarations (space_at ss i.space) declares (said args)) d
+    declares_row : (args : Terms Word) → args_of i.statement.now ≡ args → (d : Declaration) → Contains (declarations (space_at ss i.place.now.space) declares (said args)) d
         → (r : Row) × Contains (rows_named i declares args) r × (declaration_of ss r ≡ d)
     unfolding all_replaced
     declares_row nil is d c = absurd (contains_none d c)
@@ -107,14 +107,14 @@ module _ (ss : List Space) (spaces : AreSpaces ss) (is : List Instance) where
     | inr from ↦ let (i, d, f) = from in let of = row_of ss i r f in in_place r i of.instance of.space (placed i d)
   ]
     where
-      at_instance : (space : ℕ) (name : List ℕ) (kind : Kind) (o : Option Instance) (i : Instance) → o ≡ Some i → space ≡ i.space → IsPlaced ss i
+      at_instance : (space : ℕ) (name : List ℕ) (kind : Kind) (o : Option Instance) (i : Instance) → o ≡ Some i → space ≡ i.place.now.space → IsPlaced ss i
           → IsPlacedRow ss (record { space = space; name = name; kind = kind; instance = o })
       at_instance space name kind None i e f p = absurd cc
       at_instance space name kind (Some j) i e f p =
           let same : i ≡ j = ap (λ o. unwrap_or o j) (sym e) in
-          (subst (IsPlaced ss) same p, f ∙ ap (λ (x : Instance). x.space) same)
+          (subst (IsPlaced ss) same p, f ∙ ap (λ (x : Instance). x.place.now.space) same)
 
-      in_place : (r : Row) (i : Instance) → r.instance ≡ Some i → r.space ≡ i.space → IsPlaced ss i → IsPlacedRow ss r
+      in_place : (r : Row) (i : Instance) → r.instance ≡ Some i → r.space ≡ i.place.now.space → IsPlaced ss i → IsPlacedRow ss r
       in_place r i e f p = at_instance r.space r.name r.kind r.instance i e f p
 
   pub declared_row : (s : OptSet) (d : Declaration) → IsDeclaration (items_of ss is) s d

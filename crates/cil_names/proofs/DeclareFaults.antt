@@ -101,7 +101,7 @@ named_of : (i : Instance) (declares : List Kind) (args : Terms Word) → args_of
 named_of i declares nil e r c = absurd (contains_none r c)
 named_of i declares (cons (Leaf w) rest) e r c = absurd (contains_none r c)
 named_of i declares (cons (Name at name) rest) e r c =
-    let k = from_map (λ (kind : Kind). record { space = i.space; name = name; kind = kind; instance = Some i }) declares r c in
+    let k = from_map (λ (kind : Kind). record { space = i.place.now.space; name = name; kind = kind; instance = Some i }) declares r c in
     record { at = at; rest = rest; says = e ∙ ap (λ (x : Row). cons (Name at x.name) rest) k.2 }
 named_of i declares (cons (Form at op parts) rest) e r c = absurd (contains_none r c)
 
@@ -111,11 +111,11 @@ named_by i r c = named_of i (entry_of i.statement.now.keyword).declares (args_of
 
 module _ (ss : List Space) (i : Instance) (r : Row) (c : Contains (rows_by i) r) (by_name : IsNamedBy i r) where
   abbrev fault_of : Fault
-  fault_of = fault_at causes.Clash by_name.at (space_at ss i.space) r.name
+  fault_of = fault_at causes.Clash by_name.at (space_at ss i.place.now.space) r.name
 
   faults_are : row_faults ss r ≡ fault_of ∷ []
   unfolding row_faults
-  faults_are = ap (faults_at ss) (row_of ss i r c).instance ∙ ap (faults_named (space_at ss i.space)) by_name.says
+  faults_are = ap (faults_at ss) (row_of ss i r c).instance ∙ ap (faults_named (space_at ss i.place.now.space)) by_name.says
 
   item_says : (item_of ss i).args ≡ cons (Name by_name.at r.name) (said ss i by_name.rest)
   unfolding all_replaced
@@ -243,7 +243,7 @@ module _ (ss : List Space) (is : List Instance) (rows : List Row) (runs : List R
       let differs = differs_at run in_runs run.differing refl r other in_run (subst (λ m. Contains m.rows.now other) (sym one) in_bun) (λ h. apart.differ (sym is_d ∙ h ∙ is_e)) in
       let by_name = named_by i r by_i in
       let front = same_front by_name.at at r.name name (said ss i by_name.rest) rest (sym (item_says ss i r by_i by_name) ∙ ap (λ (y : Item). y.args) same ∙ says) in
-      let space : space_at ss i.space ≡ x.space = ap (λ (y : Item). y.space) same in
+      let space : space_at ss i.place.now.space ≡ x.space = ap (λ (y : Item). y.space) same in
       subst (Contains (flat_map (run_faults ss) runs)) (λ j. fault_at causes.Clash (front.0 j) (space j) (front.1 j)) (told_at run in_runs differs r in_run i by_i by_name)
     where
       row_in_all : (i : Instance) (r : Row) → Contains is i → Contains (rows_by i) r → Contains (all_rows is) r

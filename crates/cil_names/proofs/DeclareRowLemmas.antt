@@ -49,15 +49,15 @@ module _ (i : Instance) where
       sym (ap (λ z. rows ++ z) (ap (λ ks. rows_named i ks (args_of i.statement.now)) e ∙ none_declared (args_of i.statement.now)) ∙ append-nil rows)
 
   pub one_row : (kind : Kind) (at : Spot) (name : List ℕ) (more : Terms Word) → (entry_of i.statement.now.keyword).declares ≡ kind ∷ []
-      → args_of i.statement.now ≡ cons (Name at name) more → rows_by i ≡ record { space = i.space; name = name; kind = kind; instance = Some i } ∷ []
+      → args_of i.statement.now ≡ cons (Name at name) more → rows_by i ≡ record { space = i.place.now.space; name = name; kind = kind; instance = Some i } ∷ []
   unfolding rows_by
   one_row kind at name more e says = ap (λ ks. rows_named i ks (args_of i.statement.now)) e ∙ ap (rows_named i (kind ∷ [])) says
 
   pub row_pushed : (old new : List Row) (kind : Kind) (at : Spot) (name bytes : List ℕ) (more : Terms Word) → (entry_of i.statement.now.keyword).declares ≡ kind ∷ []
       → args_of i.statement.now ≡ cons (Name at name) more → bytes ≡ name
-      → new ≡ old ++ record { space = i.space; name = bytes; kind = kind; instance = Some i } ∷ [] → new ≡ old ++ rows_by i
+      → new ≡ old ++ record { space = i.place.now.space; name = bytes; kind = kind; instance = Some i } ∷ [] → new ≡ old ++ rows_by i
   row_pushed old new kind at name bytes more e says same push =
-      push ∙ ap (λ (n : List ℕ). old ++ record { space = i.space; name = n; kind = kind; instance = Some i } ∷ []) same
+      push ∙ ap (λ (n : List ℕ). old ++ record { space = i.place.now.space; name = n; kind = kind; instance = Some i } ∷ []) same
       ∙ ap (λ z. old ++ z) (sym (one_row kind at name more e says))
 
 -- ---- what rows declare
@@ -84,7 +84,7 @@ said_behind m ss scope (t ∷ ts) = refl
 said_by_instance : (ss : List Space) (i : Option Instance) → content_at ss i ≡ bare_terms (module_of i) (scope_of ss (scope_numbers i)) (terms_behind i)
 unfolding module_of
 said_by_instance ss None = nothing_said ss
-said_by_instance ss (Some i) = said_behind i.statement.now.at.«module» ss i.scope.now i.statement.now.args.items
+said_by_instance ss (Some i) = said_behind i.statement.now.at.«module» ss i.place.now.scope.items i.statement.now.args.items
 
 pub numbers_within : (ss : List Space) (r : Row) → IsPlacedRow ss r → All (λ k. k ≤ length ss) (scope_numbers r.instance)
 numbers_within ss r = by r.instance

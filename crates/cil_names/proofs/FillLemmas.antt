@@ -55,7 +55,7 @@ module _ (xs : List Item) (s : OptSet) (n : Namespace) (w : Wanted) where
 
 module _ (ss : List Space) (is : List Instance) (s : OptSet) where
   abbrev of_words : Instance → List Fault
-  of_words i = faults_of_all (items_of ss is) s (space_at ss i.space) (words_of (item_of ss i))
+  of_words i = faults_of_all (items_of ss is) s (space_at ss i.place.now.space) (words_of (item_of ss i))
 
   abbrev told : Instance → List Fault
   told i = faults_in (items_of ss is) s ss i
@@ -63,12 +63,12 @@ module _ (ss : List Space) (is : List Instance) (s : OptSet) where
   pub all_there : (f : Fault) → Contains (flat_map told is) f → ResolveFault s (items_of ss is) f
   all_there f c =
       let (i, ci, ti) = from_flat told is f c in
-      elim (cases_Bool (is_outside i.round.now)) [
+      elim (cases_Bool (is_outside i.place.now.round.items)) [
         | inl t ↦
-            let (w, cw, tw) = from_flat (faults_of_wanted (items_of ss is) s (space_at ss i.space)) (words_of (item_of ss i)) f (subst (λ b. Contains (if b then of_words i else []) f) t ti) in
-            let (judged, missing, same) = told_from (items_of ss is) s (space_at ss i.space) w f tw in
+            let (w, cw, tw) = from_flat (faults_of_wanted (items_of ss is) s (space_at ss i.place.now.space)) (words_of (item_of ss i)) f (subst (λ b. Contains (if b then of_words i else []) f) t ti) in
+            let (judged, missing, same) = told_from (items_of ss is) s (space_at ss i.place.now.space) w f tw in
             subst (ResolveFault s (items_of ss is)) (sym same)
-            (unresolved (item_of ss i) w (contains_map (item_of ss) is i ci) (outside_is i.round.now t) cw judged missing)
+            (unresolved (item_of ss i) w (contains_map (item_of ss) is i ci) (outside_is i.place.now.round.items t) cw judged missing)
         | inr e ↦ absurd (contains_none f (subst (λ b. Contains (if b then of_words i else []) f) e ti))
       ]
 
@@ -78,9 +78,9 @@ module _ (ss : List Space) (is : List Instance) (s : OptSet) where
       contains_flat told is i _ ci
       (subst (λ b. Contains (if b then of_words i else []) (fault_at causes.Unresolved (told_word w).at x.space (told_word w).bytes))
       (sym (ap is_outside (ap (λ (y : Item). y.round) same ∙ round)))
-      (contains_flat (faults_of_wanted (items_of ss is) s (space_at ss i.space)) (words_of (item_of ss i)) w _ (subst (λ y. Contains (words_of y) w) (sym same) asks)
-      (subst (λ (y : Item). Contains (faults_of_wanted (items_of ss is) s (space_at ss i.space) w) (fault_at causes.Unresolved (told_word w).at y.space (told_word w).bytes)) same
-      (told_to (items_of ss is) s (space_at ss i.space) w judged missing))))
+      (contains_flat (faults_of_wanted (items_of ss is) s (space_at ss i.place.now.space)) (words_of (item_of ss i)) w _ (subst (λ y. Contains (words_of y) w) (sym same) asks)
+      (subst (λ (y : Item). Contains (faults_of_wanted (items_of ss is) s (space_at ss i.place.now.space) w) (fault_at causes.Unresolved (told_word w).at y.space (told_word w).bytes)) same
+      (told_to (items_of ss is) s (space_at ss i.place.now.space) w judged missing))))
 
   pub none_left : [] ≡ flat_map told is → (f : Fault) → ResolveFault s (items_of ss is) f → ⊥
   none_left e f r = contains_none f (subst (λ l. Contains l f) (sym e) (all_back f r))

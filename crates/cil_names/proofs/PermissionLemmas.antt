@@ -146,7 +146,7 @@ none_on (o ∷ os) e = absurd (true≢false (sym e))
 
 module _ (ss : List Space) (i : Instance) where
   abbrev f : Word → ScopedWord
-  f = scoped ss i.scope.now
+  f = scoped ss i.place.now.scope.items
 
   -- where a declaration comes from
   record IsFront (declares : List Kind) (args : Terms Word) (d : Declaration) : Type 0 where
@@ -155,16 +155,16 @@ module _ (ss : List Space) (i : Instance) where
     rest : Terms Word
     says : args ≡ cons (Name at name) rest
     named : d.name ≡ name
-    spaced : d.space ≡ space_at ss i.space
+    spaced : d.space ≡ space_at ss i.place.now.space
     declared : Contains declares d.kind
 
-  front_of : (declares : List Kind) (args : Terms Word) (d : Declaration) → Contains (declarations (space_at ss i.space) declares (all_replaced (λ at. at) f args)) d → IsFront declares args d
+  front_of : (declares : List Kind) (args : Terms Word) (d : Declaration) → Contains (declarations (space_at ss i.place.now.space) declares (all_replaced (λ at. at) f args)) d → IsFront declares args d
   unfolding all_replaced
   front_of declares nil d c = absurd (contains_none d c)
   front_of declares (cons (Leaf w) rest) d c = absurd (contains_none d c)
   front_of declares (cons (Form at op parts) rest) d c = absurd (contains_none d c)
   front_of declares (cons (Name at name) rest) d c =
-      let (kind, ck, e) = from_map (λ (k : Kind). record { kind = k; space = space_at ss i.space; name = name; content = content_of (all_replaced (λ bt. bt) f rest) }) declares d c in
+      let (kind, ck, e) = from_map (λ (k : Kind). record { kind = k; space = space_at ss i.place.now.space; name = name; content = content_of (all_replaced (λ bt. bt) f rest) }) declares d c in
       record {
         at = at;
         name = name;
@@ -178,7 +178,7 @@ module _ (ss : List Space) (i : Instance) where
   -- what gives a permission to a class declares it
   record Gives (c : Symbol) (p : List ℕ) : Type 0 where
     declares : DeclaresClass i c.name
-    spaced : space_at ss i.space ≡ c.space
+    spaced : space_at ss i.place.now.space ≡ c.space
     lists : list_any (same_bytes p) (listed_permissions (args_of i.statement.now)) ≡ true
 
   gives_only : (c : Symbol) (p : List ℕ) → gives_permission c p (item_of ss i) ≡ true → Gives c p
@@ -192,7 +192,7 @@ module _ (ss : List Space) (i : Instance) where
       let is = front_of (entry_of i.statement.now.keyword).declares (args_of i.statement.now) d cd in
       record {
         declares = record {
-          outside = none_on i.round.now on;
+          outside = none_on i.place.now.round.items on;
           keyword = class_keyword i.statement.now.keyword d.kind is.declared wanted;
           at = is.at;
           rest = is.rest;
@@ -203,8 +203,8 @@ module _ (ss : List Space) (i : Instance) where
       }
 
   begun : (at : Spot) (name : List ℕ) (rest : Terms Word)
-      → declarations (space_at ss i.space) (kinds.Class ∷ []) (all_replaced (λ bt. bt) f (cons (Name at name) rest))
-      ≡ record { kind = kinds.Class; space = space_at ss i.space; name = name; content = content_of (all_replaced (λ bt. bt) f rest) } ∷ []
+      → declarations (space_at ss i.place.now.space) (kinds.Class ∷ []) (all_replaced (λ bt. bt) f (cons (Name at name) rest))
+      ≡ record { kind = kinds.Class; space = space_at ss i.place.now.space; name = name; content = content_of (all_replaced (λ bt. bt) f rest) } ∷ []
   unfolding all_replaced
   begun at name rest = refl
 
@@ -213,17 +213,17 @@ module _ (ss : List Space) (i : Instance) where
       and_from _ _
       (and_from _ _ (ap (list_all nobody) g.declares.outside)
       (any_from (fits c.name signs.Classes c.space) (declared_by (item_of ss i)) d (subst (λ ds. Contains ds d) (sym declared) (contains_here d []))
-      (and_from _ _ (and_from _ _ ((bytes_decides c.name c.name).1 refl) refl) ((spaces_decide (space_at ss i.space) c.space).1 g.spaced))))
+      (and_from _ _ (and_from _ _ ((bytes_decides c.name c.name).1 refl) refl) ((spaces_decide (space_at ss i.place.now.space) c.space).1 g.spaced))))
       (ap (list_any (same_bytes p)) (listed_said f (args_of i.statement.now)) ∙ g.lists)
     where
       d : Declaration
-      d = record { kind = kinds.Class; space = space_at ss i.space; name = c.name; content = content_of (all_replaced (λ bt. bt) f g.declares.rest) }
+      d = record { kind = kinds.Class; space = space_at ss i.place.now.space; name = c.name; content = content_of (all_replaced (λ bt. bt) f g.declares.rest) }
 
       declared : declared_by (item_of ss i) ≡ d ∷ []
       declared =
-          ap (λ k. declarations (space_at ss i.space) (entry_of k).declares (all_replaced (λ bt. bt) f (args_of i.statement.now))) g.declares.keyword
-          ∙ ap (λ ks. declarations (space_at ss i.space) ks (all_replaced (λ bt. bt) f (args_of i.statement.now))) class_declares
-          ∙ ap (λ ts. declarations (space_at ss i.space) (kinds.Class ∷ []) (all_replaced (λ bt. bt) f ts)) g.declares.says
+          ap (λ k. declarations (space_at ss i.place.now.space) (entry_of k).declares (all_replaced (λ bt. bt) f (args_of i.statement.now))) g.declares.keyword
+          ∙ ap (λ ks. declarations (space_at ss i.place.now.space) ks (all_replaced (λ bt. bt) f (args_of i.statement.now))) class_declares
+          ∙ ap (λ ts. declarations (space_at ss i.place.now.space) (kinds.Class ∷ []) (all_replaced (λ bt. bt) f ts)) g.declares.says
           ∙ begun g.declares.at c.name g.declares.rest
 
 -- ---- the lists of all entries
@@ -309,22 +309,22 @@ module _ (ss : List Space) (es : List Entry) where
     kept_without lists without = kept lists (λ d e p at wanted g. without e.name g.declares)
 
     module _ (spaces : AreSpaces ss) (ordered : AreOrdered ss es) (placed : IsPlaced ss i) where
-      one_space : (e : Entry) → Contains es e → space_at ss i.space ≡ space_at ss e.space → e.space ≡ i.space
+      one_space : (e : Entry) → Contains es e → space_at ss i.place.now.space ≡ space_at ss e.space → e.space ≡ i.place.now.space
       one_space e c same =
-          same_number ss spaces (space_at ss e.space) e.space i.space (record { within = ordered.within e c; is = refl }) (record { within = placed.stands; is = same })
+          same_number ss spaces (space_at ss e.space) e.space i.place.now.space (record { within = ordered.within e c; is = refl }) (record { within = placed.stands; is = same })
 
       one_name : (a b : List ℕ) → DeclaresClass i a → DeclaresClass i b → a ≡ b
       one_name a b x y = let e : cons (Name x.at a) x.rest ≡ cons (Name y.at b) y.rest = sym x.says ∙ y.says in cc
 
       module _ (name : List ℕ) (declares : DeclaresClass i name) where
         fits_here : (d : ℕ) (e : Entry) (p : List ℕ) → slice_get es d ≡ Some e → is_wanted signs.Classes e.kind ≡ true → Gives ss i (symbol_of ss e) p
-            → (e.space ≡ i.space) × (e.name ≡ name)
+            → (e.space ≡ i.place.now.space) × (e.name ≡ name)
         fits_here d e p at wanted g = (one_space e (member_of_number es d e at) g.spaced, one_name e.name name g.declares declares)
 
         -- the class has no entry
-        pub kept_unknown : (lists : List (Vec Bytes)) → HasNoEntry es name signs.Classes i.space → ArePermissions ss es xs lists → ArePermissions ss es more lists
+        pub kept_unknown : (lists : List (Vec Bytes)) → HasNoEntry es name signs.Classes i.place.now.space → ArePermissions ss es xs lists → ArePermissions ss es more lists
         kept_unknown lists none =
-            kept lists (λ d e p at wanted g. let (space, same) = fits_here d e p at wanted g in none d e at (they_fit name signs.Classes i.space e space same wanted))
+            kept lists (λ d e p at wanted g. let (space, same) = fits_here d e p at wanted g in none d e at (they_fit name signs.Classes i.place.now.space e space same wanted))
 
         -- the class statement has no list
         pub kept_unlisted : (lists : List (Vec Bytes)) → listed_behind_name (args_of i.statement.now) ≡ None → ArePermissions ss es xs lists → ArePermissions ss es more lists
@@ -334,7 +334,7 @@ module _ (ss : List Space) (es : List Entry) where
             true≢false (sym g.lists ∙ ap (list_any (same_bytes p)) empty))
 
         -- the names that the statement lists are added to those of the class
-        module _ (old : List (Vec Bytes)) (class_ : ℕ) (is : IsEntryAt es name signs.Classes i.space class_) (before none_yet after : Vec Bytes) (m : ℕ) (items : List rust.Term)
+        module _ (old : List (Vec Bytes)) (class_ : ℕ) (is : IsEntryAt es name signs.Classes i.place.now.space class_) (before none_yet after : Vec Bytes) (m : ℕ) (items : List rust.Term)
             (len : length old ≡ length es) (was : slice_get old class_ ≡ Some before) (listed : listed_behind_name (args_of i.statement.now) ≡ Some (all_said m items))
             (all : Lists text_cmp (Contains (before.items ++ names_in (all_said m items))) after.items) where
           abbrev new : List (Vec Bytes)
@@ -378,7 +378,7 @@ module _ (ss : List Space) (es : List Entry) where
           gives_all : (e : Entry) → slice_get es class_ ≡ Some e → (p : List ℕ)
               → gives_permission (symbol_of ss e) p (item_of ss i) ≡ list_any (same_bytes p) (listed_permissions (args_of i.statement.now))
           gives_all e at p =
-              let (space, same, wanted) = parts_fit name signs.Classes i.space is.entry is.fits in
+              let (space, same, wanted) = parts_fit name signs.Classes i.place.now.space is.entry is.fits in
               let one : is.entry ≡ e = one_some is.entry e (sym is.at ∙ at) in
               same_bools _ _
               (λ t. (gives_only ss i (symbol_of ss e) p t).lists)
@@ -404,7 +404,7 @@ module _ (ss : List Space) (es : List Entry) where
                   ap (λ o. list_any (same_bytes p) (option_map_or (λ (w : Vec Bytes). w.items) o [])) (elsewhere d differ)
                   ∙ are.each d e at wanted p
                   ∙ sym (has_same (symbol_of ss e) p (no_gift (symbol_of ss e) p (λ g. let (space, same) = fits_here d e p at wanted g in
-                  differ (is.only d e at (they_fit name signs.Classes i.space e space same wanted)))))
+                  differ (is.only d e at (they_fit name signs.Classes i.place.now.space e space same wanted)))))
             ];
           }
             where

@@ -23,7 +23,7 @@ use Rattle.cil_names.specs.Spaces.{space_at}
 abbrev pub rows_named : Instance → List Kind → Terms Word → List Row
 rows_named i declares nil = []
 rows_named i declares (cons (Leaf w) rest) = []
-rows_named i declares (cons (Name at name) rest) = map (λ kind. record { space = i.space; name = name; kind = kind; instance = Some i }) declares
+rows_named i declares (cons (Name at name) rest) = map (λ kind. record { space = i.place.now.space; name = name; kind = kind; instance = Some i }) declares
 rows_named i declares (cons (Form at op parts) rest) = []
 
 -- the rows of an instance: one for each kind that its statement declares
@@ -44,7 +44,7 @@ row_key r = record { space = r.space; name = r.name; rank = rank r.kind }
 -- the optionals round the statement of a row
 abbrev pub round_at : Option Instance → List ℕ
 round_at None = []
-round_at (Some i) = i.round.now
+round_at (Some i) = i.place.now.round.items
 
 abbrev pub is_row_enabled : OptSet → Row → Bool
 is_row_enabled s r = list_all s (round_at r.instance)
@@ -69,7 +69,7 @@ IsPlacedRow ss r = at r.instance
   where
     at : Option Instance → Type 0
     at None = r.space ≤ length ss
-    at (Some i) = IsPlaced ss i × (r.space ≡ i.space)
+    at (Some i) = IsPlaced ss i × (r.space ≡ i.place.now.space)
 
 -- some of these rows differs from the first, or none does
 abbrev pub TellsDiffering : List Space → Row → List Row → Bool → Type 0
@@ -95,4 +95,4 @@ terms_behind (Some i) = drop 1 i.statement.now.args.items
 
 abbrev pub scope_numbers : Option Instance → List ℕ
 scope_numbers None = []
-scope_numbers (Some i) = i.scope.now
+scope_numbers (Some i) = i.place.now.scope.items

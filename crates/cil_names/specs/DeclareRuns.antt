@@ -57,7 +57,7 @@ faults_named space (cons (Form at op parts) rest) = []
 
 abbrev pub faults_at : List Space → Option Instance → List Fault
 faults_at ss None = []
-faults_at ss (Some i) = faults_named (space_at ss i.space) (args_of i.statement.now)
+faults_at ss (Some i) = faults_named (space_at ss i.place.now.space) (args_of i.statement.now)
 
 -- the fault of a row, where its declaration differs from another one
 unfoldable pub row_faults : List Space → Row → List Fault

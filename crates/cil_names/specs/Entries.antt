@@ -32,9 +32,9 @@ abbrev pub item_of : List Space → Instance → Item
 item_of ss i = record {
   keyword = i.statement.now.keyword;
   at = i.statement.now.at;
-  space = space_at ss i.space;
-  args = all_replaced (λ at. at) (scoped ss i.scope.now) (args_of i.statement.now);
-  round = i.round.now;
+  space = space_at ss i.place.now.space;
+  args = all_replaced (λ at. at) (scoped ss i.place.now.scope.items) (args_of i.statement.now);
+  round = i.place.now.round.items;
 }
 
 abbrev pub items_of : List Space → List Instance → List Item

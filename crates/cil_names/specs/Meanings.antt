@@ -19,4 +19,4 @@ meant ss es s w = find (is_declared_at s es) (candidates_of ss es w)
 
 -- the meanings of the words of an instance, in order; permissions are among its words, and mean nothing
 abbrev pub meanings : List Space → List Entry → OptSet → Instance → List (Option ℕ)
-meanings ss es s i = map (λ w. meant ss es s (scoped ss i.scope.now w)) (all_words_in (args_of i.statement.now))
+meanings ss es s i = map (λ w. meant ss es s (scoped ss i.place.now.scope.items w)) (all_words_in (args_of i.statement.now))

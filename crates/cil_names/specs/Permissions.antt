@@ -11,7 +11,7 @@ use Rattle.cil_names.specs.declared.instance.Instance.{Instance}
 
 -- an instance that is in no optional declares a class of this name
 pub record DeclaresClass (i : Instance) (name : List ℕ) : Type 0 where
-  pub outside : i.round.now ≡ []
+  pub outside : i.place.now.round.items ≡ []
   pub keyword : i.statement.now.keyword ≡ keywords.Class
   pub at : Spot
   pub rest : Terms Word

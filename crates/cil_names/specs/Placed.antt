@@ -5,8 +5,8 @@ use Rattle.cil_names.specs.declared.space.Space.{Space}
 
 -- the namespace in which an instance is, and those of its scope, have numbers
 pub record IsPlaced (ss : List Space) (i : Instance) : Type 0 where
-  pub stands : i.space ≤ length ss
-  pub asks : All (λ k. k ≤ length ss) i.scope.now
+  pub stands : i.place.now.space ≤ length ss
+  pub asks : All (λ k. k ≤ length ss) i.place.now.scope.items
 
 abbrev pub ArePlaced : List Space → List Instance → Type 0
 ArePlaced ss is = (i : Instance) → Contains is i → IsPlaced ss i

@@ -54,7 +54,7 @@ is_outside [] = true
 is_outside (o ∷ os) = false
 
 abbrev pub faults_in : List Item → OptSet → List Space → Instance → List Fault
-faults_in xs s ss i = if is_outside i.round.now then faults_of_all xs s (space_at ss i.space) (words_of (item_of ss i)) else []
+faults_in xs s ss i = if is_outside i.place.now.round.items then faults_of_all xs s (space_at ss i.place.now.space) (words_of (item_of ss i)) else []
 
 -- ---- permissions, by the entries of their classes
 

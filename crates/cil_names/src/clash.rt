@@ -96,13 +96,13 @@ fn push_clash(
     instance: &Instance,
 ) -> Result<(), NoMemory>
     requires spaces { AreSpaces spaces.now }
-    requires within { instance.now.space ≤ length spaces.now }
+    requires within { instance.now.place.now.space ≤ length spaces.now }
     ensures { OnOk result (faults.new.items ≡ faults.old.items ++ faults_at spaces.now (Some instance.now)) }
 {
     let Some(name) = instance.statement.declared_name() else {
         return Ok(());
     };
-    let space = spelled_space(alloc, spaces, instance.space)?;
+    let space = spelled_space(alloc, spaces, instance.place.space)?;
     let word = Bytes::copy_of(alloc, name.bytes)?;
     faults.push(Fault {
         code: FaultCode::Clash,

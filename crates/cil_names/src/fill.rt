@@ -93,11 +93,11 @@ impl<'s, 'a> Check<'s, 'a> {
             spaces: self.lookup.spaces,
             names: self.lookup.names,
             enabled: self.lookup.enabled,
-            scope: instance.scope,
+            scope: instance.place.scope.as_slice(),
             module: instance.statement.at.module,
         };
         let terms = instance.statement.args.as_slice();
-        if !instance.round.is_empty() {
+        if !instance.place.round.as_slice().is_empty() {
             filling.terms(words, terms)?;
             return Ok(());
         }
@@ -105,7 +105,7 @@ impl<'s, 'a> Check<'s, 'a> {
             filling,
             nobody: self.nobody,
             permissions: self.permissions,
-            space: instance.space,
+            space: instance.place.space,
             alloc: self.alloc,
         };
         judge.terms(words, faults, terms)?;

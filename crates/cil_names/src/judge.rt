@@ -100,7 +100,7 @@ impl<'s, 'a> Judge<'s, 'a> {
         ensures named { IfOk result (Named self.now word.now) }
     {
         let named = self.filling.named(word);
-        words.push(Meaning::of(self.filling.names.entries(), named))?;
+        words.push(Meaning::of(named)?)?;
         if named.is_none() {
             self.report(faults, word.at, word.bytes.as_slice())?;
         }

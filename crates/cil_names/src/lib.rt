@@ -32,7 +32,7 @@ mod table;
 pub use entry::Entry;
 pub use fill::words_of;
 pub use gather::declare;
-pub use instance::{Instance, are_placed};
+pub use instance::{Instance, Placing, are_placed};
 pub use meaning::Meaning;
 pub use names::Names;
 pub use numbers::{Numbering, Sections, numbered};

@@ -1,17 +1,20 @@
 //! What a word means.
 
-use crate::entry::Entry;
+use cil_modset::NoMemory;
 use std::marker::Model;
+
+/// How many entries can be told apart.
+const MOST: usize = 4_294_967_295;
 
 /// What a word means: the number of an entry, or nothing. Contracts see it as an option.
 #[derive(Debug, Drop)]
 pub struct Meaning {
     /// The number of the entry, plus 1; 0 where the word means nothing.
-    next: usize,
+    next: u32,
 }
 
 // Policies have millions of words.
-const _: () = prove!(size_of::<Meaning>() <= 8);
+const _: () = prove!(size_of::<Meaning>() <= 4);
 
 impl Model for Meaning {
     ghost use Rattle.std.specs.Prelude.{Option, ℕ};
@@ -23,7 +26,7 @@ impl Model for Meaning {
 }
 
 impl Meaning {
-    ghost use Rattle.std.specs.Prelude.{◌≡◌, ◌<◌, IfSome, length};
+    ghost use Rattle.std.specs.Prelude.{◌≡◌, IfOk, Some};
 
     /// The number of the entry that the word names, if it names one.
     pub fn entry(&self) -> Option<usize>
@@ -32,18 +35,28 @@ impl Meaning {
         if self.next == 0 {
             None
         } else {
-            Some(self.next - 1)
+            Some(self.next as usize - 1)
         }
     }
 
-    /// One of these entries, or nothing.
-    pub(crate) fn of(entries: &[Entry], entry: Option<usize>) -> Meaning
-        requires { IfSome entry (λ d. d < length entries.now) }
-        ensures { result ≡ entry }
+    /// The entry of this number, or nothing. A table has room for the numbers below 4,294,967,295; beyond them it is out of
+    /// memory.
+    pub(crate) fn of(entry: Option<usize>) -> Result<Meaning, NoMemory>
+        ensures { IfOk result (λ meaning. meaning ≡ entry) }
     {
         match entry {
-            None => Meaning { next: 0 },
-            Some(d) => Meaning { next: d + 1 },
+            None => Ok(Meaning { next: 0 }),
+            Some(d) => Self::next(d),
         }
+    }
+
+    /// The entry of this number.
+    fn next(d: usize) -> Result<Meaning, NoMemory>
+        ensures { IfOk result (λ meaning. meaning ≡ Some d) }
+    {
+        if d >= MOST {
+            return Err(NoMemory);
+        }
+        Ok(Meaning { next: d as u32 + 1 })
     }
 }

@@ -75,7 +75,7 @@ fn add_listed(
     let Some(name) = class_declared(instance) else {
         return Ok(());
     };
-    let Some(class) = entry_in(entries, instance.space, name.bytes, Sign::Classes) else {
+    let Some(class) = entry_in(entries, instance.place.space, name.bytes, Sign::Classes) else {
         return Ok(());
     };
     let Some(items) = instance.statement.listed_behind_name() else {
@@ -90,7 +90,7 @@ fn add_listed(
 fn class_declared<'a>(instance: &Instance<'_, 'a>) -> Option<DeclaredName<'a>>
     ensures { MatchOption result (DeclaresNoClass instance.now) (λ name. DeclaresClass instance.now name.bytes.now) }
 {
-    if !is_outside(instance.round) {
+    if !is_outside(instance.place.round.as_slice()) {
         return None;
     }
     if !is_class(instance.statement.keyword) {

@@ -66,7 +66,7 @@ fn push_rows<'s, 'a>(
         return Ok(());
     };
     rows.push(Row {
-        space: instance.space,
+        space: instance.place.space,
         name: Excerpt::of(name.bytes),
         kind,
         instance: Some(*instance),
@@ -106,7 +106,7 @@ impl<'s, 'a> Row<'s, 'a> {
         ensures { result.now ≡ round_at self.now.instance }
     {
         match self.instance {
-            Some(instance) => instance.round,
+            Some(instance) => instance.place.round.as_slice(),
             None => &[],
         }
     }
@@ -116,7 +116,7 @@ impl<'s, 'a> Row<'s, 'a> {
         ensures { result.now ≡ scope_numbers self.now.instance }
     {
         match self.instance {
-            Some(instance) => instance.scope,
+            Some(instance) => instance.place.scope.as_slice(),
             None => &[],
         }
     }

@@ -79,7 +79,7 @@ impl<'s, 'a> Filling<'s, 'a> {
         ensures { OnOk result (words.new.items ≡ words.old.items
             ++ meant self.now.spaces.now self.now.names.now (is_in self.now.enabled.now) (scoped self.now.spaces.now self.now.scope.now word.now) ∷ []) }
     {
-        words.push(Meaning::of(self.names.entries(), self.named(word)))?;
+        words.push(Meaning::of(self.named(word))?)?;
         Ok(())
     }
 
@@ -97,7 +97,7 @@ impl<'s, 'a> Filling<'s, 'a> {
     }
 }
 
-/// What the words of all instances mean: those of one instance after those of the one before it. It takes eight bytes
+/// What the words of all instances mean: those of one instance after those of the one before it. It takes four bytes
 /// for a word, and eight for an instance.
 #[derive(Debug, Drop)]
 pub struct Words {

@@ -1,7 +1,7 @@
 //! What statements declare in several namespaces and in optionals.
 
 use crate::policies::{lines_of, set_of};
-use cil_names::{Instance, Names, Space, Spaces, are_placed, declare};
+use cil_names::{Instance, Names, Placing, Space, Spaces, are_placed, declare};
 use cil_syntax::{Excerpt, Failure, Statement, render, written};
 use std::alloc::Global;
 use std::test::Fail;
@@ -25,25 +25,34 @@ pub(crate) fn spaces(alloc: Global) -> Option<Spaces<'static>> {
 /// Where a statement is: the number of its namespace, and those of the optionals round it.
 type Place = (usize, &'static [usize]);
 
-/// Statements, each at its place; those without one are in the global namespace. None where there is no memory.
-fn instances<'s, 'a>(
-    alloc: Global,
-    statements: &'s [Statement<'a>],
-    places: &'s [Place],
-) -> Option<Vec<Instance<'s, 'a>>> {
-    let mut instances = Vec::new(alloc);
-    for (i, statement) in statements.iter().enumerate() {
+/// Where statements stand, one place each; further ones are in the global namespace. None where there is no memory.
+fn placings(alloc: Global, places: &[Place], len: usize) -> Option<Vec<Placing>> {
+    let mut placings = Vec::new(alloc);
+    for i in 0..len {
         let (space, round) = match places.get(i) {
             Some(place) => *place,
             None => (0, &[] as &[usize]),
         };
-        let instance = Instance {
-            statement,
+        let placing = Placing {
             space,
-            scope: &[0],
-            round,
+            scope: Vec::from_slice(alloc, &[0]).ok()?,
+            round: Vec::from_slice(alloc, round).ok()?,
         };
-        instances.push(instance).ok()?;
+        placings.push(placing).ok()?;
+    }
+    Some(placings)
+}
+
+/// Statements, each at its place. None where there is no memory.
+fn instances<'s, 'a>(
+    alloc: Global,
+    statements: &'s [Statement<'a>],
+    placings: &'s [Placing],
+) -> Option<Vec<Instance<'s, 'a>>> {
+    let mut instances = Vec::new(alloc);
+    for (i, statement) in statements.iter().enumerate() {
+        let place = placings.get(i)?;
+        instances.push(Instance { statement, place }).ok()?;
     }
     Some(instances)
 }
@@ -74,7 +83,8 @@ fn told<'s, 'a>(
     places: &'s [Place],
 ) -> Result<String, Fail> {
     let spaces = spaces(alloc).ok_or("no namespaces")?;
-    let instances = instances(alloc, statements, places).ok_or("no instances")?;
+    let placings = placings(alloc, places, statements.len()).ok_or("no places")?;
+    let instances = instances(alloc, statements, placings.as_slice()).ok_or("no instances")?;
     let instances = instances.as_slice();
     if !are_placed(&spaces, instances) {
         return Err(Fail::from("no namespace"));
@@ -157,7 +167,8 @@ fn counted_of<'s, 'a>(
     places: &'s [Place],
 ) -> Option<Result<usize, usize>> {
     let spaces = spaces(alloc)?;
-    let instances = instances(alloc, statements, places)?;
+    let placings = placings(alloc, places, statements.len())?;
+    let instances = instances(alloc, statements, placings.as_slice())?;
     let instances = instances.as_slice();
     if !are_placed(&spaces, instances) {
         return None;

@@ -6,8 +6,8 @@ ghost use Rattle.cil_names.specs.Placed.{ArePlaced};
 use crate::declared_names::spaces;
 use crate::policies::{lines_of, set_of};
 use cil_names::{
-    Entry, Instance, Lookup, Names, OptSet, Spaces, Words, are_placed, declare, permissions_of,
-    words_of,
+    Entry, Instance, Lookup, Names, OptSet, Placing, Spaces, Words, are_placed, declare,
+    permissions_of, words_of,
 };
 use cil_syntax::{Failure, Statement, render, written};
 use std::alloc::Global;
@@ -38,29 +38,37 @@ pub(crate) const INNER: Place = (0, &[0], &[1, 0]);
 /// Written in a block of the block `r`, which is inherited in the block `p`.
 pub(crate) const FROM_R: Place = (1, &[1, 2, 0], &[]);
 
+/// Where statements stand. None where there is no memory.
+pub(crate) fn placings(alloc: Global, places: &[Place]) -> Option<Vec<Placing>> {
+    let mut placings = Vec::new(alloc);
+    for &(space, scope, round) in places.iter() {
+        let placing = Placing {
+            space,
+            scope: Vec::from_slice(alloc, scope).ok()?,
+            round: Vec::from_slice(alloc, round).ok()?,
+        };
+        placings.push(placing).ok()?;
+    }
+    Some(placings)
+}
+
 /// Statements, each at its place. Further places are of the last statement once more, as of one that is inherited. None
 /// where a statement has no place, or there is no memory.
 pub(crate) fn instances<'s, 'a>(
     alloc: Global,
     statements: &'s [Statement<'a>],
-    places: &'s [Place],
+    placings: &'s [Placing],
 ) -> Option<Vec<Instance<'s, 'a>>> {
-    if places.len() < statements.len() {
+    if placings.len() < statements.len() {
         return None;
     }
     let mut instances = Vec::new(alloc);
-    for (i, &(space, scope, round)) in places.iter().enumerate() {
+    for (i, place) in placings.iter().enumerate() {
         let statement = match statements.get(i) {
             Some(statement) => statement,
             None => statements.last()?,
         };
-        let instance = Instance {
-            statement,
-            space,
-            scope,
-            round,
-        };
-        instances.push(instance).ok()?;
+        instances.push(Instance { statement, place }).ok()?;
     }
     Some(instances)
 }
@@ -139,7 +147,8 @@ fn told(
     flags: &[bool],
 ) -> Result<String, Fail> {
     let spaces = spaces(alloc).ok_or("no namespaces")?;
-    let instances = instances(alloc, statements, places).ok_or("no instances")?;
+    let placings = placings(alloc, places).ok_or("no places")?;
+    let instances = instances(alloc, statements, placings.as_slice()).ok_or("no instances")?;
     let instances = instances.as_slice();
     if !are_placed(&spaces, instances) {
         return Err(Fail::from("no namespace"));
@@ -164,29 +173,26 @@ pub(crate) fn answer(
     told(alloc, program.statements(), places, flags)
 }
 
-/// How many words of statements at their places mean an entry, or how many faults there are. None where there is no memory.
+/// How many words of the third of some statements at their places mean an entry, or how many faults there are. None where
+/// there is no memory.
 fn counted_of(
     alloc: Global,
     statements: &[Statement],
     places: &[Place],
 ) -> Option<Result<usize, usize>> {
     let spaces = spaces(alloc)?;
-    let instances = instances(alloc, statements, places)?;
+    let placings = placings(alloc, places)?;
+    let instances = instances(alloc, statements, placings.as_slice())?;
     let instances = instances.as_slice();
     if !are_placed(&spaces, instances) {
         return None;
     }
     let names = declare(alloc, &spaces, instances).ok()?;
     match table_of(alloc, &spaces, &names, instances, &[]) {
-        Ok(words) => Some(Ok(meant_by_all(&words, instances.len()))),
+        Ok(words) => Some(Ok(meant_by(&words, 2))),
         Err(Failure::Faults(faults)) => Some(Err(faults.len())),
         Err(Failure::NoMemory) => None,
     }
-}
-
-/// How many words of so many instances mean an entry.
-fn meant_by_all(words: &Words, len: usize) -> usize {
-    (0..len).map(|i| meant_by(words, i)).sum()
 }
 
 /// How many words of an instance mean an entry.

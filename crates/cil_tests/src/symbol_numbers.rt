@@ -2,7 +2,9 @@
 
 use crate::declared_names::spaces;
 use crate::look_ups::{Declared, entries};
-use crate::placed_words::{GLOBAL, INNER, OPTIONAL, P, PQ, Place, R, instances, show_entry};
+use crate::placed_words::{
+    GLOBAL, INNER, OPTIONAL, P, PQ, Place, R, instances, placings, show_entry,
+};
 use crate::policies::set_of;
 use cil_names::{Lookup, Names, Numbering, OptSet, are_placed, declare, numbered, permissions_of};
 use cil_syntax::{Bytes, Kind, Statement, written};
@@ -168,7 +170,8 @@ fn show_permissions(
 /// The permissions that statements at their places list.
 fn listed(alloc: Global, statements: &[Statement], places: &[Place]) -> Result<String, Fail> {
     let spaces = spaces(alloc).ok_or("no namespaces")?;
-    let instances = instances(alloc, statements, places).ok_or("no instances")?;
+    let placings = placings(alloc, places).ok_or("no places")?;
+    let instances = instances(alloc, statements, placings.as_slice()).ok_or("no instances")?;
     let instances = instances.as_slice();
     if !are_placed(&spaces, instances) {
         return Err(Fail::from("no namespace"));

@@ -8,7 +8,7 @@ loop-statement-init c = none_yet c.args.statements.now _ c.new-instances.ensures
 pub loop-statement-preserved : goal.loop-statement-preserved
 loop-statement-preserved c =
     one_more c.args.statements.now c.loop-statement.statement-index c.statement-item.result _ _ _ c.loop-statement-test.true c.statement-item.is refl
-    (record { space = refl; scope = refl; round = refl }) c.in_ok-push.ensures.items c.loop-statement.invariant
+    c.requires c.in_ok-push.ensures.items c.loop-statement.invariant
 
 pub returns : goal.returns
 returns c = all_yet c.args.statements.now _ _ c.loop-statement-test.false c.loop-statement.invariant

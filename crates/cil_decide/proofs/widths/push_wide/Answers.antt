@@ -15,7 +15,7 @@ returns-in_default c = λ is entries member permissions.
 
 pub returns : goal.returns
 returns c =
-    let told : c.push.new.self.items ≡ c.args.faults.now.items ++ fault_at causes.ClassWide c.in-Some.name.at (space_at c.args.lookup.now.spaces.now c.args.instance.now.space) c.in-Some.name.bytes.now ∷ [] =
+    let told : c.push.new.self.items ≡ c.args.faults.now.items ++ fault_at causes.ClassWide c.in-Some.name.at (space_at c.args.lookup.now.spaces.now c.args.instance.now.place.now.space) c.in-Some.name.bytes.now ∷ [] =
     search rules in
     λ is entries member permissions.
     one_more c.args.faults.now.items c.push.new.self.items _

@@ -1,4 +1,5 @@
-use Rattle.std.proofs.Common.{◌<◌, ◌≤◌, ◌∙◌, length, rules, subst, sym}
+use Rattle.std.specs.List.{list_all}
+use Rattle.std.proofs.Common.{◌<◌, ◌≤◌, ◌∙◌, ap, length, rules, subst, sym}
 use Rattle.cil_names.specs.Entries.{is_in}
 use Rattle.cil_names.specs.Unresolved.{listed_at}
 use Rattle.cil_decide.specs.Table.{most_permissions}
@@ -26,4 +27,4 @@ returns c =
     let big : most_permissions < length (listed_at c.args.permissions.now c.in-Some-entry.class) = let h = c.if-listed_count-le-MOST_PERMISSIONS.false in let n = c.listed_count.ensures in search (rules, h, n) in
     λ is entries member permissions.
     many c.args.lookup.now.spaces.now is c.args.lookup.now.names.now (is_in c.args.lookup.now.enabled.now) c.args.instance.now c.in-Some.name.at c.in-Some.name.bytes.now
-    c.in-Some.ensures entries member c.args.permissions.now permissions c.in-Some-entry.class c.in-Some-entry.ensures (sym c.has_all.ensures ∙ c.if-not-has_all.false) big
+    c.in-Some.ensures entries member c.args.permissions.now permissions c.in-Some-entry.class c.in-Some-entry.ensures (ap (list_all (is_in c.args.lookup.now.enabled.now)) (sym c.as_slice.ensures.value) ∙ sym c.has_all.ensures ∙ c.if-not-has_all.false) big
