@@ -1,3 +1,4 @@
+pub mod Around
 pub mod Codes
 pub mod Entries
 pub mod Fails
@@ -17,6 +18,7 @@ pub mod Said
 pub mod Shapes
 pub mod Sorted
 pub mod Spelling
+pub mod Standpoints
 pub mod Table
 pub mod Terms
 pub mod Told
