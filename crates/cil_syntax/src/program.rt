@@ -4,7 +4,7 @@ ghost use Rattle.std.specs.Prelude.{◌≡◌, OnOk};
 ghost use Rattle.cil_sexpr.specs.Lists.{Lists};
 ghost use Rattle.cil_sexpr.specs.Text.{IsReadable};
 ghost use Rattle.cil_sexpr.specs.View.{node_of, nodes_of};
-ghost use Rattle.cil_syntax.specs.Program.{program_of};
+ghost use Rattle.cil_syntax.specs.Program.{all_written, program_of};
 ghost use Rattle.cil_syntax.specs.Refusal.{Answers};
 ghost use Rattle.cil_syntax.specs.Standpoints.{found_behind, found_from, opened};
 ghost use Rattle.cil_syntax.specs.Told.{AreJudgedHere, IsModuleRead, StandsIn};
@@ -43,7 +43,7 @@ pub struct Program<'a> {
 impl<'a> Program<'a> {
     /// The statements, in order.
     pub fn statements(&self) -> &[Statement<'a>]
-        ensures { result.now ≡ self.now.statements.items }
+        ensures { program_of result.now ≡ all_written self.now }
     {
         self.statements.as_slice()
     }
@@ -52,7 +52,7 @@ impl<'a> Program<'a> {
 /// The statements that are written in modules; or, where one of them or one of its words is at fault, all faults
 /// of shape, or out of memory. Each module is read once; its tree is dropped before the next is read.
 pub fn written(alloc: Global, modules: &ModuleSet) -> Result<Program<'_>, Failure>
-    ensures { Answers (λ p. Lists written_cmp (IsWritten modules.now) (program_of p.statements.items)) (ShapeFault modules.now) result }
+    ensures { Answers (λ p. Lists written_cmp (IsWritten modules.now) (all_written p)) (ShapeFault modules.now) result }
 {
     written_in(alloc, modules, Dialect::Flat)
 }
@@ -63,7 +63,7 @@ pub fn written_in(
     modules: &ModuleSet,
     dialect: Dialect,
 ) -> Result<Program<'_>, Failure>
-    ensures { Answers (λ p. Lists written_cmp (IsWrittenIn dialect modules.now) (program_of p.statements.items)) (ShapeFaultIn dialect modules.now) result }
+    ensures { Answers (λ p. Lists written_cmp (IsWrittenIn dialect modules.now) (all_written p)) (ShapeFaultIn dialect modules.now) result }
 {
     // That a text has one tree makes what was read what is written.
     texts::one_tree();
