@@ -7,7 +7,6 @@ use Rattle.std.proofs.Common.{sym, ◌∙◌, ap, append_assoc, map}
 use Rattle.std.proofs.lemmas.List.{append-nil, map-append}
 use Rattle.cil_syntax.specs.declared.kind.Keyword.{Keyword}
 use Rattle.cil_syntax.specs.declared.kind.Keyword.TheVariants as keywords
-use Rattle.cil_syntax.specs.declared.program.Program.{Program}
 use Rattle.cil_syntax.specs.declared.program.Statement as rust
 use Rattle.cil_syntax.specs.declared.term.Word.{Word}
 use Rattle.cil_syntax.specs.Said.{args_of}
@@ -53,10 +52,6 @@ said_from done (s ∷ ss) =
 
 pub said_by_program : (ss : List rust.Statement) → map (λ w. w.statement) (program_of ss) ≡ map statement_of ss
 said_by_program ss = said_from [] ss
-
--- the written statements of a program
-abbrev pub all_written : Program → List Written
-all_written p = program_of p.statements.items
 
 -- ---- what holds of every program
 

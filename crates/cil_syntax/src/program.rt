@@ -4,7 +4,7 @@ ghost use Rattle.std.specs.Prelude.{◌≡◌, OnOk};
 ghost use Rattle.cil_sexpr.specs.Lists.{Lists};
 ghost use Rattle.cil_sexpr.specs.Text.{IsReadable};
 ghost use Rattle.cil_sexpr.specs.View.{node_of, nodes_of};
-ghost use Rattle.cil_syntax.specs.Program.{all_written, program_of};
+ghost use Rattle.cil_syntax.specs.Program.{program_of};
 ghost use Rattle.cil_syntax.specs.Refusal.{Answers};
 ghost use Rattle.cil_syntax.specs.Standpoints.{found_behind, found_from, opened};
 ghost use Rattle.cil_syntax.specs.Told.{AreJudgedHere, IsModuleRead, StandsIn};
@@ -20,6 +20,7 @@ use crate::term::{Spot, Term};
 use cil_modset::{ModuleSet, NoMemory};
 use cil_sexpr::{Node, ReadError, laws as texts, read};
 use std::alloc::Global;
+use std::marker::Model;
 
 /// A statement as it is written.
 #[derive(Debug, Drop)]
@@ -40,10 +41,31 @@ pub struct Program<'a> {
     statements: Vec<Statement<'a>>,
 }
 
+impl<'a> Model for Program<'a> {
+    ghost use Rattle.std.specs.Prelude.{List};
+    ghost use Rattle.cil_syntax.specs.declared.program.Statement.{Statement};
+    ghost use Rattle.cil_syntax.specs.Program.{IsNested};
+    ghost use Rattle.cil_syntax.specs.contracts.term.Term as term;
+    ghost use Rattle.std.specs.Coded.{codes};
+    ghost use denote.Signature.{static_lft};
+
+    ghost Value = { List Statement };
+
+    ghost coded = { Prim.hlevel (codes, (term.the_row static_lft).coded) };
+
+    ghost view = { λ p. p.statements.items };
+
+    ghost invariant = { λ p. IsNested p.statements.items };
+}
+
 impl<'a> Program<'a> {
-    /// The statements, in order.
+    ghost use Rattle.std.specs.Prelude.{◌≡◌};
+    ghost use Rattle.cil_syntax.specs.Program.{IsNested};
+
+    /// The statements, in order. Where each stands follows from their numbers.
     pub fn statements(&self) -> &[Statement<'a>]
-        ensures { program_of result.now ≡ all_written self.now }
+        ensures same { result.now ≡ self.now }
+        ensures nested { IsNested self.now }
     {
         self.statements.as_slice()
     }
@@ -52,7 +74,7 @@ impl<'a> Program<'a> {
 /// The statements that are written in modules; or, where one of them or one of its words is at fault, all faults
 /// of shape, or out of memory. Each module is read once; its tree is dropped before the next is read.
 pub fn written(alloc: Global, modules: &ModuleSet) -> Result<Program<'_>, Failure>
-    ensures { Answers (λ p. Lists written_cmp (IsWritten modules.now) (all_written p)) (ShapeFault modules.now) result }
+    ensures { Answers (λ p. Lists written_cmp (IsWritten modules.now) (program_of p)) (ShapeFault modules.now) result }
 {
     written_in(alloc, modules, Dialect::Flat)
 }
@@ -63,7 +85,7 @@ pub fn written_in(
     modules: &ModuleSet,
     dialect: Dialect,
 ) -> Result<Program<'_>, Failure>
-    ensures { Answers (λ p. Lists written_cmp (IsWrittenIn dialect modules.now) (all_written p)) (ShapeFaultIn dialect modules.now) result }
+    ensures { Answers (λ p. Lists written_cmp (IsWrittenIn dialect modules.now) (program_of p)) (ShapeFaultIn dialect modules.now) result }
 {
     // That a text has one tree makes what was read what is written.
     texts::one_tree();
