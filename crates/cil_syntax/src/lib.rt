@@ -38,5 +38,5 @@ pub use fault_list::FaultList;
 pub use forms::{ClassParts, DeclaredName, RuleParts, WordAndTerms, WordPair, word_and_terms};
 pub use kind::{Dialect, Keyword, Kind, Nesting, Sign};
 pub use printed::render;
-pub use program::{Program, Statement, written};
+pub use program::{Program, Statement, written, written_in};
 pub use term::{Excerpt, LookedUp, Op, Spot, Term, Word};
