@@ -5,9 +5,8 @@ use Rattle.std.specs.declared.cmp.Ordering.{Ordering}
 use Rattle.std.specs.Ordering.{nat_cmp, on, then_cmp}
 use Rattle.std.specs.List.Sorted.{IsStrictlySortedBy}
 use Rattle.cil_sexpr.specs.Lists.{text_cmp}
+use Rattle.cil_syntax.specs.Scopes.{Namespace, asked, asked_by, names_backwards}
 use Rattle.cil_names.specs.declared.space.Space.{Space}
-use Rattle.cil_names.specs.Item.{Namespace}
-use Rattle.cil_names.specs.Resolves.{asked, asked_by, names_backwards}
 
 -- a name in a namespace of this number
 pub record Place : Type 0 where

@@ -4,9 +4,9 @@ ghost use Rattle.std.specs.Prelude.{◌≡◌, ◌∷◌, List, MatchOption, len
 ghost use Rattle.std.specs.List.{list_all, list_any};
 ghost use Rattle.std.specs.List.Sorted.{IsStrictlySortedBy};
 ghost use Rattle.std.specs.Ordering.{on};
+ghost use Rattle.cil_syntax.specs.Scopes.{names_backwards};
 ghost use Rattle.cil_names.specs.Entries.{AreOrdered, HasNoEntry, IsEntryAt, candidate, candidates_of, is_declared_at, is_declared_in, is_in, key_cmp, key_of, listed, scoped};
 ghost use Rattle.cil_names.specs.Found.{IsFound, IsMissing};
-ghost use Rattle.cil_names.specs.Resolves.{names_backwards};
 ghost use Rattle.cil_names.specs.Spaces.{AreSpaces, IsDotless, space_at};
 
 use crate::entry::Entry;

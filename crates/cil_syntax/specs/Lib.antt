@@ -14,6 +14,7 @@ pub mod Program
 pub mod Refusal
 pub mod Reported
 pub mod Said
+pub mod Scopes
 pub mod Shapes
 pub mod Sorted
 pub mod Spelling

@@ -1,0 +1,4 @@
+pub mod Contents
+pub mod InheritFaults
+pub mod Leads
+pub mod Opens

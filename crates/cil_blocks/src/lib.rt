@@ -1,0 +1,2 @@
+//! Blocks and inheritance: what stands in which namespace.
+#![tactic(auto)]
