@@ -1,2 +1,7 @@
-//! Blocks and inheritance: what stands in which namespace.
+//! Blocks and inheritance: what stands in which namespace, with the scope of its words.
+//!
+//! `specs/Contents.antt` says what stands where and through which blockinherits; `specs/InheritFaults.antt` what is wrong
+//! with blocks; `laws.rt` has laws of both. Macros are not unfolded here.
 #![tactic(auto)]
+
+pub mod laws;

@@ -1,0 +1,13 @@
+pub mod Begun
+pub mod Cycles
+pub mod Given
+pub mod LawLemmas
+pub mod ListLemmas
+pub mod OneStanding
+pub mod OneTarget
+pub mod Paths
+pub mod ProgramLemmas
+pub mod Queue
+pub mod Rising
+pub mod Searches
+pub mod StandingWalk
