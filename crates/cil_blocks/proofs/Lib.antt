@@ -1,10 +1,12 @@
 pub mod Begun
 pub mod Cycles
+pub mod EntryLemmas
 pub mod Given
 pub mod LawLemmas
 pub mod ListLemmas
 pub mod OneStanding
 pub mod OneTarget
+pub mod PartLemmas
 pub mod Paths
 pub mod ProgramLemmas
 pub mod Queue

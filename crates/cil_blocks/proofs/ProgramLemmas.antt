@@ -63,7 +63,7 @@ head_of (x ∷ xs) = x
 equal_numbers : (a b : ℕ) → a ≡ b → nat_cmp a b ≡ Equal
 equal_numbers a b e = sym (nat_cmp_is a b Equal e)
 
-tied : (v w : Written) → v.statement.at ≡ w.statement.at → written_cmp v w ≡ Equal
+pub tied : (v w : Written) → v.statement.at ≡ w.statement.at → written_cmp v w ≡ Equal
 tied v w e =
     ap (λ o. ordering_then o (nat_cmp v.statement.at.at w.statement.at.at)) (equal_numbers v.statement.at.«module» w.statement.at.«module» (ap (λ (s : Spot). s.«module») e))
     ∙ equal_numbers v.statement.at.at w.statement.at.at (ap (λ (s : Spot). s.at) e)

@@ -32,7 +32,7 @@ tail_of : List ℕ → List ℕ
 tail_of [] = []
 tail_of (x ∷ xs) = xs
 
-same_spots : (a b : Spot) → same_spot a b ≡ true → a ≡ b
+pub same_spots : (a b : Spot) → same_spot a b ≡ true → a ≡ b
 unfolding head_of tail_of
 same_spots a b e =
     let l : (a.«module» ∷ a.at ∷ []) ≡ (b.«module» ∷ b.at ∷ []) = same_text (a.«module» ∷ a.at ∷ []) (b.«module» ∷ b.at ∷ []) (sym e) in
@@ -42,7 +42,7 @@ text_true : (xs ys : List ℕ) (r : Bool) → r ≡ same_bytes xs ys → xs ≡ 
 text_true xs ys true e q = sym e
 text_true xs ys false e q = absurd (other_text xs ys e q)
 
-spots_same : (a b : Spot) → a ≡ b → same_spot a b ≡ true
+pub spots_same : (a b : Spot) → a ≡ b → same_spot a b ≡ true
 spots_same a b e =
     text_true (a.«module» ∷ a.at ∷ []) (b.«module» ∷ b.at ∷ []) (same_spot a b) refl (λ i. (e i).«module» ∷ (e i).at ∷ [])
 

@@ -4,4 +4,10 @@
 //! with blocks; `laws.rt` has laws of both. Macros are not unfolded here.
 #![tactic(auto)]
 
+mod entry;
 pub mod laws;
+mod parts;
+pub mod walker;
+
+pub use entry::Entry;
+pub use parts::Parts;
