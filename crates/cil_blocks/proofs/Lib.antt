@@ -4,6 +4,7 @@ pub mod EntryLemmas
 pub mod Given
 pub mod LawLemmas
 pub mod ListLemmas
+pub mod NameLemmas
 pub mod OneStanding
 pub mod OneTarget
 pub mod PartLemmas

@@ -1,5 +1,5 @@
 -- Lists: places, searches, and rising lists.
-use Rattle.std.proofs.Common.{◌≡◌, ℕ, zero, suc, ◌+◌, ◌<◌, ◌≤◌, ◌⊎◌, Bool, true, false, if◌then◌else◌, List, [], ◌∷◌, ◌++◌, length, map, refl, sym, ◌∙◌, ap, subst, inl, inr, arith}
+use Rattle.std.proofs.Common.{◌≡◌, ℕ, zero, suc, ◌+◌, ◌<◌, ◌≤◌, ◌⊎◌, Bool, true, false, if◌then◌else◌, List, [], ◌∷◌, ◌++◌, length, get_or, map, refl, sym, ◌∙◌, ap, subst, inl, inr, arith}
 use Rattle.std.specs.Prelude.{Contains, Option, Some, None, find, filter, slice_get}
 use Rattle.std.specs.declared.cmp.Ordering.{Ordering}
 use Rattle.std.specs.declared.cmp.Ordering.TheVariants.{Less, Equal}
@@ -51,6 +51,22 @@ module _ {X : Type 0} where
   some_at [] k h = absurd (omega (arith, h))
   some_at (x ∷ xs) zero h = (x, refl)
   some_at (x ∷ xs) (suc k) h = some_at xs k (omega (arith, h))
+
+  pub get_so : (xs : List X) (k : ℕ) (x d : X) → slice_get xs k ≡ Some x → get_or xs k d ≡ x
+  get_so [] k x d e = absurd (none_some x e)
+  get_so (y ∷ ys) zero x d e = some_same y x e
+  get_so (y ∷ ys) (suc k) x d e = get_so ys k x d e
+
+  pub is_there : (xs : List X) (k : ℕ) (d : X) → k < length xs → slice_get xs k ≡ Some (get_or xs k d)
+  is_there xs k d h = let s = some_at xs k h in s.1 ∙ ap Some (sym (get_so xs k s.0 d s.1))
+
+  pub there_as : (xs : List X) (k : ℕ) (x : X) → k < length xs → x ≡ get_or xs k x → slice_get xs k ≡ Some x
+  there_as xs k x h e = is_there xs k x h ∙ ap Some (sym e)
+
+  pub not_there : (xs : List X) (k : ℕ) → length xs ≤ k → slice_get xs k ≡ None
+  not_there [] k h = refl
+  not_there (x ∷ xs) zero h = absurd (omega (arith, h))
+  not_there (x ∷ xs) (suc k) h = not_there xs k (omega (arith, h))
 
   -- ---- what a search finds, and what a filter keeps
 

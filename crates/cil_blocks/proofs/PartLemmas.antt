@@ -14,7 +14,7 @@ use Rattle.cil_blocks.specs.declared.parts.Parts.{Parts}
 use Rattle.cil_blocks.specs.Contents.{is_at, same_spot}
 use Rattle.cil_blocks.specs.Entries.{AreParts, IsWithin, nothing, parts_at, put_at, put_top, statement_at}
 use Rattle.cil_blocks.specs.Opens.{is_on_top, on_top_by, parts}
-use Rattle.cil_blocks.proofs.ListLemmas.{in_range, none_some, some_at, some_same, tied_places}
+use Rattle.cil_blocks.proofs.ListLemmas.{get_so, in_range, is_there, tied_places}
 use Rattle.cil_blocks.proofs.ProgramLemmas.{program_length, stands_on_top, stands_under, tied, written_at}
 use Rattle.cil_blocks.proofs.StandingWalk.{same_spots, spots_same}
 
@@ -26,14 +26,6 @@ filter_step p x xs ys false e = e
 filter_two : {X : Type 0} (p : X → Bool) (xs ys : List X) → filter p (xs ++ ys) ≡ filter p xs ++ filter p ys
 filter_two p [] ys = refl
 filter_two p (x ∷ xs) ys = filter_step p x xs ys (p x) (filter_two p xs ys)
-
-get_so : {X : Type 0} (xs : List X) (k : ℕ) (x d : X) → slice_get xs k ≡ Some x → get_or xs k d ≡ x
-get_so [] k x d e = absurd (none_some x e)
-get_so (y ∷ ys) zero x d e = some_same y x e
-get_so (y ∷ ys) (suc k) x d e = get_so ys k x d e
-
-get_there : {X : Type 0} (xs : List X) (k : ℕ) (d : X) → k < length xs → slice_get xs k ≡ Some (get_or xs k d)
-get_there xs k d h = let s = some_at xs k h in s.1 ∙ ap Some (sym (get_so xs k s.0 d s.1))
 
 pub record ArePartsUpTo (ws : List Written) (i : ℕ) (ps : Parts) : Type 0 where
   pub tops : map (statement_at ws) ps.tops.items ≡ filter is_on_top (take i ws)
@@ -83,7 +75,7 @@ module _ (ss : List Statement) (nested : IsNested ss) where
   same_as_number : (u k : ℕ) (p : Written) → slice_get ws u ≡ Some p → k < length ws → (u == k) ≡ same_spot (statement_at ws k).statement.at p.statement.at
   same_as_number u k p e h = decide (u == k) (same_spot (statement_at ws k).statement.at p.statement.at) refl refl where
     there : slice_get ws k ≡ Some (statement_at ws k)
-    there = get_there ws k nothing h
+    there = is_there ws k nothing h
 
     decide : (b c : Bool) → (u == k) ≡ b → same_spot (statement_at ws k).statement.at p.statement.at ≡ c → b ≡ c
     decide true true f g = refl
@@ -107,13 +99,13 @@ module _ (ss : List Statement) (nested : IsNested ss) where
   put_so None i s e u k h =
       let there = written_at ss nested i s e in
       let w = statement_at ws i in
-      let at : slice_get ws i ≡ Some w = get_there ws i nothing (in_range ws i _ there) in
+      let at : slice_get ws i ≡ Some w = is_there ws i nothing (in_range ws i _ there) in
       let context : w.context ≡ at_top = stands_on_top ss nested i s w e at u in
       sym (ap (λ (c : Context). if is_at (statement_at ws k).statement.at c.under then statement_at ws i ∷ [] else []) context)
   put_so (Some q) i s e u k h =
       let there = written_at ss nested i s e in
       let w = statement_at ws i in
-      let at : slice_get ws i ≡ Some w = get_there ws i nothing (in_range ws i _ there) in
+      let at : slice_get ws i ≡ Some w = is_there ws i nothing (in_range ws i _ there) in
       let p = stands_under ss nested i q s w e at u in
       put_if ws i (q == k) (same_spot (statement_at ws k).statement.at p.0.statement.at) (same_as_number q k p.0 p.1 h)
       ∙ sym (ap (λ (c : Context). if is_at (statement_at ws k).statement.at c.under then statement_at ws i ∷ [] else []) p.2)
@@ -121,10 +113,10 @@ module _ (ss : List Statement) (nested : IsNested ss) where
   top_so : (under : Option ℕ) (i : ℕ) (s : Statement) → slice_get ss i ≡ Some s → s.under ≡ under
       → map (statement_at ws) (put_top under i) ≡ (if is_on_top (statement_at ws i) then statement_at ws i ∷ [] else [])
   top_so None i s e u =
-      let at : slice_get ws i ≡ Some (statement_at ws i) = get_there ws i nothing (in_range ws i _ (written_at ss nested i s e)) in
+      let at : slice_get ws i ≡ Some (statement_at ws i) = is_there ws i nothing (in_range ws i _ (written_at ss nested i s e)) in
       sym (ap (λ (c : Context). if on_top_by c.under then statement_at ws i ∷ [] else []) (stands_on_top ss nested i s (statement_at ws i) e at u))
   top_so (Some q) i s e u =
-      let at : slice_get ws i ≡ Some (statement_at ws i) = get_there ws i nothing (in_range ws i _ (written_at ss nested i s e)) in
+      let at : slice_get ws i ≡ Some (statement_at ws i) = is_there ws i nothing (in_range ws i _ (written_at ss nested i s e)) in
       let p = stands_under ss nested i q s (statement_at ws i) e at u in
       sym (ap (λ (c : Context). if on_top_by c.under then statement_at ws i ∷ [] else []) p.2)
 
@@ -146,6 +138,3 @@ module _ (ss : List Statement) (nested : IsNested ss) where
   pub within_so : (i n : ℕ) (s : Statement) (under : Option ℕ) → slice_get ss i ≡ Some s → s.under ≡ under → n ≡ i → IsWithin under n
   within_so i n s None e u l = tt
   within_so i n s (Some k) e u l = let h = nested.earlier i k s e u in omega (arith, h, l)
-
-pub is_there : {X : Type 0} (xs : List X) (k : ℕ) (d : X) → k < length xs → slice_get xs k ≡ Some (get_or xs k d)
-is_there xs k d h = get_there xs k d h

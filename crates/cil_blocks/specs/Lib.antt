@@ -3,4 +3,5 @@ pub mod Entries
 pub mod InheritFaults
 pub mod Laws
 pub mod Leads
+pub mod Named
 pub mod Opens

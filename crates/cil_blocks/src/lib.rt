@@ -6,7 +6,8 @@
 
 mod entry;
 pub mod laws;
-mod parts;
+pub mod names;
+pub mod parts;
 pub mod walker;
 
 pub use entry::Entry;

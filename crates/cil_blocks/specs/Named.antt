@@ -1,0 +1,39 @@
+-- Written blocks by their full names: the own name in front of the namespace.
+use Rattle.std.specs.Prelude.{◌≡◌, ◌↔◌, ℕ, suc, Bool, true, List, [], ◌∷◌, ◌++◌, map, Contains, Option, Some, None}
+use Rattle.std.specs.declared.cmp.Ordering.{Ordering}
+use Rattle.std.specs.Cmp.Lexicographic.{slice_cmp}
+use Rattle.cil_sexpr.specs.Lists.{text_cmp}
+use Rattle.cil_syntax.specs.Scopes.{Namespace}
+use Rattle.cil_syntax.specs.Written.{Written, space_within}
+use Rattle.cil_blocks.specs.Contents.{is_block, name_of}
+use Rattle.cil_blocks.specs.Entries.{statement_at}
+
+-- the own name first, then that of the block round it, and so on
+abbrev pub names_cmp : List (List ℕ) → List (List ℕ) → Ordering
+names_cmp = slice_cmp text_cmp
+
+abbrev pub full_name : Written → List (List ℕ)
+full_name w = name_of w ∷ w.context.space
+
+-- the namespace of what stands directly in a statement
+abbrev pub inner_space : Written → Namespace
+inner_space w = space_within w.statement.keyword w.statement.args w.context.space
+
+-- the same of the statement of a number; the global one where there is no number
+abbrev pub space_in : List Written → Option ℕ → Namespace
+space_in ws None = []
+space_in ws (Some k) = inner_space (statement_at ws k)
+
+-- the namespace of a statement's contents, if it is a block
+abbrev pub full_at : List Written → ℕ → List (List ℕ)
+full_at ws k = full_name (statement_at ws k)
+
+-- a number, and 0 for none
+abbrev pub rank : Option ℕ → ℕ
+rank None = 0
+rank (Some k) = suc k
+
+-- each number is one of a block
+abbrev pub IsBlockAt : List Written → Option ℕ → Type 0
+IsBlockAt ws None = Unit {0}
+IsBlockAt ws (Some k) = is_block (statement_at ws k).statement.keyword ≡ true
