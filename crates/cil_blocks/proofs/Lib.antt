@@ -12,5 +12,7 @@ pub mod Paths
 pub mod ProgramLemmas
 pub mod Queue
 pub mod Rising
+pub mod RunLemmas
 pub mod Searches
 pub mod StandingWalk
+pub mod TargetLemmas

@@ -1,11 +1,12 @@
 -- Written blocks by their full names: the own name in front of the namespace.
-use Rattle.std.specs.Prelude.{◌≡◌, ◌↔◌, ℕ, suc, Bool, true, List, [], ◌∷◌, ◌++◌, map, Contains, Option, Some, None}
+use Rattle.std.specs.Prelude.{◌≡◌, ◌↔◌, ℕ, suc, ◌<◌, Bool, true, false, List, [], ◌∷◌, ◌++◌, length, map, Contains, Option, Some, None}
 use Rattle.std.specs.declared.cmp.Ordering.{Ordering}
+use Rattle.std.specs.List.Sorted.{IsSortedByKey}
 use Rattle.std.specs.Cmp.Lexicographic.{slice_cmp}
 use Rattle.cil_sexpr.specs.Lists.{text_cmp}
-use Rattle.cil_syntax.specs.Scopes.{Namespace}
+use Rattle.cil_syntax.specs.Scopes.{Namespace, asked, asked_by}
 use Rattle.cil_syntax.specs.Written.{Written, space_within}
-use Rattle.cil_blocks.specs.Contents.{is_block, name_of}
+use Rattle.cil_blocks.specs.Contents.{Target, is_block, name_of}
 use Rattle.cil_blocks.specs.Entries.{statement_at}
 
 -- the own name first, then that of the block round it, and so on
@@ -37,3 +38,25 @@ rank (Some k) = suc k
 abbrev pub IsBlockAt : List Written → Option ℕ → Type 0
 IsBlockAt ws None = Unit {0}
 IsBlockAt ws (Some k) = is_block (statement_at ws k).statement.keyword ≡ true
+
+-- the blocks of a program, by their numbers, in the order of their full names
+pub record AreBlocks (ws : List Written) (blocks : List ℕ) : Type 0 where
+  pub sorted : IsSortedByKey (λ b. space_in ws (Some b)) names_cmp blocks
+  pub members : (b : ℕ) → Contains blocks b ↔ ((b < length ws) × (is_block (statement_at ws b).statement.keyword ≡ true))
+
+-- a number, if it is one of a block
+abbrev pub block_in : ℕ → Bool → List ℕ
+block_in number true = number ∷ []
+block_in number false = []
+
+-- of these numbers, those of one full name
+abbrev pub AreOfName : List Written → List ℕ → List (List ℕ) → List ℕ → Type 0
+AreOfName ws blocks names found = (b : ℕ) → Contains found b ↔ (Contains blocks b × (space_in ws (Some b) ≡ names))
+
+-- the names that a word asks, the last one first, and whether a dot leads it
+abbrev pub IsAsked : List ℕ → Bool → List (List ℕ) → Type 0
+IsAsked word global names = asked word ≡ asked_by global names
+
+-- the targets of the statement of a number
+abbrev pub AreTargets : List Written → ℕ → List ℕ → Type 0
+AreTargets ws number found = (b : Written) → Target ws (statement_at ws number) b ↔ Contains (map (statement_at ws) found) b

@@ -8,6 +8,7 @@ mod entry;
 pub mod laws;
 pub mod names;
 pub mod parts;
+pub mod targets;
 pub mod walker;
 
 pub use entry::Entry;

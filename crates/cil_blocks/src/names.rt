@@ -20,7 +20,7 @@ fn is_block_at(statements: &[Statement], number: usize) -> bool
     }
 }
 
-fn is_block(keyword: Keyword) -> bool
+pub fn is_block(keyword: Keyword) -> bool
     ensures { result ≡ is_block keyword }
 {
     matches!(keyword, Keyword::Block)

@@ -1,0 +1,94 @@
+//! The blocks that blockinherits name. They are looked up among the written blocks, in the namespaces round the place of
+//! writing. A blockinherit costs one search by halving for each block round it.
+
+ghost use Rattle.std.specs.Prelude.{◌≡◌, ◌<◌, ◌≤◌, ◌↔◌, ◌++◌, ℕ, Contains, IfOk, OnOk, Some, drop, length, take, true};
+ghost use Rattle.std.specs.List.Sorted.{IsPermutation, IsSortedByKey};
+ghost use Rattle.cil_syntax.specs.Program.{IsNested, program_of};
+ghost use Rattle.cil_blocks.specs.Contents.{is_block};
+ghost use Rattle.cil_blocks.specs.Entries.{statement_at};
+ghost use Rattle.cil_blocks.specs.Named.{AreBlocks, AreOfName, block_in, names_cmp, space_in};
+
+use crate::names::{compare_path, compare_spaces, is_block};
+use cil_modset::NoMemory;
+use cil_syntax::{Excerpt, Keyword, Statement};
+use std::alloc::Global;
+
+/// The numbers of the blocks of a program, in the order of their full names. A sort is its cost.
+pub fn blocks_of(alloc: Global, statements: &[Statement]) -> Result<Vec<usize>, NoMemory>
+    requires { IsNested statements.now }
+    ensures { IfOk result (λ blocks. AreBlocks (program_of statements.now) blocks.items) }
+{
+    let blocks = block_numbers(alloc, statements)?;
+    Ok(by_full_name(statements, blocks))
+}
+
+/// The numbers of the blocks, in the order of writing.
+fn block_numbers(alloc: Global, statements: &[Statement]) -> Result<Vec<usize>, NoMemory>
+    requires { IsNested statements.now }
+    ensures { IfOk result (λ blocks. (b : ℕ) → Contains blocks.items b ↔ ((b < length statements.now) × (is_block (statement_at (program_of statements.now) b).statement.keyword ≡ true))) }
+{
+    let mut blocks = Vec::new(alloc);
+    for (i, statement) in statements.iter().enumerate() {
+        push_block(&mut blocks, i, statement.keyword)?;
+    }
+    Ok(blocks)
+}
+
+/// Adds the number of a statement, if that is a block.
+fn push_block(blocks: &mut Vec<usize>, number: usize, keyword: Keyword) -> Result<(), NoMemory>
+    ensures { OnOk result (blocks.new.items ≡ blocks.old.items ++ block_in number (is_block keyword)) }
+{
+    if !is_block(keyword) {
+        return Ok(());
+    }
+    blocks.push(number)?;
+    Ok(())
+}
+
+/// Blocks in the order of their full names.
+fn by_full_name(statements: &[Statement], mut blocks: Vec<usize>) -> Vec<usize>
+    requires { IsNested statements.now }
+    ensures same { IsPermutation blocks.items result.items }
+    ensures sorted { IsSortedByKey (λ b. space_in (program_of statements.now) (Some b)) names_cmp result.items }
+{
+    blocks.sort_unstable_by(|a, b| compare_spaces(statements, Some(*a), Some(*b)));
+    blocks
+}
+
+/// The blocks of one full name: some names in front of the namespace in a statement.
+fn blocks_named<'b>(
+    statements: &[Statement],
+    blocks: &'b [usize],
+    names: &[Excerpt],
+    space: Option<usize>,
+) -> &'b [usize]
+    requires nested { IsNested statements.now }
+    requires sorted { IsSortedByKey (λ b. space_in (program_of statements.now) (Some b)) names_cmp blocks.now }
+    ensures { AreOfName (program_of statements.now) blocks.now (names.now ++ space_in (program_of statements.now) space) result.now }
+{
+    let first = blocks.partition_point(|b| compare_path(
+        statements,
+        Some(*b),
+        names,
+        space,
+    ).is_lt());
+    let rest = from(blocks, first);
+    let count = rest.partition_point(|b| !compare_path(statements, Some(*b), names, space).is_gt());
+    up_to(rest, count)
+}
+
+/// Numbers from a place on.
+fn from(numbers: &[usize], start: usize) -> &[usize]
+    requires { start ≤ length numbers.now }
+    ensures { result.now ≡ drop start numbers.now }
+{
+    &numbers[start..]
+}
+
+/// The first so many numbers.
+fn up_to(numbers: &[usize], end: usize) -> &[usize]
+    requires { end ≤ length numbers.now }
+    ensures { result.now ≡ take end numbers.now }
+{
+    &numbers[..end]
+}
