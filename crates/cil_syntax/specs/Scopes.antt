@@ -1,6 +1,6 @@
 -- Namespaces and scopes, and what a word asks. CIL Reference Guide, "Namespaces" and "Name Resolution"; where it leaves
 -- a choice, this project's profile.
-use Rattle.std.specs.Prelude.{ℕ, Bool, true, false, ◌==◌, if◌then◌else◌, not, List, [], ◌∷◌, ◌++◌, map, reverse, filter}
+use Rattle.std.specs.Prelude.{◌≡◌, All, ℕ, Bool, true, false, ◌==◌, if◌then◌else◌, not, List, [], ◌∷◌, ◌++◌, map, reverse, filter}
 use Rattle.std.specs.List.{slice_split}
 use lib.Pointwise.{pointwise}
 use Rattle.cil_syntax.specs.Spelling.{same_bytes}
@@ -60,3 +60,18 @@ asked (b ∷ bytes) = if b == 46 then asked_by true (names_backwards bytes) else
 -- the namespaces that a word asks, in order: with a leading dot the global one alone
 abbrev pub spaces_asked : Asked → Scope → List Namespace
 spaces_asked a scope = if a.global then a.inner ∷ [] else map (λ n. a.inner ++ n) scope
+
+-- ---- a word, part by part
+
+-- no byte is a dot
+abbrev pub IsDotless : List ℕ → Type 0
+IsDotless = All (λ b. (b == 46) ≡ false)
+
+-- the part before the first dot, and what stands behind it
+pub record IsParted (path first rest : List ℕ) : Type 0 where
+  pub whole : path ≡ first ++ 46 ∷ rest
+  pub dotless : IsDotless first
+
+-- a word without its leading dot
+pub record IsTaken (word : List ℕ) (global : Bool) (path : List ℕ) : Type 0 where
+  pub asks : asked word ≡ asked_by global (names_backwards path)
