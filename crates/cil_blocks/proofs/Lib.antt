@@ -1,6 +1,7 @@
 pub mod Begun
 pub mod Cycles
 pub mod EntryLemmas
+pub mod FirstNamed
 pub mod Given
 pub mod LawLemmas
 pub mod ListLemmas
@@ -13,6 +14,7 @@ pub mod ProgramLemmas
 pub mod Queue
 pub mod Rising
 pub mod RunLemmas
+pub mod ScopeLemmas
 pub mod Searches
 pub mod StandingWalk
 pub mod TargetLemmas

@@ -1,10 +1,10 @@
 -- Written blocks by their full names: the own name in front of the namespace.
-use Rattle.std.specs.Prelude.{◌≡◌, ◌↔◌, ℕ, suc, ◌<◌, Bool, true, false, List, [], ◌∷◌, ◌++◌, length, map, Contains, Option, Some, None}
+use Rattle.std.specs.Prelude.{◌≡◌, ◌↔◌, ◌⊎◌, ℕ, suc, ◌<◌, Bool, true, false, List, [], ◌∷◌, ◌++◌, length, map, Contains, Option, Some, None}
 use Rattle.std.specs.declared.cmp.Ordering.{Ordering}
 use Rattle.std.specs.List.Sorted.{IsSortedByKey}
 use Rattle.std.specs.Cmp.Lexicographic.{slice_cmp}
 use Rattle.cil_sexpr.specs.Lists.{text_cmp}
-use Rattle.cil_syntax.specs.Scopes.{Namespace, asked, asked_by}
+use Rattle.cil_syntax.specs.Scopes.{Namespace, asked}
 use Rattle.cil_syntax.specs.Written.{Written, space_within}
 use Rattle.cil_blocks.specs.Contents.{Target, is_block, name_of}
 use Rattle.cil_blocks.specs.Entries.{statement_at}
@@ -55,8 +55,18 @@ AreOfName ws blocks names found = (b : ℕ) → Contains found b ↔ (Contains b
 
 -- the names that a word asks, the last one first, and whether a dot leads it
 abbrev pub IsAsked : List ℕ → Bool → List (List ℕ) → Type 0
-IsAsked word global names = asked word ≡ asked_by global names
+IsAsked word global names = ((asked word).global ≡ global) × ((asked word).name ∷ (asked word).inner ≡ names)
 
 -- the targets of the statement of a number
 abbrev pub AreTargets : List Written → ℕ → List ℕ → Type 0
 AreTargets ws number found = (b : Written) → Target ws (statement_at ws number) b ↔ Contains (map (statement_at ws) found) b
+
+-- none of these numbers is of this full name
+abbrev pub HasNoneNamed : List Written → List ℕ → List (List ℕ) → Type 0
+HasNoneNamed ws blocks names = (b : ℕ) → Contains blocks b → space_in ws (Some b) ≡ names → ⊥
+
+-- the blocks of some names in the first of the namespaces that has one; none where none of them has
+abbrev pub AreFirstNamed : List Written → List ℕ → List (List ℕ) → List Namespace → List ℕ → Type 0
+AreFirstNamed ws blocks names [] found = found ≡ []
+AreFirstNamed ws blocks names (n ∷ scope) found =
+    (((found ≡ [] → ⊥)) × AreOfName ws blocks (names ++ n) found) ⊎ (HasNoneNamed ws blocks (names ++ n) × AreFirstNamed ws blocks names scope found)

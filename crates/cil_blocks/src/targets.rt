@@ -4,13 +4,14 @@
 ghost use Rattle.std.specs.Prelude.{◌≡◌, ◌<◌, ◌≤◌, ◌↔◌, ◌++◌, ℕ, Contains, IfOk, OnOk, Some, drop, length, take, true};
 ghost use Rattle.std.specs.List.Sorted.{IsPermutation, IsSortedByKey};
 ghost use Rattle.cil_syntax.specs.Program.{IsNested, program_of};
+ghost use Rattle.cil_syntax.specs.Scopes.{names_backwards, scope_at};
 ghost use Rattle.cil_blocks.specs.Contents.{is_block};
 ghost use Rattle.cil_blocks.specs.Entries.{statement_at};
-ghost use Rattle.cil_blocks.specs.Named.{AreBlocks, AreOfName, block_in, names_cmp, space_in};
+ghost use Rattle.cil_blocks.specs.Named.{AreBlocks, AreFirstNamed, AreOfName, IsAsked, IsBlockAt, block_in, names_cmp, space_in};
 
-use crate::names::{compare_path, compare_spaces, is_block};
+use crate::names::{block_above, compare_path, compare_spaces, is_block};
 use cil_modset::NoMemory;
-use cil_syntax::{Excerpt, Keyword, Statement};
+use cil_syntax::{Excerpt, Keyword, Statement, parted, path_of};
 use std::alloc::Global;
 
 /// The numbers of the blocks of a program, in the order of their full names. A sort is its cost.
@@ -75,6 +76,62 @@ fn blocks_named<'b>(
     let rest = from(blocks, first);
     let count = rest.partition_point(|b| !compare_path(statements, Some(*b), names, space).is_gt());
     up_to(rest, count)
+}
+
+/// The blocks of some names in the first namespace that has one, from that in a block outwards. The global one is the last.
+fn first_named<'b>(
+    statements: &[Statement],
+    blocks: &'b [usize],
+    names: &[Excerpt],
+    from: Option<usize>,
+) -> &'b [usize]
+    requires nested { IsNested statements.now }
+    requires sorted { IsSortedByKey (λ b. space_in (program_of statements.now) (Some b)) names_cmp blocks.now }
+    requires block { IsBlockAt (program_of statements.now) from }
+    ensures { AreFirstNamed (program_of statements.now) blocks.now names.now (scope_at (space_in (program_of statements.now) from)) result.now }
+{
+    let mut at = from;
+    while let Some(number) = at {
+        let found = blocks_named(statements, blocks, names, at);
+        if !found.is_empty() {
+            return found;
+        }
+        at = block_above(statements, number);
+    }
+    blocks_named(statements, blocks, names, None)
+}
+
+/// What a word asks: its names, the last one first, and whether a dot leads it.
+#[derive(Drop)]
+struct Asking<'a> {
+    global: bool,
+    names: Vec<Excerpt<'a>>,
+}
+
+fn asked_by<'a>(alloc: Global, word: &'a [u8]) -> Result<Asking<'a>, NoMemory>
+    ensures { IfOk result (λ a. IsAsked word.now a.global a.names.items) }
+{
+    let path = path_of(word);
+    let names = names_of(alloc, path.names)?;
+    Ok(Asking {
+        global: path.global,
+        names,
+    })
+}
+
+/// The names in a path, the last one first.
+fn names_of<'a>(alloc: Global, path: &'a [u8]) -> Result<Vec<Excerpt<'a>>, NoMemory>
+    ensures { IfOk result (λ names. names.items ≡ names_backwards path.now) }
+{
+    let mut names = Vec::new(alloc);
+    let mut rest = path;
+    while let Some(parts) = parted(rest) {
+        names.push(Excerpt::of(parts.first))?;
+        rest = parts.rest;
+    }
+    names.push(Excerpt::of(rest))?;
+    names.reverse();
+    Ok(names)
 }
 
 /// Numbers from a place on.

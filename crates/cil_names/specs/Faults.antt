@@ -1,8 +1,9 @@
 -- What is wrong with the names of a policy: declarations that differ, and words that name nothing. This project's
 -- profile.
-use Rattle.std.specs.Prelude.{◌≡◌, true, false, [], Contains}
+use Rattle.std.specs.Prelude.{◌≡◌, ℕ, true, false, List, [], Contains}
 use Rattle.cil_syntax.specs.declared.code.FaultCode.TheVariants as causes
 use Rattle.cil_syntax.specs.declared.fault.Fault.{Fault}
+use Rattle.cil_syntax.specs.declared.term.Spot.{Spot}
 use Rattle.cil_syntax.specs.Terms.{Name, Terms, cons}
 use Rattle.cil_syntax.specs.Reported.{fault_at}
 use Rattle.cil_syntax.specs.Scopes.{Namespace}
