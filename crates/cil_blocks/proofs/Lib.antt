@@ -1,4 +1,5 @@
 pub mod Begun
+pub mod ContentLemmas
 pub mod Cycles
 pub mod EntryLemmas
 pub mod FirstNamed
@@ -8,6 +9,7 @@ pub mod ListLemmas
 pub mod NameLemmas
 pub mod OneStanding
 pub mod OneTarget
+pub mod OpenedLemmas
 pub mod PartLemmas
 pub mod Paths
 pub mod ProgramLemmas
@@ -18,3 +20,4 @@ pub mod ScopeLemmas
 pub mod Searches
 pub mod StandingWalk
 pub mod TargetLemmas
+pub mod TargetsSo

@@ -17,7 +17,7 @@ use Rattle.cil_blocks.proofs.OneStanding.{AreApart, first_of_three}
 use Rattle.cil_blocks.proofs.ListLemmas.{some_same}
 
 -- two namespaces that compare alike are one
-same_spaces : (a b : Namespace) → same_space a b ≡ true → a ≡ b
+pub same_spaces : (a b : Namespace) → same_space a b ≡ true → a ≡ b
 same_spaces [] [] e = refl
 same_spaces [] (y ∷ ys) e = absurd (let f : false ≡ true = e in cc)
 same_spaces (x ∷ xs) [] e = absurd (let f : false ≡ true = e in cc)
@@ -30,7 +30,7 @@ same_spaces (x ∷ xs) (y ∷ ys) e =
       two true b e = (refl, e)
       two false b e = absurd (let f : false ≡ true = e in cc)
 
-three : (a b c : Bool) → (a && b && c) ≡ true → (a ≡ true) × (b ≡ true) × (c ≡ true)
+pub three : (a b c : Bool) → (a && b && c) ≡ true → (a ≡ true) × (b ≡ true) × (c ≡ true)
 three true true c e = (refl, refl, e)
 three true false c e = absurd (let f : false ≡ true = e in cc)
 three false true c e = absurd (let f : false ≡ true = e in cc)

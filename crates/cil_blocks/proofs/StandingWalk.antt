@@ -38,7 +38,7 @@ same_spots a b e =
     let l : (a.«module» ∷ a.at ∷ []) ≡ (b.«module» ∷ b.at ∷ []) = same_text (a.«module» ∷ a.at ∷ []) (b.«module» ∷ b.at ∷ []) (sym e) in
     λ i. record { «module» = head_of (l i); at = head_of (tail_of (l i)) }
 
-text_true : (xs ys : List ℕ) (r : Bool) → r ≡ same_bytes xs ys → xs ≡ ys → same_bytes xs ys ≡ true
+pub text_true : (xs ys : List ℕ) (r : Bool) → r ≡ same_bytes xs ys → xs ≡ ys → same_bytes xs ys ≡ true
 text_true xs ys true e q = sym e
 text_true xs ys false e q = absurd (other_text xs ys e q)
 
@@ -77,7 +77,7 @@ module _ (ws : List Written) where
   target_by_is w b None f e = absurd (none_some b e)
   target_by_is w b (Some word) f e = target_in_is w word (block_space ws w.context.space word) b f refl e
 
-  target_is : (w b : Written) → target_of ws w ≡ Some b → Target ws w b
+  pub target_is : (w b : Written) → target_of ws w ≡ Some b → Target ws w b
   unfolding target_of
   target_is w b e = target_by_is w b (first_word w.statement.args) refl e
 
@@ -90,7 +90,7 @@ module _ (ws : List Written) where
   -- ---- what is opened stands
 
   module _ (one_target : (w b c : Written) → Target ws w b → Target ws w c → b ≡ c) where
-    is_the_target : (w b : Written) → Target ws w b → target_of ws w ≡ Some b
+    pub is_the_target : (w b : Written) → Target ws w b → target_of ws w ≡ Some b
     is_the_target w b t = let f = some_target w b t in f.1 ∙ ap Some (one_target w f.0 b (target_is w f.0 f.1) t)
 
     -- in a keyword, what is opened is a step of def:Contents

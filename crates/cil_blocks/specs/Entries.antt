@@ -72,6 +72,10 @@ opened_as ws w k = None
 abbrev pub opened_of : List Written → Written → Option Written
 opened_of ws w = opened_as ws w w.statement.keyword
 
+abbrev pub first_number : List ℕ → Option ℕ
+first_number [] = None
+first_number (k ∷ ks) = Some k
+
 -- the numbers at a place of a list of lists
 abbrev pub numbers_in : Option (Vec ℕ) → List ℕ
 numbers_in None = []

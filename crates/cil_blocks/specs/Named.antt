@@ -57,6 +57,11 @@ AreOfName ws blocks names found = (b : ℕ) → Contains found b ↔ (Contains b
 abbrev pub IsAsked : List ℕ → Bool → List (List ℕ) → Type 0
 IsAsked word global names = ((asked word).global ≡ global) × ((asked word).name ∷ (asked word).inner ≡ names)
 
+-- the namespace that a word asks first: with a leading dot the global one
+abbrev pub asked_space : Bool → Namespace → Namespace
+asked_space true here = []
+asked_space false here = here
+
 -- the targets of the statement of a number
 abbrev pub AreTargets : List Written → ℕ → List ℕ → Type 0
 AreTargets ws number found = (b : Written) → Target ws (statement_at ws number) b ↔ Contains (map (statement_at ws) found) b

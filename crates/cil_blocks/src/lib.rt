@@ -4,9 +4,11 @@
 //! with blocks; `laws.rt` has laws of both. Macros are not unfolded here.
 #![tactic(auto)]
 
+pub mod contents;
 mod entry;
 pub mod laws;
 pub mod names;
+pub mod opened;
 pub mod parts;
 pub mod targets;
 pub mod walker;

@@ -7,11 +7,11 @@ ghost use Rattle.cil_syntax.specs.Program.{IsNested, program_of};
 ghost use Rattle.cil_syntax.specs.Scopes.{names_backwards, scope_at};
 ghost use Rattle.cil_blocks.specs.Contents.{is_block};
 ghost use Rattle.cil_blocks.specs.Entries.{statement_at};
-ghost use Rattle.cil_blocks.specs.Named.{AreBlocks, AreFirstNamed, AreOfName, IsAsked, IsBlockAt, block_in, names_cmp, space_in};
+ghost use Rattle.cil_blocks.specs.Named.{AreBlocks, AreFirstNamed, AreOfName, AreTargets, IsAsked, IsBlockAt, asked_space, block_in, names_cmp, space_in};
 
 use crate::names::{block_above, compare_path, compare_spaces, is_block};
 use cil_modset::NoMemory;
-use cil_syntax::{Excerpt, Keyword, Statement, parted, path_of};
+use cil_syntax::{Excerpt, Keyword, Statement, parted, path_of, word_and_terms};
 use std::alloc::Global;
 
 /// The numbers of the blocks of a program, in the order of their full names. A sort is its cost.
@@ -76,6 +76,41 @@ fn blocks_named<'b>(
     let rest = from(blocks, first);
     let count = rest.partition_point(|b| !compare_path(statements, Some(*b), names, space).is_gt());
     up_to(rest, count)
+}
+
+/// The numbers of the blocks that a statement names with the word in front of it: among the written blocks, in the first
+/// namespace round the place of writing that has one. None where it begins with no word.
+pub fn targets_at<'b>(
+    alloc: Global,
+    statements: &[Statement],
+    blocks: &'b [usize],
+    number: usize,
+) -> Result<&'b [usize], NoMemory>
+    requires nested { IsNested statements.now }
+    requires listed { AreBlocks (program_of statements.now) blocks.now }
+    ensures { IfOk result (λ found. AreTargets (program_of statements.now) number found.now) }
+{
+    let Some(statement) = statements.get(number) else {
+        return Ok(&[]);
+    };
+    let Some(front) = word_and_terms(statement.args.as_slice(), statement.at.module) else {
+        return Ok(&[]);
+    };
+    let asking = asked_by(alloc, front.word.bytes.as_slice())?;
+    let from = asked_from(statements, number, asking.global);
+    Ok(first_named(statements, blocks, asking.names.as_slice(), from))
+}
+
+/// The block in whose namespace a word of a statement is looked up first; none for the global one.
+fn asked_from(statements: &[Statement], number: usize, global: bool) -> Option<usize>
+    ensures space { IsNested statements.now → space_in (program_of statements.now) result ≡ asked_space global (statement_at (program_of statements.now) number).context.space }
+    ensures block { IsNested statements.now → IsBlockAt (program_of statements.now) result }
+{
+    if global {
+        None
+    } else {
+        block_above(statements, number)
+    }
 }
 
 /// The blocks of some names in the first namespace that has one, from that in a block outwards. The global one is the last.
