@@ -2,6 +2,7 @@ pub mod Begun
 pub mod ContentLemmas
 pub mod Cycles
 pub mod EntryLemmas
+pub mod FaultExamples
 pub mod FirstNamed
 pub mod Given
 pub mod LawLemmas
