@@ -1,12 +1,12 @@
 -- What statements begin with: a block or a macro with its name, a blockinherit with the word of its target.
-use Rattle.std.proofs.Common.{◌≡◌, Bool, true, false, List, refl, subst}
+use Rattle.std.proofs.Common.{◌≡◌, true, false, List, refl}
 use Rattle.std.specs.Prelude.{Contains, Option, Some, None}
 use Rattle.std.specs.Option.{option_map_or}
 use Rattle.cil_syntax.specs.declared.kind.Keyword.{Keyword}
 use Rattle.cil_syntax.specs.declared.kind.Keyword.TheVariants as keywords
 use Rattle.cil_syntax.specs.declared.program.Statement.{Statement}
 use Rattle.cil_syntax.specs.declared.term.Word.{Word}
-use Rattle.cil_syntax.specs.Program.{IsNested, begins_with_name, begins_with_word, is_begun, program_of}
+use Rattle.cil_syntax.specs.Program.{IsNested, begins_with_word, is_begun, program_of}
 use Rattle.cil_syntax.specs.Spelling.{is_name}
 use Rattle.cil_syntax.specs.Terms.{Leaf, Name, Form, Terms, nil, cons}
 use Rattle.cil_syntax.specs.Written.{Named, Written, named_in_front}

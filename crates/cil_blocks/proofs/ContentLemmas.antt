@@ -1,9 +1,8 @@
 -- What the walk gives, over a program in which nothing is wrong.
-use Rattle.std.proofs.Common.{◌≡◌, ℕ, List}
+use Rattle.std.proofs.Common.{ℕ, List}
 use Rattle.std.specs.Prelude.{Option, Some, None, Result, Ok, Err, IfNone, IfOk, IfSome}
 use Rattle.cil_syntax.specs.declared.program.Statement.{Statement}
 use Rattle.cil_syntax.specs.Program.{IsNested, program_of}
-use Rattle.cil_syntax.specs.Written.{Written}
 use Rattle.cil_blocks.specs.declared.parts.Parts.{Parts}
 use Rattle.cil_blocks.specs.Entries.{AreOpened, AreParts, IsWalkable}
 use Rattle.cil_blocks.specs.Laws.{HasNoFault, HasOneTarget, HaveOneTarget}

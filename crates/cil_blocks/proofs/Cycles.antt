@@ -1,8 +1,8 @@
 -- Cycles: a blockinherit lies on one exactly where its target, or a block that this needs, encloses it.
-use Rattle.std.proofs.Common.{◌≡◌, ℕ, ◌⊎◌, Bool, true, false, List, [], ◌∷◌, refl, sym, ◌∙◌, ap, subst, inl, inr}
+use Rattle.std.proofs.Common.{◌≡◌, ℕ, ◌⊎◌, Bool, true, false, List, [], ◌∷◌, refl, sym, ap, subst, inl, inr}
 use Rattle.std.specs.Prelude.{Contains, Option, Some, None}
-use Rattle.cil_blocks.specs.Contents.{is_inheriting, IsIn, Target, name_of, is_block, is_abstract}
-use Rattle.cil_blocks.specs.InheritFaults.{IsOf, Within, directly, further, Needs, one, more, Gives, texts, own, handed}
+use Rattle.cil_blocks.specs.Contents.{is_inheriting, IsIn, Target, name_of}
+use Rattle.cil_blocks.specs.InheritFaults.{Within, directly, further, Needs, one, more, Gives, texts, own, handed}
 use Rattle.cil_blocks.specs.Leads as leads
 use Rattle.cil_blocks.specs.Leads.{Leads, here, nested, IsOnCycle, IsEnclosed, IsCycle, Shares, first, second, GiveTogether, IsShared}
 use Rattle.cil_syntax.specs.Scopes.{Namespace}

@@ -1,20 +1,18 @@
 -- Entries as standings: one more is one standing more, and what an entry opens is what its standing opens.
 use Rattle.std.proofs.Common.{◌≡◌, ℕ, zero, suc, ◌+◌, ◌<◌, ◌≤◌, Bool, true, false, if◌then◌else◌, List, [], ◌∷◌, ◌++◌, length, get_or, map, take, refl, sym, ◌∙◌, ap, subst, arith, append_assoc}
-use Rattle.std.specs.Prelude.{Contains, Option, Some, None, filter, slice_get}
-use Rattle.std.specs.List.Sorted.{IsStrictlySortedBy}
+use Rattle.std.specs.Prelude.{Option, Some, None, slice_get}
 use Rattle.std.proofs.lemmas.List.{append-nil, take_more, take_all, map-append, length-append}
 use Rattle.cil_sexpr.specs.Lists.{Lists}
 use Rattle.cil_syntax.specs.declared.kind.Keyword.{Keyword}
 use Rattle.cil_syntax.specs.declared.kind.Keyword.TheVariants as keywords
-use Rattle.cil_syntax.specs.Written.{Written, written_cmp}
+use Rattle.cil_syntax.specs.Written.{Written}
 use Rattle.cil_blocks.specs.declared.entry.Entry.{Entry}
 use Rattle.cil_blocks.specs.declared.parts.Parts.{Parts}
-use Rattle.cil_blocks.specs.Contents.{Standing, Stands, is_abstract, standing_cmp, standing_top, standing_in_block, standing_inherited}
-use Rattle.cil_blocks.specs.Entries.{AreOpened, AreParts, IsWalkable, IsWithin, SaysOpened, opened_as, opened_block, opened_by, opened_in, opened_of, opener_of, parts_at, standing_as, standing_through, standing_under, standings_from, standings_of, statement_at, stepped}
+use Rattle.cil_blocks.specs.Contents.{Standing, Stands, is_abstract, standing_cmp, standing_top, standing_in_block}
+use Rattle.cil_blocks.specs.Entries.{AreOpened, AreParts, IsWalkable, IsWithin, SaysOpened, opened_as, opened_by, opened_in, opened_of, opener_of, parts_at, standing_as, standing_through, standing_under, standings_from, standings_of, statement_at, stepped}
 use Rattle.cil_blocks.specs.InheritFaults.{IsOver}
-use Rattle.cil_blocks.specs.Laws.{HasOneTarget}
-use Rattle.cil_blocks.specs.Opens.{is_on_top, opens, opens_as, opens_target, parts, target_of, tops}
-use Rattle.cil_blocks.proofs.ListLemmas.{get_in_front, some_at}
+use Rattle.cil_blocks.specs.Opens.{opens, opens_as, opens_target, parts, target_of, tops}
+use Rattle.cil_blocks.proofs.ListLemmas.{get_in_front}
 use Rattle.cil_blocks.proofs.Queue as queue
 use Rattle.cil_blocks.proofs.StandingWalk.{queue_order, reached_stands, stands_reached}
 

@@ -1,6 +1,6 @@
 -- The worked rows of 31, 32 and 33, by the definitions.
-use Rattle.std.proofs.Common.{◌≡◌, ◌⊎◌, ℕ, zero, suc, false, List, [], ◌∷◌, refl, sym, ◌∙◌, ap, subst, inl, inr, arith}
-use Rattle.std.specs.Prelude.{codes, Contains, Option, Some, None, slice_get}
+use Rattle.std.proofs.Common.{◌≡◌, ℕ, false, List, [], ◌∷◌, refl, sym, ◌∙◌, ap, inl, arith}
+use Rattle.std.specs.Prelude.{codes, Some, None}
 use Rattle.cil_syntax.specs.declared.code.FaultCode.{FaultCode}
 use Rattle.cil_syntax.specs.declared.code.FaultCode.TheVariants as causes
 use Rattle.cil_syntax.specs.declared.fault.Fault.{Fault}
@@ -13,9 +13,9 @@ use Rattle.cil_syntax.specs.declared.term.Spot.{Spot}
 use Rattle.cil_syntax.specs.declared.term.Word.{Word}
 use Rattle.cil_syntax.specs.Scopes.{apart, chain}
 use Rattle.cil_syntax.specs.Terms.{Leaf, Name, Form, Terms, nil, cons}
-use Rattle.cil_syntax.specs.Written.{Statement, Written, at_top}
-use Rattle.cil_blocks.specs.Contents.{Standing, Target, block_space, has_block, is_abstract, standing_in_block, standing_inherited, standing_top}
-use Rattle.cil_blocks.specs.InheritFaults.{Gives, InheritFault, Within, cycle, directly, handed, own, standing_twice, texts, unresolved, written_twice}
+use Rattle.cil_syntax.specs.Written.{Written, at_top}
+use Rattle.cil_blocks.specs.Contents.{Target, block_space, has_block, is_abstract, standing_in_block, standing_inherited, standing_top}
+use Rattle.cil_blocks.specs.InheritFaults.{Gives, InheritFault, cycle, directly, handed, own, standing_twice, texts, unresolved, written_twice}
 use Rattle.cil_blocks.proofs.ListLemmas.{get_contains, some_same}
 
 abbrev spot : ℕ → Spot

@@ -1,7 +1,7 @@
 -- The search for blocks from namespace to namespace, outwards.
-use Rattle.std.proofs.Common.{◌≡◌, ℕ, List, [], ◌∷◌, ◌++◌, Bool, true, false, ◌==◌, length, refl, sym, ◌∙◌, ap, subst, suc, arith}
-use Rattle.std.specs.Prelude.{Contains, Option, Some, None}
-use Rattle.cil_syntax.specs.Scopes.{Namespace, scope_at}
+use Rattle.std.proofs.Common.{◌≡◌, ℕ, List, [], ◌∷◌, ◌++◌, true, false, ◌==◌, length, refl, sym, ◌∙◌, ap, subst, suc, arith}
+use Rattle.std.specs.Prelude.{Option, Some, None}
+use Rattle.cil_syntax.specs.Scopes.{scope_at}
 use Rattle.cil_syntax.specs.Written.{Written}
 use Rattle.cil_blocks.specs.Contents.{name_of}
 use Rattle.cil_blocks.specs.Entries.{statement_at}

@@ -1,8 +1,6 @@
 -- A namespace has the statements of the bodies that give to it: what stands there, without the chains.
-use Rattle.std.proofs.Common.{◌≡◌, Bool, true, false, List, [], ◌∷◌, refl, sym, subst}
+use Rattle.std.proofs.Common.{◌≡◌, true, false, List, ◌∷◌, refl, sym, subst}
 use Rattle.std.specs.Prelude.{Contains, Option, Some, None}
-use Rattle.cil_syntax.specs.declared.kind.Keyword.{Keyword}
-use Rattle.cil_syntax.specs.declared.kind.Keyword.TheVariants as keywords
 use Rattle.cil_syntax.specs.Scopes.{Namespace}
 use Rattle.cil_syntax.specs.Written.{Written}
 use Rattle.cil_blocks.specs.Contents.{is_block, is_inheriting, is_abstract, IsIn, Target, Standing, standing_top, standing_in_block, standing_inherited, Stands, top, in_block, in_optional, inherited, name_of}

@@ -1,10 +1,8 @@
 -- The laws of `laws.rt`, over programs.
-use Rattle.std.proofs.Common.{◌≡◌, ◌⊎◌, ℕ, ◌<◌, List, ap, inl, inr, arith}
-use Rattle.std.specs.Prelude.{Contains}
-use Rattle.cil_syntax.specs.declared.program.Statement.{Statement}
+use Rattle.std.proofs.Common.{◌≡◌, ◌⊎◌, ℕ, ◌<◌, ap, inl, inr, arith}
 use Rattle.cil_syntax.specs.declared.term.Spot.{Spot}
-use Rattle.cil_syntax.specs.Program.{IsNested, program_of}
-use Rattle.cil_blocks.specs.Laws.{HasNoFault, HasOneTarget, HasOneStanding, HaveOneTarget, HaveOneStanding}
+use Rattle.cil_syntax.specs.Program.{program_of}
+use Rattle.cil_blocks.specs.Laws.{HaveOneTarget, HaveOneStanding}
 use Rattle.cil_blocks.proofs.Begun.{block_is_named, has_name}
 use Rattle.cil_blocks.proofs.OneStanding.{one_standing}
 use Rattle.cil_blocks.proofs.OneTarget.{one_target}

@@ -1,13 +1,11 @@
 -- A statement stands once through each chain of blockinherits: what it stands in, its scope and its optionals are a
 -- function of its path.
-use Rattle.std.proofs.Common.{◌≡◌, ℕ, ◌<◌, ◌⊎◌, Bool, true, false, ◌&&◌, List, [], ◌∷◌, ◌++◌, refl, sym, ◌∙◌, ap, subst, inl, inr, arith}
+use Rattle.std.proofs.Common.{◌≡◌, ◌⊎◌, Bool, true, false, ◌&&◌, List, [], ◌∷◌, ◌++◌, refl, sym, ◌∙◌, ap, subst, inl, inr}
 use Rattle.std.specs.Prelude.{Contains, Option, Some, None}
 use Rattle.std.specs.declared.cmp.Ordering.TheVariants.{Less}
-use Rattle.cil_syntax.specs.declared.term.Spot.{Spot}
 use Rattle.cil_syntax.specs.declared.kind.Keyword.{Keyword}
-use Rattle.cil_syntax.specs.declared.kind.Keyword.TheVariants as keywords
-use Rattle.cil_blocks.specs.Contents.{is_block, is_inheriting, is_optional, is_abstract, is_block_named, IsIn, Target, Standing, path_of, standing_top, standing_in_block, standing_in_optional, standing_inherited, Stands, top, in_block, in_optional, inherited}
-use Rattle.cil_syntax.specs.Written.{Written, Statement, written_cmp, written_total}
+use Rattle.cil_blocks.specs.Contents.{is_block, is_inheriting, IsIn, Target, Standing, path_of, standing_top, standing_in_block, standing_in_optional, standing_inherited, Stands, top, in_block, in_optional, inherited}
+use Rattle.cil_syntax.specs.Written.{Written, written_cmp, written_total}
 use Rattle.cil_blocks.specs.Laws.{HasOneTarget}
 use Rattle.cil_blocks.proofs.ListLemmas.{not_below_itself, some_same}
 

@@ -1,19 +1,19 @@
 -- A blockinherit has one target where no two written blocks of one namespace share a name.
-use Rattle.std.proofs.Common.{◌≡◌, ℕ, ◌⊎◌, Bool, true, false, ◌&&◌, List, [], ◌∷◌, refl, sym, ◌∙◌, ap, subst, inl, inr}
-use Rattle.std.specs.Prelude.{Contains, Option, Some, None}
+use Rattle.std.proofs.Common.{◌≡◌, ◌⊎◌, Bool, true, false, ◌&&◌, List, [], ◌∷◌, refl, sym, ◌∙◌, ap, inl, inr}
+use Rattle.std.specs.Prelude.{Contains, Some}
 use Rattle.std.specs.Cmp.Lexicographic.{same_text}
 use Rattle.cil_syntax.specs.Spelling.{same_bytes}
 use Rattle.cil_syntax.specs.declared.term.Spot.{Spot}
 use Rattle.cil_syntax.specs.declared.kind.Keyword.{Keyword}
 use Rattle.cil_syntax.specs.declared.kind.Keyword.TheVariants as keywords
 use Rattle.cil_blocks.specs.Contents.{is_block, is_named, is_block_named, same_spot, Target, name_of}
-use Rattle.cil_blocks.specs.InheritFaults.{InheritFault, IsNamedTwice, written_twice}
+use Rattle.cil_blocks.specs.InheritFaults.{InheritFault, written_twice}
 use Rattle.cil_syntax.specs.Scopes.{Namespace, same_space, asked}
 use Rattle.cil_syntax.specs.declared.fault.Fault.{Fault}
 use Rattle.cil_syntax.specs.declared.term.Word.{Word}
 use Rattle.cil_syntax.specs.Written.{Written, Named, named_in_front}
 use Rattle.cil_blocks.specs.Laws.{HasOneTarget}
-use Rattle.cil_blocks.proofs.OneStanding.{AreApart, first_of_three}
+use Rattle.cil_blocks.proofs.OneStanding.{AreApart}
 use Rattle.cil_blocks.proofs.ListLemmas.{some_same}
 
 -- two namespaces that compare alike are one

@@ -1,6 +1,6 @@
 -- What each statement opens, by its keyword.
 use Rattle.std.proofs.Common.{◌≡◌, ◌⊎◌, ℕ, zero, suc, ◌+◌, ◌<◌, ◌≤◌, Bool, true, false, ◌&&◌, ◌||◌, if◌then◌else◌, List, [], ◌∷◌, ◌++◌, length, map, refl, sym, ◌∙◌, ap, subst, inl, inr, arith}
-use Rattle.std.specs.Prelude.{◌↔◌, Contains, Option, Some, None, filter, slice_get}
+use Rattle.std.specs.Prelude.{Option, Some, None, filter, slice_get}
 use Rattle.std.specs.List.{list_any}
 use Rattle.std.proofs.lemmas.List.{length-append}
 use Rattle.cil_sexpr.specs.Lists.{contains_here, contains_none}
@@ -8,7 +8,7 @@ use Rattle.cil_syntax.specs.declared.kind.Keyword.{Keyword}
 use Rattle.cil_syntax.specs.declared.kind.Keyword.TheVariants as keywords
 use Rattle.cil_syntax.specs.Written.{Written, is_abstraction}
 use Rattle.cil_blocks.specs.declared.parts.Parts.{Parts}
-use Rattle.cil_blocks.specs.Contents.{Target, is_abstract, is_at, is_block, is_block_named, is_inheriting}
+use Rattle.cil_blocks.specs.Contents.{Target, is_abstract, is_at, is_block, is_inheriting}
 use Rattle.cil_blocks.specs.Entries.{AreOpened, AreParts, SaysOpened, first_number, nothing, opened_as, opened_block, opened_of, parts_at, statement_at}
 use Rattle.cil_blocks.specs.Laws.{HasOneTarget}
 use Rattle.cil_blocks.specs.Named.{AreTargets}

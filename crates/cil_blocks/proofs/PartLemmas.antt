@@ -1,19 +1,15 @@
 -- The statements at the top and those directly in each, as they are gathered.
-use Rattle.std.proofs.Common.{◌≡◌, ℕ, zero, suc, ◌+◌, ◌<◌, ◌≤◌, ◌==◌, nat_eq, Bool, true, false, if◌then◌else◌, List, [], ◌∷◌, ◌++◌, length, get_or, map, take, refl, sym, ◌∙◌, ap, subst, arith}
-use Rattle.std.specs.Prelude.{Contains, Option, Some, None, filter, slice_get}
-use Rattle.std.specs.declared.cmp.Ordering.TheVariants.{Equal}
-use Rattle.std.specs.Ordering.{nat_cmp, ordering_then}
-use Rattle.std.proofs.lemmas.Bool.Decides.{eqb_tells}
-use Rattle.std.proofs.lemmas.List.{append-nil, take_more, take_all, map-append}
-use Rattle.std.proofs.lemmas.Option.{slice_get-get_or}
+use Rattle.std.proofs.Common.{◌≡◌, ℕ, ◌+◌, ◌<◌, ◌≤◌, ◌==◌, Bool, true, false, if◌then◌else◌, List, [], ◌∷◌, ◌++◌, length, map, take, refl, sym, ◌∙◌, ap, arith}
+use Rattle.std.specs.Prelude.{Option, Some, None, filter, slice_get}
+use Rattle.std.proofs.lemmas.List.{take_more, take_all, map-append}
 use Rattle.cil_syntax.specs.declared.program.Statement.{Statement}
 use Rattle.cil_syntax.specs.declared.term.Spot.{Spot}
-use Rattle.cil_syntax.specs.Program.{IsNested, context_in, opener_in, program_of, statement_of, written_under}
-use Rattle.cil_syntax.specs.Written.{Context, Written, at_top, inside_of, written_cmp, written_total}
+use Rattle.cil_syntax.specs.Program.{IsNested, program_of}
+use Rattle.cil_syntax.specs.Written.{Context, Written, at_top, written_cmp, written_total}
 use Rattle.cil_blocks.specs.declared.parts.Parts.{Parts}
 use Rattle.cil_blocks.specs.Contents.{is_at, same_spot}
 use Rattle.cil_blocks.specs.Entries.{AreParts, IsWithin, nothing, parts_at, put_at, put_top, statement_at}
-use Rattle.cil_blocks.specs.Opens.{is_on_top, on_top_by, parts}
+use Rattle.cil_blocks.specs.Opens.{is_on_top, on_top_by}
 use Rattle.cil_blocks.proofs.ListLemmas.{get_so, in_range, is_there, tied_places}
 use Rattle.cil_blocks.proofs.ProgramLemmas.{program_length, stands_on_top, stands_under, tied, written_at}
 use Rattle.cil_blocks.proofs.StandingWalk.{same_spots, spots_same}

@@ -1,14 +1,13 @@
 -- A program as it is kept: each statement at its number, with the one in which it directly stands.
-use Rattle.std.proofs.Common.{◌≡◌, ℕ, zero, suc, ◌+◌, ◌<◌, ◌⊎◌, Bool, true, false, List, [], ◌∷◌, ◌++◌, length, refl, sym, ◌∙◌, ap, subst, inl, inr, arith, append_assoc}
+use Rattle.std.proofs.Common.{◌≡◌, ℕ, zero, suc, ◌+◌, ◌<◌, List, [], ◌∷◌, ◌++◌, length, refl, sym, ◌∙◌, ap, subst, arith, append_assoc}
 use Rattle.std.specs.Prelude.{Contains, Option, Some, None, slice_get}
-use Rattle.std.specs.declared.cmp.Ordering.{Ordering}
-use Rattle.std.specs.declared.cmp.Ordering.TheVariants.{Less, Equal}
+use Rattle.std.specs.declared.cmp.Ordering.TheVariants.{Equal}
 use Rattle.std.specs.Ordering.{nat_cmp, ordering_then}
 use Rattle.std.specs.Cmp.{nat_cmp_is}
 use Rattle.std.proofs.lemmas.List.{append-nil, length-append}
 use Rattle.cil_syntax.specs.declared.program.Statement.{Statement}
 use Rattle.cil_syntax.specs.declared.term.Spot.{Spot}
-use Rattle.cil_syntax.specs.Program.{IsNested, context_in, opener_in, program_from, program_of, statement_of, written_under}
+use Rattle.cil_syntax.specs.Program.{IsNested, context_in, opener_in, program_from, program_of, written_under}
 use Rattle.cil_syntax.specs.Written.{Written, written_cmp, written_total}
 use Rattle.cil_blocks.specs.Contents.{IsIn}
 use Rattle.cil_blocks.proofs.ListLemmas.{get_at, get_behind, get_contains, get_in_front, in_range, none_some, rises_between, some_at, some_same, tied_same}

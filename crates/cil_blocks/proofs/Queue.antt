@@ -1,14 +1,13 @@
 -- A vector that is its own queue: it begins with some, and each in turn puts what it opens behind all others. At the end it
 -- has exactly what is reached, and rises. One file for every such walk.
-use Rattle.std.proofs.Common.{◌≡◌, ℕ, zero, suc, ◌+◌, ◌<◌, ◌≤◌, ◌⊎◌, Bool, true, false, List, [], ◌∷◌, ◌++◌, length, refl, sym, ◌∙◌, ap, subst, inl, inr, arith}
-use Rattle.std.specs.Prelude.{Contains, Option, Some, None, slice_get}
+use Rattle.std.proofs.Common.{◌≡◌, ℕ, ◌+◌, ◌<◌, ◌≤◌, ◌⊎◌, List, ◌++◌, length, sym, ◌∙◌, ap, subst, inl, inr, arith}
+use Rattle.std.specs.Prelude.{Contains, Some, slice_get}
 use Rattle.std.specs.declared.cmp.Ordering.{Ordering}
 use Rattle.std.specs.declared.cmp.Ordering.TheVariants.{Less}
-use Rattle.std.specs.List.{AllByRecursion}
 use Rattle.std.specs.List.Sorted.{IsStrictlySortedBy}
 use Rattle.std.proofs.lemmas.List.{length-append}
 use Rattle.std.proofs.lemmas.List.Elements.{Contains-append_left, Contains-append_right, Contains-append_cases}
-use Rattle.cil_sexpr.specs.Lists.{Lists, contains_here, contains_later, contains_cases, contains_none, all_at}
+use Rattle.cil_sexpr.specs.Lists.{Lists}
 use Rattle.cil_blocks.specs.InheritFaults.{IsOver}
 use Rattle.cil_blocks.proofs.ListLemmas.{rising_join, rises_between, get_contains, get_in_front, get_at, in_range, some_same}
 

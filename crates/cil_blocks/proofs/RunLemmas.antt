@@ -13,7 +13,7 @@ use Rattle.std.proofs.lemmas.Bool.{false≢true, not-true, not-false, true≢fal
 use Rattle.std.proofs.lemmas.List.{get_or-drop, length-drop, take-append-drop}
 use Rattle.std.proofs.lemmas.List.Elements.{Contains-append_left, Contains-append_right, Contains-append_cases}
 use Rattle.std.proofs.lemmas.List.Sorted.{ranks_by, sorted_far}
-use Rattle.cil_sexpr.specs.Lists.{text_cmp, contains_here, contains_later, contains_cases, contains_none}
+use Rattle.cil_sexpr.specs.Lists.{text_cmp, contains_cases, contains_none}
 use Rattle.cil_blocks.specs.Named.{names_cmp}
 
 -- ---- the first items of a list, and the others

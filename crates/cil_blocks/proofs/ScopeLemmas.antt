@@ -1,13 +1,13 @@
 -- Scopes of the place of writing, and the names in a word.
-use Rattle.std.proofs.Common.{◌≡◌, ◌⊎◌, ℕ, zero, suc, ◌+◌, ◌<◌, ◌≤◌, ◌==◌, Bool, true, false, ◌&&◌, not, if◌then◌else◌, List, [], ◌∷◌, ◌++◌, length, refl, sym, ◌∙◌, ap, subst, inl, inr, arith, append_assoc}
-use Rattle.std.specs.Prelude.{Contains, Option, Some, None, filter, reverse}
+use Rattle.std.proofs.Common.{◌≡◌, ◌⊎◌, ℕ, ◌<◌, ◌==◌, Bool, true, false, ◌&&◌, not, if◌then◌else◌, List, [], ◌∷◌, ◌++◌, length, refl, sym, ◌∙◌, ap, subst, inl, inr, arith, append_assoc}
+use Rattle.std.specs.Prelude.{Contains, filter, reverse}
 use Rattle.std.specs.List.{slice_split}
 use Rattle.std.proofs.lemmas.List.{length-append, length-reverse}
 use Rattle.std.proofs.lemmas.List.Splits.{length-slice_split, slice_split_at, slice_split_none}
 use Rattle.cil_sexpr.specs.Lists.{contains_none}
-use Rattle.cil_syntax.specs.Scopes.{IsDotless, IsParted, IsTaken, Namespace, Scope, apart, asked, asked_by, chain, names_backwards, same_space, scope_at, tidy}
+use Rattle.cil_syntax.specs.Scopes.{IsDotless, IsParted, IsTaken, Namespace, apart, asked_by, chain, names_backwards, same_space, scope_at}
 use Rattle.cil_syntax.specs.Spelling.{same_bytes}
-use Rattle.cil_syntax.specs.Written.{Written, is_outside}
+use Rattle.cil_syntax.specs.Written.{Written}
 use Rattle.cil_blocks.specs.Named.{AreFirstNamed, AreOfName, HasNoneNamed, IsAsked}
 
 -- ---- a scope of the place of writing is the chain

@@ -1,8 +1,7 @@
 -- What stands is what the queue reaches, and the order of trails is that of the queue. So the walk that opens each in turn gives
 -- the list of all that stands.
-use Rattle.std.proofs.Common.{◌≡◌, ℕ, zero, suc, ◌+◌, ◌<◌, ◌≤◌, ◌⊎◌, Bool, true, false, if◌then◌else◌, List, [], ◌∷◌, ◌++◌, length, map, refl, sym, ◌∙◌, ap, subst, inl, inr, arith}
-use Rattle.std.specs.Prelude.{Contains, Option, Some, None, find, filter}
-use Rattle.std.specs.declared.cmp.Ordering.{Ordering}
+use Rattle.std.proofs.Common.{◌≡◌, ℕ, ◌+◌, ◌≤◌, Bool, true, false, if◌then◌else◌, List, [], ◌∷◌, ◌++◌, length, map, refl, sym, ◌∙◌, ap, subst, arith}
+use Rattle.std.specs.Prelude.{Contains, Option, Some, None, filter}
 use Rattle.std.specs.declared.cmp.Ordering.TheVariants.{Less}
 use Rattle.std.specs.Cmp.Lexicographic.{same_text, other_text}
 use Rattle.cil_syntax.specs.Spelling.{same_bytes}
@@ -11,14 +10,14 @@ use Rattle.cil_syntax.specs.declared.term.Word.{Word}
 use Rattle.std.specs.List.Sorted.{IsStrictlySortedBy}
 use Rattle.std.proofs.lemmas.List.Kept.{IsStrictlySortedBy-filter}
 use Rattle.std.proofs.lemmas.List.{length-append}
-use Rattle.cil_sexpr.specs.Lists.{Lists, contains_here, contains_later, contains_cases, contains_none, all_at}
+use Rattle.cil_sexpr.specs.Lists.{contains_none, all_at}
 use Rattle.cil_syntax.specs.declared.term.Spot.{Spot}
 use Rattle.cil_syntax.specs.declared.kind.Keyword.{Keyword}
 use Rattle.cil_syntax.specs.declared.kind.Keyword.TheVariants as keywords
-use Rattle.cil_blocks.specs.Contents.{first_word, block_space, is_block_named, is_block, is_inheriting, is_optional, is_abstract, is_at, same_spot, IsIn, Target, Standing, standing_top, standing_in_block, standing_inherited, standing_cmp, path_cmp, spot_cmp, Stands, top, in_block, in_optional, inherited}
+use Rattle.cil_blocks.specs.Contents.{first_word, block_space, is_block_named, is_block, is_inheriting, is_abstract, is_at, same_spot, IsIn, Target, Standing, standing_top, standing_in_block, standing_inherited, standing_cmp, path_cmp, spot_cmp, Stands, top, in_block, in_optional, inherited}
 use Rattle.cil_blocks.specs.Opens.{on_top_by, target_in, target_by, is_on_top, tops, parts, target_of, opens_target, opens_as, opens}
 use Rattle.cil_syntax.specs.Written.{Written, written_cmp}
-use Rattle.cil_blocks.proofs.ListLemmas.{all_from, contains_mapped, find_some, found_is, from_mapped, kept_into, kept_is, none_some, some_same}
+use Rattle.cil_blocks.proofs.ListLemmas.{all_from, contains_mapped, find_some, found_is, from_mapped, kept_into, kept_is, none_some}
 use Rattle.cil_blocks.proofs.Paths.{spot_total, opened_later, opened_beside, longer_than_one, alone}
 use Rattle.cil_blocks.proofs.Queue.{IsReached, at_first, onward, IsQueueOrder}
 

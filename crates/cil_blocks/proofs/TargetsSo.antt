@@ -1,6 +1,6 @@
 -- What the search for a word's blocks finds are the targets of its statement.
-use Rattle.std.proofs.Common.{◌≡◌, ◌⊎◌, ℕ, zero, suc, ◌<◌, ◌≤◌, Bool, true, false, ◌&&◌, ◌||◌, if◌then◌else◌, List, [], ◌∷◌, ◌++◌, length, map, refl, sym, ◌∙◌, ap, subst, inl, inr, arith, append-nil}
-use Rattle.std.specs.Prelude.{◌↔◌, Contains, Option, Some, None, find, slice_get}
+use Rattle.std.proofs.Common.{◌≡◌, ◌⊎◌, ℕ, Bool, true, false, ◌&&◌, ◌||◌, if◌then◌else◌, List, [], ◌∷◌, ◌++◌, map, refl, sym, ◌∙◌, ap, subst, inl, inr, append-nil}
+use Rattle.std.specs.Prelude.{Contains, Option, Some, None, find}
 use Rattle.std.specs.Cmp.Lexicographic.{same_text}
 use Rattle.std.specs.List.{list_any}
 use Rattle.cil_sexpr.specs.Lists.{contains_here, contains_later, contains_cases, contains_none}
@@ -10,7 +10,7 @@ use Rattle.cil_syntax.specs.Scopes.{Asked, Namespace, asked, same_space, scope_a
 use Rattle.cil_syntax.specs.Spelling.{same_bytes}
 use Rattle.cil_syntax.specs.Terms.{Leaf, Name, Form, Terms, nil, cons}
 use Rattle.cil_syntax.specs.Written.{Written}
-use Rattle.cil_blocks.specs.Contents.{Target, block_space, first_word, has_block, is_block, is_block_named, name_of}
+use Rattle.cil_blocks.specs.Contents.{block_space, first_word, has_block, is_block, is_block_named, name_of}
 use Rattle.cil_blocks.specs.Entries.{nothing, statement_at}
 use Rattle.cil_blocks.specs.Named.{AreBlocks, AreFirstNamed, AreOfName, AreTargets, HasNoneNamed, IsAsked, asked_space, space_in}
 use Rattle.cil_blocks.proofs.ListLemmas.{contains_mapped, from_mapped, get_at, get_contains, get_so, is_there, none_some, some_same}

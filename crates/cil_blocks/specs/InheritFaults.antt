@@ -1,12 +1,11 @@
 -- What is wrong with blocks and inheritance. This project's profile.
-use Rattle.std.specs.Prelude.{◌≡◌, ◌⊎◌, ℕ, ◌<◌, Bool, true, false, List, [], ◌∷◌, length, Contains, Option, Some, None}
+use Rattle.std.specs.Prelude.{◌≡◌, ◌⊎◌, ℕ, ◌<◌, true, false, List, [], ◌∷◌, length, Contains, Option, Some, None}
 use Rattle.std.specs.declared.cmp.Ordering.{Ordering}
 use Rattle.std.specs.List.Sorted.{IsStrictlySortedBy}
-use Rattle.cil_syntax.specs.declared.term.Spot.{Spot}
 use Rattle.cil_syntax.specs.declared.code.FaultCode.TheVariants as causes
 use Rattle.cil_syntax.specs.Scopes.{Namespace}
 use Rattle.cil_syntax.specs.declared.term.Word.{Word}
-use Rattle.cil_blocks.specs.Contents.{is_block, is_named, is_inheriting, is_abstract, IsIn, first_word, name_of, Target, Standing, standing_cmp, Stands}
+use Rattle.cil_blocks.specs.Contents.{is_block, is_named, is_inheriting, is_abstract, IsIn, first_word, name_of, Target, standing_cmp, Stands}
 use Rattle.cil_syntax.specs.declared.fault.Fault.{Fault}
 use Rattle.cil_syntax.specs.Reported.{fault_at}
 use Rattle.cil_syntax.specs.Written.{Written, Named, named_in_front}

@@ -1,5 +1,5 @@
 -- Cycles and common namespaces, one step at a time: what the passes over blocks compute.
-use Rattle.std.specs.Prelude.{◌≡◌, ◌⊎◌, ◌↔◌, ℕ, true, false, List, Contains, Option, Some, None}
+use Rattle.std.specs.Prelude.{◌≡◌, ◌⊎◌, ◌↔◌, true, false, List, Contains, Option, Some, None}
 use Rattle.cil_blocks.specs.Contents.{is_block, is_inheriting, is_abstract, IsIn, name_of, Target}
 use Rattle.cil_blocks.specs.InheritFaults.{IsOf, Within, Needs, Gives}
 use Rattle.cil_syntax.specs.Scopes.{Namespace}

@@ -1,5 +1,5 @@
 -- What a standing statement opens: the statements that stand directly in it, or in the block that it inherits.
-use Rattle.std.specs.Prelude.{◌≡◌, ℕ, Bool, true, false, ◌&&◌, if◌then◌else◌, List, [], ◌∷◌, map, filter, find, Option, Some, None}
+use Rattle.std.specs.Prelude.{Bool, true, false, if◌then◌else◌, List, [], map, filter, find, Option, Some, None}
 use Rattle.cil_syntax.specs.declared.kind.Keyword.{Keyword}
 use Rattle.cil_syntax.specs.declared.kind.Keyword.TheVariants as keywords
 use Rattle.cil_blocks.specs.Contents.{is_at, is_abstract, is_block_named, block_space, first_word, Standing, standing_top, standing_in_block, standing_inherited}

@@ -1,4 +1,4 @@
-use Rattle.std.proofs.Common.{◌≡◌, ◌<◌, length, arith, sym, ◌∙◌}
+use Rattle.std.proofs.Common.{arith, sym, ◌∙◌}
 use Rattle.cil_syntax.specs.Program.{program_of}
 use Rattle.cil_blocks.proofs.OpenedLemmas.{marked_by, says_itself, says_marked}
 use Rattle.cil_blocks.proofs.ProgramLemmas.{program_length}

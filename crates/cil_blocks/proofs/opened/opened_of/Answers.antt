@@ -1,4 +1,4 @@
-use Rattle.std.proofs.Common.{◌≡◌, ◌≤◌, length, arith}
+use Rattle.std.proofs.Common.{arith}
 use Rattle.cil_syntax.specs.Program.{program_of}
 use Rattle.cil_blocks.proofs.OpenedLemmas.{all_opened, one_more}
 use Rattle.cil_blocks.proofs.ProgramLemmas.{program_length}

@@ -1,4 +1,4 @@
-use Rattle.std.proofs.Common.{◌<◌, length, arith, sym, ◌∙◌, ap}
+use Rattle.std.proofs.Common.{arith, sym, ◌∙◌, ap}
 use Rattle.std.specs.Prelude.{Some}
 use Rattle.cil_syntax.specs.Program.{program_of}
 use Rattle.cil_blocks.proofs.ListLemmas.{is_there}

@@ -1,4 +1,4 @@
-use Rattle.std.proofs.Common.{rules, ◌≡◌, List, ℕ, ◌++◌, sym, ap, subst, drop}
+use Rattle.std.proofs.Common.{rules, List, ℕ, ◌++◌, sym, subst}
 use Rattle.std.specs.Prelude.{Some}
 use Rattle.std.specs.List.Sorted.{IsSortedByKey}
 use Rattle.std.proofs.lemmas.List.Sorted.{IsPartitionPoint-from_clause}

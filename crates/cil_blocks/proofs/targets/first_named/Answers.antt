@@ -1,9 +1,4 @@
-use Rattle.std.proofs.Common.{◌≡◌, ℕ, List, [], ◌∷◌, sym, ◌∙◌, ap, subst}
-use Rattle.std.specs.Prelude.{Some}
 use Rattle.cil_syntax.specs.Program.{program_of}
-use Rattle.cil_syntax.specs.Scopes.{Namespace, scope_at}
-use Rattle.cil_syntax.specs.Written.{Written}
-use Rattle.cil_blocks.specs.Named.{AreFirstNamed, AreOfName, IsBlockAt, full_at, names_cmp, space_in}
 use Rattle.cil_blocks.proofs.FirstNamed.{here_found, last_found, nothing_here, nothing_there, some_there}
 use Rattle.cil_blocks.proofs.targets.first_named.Goals as goal
 

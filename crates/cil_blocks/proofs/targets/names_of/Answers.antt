@@ -1,4 +1,4 @@
-use Rattle.std.proofs.Common.{◌≡◌, ◌∷◌, ◌++◌, [], sym, ◌∙◌, ap}
+use Rattle.std.proofs.Common.{◌∷◌, ◌++◌, [], ◌∙◌, ap}
 use Rattle.cil_blocks.proofs.ScopeLemmas.{last_taken, one_taken}
 use Rattle.cil_blocks.proofs.targets.names_of.Goals as goal
 

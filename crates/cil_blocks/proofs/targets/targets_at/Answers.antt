@@ -1,9 +1,7 @@
-use Rattle.std.proofs.Common.{◌≡◌, ℕ, List, sym, ◌∙◌, ap, subst}
-use Rattle.std.specs.Prelude.{Some, None, slice_get}
-use Rattle.cil_syntax.specs.declared.program.Statement.{Statement}
+use Rattle.std.proofs.Common.{sym, ◌∙◌, ap, subst}
 use Rattle.cil_syntax.specs.Program.{program_of}
 use Rattle.cil_syntax.specs.Scopes.{scope_at}
-use Rattle.cil_syntax.specs.Said.{all_said, args_of}
+use Rattle.cil_syntax.specs.Said.{all_said}
 use Rattle.cil_blocks.specs.Contents.{first_word}
 use Rattle.cil_blocks.specs.Named.{AreFirstNamed, IsAsked, space_in}
 use Rattle.cil_blocks.proofs.ListLemmas.{not_there, there_as}

@@ -1,4 +1,4 @@
-use Rattle.std.proofs.Common.{◌≡◌, ◌<◌, ◌≤◌, length, arith, refl}
+use Rattle.std.proofs.Common.{arith}
 use Rattle.cil_blocks.proofs.EntryLemmas.{all_standing, started, too_many, went_on}
 use Rattle.cil_blocks.proofs.walker.walk.Goals as goal
 

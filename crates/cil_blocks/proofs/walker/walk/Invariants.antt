@@ -1,4 +1,4 @@
-use Rattle.std.proofs.Common.{ℕ, ◌-◌, ◌+◌, ◌≤◌, List}
+use Rattle.std.proofs.Common.{◌-◌, ◌+◌, ◌≤◌, List}
 use Rattle.cil_syntax.specs.Written.{Written}
 use Rattle.cil_blocks.specs.Entries.{IsWalkable, standings_of}
 use Rattle.cil_blocks.proofs.EntryLemmas.{AreSoFar}
