@@ -14,11 +14,12 @@ use Rattle.cil_syntax.specs.Written.{Written, IsWritten, ShapeFault, written_cmp
 use Rattle.cil_decide.specs.declared.tables.Class.{Class}
 use Rattle.cil_decide.specs.CompileRefusal.{CompileFails}
 use Rattle.cil_decide.specs.Compiled.{IsRowOf, IsTable}
+use Rattle.cil_syntax.specs.Scopes.{Namespace}
 use Rattle.cil_names.specs.Declarations.{Declaration, declarations, IsDeclaration, object, by, Declared, Symbol, content_of}
 use Rattle.cil_decide.specs.Faults.{ClassFault, wide}
 use Rattle.cil_names.specs.Faults.{ClashFault, ResolveFault}
 use Rattle.cil_decide.specs.Flat.{AreFlat, AreItems, item_of}
-use Rattle.cil_names.specs.Item.{Namespace, ScopedWord, Item, nobody}
+use Rattle.cil_names.specs.Item.{ScopedWord, Item, nobody}
 use Rattle.cil_decide.specs.Laws.{AlwaysCompilesOrFails, Outcome, compiles, fails}
 use Rattle.cil_names.specs.Resolves.{has_permission}
 use Rattle.cil_decide.specs.Table.{Table, IsOrderly, most_permissions}

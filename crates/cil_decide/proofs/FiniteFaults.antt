@@ -16,9 +16,10 @@ use Rattle.cil_syntax.specs.FaultOrder.{fault_cmp, fault_total, one_fault}
 use Rattle.cil_syntax.specs.Listing.{Listing}
 use Rattle.cil_syntax.specs.Spelling.{same_bytes}
 use Rattle.cil_syntax.specs.Terms.{Name, cons}
+use Rattle.cil_syntax.specs.Reported.{fault_at}
 use Rattle.cil_names.specs.Declarations.{Declaration, declared_by, IsDeclaration, NameSpace, of_types, of_roles, of_users, of_classes, of_blocks, name_space, Clash, Symbol}
 use Rattle.cil_decide.specs.Faults.{ClassFault, wide}
-use Rattle.cil_names.specs.Faults.{ClashFault, clash, ResolveFault, unresolved, fault_at}
+use Rattle.cil_names.specs.Faults.{ClashFault, clash, ResolveFault, unresolved}
 use Rattle.cil_names.specs.Item.{Item, OptSet, everybody, nobody, is_enabled}
 use Rattle.cil_names.specs.Resolves.{fits, gives_permission, has_permission, is_judged, listed_permissions, resolves, told_word, Wanted, words_of}
 use Rattle.cil_decide.specs.Table.{most_permissions}

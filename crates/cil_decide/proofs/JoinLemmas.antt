@@ -6,9 +6,8 @@ use Rattle.cil_sexpr.specs.Lists.{Lists, text_cmp}
 use Rattle.cil_syntax.specs.declared.kind.Keyword.TheVariants as keywords
 use Rattle.cil_syntax.specs.declared.kind.Kind.{Kind}
 use Rattle.cil_syntax.specs.declared.kind.Kind.TheVariants as kinds
-use Rattle.cil_syntax.specs.declared.program.Program.{Program}
 use Rattle.cil_syntax.specs.declared.program.Statement.{Statement}
-use Rattle.cil_syntax.specs.Said.{all_written, written_of}
+use Rattle.cil_syntax.specs.Program.{program_of}
 use Rattle.cil_syntax.specs.Written.{IsWritten, written_cmp}
 use Rattle.cil_names.specs.declared.instance.Instance.{Instance}
 use Rattle.cil_names.specs.declared.space.Space.{Space}
@@ -34,7 +33,7 @@ module _ (ss : List Statement) (is : List Instance) (are : AreInstances ss is) (
   items_path : items_of spaces js ≡ flat_items ss
   items_path = (λ k. items_of (global k) (sliced k)) ∙ flat_all ss is are
 
-  pub items_here : (modules : List (List ℕ)) (program : Program) → map written_of ss ≡ all_written program → Lists written_cmp (IsWritten modules) (all_written program)
+  pub items_here : (modules : List (List ℕ)) (program : List Statement) → ss ≡ program → Lists written_cmp (IsWritten modules) (program_of program)
       → AreItems modules (items_of spaces js)
   items_here modules program same listed = subst (AreItems modules) (sym items_path) (items_are modules program ss same listed)
 

@@ -21,15 +21,16 @@ use Rattle.cil_syntax.specs.Said.{args_of}
 use Rattle.cil_syntax.specs.Spelling.{same_bytes}
 use Rattle.cil_syntax.specs.Table.{entry_of}
 use Rattle.cil_syntax.specs.Terms.{Leaf, Name, Form, Terms, nil, cons}
+use Rattle.cil_syntax.specs.Reported.{fault_at}
+use Rattle.cil_syntax.specs.Scopes.{same_space}
 use Rattle.cil_names.specs.declared.entry.Entry.{Entry}
 use Rattle.cil_names.specs.declared.instance.Instance.{Instance}
 use Rattle.cil_names.specs.declared.space.Space.{Space}
 use Rattle.cil_names.specs.Declarations.{Declaration, IsDeclaration, Symbol, by, content_of, declarations, declared_by}
 use Rattle.cil_names.specs.Entries.{AreEntries, HasNoEntryIn, IsEntryIn, is_entry_of, item_of, items_of, scoped}
-use Rattle.cil_names.specs.Faults.{fault_at}
 use Rattle.cil_names.specs.Item.{Item, OptSet, ScopedWord, all_replaced, is_enabled}
 use Rattle.cil_names.specs.Numbers.{symbol_of}
-use Rattle.cil_names.specs.Resolves.{has_permission, is_wanted, same_space}
+use Rattle.cil_names.specs.Resolves.{has_permission, is_wanted}
 use Rattle.cil_names.specs.Spaces.{space_at}
 use Rattle.cil_names.specs.Unresolved.{ArePermissions, listed_at}
 use Rattle.cil_decide.specs.Faults.{ClassFault, wide}

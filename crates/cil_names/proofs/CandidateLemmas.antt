@@ -6,11 +6,11 @@ use Rattle.std.specs.Cmp.Lexicographic.{bytes_decides, pointwise_decides}
 use Rattle.std.proofs.lemmas.Bool.{cases_Bool, true≢false}
 use Rattle.cil_syntax.specs.declared.kind.Sign.{Sign}
 use Rattle.cil_syntax.specs.Spelling.{same_bytes}
+use Rattle.cil_syntax.specs.Scopes.{Namespace, names_backwards, same_space}
 use Rattle.cil_names.specs.declared.entry.Entry.{Entry}
 use Rattle.cil_names.specs.declared.space.Space.{Space}
 use Rattle.cil_names.specs.Entries.{AreOrdered, HasNoEntry, IsEntryAt, candidate, is_entry, is_entry_of, place_where, HasNoEntryIn, IsEntryIn}
-use Rattle.cil_names.specs.Item.{Namespace}
-use Rattle.cil_names.specs.Resolves.{is_wanted, names_backwards, same_space}
+use Rattle.cil_names.specs.Resolves.{is_wanted}
 use Rattle.cil_names.specs.Spaces.{AreSpaces, HasNoNumber, IsAskedAt, IsAskedNowhere, IsNumber, space_at}
 use Rattle.cil_names.proofs.EntryLemmas.{parts_fit, they_fit}
 use Rattle.cil_names.proofs.SearchLemmas.{member_of_number}

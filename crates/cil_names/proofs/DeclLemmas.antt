@@ -7,13 +7,14 @@ use Rattle.std.proofs.lemmas.Bool.{or_cases, and_parts, and_from, true≢false}
 use Rattle.cil_sexpr.specs.Lists.{contains_here, contains_later, contains_cases, contains_none}
 use Rattle.cil_syntax.specs.declared.kind.Sign.{Sign}
 use Rattle.cil_syntax.specs.Spelling.{same_bytes}
+use Rattle.cil_syntax.specs.Scopes.{Namespace, same_space}
 use Rattle.cil_names.specs.declared.entry.Entry.{Entry}
 use Rattle.cil_names.specs.declared.instance.Instance.{Instance}
 use Rattle.cil_names.specs.declared.space.Space.{Space}
 use Rattle.cil_names.specs.Declarations.{Declaration, IsDeclaration, by, declared_by, object, object_role}
 use Rattle.cil_names.specs.Entries.{AreEntries, is_declared_in, is_entry_of, items_of}
-use Rattle.cil_names.specs.Item.{Item, Namespace, OptSet, is_enabled}
-use Rattle.cil_names.specs.Resolves.{fits, has, is_wanted, same_space}
+use Rattle.cil_names.specs.Item.{Item, OptSet, is_enabled}
+use Rattle.cil_names.specs.Resolves.{fits, has, is_wanted}
 use Rattle.cil_names.proofs.CandidateLemmas.{parts_of, spaces_decide, they_are}
 use Rattle.cil_names.proofs.SearchLemmas.{member_of_number, number_of_member}
 

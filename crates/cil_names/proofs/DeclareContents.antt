@@ -11,9 +11,10 @@ use Rattle.cil_syntax.specs.declared.term.Term as rust
 use Rattle.cil_syntax.specs.declared.term.Term.{the_lemmas}
 use Rattle.cil_syntax.specs.Said.{all_said, said_of, word_in}
 use Rattle.cil_syntax.specs.Terms.{Leaf, Name, Form, Term, Terms, nil, cons, spot_at}
+use Rattle.cil_syntax.specs.Scopes.{Scope}
 use Rattle.cil_names.specs.DeclareRows.{bare_term, bare_terms, in_scope}
 use Rattle.cil_names.specs.Declarations.{Bare, bare, nowhere}
-use Rattle.cil_names.specs.Item.{Scope, all_replaced, replaced}
+use Rattle.cil_names.specs.Item.{all_replaced, replaced}
 
 -- ---- one term
 

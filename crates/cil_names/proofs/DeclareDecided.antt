@@ -11,8 +11,8 @@ use Rattle.cil_syntax.specs.declared.term.Op.TheVariants as ops
 use Rattle.cil_syntax.specs.declared.term.Spot.{Spot}
 use Rattle.cil_syntax.specs.Spelling.{same_bytes}
 use Rattle.cil_syntax.specs.Terms.{Term, Leaf, Name, Form, Terms, nil, cons}
+use Rattle.cil_syntax.specs.Scopes.{Namespace}
 use Rattle.cil_names.specs.Declarations.{Bare, Declaration}
-use Rattle.cil_names.specs.Item.{Namespace}
 use Rattle.cil_names.specs.Resolves.{kind_number}
 use Rattle.cil_names.proofs.KindLemmas.{one_kind, same_kind}
 

@@ -19,6 +19,7 @@ use Rattle.cil_syntax.specs.declared.term.Word.{Word}
 use Rattle.cil_syntax.specs.Said.{args_of}
 use Rattle.cil_syntax.specs.Table.{entry_of}
 use Rattle.cil_syntax.specs.Terms.{Leaf, Name, Form, Terms, nil, cons}
+use Rattle.cil_syntax.specs.Reported.{fault_at}
 use Rattle.cil_names.specs.declared.instance.Instance.{Instance}
 use Rattle.cil_names.specs.declared.row.Row.{Row}
 use Rattle.cil_names.specs.declared.run.Run.{Run}
@@ -27,7 +28,7 @@ use Rattle.cil_names.specs.Declarations.{Declaration, NameSpace, declared_by, na
 use Rattle.cil_names.specs.DeclareRows.{TellsDiffering, all_rows, declaration_of, is_row_enabled, object_row, round_at, row_key, rows_by, rows_named}
 use Rattle.cil_names.specs.DeclareRuns.{faults_at, faults_named, row_faults, run_faults, run_key}
 use Rattle.cil_names.specs.Entries.{Key, item_of, items_of, key_cmp, rank}
-use Rattle.cil_names.specs.Faults.{ClashFault, clash, fault_at}
+use Rattle.cil_names.specs.Faults.{ClashFault, clash}
 use Rattle.cil_names.specs.Item.{Item, ScopedWord, all_replaced, everybody}
 use Rattle.cil_names.specs.Spaces.{space_at}
 use Rattle.cil_names.proofs.DeclareDecided.{same_declaration}

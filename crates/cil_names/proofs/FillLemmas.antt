@@ -10,11 +10,13 @@ use Rattle.cil_syntax.specs.declared.fault.Fault.{Fault}
 use Rattle.cil_syntax.specs.Fails.{AreFaults}
 use Rattle.cil_syntax.specs.FaultOrder.{fault_cmp}
 use Rattle.cil_syntax.specs.Sorted.{lists_of}
+use Rattle.cil_syntax.specs.Reported.{fault_at}
+use Rattle.cil_syntax.specs.Scopes.{Namespace}
 use Rattle.cil_names.specs.declared.instance.Instance.{Instance}
 use Rattle.cil_names.specs.declared.space.Space.{Space}
 use Rattle.cil_names.specs.Entries.{item_of, items_of}
-use Rattle.cil_names.specs.Faults.{ResolveFault, fault_at, unresolved}
-use Rattle.cil_names.specs.Item.{Item, Namespace, OptSet}
+use Rattle.cil_names.specs.Faults.{ResolveFault, unresolved}
+use Rattle.cil_names.specs.Item.{Item, OptSet}
 use Rattle.cil_names.specs.Placed.{IsPlaced}
 use Rattle.cil_names.specs.Resolves.{Wanted, is_judged, resolves, told_word, words_of}
 use Rattle.cil_names.specs.Spaces.{space_at}

@@ -9,6 +9,7 @@ use Rattle.std.proofs.lemmas.Bool.{and_parts, cases_Bool}
 use Rattle.cil_syntax.specs.declared.fault.Bytes.{Bytes}
 use Rattle.cil_syntax.specs.declared.kind.Sign.TheVariants as signs
 use Rattle.cil_syntax.specs.Spelling.{same_bytes}
+use Rattle.cil_syntax.specs.Scopes.{asked, same_space}
 use Rattle.cil_names.specs.declared.entry.Entry.{Entry}
 use Rattle.cil_names.specs.declared.instance.Instance.{Instance}
 use Rattle.cil_names.specs.declared.space.Space.{Space}
@@ -16,7 +17,7 @@ use Rattle.cil_names.specs.Declarations.{Symbol, by, declared_by}
 use Rattle.cil_names.specs.Entries.{AreEntries, HasNoEntry, IsAnswer, IsEntryAt, IsNamed, is_in, items_of}
 use Rattle.cil_names.specs.Item.{OptSet, ScopedWord, is_enabled, nobody}
 use Rattle.cil_names.specs.Numbers.{symbol_of}
-use Rattle.cil_names.specs.Resolves.{Permission as APermission, asked, fits, found_in, gives_permission, has_permission, is_wanted, listed_permissions, resolves, same_space}
+use Rattle.cil_names.specs.Resolves.{Permission as APermission, fits, found_in, gives_permission, has_permission, is_wanted, listed_permissions, resolves}
 use Rattle.cil_names.specs.Spaces.{AreSpaces, space_at}
 use Rattle.cil_names.specs.Unresolved.{ArePermissions, listed_at}
 use Rattle.cil_names.proofs.CandidateLemmas.{parts_of, spaces_decide}

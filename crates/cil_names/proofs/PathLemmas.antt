@@ -4,10 +4,9 @@ use Rattle.std.specs.Prelude.{reverse}
 use Rattle.std.specs.List.{slice_split}
 use Rattle.std.proofs.lemmas.List.Splits.{length-slice_split, slice_split_at, slice_split_none}
 use Rattle.std.proofs.lemmas.List.{length-append, length-reverse, reverse-append}
+use Rattle.cil_syntax.specs.Scopes.{IsDotless, IsParted, Namespace, names_backwards}
 use Rattle.cil_names.specs.declared.space.Space.{Space}
-use Rattle.cil_names.specs.Item.{Namespace}
-use Rattle.cil_names.specs.Resolves.{names_backwards}
-use Rattle.cil_names.specs.Spaces.{AreSpaces, HasNoNumber, IsAskedAt, IsAskedNowhere, IsDotless, IsNumber, IsParted, space_at}
+use Rattle.cil_names.specs.Spaces.{AreSpaces, HasNoNumber, IsAskedAt, IsAskedNowhere, IsNumber, space_at}
 use Rattle.cil_names.proofs.SpaceLemmas.{outers_of}
 
 -- the names before the rest of a path lead to the namespace of this number

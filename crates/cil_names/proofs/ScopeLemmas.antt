@@ -7,11 +7,11 @@ use Rattle.std.proofs.lemmas.Bool.{true≢false}
 use Rattle.std.proofs.lemmas.List.Folds.{find-append}
 use Rattle.std.proofs.lemmas.List.{drop_all}
 use Rattle.cil_syntax.specs.declared.term.Word.{Word}
+use Rattle.cil_syntax.specs.Scopes.{IsTaken, asked, asked_by, names_backwards}
 use Rattle.cil_names.specs.declared.entry.Entry.{Entry}
 use Rattle.cil_names.specs.declared.space.Space.{Space}
 use Rattle.cil_names.specs.Entries.{candidate, candidates_of, listed, numbers_asked, scope_of, scoped}
-use Rattle.cil_names.specs.Resolves.{asked, asked_by, names_backwards}
-use Rattle.cil_names.specs.Spaces.{AreSpaces, IsTaken, space_at}
+use Rattle.cil_names.specs.Spaces.{AreSpaces, space_at}
 use Rattle.cil_names.proofs.PathLemmas.{never_none}
 use Rattle.cil_names.proofs.SpaceLemmas.{global_at}
 

@@ -6,8 +6,8 @@ use Rattle.std.specs.Ordering.{on}
 use Rattle.std.proofs.lemmas.List.{get_or_append_left, length-append}
 use Rattle.std.proofs.Math.Seq.{get_or-append_seam}
 use Rattle.std.proofs.lemmas.Option.{slice_get_within}
+use Rattle.cil_syntax.specs.Scopes.{Namespace}
 use Rattle.cil_names.specs.declared.space.Space.{Space}
-use Rattle.cil_names.specs.Item.{Namespace}
 use Rattle.cil_names.specs.Spaces.{AreSpaces, HasNoNumber, IsNumber, Place, place_cmp, place_of, space_at, spaces_from}
 use Rattle.cil_names.proofs.OrderLemmas.{one_place, place_total}
 use Rattle.cil_names.proofs.SearchLemmas.{one_number}

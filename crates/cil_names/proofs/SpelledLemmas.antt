@@ -6,8 +6,8 @@ use Rattle.std.proofs.lemmas.List.{reverse-append}
 use Rattle.std.proofs.lemmas.List.Concat.{flat_map-append}
 use Rattle.std.proofs.lemmas.Option.{slice_get-get_or}
 use Rattle.cil_syntax.specs.Written.{qualified}
+use Rattle.cil_syntax.specs.Scopes.{Namespace}
 use Rattle.cil_names.specs.declared.space.Space.{Space}
-use Rattle.cil_names.specs.Item.{Namespace}
 use Rattle.cil_names.specs.Numbers.{dotted}
 use Rattle.cil_names.specs.Spaces.{AreSpaces, space_at}
 use Rattle.cil_names.proofs.SpaceLemmas.{global_at, next_at}

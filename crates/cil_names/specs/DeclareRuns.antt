@@ -10,6 +10,8 @@ use Rattle.cil_syntax.specs.declared.kind.Kind.{Kind}
 use Rattle.cil_syntax.specs.declared.term.Word.{Word}
 use Rattle.cil_syntax.specs.Said.{args_of}
 use Rattle.cil_syntax.specs.Terms.{Leaf, Name, Form, Terms, nil, cons}
+use Rattle.cil_syntax.specs.Reported.{fault_at}
+use Rattle.cil_syntax.specs.Scopes.{Namespace}
 use Rattle.cil_names.specs.declared.entry.Entry.{Entry}
 use Rattle.cil_names.specs.declared.instance.Instance.{Instance}
 use Rattle.cil_names.specs.declared.row.Row.{Row}
@@ -17,8 +19,6 @@ use Rattle.cil_names.specs.declared.run.Run.{Run}
 use Rattle.cil_names.specs.declared.space.Space.{Space}
 use Rattle.cil_names.specs.DeclareRows.{IsPlacedRow, TellsDiffering, round_at, row_key}
 use Rattle.cil_names.specs.Entries.{Key, key_cmp}
-use Rattle.cil_names.specs.Faults.{fault_at}
-use Rattle.cil_names.specs.Item.{Namespace}
 use Rattle.cil_names.specs.Spaces.{AreSpaces, space_at}
 
 abbrev pub run_key : Run → Key

@@ -1,18 +1,15 @@
 -- What is wrong with the names of a policy: declarations that differ, and words that name nothing. This project's
 -- profile.
 use Rattle.std.specs.Prelude.{◌≡◌, ℕ, true, false, List, [], Contains}
-use Rattle.cil_syntax.specs.declared.code.FaultCode.{FaultCode}
 use Rattle.cil_syntax.specs.declared.code.FaultCode.TheVariants as causes
 use Rattle.cil_syntax.specs.declared.fault.Fault.{Fault}
 use Rattle.cil_syntax.specs.declared.term.Spot.{Spot}
 use Rattle.cil_syntax.specs.Terms.{Name, Terms, cons}
-use Rattle.cil_syntax.specs.Written.{qualified}
+use Rattle.cil_syntax.specs.Reported.{fault_at}
+use Rattle.cil_syntax.specs.Scopes.{Namespace}
 use Rattle.cil_names.specs.Declarations.{Declaration, declared_by, IsDeclaration, Clash}
-use Rattle.cil_names.specs.Item.{Namespace, ScopedWord, Item, OptSet, everybody}
+use Rattle.cil_names.specs.Item.{ScopedWord, Item, OptSet, everybody}
 use Rattle.cil_names.specs.Resolves.{Wanted, words_of, told_word, resolves, is_judged}
-
-abbrev pub fault_at : FaultCode → Spot → Namespace → List ℕ → Fault
-fault_at code at space word = record { code = code; «module» = at.«module»; at = at.at; space = qualified space; word = word }
 
 -- two different declarations of one name: each is at fault, whether it is enabled or not
 pub data ClashFault (xs : List Item) : Fault → Type 0 where

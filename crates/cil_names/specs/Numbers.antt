@@ -7,14 +7,15 @@ use Rattle.cil_sexpr.specs.Lists.{Lists, text_cmp}
 use Rattle.cil_syntax.specs.declared.kind.Kind.{Kind}
 use Rattle.cil_syntax.specs.declared.kind.Kind.TheVariants as kinds
 use Rattle.cil_syntax.specs.Spelling.{is_name, same_bytes}
+use Rattle.cil_syntax.specs.Scopes.{IsDotless, Namespace}
 use Rattle.cil_names.specs.declared.entry.Entry.{Entry}
 use Rattle.cil_names.specs.declared.numbers.Sections.{Sections}
 use Rattle.cil_names.specs.declared.space.Space.{Space}
 use Rattle.cil_names.specs.Declarations.{Symbol, name_of}
 use Rattle.cil_names.specs.Entries.{is_declared_in, place_where}
-use Rattle.cil_names.specs.Item.{Namespace, OptSet}
+use Rattle.cil_names.specs.Item.{OptSet}
 use Rattle.cil_names.specs.Resolves.{kind_number}
-use Rattle.cil_names.specs.Spaces.{IsDotless, space_at}
+use Rattle.cil_names.specs.Spaces.{space_at}
 
 -- the names of a namespace from the outermost on, each with a dot behind it
 abbrev pub dotted : Namespace → List ℕ

@@ -1,13 +1,12 @@
 -- Namespaces as numbers: number 0 is the global one, and each other one has the number of the one round it and its
 -- own name. This project's profile.
-use Rattle.std.specs.Prelude.{◌≡◌, ◌≤◌, ◌==◌, All, ℕ, Bool, false, List, [], ◌∷◌, ◌++◌, length, get_or, Some, slice_get}
+use Rattle.std.specs.Prelude.{◌≡◌, ◌≤◌, ℕ, List, [], ◌∷◌, ◌++◌, length, get_or, Some, slice_get}
 use Rattle.std.specs.declared.cmp.Ordering.{Ordering}
 use Rattle.std.specs.Ordering.{nat_cmp, on, then_cmp}
 use Rattle.std.specs.List.Sorted.{IsStrictlySortedBy}
 use Rattle.cil_sexpr.specs.Lists.{text_cmp}
+use Rattle.cil_syntax.specs.Scopes.{Namespace, names_backwards}
 use Rattle.cil_names.specs.declared.space.Space.{Space}
-use Rattle.cil_names.specs.Item.{Namespace}
-use Rattle.cil_names.specs.Resolves.{asked, asked_by, names_backwards}
 
 -- a name in a namespace of this number
 pub record Place : Type 0 where
@@ -44,19 +43,6 @@ abbrev pub HasNoNumber : List Space → Namespace → Type 0
 HasNoNumber ss n = (k : ℕ) → IsNumber ss n k → ⊥
 
 -- ---- words
-
--- no byte is a dot
-abbrev pub IsDotless : List ℕ → Type 0
-IsDotless = All (λ b. (b == 46) ≡ false)
-
--- the part before the first dot, and what stands behind it
-pub record IsParted (path first rest : List ℕ) : Type 0 where
-  pub whole : path ≡ first ++ 46 ∷ rest
-  pub dotless : IsDotless first
-
--- a word without its leading dot
-pub record IsTaken (word : List ℕ) (global : Bool) (path : List ℕ) : Type 0 where
-  pub asks : asked word ≡ asked_by global (names_backwards path)
 
 -- the namespace of this number is the one that a path asks in another one, under this name
 pub record IsAskedAt (ss : List Space) (from : ℕ) (path : List ℕ) (space : ℕ) (name : List ℕ) : Type 0 where

@@ -1,8 +1,8 @@
 //! What declarations say behind their names, compared without places.
 
 ghost use Rattle.std.specs.Prelude.{◌≡◌, ◌↔◌, IsTrue, ℕ};
+ghost use Rattle.cil_syntax.specs.Scopes.{Scope};
 ghost use Rattle.cil_names.specs.DeclareRows.{bare_term, bare_terms};
-ghost use Rattle.cil_names.specs.Item.{Scope};
 
 use cil_syntax::{LookedUp, Op, Sign, Term};
 

@@ -4,18 +4,18 @@ ghost use Rattle.std.specs.Prelude.{◌≡◌, ◌∷◌, List, MatchOption, len
 ghost use Rattle.std.specs.List.{list_all, list_any};
 ghost use Rattle.std.specs.List.Sorted.{IsStrictlySortedBy};
 ghost use Rattle.std.specs.Ordering.{on};
+ghost use Rattle.cil_syntax.specs.Scopes.{IsDotless, names_backwards};
 ghost use Rattle.cil_names.specs.Entries.{AreOrdered, HasNoEntry, IsEntryAt, candidate, candidates_of, is_declared_at, is_declared_in, is_in, key_cmp, key_of, listed, scoped};
 ghost use Rattle.cil_names.specs.Found.{IsFound, IsMissing};
-ghost use Rattle.cil_names.specs.Resolves.{names_backwards};
-ghost use Rattle.cil_names.specs.Spaces.{AreSpaces, IsDotless, space_at};
+ghost use Rattle.cil_names.specs.Spaces.{AreSpaces, space_at};
 
 use crate::entry::Entry;
 use crate::kinds::{rank_of, rank_wanted, wants};
 use crate::opt_set::OptSet;
-use crate::path::{Path, asked_scope, path_of};
+use crate::path::asked_scope;
 use crate::space::{Space, asked_in};
 use cil_modset::NoMemory;
-use cil_syntax::{Sign, Word};
+use cil_syntax::{Path, Sign, Word, path_of};
 use std::alloc::Global;
 
 /// The place of the entry with this key.

@@ -5,8 +5,7 @@ ghost use Rattle.std.specs.List.Sorted.{IsStrictlySortedBy};
 ghost use Rattle.std.specs.Ordering.{on};
 ghost use Rattle.cil_names.specs.Spaces.{AreSpaces, HasNoNumber, IsAskedAt, IsAskedNowhere, IsNumber, place_cmp, place_of, space_at};
 
-use crate::path::parted;
-use cil_syntax::Excerpt;
+use cil_syntax::{Excerpt, parted};
 use std::alloc::Global;
 use std::marker::Model;
 

@@ -14,7 +14,7 @@ use Rattle.cil_syntax.specs.Shapes.{Inner, Reading, reads, read_word, read_strin
 use Rattle.cil_syntax.specs.declared.kind.Nesting.TheVariants as nestings
 use Rattle.cil_syntax.specs.Table.{entry_of, table}
 use Rattle.cil_syntax.specs.Terms.{Term, Leaf, Name, Form, Terms, nil, cons}
-use Rattle.cil_syntax.specs.Written.{Context, at_top, Verdict, Refused, Shaped, by_entry, verdict_of}
+use Rattle.cil_syntax.specs.Written.{Context, at_top, Verdict, Refused, Shaped, by_entry, verdict_in, verdict_of}
 
 -- a word at a place, a list that begins at one, and the string "a"
 abbrev word : ℕ → List ℕ → Node
@@ -164,5 +164,5 @@ a_type name = list 0 (next (word 1 (codes "type")) (next (word 6 name) none))
 declared_in_macro : (faults_by (verdict_of 7 in_macro (a_type (codes "x"))) ≡ fault causes.ParameterClash 6 (codes "x") ∷ [])
     × (faults_by (verdict_of 7 in_macro (a_type (codes "y"))) ≡ [])
     × (faults_by (verdict_of 7 at_top (a_type (codes "x"))) ≡ [])
-unfolding verdict_of cells_of cell_of read_row read_word read_string read_list table entry_of
+unfolding verdict_in cells_of cell_of read_row read_word read_string read_list table entry_of
 declared_in_macro = (refl, refl, refl)

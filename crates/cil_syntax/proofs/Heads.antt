@@ -23,7 +23,7 @@ use Rattle.cil_syntax.specs.Shapes.{Inner, inner_at, Reading, Shape, looked_up, 
 use Rattle.cil_syntax.specs.Spelling.{same_bytes}
 use Rattle.cil_syntax.specs.Terms.{Term, Terms, spot_of}
 use Rattle.cil_syntax.specs.Told.{told, IsTold, Tells, IsUnion, HasOperator}
-use Rattle.cil_syntax.specs.Written.{at_top, fault_of}
+use Rattle.cil_syntax.specs.Written.{fault_in}
 use Rattle.cil_syntax.proofs.ItemsRead.{told-append}
 
 module _ (text : List ℕ) where
@@ -53,7 +53,7 @@ module _ (text : List ℕ) where
       ap (λ x. (cell_of m (node_of text x)).read shape) is ∙ ap (λ v. (cell_of m v).read shape) (list_view place items)
       ∙ ap (λ ns. read_list (spot_of m place) (cells_of m (nodes_of text ns)) shape) (sym same)
 
-  module _ (m : ℕ) (n : nodes.Node) (place : Span) (sign : Sign) where
+  module _ (m : ℕ) (space : List ℕ) (n : nodes.Node) (place : Span) (sign : Sign) where
     module _ (bytes : List ℕ) (is : n ≡ nodes.Word place) (spelled : bytes ≡ slice_range text place.start place.end) where
       -- a word where a set may stand
       word_set : (b : Bool) → same_bytes bytes (codes "all") ≡ b
@@ -64,24 +64,24 @@ module _ (text : List ℕ) where
           ∙ ap (λ x. if x then read_left_out (spot_of m place) ops.All bytes else read_looked_up (spot_of m place) sign bytes) e
 
       pub all_told : (r : Result rust.Term Stop) (old new : List Fault) → true ≡ same_bytes bytes (codes "all")
-          → Tells m (read_left_out (spot_of m place) ops.All bytes) old new r → Tells m ((cell_of m (node_of text n)).read (set_of sign)) old new r
-      all_told r old new all told = subst (λ w. Tells m w old new r) (sym (word_set true (sym all))) told
+          → Tells m space (read_left_out (spot_of m place) ops.All bytes) old new r → Tells m space ((cell_of m (node_of text n)).read (set_of sign)) old new r
+      all_told r old new all told = subst (λ w. Tells m space w old new r) (sym (word_set true (sym all))) told
 
       pub looked_up_told : (r : Result rust.Term Stop) (old new : List Fault) → false ≡ same_bytes bytes (codes "all")
-          → Tells m ((cell_of m (node_of text n)).read (looked_up sign)) old new r
-          → Tells m ((cell_of m (node_of text n)).read (set_of sign)) old new r
+          → Tells m space ((cell_of m (node_of text n)).read (looked_up sign)) old new r
+          → Tells m space ((cell_of m (node_of text n)).read (set_of sign)) old new r
       unfolding read_word
       looked_up_told r old new other told =
-          subst (λ w. Tells m w old new r) (word_read m n place bytes (looked_up sign) is spelled ∙ sym (word_set false (sym other))) told
+          subst (λ w. Tells m space w old new r) (word_read m n place bytes (looked_up sign) is spelled ∙ sym (word_set false (sym other))) told
 
     -- a list where a set may stand
     pub list_told : (r : Result rust.Term Stop) (items : Vec nodes.Node Global) (inner : List nodes.Node) (old new : List Fault)
         → n ≡ nodes.List place items → inner ≡ items.items
-        → Tells m (read_set (spot_of m place) sign (cells_of m (nodes_of text inner))) old new r
-        → Tells m ((cell_of m (node_of text n)).read (set_of sign)) old new r
+        → Tells m space (read_set (spot_of m place) sign (cells_of m (nodes_of text inner))) old new r
+        → Tells m space ((cell_of m (node_of text n)).read (set_of sign)) old new r
     unfolding read_list
     list_told r items inner old new is same told =
-        subst (λ w. Tells m w old new r) (sym (list_read m n place items inner (set_of sign) is same)) told
+        subst (λ w. Tells m space w old new r) (sym (list_read m n place items inner (set_of sign) is same)) told
 
   -- ---- the head of a set
 
@@ -137,34 +137,34 @@ module _ (text : List ℕ) where
         (ap (λ b. operator_of (a_word b)) (sym spelled) ∙ sym names ∙ some))
 
 -- a form with one fault more in front
-faulted : (m : ℕ) (at : Spot) (op : Op) (i : Inner) (r : Option (Reading (Terms Word))) (old mid new : List Fault) (t : Option rust.Term)
-    → mid ≡ old ++ told m (i ∷ []) → IsTold m (formed at op [] r) mid new t → IsTold m (formed at op (i ∷ []) r) old new t
-faulted m at op i None old mid new None e h = (told m (i ∷ []) ++ h.0, h.1 ∙ ap (λ x. x ++ h.0) e ∙ append_assoc old (told m (i ∷ [])) h.0)
-faulted m at op i None old mid new (Some t) e h = absurd h
-faulted m at op i (Some r) old mid new None e h = absurd h
-faulted m at op i (Some r) old mid new (Some t) e h = (h.0, told-append m old mid new (i ∷ []) r.faults e h.1)
+faulted : (m : ℕ) (space : List ℕ) (at : Spot) (op : Op) (i : Inner) (r : Option (Reading (Terms Word))) (old mid new : List Fault) (t : Option rust.Term)
+    → mid ≡ old ++ told m space (i ∷ []) → IsTold m space (formed at op [] r) mid new t → IsTold m space (formed at op (i ∷ []) r) old new t
+faulted m space at op i None old mid new None e h = (told m space (i ∷ []) ++ h.0, h.1 ∙ ap (λ x. x ++ h.0) e ∙ append_assoc old (told m space (i ∷ [])) h.0)
+faulted m space at op i None old mid new (Some t) e h = absurd h
+faulted m space at op i (Some r) old mid new None e h = absurd h
+faulted m space at op i (Some r) old mid new (Some t) e h = (h.0, told-append m space old mid new (i ∷ []) r.faults e h.1)
 
-module _ (m : ℕ) (at : Spot) (sign : Sign) (text : List ℕ) (ns : List nodes.Node) (op : Op) where
+module _ (m : ℕ) (space : List ℕ) (at : Spot) (sign : Sign) (text : List ℕ) (ns : List nodes.Node) (op : Op) where
   abbrev operands_read : Option (Reading (Term Word))
   operands_read = formed at op [] (read_row (operands sign op) (cells_of m (nodes_of text (drop 1 ns))))
 
   -- a set behind an operator: the operator is told, and then what its operands tell
   pub operator_told : (place : Span) (word : List ℕ) (old mid new : List Fault) (t : Option rust.Term) → HasOperator text ns op place
       → word ≡ slice_range text place.start place.end
-      → mid ≡ old ++ fault_of m at_top (inner_at (spot_of m place) causes.Unsupported word) ∷ []
-      → IsTold m operands_read mid new t → IsTold m (read_set at sign (cells_of m (nodes_of text ns))) old new t
+      → mid ≡ old ++ fault_in m space (inner_at (spot_of m place) causes.Unsupported word) ∷ []
+      → IsTold m space operands_read mid new t → IsTold m space (read_set at sign (cells_of m (nodes_of text ns))) old new t
   operator_told place word old mid new t heads spelled e told =
-      subst (λ w. IsTold m w old new t) (sym (heads m at sign))
-      (faulted m at op _ (read_row (operands sign op) (cells_of m (nodes_of text (drop 1 ns)))) old mid new t
-      (e ∙ ap (λ b. old ++ fault_of m at_top (inner_at (spot_of m place) causes.Unsupported b) ∷ []) spelled) told)
+      subst (λ w. IsTold m space w old new t) (sym (heads m at sign))
+      (faulted m space at op _ (read_row (operands sign op) (cells_of m (nodes_of text (drop 1 ns)))) old mid new t
+      (e ∙ ap (λ b. old ++ fault_in m space (inner_at (spot_of m place) causes.Unsupported b) ∷ []) spelled) told)
 
   -- an error of the operands, handed on
   pub operator_stops : (place : Span) (word : List ℕ) (old mid new : List Fault) (e : Stop) (r : Result rust.Term Stop) → HasOperator text ns op place
       → word ≡ slice_range text place.start place.end
-      → mid ≡ old ++ fault_of m at_top (inner_at (spot_of m place) causes.Unsupported word) ∷ []
-      → Tells m operands_read mid new (Err e) → IsErrAnd r (λ x. x ≡ e) → Tells m (read_set at sign (cells_of m (nodes_of text ns))) old new r
+      → mid ≡ old ++ fault_in m space (inner_at (spot_of m place) causes.Unsupported word) ∷ []
+      → Tells m space operands_read mid new (Err e) → IsErrAnd r (λ x. x ≡ e) → Tells m space (read_set at sign (cells_of m (nodes_of text ns))) old new r
   operator_stops place word old mid new e (Ok t) heads spelled told stops handed = absurd handed
   operator_stops place word old mid new OtherShape (Err x) heads spelled told stops handed =
-      subst (λ y. Tells m (read_set at sign (cells_of m (nodes_of text ns))) old new (Err y)) (sym handed) (operator_told place word old mid new None heads spelled told stops)
+      subst (λ y. Tells m space (read_set at sign (cells_of m (nodes_of text ns))) old new (Err y)) (sym handed) (operator_told place word old mid new None heads spelled told stops)
   operator_stops place word old mid new NoMemory (Err x) heads spelled told stops handed =
-      subst (λ y. Tells m (read_set at sign (cells_of m (nodes_of text ns))) old new (Err y)) (sym handed) tt
+      subst (λ y. Tells m space (read_set at sign (cells_of m (nodes_of text ns))) old new (Err y)) (sym handed) tt

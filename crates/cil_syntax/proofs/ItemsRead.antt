@@ -16,12 +16,12 @@ use Rattle.cil_syntax.specs.Said.{said_of, terms_of}
 use Rattle.cil_syntax.specs.Shapes.{Inner, Reading, reads, Shape, many, joined, read_row, Cell, cell_of, cells_of}
 use Rattle.cil_syntax.specs.Terms.{Term, Terms, nil, cons}
 use Rattle.cil_syntax.specs.Told.{told, IsTold, AreTold, Tells, TellAll, before, behind, AreRead}
-use Rattle.cil_syntax.specs.Written.{at_top, fault_of}
+use Rattle.cil_syntax.specs.Written.{fault_in}
 
 -- the faults of two parts, told one after the other
-pub told-append : (m : ℕ) (old mid new : List Fault) (f g : List Inner) → mid ≡ old ++ told m f → new ≡ mid ++ told m g → new ≡ old ++ told m (f ++ g)
-told-append m old mid new f g p q =
-    q ∙ ap (λ x. x ++ told m g) p ∙ append_assoc (old) (told m f) (told m g) ∙ ap (λ x. old ++ x) (sym (map-append (fault_of m at_top) f g))
+pub told-append : (m : ℕ) (space : List ℕ) (old mid new : List Fault) (f g : List Inner) → mid ≡ old ++ told m space f → new ≡ mid ++ told m space g → new ≡ old ++ told m space (f ++ g)
+told-append m space old mid new f g p q =
+    q ∙ ap (λ x. x ++ told m space g) p ∙ append_assoc (old) (told m space f) (told m space g) ∙ ap (λ x. old ++ x) (sym (map-append (fault_in m space) f g))
 
 before-push : (ts : List (Term Word)) (t : Term Word) (more : Terms Word) → before ts (cons t more) ≡ before (ts ++ t ∷ []) more
 before-push [] t more = refl
@@ -42,17 +42,17 @@ behind-joined ts f r (Some s) = λ i. reads (before-push ts r.value s.value i) (
 
 -- ---- the steps of a loop over items, whatever the row
 
-pub none_yet : (m : ℕ) (whole : Option (Reading (Terms Word))) (old : List Fault) (terms : List rust.Term) → terms ≡ [] → AreRead m whole whole old old terms
-none_yet m whole old terms e = rw e (record { faults = []; more = sym (append-nil old); completes = behind-none whole })
+pub none_yet : (m : ℕ) (space : List ℕ) (whole : Option (Reading (Terms Word))) (old : List Fault) (terms : List rust.Term) → terms ≡ [] → AreRead m space whole whole old old terms
+none_yet m space whole old terms e = rw e (record { faults = []; more = sym (append-nil old); completes = behind-none whole })
 
-module _ (m : ℕ) (whole rest : Option (Reading (Terms Word))) (old mid : List Fault) (terms : List rust.Term) where
+module _ (m : ℕ) (space : List ℕ) (whole rest : Option (Reading (Terms Word))) (old mid : List Fault) (terms : List rust.Term) where
   pub more_read : (later : Option (Reading (Terms Word))) (a : Option (Reading (Term Word))) (new : List Fault) (t : rust.Term) (more : List rust.Term)
-      → AreRead m whole rest old mid terms → rest ≡ joined a later → IsTold m a mid new (Some t) → more ≡ terms ++ t ∷ []
-      → AreRead m whole later old new more
+      → AreRead m space whole rest old mid terms → rest ≡ joined a later → IsTold m space a mid new (Some t) → more ≡ terms ++ t ∷ []
+      → AreRead m space whole later old new more
   more_read later None new t more r cut tells push = absurd tells
   more_read later (Some a) new t more r cut tells push = record {
     faults = r.faults ++ a.faults;
-    more = told-append m old mid new r.faults a.faults r.more tells.1;
+    more = told-append m space old mid new r.faults a.faults r.more tells.1;
     completes =
         r.completes
         ∙ ap (behind (map (said_of m) terms) r.faults) cut
@@ -62,26 +62,26 @@ module _ (m : ℕ) (whole rest : Option (Reading (Terms Word))) (old mid : List 
   }
 
   pub none_stops : (later : Option (Reading (Terms Word))) (a : Option (Reading (Term Word))) (new : List Fault)
-      → AreRead m whole rest old mid terms → rest ≡ joined a later → IsTold m a mid new None → AreTold m whole old new None
+      → AreRead m space whole rest old mid terms → rest ≡ joined a later → IsTold m space a mid new None → AreTold m space whole old new None
   none_stops later (Some a) new r cut tells = absurd tells
   none_stops later None new r cut tells =
-      subst (λ w. AreTold m w old new None) (sym (r.completes ∙ ap (behind (map (said_of m) terms) r.faults) cut))
-      (told m r.faults ++ tells.0, tells.1 ∙ ap (λ x. x ++ tells.0) r.more ∙ append_assoc (old) (told m r.faults) (tells.0))
+      subst (λ w. AreTold m space w old new None) (sym (r.completes ∙ ap (behind (map (said_of m) terms) r.faults) cut))
+      (told m space r.faults ++ tells.0, tells.1 ∙ ap (λ x. x ++ tells.0) r.more ∙ append_assoc (old) (told m space r.faults) (tells.0))
 
 -- an error that was handed on: another shape, or want of memory
-pub stop_told : (m : ℕ) (whole rest later : Option (Reading (Terms Word))) (a : Option (Reading (Term Word))) (old mid new : List Fault) (terms : List rust.Term) (e : Stop)
-    (r : Result (Vec rust.Term) Stop) → AreRead m whole rest old mid terms → rest ≡ joined a later → Tells m a mid new (Err e) → IsErrAnd r (λ x. x ≡ e)
-    → TellAll m whole old new r
-stop_told m whole rest later a old mid new terms e (Ok ts) so cut tells handed = absurd handed
-stop_told m whole rest later a old mid new terms OtherShape (Err x) so cut tells handed =
-    subst (λ y. TellAll m whole old new (Err y)) (sym handed) (none_stops m whole rest old mid terms later a new so cut tells)
-stop_told m whole rest later a old mid new terms NoMemory (Err x) so cut tells handed = subst (λ y. TellAll m whole old new (Err y)) (sym handed) tt
+pub stop_told : (m : ℕ) (space : List ℕ) (whole rest later : Option (Reading (Terms Word))) (a : Option (Reading (Term Word))) (old mid new : List Fault) (terms : List rust.Term) (e : Stop)
+    (r : Result (Vec rust.Term) Stop) → AreRead m space whole rest old mid terms → rest ≡ joined a later → Tells m space a mid new (Err e) → IsErrAnd r (λ x. x ≡ e)
+    → TellAll m space whole old new r
+stop_told m space whole rest later a old mid new terms e (Ok ts) so cut tells handed = absurd handed
+stop_told m space whole rest later a old mid new terms OtherShape (Err x) so cut tells handed =
+    subst (λ y. TellAll m space whole old new (Err y)) (sym handed) (none_stops m space whole rest old mid terms later a new so cut tells)
+stop_told m space whole rest later a old mid new terms NoMemory (Err x) so cut tells handed = subst (λ y. TellAll m space whole old new (Err y)) (sym handed) tt
 
-pub all_read : (m : ℕ) (whole rest : Option (Reading (Terms Word))) (old new : List Fault) (terms : Vec rust.Term) → AreRead m whole rest old new terms.items
-    → rest ≡ reads nil [] → AreTold m whole old new (Some terms)
-all_read m whole rest old new terms r end =
-    subst (λ w. AreTold m w old new (Some terms)) (sym (r.completes ∙ ap (behind (map (said_of m) terms.items) r.faults) end))
-    (before-nil (map (said_of m) terms.items), r.more ∙ ap (λ f. old ++ told m f) (sym (append-nil r.faults)))
+pub all_read : (m : ℕ) (space : List ℕ) (whole rest : Option (Reading (Terms Word))) (old new : List Fault) (terms : Vec rust.Term) → AreRead m space whole rest old new terms.items
+    → rest ≡ reads nil [] → AreTold m space whole old new (Some terms)
+all_read m space whole rest old new terms r end =
+    subst (λ w. AreTold m space w old new (Some terms)) (sym (r.completes ∙ ap (behind (map (said_of m) terms.items) r.faults) end))
+    (before-nil (map (said_of m) terms.items), r.more ∙ ap (λ f. old ++ told m space f) (sym (append-nil r.faults)))
 
 -- ---- what is left of a row
 
@@ -147,9 +147,9 @@ unfolding cells_of
 length-cells m text [] = refl
 length-cells m text (n ∷ ns) = ap suc (length-cells m text ns)
 
-pub wrong_length : (m : ℕ) (text : List ℕ) (ns : List nodes.Node) (ss : List shapes.Shape) (old : List Fault) → length ns ≢ length ss
-    → AreTold m (read_row (items_of (map shape_of ss)) (cells_of m (nodes_of text ns))) old old None
-wrong_length m text ns ss old h =
-    subst (λ r. AreTold m r old old None)
+pub wrong_length : (m : ℕ) (space : List ℕ) (text : List ℕ) (ns : List nodes.Node) (ss : List shapes.Shape) (old : List Fault) → length ns ≢ length ss
+    → AreTold m space (read_row (items_of (map shape_of ss)) (cells_of m (nodes_of text ns))) old old None
+wrong_length m space text ns ss old h =
+    subst (λ r. AreTold m space r old old None)
     (sym (wrong_cells (map shape_of ss) (cells_of m (nodes_of text ns)) (λ e. h (sym (length-cells m text ns) ∙ e ∙ length-map ss shape_of))))
     ([], sym (append-nil old))

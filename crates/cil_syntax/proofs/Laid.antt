@@ -36,19 +36,19 @@ module _ (m : ℕ) (n : Node) (first second : Shape) where
 either_view : (s : shapes.Shape) (a b : Bor shapes.Shape) → s ≡ shapes.Either a b → shape_of s ≡ either (shape_of a.now) (shape_of b.now)
 either_view s a b is = rw is (search (rules, the_lemmas))
 
-module _ (m : ℕ) (n : Node) (s : shapes.Shape) (first second : Bor shapes.Shape) (is : s ≡ shapes.Either first second) (old new : List Fault) (r : Result rust.Term Stop) where
+module _ (m : ℕ) (space : List ℕ) (n : Node) (s : shapes.Shape) (first second : Bor shapes.Shape) (is : s ≡ shapes.Either first second) (old new : List Fault) (r : Result rust.Term Stop) where
   -- it reads as the first
   pub first_told : (b : Bool) → b ≡ is_meant (shape_of first.now) (cell_of m n).face → b ≡ true
-      → Tells m ((cell_of m n).read (shape_of first.now)) old new r → Tells m ((cell_of m n).read (shape_of s)) old new r
+      → Tells m space ((cell_of m n).read (shape_of first.now)) old new r → Tells m space ((cell_of m n).read (shape_of s)) old new r
   first_told b e holds told =
-      subst (λ w. Tells m w old new r)
+      subst (λ w. Tells m space w old new r)
       (sym (ap (cell_of m n).read (either_view s first second is) ∙ by_either m n (shape_of first.now) (shape_of second.now) true (sym holds ∙ e))) told
 
   -- it reads as the second
   pub second_told : (b : Bool) → b ≡ is_meant (shape_of first.now) (cell_of m n).face → b ≡ false
-      → Tells m ((cell_of m n).read (shape_of second.now)) old new r → Tells m ((cell_of m n).read (shape_of s)) old new r
+      → Tells m space ((cell_of m n).read (shape_of second.now)) old new r → Tells m space ((cell_of m n).read (shape_of s)) old new r
   second_told b e fails told =
-      subst (λ w. Tells m w old new r)
+      subst (λ w. Tells m space w old new r)
       (sym (ap (cell_of m n).read (either_view s first second is) ∙ by_either m n (shape_of first.now) (shape_of second.now) false (sym fails ∙ e))) told
 
 -- ---- how each shape and row of Rust is seen
@@ -113,7 +113,7 @@ module _ (cells : List Cell) (first second : Row) (n : ℕ) where
   unfolding read_row
   not_as_many h = ap (λ b. if b then read_row first cells else read_row second cells) (ne_eqb (length cells) n h)
 
-module _ (m : ℕ) (text : List ℕ) (ns : List nodes.Node) (row : rows.Row) (a b : Bor (List shapes.Shape)) (is : row ≡ rows.OneOf a b) (old new : List Fault) (r : Result (Vec rust.Term) Stop) where
+module _ (m : ℕ) (space : List ℕ) (text : List ℕ) (ns : List nodes.Node) (row : rows.Row) (a b : Bor (List shapes.Shape)) (is : row ≡ rows.OneOf a b) (old new : List Fault) (r : Result (Vec rust.Term) Stop) where
   abbrev cells_there : List Cell
   cells_there = cells_of m (nodes_of text ns)
 
@@ -123,14 +123,14 @@ module _ (m : ℕ) (text : List ℕ) (ns : List nodes.Node) (row : rows.Row) (a 
   counts : length (cells_of m (nodes_of text ns)) ≡ length (map shape_of a.now) → length ns ≡ length a.now
   counts e = sym (length-cells m text ns) ∙ e ∙ length-map a.now shape_of
 
-  pub first_row_told : length ns ≡ length a.now → TellAll m (read_row (items_of (map shape_of a.now)) cells_there) old new r
-      → TellAll m (read_row (row_of row) cells_there) old new r
+  pub first_row_told : length ns ≡ length a.now → TellAll m space (read_row (items_of (map shape_of a.now)) cells_there) old new r
+      → TellAll m space (read_row (row_of row) cells_there) old new r
   first_row_told long told =
-      subst (λ w. TellAll m w old new r)
+      subst (λ w. TellAll m space w old new r)
       (sym (ap (λ w. read_row w cells_there) row_is ∙ as_many cells_there _ _ _ (length-cells m text ns ∙ long ∙ sym (length-map a.now shape_of)))) told
 
-  pub second_row_told : (length ns ≡ length a.now → ⊥) → TellAll m (read_row (items_of (map shape_of b.now)) cells_there) old new r
-      → TellAll m (read_row (row_of row) cells_there) old new r
+  pub second_row_told : (length ns ≡ length a.now → ⊥) → TellAll m space (read_row (items_of (map shape_of b.now)) cells_there) old new r
+      → TellAll m space (read_row (row_of row) cells_there) old new r
   second_row_told other told =
-      subst (λ w. TellAll m w old new r)
+      subst (λ w. TellAll m space w old new r)
       (sym (ap (λ w. read_row w cells_there) row_is ∙ not_as_many cells_there _ _ _ (λ e. other (counts e)))) told

@@ -48,28 +48,28 @@ right_operands shape false (c ∷ d ∷ []) h = refl
 right_operands shape false (c ∷ d ∷ e ∷ cs) h = absurd (omega (arith, h))
 
 -- a form of terms that were read
-pub formed_told : (m at : ℕ) (op : Op) (r : Option (Reading (Terms Word))) (old new : List Fault) (parts : Vec rust.Term Global)
-    → AreTold m r old new (Some parts) → IsTold m (formed (spot_at m at) op [] r) old new (Some (variants.Form at op parts))
-formed_told m at op None old new parts h = absurd h
-formed_told m at op (Some r) old new parts h =
+pub formed_told : (m : ℕ) (space : List ℕ) (at : ℕ) (op : Op) (r : Option (Reading (Terms Word))) (old new : List Fault) (parts : Vec rust.Term Global)
+    → AreTold m space r old new (Some parts) → IsTold m space (formed (spot_at m at) op [] r) old new (Some (variants.Form at op parts))
+formed_told m space at op None old new parts h = absurd h
+formed_told m space at op (Some r) old new parts h =
     let view : said_of m (variants.Form at op parts) ≡ Form (spot_at m at) op (all_said m parts.items) = search (rules, the_lemmas) in
     (view ∙ ap (Form (spot_at m at) op) h.0, h.1)
 
 -- nothing was read, and so no form
-pub none_formed : (m : ℕ) (at : Spot) (op : Op) (r : Option (Reading (Terms Word))) (old new : List Fault)
-    → AreTold m r old new None → IsTold m (formed at op [] r) old new None
-none_formed m at op None old new h = h
-none_formed m at op (Some r) old new h = absurd h
+pub none_formed : (m : ℕ) (space : List ℕ) (at : Spot) (op : Op) (r : Option (Reading (Terms Word))) (old new : List Fault)
+    → AreTold m space r old new None → IsTold m space (formed at op [] r) old new None
+none_formed m space at op None old new h = h
+none_formed m space at op (Some r) old new h = absurd h
 
 -- an error that was handed on makes no form
-pub stop_formed : (m : ℕ) (at : Spot) (op : Op) (r : Option (Reading (Terms Word))) (old new : List Fault) (e : Stop) (answer : Result rust.Term Stop)
-    → TellAll m r old new (Err e) → IsErrAnd answer (λ x. x ≡ e) → Tells m (formed at op [] r) old new answer
-stop_formed m at op r old new e (Ok t) told handed = absurd handed
-stop_formed m at op r old new OtherShape (Err x) told handed =
-    subst (λ y. Tells m (formed at op [] r) old new (Err y)) (sym handed) (none_formed m at op r old new told)
-stop_formed m at op r old new NoMemory (Err x) told handed = subst (λ y. Tells m (formed at op [] r) old new (Err y)) (sym handed) tt
+pub stop_formed : (m : ℕ) (space : List ℕ) (at : Spot) (op : Op) (r : Option (Reading (Terms Word))) (old new : List Fault) (e : Stop) (answer : Result rust.Term Stop)
+    → TellAll m space r old new (Err e) → IsErrAnd answer (λ x. x ≡ e) → Tells m space (formed at op [] r) old new answer
+stop_formed m space at op r old new e (Ok t) told handed = absurd handed
+stop_formed m space at op r old new OtherShape (Err x) told handed =
+    subst (λ y. Tells m space (formed at op [] r) old new (Err y)) (sym handed) (none_formed m space at op r old new told)
+stop_formed m space at op r old new NoMemory (Err x) told handed = subst (λ y. Tells m space (formed at op [] r) old new (Err y)) (sym handed) tt
 
-module _ (m : ℕ) (at : Spot) (op : Op) (sign : Sign) (text : List ℕ) (ns : List nodes.Node) where
+module _ (m : ℕ) (space : List ℕ) (at : Spot) (op : Op) (sign : Sign) (text : List ℕ) (ns : List nodes.Node) where
   abbrev behind_head : List Cell
   behind_head = cells_of m (nodes_of text (drop 1 ns))
 
@@ -90,16 +90,16 @@ module _ (m : ℕ) (at : Spot) (op : Op) (sign : Sign) (text : List ℕ) (ns : L
   some_counted false = omega arith
 
   pub wrong_operands : (old : List Fault) → (length ns ≡ counted + 1 → ⊥)
-      → IsTold m (formed at op [] (read_row (operands sign op) behind_head)) old old None
+      → IsTold m space (formed at op [] (read_row (operands sign op) behind_head)) old old None
   wrong_operands old h =
       let nothing = no_operands (set_of sign) (is_negation op) behind_head (λ e. h (one_more counted (some_counted (is_negation op)) e)) in
-      subst (λ r. IsTold m (formed at op [] r) old old None) (sym nothing) ([], sym (append-nil old))
+      subst (λ r. IsTold m space (formed at op [] r) old old None) (sym nothing) ([], sym (append-nil old))
 
   -- as many as there should be are read as any number is
   pub operands_counted : (r : Result (Vec rust.Term Global) Stop) (old new : List Fault) → length ns ≡ counted + 1
-      → TellAll m (read_row (many (set_of sign)) (cells_of m (nodes_of text (take (length ns - 1) (drop 1 ns))))) old new r
-      → TellAll m (read_row (operands sign op) behind_head) old new r
+      → TellAll m space (read_row (many (set_of sign)) (cells_of m (nodes_of text (take (length ns - 1) (drop 1 ns))))) old new r
+      → TellAll m space (read_row (operands sign op) behind_head) old new r
   operands_counted r old new long told =
-      subst (λ w. TellAll m w old new r)
+      subst (λ w. TellAll m space w old new r)
       (ap (λ ks. read_row (many (set_of sign)) (cells_of m (nodes_of text ks))) (take_rest ns 1)
       ∙ sym (right_operands (set_of sign) (is_negation op) behind_head (one_less counted long))) told

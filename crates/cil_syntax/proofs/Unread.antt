@@ -52,27 +52,27 @@ module _ (m : ℕ) (text : List ℕ) (n : nodes.Node) (place : Span) where
   unfolding read_list
   list_kept items inner is same = list_read text m n place items inner unread is same
 
-module _ (m : ℕ) (n : Node) (s : shapes.Shape) (old new : List Fault) (r : Result rust.Term Stop) where
-  pub unread_told : s ≡ shapes.Unread → Tells m ((cell_of m n).read unread) old new r → Tells m ((cell_of m n).read (shape_of s)) old new r
+module _ (m : ℕ) (space : List ℕ) (n : Node) (s : shapes.Shape) (old new : List Fault) (r : Result rust.Term Stop) where
+  pub unread_told : s ≡ shapes.Unread → Tells m space ((cell_of m n).read unread) old new r → Tells m space ((cell_of m n).read (shape_of s)) old new r
   unread_told is told =
       let view : shape_of shapes.Unread ≡ unread = search (rules, rows.the_lemmas) in
-      subst (λ x. Tells m ((cell_of m n).read x) old new r) (sym (ap shape_of is ∙ view)) told
+      subst (λ x. Tells m space ((cell_of m n).read x) old new r) (sym (ap shape_of is ∙ view)) told
 
-  pub text_told : s ≡ shapes.AnyText → Tells m (kept_as m signs.Text n) old new r → Tells m ((cell_of m n).read (shape_of s)) old new r
+  pub text_told : s ≡ shapes.AnyText → Tells m space (kept_as m signs.Text n) old new r → Tells m space ((cell_of m n).read (shape_of s)) old new r
   text_told is told =
       let view : shape_of shapes.AnyText ≡ any_text = search (rules, rows.the_lemmas) in
-      subst (λ x. Tells m ((cell_of m n).read x) old new r) (sym (ap shape_of is ∙ view))
-      (subst (λ w. Tells m w old new r) (sym (text_kept m n)) told)
+      subst (λ x. Tells m space ((cell_of m n).read x) old new r) (sym (ap shape_of is ∙ view))
+      (subst (λ w. Tells m space w old new r) (sym (text_kept m n)) told)
 
 -- ---- rows
 
 -- whatever stands there is nothing
-pub anything_told : (m : ℕ) (cells : List Cell) (row : rows.Row) (old : List Fault) (terms : Vec rust.Term Global) → row ≡ rows.Anything → terms.items ≡ []
-    → AreTold m (read_row (row_of row) cells) old old (Some terms)
+pub anything_told : (m : ℕ) (space : List ℕ) (cells : List Cell) (row : rows.Row) (old : List Fault) (terms : Vec rust.Term Global) → row ≡ rows.Anything → terms.items ≡ []
+    → AreTold m space (read_row (row_of row) cells) old old (Some terms)
 unfolding read_row
-anything_told m cells row old terms is empty =
+anything_told m space cells row old terms is empty =
     let view : row_of rows.Anything ≡ anything = search (rules, rows.the_lemmas) in
-    subst (λ x. AreTold m (read_row x cells) old old (Some terms)) (sym (ap row_of is ∙ view)) (rw empty refl, sym (append-nil old))
+    subst (λ x. AreTold m space (read_row x cells) old old (Some terms)) (sym (ap row_of is ∙ view)) (rw empty refl, sym (append-nil old))
 
 -- ---- items, and lists behind them
 
@@ -103,7 +103,7 @@ list_faced m (TextWord place bytes) = refl
 list_faced m (Quoted place bytes) = refl
 list_faced m (Branch place inner) = refl
 
-module _ (m : ℕ) (text : List ℕ) where
+module _ (m : ℕ) (space : List ℕ) (text : List ℕ) where
   lists_seen : (ns : List nodes.Node) → all_lists (cells_of m (nodes_of text ns)) ≡ list_all (λ n. is_branch (node_of text n)) ns
   unfolding cells_of
   lists_seen [] = refl
@@ -125,10 +125,10 @@ module _ (m : ℕ) (text : List ℕ) where
     abbrev whole : Option (Reading (Terms Word))
     whole = read_row (items_before statements (map shape_of ss)) (cells_of m (nodes_of text ns))
 
-    nothing_told : whole ≡ None → AreTold m whole old old None
-    nothing_told e = subst (λ w. AreTold m w old old None) (sym e) ([], sym (append-nil old))
+    nothing_told : whole ≡ None → AreTold m space whole old old None
+    nothing_told e = subst (λ w. AreTold m space w old old None) (sym e) ([], sym (append-nil old))
 
-    pub short_told : length ns < length ss → AreTold m whole old old None
+    pub short_told : length ns < length ss → AreTold m space whole old old None
     short_told short =
         let cells = length-cells m text ns in
         let shapes = length-map ss shape_of in
@@ -147,12 +147,12 @@ module _ (m : ℕ) (text : List ℕ) where
           (ap all_lists (cells_dropped (length ss) ns) ∙ lists_seen (drop (length ss) ns) ∙ ap (list_all (λ n. is_branch (node_of text n))) (sym (take_rest ns (length ss))) ∙ sym e)
           ∙ ap (λ cs. if b then read_row (items_of (map shape_of ss)) cs else None) (cells_taken (length ss) ns)
 
-      pub no_lists_told : (b : Bool) → b ≡ list_all (λ n. is_branch (node_of text n)) (take (length ns - length ss) (drop (length ss) ns)) → b ≡ false → AreTold m whole old old None
+      pub no_lists_told : (b : Bool) → b ≡ list_all (λ n. is_branch (node_of text n)) (take (length ns - length ss) (drop (length ss) ns)) → b ≡ false → AreTold m space whole old old None
       no_lists_told b e is = nothing_told (split_read b e ∙ ap (λ x. if x then read_row (items_of (map shape_of ss)) (cells_of m (nodes_of text (take (length ss) ns))) else None) is)
 
       pub body_told : (new : List Fault) (r : Result (Vec rust.Term Global) Stop) (b : Bool)
           → b ≡ list_all (λ n. is_branch (node_of text n)) (take (length ns - length ss) (drop (length ss) ns)) → b ≡ true
-          → TellAll m (read_row (items_of (map shape_of ss)) (cells_of m (nodes_of text (take (length ss) ns)))) old new r → TellAll m whole old new r
+          → TellAll m space (read_row (items_of (map shape_of ss)) (cells_of m (nodes_of text (take (length ss) ns)))) old new r → TellAll m space whole old new r
       body_told new r b e is told =
-          subst (λ w. TellAll m w old new r)
+          subst (λ w. TellAll m space w old new r)
           (sym (split_read b e ∙ ap (λ x. if x then read_row (items_of (map shape_of ss)) (cells_of m (nodes_of text (take (length ss) ns))) else None) is)) told

@@ -1,3 +1,4 @@
+pub mod Around
 pub mod Codes
 pub mod Entries
 pub mod Fails
@@ -14,9 +15,11 @@ pub mod Program
 pub mod Refusal
 pub mod Reported
 pub mod Said
+pub mod Scopes
 pub mod Shapes
 pub mod Sorted
 pub mod Spelling
+pub mod Standpoints
 pub mod Table
 pub mod Terms
 pub mod Told

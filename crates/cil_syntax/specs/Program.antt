@@ -3,6 +3,8 @@
 use Rattle.std.specs.Prelude.{◌≡◌, ◌<◌, ℕ, Bool, true, false, List, [], ◌∷◌, ◌++◌, Contains, Option, Some, None, slice_get}
 use Rattle.std.specs.List.Sorted.{IsStrictlySortedBy}
 use Rattle.std.specs.Option.{option_map_or}
+use Rattle.std.proofs.Common.{sym, ◌∙◌, ap, append_assoc, map}
+use Rattle.std.proofs.lemmas.List.{append-nil, map-append}
 use Rattle.cil_syntax.specs.declared.kind.Keyword.{Keyword}
 use Rattle.cil_syntax.specs.declared.kind.Keyword.TheVariants as keywords
 use Rattle.cil_syntax.specs.declared.program.Statement as rust
@@ -37,6 +39,19 @@ program_from done (s ∷ ss) = program_from (done ++ written_under (opener_in do
 
 abbrev pub program_of : List rust.Statement → List Written
 program_of ss = program_from [] ss
+
+-- what each says is what is kept
+said_from : (done : List Written) (ss : List rust.Statement) → map (λ w. w.statement) (program_from done ss) ≡ map (λ w. w.statement) done ++ map statement_of ss
+unfolding program_from
+said_from done [] = sym (append-nil (map (λ w. w.statement) done))
+said_from done (s ∷ ss) =
+    let w = written_under (opener_in done s.under) s in
+    said_from (done ++ w ∷ []) ss
+    ∙ ap (λ ws. ws ++ map statement_of ss) (map-append (λ w. w.statement) done (w ∷ []))
+    ∙ append_assoc (map (λ w. w.statement) done) (statement_of s ∷ []) (map statement_of ss)
+
+pub said_by_program : (ss : List rust.Statement) → map (λ w. w.statement) (program_of ss) ≡ map statement_of ss
+said_by_program ss = said_from [] ss
 
 -- ---- what holds of every program
 

@@ -3,6 +3,7 @@
 ghost use Rattle.std.specs.Prelude.{◌≡◌, List};
 ghost use Rattle.std.specs.List.{list_all};
 ghost use Rattle.cil_sexpr.specs.View.{node_of, nodes_of};
+ghost use Rattle.cil_syntax.specs.Around.{space_of};
 ghost use Rattle.cil_syntax.specs.declared.fault.Fault.{Fault};
 ghost use Rattle.cil_syntax.specs.Shapes.{cell_of, cells_of, many, read_row, unread};
 ghost use Rattle.cil_syntax.specs.Told.{TellAll, Tells, is_branch, kept_as};
@@ -13,7 +14,7 @@ use crate::stop::Stop;
 use crate::term::{Excerpt, LookedUp, Op, Term};
 use cil_sexpr::Node;
 
-impl<'a> Reader<'a> {
+impl<'r, 'a> Reader<'r, 'a> {
     /// Whether each of some nodes is a list.
     pub(crate) fn all_lists(&self, nodes: &[Node]) -> bool
         ensures { result ≡ list_all (λ n. is_branch (node_of self.now.text.now n)) nodes.now }
@@ -34,7 +35,7 @@ impl<'a> Reader<'a> {
 
     /// Keeps a word or a string as it is written. A list is neither.
     pub(crate) fn keep_text(&self, sign: Sign, node: &Node) -> Result<Term<'a>, Stop>
-        ensures { (faults : List Fault) → Tells self.now.number (kept_as self.now.number sign (node_of self.now.text.now node.now)) faults faults result }
+        ensures { (faults : List Fault) → Tells self.now.number (space_of self.now.place.now) (kept_as self.now.number sign (node_of self.now.text.now node.now)) faults faults result }
     {
         match node {
             Node::Word(span) => Ok(Term::Leaf(LookedUp {
@@ -55,7 +56,7 @@ impl<'a> Reader<'a> {
     /// Keeps a node as it is written: a list with its items.
     #[cycle(kept)]
     pub(crate) fn keep(&self, node: &Node) -> Result<Term<'a>, Stop>
-        ensures { (faults : List Fault) → Tells self.now.number ((cell_of self.now.number (node_of self.now.text.now node.now)).read unread) faults faults result }
+        ensures { (faults : List Fault) → Tells self.now.number (space_of self.now.place.now) ((cell_of self.now.number (node_of self.now.text.now node.now)).read unread) faults faults result }
     {
         match node {
             Node::Word(_) => self.keep_text(Sign::Unread, node),
@@ -70,7 +71,7 @@ impl<'a> Reader<'a> {
     /// Keeps any number of nodes.
     #[cycle(kept)]
     fn keep_all(&self, nodes: &[Node]) -> Result<Vec<Term<'a>>, Stop>
-        ensures { (faults : List Fault) → TellAll self.now.number (read_row (many unread) (cells_of self.now.number (nodes_of self.now.text.now nodes.now))) faults faults result }
+        ensures { (faults : List Fault) → TellAll self.now.number (space_of self.now.place.now) (read_row (many unread) (cells_of self.now.number (nodes_of self.now.text.now nodes.now))) faults faults result }
     {
         let mut terms = Vec::with_capacity(self.alloc, nodes.len())?;
         for node in nodes {

@@ -7,6 +7,7 @@
 //! mean is not known here.
 #![tactic(auto)]
 
+mod clashes;
 mod code;
 mod failure;
 mod fault;
@@ -15,6 +16,8 @@ mod forms;
 mod kept;
 mod kind;
 pub mod laws;
+mod path;
+mod place;
 mod printed;
 mod program;
 mod reader;
@@ -34,7 +37,8 @@ pub use failure::Failure;
 pub use fault::{Bytes, Fault, push_fault};
 pub use fault_list::FaultList;
 pub use forms::{ClassParts, DeclaredName, RuleParts, WordAndTerms, WordPair, word_and_terms};
-pub use kind::{Keyword, Kind, Nesting, Sign};
+pub use kind::{Dialect, Keyword, Kind, Nesting, Sign};
+pub use path::{Path, PathParts, parted, path_of};
 pub use printed::render;
-pub use program::{Program, Statement, written};
+pub use program::{Program, Statement, written, written_in};
 pub use term::{Excerpt, LookedUp, Op, Spot, Term, Word};

@@ -1,23 +1,26 @@
 //! The written statements of a set of modules.
 
-ghost use Rattle.std.specs.Prelude.{◌≡◌, OnOk, map};
+ghost use Rattle.std.specs.Prelude.{◌≡◌, OnOk};
 ghost use Rattle.cil_sexpr.specs.Lists.{Lists};
 ghost use Rattle.cil_sexpr.specs.Text.{IsReadable};
-ghost use Rattle.cil_sexpr.specs.View.{nodes_of};
+ghost use Rattle.cil_sexpr.specs.View.{node_of, nodes_of};
+ghost use Rattle.cil_syntax.specs.Program.{program_of};
 ghost use Rattle.cil_syntax.specs.Refusal.{Answers};
-ghost use Rattle.cil_syntax.specs.Said.{all_written, written_of};
-ghost use Rattle.cil_syntax.specs.Told.{AreJudged, IsModuleRead};
-ghost use Rattle.cil_syntax.specs.Written.{IsWritten, ShapeFault, written_cmp};
+ghost use Rattle.cil_syntax.specs.Standpoints.{found_behind, found_from, opened};
+ghost use Rattle.cil_syntax.specs.Told.{AreJudgedHere, IsModuleRead, StandsIn};
+ghost use Rattle.cil_syntax.specs.Written.{IsWritten, IsWrittenIn, ShapeFault, ShapeFaultIn, at_top, written_cmp};
 
 use crate::failure::Failure;
 use crate::fault::Fault;
 use crate::fault_list::FaultList;
-use crate::kind::Keyword;
+use crate::kind::{Dialect, Keyword};
+use crate::place::Place;
 use crate::reader::Reader;
 use crate::term::{Spot, Term};
 use cil_modset::{ModuleSet, NoMemory};
 use cil_sexpr::{Node, ReadError, laws as texts, read};
 use std::alloc::Global;
+use std::marker::Model;
 
 /// A statement as it is written.
 #[derive(Debug, Drop)]
@@ -38,10 +41,31 @@ pub struct Program<'a> {
     statements: Vec<Statement<'a>>,
 }
 
+impl<'a> Model for Program<'a> {
+    ghost use Rattle.std.specs.Prelude.{List};
+    ghost use Rattle.cil_syntax.specs.declared.program.Statement.{Statement};
+    ghost use Rattle.cil_syntax.specs.Program.{IsNested};
+    ghost use Rattle.cil_syntax.specs.contracts.term.Term as term;
+    ghost use Rattle.std.specs.Coded.{codes};
+    ghost use denote.Signature.{static_lft};
+
+    ghost Value = { List Statement };
+
+    ghost coded = { Prim.hlevel (codes, (term.the_row static_lft).coded) };
+
+    ghost view = { λ p. p.statements.items };
+
+    ghost invariant = { λ p. IsNested p.statements.items };
+}
+
 impl<'a> Program<'a> {
-    /// The statements, in order.
+    ghost use Rattle.std.specs.Prelude.{◌≡◌};
+    ghost use Rattle.cil_syntax.specs.Program.{IsNested};
+
+    /// The statements, in order. Where each stands follows from their numbers.
     pub fn statements(&self) -> &[Statement<'a>]
-        ensures { map written_of result.now ≡ all_written self.now }
+        ensures same { result.now ≡ self.now }
+        ensures nested { IsNested self.now }
     {
         self.statements.as_slice()
     }
@@ -50,20 +74,33 @@ impl<'a> Program<'a> {
 /// The statements that are written in modules; or, where one of them or one of its words is at fault, all faults
 /// of shape, or out of memory. Each module is read once; its tree is dropped before the next is read.
 pub fn written(alloc: Global, modules: &ModuleSet) -> Result<Program<'_>, Failure>
-    ensures { Answers (λ p. Lists written_cmp (IsWritten modules.now) (all_written p)) (ShapeFault modules.now) result }
+    ensures { Answers (λ p. Lists written_cmp (IsWritten modules.now) (program_of p)) (ShapeFault modules.now) result }
+{
+    written_in(alloc, modules, Dialect::Flat)
+}
+
+/// The same, with the statements of a dialect.
+pub fn written_in(
+    alloc: Global,
+    modules: &ModuleSet,
+    dialect: Dialect,
+) -> Result<Program<'_>, Failure>
+    ensures { Answers (λ p. Lists written_cmp (IsWrittenIn dialect modules.now) (program_of p)) (ShapeFaultIn dialect modules.now) result }
 {
     // That a text has one tree makes what was read what is written.
     texts::one_tree();
     let mut statements = Vec::new(alloc);
     let mut faults = Vec::new(alloc);
+    let top = Place::top(alloc);
     for i in 0..modules.len() {
-        read_module(
+        let reader = Reader {
             alloc,
-            modules.get(i),
-            i as u64,
-            &mut statements,
-            &mut faults,
-        )?;
+            text: modules.get(i),
+            number: i as u64,
+            dialect,
+            place: &top,
+        };
+        reader.read_module(&mut statements, &mut faults)?;
     }
     match FaultList::of(faults) {
         Some(list) => Err(Failure::Faults(list)),
@@ -71,47 +108,76 @@ pub fn written(alloc: Global, modules: &ModuleSet) -> Result<Program<'_>, Failur
     }
 }
 
-/// Reads the statements of a module. It was found readable when it was installed.
-fn read_module<'a>(
-    alloc: Global,
-    text: &'a [u8],
-    number: u64,
-    statements: &mut Vec<Statement<'a>>,
-    faults: &mut Vec<Fault>,
-) -> Result<(), NoMemory>
-    requires { IsReadable text.now }
-    ensures { OnOk result (IsModuleRead number text.now (map written_of statements.old.items) (map written_of statements.new.items) faults.old.items faults.new.items) }
-{
-    texts::never_both();
-    match read(alloc, text) {
-        Ok(tree) => {
-            let reader = Reader {
-                alloc,
-                text,
-                number,
-            };
-            reader.judge_all(tree.children(), statements, faults)
-        }
-        Err(ReadError::NoMemory) => Err(NoMemory),
-        Err(ReadError::Fault(_)) => unreachable!(),
-    }
-}
-
-impl<'a> Reader<'a> {
-    /// Reads nodes as statements.
-    fn judge_all(
+impl<'r, 'a> Reader<'r, 'a> {
+    /// Reads the statements of a module. It was found readable when it was installed.
+    fn read_module(
         &self,
-        nodes: &[Node],
         statements: &mut Vec<Statement<'a>>,
         faults: &mut Vec<Fault>,
     ) -> Result<(), NoMemory>
-        ensures { OnOk result (AreJudged self.now.number (nodes_of self.now.text.now nodes.now) (map written_of statements.old.items) (map written_of statements.new.items) faults.old.items faults.new.items) }
+        requires readable { IsReadable self.now.text.now }
+        requires top { StandsIn at_top self.now.place.now statements.old.items }
+        ensures { OnOk result (IsModuleRead self.now.dialect self.now.number self.now.text.now statements.old.items statements.new.items faults.old.items faults.new.items) }
     {
-        for node in nodes {
-            if let Some(statement) = self.judge(node, faults)? {
-                statements.push(statement)?;
-            }
+        texts::never_both();
+        match read(self.alloc, self.text) {
+            Ok(tree) => self.judge_all(tree.children(), 0, statements, faults),
+            Err(ReadError::NoMemory) => Err(NoMemory),
+            Err(ReadError::Fault(_)) => unreachable!(),
+        }
+    }
+
+    /// Reads the nodes behind so many as statements.
+    #[cycle(bodies)]
+    fn judge_all(
+        &self,
+        nodes: &[Node],
+        skipped: usize,
+        statements: &mut Vec<Statement<'a>>,
+        faults: &mut Vec<Fault>,
+    ) -> Result<(), NoMemory>
+        ensures { OnOk result (AreJudgedHere self.now (λ context. found_behind self.now.dialect self.now.number (opened context skipped) (nodes_of self.now.text.now nodes.now)) statements.old.items statements.new.items faults.old.items faults.new.items) }
+    {
+        for index in skipped..nodes.len() {
+            self.judge_in(&nodes[index], statements, faults)?;
         }
         Ok(())
+    }
+
+    /// Reads a node as a statement, and then those inside it.
+    #[cycle(bodies)]
+    fn judge_in(
+        &self,
+        node: &Node,
+        statements: &mut Vec<Statement<'a>>,
+        faults: &mut Vec<Fault>,
+    ) -> Result<(), NoMemory>
+        ensures { OnOk result (AreJudgedHere self.now (λ context. found_from self.now.dialect self.now.number context (node_of self.now.text.now node.now)) statements.old.items statements.new.items faults.old.items faults.new.items) }
+    {
+        let Some(statement) = self.judge(node, faults)? else {
+            return Ok(());
+        };
+        let Some(body) = statement.keyword.body() else {
+            statements.push(statement)?;
+            return Ok(());
+        };
+        let place = self
+            .place
+            .inside(self.alloc, &statement, statements.len(), body.nesting)?;
+        statements.push(statement)?;
+        let reader = Reader {
+            alloc: self.alloc,
+            text: self.text,
+            number: self.number,
+            dialect: self.dialect,
+            place: &place,
+        };
+        match node {
+            Node::Word(_) => Ok(()),
+            Node::Quoted(_) => Ok(()),
+            Node::List(_, items) => {
+                reader.judge_all(items.as_slice(), body.skipped, statements, faults)
+            }
+        }
     }
 }

@@ -2,6 +2,7 @@
 
 ghost use Rattle.std.specs.Prelude.{map};
 ghost use Rattle.cil_sexpr.specs.View.{node_of, nodes_of};
+ghost use Rattle.cil_syntax.specs.Around.{space_of};
 ghost use Rattle.cil_syntax.specs.Laid.{items_before, items_of, row_of, shape_of};
 ghost use Rattle.cil_syntax.specs.Shapes.{cell_of, cells_of, list_of, many, read_row as row_reading, statements};
 ghost use Rattle.cil_syntax.specs.Told.{TellAll, Tells};
@@ -14,7 +15,7 @@ use crate::stop::Stop;
 use crate::term::{Op, Term};
 use cil_sexpr::Node;
 
-impl<'a> Reader<'a> {
+impl<'r, 'a> Reader<'r, 'a> {
     /// Reads a node by a shape.
     #[cycle(nodes)]
     pub(crate) fn read_node(
@@ -23,7 +24,7 @@ impl<'a> Reader<'a> {
         node: &Node,
         faults: &mut Vec<Fault>,
     ) -> Result<Term<'a>, Stop>
-        ensures { Tells self.now.number ((cell_of self.now.number (node_of self.now.text.now node.now)).read (shape_of shape.now)) faults.old.items faults.new.items result }
+        ensures { Tells self.now.number (space_of self.now.place.now) ((cell_of self.now.number (node_of self.now.text.now node.now)).read (shape_of shape.now)) faults.old.items faults.new.items result }
     {
         match shape {
             Shape::DeclaredName => self.read_name(node, faults),
@@ -54,7 +55,7 @@ impl<'a> Reader<'a> {
         node: &Node,
         faults: &mut Vec<Fault>,
     ) -> Result<Term<'a>, Stop>
-        ensures { Tells self.now.number ((cell_of self.now.number (node_of self.now.text.now node.now)).read (list_of op (row_of row.now))) faults.old.items faults.new.items result }
+        ensures { Tells self.now.number (space_of self.now.place.now) ((cell_of self.now.number (node_of self.now.text.now node.now)).read (list_of op (row_of row.now))) faults.old.items faults.new.items result }
     {
         let Node::List(span, items) = node else {
             return Err(Stop::OtherShape);
@@ -71,7 +72,7 @@ impl<'a> Reader<'a> {
         nodes: &[Node],
         faults: &mut Vec<Fault>,
     ) -> Result<Vec<Term<'a>>, Stop>
-        ensures { TellAll self.now.number (row_reading (row_of row.now) (cells_of self.now.number (nodes_of self.now.text.now nodes.now))) faults.old.items faults.new.items result }
+        ensures { TellAll self.now.number (space_of self.now.place.now) (row_reading (row_of row.now) (cells_of self.now.number (nodes_of self.now.text.now nodes.now))) faults.old.items faults.new.items result }
     {
         match row {
             Row::Items(shapes) => self.read_items(shapes, nodes, faults),
@@ -95,7 +96,7 @@ impl<'a> Reader<'a> {
         nodes: &[Node],
         faults: &mut Vec<Fault>,
     ) -> Result<Vec<Term<'a>>, Stop>
-        ensures { TellAll self.now.number (row_reading (items_before statements (map shape_of shapes.now)) (cells_of self.now.number (nodes_of self.now.text.now nodes.now))) faults.old.items faults.new.items result }
+        ensures { TellAll self.now.number (space_of self.now.place.now) (row_reading (items_before statements (map shape_of shapes.now)) (cells_of self.now.number (nodes_of self.now.text.now nodes.now))) faults.old.items faults.new.items result }
     {
         if nodes.len() < shapes.len() {
             return Err(Stop::OtherShape);
@@ -114,7 +115,7 @@ impl<'a> Reader<'a> {
         nodes: &[Node],
         faults: &mut Vec<Fault>,
     ) -> Result<Vec<Term<'a>>, Stop>
-        ensures { TellAll self.now.number (row_reading (items_of (map shape_of shapes.now)) (cells_of self.now.number (nodes_of self.now.text.now nodes.now))) faults.old.items faults.new.items result }
+        ensures { TellAll self.now.number (space_of self.now.place.now) (row_reading (items_of (map shape_of shapes.now)) (cells_of self.now.number (nodes_of self.now.text.now nodes.now))) faults.old.items faults.new.items result }
     {
         if nodes.len() != shapes.len() {
             return Err(Stop::OtherShape);
@@ -135,7 +136,7 @@ impl<'a> Reader<'a> {
         nodes: &[Node],
         faults: &mut Vec<Fault>,
     ) -> Result<Vec<Term<'a>>, Stop>
-        ensures { TellAll self.now.number (row_reading (many (shape_of shape.now)) (cells_of self.now.number (nodes_of self.now.text.now nodes.now))) faults.old.items faults.new.items result }
+        ensures { TellAll self.now.number (space_of self.now.place.now) (row_reading (many (shape_of shape.now)) (cells_of self.now.number (nodes_of self.now.text.now nodes.now))) faults.old.items faults.new.items result }
     {
         let mut terms = Vec::with_capacity(self.alloc, nodes.len())?;
         for node in nodes {

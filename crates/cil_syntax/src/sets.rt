@@ -2,6 +2,7 @@
 
 ghost use Rattle.std.specs.Prelude.{◌≡◌, MatchOption, if◌then◌else◌};
 ghost use Rattle.cil_sexpr.specs.View.{node_of, nodes_of};
+ghost use Rattle.cil_syntax.specs.Around.{space_of};
 ghost use Rattle.cil_syntax.specs.Shapes.{a_word, cell_of, cells_of, is_negation, many, operator_of, read_row, read_set as set_reading, set_of};
 ghost use Rattle.cil_syntax.specs.Terms.{spot_at};
 ghost use Rattle.cil_syntax.specs.Told.{HasOperator, IsUnion, TellAll, Tells};
@@ -57,7 +58,7 @@ fn operator_at_head(text: &[u8], nodes: &[Node]) -> Option<(Op, Span)>
     }
 }
 
-impl<'a> Reader<'a> {
+impl<'r, 'a> Reader<'r, 'a> {
     /// Reads a set: a word, a list of sets, or an operator with its operands. Operators and `all` are not supported yet.
     #[cycle(sets)]
     #[tactic(auto, unfolding(crate::specs::Shapes::cell_of, crate::specs::Shapes::read_string))]
@@ -67,7 +68,7 @@ impl<'a> Reader<'a> {
         node: &Node,
         faults: &mut Vec<Fault>,
     ) -> Result<Term<'a>, Stop>
-        ensures { Tells self.now.number ((cell_of self.now.number (node_of self.now.text.now node.now)).read (set_of sign)) faults.old.items faults.new.items result }
+        ensures { Tells self.now.number (space_of self.now.place.now) ((cell_of self.now.number (node_of self.now.text.now node.now)).read (set_of sign)) faults.old.items faults.new.items result }
     {
         match node {
             Node::Word(span) => {
@@ -97,7 +98,7 @@ impl<'a> Reader<'a> {
         at: u32,
         faults: &mut Vec<Fault>,
     ) -> Result<Term<'a>, Stop>
-        ensures { Tells self.now.number (set_reading (spot_at self.now.number at) sign (cells_of self.now.number (nodes_of self.now.text.now nodes.now))) faults.old.items faults.new.items result }
+        ensures { Tells self.now.number (space_of self.now.place.now) (set_reading (spot_at self.now.number at) sign (cells_of self.now.number (nodes_of self.now.text.now nodes.now))) faults.old.items faults.new.items result }
     {
         let Some((op, span)) = operator_at_head(self.text, nodes) else {
             let parts = self.read_sets(sign, nodes, faults)?;
@@ -120,7 +121,7 @@ impl<'a> Reader<'a> {
         nodes: &[Node],
         faults: &mut Vec<Fault>,
     ) -> Result<Vec<Term<'a>>, Stop>
-        ensures { TellAll self.now.number (read_row (many (set_of sign)) (cells_of self.now.number (nodes_of self.now.text.now nodes.now))) faults.old.items faults.new.items result }
+        ensures { TellAll self.now.number (space_of self.now.place.now) (read_row (many (set_of sign)) (cells_of self.now.number (nodes_of self.now.text.now nodes.now))) faults.old.items faults.new.items result }
     {
         let mut terms = Vec::with_capacity(self.alloc, nodes.len())?;
         for node in nodes {

@@ -127,7 +127,7 @@ fn comes_later(word: &[u8]) -> bool
 
 /// Whether the statement is to be accepted without effect.
 #[tactic(auto, unfolding(crate::specs::Table::set_aside_words))]
-fn is_set_aside(word: &[u8]) -> bool
+pub(crate) fn is_set_aside(word: &[u8]) -> bool
     ensures { result ≡ is_one_of set_aside_words word.now }
 {
     spelling::is_one_of(&SET_ASIDE_WORDS, word)

@@ -2,6 +2,7 @@
 
 ghost use Rattle.std.specs.Prelude.{◌≡◌, ◌∷◌, ◌++◌, [], OnOk, slice_range};
 ghost use Rattle.cil_sexpr.specs.View.{node_of};
+ghost use Rattle.cil_syntax.specs.Around.{space_of};
 ghost use Rattle.cil_syntax.specs.Shapes.{any_left_out, cell_of, declared_name, fixed as fixed_shape, inner_at, is_spelled, left_out, looked_up, read_left_out as left_out_reading, word_faults};
 ghost use Rattle.cil_syntax.specs.Terms.{spot_at};
 ghost use Rattle.cil_syntax.specs.Told.{Tells, told};
@@ -34,7 +35,7 @@ pub(crate) fn is_spelled_for(sign: Sign, word: &[u8]) -> bool
     }
 }
 
-impl<'a> Reader<'a> {
+impl<'r, 'a> Reader<'r, 'a> {
     /// Reports what is wrong with the spelling of a word: that it is reserved, or else that it is not spelled well.
     fn report_word(
         &self,
@@ -43,7 +44,7 @@ impl<'a> Reader<'a> {
         spelled: bool,
         word: &[u8],
     ) -> Result<(), NoMemory>
-        ensures { OnOk result (faults.new.items ≡ faults.old.items ++ told self.now.number (word_faults (spot_at self.now.number at) spelled word.now)) }
+        ensures { OnOk result (faults.new.items ≡ faults.old.items ++ told self.now.number (space_of self.now.place.now) (word_faults (spot_at self.now.number at) spelled word.now)) }
     {
         if is_reserved(word) {
             self.report(faults, FaultCode::ReservedName, at, word)?;
@@ -56,7 +57,7 @@ impl<'a> Reader<'a> {
     /// Reads a declared name. A string or a list is none.
     #[tactic(auto, unfolding(crate::specs::Shapes::cell_of, crate::specs::Shapes::read_word, crate::specs::Shapes::read_string, crate::specs::Shapes::read_list))]
     pub(crate) fn read_name(&self, node: &Node, faults: &mut Vec<Fault>) -> Result<Term<'a>, Stop>
-        ensures { Tells self.now.number ((cell_of self.now.number (node_of self.now.text.now node.now)).read declared_name) faults.old.items faults.new.items result }
+        ensures { Tells self.now.number (space_of self.now.place.now) ((cell_of self.now.number (node_of self.now.text.now node.now)).read declared_name) faults.old.items faults.new.items result }
     {
         let Node::Word(span) = node else {
             return Err(Stop::OtherShape);
@@ -74,7 +75,7 @@ impl<'a> Reader<'a> {
         node: &Node,
         faults: &mut Vec<Fault>,
     ) -> Result<Term<'a>, Stop>
-        ensures { Tells self.now.number ((cell_of self.now.number (node_of self.now.text.now node.now)).read (looked_up sign)) faults.old.items faults.new.items result }
+        ensures { Tells self.now.number (space_of self.now.place.now) ((cell_of self.now.number (node_of self.now.text.now node.now)).read (looked_up sign)) faults.old.items faults.new.items result }
     {
         let Node::Word(span) = node else {
             return Err(Stop::OtherShape);
@@ -96,7 +97,7 @@ impl<'a> Reader<'a> {
         op: Op,
         faults: &mut Vec<Fault>,
     ) -> Result<Term<'a>, Stop>
-        ensures { Tells self.now.number (left_out_reading (spot_at self.now.number at) op word.now) faults.old.items faults.new.items result }
+        ensures { Tells self.now.number (space_of self.now.place.now) (left_out_reading (spot_at self.now.number at) op word.now) faults.old.items faults.new.items result }
     {
         self.report(faults, FaultCode::Unsupported, at, word)?;
         Ok(Term::Form(at, op, Vec::new(self.alloc)))
@@ -111,7 +112,7 @@ impl<'a> Reader<'a> {
         node: &Node,
         faults: &mut Vec<Fault>,
     ) -> Result<Term<'a>, Stop>
-        ensures { Tells self.now.number ((cell_of self.now.number (node_of self.now.text.now node.now)).read (fixed_shape fixed.now op)) faults.old.items faults.new.items result }
+        ensures { Tells self.now.number (space_of self.now.place.now) ((cell_of self.now.number (node_of self.now.text.now node.now)).read (fixed_shape fixed.now op)) faults.old.items faults.new.items result }
     {
         let Node::Word(span) = node else {
             return Err(Stop::OtherShape);
@@ -130,7 +131,7 @@ impl<'a> Reader<'a> {
         node: &Node,
         faults: &mut Vec<Fault>,
     ) -> Result<Term<'a>, Stop>
-        ensures { Tells self.now.number ((cell_of self.now.number (node_of self.now.text.now node.now)).read (left_out word.now)) faults.old.items faults.new.items result }
+        ensures { Tells self.now.number (space_of self.now.place.now) ((cell_of self.now.number (node_of self.now.text.now node.now)).read (left_out word.now)) faults.old.items faults.new.items result }
     {
         let Node::Word(span) = node else {
             return Err(Stop::OtherShape);
@@ -149,7 +150,7 @@ impl<'a> Reader<'a> {
         node: &Node,
         faults: &mut Vec<Fault>,
     ) -> Result<Term<'a>, Stop>
-        ensures { Tells self.now.number ((cell_of self.now.number (node_of self.now.text.now node.now)).read any_left_out) faults.old.items faults.new.items result }
+        ensures { Tells self.now.number (space_of self.now.place.now) ((cell_of self.now.number (node_of self.now.text.now node.now)).read any_left_out) faults.old.items faults.new.items result }
     {
         let Node::Word(span) = node else {
             return Err(Stop::OtherShape);

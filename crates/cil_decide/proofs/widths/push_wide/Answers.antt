@@ -1,7 +1,7 @@
 use Rattle.std.proofs.Common.{◌≡◌, ◌∷◌, ◌++◌, [], rules}
 use Rattle.cil_syntax.specs.declared.code.FaultCode.TheVariants as causes
+use Rattle.cil_syntax.specs.Reported.{fault_at}
 use Rattle.cil_names.specs.Entries.{is_in, item_of, items_of}
-use Rattle.cil_names.specs.Faults.{fault_at}
 use Rattle.cil_names.specs.Spaces.{space_at}
 use Rattle.cil_decide.specs.Widths.{IsWide}
 use Rattle.cil_decide.proofs.WidthLemmas.{none_more, one_more}

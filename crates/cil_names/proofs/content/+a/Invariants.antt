@@ -1,5 +1,5 @@
 use Rattle.std.specs.Prelude.{◌≡◌, ◌↔◌, IsTrue, ℕ}
-use Rattle.cil_names.specs.Item.{Scope}
+use Rattle.cil_syntax.specs.Scopes.{Scope}
 use Rattle.cil_names.proofs.DeclareContents.{IsLeft}
 use Rattle.cil_names.proofs.content.+a.Given as goal
 

@@ -1,0 +1,175 @@
+-- The items of one key among sorted ones: they stand between two partition points.
+use Rattle.std.specs.Prelude.{Contains, not, ◌↔◌}
+use Rattle.std.proofs.Common.{◌≡◌, ℕ, zero, suc, ◌+◌, ◌<◌, ◌≤◌, Bool, true, false, is_lt, List, [], ◌∷◌, ◌++◌, length, take, drop, get_or, refl, sym, ◌∙◌, ap, subst, inl, inr, arith}
+use Rattle.std.specs.declared.cmp.Ordering.{Ordering}
+use Rattle.std.specs.declared.cmp.Ordering.TheVariants.{Less, Equal, Greater}
+use Rattle.std.specs.Ordering.{is_gt, ordering_reverse}
+use Rattle.std.specs.Cmp.{IsTotalOrder, IsStrictWeakOrder}
+use Rattle.std.specs.Cmp.Lexicographic.{lists_total}
+use Rattle.std.specs.List.Sorted.{IsPartitionedBy, IsPartitionPoint, IsSortedByKey}
+use Rattle.std.proofs.lemmas.Cmp.{nat_list_cmp_total}
+use Rattle.std.proofs.lemmas.Map.Lookups.{exact_bytes}
+use Rattle.std.proofs.lemmas.Bool.{false≢true, not-true, not-false, true≢false}
+use Rattle.std.proofs.lemmas.List.{get_or-drop, length-drop, take-append-drop}
+use Rattle.std.proofs.lemmas.List.Elements.{Contains-append_left, Contains-append_right, Contains-append_cases}
+use Rattle.std.proofs.lemmas.List.Sorted.{ranks_by, sorted_far}
+use Rattle.cil_sexpr.specs.Lists.{text_cmp, contains_cases, contains_none}
+use Rattle.cil_blocks.specs.Named.{names_cmp}
+
+-- ---- the first items of a list, and the others
+
+module _ {X : Type 0} (P : X → Type 0) where
+  in_take : (n : ℕ) (xs : List X) → ((k : ℕ) (d : X) → k < n → k < length xs → P (get_or xs k d)) → (x : X) → Contains (take n xs) x → P x
+  in_take zero xs all x c = absurd (contains_none x c)
+  in_take (suc n) [] all x c = absurd (contains_none x c)
+  in_take (suc n) (y ∷ ys) all x c =
+      elim (contains_cases x y (take n ys) c) [
+        | inl e ↦ subst P e (all 0 y (omega arith) (omega arith))
+        | inr d ↦ in_take n ys (λ k e a b. all (suc k) e (omega (arith, a)) (omega (arith, b))) x d
+      ]
+
+  in_drop : (n : ℕ) (xs : List X) → ((k : ℕ) (d : X) → n ≤ k → k < length xs → P (get_or xs k d)) → (x : X) → Contains (drop n xs) x → P x
+  in_drop n [] all x c = absurd (contains_none x (none n c))
+    where
+      none : (m : ℕ) → Contains (drop m []) x → Contains [] x
+      none zero d = d
+      none (suc m) d = d
+  in_drop zero (y ∷ ys) all x c =
+      elim (contains_cases x y ys c) [
+        | inl e ↦ subst P e (all 0 y (omega arith) (omega arith))
+        | inr d ↦ in_drop zero ys (λ k e a b. all (suc k) e (omega arith) (omega (arith, b))) x d
+      ]
+  in_drop (suc n) (y ∷ ys) all x c = in_drop n ys (λ k e a b. all (suc k) e (omega (arith, a)) (omega (arith, b))) x c
+
+-- ---- names
+
+pub names_total : IsTotalOrder names_cmp
+names_total = lists_total nat_list_cmp_total
+
+pub one_names : (xs ys : List (List ℕ)) → names_cmp xs ys ≡ Equal → xs ≡ ys
+one_names [] [] e = refl
+one_names [] (y ∷ ys) e = absurd (let f : Less ≡ Equal = e in cc)
+one_names (x ∷ xs) [] e = absurd (let f : Greater ≡ Equal = e in cc)
+one_names (x ∷ xs) (y ∷ ys) e =
+    let both = two (text_cmp x y) (names_cmp xs ys) e in
+    let head : x ≡ y = exact_bytes x y both.0 in
+    let tail = one_names xs ys both.1 in
+    λ i. head i ∷ tail i where
+      two : (o p : Ordering) → Rattle.std.specs.Ordering.ordering_then o p ≡ Equal → (o ≡ Equal) × (p ≡ Equal)
+      two Less p e = absurd (let f : Less ≡ Equal = e in cc)
+      two Equal p e = (refl, e)
+      two Greater p e = absurd (let f : Greater ≡ Equal = e in cc)
+
+-- ---- keys
+
+module _ {X K : Type 0} (key : X → K) (order : K → K → Ordering) (total : IsTotalOrder order) (exact : (a b : K) → order a b ≡ Equal → a ≡ b) where
+  pub weak : IsStrictWeakOrder (λ (x y : X). is_lt (order (key x) (key y)))
+  weak = ranks_by total key
+
+  never_below : (k : K) → is_lt (order k k) ≡ true → ⊥
+  never_below k e = by (order k k) (total.antisymm k k) e where
+    by : (o : Ordering) → o ≡ ordering_reverse o → is_lt o ≡ true → ⊥
+    by Less f e = let g : Less ≡ Greater = f in cc
+    by Equal f e = false≢true e
+    by Greater f e = false≢true e
+
+  turned : (a b : K) → is_gt (order a b) ≡ is_lt (order b a)
+  turned a b = by (order a b) (order b a) (total.antisymm a b) where
+    by : (o p : Ordering) → o ≡ ordering_reverse p → is_gt o ≡ is_lt p
+    by o Less f = ap is_gt f
+    by o Equal f = ap is_gt f
+    by o Greater f = ap is_gt f
+
+  neither : (a b : K) → is_lt (order a b) ≡ false → is_gt (order a b) ≡ false → a ≡ b
+  neither a b = by (order a b) refl where
+    by : (o : Ordering) → order a b ≡ o → is_lt o ≡ false → is_gt o ≡ false → a ≡ b
+    by Less e p q = absurd (true≢false p)
+    by Equal e p q = exact a b e
+    by Greater e p q = absurd (true≢false q)
+
+  -- the item stands before the key; it does not stand behind it
+  abbrev pub is_before : K → X → Bool
+  is_before k x = is_lt (order (key x) k)
+
+  abbrev pub is_upto : K → X → Bool
+  is_upto k x = not (is_gt (order (key x) k))
+
+  module _ (k : K) (xs : List X) (sorted : IsSortedByKey key order xs) where
+    far : (i j : ℕ) (d : X) → i ≤ j → j < length xs → is_lt (order (key (get_or xs j d)) (key (get_or xs i d))) ≡ false
+    far = sorted_far (λ x y. is_lt (order (key x) (key y))) weak xs sorted
+
+    -- what is not above another is before a key where that is
+    below_with : (a b : K) → is_lt (order b a) ≡ false → is_lt (order b k) ≡ true → is_lt (order a k) ≡ true
+    below_with a b h e = by (order a b) refl where
+      by : (o : Ordering) → order a b ≡ o → is_lt (order a k) ≡ true
+      by Less f = ap is_lt (total.trans a b k f (less_of (order b k) e)) where
+        less_of : (o : Ordering) → is_lt o ≡ true → o ≡ Less
+        less_of Less e = refl
+        less_of Equal e = absurd (false≢true e)
+        less_of Greater e = absurd (false≢true e)
+      by Equal f = subst (λ x. is_lt (order x k) ≡ true) (sym (exact a b f)) e
+      by Greater f = absurd (true≢false (sym (ap is_lt (total.antisymm b a ∙ ap ordering_reverse f)) ∙ h))
+
+    pub before_parted : IsPartitionedBy (is_before k) xs
+    before_parted i j d a b h = below_with (key (get_or xs i d)) (key (get_or xs j d)) (far i j d a b) h
+
+    upto_with : (a b : K) → is_lt (order b a) ≡ false → not (is_gt (order b k)) ≡ true → not (is_gt (order a k)) ≡ true
+    upto_with a b h e = by (is_gt (order a k)) refl where
+      by : (g : Bool) → is_gt (order a k) ≡ g → not (is_gt (order a k)) ≡ true
+      by false f = ap not f
+      by true f =
+          let above : is_lt (order k a) ≡ true = sym (turned a k) ∙ f in
+          let none : is_lt (order k b) ≡ false = sym (turned b k) ∙ not-true (is_gt (order b k)) e in
+          absurd (true≢false (sym (chain b above none) ∙ h)) where
+            chain : (b : K) → is_lt (order k a) ≡ true → is_lt (order k b) ≡ false → is_lt (order b a) ≡ true
+            chain b above none = by_b (order b k) refl where
+              less_of : (o : Ordering) → is_lt o ≡ true → o ≡ Less
+              less_of Less e = refl
+              less_of Equal e = absurd (false≢true e)
+              less_of Greater e = absurd (false≢true e)
+
+              by_b : (o : Ordering) → order b k ≡ o → is_lt (order b a) ≡ true
+              by_b Less f = ap is_lt (total.trans b k a f (less_of (order k a) above))
+              by_b Equal f = subst (λ x. is_lt (order x a) ≡ true) (sym (exact b k f)) above
+              by_b Greater f = absurd (true≢false (sym (ap is_lt (total.antisymm k b ∙ ap ordering_reverse f)) ∙ none))
+
+    pub upto_parted : IsPartitionedBy (is_upto k) xs
+    upto_parted i j d a b h = upto_with (key (get_or xs i d)) (key (get_or xs j d)) (far i j d a b) h
+
+  -- what is left of sorted items is sorted
+  pub sorted_left : (n : ℕ) (xs : List X) → IsSortedByKey key order xs → IsSortedByKey key order (drop n xs)
+  sorted_left n xs sorted k d low within =
+      let len = length-drop n xs in
+      ap is_lt (λ i. order (key (shifted (k + 1) i)) (key (shifted k i)))
+      ∙ subst (λ m. is_lt (order (key (get_or xs m d)) (key (get_or xs (n + k) d))) ≡ false) (let e : (n + k) + 1 ≡ n + (k + 1) = omega arith in e)
+      (sorted (n + k) d (omega arith) (omega (arith, within, len)))
+    where
+      shifted : (j : ℕ) → get_or (drop n xs) j d ≡ get_or xs (n + j) d
+      shifted j = get_or-drop n xs j d
+
+  module _ (k : K) (xs rest : List X) (first count : ℕ) (is_rest : rest ≡ drop first xs)
+      (low : IsPartitionPoint (λ x. is_before k x ≡ true) (λ x. is_before k x ≡ false) xs first)
+      (high : IsPartitionPoint (λ x. is_upto k x ≡ true) (λ x. is_upto k x ≡ false) rest count) where
+    whole : xs ≡ take first xs ++ rest
+    whole = sym (take-append-drop first xs) ∙ ap (λ ys. take first xs ++ ys) (sym is_rest)
+
+    rest_whole : rest ≡ take count rest ++ drop count rest
+    rest_whole = sym (take-append-drop count rest)
+
+    -- the items between the two points are those of the key
+    pub of_key : (x : X) → Contains (take count rest) x ↔ (Contains xs x × (key x ≡ k))
+    of_key x = (
+      (λ c. let inside : Contains rest x = subst (λ ys. Contains ys x) (sym rest_whole) (Contains-append_left (take count rest) (drop count rest) x c) in (
+        subst (λ ys. Contains ys x) (sym whole) (Contains-append_right (take first xs) rest x inside),
+        neither (key x) k (in_drop (λ y. is_before k y ≡ false) first xs (λ j d a b. low.1 j d a b) x (subst (λ ys. Contains ys x) is_rest inside))
+            (not-true (is_gt (order (key x) k)) (in_take (λ y. is_upto k y ≡ true) count rest (λ j d a b. high.0 j d (omega arith) a) x c)),
+      )),
+      (λ h. elim (Contains-append_cases (take first xs) rest x (subst (λ ys. Contains ys x) whole h.0)) [
+        | inl c ↦ absurd (never_below k (subst (λ y. is_lt (order y k) ≡ true) h.1 (in_take (λ y. is_before k y ≡ true) first xs (λ j d a b. low.0 j d (omega arith) a) x c)))
+        | inr c ↦ elim (Contains-append_cases (take count rest) (drop count rest) x (subst (λ ys. Contains ys x) rest_whole c)) [
+          | inl d ↦ d
+          | inr d ↦ absurd (never_below k (sym (turned k k) ∙ subst (λ y. is_gt (order y k) ≡ true) h.1
+              (not-false (is_gt (order (key x) k)) (in_drop (λ y. is_upto k y ≡ false) count rest (λ j d' a b. high.1 j d' a b) x d))))
+        ]
+      ]),
+    )

@@ -1,0 +1,5 @@
+use Rattle.cil_blocks.proofs.Cycles.{is_cycle}
+use Rattle.cil_blocks.proofs.laws.cycle.Goals as goal
+
+pub returns : goal.returns
+returns c = λ ws. is_cycle ws

@@ -1,0 +1,5 @@
+use Rattle.cil_blocks.proofs.Cycles.{is_shared}
+use Rattle.cil_blocks.proofs.laws.shared.Goals as goal
+
+pub returns : goal.returns
+returns c = λ ws. is_shared ws

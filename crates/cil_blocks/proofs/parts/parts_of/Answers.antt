@@ -1,0 +1,19 @@
+use Rattle.std.proofs.Common.{arith, sym, ◌∙◌, ap}
+use Rattle.std.specs.Prelude.{Some}
+use Rattle.cil_syntax.specs.Program.{program_of}
+use Rattle.cil_blocks.proofs.ListLemmas.{is_there}
+use Rattle.cil_blocks.proofs.PartLemmas.{all_parts, part_added}
+use Rattle.cil_blocks.proofs.ProgramLemmas.{program_length}
+use Rattle.cil_blocks.proofs.parts.parts_of.Goals as goal
+
+pub loop-i-preserved : goal.loop-i-preserved
+loop-i-preserved c =
+    let h = c.loop-i-test.true in
+    part_added c.args.statements.now c.requires c.loop-i.i c.index-statements-i.result c.loop-i.parts _
+    (is_there c.args.statements.now c.loop-i.i c.index-statements-i.result (omega (arith, h)) ∙ ap Some (sym c.index-statements-i.is)) c.loop-i.invariant c.in_ok-add.ensures.tops c.in_ok-add.ensures.inside c.in_ok-add.ensures.length
+
+pub returns : goal.returns
+returns c =
+    let l = program_length c.args.statements.now in
+    let h = c.loop-i-test.false in
+    all_parts (program_of c.args.statements.now) c.loop-i.i c.loop-i.parts (omega (arith, l, h)) c.loop-i.invariant

@@ -1,0 +1,60 @@
+-- Laws of contents and of what is wrong with blocks.
+use Rattle.std.specs.Prelude.{◌≡◌, ◌↔◌, Bool, true, false, List, Contains, Option}
+use Rattle.cil_syntax.specs.declared.fault.Fault.{Fault}
+use Rattle.cil_syntax.specs.declared.kind.Keyword.{Keyword}
+use Rattle.cil_syntax.specs.declared.kind.Keyword.TheVariants as keywords
+use Rattle.cil_syntax.specs.declared.program.Statement.{Statement}
+use Rattle.cil_syntax.specs.Program.{IsNested, program_of}
+use Rattle.cil_syntax.specs.Scopes.{Namespace}
+use Rattle.cil_syntax.specs.Written.{Written}
+use Rattle.cil_blocks.specs.Contents.{Standing, Stands, Target, path_of}
+use Rattle.cil_blocks.specs.InheritFaults.{Gives, InheritFault, IsOf}
+use Rattle.cil_blocks.specs.Leads.{IsCycle, IsShared}
+
+-- nothing is wrong with the blocks
+abbrev pub HasNoFault : List Written → Type 0
+HasNoFault ws = (f : Fault) → InheritFault ws f → ⊥
+
+-- a blockinherit has one target at most
+abbrev pub HasOneTarget : List Written → Type 0
+HasOneTarget ws = (w b c : Written) → Target ws w b → Target ws w c → b ≡ c
+
+-- a statement stands once through each chain of blockinherits: its namespace and its scope follow from the two
+abbrev pub HasOneStanding : List Written → Type 0
+HasOneStanding ws = (s t : Standing) → Stands ws s → Stands ws t → path_of s ≡ path_of t → s ≡ t
+
+-- a law: where nothing is wrong, a blockinherit has one target
+abbrev pub HaveOneTarget : Type 0
+HaveOneTarget = (ss : List Statement) → IsNested ss → HasNoFault (program_of ss) → HasOneTarget (program_of ss)
+
+-- a law: and then a statement stands once through each chain
+abbrev pub HaveOneStanding : Type 0
+HaveOneStanding = (ss : List Statement) → IsNested ss → HasNoFault (program_of ss) → HasOneStanding (program_of ss)
+
+-- a law: a target leads back to where it is inherited exactly where it, or a block that it needs, encloses that
+abbrev pub AreCycles : Type 0
+AreCycles = (ws : List Written) → IsCycle ws
+
+-- a law: two bodies give to one namespace exactly where the relation on pairs of bodies has the two
+abbrev pub AreShared : Type 0
+AreShared = (ws : List Written) → IsShared ws
+
+-- what stands only in texts and blocks
+abbrev pub stands_in_blocks : Keyword → Bool
+stands_in_blocks keywords.Block = true
+stands_in_blocks keywords.Macro = true
+stands_in_blocks keywords.BlockInherit = true
+stands_in_blocks k = false
+
+-- a body gives the statement to the namespace
+abbrev pub IsGiven : List Written → Namespace → Written → Type 0
+IsGiven ws n w = (body : Option Written) × Gives ws n body × IsOf body w
+
+-- the statement stands in the namespace, through some chain
+abbrev pub StandsSomehow : List Written → Namespace → Written → Type 0
+StandsSomehow ws n w = (s : Standing) × Stands ws s × (s.statement ≡ w) × (s.space ≡ n)
+
+-- a law: a block, a macro or a blockinherit stands in a namespace exactly where a body gives it to the namespace
+abbrev pub AreGiven : Type 0
+AreGiven =
+    (ws : List Written) (n : Namespace) (w : Written) → Contains ws w → stands_in_blocks w.statement.keyword ≡ true → StandsSomehow ws n w ↔ IsGiven ws n w

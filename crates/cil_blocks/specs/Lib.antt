@@ -1,0 +1,7 @@
+pub mod Contents
+pub mod Entries
+pub mod InheritFaults
+pub mod Laws
+pub mod Leads
+pub mod Named
+pub mod Opens

@@ -1,0 +1,77 @@
+-- Written blocks by their full names: the own name in front of the namespace.
+use Rattle.std.specs.Prelude.{◌≡◌, ◌↔◌, ◌⊎◌, ℕ, suc, ◌<◌, Bool, true, false, List, [], ◌∷◌, ◌++◌, length, map, Contains, Option, Some, None}
+use Rattle.std.specs.declared.cmp.Ordering.{Ordering}
+use Rattle.std.specs.List.Sorted.{IsSortedByKey}
+use Rattle.std.specs.Cmp.Lexicographic.{slice_cmp}
+use Rattle.cil_sexpr.specs.Lists.{text_cmp}
+use Rattle.cil_syntax.specs.Scopes.{Namespace, asked}
+use Rattle.cil_syntax.specs.Written.{Written, space_within}
+use Rattle.cil_blocks.specs.Contents.{Target, is_block, name_of}
+use Rattle.cil_blocks.specs.Entries.{statement_at}
+
+-- the own name first, then that of the block round it, and so on
+abbrev pub names_cmp : List (List ℕ) → List (List ℕ) → Ordering
+names_cmp = slice_cmp text_cmp
+
+abbrev pub full_name : Written → List (List ℕ)
+full_name w = name_of w ∷ w.context.space
+
+-- the namespace of what stands directly in a statement
+abbrev pub inner_space : Written → Namespace
+inner_space w = space_within w.statement.keyword w.statement.args w.context.space
+
+-- the same of the statement of a number; the global one where there is no number
+abbrev pub space_in : List Written → Option ℕ → Namespace
+space_in ws None = []
+space_in ws (Some k) = inner_space (statement_at ws k)
+
+-- the namespace of a statement's contents, if it is a block
+abbrev pub full_at : List Written → ℕ → List (List ℕ)
+full_at ws k = full_name (statement_at ws k)
+
+-- a number, and 0 for none
+abbrev pub rank : Option ℕ → ℕ
+rank None = 0
+rank (Some k) = suc k
+
+-- each number is one of a block
+abbrev pub IsBlockAt : List Written → Option ℕ → Type 0
+IsBlockAt ws None = Unit {0}
+IsBlockAt ws (Some k) = is_block (statement_at ws k).statement.keyword ≡ true
+
+-- the blocks of a program, by their numbers, in the order of their full names
+pub record AreBlocks (ws : List Written) (blocks : List ℕ) : Type 0 where
+  pub sorted : IsSortedByKey (λ b. space_in ws (Some b)) names_cmp blocks
+  pub members : (b : ℕ) → Contains blocks b ↔ ((b < length ws) × (is_block (statement_at ws b).statement.keyword ≡ true))
+
+-- a number, if it is one of a block
+abbrev pub block_in : ℕ → Bool → List ℕ
+block_in number true = number ∷ []
+block_in number false = []
+
+-- of these numbers, those of one full name
+abbrev pub AreOfName : List Written → List ℕ → List (List ℕ) → List ℕ → Type 0
+AreOfName ws blocks names found = (b : ℕ) → Contains found b ↔ (Contains blocks b × (space_in ws (Some b) ≡ names))
+
+-- the names that a word asks, the last one first, and whether a dot leads it
+abbrev pub IsAsked : List ℕ → Bool → List (List ℕ) → Type 0
+IsAsked word global names = ((asked word).global ≡ global) × ((asked word).name ∷ (asked word).inner ≡ names)
+
+-- the namespace that a word asks first: with a leading dot the global one
+abbrev pub asked_space : Bool → Namespace → Namespace
+asked_space true here = []
+asked_space false here = here
+
+-- the targets of the statement of a number
+abbrev pub AreTargets : List Written → ℕ → List ℕ → Type 0
+AreTargets ws number found = (b : Written) → Target ws (statement_at ws number) b ↔ Contains (map (statement_at ws) found) b
+
+-- none of these numbers is of this full name
+abbrev pub HasNoneNamed : List Written → List ℕ → List (List ℕ) → Type 0
+HasNoneNamed ws blocks names = (b : ℕ) → Contains blocks b → space_in ws (Some b) ≡ names → ⊥
+
+-- the blocks of some names in the first of the namespaces that has one; none where none of them has
+abbrev pub AreFirstNamed : List Written → List ℕ → List (List ℕ) → List Namespace → List ℕ → Type 0
+AreFirstNamed ws blocks names [] found = found ≡ []
+AreFirstNamed ws blocks names (n ∷ scope) found =
+    (((found ≡ [] → ⊥)) × AreOfName ws blocks (names ++ n) found) ⊎ (HasNoneNamed ws blocks (names ++ n) × AreFirstNamed ws blocks names scope found)

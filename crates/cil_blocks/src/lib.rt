@@ -1,0 +1,19 @@
+//! Blocks and inheritance: what stands in which namespace, with the scope of its words.
+//!
+//! Start at `contents_of` in `contents.rt`. `specs/Contents.antt` says what stands where and through which blockinherits;
+//! `specs/InheritFaults.antt` what is wrong with blocks; `laws.rt` has laws of both. `walker.rt` opens what stands, step by
+//! step; `targets.rt` finds the blocks that blockinherits name. The faults are defined and not yet computed, so
+//! `contents_of` speaks of programs in which nothing is wrong. Macros are not unfolded here.
+#![tactic(auto)]
+
+pub mod contents;
+mod entry;
+pub mod laws;
+pub mod names;
+pub mod opened;
+pub mod parts;
+pub mod targets;
+pub mod walker;
+
+pub use entry::Entry;
+pub use parts::Parts;

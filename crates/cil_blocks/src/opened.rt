@@ -1,0 +1,121 @@
+//! What each statement opens where it stands: a block that is not abstract what is in it, a blockinherit what is in its
+//! target. A block costs a look at each statement directly in it, a blockinherit the search for its target.
+
+ghost use Rattle.std.specs.Prelude.{◌≡◌, ◌<◌, IfOk, Some, length};
+ghost use Rattle.std.specs.List.{list_any};
+ghost use Rattle.cil_syntax.specs.Program.{IsNested, program_of};
+ghost use Rattle.cil_syntax.specs.Written.{is_abstraction};
+ghost use Rattle.cil_blocks.specs.Contents.{is_inheriting};
+ghost use Rattle.cil_blocks.specs.Entries.{AreOpened, AreParts, SaysOpened, first_number, opened_block, opened_of, parts_at, statement_at};
+ghost use Rattle.cil_blocks.specs.Laws.{HasOneTarget};
+ghost use Rattle.cil_blocks.specs.Named.{AreBlocks};
+
+use crate::names::is_block;
+use crate::parts::Parts;
+use crate::targets::targets_at;
+use crate::walker::parts_at;
+use cil_modset::NoMemory;
+use cil_syntax::{Keyword, Statement};
+use std::alloc::Global;
+
+/// For each statement the number of the one whose parts it opens, if it opens any, where each blockinherit has one target.
+pub fn opened_of(
+    alloc: Global,
+    statements: &[Statement],
+    parts: &Parts,
+    blocks: &[usize],
+) -> Result<Vec<Option<usize>>, NoMemory>
+    requires nested { IsNested statements.now }
+    requires parts { AreParts (program_of statements.now) parts.now }
+    requires listed { AreBlocks (program_of statements.now) blocks.now }
+    ensures { IfOk result (λ opened. HasOneTarget (program_of statements.now) → AreOpened (program_of statements.now) opened.items) }
+{
+    let mut opened = Vec::new(alloc);
+    for number in 0..statements.len() {
+        opened.push(opened_at(alloc, statements, parts, blocks, number)?)?;
+    }
+    Ok(opened)
+}
+
+fn opened_at(
+    alloc: Global,
+    statements: &[Statement],
+    parts: &Parts,
+    blocks: &[usize],
+    number: usize,
+) -> Result<Option<usize>, NoMemory>
+    requires nested { IsNested statements.now }
+    requires parts { AreParts (program_of statements.now) parts.now }
+    requires listed { AreBlocks (program_of statements.now) blocks.now }
+    requires within { number < length statements.now }
+    ensures { IfOk result (λ o. HasOneTarget (program_of statements.now) → SaysOpened (program_of statements.now) (Some o) (opened_of (program_of statements.now) (statement_at (program_of statements.now) number))) }
+{
+    let keyword = statements[number].keyword;
+    if is_block(keyword) {
+        return Ok(opened_block(statements, parts, number));
+    }
+    if is_inheriting(keyword) {
+        let targets = targets_at(alloc, statements, blocks, number)?;
+        return Ok(first_number(targets));
+    }
+    Ok(None)
+}
+
+fn is_inheriting(keyword: Keyword) -> bool
+    ensures { result ≡ is_inheriting keyword }
+{
+    matches!(keyword, Keyword::BlockInherit)
+}
+
+/// The first of some numbers.
+fn first_number(numbers: &[usize]) -> Option<usize>
+    ensures { result ≡ first_number numbers.now }
+{
+    match numbers {
+        [] => None,
+        [first, ..] => Some(*first),
+    }
+}
+
+/// The number of a block, if it is not abstract.
+fn opened_block(statements: &[Statement], parts: &Parts, number: usize) -> Option<usize>
+    requires nested { IsNested statements.now }
+    requires parts { AreParts (program_of statements.now) parts.now }
+    requires within { number < length statements.now }
+    ensures { SaysOpened (program_of statements.now) (Some result) (opened_block (program_of statements.now) (statement_at (program_of statements.now) number)) }
+{
+    if has_mark(statements, parts_at(parts, number)) {
+        None
+    } else {
+        Some(number)
+    }
+}
+
+/// Whether one of some statements marks the block in which it is as abstract.
+fn has_mark(statements: &[Statement], numbers: &[usize]) -> bool
+    requires { IsNested statements.now }
+    ensures { result ≡ list_any (λ k. is_abstraction (statement_at (program_of statements.now) k).statement.keyword) numbers.now }
+{
+    for number in numbers {
+        if is_mark_at(statements, *number) {
+            return true;
+        }
+    }
+    false
+}
+
+fn is_mark_at(statements: &[Statement], number: usize) -> bool
+    requires { IsNested statements.now }
+    ensures { result ≡ is_abstraction (statement_at (program_of statements.now) number).statement.keyword }
+{
+    match statements.get(number) {
+        None => false,
+        Some(statement) => is_mark(statement.keyword),
+    }
+}
+
+fn is_mark(keyword: Keyword) -> bool
+    ensures { result ≡ is_abstraction keyword }
+{
+    matches!(keyword, Keyword::BlockAbstract)
+}

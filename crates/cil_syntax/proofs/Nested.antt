@@ -1,0 +1,158 @@
+-- What was read without fault is in order as a program: each statement stands where it may, and begins as it should.
+use Rattle.std.proofs.Common.{◌≡◌, ℕ, zero, suc, ◌⊎◌, Bool, true, false, ◌&&◌, not, if◌then◌else◌, List, [], ◌∷◌, ◌++◌, map, refl, sym, ◌∙◌, ap, subst, inl, inr}
+use Rattle.std.specs.Prelude.{Contains, Option, Some, None, find, slice_get}
+use Rattle.std.specs.List.Sorted.{IsStrictlySortedBy}
+use Rattle.std.proofs.lemmas.List.Elements.{Contains-append_cases}
+use Rattle.cil_sexpr.specs.Lists.{contains_here, contains_later, contains_cases, contains_none}
+use Rattle.cil_sexpr.specs.Tree.{Nodes}
+use Rattle.cil_syntax.specs.declared.fault.Fault.{Fault}
+use Rattle.cil_syntax.specs.declared.kind.Dialect.{Dialect}
+use Rattle.cil_syntax.specs.declared.kind.Dialect.TheVariants as dialects
+use Rattle.cil_syntax.specs.declared.kind.Keyword.{Keyword}
+use Rattle.cil_syntax.specs.declared.kind.Keyword.TheVariants as keywords
+use Rattle.cil_syntax.specs.declared.program.Statement as program
+use Rattle.cil_syntax.specs.declared.term.Word.{Word}
+use Rattle.cil_syntax.specs.Grammar.{Fits, FitsRow, name, word, one, as_many, not_as_many}
+use Rattle.cil_syntax.specs.Program.{IsNested, begins_with_name, begins_with_word, is_begun, program_of}
+use Rattle.cil_syntax.specs.Shapes.{Row, item, declared_name, looked_up}
+use Rattle.cil_syntax.specs.Spelling.{same_bytes}
+use Rattle.cil_syntax.specs.Table.{Entry, entry_in, entry_of, nested_entries, nested_only, set_aside, set_aside_words, table, table_of}
+use Rattle.cil_syntax.specs.Terms.{Terms}
+use Rattle.cil_syntax.specs.Told.{AreUnder}
+use Rattle.cil_syntax.specs.Written.{Written, allows, is_abstraction, is_outside, may_stand, names_its_block, IsWrittenIn, written, ShapeFaultIn, inner, fault_of, written_cmp}
+use Rattle.cil_syntax.proofs.SpelledSo.{read_as_spelled}
+
+-- ---- how statements begin
+
+name_begun : (m : ℕ) (row : Row) (ns : Nodes) (ts : Terms Word) → FitsRow m (item declared_name row) ns ts → begins_with_name ts ≡ true
+name_begun m row ns ts (one shape r n ms t us (name place bytes free spelled) rest) = spelled
+
+word_begun : (m : ℕ) (sign : _) (row : Row) (ns : Nodes) (ts : Terms Word) → FitsRow m (item (looked_up sign) row) ns ts → begins_with_word ts ≡ true
+word_begun m sign row ns ts (one shape r n ms t us (word s place bytes free spelled) rest) = refl
+
+begun : (k : Keyword) (m : ℕ) (ns : Nodes) (ts : Terms Word) → FitsRow m (entry_of k).row ns ts → is_begun k ts ≡ true
+unfolding entry_of
+begun keywords.Type_ m ns ts fit = name_begun m _ ns ts fit
+begun keywords.Role m ns ts fit = name_begun m _ ns ts fit
+begun keywords.User m ns ts fit = name_begun m _ ns ts fit
+begun keywords.Class m ns ts fit = name_begun m _ ns ts fit
+begun keywords.RoleType m ns ts fit = refl
+begun keywords.UserRole m ns ts fit = refl
+begun keywords.Allow m ns ts fit = refl
+begun keywords.Block m ns ts fit = name_begun m _ ns ts fit
+begun keywords.BlockAbstract m ns ts fit = word_begun m _ _ ns ts fit
+begun keywords.BlockInherit m ns ts fit = word_begun m _ _ ns ts fit
+begun keywords.Macro m ns ts fit = name_begun m _ ns ts fit
+begun keywords.Call m ns ts (as_many count first second xs us long fit) = word_begun m _ _ ns ts fit
+begun keywords.Call m ns ts (not_as_many count first second xs us other fit) = word_begun m _ _ ns ts fit
+begun keywords.SetAside m ns ts fit = refl
+
+-- ---- entries and keywords
+
+-- an entry of a table is that of its keyword, its word apart
+record IsOwn (entry : Entry) : Type 0 where
+  nesting : (entry_of entry.keyword).nesting ≡ entry.nesting
+  row : (entry_of entry.keyword).row ≡ entry.row
+
+keyword_is : (k : Keyword) → (entry_of k).keyword ≡ k
+unfolding entry_of
+keyword_is keywords.Type_ = refl
+keyword_is keywords.Role = refl
+keyword_is keywords.User = refl
+keyword_is keywords.Class = refl
+keyword_is keywords.RoleType = refl
+keyword_is keywords.UserRole = refl
+keyword_is keywords.Allow = refl
+keyword_is keywords.Block = refl
+keyword_is keywords.BlockAbstract = refl
+keyword_is keywords.BlockInherit = refl
+keyword_is keywords.Macro = refl
+keyword_is keywords.Call = refl
+keyword_is keywords.SetAside = refl
+
+own_entry : (k : Keyword) → IsOwn (entry_of k)
+own_entry k = record {
+  nesting = ap (λ j. (entry_of j).nesting) (keyword_is k);
+  row = ap (λ j. (entry_of j).row) (keyword_is k);
+}
+
+own_aside : (w : List ℕ) → IsOwn (set_aside w)
+unfolding entry_of
+own_aside w = record { nesting = refl; row = refl }
+
+module _ {X Y : Type 0} (f : X → Y) (P : Y → Type 0) where
+  of_mapped : ((x : X) → P (f x)) → (xs : List X) (y : Y) → Contains (map f xs) y → P y
+  of_mapped h [] y c = absurd (contains_none y c)
+  of_mapped h (x ∷ xs) y c = elim (contains_cases y (f x) (map f xs) c) [ inl e ↦ subst P e (h x) | inr d ↦ of_mapped h xs y d ]
+
+own_flat : (entry : Entry) → Contains table entry → IsOwn entry
+unfolding table
+own_flat entry c =
+    of_mapped entry_of IsOwn own_entry
+    (keywords.Type_ ∷ keywords.Role ∷ keywords.User ∷ keywords.Class ∷ keywords.RoleType ∷ keywords.UserRole ∷ keywords.Allow ∷ []) entry c
+
+own_nested : (entry : Entry) → Contains nested_only entry → IsOwn entry
+unfolding nested_entries
+own_nested entry c =
+    elim (Contains-append_cases nested_entries (map set_aside set_aside_words) entry c) [
+      | inl d ↦ of_mapped entry_of IsOwn own_entry
+          (keywords.Block ∷ keywords.BlockAbstract ∷ keywords.BlockInherit ∷ keywords.Macro ∷ keywords.Call ∷ []) entry d
+      | inr d ↦ of_mapped set_aside IsOwn own_aside set_aside_words entry d
+    ]
+
+own_in : (d : Dialect) (entry : Entry) → Contains (table_of d) entry → IsOwn entry
+own_in dialects.Flat entry c = own_flat entry c
+own_in dialects.Nested entry c = elim (Contains-append_cases table nested_only entry c) [ inl d ↦ own_flat entry d | inr d ↦ own_nested entry d ]
+
+module _ {X : Type 0} (p : X → Bool) where
+  found_by : (x y : X) (xs : List X) (b : Bool) → (find p xs ≡ Some y → Contains xs y) → (if b then Some x else find p xs) ≡ Some y → Contains (x ∷ xs) y
+  found_by x y xs true later e = let same : x ≡ y = cc in subst (Contains (x ∷ xs)) same (contains_here x xs)
+  found_by x y xs false later e = contains_later y x xs (later e)
+
+  found_in : (xs : List X) (y : X) → find p xs ≡ Some y → Contains xs y
+  found_in [] y e = absurd cc
+  found_in (x ∷ xs) y e = found_by x y xs (p x) (found_in xs y) e
+
+-- ---- a program that was read
+
+index_of : {X : Type 0} (xs : List X) (x : X) → Contains xs x → (i : ℕ) × (slice_get xs i ≡ Some x)
+index_of [] x c = absurd (contains_none x c)
+index_of (y ∷ ys) x c = elim (contains_cases x y ys c) [ inl e ↦ (zero, ap (λ z. Some z) e) | inr d ↦ let i = index_of ys x d in (suc i.0, i.1) ]
+
+module _ (d : Dialect) (modules : List (List ℕ)) (clean : (f : Fault) → ShapeFaultIn d modules f → ⊥) where
+  -- what is asked of a statement where it stands
+  record IsInPlace (w : Written) : Type 0 where
+    allowed : may_stand w.context (entry_of w.statement.keyword) ≡ true
+    abstraction : names_its_block w.context w.statement.keyword w.statement.args ≡ true
+    begun_so : is_begun w.statement.keyword w.statement.args ≡ true
+
+  in_place : (w : Written) → IsWrittenIn d modules w → IsInPlace w
+  in_place w (written m context n s [] found verdict) =
+      let spelled = (read_as_spelled d m context n s).0 verdict in
+      let own = own_in d spelled.entry (found_in (λ (e : Entry). same_bytes spelled.word e.word) (table_of d) spelled.entry spelled.named) in
+      let nesting = ap (λ k. (entry_of k).nesting) spelled.keyword ∙ own.nesting in
+      let row = ap (λ k. (entry_of k).row) spelled.keyword ∙ own.row in
+      record {
+        allowed =
+            (λ i. allows context.nesting (nesting i) && not (is_abstraction ((keyword_is s.keyword ∙ spelled.keyword) i) && is_outside context.space)) ∙ spelled.allowed;
+        abstraction = ap (λ k. names_its_block context k s.args) spelled.keyword ∙ spelled.abstraction;
+        begun_so = begun s.keyword m spelled.rest s.args (subst (λ r. FitsRow m r spelled.rest s.args) (sym row) spelled.fits);
+      }
+  in_place w (written m context n s (i ∷ is) found verdict) =
+      absurd (clean (fault_of m context i) (inner m context n s (i ∷ is) i found verdict (contains_here i is)))
+
+  pub nested : (ss : List program.Statement) → AreUnder ss → IsStrictlySortedBy written_cmp (program_of ss) → ((w : Written) → Contains (program_of ss) w → IsWrittenIn d modules w) → IsNested ss
+  nested ss under rising all = record {
+    rising = rising;
+    earlier = under.earlier;
+    opened = λ s p k c e at. let i = index_of ss s c in under.opened i.0 k s p i.1 e at;
+    allowed = λ w c. (in_place w (all w c)).allowed;
+    abstraction = λ w c. (in_place w (all w c)).abstraction;
+    begun = λ w c. (in_place w (all w c)).begun_so;
+  }
+
+-- a program without statements
+pub none_under : (ss : List program.Statement) → ss ≡ [] → AreUnder ss
+none_under ss e =
+    subst AreUnder (sym e)
+    (record { earlier = λ i k s at. absurd (let f : None ≡ Some s = at in cc); opened = λ i k s p at. absurd (let f : None ≡ Some s = at in cc) })

@@ -1,0 +1,94 @@
+use Rattle.std.proofs.Common.{◌≡◌, length, refl, ap, rules, sym, ◌∙◌, subst}
+use Rattle.std.specs.Prelude.{Some}
+use Rattle.cil_sexpr.specs.View.{node_of, nodes_of}
+use Rattle.cil_sexpr.specs.Tree.{inner_of}
+use Rattle.cil_syntax.specs.Program.{has_body, statement_of}
+use Rattle.cil_syntax.specs.Standpoints.{found_behind, opened}
+use Rattle.cil_syntax.specs.Told.{AreJudged, StandsIn}
+use Rattle.cil_syntax.specs.Written.{inside_of}
+use Rattle.cil_syntax.proofs.Heads.{word_view, quoted_view, list_view}
+use Rattle.cil_syntax.proofs.NodesJudged.{none_judged, one_more_judged, all_judged, judged_none, judged_plain, judged_leaf, judged_inside, on_ok}
+use Rattle.cil_syntax.proofs.Programs.{inside_stands}
+use Rattle.cil_syntax.proofs.reader.Reader.+bodies.Goals as goal
+
+pub judge_all-loop-index-init : goal.judge_all-loop-index-init
+judge_all-loop-index-init t c context stands =
+    none_judged c.args.self.now.dialect c.args.self.now.number context c.args.self.now.text.now c.args.nodes.now c.args.statements.now.items c.args.faults.now.items _ c.args.skipped refl
+
+pub judge_all-loop-index-preserved : goal.judge_all-loop-index-preserved
+judge_all-loop-index-preserved t c context stands =
+    one_more_judged c.args.self.now.dialect c.args.self.now.number context c.args.self.now.text.now c.args.nodes.now c.args.statements.now.items c.args.faults.now.items _
+    c.loop-index.index _ _ _ _ c.args.self.now.place.now c.index-nodes-index.result stands (c.loop-index.invariant context stands) c.loop-index-test.true c.index-nodes-index.is
+    (c.in_ok-judge_in.ensures context)
+
+pub judge_all-returns : goal.judge_all-returns
+judge_all-returns t c context stands =
+    all_judged c.args.self.now.dialect c.args.self.now.number context c.args.self.now.text.now c.args.nodes.now c.args.statements.now.items c.args.faults.now.items _
+    c.loop-index.index _ _ (c.loop-index.invariant context stands) c.loop-index-test.false
+
+pub judge_in-returns-in_default : goal.judge_in-returns-in_default
+judge_in-returns-in_default t c context stands =
+    judged_none c.args.self.now.dialect c.args.self.now.number context (node_of c.args.self.now.text.now c.args.node.now) c.args.self.now.place.now c.args.statements.now.items
+    c.args.faults.now.items _ stands c.in_ok-statement.field-0 c.in_default.is (c.in_ok-statement.ensures context stands.around)
+
+pub judge_in-returns-in_default-body : goal.judge_in-returns-in_default-body
+judge_in-returns-in_default-body t c context stands =
+    let d = c.args.self.now.dialect in
+    let m = c.args.self.now.number in
+    let n = node_of c.args.self.now.text.now c.args.node.now in
+    let place = c.args.self.now.place.now in
+    let start = c.args.statements.now.items in
+    let judged = c.in_ok-statement.ensures context stands.around in
+    rw c.in_ok-push.ensures.items
+    (judged_plain d m context n place start c.args.faults.now.items _ stands c.in-Some.statement (judged.under c.in-Some.statement c.in-Some.is) c.in_ok-statement.field-0 c.in-Some.is judged
+    c.in_default-body.ensures)
+
+pub judge_in-returns-in-Word : goal.judge_in-returns-in-Word
+judge_in-returns-in-Word t c context stands =
+    let d = c.args.self.now.dialect in
+    let m = c.args.self.now.number in
+    let n = node_of c.args.self.now.text.now c.args.node.now in
+    let place = c.args.self.now.place.now in
+    let start = c.args.statements.now.items in
+    let judged = c.in_ok-statement.ensures context stands.around in
+    rw c.in_ok-push-2.ensures.items
+    (judged_leaf d m context n place start c.args.faults.now.items _ stands c.in-Some.statement (judged.under c.in-Some.statement c.in-Some.is) c.in_ok-statement.field-0 c.in-Some.is judged
+    (ap (λ x. inner_of (node_of c.args.self.now.text.now x)) c.in-Word.is ∙ ap inner_of (word_view c.args.self.now.text.now c.in-Word.field-0)))
+
+pub judge_in-returns-in-Quoted : goal.judge_in-returns-in-Quoted
+judge_in-returns-in-Quoted t c context stands =
+    let d = c.args.self.now.dialect in
+    let m = c.args.self.now.number in
+    let n = node_of c.args.self.now.text.now c.args.node.now in
+    let place = c.args.self.now.place.now in
+    let start = c.args.statements.now.items in
+    let judged = c.in_ok-statement.ensures context stands.around in
+    rw c.in_ok-push-2.ensures.items
+    (judged_leaf d m context n place start c.args.faults.now.items _ stands c.in-Some.statement (judged.under c.in-Some.statement c.in-Some.is) c.in_ok-statement.field-0 c.in-Some.is judged
+    (ap (λ x. inner_of (node_of c.args.self.now.text.now x)) c.in-Quoted.is ∙ ap inner_of (quoted_view c.args.self.now.text.now c.in-Quoted.field-0)))
+
+pub judge_in-returns : goal.judge_in-returns
+judge_in-returns t c =
+    let d = c.args.self.now.dialect in
+    let m = c.args.self.now.number in
+    let text = c.args.self.now.text.now in
+    let n = node_of text c.args.node.now in
+    let outer = c.args.self.now.place.now in
+    let start = c.args.statements.now.items in
+    let s = c.in-Some.statement in
+    let count = c.len.ensures in
+    let kept : c.len.result ≡ length start = search (rules, count) in
+    on_ok c.judge_all.result _ _
+    (λ all context stands.
+    let judged = c.in_ok-statement.ensures context stands.around in
+    let under = judged.under s c.in-Some.is in
+    let body = c.in-Some-body.ensures in
+    let inner = inside_stands context outer start stands s under c.in_ok-place.place (c.in_ok-place.ensures.under ∙ ap (λ k. Some k) kept) (c.in_ok-place.ensures.round context stands.around _ body) (ap has_body body) in
+    judged_inside d m context n outer start c.args.faults.now.items _ stands s under c.in_ok-statement.field-0 c.in-Some.is judged c.judge_all.new.statements.items c.judge_all.new.faults.items c.in-Some-body.body.skipped _
+    (nodes_of text c.as_slice.result.now) body
+    (ap (λ x. inner_of (node_of text x)) c.in-List.is ∙ ap inner_of (list_view text c.in-List.field-0 c.in-List.items) ∙ ap (nodes_of text) (sym c.as_slice.ensures.value))
+    (subst (λ ss. AreJudged d m (found_behind d m (opened (inside_of context (statement_of s)) c.in-Some-body.body.skipped) (nodes_of text c.as_slice.result.now)) ss c.judge_all.new.statements.items
+    c.judge.new.faults.items c.judge_all.new.faults.items)
+    c.in_ok-push-2.ensures.items
+    (all (inside_of context (statement_of s)) (subst (StandsIn (inside_of context (statement_of s)) c.in_ok-place.place) (sym c.in_ok-push-2.ensures.items) inner))))
+    c.judge_all.ensures
