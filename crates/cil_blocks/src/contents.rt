@@ -1,6 +1,6 @@
 //! What stands in a program whose blocks are in order.
 
-ghost use Rattle.std.specs.Prelude.{◌≡◌, IfNone, IfOk, IfSome, List};
+ghost use Rattle.std.specs.Prelude.{◌≡◌, ◌≤◌, IfNone, IfOk, IfSome, List, length};
 ghost use Rattle.cil_sexpr.specs.Lists.{Lists};
 ghost use Rattle.cil_syntax.specs.Program.{IsNested, program_of};
 ghost use Rattle.cil_blocks.specs.Contents.{Stands, standing_cmp};
@@ -28,6 +28,7 @@ pub fn contents_of(
 ) -> Result<Option<Vec<Entry>>, NoMemory>
     requires { IsNested statements.now }
     ensures all { IfOk result (λ o. IfSome o (λ v. HasNoFault (program_of statements.now) → Lists standing_cmp (Stands (program_of statements.now)) (standings_of (program_of statements.now) v.items))) }
+    ensures few { IfOk result (λ o. IfSome o (λ v. length v.items ≤ limit)) }
     ensures many { IfOk result (λ o. IfNone o (HasNoFault (program_of statements.now) → IsOver standing_cmp (Stands (program_of statements.now)) limit)) }
 {
     // Where nothing is wrong, each blockinherit has one target.
