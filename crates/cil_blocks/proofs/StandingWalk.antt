@@ -92,7 +92,7 @@ module _ (ws : List Written) where
     pub is_the_target : (w b : Written) → Target ws w b → target_of ws w ≡ Some b
     is_the_target w b t = let f = some_target w b t in f.1 ∙ ap Some (one_target w f.0 b (target_is w f.0 f.1) t)
 
-    -- in a keyword, what is opened is a step of def:Contents
+    -- in a keyword, what is opened is a step of what stands
     opened_block : (s t : Standing) (b : Bool) → is_abstract ws s.statement ≡ b → is_block s.statement.statement.keyword ≡ true → Stands ws s
         → Contains (if b then [] else map (standing_in_block s) (parts ws s.statement)) t → Stands ws t
     opened_block s t true a k st c = absurd (contains_none t c)
