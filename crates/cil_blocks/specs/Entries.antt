@@ -1,5 +1,5 @@
 -- What stands, as it is kept: each statement by its number, with the place of the one that opened it.
-use Rattle.std.specs.Prelude.{◌≡◌, ℕ, ◌<◌, ◌==◌, if◌then◌else◌, List, [], ◌∷◌, ◌++◌, length, map, filter, get_or, slice_get, Option, Some, None}
+use Rattle.std.specs.Prelude.{◌≡◌, ℕ, ◌<◌, ◌==◌, if◌then◌else◌, List, [], ◌∷◌, ◌++◌, length, map, filter, get_or, slice_get, Contains, Option, Some, None}
 use Rattle.std.specs.Global.{Vec}
 use Rattle.std.specs.List.Sorted.{IsStrictlySortedBy}
 use Rattle.cil_syntax.specs.declared.kind.Keyword.{Keyword}
@@ -98,10 +98,16 @@ SaysOpened ws None o = o ≡ None
 SaysOpened ws (Some None) o = o ≡ None
 SaysOpened ws (Some (Some k)) o = (k < length ws) × (o ≡ Some (statement_at ws k))
 
+-- all these numbers are of statements
+abbrev pub AreBelow : ℕ → List ℕ → Type 0
+AreBelow n ks = (k : ℕ) → Contains ks k → k < n
+
 -- the statements at the top and those directly in each
 pub record AreParts (ws : List Written) (ps : Parts) : Type 0 where
   pub tops : map (statement_at ws) ps.tops.items ≡ filter is_on_top ws
   pub inside : (k : ℕ) → k < length ws → map (statement_at ws) (parts_at ps k) ≡ parts ws (statement_at ws k)
+  pub are_numbers : (k : ℕ) → AreBelow (length ws) (parts_at ps k)
+  pub top_numbers : AreBelow (length ws) ps.tops.items
 
 -- a number that is put at a place, or at the top where there is none
 abbrev pub put_top : Option ℕ → ℕ → List ℕ

@@ -41,6 +41,12 @@ pub record IsNamedTwice (v w : Written) : Type 0 where
   pub one_name : name_of v ≡ name_of w
   pub differ : v.statement.at ≡ w.statement.at → ⊥
 
+-- a block or a macro with another one of its name: written in one namespace, or standing in one
+pub data IsDoubled (ws : List Written) (v : Written) : Type 0 where
+  in_writing : (w : Written) → Contains ws w → IsNamedTwice v w → v.context.space ≡ w.context.space → IsDoubled ws v
+  in_contents : (w : Written) (n : Namespace) (a b : Option Written) → Contains ws w → IsNamedTwice v w → Gives ws n a → IsOf a v → Gives ws n b → IsOf b w
+      → IsDoubled ws v
+
 -- what is wrong with blocks: two of one name written in one namespace, or standing in one; no block of the name that is
 -- inherited; and a target that leads back to where it is inherited. The namespace that is told is that of writing
 pub data InheritFault (ws : List Written) : Fault → Type 0 where

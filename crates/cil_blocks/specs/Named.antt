@@ -1,12 +1,14 @@
 -- Written blocks by their full names: the own name in front of the namespace.
-use Rattle.std.specs.Prelude.{◌≡◌, ◌↔◌, ◌⊎◌, ℕ, suc, ◌<◌, Bool, true, false, List, [], ◌∷◌, ◌++◌, length, map, Contains, Option, Some, None}
+use Rattle.std.specs.Prelude.{◌≡◌, ◌↔◌, ◌⊎◌, ℕ, suc, ◌<◌, Bool, true, false, List, [], ◌∷◌, ◌++◌, length, map, Contains, Option, Some, None, slice_get}
+use denote.Ref.{Bor}
 use Rattle.std.specs.declared.cmp.Ordering.{Ordering}
 use Rattle.std.specs.List.Sorted.{IsSortedByKey}
 use Rattle.std.specs.Cmp.Lexicographic.{slice_cmp}
 use Rattle.cil_sexpr.specs.Lists.{text_cmp}
 use Rattle.cil_syntax.specs.Scopes.{Namespace, asked}
 use Rattle.cil_syntax.specs.Written.{Written, space_within}
-use Rattle.cil_blocks.specs.Contents.{Target, is_block, name_of}
+use Rattle.cil_blocks.specs.declared.targets.Targets.{Targets}
+use Rattle.cil_blocks.specs.Contents.{Target, is_block, is_inheriting, name_of}
 use Rattle.cil_blocks.specs.Entries.{statement_at}
 
 -- the own name first, then that of the block round it, and so on
@@ -65,6 +67,22 @@ asked_space false here = here
 -- the targets of the statement of a number
 abbrev pub AreTargets : List Written → ℕ → List ℕ → Type 0
 AreTargets ws number found = (b : Written) → Target ws (statement_at ws number) b ↔ Contains (map (statement_at ws) found) b
+
+-- numbers that are borrowed; none where there are none
+abbrev pub borrowed : Option (Bor (List ℕ)) → List ℕ
+borrowed None = []
+borrowed (Some numbers) = numbers.now
+
+-- the targets of the statement of a number, as they are kept
+abbrev pub targets_in : Targets → ℕ → List ℕ
+targets_in ts i = borrowed (slice_get ts.lists.items i)
+
+-- for each blockinherit the blocks that it names, and none for another statement
+pub record AreAllTargets (ws : List Written) (ts : Targets) : Type 0 where
+  pub inheriting : (i k : ℕ) → Contains (targets_in ts i) k → (i < length ws) × (is_inheriting (statement_at ws i).statement.keyword ≡ true)
+  pub named : (i k : ℕ) → Contains (targets_in ts i) k → (k < length ws) × Target ws (statement_at ws i) (statement_at ws k)
+  pub all : (i : ℕ) (b : Written) → i < length ws → is_inheriting (statement_at ws i).statement.keyword ≡ true → Target ws (statement_at ws i) b
+      → (k : ℕ) × Contains (targets_in ts i) k × (statement_at ws k ≡ b)
 
 -- none of these numbers is of this full name
 abbrev pub HasNoneNamed : List Written → List ℕ → List (List ℕ) → Type 0

@@ -12,7 +12,7 @@ use crate::entry::Entry;
 use crate::laws;
 use crate::opened::opened_of;
 use crate::parts::parts_of;
-use crate::targets::blocks_of;
+use crate::targets::{blocks_of, targets_of};
 use crate::walker::walk;
 use cil_modset::NoMemory;
 use cil_syntax::Statement;
@@ -35,6 +35,7 @@ pub fn contents_of(
     laws::one_target();
     let parts = parts_of(alloc, statements)?;
     let blocks = blocks_of(alloc, statements)?;
-    let opened = opened_of(alloc, statements, &parts, blocks.as_slice())?;
+    let targets = targets_of(alloc, statements, blocks.as_slice())?;
+    let opened = opened_of(alloc, statements, &parts, &targets)?;
     walk(alloc, &parts, opened.as_slice(), limit)
 }

@@ -3,7 +3,7 @@
 
 ghost use Rattle.std.specs.Prelude.{◌≡◌, ◌<◌, ◌≤◌, ◌++◌, IfSome};
 ghost use Rattle.cil_syntax.specs.Program.{IsNested, program_of};
-ghost use Rattle.cil_blocks.specs.Contents.{is_block, name_of};
+ghost use Rattle.cil_blocks.specs.Contents.{is_block, is_inheriting, name_of};
 ghost use Rattle.cil_blocks.specs.Entries.{statement_at};
 ghost use Rattle.cil_blocks.specs.Named.{IsBlockAt, full_at, names_cmp, rank, space_in};
 
@@ -24,6 +24,12 @@ pub fn is_block(keyword: Keyword) -> bool
     ensures { result ≡ is_block keyword }
 {
     matches!(keyword, Keyword::Block)
+}
+
+pub fn is_inheriting(keyword: Keyword) -> bool
+    ensures { result ≡ is_inheriting keyword }
+{
+    matches!(keyword, Keyword::BlockInherit)
 }
 
 /// The name that a statement declares; an empty one where it declares none.

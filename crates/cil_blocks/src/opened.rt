@@ -1,5 +1,5 @@
 //! What each statement opens where it stands: a block that is not abstract what is in it, a blockinherit what is in its
-//! target. A block costs a look at each statement directly in it, a blockinherit the search for its target.
+//! target. A block costs a look at each statement directly in it.
 
 ghost use Rattle.std.specs.Prelude.{◌≡◌, ◌<◌, IfOk, Some, length};
 ghost use Rattle.std.specs.List.{list_any};
@@ -8,11 +8,11 @@ ghost use Rattle.cil_syntax.specs.Written.{is_abstraction};
 ghost use Rattle.cil_blocks.specs.Contents.{is_inheriting};
 ghost use Rattle.cil_blocks.specs.Entries.{AreOpened, AreParts, SaysOpened, first_number, opened_block, opened_of, parts_at, statement_at};
 ghost use Rattle.cil_blocks.specs.Laws.{HasOneTarget};
-ghost use Rattle.cil_blocks.specs.Named.{AreBlocks};
+ghost use Rattle.cil_blocks.specs.Named.{AreAllTargets};
 
-use crate::names::is_block;
+use crate::names::{is_block, is_inheriting};
 use crate::parts::Parts;
-use crate::targets::targets_at;
+use crate::targets::Targets;
 use crate::walker::parts_at;
 use cil_modset::NoMemory;
 use cil_syntax::{Keyword, Statement};
@@ -23,48 +23,40 @@ pub fn opened_of(
     alloc: Global,
     statements: &[Statement],
     parts: &Parts,
-    blocks: &[usize],
+    targets: &Targets,
 ) -> Result<Vec<Option<usize>>, NoMemory>
     requires nested { IsNested statements.now }
     requires parts { AreParts (program_of statements.now) parts.now }
-    requires listed { AreBlocks (program_of statements.now) blocks.now }
+    requires targets { AreAllTargets (program_of statements.now) targets.now }
     ensures { IfOk result (λ opened. HasOneTarget (program_of statements.now) → AreOpened (program_of statements.now) opened.items) }
 {
     let mut opened = Vec::new(alloc);
     for number in 0..statements.len() {
-        opened.push(opened_at(alloc, statements, parts, blocks, number)?)?;
+        opened.push(opened_at(statements, parts, targets, number))?;
     }
     Ok(opened)
 }
 
 fn opened_at(
-    alloc: Global,
     statements: &[Statement],
     parts: &Parts,
-    blocks: &[usize],
+    targets: &Targets,
     number: usize,
-) -> Result<Option<usize>, NoMemory>
+) -> Option<usize>
     requires nested { IsNested statements.now }
     requires parts { AreParts (program_of statements.now) parts.now }
-    requires listed { AreBlocks (program_of statements.now) blocks.now }
+    requires targets { AreAllTargets (program_of statements.now) targets.now }
     requires within { number < length statements.now }
-    ensures { IfOk result (λ o. HasOneTarget (program_of statements.now) → SaysOpened (program_of statements.now) (Some o) (opened_of (program_of statements.now) (statement_at (program_of statements.now) number))) }
+    ensures { HasOneTarget (program_of statements.now) → SaysOpened (program_of statements.now) (Some result) (opened_of (program_of statements.now) (statement_at (program_of statements.now) number)) }
 {
     let keyword = statements[number].keyword;
     if is_block(keyword) {
-        return Ok(opened_block(statements, parts, number));
+        return opened_block(statements, parts, number);
     }
     if is_inheriting(keyword) {
-        let targets = targets_at(alloc, statements, blocks, number)?;
-        return Ok(first_number(targets));
+        return first_number(targets.at(number));
     }
-    Ok(None)
-}
-
-fn is_inheriting(keyword: Keyword) -> bool
-    ensures { result ≡ is_inheriting keyword }
-{
-    matches!(keyword, Keyword::BlockInherit)
+    None
 }
 
 /// The first of some numbers.

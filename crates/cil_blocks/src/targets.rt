@@ -7,9 +7,9 @@ ghost use Rattle.cil_syntax.specs.Program.{IsNested, program_of};
 ghost use Rattle.cil_syntax.specs.Scopes.{names_backwards, scope_at};
 ghost use Rattle.cil_blocks.specs.Contents.{is_block};
 ghost use Rattle.cil_blocks.specs.Entries.{statement_at};
-ghost use Rattle.cil_blocks.specs.Named.{AreBlocks, AreFirstNamed, AreOfName, AreTargets, IsAsked, IsBlockAt, asked_space, block_in, names_cmp, space_in};
+ghost use Rattle.cil_blocks.specs.Named.{AreAllTargets, AreBlocks, AreFirstNamed, AreOfName, AreTargets, IsAsked, IsBlockAt, asked_space, block_in, names_cmp, space_in};
 
-use crate::names::{block_above, compare_path, compare_spaces, is_block};
+use crate::names::{block_above, compare_path, compare_spaces, is_block, is_inheriting};
 use cil_modset::NoMemory;
 use cil_syntax::{Excerpt, Keyword, Statement, parted, path_of, word_and_terms};
 use std::alloc::Global;
@@ -99,6 +99,48 @@ pub fn targets_at<'b>(
     let asking = asked_by(alloc, front.word.bytes.as_slice())?;
     let from = asked_from(statements, number, asking.global);
     Ok(first_named(statements, blocks, asking.names.as_slice(), from))
+}
+
+/// For each statement, by its number, the blocks that it names, if it is a blockinherit.
+#[derive(Debug, Drop)]
+pub struct Targets<'b> {
+    lists: Vec<&'b [usize]>,
+}
+
+impl<'b> Targets<'b> {
+    ghost use Rattle.std.specs.Prelude.{◌≡◌};
+    ghost use Rattle.cil_blocks.specs.Named.{targets_in};
+
+    /// The numbers of the blocks that the statement of a number names; none where it is no blockinherit.
+    pub fn at(&self, number: usize) -> &'b [usize]
+        ensures { result.now ≡ targets_in self.now number }
+    {
+        match self.lists.get(number) {
+            None => &[],
+            Some(list) => *list,
+        }
+    }
+}
+
+/// The targets of all blockinherits of a program. A search by halving for each of them and each block round it is the cost.
+pub fn targets_of<'b>(
+    alloc: Global,
+    statements: &[Statement],
+    blocks: &'b [usize],
+) -> Result<Targets<'b>, NoMemory>
+    requires nested { IsNested statements.now }
+    requires listed { AreBlocks (program_of statements.now) blocks.now }
+    ensures { IfOk result (AreAllTargets (program_of statements.now)) }
+{
+    let mut lists = Vec::new(alloc);
+    for (number, statement) in statements.iter().enumerate() {
+        if is_inheriting(statement.keyword) {
+            lists.push(targets_at(alloc, statements, blocks, number)?)?;
+        } else {
+            lists.push(&[])?;
+        }
+    }
+    Ok(Targets { lists })
 }
 
 /// The block in whose namespace a word of a statement is looked up first; none for the global one.
