@@ -1,3 +1,4 @@
+pub mod AllTargets
 pub mod Begun
 pub mod ContentLemmas
 pub mod Cycles

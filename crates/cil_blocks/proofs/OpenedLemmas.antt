@@ -8,14 +8,15 @@ use Rattle.cil_syntax.specs.declared.kind.Keyword.{Keyword}
 use Rattle.cil_syntax.specs.declared.kind.Keyword.TheVariants as keywords
 use Rattle.cil_syntax.specs.Written.{Written, is_abstraction}
 use Rattle.cil_blocks.specs.declared.parts.Parts.{Parts}
+use Rattle.cil_blocks.specs.declared.targets.Targets.{Targets}
 use Rattle.cil_blocks.specs.Contents.{Target, is_abstract, is_at, is_block, is_inheriting}
 use Rattle.cil_blocks.specs.Entries.{AreOpened, AreParts, SaysOpened, first_number, nothing, opened_as, opened_block, opened_of, parts_at, statement_at}
 use Rattle.cil_blocks.specs.Laws.{HasOneTarget}
-use Rattle.cil_blocks.specs.Named.{AreTargets}
+use Rattle.cil_blocks.specs.Named.{AreAllTargets, AreTargetsOf, targets_in}
 use Rattle.cil_blocks.specs.Opens.{parts, target_of}
+use Rattle.cil_blocks.proofs.AllTargets.{targets_of_one}
 use Rattle.cil_blocks.proofs.ListLemmas.{in_range, none_some, not_there, some_same}
 use Rattle.cil_blocks.proofs.NameLemmas.{get_none}
-use Rattle.cil_blocks.proofs.OneStanding.{first_of_three}
 use Rattle.cil_blocks.proofs.StandingWalk.{is_the_target, target_is}
 
 -- ---- marks
@@ -80,26 +81,26 @@ module _ (ws : List Written) where
 
   -- ---- by the targets
 
-  within_by : (k : ℕ) (o : Option Written) → slice_get ws k ≡ o → is_block (statement_at ws k).statement.keyword ≡ true → k < length ws
-  within_by k (Some w) e b = in_range ws k w e
-  within_by k None e b =
-      absurd (let f : false ≡ true = sym (ap (λ (w : Written). is_block w.statement.keyword) (get_none ws k nothing e)) ∙ b in cc)
-
   no_target_by : (w : Written) (o : Option Written) → target_of ws w ≡ o → ((b : Written) → Target ws w b → ⊥) → o ≡ None
   no_target_by w None e none = refl
   no_target_by w (Some b) e none = absurd (none b (target_is ws w b e))
 
-  target_says : (one : HasOneTarget ws) (n : ℕ) (found : List ℕ) → AreTargets ws n found → SaysOpened ws (Some (first_number found)) (target_of ws (statement_at ws n))
-  target_says one n [] t = no_target_by (statement_at ws n) (target_of ws (statement_at ws n)) refl (λ b x. contains_none b ((t b).0 x))
-  target_says one n (k ∷ ks) t =
-      let is = (t (statement_at ws k)).1 (contains_here (statement_at ws k) (map (statement_at ws) ks)) in
-      (within_by k (slice_get ws k) refl (first_of_three _ _ _ is.named), is_the_target ws one (statement_at ws n) (statement_at ws k) is)
+  target_says : (one : HasOneTarget ws) (n : ℕ) (found : List ℕ) → is_inheriting (statement_at ws n).statement.keyword ≡ true → AreTargetsOf ws n found
+      → SaysOpened ws (Some (first_number found)) (target_of ws (statement_at ws n))
+  target_says one n [] i t =
+      no_target_by (statement_at ws n) (target_of ws (statement_at ws n)) refl (λ b x. let k = t.all b i x in contains_none k.0 k.1)
+  target_says one n (k ∷ ks) i t =
+      let is = t.named k (contains_here k ks) in
+      (is.0, is_the_target ws one (statement_at ws n) (statement_at ws k) is.1)
 
-  pub says_target : (one : HasOneTarget ws) (n : ℕ) (k : Keyword) (found : List ℕ) (o : Option ℕ) → (statement_at ws n).statement.keyword ≡ k → is_inheriting k ≡ true
-      → AreTargets ws n found → o ≡ first_number found → SaysOpened ws (Some o) (opened_of ws (statement_at ws n))
-  says_target one n k found o e i t f =
-      subst (SaysOpened ws (Some o)) (inheriting_opened (statement_at ws n).statement.keyword (statement_at ws n) (ap is_inheriting e ∙ i))
-      (subst (λ x. SaysOpened ws (Some x) (target_of ws (statement_at ws n))) (sym f) (target_says one n found t))
+  pub says_target : (one : HasOneTarget ws) (n : ℕ) (k : Keyword) (ts : Targets) (found : List ℕ) (o : Option ℕ) → (statement_at ws n).statement.keyword ≡ k
+      → is_inheriting k ≡ true → n < length ws → AreAllTargets ws ts → found ≡ targets_in ts n → o ≡ first_number found
+      → SaysOpened ws (Some o) (opened_of ws (statement_at ws n))
+  says_target one n k ts found o e i h t is f =
+      let inherits : is_inheriting (statement_at ws n).statement.keyword ≡ true = ap is_inheriting e ∙ i in
+      subst (SaysOpened ws (Some o)) (inheriting_opened (statement_at ws n).statement.keyword (statement_at ws n) inherits)
+      (subst (λ x. SaysOpened ws (Some x) (target_of ws (statement_at ws n))) (sym (f ∙ ap first_number is))
+      (target_says one n (targets_in ts n) inherits (targets_of_one ws ts n h t)))
 
   -- ---- all statements
 

@@ -1,14 +1,16 @@
 -- The statements at the top and those directly in each, as they are gathered.
-use Rattle.std.proofs.Common.{◌≡◌, ℕ, ◌+◌, ◌<◌, ◌≤◌, ◌==◌, Bool, true, false, if◌then◌else◌, List, [], ◌∷◌, ◌++◌, length, map, take, refl, sym, ◌∙◌, ap, arith}
-use Rattle.std.specs.Prelude.{Option, Some, None, filter, slice_get}
+use Rattle.std.proofs.Common.{◌≡◌, ℕ, ◌+◌, ◌<◌, ◌≤◌, ◌==◌, Bool, true, false, if◌then◌else◌, List, [], ◌∷◌, ◌++◌, length, map, take, refl, sym, ◌∙◌, ap, subst, inl, inr, arith}
+use Rattle.std.specs.Prelude.{Contains, Option, Some, None, filter, slice_get}
 use Rattle.std.proofs.lemmas.List.{take_more, take_all, map-append}
+use Rattle.std.proofs.lemmas.List.Elements.{Contains-append_cases}
+use Rattle.cil_sexpr.specs.Lists.{contains_cases, contains_none}
 use Rattle.cil_syntax.specs.declared.program.Statement.{Statement}
 use Rattle.cil_syntax.specs.declared.term.Spot.{Spot}
 use Rattle.cil_syntax.specs.Program.{IsNested, program_of}
 use Rattle.cil_syntax.specs.Written.{Context, Written, at_top, written_cmp, written_total}
 use Rattle.cil_blocks.specs.declared.parts.Parts.{Parts}
 use Rattle.cil_blocks.specs.Contents.{is_at, same_spot}
-use Rattle.cil_blocks.specs.Entries.{AreParts, IsWithin, nothing, parts_at, put_at, put_top, statement_at}
+use Rattle.cil_blocks.specs.Entries.{AreBelow, AreParts, IsWithin, nothing, numbers_in, parts_at, put_at, put_top, statement_at}
 use Rattle.cil_blocks.specs.Opens.{is_on_top, on_top_by}
 use Rattle.cil_blocks.proofs.ListLemmas.{get_so, in_range, is_there, tied_places}
 use Rattle.cil_blocks.proofs.ProgramLemmas.{program_length, stands_on_top, stands_under, tied, written_at}
@@ -26,21 +28,60 @@ filter_two p (x ∷ xs) ys = filter_step p x xs ys (p x) (filter_two p xs ys)
 pub record ArePartsUpTo (ws : List Written) (i : ℕ) (ps : Parts) : Type 0 where
   pub tops : map (statement_at ws) ps.tops.items ≡ filter is_on_top (take i ws)
   pub inside : (k : ℕ) → k < length ws → map (statement_at ws) (parts_at ps k) ≡ filter (λ w. is_at (statement_at ws k).statement.at w.context.under) (take i ws)
+  pub are_numbers : (k : ℕ) → AreBelow i (parts_at ps k)
+  pub top_numbers : AreBelow i ps.tops.items
   pub counted : length ps.inside.items ≡ i
+
+-- ---- numbers below another
+
+none_below : (i : ℕ) (ks : List ℕ) → ks ≡ [] → AreBelow i ks
+none_below i ks e k c = absurd (contains_none k (subst (λ xs. Contains xs k) e c))
+
+-- what is put behind numbers below i is i itself
+abbrev IsOnly : ℕ → List ℕ → Type 0
+IsOnly i more = (k : ℕ) → Contains more k → k ≡ i
+
+more_below : (i : ℕ) (old new more : List ℕ) → AreBelow i old → new ≡ old ++ more → IsOnly i more → AreBelow (i + 1) new
+more_below i old new more h e is k c =
+    elim (Contains-append_cases old more k (subst (λ xs. Contains xs k) e c)) [
+      | inl d ↦ let b = h k d in omega (arith, b)
+      | inr d ↦ let s = is k d in omega (arith, s)
+    ]
+
+only_itself : (i : ℕ) → IsOnly i (i ∷ [])
+only_itself i k c = elim (contains_cases k i [] c) [ inl e ↦ sym e | inr d ↦ absurd (contains_none k d) ]
+
+only_top : (under : Option ℕ) (i : ℕ) → IsOnly i (put_top under i)
+only_top None i = only_itself i
+only_top (Some u) i = λ k c. absurd (contains_none k c)
+
+only_by : (b : Bool) (i : ℕ) → IsOnly i (if b then i ∷ [] else [])
+only_by true i = only_itself i
+only_by false i = λ k c. absurd (contains_none k c)
+
+only_at : (under : Option ℕ) (i k : ℕ) → IsOnly i (put_at under i k)
+only_at None i k = λ n c. absurd (contains_none n c)
+only_at (Some u) i k = only_by (u == k) i
 
 module _ (ws : List Written) where
   pub no_parts : (ps : Parts) → ps.tops.items ≡ [] → ps.inside.items ≡ [] → ArePartsUpTo ws 0 ps
   no_parts ps t i = record {
     tops = ap (map (statement_at ws)) t;
-    inside = λ k h. ap (λ xs. map (statement_at ws) (Rattle.cil_blocks.specs.Entries.numbers_in (slice_get xs k))) i;
+    inside = λ k h. ap (λ xs. map (statement_at ws) (numbers_in (slice_get xs k))) i;
+    are_numbers = λ k. none_below 0 (parts_at ps k) (ap (λ xs. numbers_in (slice_get xs k)) i);
+    top_numbers = none_below 0 ps.tops.items t;
     counted = ap length i;
   }
 
-  pub all_parts : (i : ℕ) (ps : Parts) → length ws ≤ i → ArePartsUpTo ws i ps → AreParts ws ps
-  all_parts i ps over so = record {
-    tops = so.tops ∙ ap (filter is_on_top) (take_all i ws over);
-    inside = λ k h. so.inside k h ∙ ap (filter (λ w. is_at (statement_at ws k).statement.at w.context.under)) (take_all i ws over);
-  }
+  pub all_parts : (i : ℕ) (ps : Parts) → i ≡ length ws → ArePartsUpTo ws i ps → AreParts ws ps
+  all_parts i ps e so =
+      let over : length ws ≤ i = omega (arith, e) in
+      record {
+        tops = so.tops ∙ ap (filter is_on_top) (take_all i ws over);
+        inside = λ k h. so.inside k h ∙ ap (filter (λ w. is_at (statement_at ws k).statement.at w.context.under)) (take_all i ws over);
+        are_numbers = λ k m c. let h = so.are_numbers k m c in omega (arith, h, e);
+        top_numbers = λ m c. let h = so.top_numbers m c in omega (arith, h, e);
+      }
 
   -- ---- one more
 
@@ -128,6 +169,8 @@ module _ (ss : List Statement) (nested : IsNested ss) where
         tops = more_by ws is_on_top i old.tops.items new.tops.items (put_top s.under i) inside so.tops t (top_so s.under i s e refl);
         inside = λ k r. more_by ws (λ w. is_at (statement_at ws k).statement.at w.context.under) i (parts_at old k) (parts_at new k) (put_at s.under i k) inside (so.inside k r) (p k)
             (put_so s.under i s e refl k r);
+        are_numbers = λ k. more_below i (parts_at old k) (parts_at new k) (put_at s.under i k) (so.are_numbers k) (p k) (only_at s.under i k);
+        top_numbers = more_below i old.tops.items new.tops.items (put_top s.under i) so.top_numbers t (only_top s.under i);
         counted = omega (arith, l, c);
       }
 

@@ -1,5 +1,5 @@
 -- What the search for a word's blocks finds are the targets of its statement.
-use Rattle.std.proofs.Common.{◌≡◌, ◌⊎◌, ℕ, Bool, true, false, ◌&&◌, ◌||◌, if◌then◌else◌, List, [], ◌∷◌, ◌++◌, map, refl, sym, ◌∙◌, ap, subst, inl, inr, append-nil}
+use Rattle.std.proofs.Common.{◌≡◌, ◌⊎◌, ℕ, Bool, true, false, ◌&&◌, ◌||◌, if◌then◌else◌, List, [], ◌∷◌, ◌++◌, length, map, refl, sym, ◌∙◌, ap, subst, inl, inr, append-nil}
 use Rattle.std.specs.Prelude.{Contains, Option, Some, None, find}
 use Rattle.std.specs.Cmp.Lexicographic.{same_text}
 use Rattle.std.specs.List.{list_any}
@@ -11,7 +11,7 @@ use Rattle.cil_syntax.specs.Spelling.{same_bytes}
 use Rattle.cil_syntax.specs.Terms.{Leaf, Name, Form, Terms, nil, cons}
 use Rattle.cil_syntax.specs.Written.{Written}
 use Rattle.cil_blocks.specs.Contents.{block_space, first_word, has_block, is_block, is_block_named, name_of}
-use Rattle.cil_blocks.specs.Entries.{nothing, statement_at}
+use Rattle.cil_blocks.specs.Entries.{AreBelow, nothing, statement_at}
 use Rattle.cil_blocks.specs.Named.{AreBlocks, AreFirstNamed, AreOfName, AreTargets, HasNoneNamed, IsAsked, asked_space, space_in}
 use Rattle.cil_blocks.proofs.ListLemmas.{contains_mapped, from_mapped, get_at, get_contains, get_so, is_there, none_some, some_same}
 use Rattle.cil_blocks.proofs.NameLemmas.{block_space_in}
@@ -203,3 +203,12 @@ module _ (ws : List Written) (blocks : List ℕ) (are_blocks : AreBlocks ws bloc
   the_targets n word global names found space e a s f =
       by_space n word found e
       (space_found (statement_at ws n).context.space word global names found a (subst (λ m. AreFirstNamed ws blocks names (scope_at m) found) s f))
+
+  -- and they are among the blocks
+  first_among : (names : List (List ℕ)) (scope : List Namespace) (found : List ℕ) → AreFirstNamed ws blocks names scope found → (k : ℕ) → Contains found k → Contains blocks k
+  first_among names [] found e k c = absurd (contains_none k (subst (λ xs. Contains xs k) e c))
+  first_among names (n ∷ scope) found (inl h) k c = ((h.1 k).0 c).0
+  first_among names (n ∷ scope) found (inr h) k c = first_among names scope found h.1 k c
+
+  pub first_below : (names : List (List ℕ)) (scope : List Namespace) (found : List ℕ) → AreFirstNamed ws blocks names scope found → AreBelow (length ws) found
+  first_below names scope found f k c = ((are_blocks.members k).0 (first_among names scope found f k c)).0

@@ -77,6 +77,13 @@ borrowed (Some numbers) = numbers.now
 abbrev pub targets_in : Targets → ℕ → List ℕ
 targets_in ts i = borrowed (slice_get ts.lists.items i)
 
+-- the targets of the statement of a number, if it is a blockinherit
+pub record AreTargetsOf (ws : List Written) (i : ℕ) (found : List ℕ) : Type 0 where
+  pub inheriting : (k : ℕ) → Contains found k → is_inheriting (statement_at ws i).statement.keyword ≡ true
+  pub named : (k : ℕ) → Contains found k → (k < length ws) × Target ws (statement_at ws i) (statement_at ws k)
+  pub all : (b : Written) → is_inheriting (statement_at ws i).statement.keyword ≡ true → Target ws (statement_at ws i) b
+      → (k : ℕ) × Contains found k × (statement_at ws k ≡ b)
+
 -- for each blockinherit the blocks that it names, and none for another statement
 pub record AreAllTargets (ws : List Written) (ts : Targets) : Type 0 where
   pub inheriting : (i k : ℕ) → Contains (targets_in ts i) k → (i < length ws) × (is_inheriting (statement_at ws i).statement.keyword ≡ true)

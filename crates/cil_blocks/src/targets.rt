@@ -6,8 +6,8 @@ ghost use Rattle.std.specs.List.Sorted.{IsPermutation, IsSortedByKey};
 ghost use Rattle.cil_syntax.specs.Program.{IsNested, program_of};
 ghost use Rattle.cil_syntax.specs.Scopes.{names_backwards, scope_at};
 ghost use Rattle.cil_blocks.specs.Contents.{is_block};
-ghost use Rattle.cil_blocks.specs.Entries.{statement_at};
-ghost use Rattle.cil_blocks.specs.Named.{AreAllTargets, AreBlocks, AreFirstNamed, AreOfName, AreTargets, IsAsked, IsBlockAt, asked_space, block_in, names_cmp, space_in};
+ghost use Rattle.cil_blocks.specs.Entries.{AreBelow, statement_at};
+ghost use Rattle.cil_blocks.specs.Named.{AreAllTargets, AreBlocks, AreFirstNamed, AreOfName, AreTargets, AreTargetsOf, IsAsked, IsBlockAt, asked_space, block_in, names_cmp, space_in};
 
 use crate::names::{block_above, compare_path, compare_spaces, is_block, is_inheriting};
 use cil_modset::NoMemory;
@@ -88,7 +88,8 @@ pub fn targets_at<'b>(
 ) -> Result<&'b [usize], NoMemory>
     requires nested { IsNested statements.now }
     requires listed { AreBlocks (program_of statements.now) blocks.now }
-    ensures { IfOk result (λ found. AreTargets (program_of statements.now) number found.now) }
+    ensures named { IfOk result (λ found. AreTargets (program_of statements.now) number found.now) }
+    ensures numbers { IfOk result (λ found. AreBelow (length (program_of statements.now)) found.now) }
 {
     let Some(statement) = statements.get(number) else {
         return Ok(&[]);
@@ -133,14 +134,29 @@ pub fn targets_of<'b>(
     ensures { IfOk result (AreAllTargets (program_of statements.now)) }
 {
     let mut lists = Vec::new(alloc);
-    for (number, statement) in statements.iter().enumerate() {
-        if is_inheriting(statement.keyword) {
-            lists.push(targets_at(alloc, statements, blocks, number)?)?;
-        } else {
-            lists.push(&[])?;
-        }
+    for number in 0..statements.len() {
+        lists.push(targets_kept(alloc, statements, blocks, number)?)?;
     }
     Ok(Targets { lists })
+}
+
+/// The targets of a statement, if it is a blockinherit.
+fn targets_kept<'b>(
+    alloc: Global,
+    statements: &[Statement],
+    blocks: &'b [usize],
+    number: usize,
+) -> Result<&'b [usize], NoMemory>
+    requires nested { IsNested statements.now }
+    requires listed { AreBlocks (program_of statements.now) blocks.now }
+    requires within { number < length statements.now }
+    ensures { IfOk result (λ found. AreTargetsOf (program_of statements.now) number found.now) }
+{
+    if !is_inheriting(statements[number].keyword) {
+        return Ok(&[]);
+    }
+    let found = targets_at(alloc, statements, blocks, number)?;
+    Ok(found)
 }
 
 /// The block in whose namespace a word of a statement is looked up first; none for the global one.

@@ -1,10 +1,11 @@
-use Rattle.std.proofs.Common.{sym, ◌∙◌, ap}
+use Rattle.std.proofs.Common.{arith, sym, ◌∙◌, ap}
 use Rattle.cil_syntax.specs.declared.program.Statement.{Statement}
 use Rattle.cil_syntax.specs.Program.{program_of}
 use Rattle.cil_blocks.specs.Contents.{is_block, is_inheriting}
 use Rattle.cil_blocks.proofs.ListLemmas.{there_as}
 use Rattle.cil_blocks.proofs.NameLemmas.{keyword_some}
 use Rattle.cil_blocks.proofs.OpenedLemmas.{says_block, says_nothing, says_target}
+use Rattle.cil_blocks.proofs.ProgramLemmas.{program_length}
 use Rattle.cil_blocks.proofs.opened.opened_at.Goals as goal
 
 pub returns-then-is_block : goal.returns-then-is_block
@@ -16,10 +17,13 @@ returns-then-is_block c =
 
 pub returns-then-is_inheriting : goal.returns-then-is_inheriting
 returns-then-is_inheriting c =
-    λ one. says_target (program_of c.args.statements.now) one c.args.number c.index-statements-number.result.keyword c.in_ok-targets.targets.now c.first_number.result
+    let l = program_length c.args.statements.now in
+    let h = c.requires.within in
+    λ one. says_target (program_of c.args.statements.now) one c.args.number c.index-statements-number.result.keyword c.args.targets.now c.at.result.now c.first_number.result
     (keyword_some c.args.statements.now c.requires.nested c.args.number c.index-statements-number.result
     (there_as c.args.statements.now c.args.number c.index-statements-number.result c.requires.within c.index-statements-number.is))
-    (ap (λ (s : Statement). is_inheriting s.keyword) c.index-statements-number.is ∙ sym c.is_inheriting.ensures ∙ c.if-is_inheriting.true) c.in_ok-targets.ensures c.first_number.ensures
+    (ap (λ (s : Statement). is_inheriting s.keyword) c.index-statements-number.is ∙ sym c.is_inheriting.ensures ∙ c.if-is_inheriting.true)
+    (omega (arith, l, h)) c.requires.targets c.at.ensures c.first_number.ensures
 
 pub returns : goal.returns
 returns c =

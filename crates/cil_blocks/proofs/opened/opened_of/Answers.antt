@@ -6,8 +6,8 @@ use Rattle.cil_blocks.proofs.opened.opened_of.Goals as goal
 
 pub loop-number-preserved : goal.loop-number-preserved
 loop-number-preserved c =
-    λ one. one_more (program_of c.args.statements.now) c.loop-number.number c.loop-number.opened.items c.push.new.self.items c.in_ok-opened_at.field-0
-    (c.loop-number.invariant one) c.in_ok-push.ensures.items (c.in_ok-opened_at.ensures one)
+    λ one. one_more (program_of c.args.statements.now) c.loop-number.number c.loop-number.opened.items c.push.new.self.items c.opened_at.result
+    (c.loop-number.invariant one) c.in_ok-push.ensures.items (c.opened_at.ensures one)
 
 pub returns : goal.returns
 returns c =

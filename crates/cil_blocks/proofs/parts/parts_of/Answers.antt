@@ -16,4 +16,5 @@ pub returns : goal.returns
 returns c =
     let l = program_length c.args.statements.now in
     let h = c.loop-i-test.false in
-    all_parts (program_of c.args.statements.now) c.loop-i.i c.loop-i.parts (omega (arith, l, h)) c.loop-i.invariant
+    let e = c.loop-i.auto.i-end in
+    all_parts (program_of c.args.statements.now) c.loop-i.i c.loop-i.parts (omega (arith, l, h, e)) c.loop-i.invariant
