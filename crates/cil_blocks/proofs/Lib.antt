@@ -17,6 +17,7 @@ pub mod Paths
 pub mod ProgramLemmas
 pub mod Queue
 pub mod Rising
+pub mod ReportLemmas
 pub mod RunLemmas
 pub mod ScopeLemmas
 pub mod Searches

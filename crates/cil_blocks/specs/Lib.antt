@@ -5,3 +5,4 @@ pub mod Laws
 pub mod Leads
 pub mod Named
 pub mod Opens
+pub mod Reports

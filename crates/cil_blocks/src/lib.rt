@@ -12,6 +12,7 @@ pub mod laws;
 pub mod names;
 pub mod opened;
 pub mod parts;
+pub mod reports;
 pub mod targets;
 pub mod walker;
 

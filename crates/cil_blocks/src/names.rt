@@ -33,7 +33,7 @@ pub fn is_inheriting(keyword: Keyword) -> bool
 }
 
 /// The name that a statement declares; an empty one where it declares none.
-fn name_at<'a>(statements: &[Statement<'a>], number: usize) -> &'a [u8]
+pub fn name_at<'a>(statements: &[Statement<'a>], number: usize) -> &'a [u8]
     ensures { IsNested statements.now → result.now ≡ name_of (statement_at (program_of statements.now) number) }
 {
     match statements.get(number) {

@@ -38,6 +38,7 @@ pub use fault::{Bytes, Fault, push_fault};
 pub use fault_list::FaultList;
 pub use forms::{ClassParts, DeclaredName, RuleParts, WordAndTerms, WordPair, word_and_terms};
 pub use kind::{Dialect, Keyword, Kind, Nesting, Sign};
+pub use place::joined;
 pub use path::{Path, PathParts, parted, path_of};
 pub use printed::render;
 pub use program::{Program, Statement, written, written_in};

@@ -33,7 +33,7 @@ pub(crate) struct Place<'a> {
 }
 
 /// Names, joined by dots. Errors: out of memory.
-pub(crate) fn joined(alloc: Global, names: &[&[u8]]) -> Result<Vec<u8>, NoMemory>
+pub fn joined(alloc: Global, names: &[&[u8]]) -> Result<Vec<u8>, NoMemory>
     ensures { IfOk result (λ bytes. bytes.items ≡ join_with_byte 46 (names_of names.now)) }
 {
     let mut bytes = Vec::new(alloc);

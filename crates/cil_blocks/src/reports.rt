@@ -1,0 +1,163 @@
+//! What is wrong with blocks, told at the statements that have it: in the namespace in which each is written, at the name that
+//! it declares or at the word of its target.
+
+ghost use Rattle.std.specs.Prelude.{◌≡◌, ◌++◌, ◌∷◌, [], IfOk, OnOk, ℕ};
+ghost use Rattle.std.specs.List.{flat_map};
+ghost use Rattle.cil_syntax.specs.Around.{names_of};
+ghost use Rattle.cil_syntax.specs.Program.{IsNested, program_of};
+ghost use Rattle.cil_syntax.specs.Reported.{fault_at};
+ghost use Rattle.cil_syntax.specs.Written.{qualified};
+ghost use Rattle.cil_blocks.specs.Entries.{statement_at};
+ghost use Rattle.cil_blocks.specs.Reports.{name_fault, target_fault};
+
+use crate::names::{block_above, name_at};
+use cil_modset::NoMemory;
+use cil_syntax::{Bytes, Fault, FaultCode, Spot, Statement, joined, word_and_terms};
+use std::alloc::Global;
+
+/// What is wrong at a place: why, where, and at which word.
+#[derive(Clone, Copy)]
+pub struct Cause<'a> {
+    pub code: FaultCode,
+    pub at: Spot,
+    pub word: &'a [u8],
+}
+
+/// The names of the blocks round a statement, the innermost first.
+fn names_round<'a>(
+    alloc: Global,
+    statements: &[Statement<'a>],
+    number: usize,
+) -> Result<Vec<&'a [u8]>, NoMemory>
+    requires { IsNested statements.now }
+    ensures { IfOk result (λ names. names_of names.items ≡ (statement_at (program_of statements.now) number).context.space) }
+{
+    let mut names = Vec::new(alloc);
+    let mut at = block_above(statements, number);
+    while let Some(block) = at {
+        names.push(name_at(statements, block))?;
+        at = block_above(statements, block);
+    }
+    Ok(names)
+}
+
+/// The namespace in which a statement is written: the names of the blocks round it, the outermost first, joined by dots.
+fn spelled_space(
+    alloc: Global,
+    statements: &[Statement],
+    number: usize,
+) -> Result<Bytes, NoMemory>
+    requires { IsNested statements.now }
+    ensures { IfOk result (λ space. space ≡ qualified (statement_at (program_of statements.now) number).context.space) }
+{
+    let mut names = names_round(alloc, statements, number)?;
+    names.reverse();
+    Ok(Bytes::from_vec(joined(alloc, names.as_slice())?))
+}
+
+/// Tells a cause at a statement.
+fn report(
+    alloc: Global,
+    faults: &mut Vec<Fault>,
+    statements: &[Statement],
+    number: usize,
+    cause: &Cause,
+) -> Result<(), NoMemory>
+    requires { IsNested statements.now }
+    ensures { OnOk result (faults.new.items ≡ faults.old.items ++ fault_at cause.now.code cause.now.at (statement_at (program_of statements.now) number).context.space cause.now.word.now ∷ []) }
+{
+    let space = spelled_space(alloc, statements, number)?;
+    let word = Bytes::copy_of(alloc, cause.word)?;
+    faults.push(Fault {
+        code: cause.code,
+        module: cause.at.module,
+        at: cause.at.at,
+        space,
+        word,
+    })?;
+    Ok(())
+}
+
+/// Tells that the name of a statement is given twice, at the name.
+fn report_name(
+    alloc: Global,
+    faults: &mut Vec<Fault>,
+    statements: &[Statement],
+    number: usize,
+) -> Result<(), NoMemory>
+    requires { IsNested statements.now }
+    ensures { OnOk result (faults.new.items ≡ faults.old.items ++ name_fault (statement_at (program_of statements.now) number)) }
+{
+    let Some(statement) = statements.get(number) else {
+        return Ok(());
+    };
+    let Some(name) = statement.declared_name() else {
+        return Ok(());
+    };
+    let cause = Cause {
+        code: FaultCode::NameTwice,
+        at: name.at,
+        word: name.bytes,
+    };
+    report(alloc, faults, statements, number, &cause)?;
+    Ok(())
+}
+
+/// Tells what is wrong with the target of a statement, at its word.
+fn report_target(
+    alloc: Global,
+    faults: &mut Vec<Fault>,
+    statements: &[Statement],
+    number: usize,
+    code: FaultCode,
+) -> Result<(), NoMemory>
+    requires { IsNested statements.now }
+    ensures { OnOk result (faults.new.items ≡ faults.old.items ++ target_fault code (statement_at (program_of statements.now) number)) }
+{
+    let Some(statement) = statements.get(number) else {
+        return Ok(());
+    };
+    let Some(front) = word_and_terms(statement.args.as_slice(), statement.at.module) else {
+        return Ok(());
+    };
+    let cause = Cause {
+        code,
+        at: front.word.at,
+        word: front.word.bytes.as_slice(),
+    };
+    report(alloc, faults, statements, number, &cause)?;
+    Ok(())
+}
+
+/// The faults of statements whose names are given twice.
+pub fn name_faults(
+    alloc: Global,
+    statements: &[Statement],
+    numbers: &[usize],
+) -> Result<Vec<Fault>, NoMemory>
+    requires { IsNested statements.now }
+    ensures { IfOk result (λ faults. faults.items ≡ flat_map (λ i. name_fault (statement_at (program_of statements.now) i)) numbers.now) }
+{
+    let mut faults = Vec::new(alloc);
+    for number in numbers {
+        report_name(alloc, &mut faults, statements, *number)?;
+    }
+    Ok(faults)
+}
+
+/// The faults of statements with whose targets something is wrong.
+pub fn target_faults(
+    alloc: Global,
+    statements: &[Statement],
+    numbers: &[usize],
+    code: FaultCode,
+) -> Result<Vec<Fault>, NoMemory>
+    requires { IsNested statements.now }
+    ensures { IfOk result (λ faults. faults.items ≡ flat_map (λ i. target_fault code (statement_at (program_of statements.now) i)) numbers.now) }
+{
+    let mut faults = Vec::new(alloc);
+    for number in numbers {
+        report_target(alloc, &mut faults, statements, *number, code)?;
+    }
+    Ok(faults)
+}
