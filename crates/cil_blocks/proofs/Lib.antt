@@ -1,7 +1,7 @@
 pub mod AllTargets
 pub mod Begun
 pub mod ContentLemmas
-pub mod Cycles
+pub mod CycleLemmas
 pub mod EntryLemmas
 pub mod FaultExamples
 pub mod FirstNamed

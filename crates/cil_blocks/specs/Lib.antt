@@ -3,6 +3,8 @@ pub mod Entries
 pub mod InheritFaults
 pub mod Laws
 pub mod Leads
+pub mod Marks
 pub mod Named
 pub mod Opens
 pub mod Reports
+pub mod Steps

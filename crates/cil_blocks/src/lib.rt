@@ -7,8 +7,10 @@
 #![tactic(auto)]
 
 pub mod contents;
+pub mod cycles;
 mod entry;
 pub mod laws;
+mod levels;
 pub mod names;
 pub mod opened;
 pub mod parts;

@@ -1,4 +1,4 @@
-use Rattle.cil_blocks.proofs.Cycles.{is_cycle}
+use Rattle.cil_blocks.proofs.CycleLemmas.{is_cycle}
 use Rattle.cil_blocks.proofs.laws.cycle.Goals as goal
 
 pub returns : goal.returns

@@ -1,4 +1,4 @@
-use Rattle.cil_blocks.proofs.Cycles.{is_shared}
+use Rattle.cil_blocks.proofs.CycleLemmas.{is_shared}
 use Rattle.cil_blocks.proofs.laws.shared.Goals as goal
 
 pub returns : goal.returns
