@@ -2,12 +2,14 @@ pub mod AllTargets
 pub mod Begun
 pub mod ContentLemmas
 pub mod CycleLemmas
+pub mod CycleSearch
 pub mod EntryLemmas
 pub mod FaultExamples
 pub mod FirstNamed
 pub mod Given
 pub mod LawLemmas
 pub mod ListLemmas
+pub mod MarkLemmas
 pub mod NameLemmas
 pub mod OneStanding
 pub mod OneTarget
@@ -22,5 +24,6 @@ pub mod RunLemmas
 pub mod ScopeLemmas
 pub mod Searches
 pub mod StandingWalk
+pub mod StepLemmas
 pub mod TargetLemmas
 pub mod TargetsSo

@@ -40,9 +40,10 @@ pub fn cycles_of(
     let levels = levels_of(alloc, statements, &steps)?;
     let mut found = Vec::new(alloc);
     for (number, statement) in statements.iter().enumerate() {
-        if steps.lead_back(alloc, levels.as_slice(), number, statement.under)? {
-            found.push(number)?;
+        if !steps.lead_back(alloc, levels.as_slice(), number, statement.under)? {
+            continue;
         }
+        found.push(number)?;
     }
     Ok(found)
 }
