@@ -19,7 +19,7 @@ use Rattle.cil_blocks.specs.Leads.{IsOnCycle, Leads, here, nested}
 use Rattle.cil_blocks.specs.Named.{AreAllTargets, targets_in}
 use Rattle.cil_blocks.specs.Opens.{parts}
 use Rattle.cil_blocks.specs.Steps.{AreOnCycles, IsStep, LeadBack, NeverRise, Reaches, StayBelow, itself, level_at, onward}
-use Rattle.cil_blocks.proofs.ListLemmas.{contains_mapped, from_mapped, get_contains, get_so, is_there, some_same, tied_places}
+use Rattle.cil_blocks.proofs.ListLemmas.{contains_mapped, from_mapped, get_contains, get_so, in_range, is_there, some_same, tied_places}
 use Rattle.cil_blocks.proofs.MarkLemmas.{only_one}
 use Rattle.cil_blocks.proofs.OneStanding.{first_of_three}
 use Rattle.cil_blocks.proofs.ProgramLemmas.{in_number, stands_on_top, stands_under, tied, written_at}
@@ -195,7 +195,7 @@ module _ (ss : List Statement) (ordered : IsNested ss) (ps : Parts) (ts : Target
       let same : n.number ≡ k.0 = one_number n.number k.0 n.below (omega (arith, early, h)) (n.same ∙ sym (get_so ws k.0 cycle.round nothing k.3)) in
       (k.0, sym u ∙ k.1, (b.0, b.1, subst (Reaches ps ts b.0) same n.reached))
 
-  pub on_cycle_back : (i : ℕ) (s : Statement) → slice_get ss i ≡ Some s → i < length ws → LiesOnCycle ws i → LeadBack ps ts (targets_in ts i) s.under
+  on_cycle_back : (i : ℕ) (s : Statement) → slice_get ss i ≡ Some s → i < length ws → LiesOnCycle ws i → LeadBack ps ts (targets_in ts i) s.under
   on_cycle_back i s e h c = let b = back_by s.under i s e refl h c in subst (LeadBack ps ts (targets_in ts i)) (sym b.1) b.2
 
   on_cycle_by : (under : Option ℕ) (i : ℕ) (s : Statement) → slice_get ss i ≡ Some s → s.under ≡ under → i < length ws → LeadBack ps ts (targets_in ts i) under → LiesOnCycle ws i
@@ -215,12 +215,13 @@ module _ (ss : List Statement) (ordered : IsNested ss) (ps : Parts) (ts : Target
         },
       )
 
-  pub back_on_cycle : (i : ℕ) (s : Statement) → slice_get ss i ≡ Some s → i < length ws → LeadBack ps ts (targets_in ts i) s.under → LiesOnCycle ws i
-  back_on_cycle i s e h b = on_cycle_by s.under i s e refl h b
-
   -- what is found of a statement is right
-  pub is_on_cycle : (i n : ℕ) (s : Statement) (b : Bool) → slice_get ss i ≡ Some s → i < length ws → b ≡ true → IsTrue b ↔ LeadBack ps ts (targets_in ts i) s.under → LiesOnCycle ws i
-  is_on_cycle i n s b e h t so = back_on_cycle i s e h (so.0 t)
+  is_number : (i : ℕ) (s : Statement) → slice_get ss i ≡ Some s → i < length ws
+  is_number i s e = in_range ws i _ (written_at ss ordered i s e)
 
-  pub on_no_cycle : (i n : ℕ) (s : Statement) (b : Bool) → slice_get ss i ≡ Some s → i < length ws → b ≡ false → IsTrue b ↔ LeadBack ps ts (targets_in ts i) s.under → LiesOnCycle ws i → ⊥
-  on_no_cycle i n s b e h f so c = let t : false ≡ true = sym f ∙ so.1 (on_cycle_back i s e h c) in absurd (cc)
+  pub is_on_cycle : (i : ℕ) (s : Statement) (b : Bool) → slice_get ss i ≡ Some s → b ≡ true → IsTrue b ↔ LeadBack ps ts (targets_in ts i) s.under → LiesOnCycle ws i
+  is_on_cycle i s b e t so = on_cycle_by s.under i s e refl (is_number i s e) (so.0 t)
+
+  pub on_no_cycle : (i : ℕ) (s : Statement) (b : Bool) → slice_get ss i ≡ Some s → b ≡ false → IsTrue b ↔ LeadBack ps ts (targets_in ts i) s.under
+      → LiesOnCycle ws i → ⊥
+  on_no_cycle i s b e f so c = let t : false ≡ true = sym f ∙ so.1 (on_cycle_back i s e (is_number i s e) c) in absurd (cc)
