@@ -1,7 +1,6 @@
 -- The search for a statement along the steps: a vector that is its own queue, with marks.
-use Rattle.std.proofs.Common.{◌≡◌, ◌⊎◌, ℕ, zero, suc, ◌+◌, ◌<◌, ◌≤◌, Bool, true, false, List, [], ◌∷◌, ◌++◌, length, refl, sym, ◌∙◌, ap, subst, inl, inr, arith}
+use Rattle.std.proofs.Common.{◌≡◌, ◌⊎◌, ℕ, zero, suc, ◌+◌, ◌<◌, ◌≤◌, Bool, true, false, List, [], ◌∷◌, ◌++◌, length, sym, ◌∙◌, ap, subst, inl, inr, arith}
 use Rattle.std.specs.Prelude.{◌↔◌, Contains, IsTrue, Some, None, slice_get}
-use Rattle.std.proofs.lemmas.List.{length-append}
 use Rattle.std.proofs.lemmas.List.Elements.{Contains-append_left, Contains-append_right, Contains-append_cases}
 use Rattle.cil_blocks.specs.declared.cycles.Reached.{Reached}
 use Rattle.cil_blocks.specs.declared.parts.Parts.{Parts}
@@ -10,7 +9,7 @@ use Rattle.cil_blocks.specs.Entries.{AreBelow, parts_at}
 use Rattle.cil_blocks.specs.Marks.{AreAdded, AreMarked, IsBegun, is_marked}
 use Rattle.cil_blocks.specs.Named.{targets_in}
 use Rattle.cil_blocks.specs.Steps.{IsStep, Reaches, StayBelow, itself, onward}
-use Rattle.cil_blocks.proofs.ListLemmas.{get_at, get_contains, get_in_front, in_range, none_some, some_at, some_same}
+use Rattle.cil_blocks.proofs.ListLemmas.{get_at, get_contains, get_in_front, in_range, none_some, some_same}
 use Rattle.cil_blocks.proofs.MarkLemmas.{both_added, few_reached}
 
 -- a refusal of what cannot be

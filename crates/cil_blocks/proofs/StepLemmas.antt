@@ -1,28 +1,26 @@
 -- Steps between numbers are those of the definition between statements.
-use Rattle.std.proofs.Common.{◌≡◌, ◌⊎◌, ℕ, ◌+◌, ◌<◌, ◌≤◌, Bool, true, false, ◌&&◌, List, [], ◌∷◌, ◌++◌, length, get_or, map, take, refl, sym, ◌∙◌, ap, subst, inl, inr, arith}
+use Rattle.std.proofs.Common.{◌≡◌, ◌⊎◌, ℕ, ◌+◌, ◌<◌, ◌≤◌, Bool, true, false, List, [], ◌∷◌, ◌++◌, length, take, refl, sym, ◌∙◌, ap, subst, inl, inr, arith}
 use Rattle.std.specs.Prelude.{◌↔◌, Contains, IsTrue, Option, Some, None, slice_get}
 use Rattle.std.proofs.lemmas.List.{take_all}
 use Rattle.std.proofs.lemmas.List.Elements.{Contains-append_left, Contains-append_right, Contains-append_cases}
-use Rattle.cil_sexpr.specs.Lists.{contains_here, contains_cases, contains_none}
+use Rattle.cil_sexpr.specs.Lists.{contains_here, contains_none}
 use Rattle.cil_syntax.specs.declared.kind.Keyword.{Keyword}
 use Rattle.cil_syntax.specs.declared.kind.Keyword.TheVariants as keywords
 use Rattle.cil_syntax.specs.declared.program.Statement.{Statement}
-use Rattle.cil_syntax.specs.declared.term.Spot.{Spot}
 use Rattle.cil_syntax.specs.Program.{IsNested, program_of}
 use Rattle.cil_syntax.specs.Written.{Context, Written, written_cmp, written_total}
 use Rattle.cil_blocks.specs.declared.parts.Parts.{Parts}
 use Rattle.cil_blocks.specs.declared.targets.Targets.{Targets}
 use Rattle.cil_blocks.specs.Contents.{IsIn, Target, is_block, is_inheriting}
-use Rattle.cil_blocks.specs.Entries.{AreBelow, AreParts, nothing, parts_at, statement_at}
+use Rattle.cil_blocks.specs.Entries.{AreParts, nothing, parts_at, statement_at}
 use Rattle.cil_blocks.specs.Leads as leads
 use Rattle.cil_blocks.specs.Leads.{IsOnCycle, Leads, here, nested}
 use Rattle.cil_blocks.specs.Named.{AreAllTargets, targets_in}
-use Rattle.cil_blocks.specs.Opens.{parts}
-use Rattle.cil_blocks.specs.Steps.{AreOnCycles, IsStep, LeadBack, NeverRise, Reaches, StayBelow, itself, level_at, onward}
-use Rattle.cil_blocks.proofs.ListLemmas.{contains_mapped, from_mapped, get_contains, get_so, in_range, is_there, some_same, tied_places}
+use Rattle.cil_blocks.specs.Steps.{AreOnCycles, LeadBack, NeverRise, Reaches, StayBelow, itself, level_at, onward}
+use Rattle.cil_blocks.proofs.ListLemmas.{contains_mapped, from_mapped, get_contains, get_so, in_range, is_there, tied_places}
 use Rattle.cil_blocks.proofs.MarkLemmas.{only_one}
 use Rattle.cil_blocks.proofs.OneStanding.{first_of_three}
-use Rattle.cil_blocks.proofs.ProgramLemmas.{in_number, stands_on_top, stands_under, tied, written_at}
+use Rattle.cil_blocks.proofs.ProgramLemmas.{in_number, stands_under, tied, written_at}
 use Rattle.cil_blocks.proofs.StandingWalk.{in_parts, parts_of}
 
 -- ---- levels
