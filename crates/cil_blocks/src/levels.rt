@@ -14,17 +14,17 @@ use std::alloc::Global;
 
 /// The steps between the statements of a program.
 #[derive(Clone, Copy)]
-pub struct Steps<'g, 'b> {
+pub(crate) struct Steps<'g, 'b> {
     /// How many statements there are.
-    pub count: usize,
+    pub(crate) count: usize,
     /// A statement leads to those directly in it.
-    pub parts: &'g Parts,
+    pub(crate) parts: &'g Parts,
     /// A blockinherit leads to its targets.
-    pub targets: &'g Targets<'b>,
+    pub(crate) targets: &'g Targets<'b>,
 }
 
 /// The level of a statement; the lowest where it has none.
-pub fn level_at(levels: &[usize], number: usize) -> usize
+pub(crate) fn level_at(levels: &[usize], number: usize) -> usize
     ensures { result ≡ level_at levels.now number }
 {
     match levels.get(number) {
@@ -35,7 +35,7 @@ pub fn level_at(levels: &[usize], number: usize) -> usize
 
 /// Levels that never rise along a step. Those that lie on no cycle, and lead to none, have a lower level than all that
 /// lead to them.
-pub fn levels_of(
+pub(crate) fn levels_of(
     alloc: Global,
     statements: &[Statement],
     steps: &Steps,
