@@ -16,12 +16,15 @@ use Rattle.cil_blocks.specs.Entries.{AreParts, nothing, parts_at, statement_at}
 use Rattle.cil_blocks.specs.Leads as leads
 use Rattle.cil_blocks.specs.Leads.{IsOnCycle, Leads, here, nested}
 use Rattle.cil_blocks.specs.Named.{AreAllTargets, targets_in}
-use Rattle.cil_blocks.specs.Steps.{AreOnCycles, LeadBack, NeverRise, Reaches, StayBelow, itself, level_at, onward}
+use Rattle.cil_blocks.specs.Steps.{AreOnCycles, IsStep, LeadBack, NeverRise, Reaches, StayBelow, itself, level_at, onward}
 use Rattle.cil_blocks.proofs.ListLemmas.{contains_mapped, from_mapped, get_contains, get_so, in_range, is_there, tied_places}
 use Rattle.cil_blocks.proofs.MarkLemmas.{only_one}
 use Rattle.cil_blocks.proofs.OneStanding.{first_of_three}
 use Rattle.cil_blocks.proofs.ProgramLemmas.{in_number, stands_under, tied, written_at}
 use Rattle.cil_blocks.proofs.StandingWalk.{in_parts, parts_of}
+
+or_last : (i n : ℕ) → i < n + 1 → (i < n) ⊎ (i ≡ n)
+or_last i n h = grind arith
 
 -- ---- levels
 
@@ -45,6 +48,20 @@ module _ (ps : Parts) (ts : Targets) (n : ℕ) where
       → LeadBack ps ts numbers (Some to) → ⊥
   none_leads numbers i to over none back = none back.0 (subst (λ xs. Contains xs back.0) (sym (take_all i numbers over)) back.1) back.2
 
+  -- one more statement, with its level, the statements in it and its targets
+  pub still_falls : (levels inside named : List ℕ) (level : ℕ) → level ≡ level_at levels n → inside ≡ parts_at ps n → named ≡ targets_in ts n
+      → ((k : ℕ) → Contains inside k → level_at levels k ≤ level) → ((k : ℕ) → Contains named k → level_at levels k ≤ level) → NeverRise ps ts n levels
+      → NeverRise ps ts (n + 1) levels
+  still_falls levels inside named level l p t f g never q k h s =
+      elim (or_last q n h) [
+        | inl below ↦ never q k below s
+        | inr same ↦ let last : level_at levels k ≤ level_at levels n = of_last k (subst (λ x. IsStep ps ts x k) same s) in
+            subst (λ x. level_at levels k ≤ level_at levels x) (sym same) last
+      ] where
+        of_last : (k : ℕ) → IsStep ps ts n k → level_at levels k ≤ level_at levels n
+        of_last k (inl c) = let h = f k (subst (λ xs. Contains xs k) (sym p) c) in omega (arith, h, l)
+        of_last k (inr c) = let h = g k (subst (λ xs. Contains xs k) (sym t) c) in omega (arith, h, l)
+
 block_inherits_not : (k : Keyword) → is_block k ≡ true → is_inheriting k ≡ false
 block_inherits_not keywords.Block e = refl
 block_inherits_not k e = absurd (let f : false ≡ true = e in cc)
@@ -56,9 +73,6 @@ LiesOnCycle ws i = (is_inheriting (statement_at ws i).statement.keyword ≡ true
 
 abbrev pub AreOnCyclesUpTo : List Written → ℕ → List ℕ → Type 0
 AreOnCyclesUpTo ws n found = (i : ℕ) → Contains found i ↔ ((i < n) × LiesOnCycle ws i)
-
-or_last : (i n : ℕ) → i < n + 1 → (i < n) ⊎ (i ≡ n)
-or_last i n h = grind arith
 
 module _ (ws : List Written) where
   pub no_cycles : (found : List ℕ) → found ≡ [] → AreOnCyclesUpTo ws 0 found
