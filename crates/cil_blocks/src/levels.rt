@@ -79,11 +79,7 @@ fn are_within(levels: &[usize], numbers: &[usize], limit: usize) -> bool
 
 /// A guess: statements are taken away, one by one, once they lead to none that is left. The later one is taken away the
 /// higher is its level, and those that are never taken away are above all.
-fn guessed(
-    alloc: Global,
-    statements: &[Statement],
-    steps: &Steps,
-) -> Result<Vec<usize>, NoMemory> {
+fn guessed(alloc: Global, statements: &[Statement], steps: &Steps) -> Result<Vec<usize>, NoMemory> {
     let naming = naming_of(alloc, steps)?;
     let mut left = left_at_first(alloc, steps)?;
     let mut levels = vec![in alloc; usize::MAX; steps.count]?;
@@ -130,11 +126,7 @@ fn no_lists(alloc: Global, count: usize) -> Result<Vec<Vec<usize>>, NoMemory> {
 }
 
 /// Puts a blockinherit in the list of each of its targets.
-fn name_all(
-    naming: &mut [Vec<usize>],
-    targets: &[usize],
-    number: usize,
-) -> Result<(), NoMemory> {
+fn name_all(naming: &mut [Vec<usize>], targets: &[usize], number: usize) -> Result<(), NoMemory> {
     for target in targets {
         if *target < naming.len() {
             naming[*target].push(number)?;
@@ -166,7 +158,8 @@ fn left_at_first(alloc: Global, steps: &Steps) -> Result<Left, NoMemory> {
     };
     for number in 0..steps.count {
         let inside = parts_at(steps.parts, number).len();
-        left.begin(number, inside.saturating_add(steps.targets.at(number).len()))?;
+        let named = steps.targets.at(number).len();
+        left.begin(number, inside.saturating_add(named))?;
     }
     Ok(left)
 }
