@@ -1,9 +1,9 @@
 //! The blockinherits that lie on a cycle: whose target leads back to the body in which they stand. A target leads to what
 //! is in it and to the targets of the blockinherits in it, and so on.
 //!
-//! Without a cycle the cost is linear in the number of statements and targets. A blockinherit that may be on a cycle costs
-//! one search for each target more, and each search at most a step for each statement and target: those are the ones whose
-//! target is on a cycle or leads to one, and the work is quadratic where there are many of them.
+//! Without a cycle the cost is linear in the number of statements and targets. A blockinherit that lies on a cycle, or on a
+//! way from one cycle to another, costs one search more for each target, and a search at most a step for each statement and
+//! target. So the work is quadratic where many of them do.
 
 ghost use Rattle.std.specs.Prelude.{◌≡◌, ◌<◌, ◌↔◌, Contains, IfOk, IsTrue, OnOk, length};
 ghost use Rattle.cil_syntax.specs.Program.{IsNested, program_of};

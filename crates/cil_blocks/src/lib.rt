@@ -9,6 +9,7 @@
 pub mod contents;
 pub mod cycles;
 mod entry;
+mod guess;
 pub mod laws;
 mod levels;
 pub mod names;

@@ -1,0 +1,202 @@
+//! A guess at levels. Statements are taken away one by one: from below those that lead to none that is left, and from above
+//! those to which none that is left leads. What stays from both sides is on a cycle, or on a way from one cycle to another.
+//! Each costs one pass. Nothing is promised of a guess; `levels.rt` tries it.
+
+use crate::levels::Steps;
+use crate::walker::parts_at;
+use cil_modset::NoMemory;
+use cil_syntax::Statement;
+use std::alloc::Global;
+
+/// A level for each statement. Those taken away from below have the lowest, those taken away from above the highest.
+pub(crate) fn guess(
+    alloc: Global,
+    statements: &[Statement],
+    steps: &Steps,
+) -> Result<Vec<usize>, NoMemory> {
+    let naming = naming_of(alloc, steps)?;
+    let mut levels = vec![in alloc; steps.count; steps.count]?;
+    guess_above(
+        alloc,
+        statements,
+        steps,
+        naming.as_slice(),
+        levels.as_mut_slice(),
+    )?;
+    guess_below(
+        alloc,
+        statements,
+        steps,
+        naming.as_slice(),
+        levels.as_mut_slice(),
+    )?;
+    Ok(levels)
+}
+
+/// Takes statements away from above: the sooner, the higher is the level.
+fn guess_above(
+    alloc: Global,
+    statements: &[Statement],
+    steps: &Steps,
+    naming: &[Vec<usize>],
+    levels: &mut [usize],
+) -> Result<(), NoMemory> {
+    let mut left = steps_to_each(alloc, statements, steps, naming)?;
+    for at in 0..steps.count {
+        let Some(number) = left.free.get(at).copied() else {
+            return Ok(());
+        };
+        set_level(levels, number, usize::MAX - at);
+        left.leave_all(parts_at(steps.parts, number))?;
+        left.leave_all(steps.targets.at(number))?;
+    }
+    Ok(())
+}
+
+/// Takes statements away from below: the later, the higher is the level.
+fn guess_below(
+    alloc: Global,
+    statements: &[Statement],
+    steps: &Steps,
+    naming: &[Vec<usize>],
+    levels: &mut [usize],
+) -> Result<(), NoMemory> {
+    let mut left = steps_from_each(alloc, steps)?;
+    for at in 0..steps.count {
+        let Some(number) = left.free.get(at).copied() else {
+            return Ok(());
+        };
+        set_level(levels, number, at);
+        left.leave(under_at(statements, number))?;
+        left.leave_all(naming_at(naming, number))?;
+    }
+    Ok(())
+}
+
+fn set_level(levels: &mut [usize], number: usize, level: usize) {
+    if number < levels.len() {
+        levels[number] = level;
+    }
+}
+
+/// The number of the statement round one.
+fn under_at(statements: &[Statement], number: usize) -> Option<usize> {
+    match statements.get(number) {
+        None => None,
+        Some(statement) => statement.under,
+    }
+}
+
+/// For each statement the blockinherits that name it.
+fn naming_of(alloc: Global, steps: &Steps) -> Result<Vec<Vec<usize>>, NoMemory> {
+    let mut naming = no_lists(alloc, steps.count)?;
+    for number in 0..steps.count {
+        name_all(naming.as_mut_slice(), steps.targets.at(number), number)?;
+    }
+    Ok(naming)
+}
+
+fn no_lists(alloc: Global, count: usize) -> Result<Vec<Vec<usize>>, NoMemory> {
+    let mut lists = Vec::new(alloc);
+    for _ in 0..count {
+        lists.push(Vec::new(alloc))?;
+    }
+    Ok(lists)
+}
+
+/// Puts a blockinherit in the list of each of its targets.
+fn name_all(naming: &mut [Vec<usize>], targets: &[usize], number: usize) -> Result<(), NoMemory> {
+    for target in targets {
+        if *target < naming.len() {
+            naming[*target].push(number)?;
+        }
+    }
+    Ok(())
+}
+
+fn naming_at(naming: &[Vec<usize>], number: usize) -> &[usize] {
+    match naming.get(number) {
+        None => &[],
+        Some(numbers) => numbers.as_slice(),
+    }
+}
+
+/// What is left while statements are taken away.
+#[derive(Drop)]
+struct Left {
+    /// For each statement how many steps it has from, or to, those that are left.
+    steps: Vec<usize>,
+    /// Those that have no such step, in the order in which they lost the last one.
+    free: Vec<usize>,
+}
+
+/// All are left, and the steps to each are counted.
+fn steps_to_each(
+    alloc: Global,
+    statements: &[Statement],
+    steps: &Steps,
+    naming: &[Vec<usize>],
+) -> Result<Left, NoMemory> {
+    let mut left = no_steps(alloc);
+    for number in 0..steps.count {
+        let round = usize::from(under_at(statements, number).is_some());
+        let named = naming_at(naming, number).len();
+        left.begin(number, named.saturating_add(round))?;
+    }
+    Ok(left)
+}
+
+/// All are left, and the steps from each are counted.
+fn steps_from_each(alloc: Global, steps: &Steps) -> Result<Left, NoMemory> {
+    let mut left = no_steps(alloc);
+    for number in 0..steps.count {
+        let inside = parts_at(steps.parts, number).len();
+        let named = steps.targets.at(number).len();
+        left.begin(number, inside.saturating_add(named))?;
+    }
+    Ok(left)
+}
+
+fn no_steps(alloc: Global) -> Left {
+    Left {
+        steps: Vec::new(alloc),
+        free: Vec::new(alloc),
+    }
+}
+
+impl Left {
+    /// Adds a statement that has so many steps.
+    fn begin(&mut self, number: usize, count: usize) -> Result<(), NoMemory> {
+        self.steps.push(count)?;
+        if count > 0 {
+            return Ok(());
+        }
+        self.free.push(number)?;
+        Ok(())
+    }
+
+    /// Takes one step from each of some statements.
+    fn leave_all(&mut self, numbers: &[usize]) -> Result<(), NoMemory> {
+        for number in numbers {
+            self.leave(Some(*number))?;
+        }
+        Ok(())
+    }
+
+    /// Takes one step from a statement.
+    fn leave(&mut self, number: Option<usize>) -> Result<(), NoMemory> {
+        let Some(number) = number else {
+            return Ok(());
+        };
+        if number >= self.steps.len() {
+            return Ok(());
+        }
+        let count = self.steps[number].saturating_sub(1);
+        self.steps[number] = count;
+        if count > 0 {
+            return Ok(());
+        }
+        self.free.push(number)?;
+        Ok(())
+    }
+}
