@@ -1,5 +1,5 @@
 -- The search for a statement along the steps: a vector that is its own queue, with marks.
-use Rattle.std.proofs.Common.{◌≡◌, ◌⊎◌, ℕ, zero, suc, ◌+◌, ◌<◌, ◌≤◌, Bool, true, false, List, [], ◌∷◌, ◌++◌, length, sym, ◌∙◌, ap, subst, inl, inr, arith}
+use Rattle.std.proofs.Common.{◌≡◌, ℕ, zero, suc, ◌+◌, ◌<◌, ◌≤◌, Bool, true, false, List, [], ◌∷◌, ◌++◌, length, sym, ◌∙◌, ap, subst, inl, inr, arith}
 use Rattle.std.specs.Prelude.{◌↔◌, Contains, IsTrue, Some, None, slice_get}
 use Rattle.std.proofs.lemmas.List.Elements.{Contains-append_left, Contains-append_right, Contains-append_cases}
 use Rattle.cil_blocks.specs.declared.cycles.Reached.{Reached}
@@ -11,13 +11,11 @@ use Rattle.cil_blocks.specs.Named.{targets_in}
 use Rattle.cil_blocks.specs.Steps.{IsStep, Reaches, StayBelow, itself, onward}
 use Rattle.cil_blocks.proofs.ListLemmas.{get_at, get_contains, get_in_front, in_range, none_some, some_same}
 use Rattle.cil_blocks.proofs.MarkLemmas.{both_added, few_reached}
+use Rattle.cil_blocks.proofs.StepLemmas.{or_last}
 
 -- a refusal of what cannot be
 pub says_no : (P : Type 0) → (P → ⊥) → IsTrue false ↔ P
 says_no P none = ((λ t. absurd (let f : false ≡ true = t in cc)), (λ p. absurd (none p)))
-
-before_or_at : (j at : ℕ) → j < at + 1 → (j < at) ⊎ (j ≡ at)
-before_or_at j at h = grind arith
 
 pub record IsSearched (ps : Parts) (ts : Targets) (count from at : ℕ) (r : Reached) : Type 0 where
   pub are_marked : AreMarked r
@@ -58,7 +56,7 @@ module _ (ps : Parts) (ts : Targets) (count from : ℕ) where
           | inl e ↦ so.led k e
           | inr e ↦ onward q k (so.led q (get_contains a.numbers.items at q here)) (Contains-append_cases (parts_at ps q) (targets_in ts q) k (all.only k e))
         ];
-        done = λ j x k h e s. elim (before_or_at j at h) [
+        done = λ j x k h e s. elim (or_last j at h) [
           | inl before ↦ kept k (so.done j x k before (front j (omega (arith, before, range)) ∙ e) s)
           | inr same ↦ let one : x ≡ q = some_same x q (sym e ∙ sym (front j (omega (arith, same, range))) ∙ ap (slice_get a.numbers.items) same ∙ here) in
               all.all k (step_within q k (subst (λ y. IsStep ps ts y k) one s))

@@ -3,7 +3,7 @@ use Rattle.std.proofs.Common.{◌≡◌, ◌⊎◌, ℕ, ◌+◌, ◌<◌, ◌�
 use Rattle.std.specs.Prelude.{◌↔◌, Contains, IsTrue, Option, Some, None, slice_get}
 use Rattle.std.proofs.lemmas.List.{take_all}
 use Rattle.std.proofs.lemmas.List.Elements.{Contains-append_left, Contains-append_right, Contains-append_cases}
-use Rattle.cil_sexpr.specs.Lists.{contains_here, contains_none}
+use Rattle.cil_sexpr.specs.Lists.{contains_here}
 use Rattle.cil_syntax.specs.declared.kind.Keyword.{Keyword}
 use Rattle.cil_syntax.specs.declared.kind.Keyword.TheVariants as keywords
 use Rattle.cil_syntax.specs.declared.program.Statement.{Statement}
@@ -23,18 +23,18 @@ use Rattle.cil_blocks.proofs.OneStanding.{first_of_three}
 use Rattle.cil_blocks.proofs.ProgramLemmas.{in_number, stands_under, tied, written_at}
 use Rattle.cil_blocks.proofs.StandingWalk.{in_parts, parts_of}
 
-or_last : (i n : ℕ) → i < n + 1 → (i < n) ⊎ (i ≡ n)
+pub or_last : (i n : ℕ) → i < n + 1 → (i < n) ⊎ (i ≡ n)
 or_last i n h = grind arith
 
 -- ---- levels
 
 module _ (ps : Parts) (ts : Targets) (n : ℕ) where
-  pub reach_below : (a k : ℕ) → StayBelow ps ts n → a < n → Reaches ps ts a k → k < n
+  reach_below : (a k : ℕ) → StayBelow ps ts n → a < n → Reaches ps ts a k → k < n
   reach_below a k stay h itself = h
   reach_below a k stay h (onward q k' r s) = stay q k s
 
   -- the level does not rise along any number of steps
-  pub falls : (levels : List ℕ) (a k : ℕ) → StayBelow ps ts n → NeverRise ps ts n levels → a < n → Reaches ps ts a k → level_at levels k ≤ level_at levels a
+  falls : (levels : List ℕ) (a k : ℕ) → StayBelow ps ts n → NeverRise ps ts n levels → a < n → Reaches ps ts a k → level_at levels k ≤ level_at levels a
   falls levels a k stay never h itself = omega arith
   falls levels a k stay never h (onward q k' r s) =
       let one = never q k (reach_below a q stay h r) s in
@@ -75,12 +75,6 @@ abbrev pub AreOnCyclesUpTo : List Written → ℕ → List ℕ → Type 0
 AreOnCyclesUpTo ws n found = (i : ℕ) → Contains found i ↔ ((i < n) × LiesOnCycle ws i)
 
 module _ (ws : List Written) where
-  pub no_cycles : (found : List ℕ) → found ≡ [] → AreOnCyclesUpTo ws 0 found
-  no_cycles found e i = (
-    (λ c. absurd (contains_none i (subst (λ xs. Contains xs i) e c))),
-    (λ h. let below = h.0 in absurd (omega (arith, below))),
-  )
-
   pub one_cycle : (n : ℕ) (old new : List ℕ) → LiesOnCycle ws n → AreOnCyclesUpTo ws n old → new ≡ old ++ n ∷ [] → AreOnCyclesUpTo ws (n + 1) new
   one_cycle n old new lies so e i = (
     (λ c. elim (Contains-append_cases old (n ∷ []) i (subst (λ xs. Contains xs i) e c)) [

@@ -2,8 +2,9 @@
 //!
 //! Start at `contents_of` in `contents.rt`. `specs/Contents.antt` says what stands where and through which blockinherits;
 //! `specs/InheritFaults.antt` what is wrong with blocks; `laws.rt` has laws of both. `walker.rt` opens what stands, step by
-//! step; `targets.rt` finds the blocks that blockinherits name. The faults are defined and not yet computed, so
-//! `contents_of` speaks of programs in which nothing is wrong. Macros are not unfolded here.
+//! step; `targets.rt` finds the blocks that blockinherits name, and `cycles.rt` the blockinherits that lie on a cycle. The
+//! faults are defined and not yet computed, so `contents_of` speaks of programs in which nothing is wrong. Macros are not
+//! unfolded here.
 #![tactic(auto)]
 
 pub mod contents;
