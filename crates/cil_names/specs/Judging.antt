@@ -25,7 +25,6 @@ pub record IsReady (j : Judge) : Type 0 where
   pub ordered : AreOrdered j.filling.spaces.now j.filling.names.now
   pub within : All (λ k. k ≤ length j.filling.spaces.now) j.filling.scope.now
   pub space : j.space ≤ length j.filling.spaces.now
-  pub none : j.nobody.now ≡ []
   pub rising : (v : Vec Bytes) → Contains j.permissions.now v → IsStrictlySortedBy text_cmp v.items
 
 abbrev pub enabled_in : Judge → OptSet

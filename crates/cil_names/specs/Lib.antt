@@ -9,6 +9,7 @@ pub mod Judging
 pub mod Laws
 pub mod Meanings
 pub mod Numbers
+pub mod PermissionWords
 pub mod Permissions
 pub mod Placed
 pub mod Resolves

@@ -28,6 +28,6 @@ impl Entry<'_> {
     pub fn is_declared_as(&self, kind: Kind, enabled: &OptSet) -> bool
         ensures { result ≡ is_of (is_in enabled.now) kind self.now }
     {
-        self.kind == kind && is_declared(enabled, self)
+        self.kind == kind && is_declared(enabled.as_slice(), self)
     }
 }

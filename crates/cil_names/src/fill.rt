@@ -17,7 +17,6 @@ ghost use Rattle.cil_names.specs.Unresolved.{ArePermissions, faults_in};
 use crate::instance::Instance;
 use crate::judge::Judge;
 use crate::meaning::Meaning;
-use crate::opt_set::OptSet;
 use crate::table::{Filling, Lookup, Words};
 use cil_modset::NoMemory;
 use cil_syntax::{Bytes, Failure, Fault, FaultList};
@@ -40,11 +39,9 @@ pub fn words_of(
     ensures { Answers (IsTableOf (map (meanings lookup.now.spaces.now lookup.now.names.now (is_in lookup.now.enabled.now)) instances.now))
         (ResolveFault (is_in lookup.now.enabled.now) (items_of lookup.now.spaces.now instances.now)) result }
 {
-    let nobody = OptSet::of(Vec::new(alloc));
     let check = Check {
         alloc,
         lookup: *lookup,
-        nobody: &nobody,
         permissions,
     };
     let mut starts = Vec::new(alloc);
@@ -66,7 +63,6 @@ pub fn words_of(
 struct Check<'s, 'a> {
     alloc: Global,
     lookup: Lookup<'s, 'a>,
-    nobody: &'s OptSet,
     permissions: &'s [Vec<Bytes>],
 }
 
@@ -79,7 +75,6 @@ impl<'s, 'a> Check<'s, 'a> {
         instance: &Instance,
     ) -> Result<(), NoMemory>
         requires ordered { AreOrdered self.now.lookup.spaces.now self.now.lookup.names.now }
-        requires none { self.now.nobody.now ≡ [] }
         requires rising { (v : Vector Text) → Contains self.now.permissions.now v → IsStrictlySortedBy text_cmp v.items }
         requires placed { IsPlaced self.now.lookup.spaces.now instance.now }
         ensures words { OnOk result (words.new.items ≡ words.old.items ++ meanings self.now.lookup.spaces.now self.now.lookup.names.now (is_in self.now.lookup.enabled.now) instance.now) }
@@ -103,7 +98,6 @@ impl<'s, 'a> Check<'s, 'a> {
         }
         let judge = Judge {
             filling,
-            nobody: self.nobody,
             permissions: self.permissions,
             space: instance.place.space,
             alloc: self.alloc,

@@ -15,16 +15,14 @@ ghost use Rattle.cil_names.specs.Entries.{items_of};
 ghost use Rattle.cil_names.specs.Item.{ScopedWord, all_words_in, words_in};
 ghost use Rattle.cil_names.specs.Judging.{IsReady, Knows, Named, Tells, enabled_in, meant_in, space_in, term_in_scope, terms_in_scope, word_in_scope};
 ghost use Rattle.cil_names.specs.Resolves.{Permission as APermission, Word as AWord, all_wanted_in, resolves, wanted_in, words_of_class};
-ghost use Rattle.cil_names.specs.Unresolved.{faults_unless_listed, listed_at as listed_for};
+ghost use Rattle.cil_names.specs.Unresolved.{faults_unless_listed};
 
-use crate::look::entry_in;
 use crate::meaning::Meaning;
-use crate::numbers::place_among;
-use crate::opt_set::OptSet;
+use crate::permission_word::{class_named, is_listed, permissions_at};
 use crate::spelled::spelled_space;
 use crate::table::Filling;
 use cil_modset::NoMemory;
-use cil_syntax::{Bytes, Fault, FaultCode, Sign, Spot, Term, Word, word_and_terms};
+use cil_syntax::{Bytes, Fault, FaultCode, Spot, Term, Word, word_and_terms};
 use std::alloc::Global;
 
 /// A check of the words of an instance, while their meanings are noted.
@@ -32,8 +30,6 @@ use std::alloc::Global;
 pub struct Judge<'s, 'a> {
     /// Where the words are looked up.
     pub filling: Filling<'s, 'a>,
-    /// The set of no optional: classes and their permissions are not in optionals.
-    pub nobody: &'s OptSet,
     /// For each entry that is a class, its permissions in byte order.
     pub permissions: &'s [Vec<Bytes>],
     /// The number of the namespace of the instance.
@@ -165,32 +161,19 @@ impl<'s, 'a> Judge<'s, 'a> {
         Ok(())
     }
 
-    /// The permissions of the class that a word names where no optional is enabled, in byte order.
+    /// The permissions of the class that a class word names, in byte order.
     fn listed(&self, class: &Word) -> &'s [Bytes]
         requires { IsReady self.now }
         ensures sorted { IsStrictlySortedBy text_cmp result.now }
         ensures listed { (is : List Instance) → Knows self.now is
             → (w : ScopedWord) → list_any (same_bytes w.bytes) result.now ≡ resolves (items_of self.now.filling.spaces.now is) (enabled_in self.now) (APermission (word_in_scope self.now class.now) w) }
     {
-        let found = self.filling.names.resolve(
-            self.filling.spaces,
-            class,
-            self.filling.scope,
-            self.nobody,
-        );
-        let Some(d) = found else {
+        let spaces = self.filling.spaces.as_slice();
+        let entries = self.filling.names.entries();
+        let Some(d) = class_named(spaces, entries, class, self.filling.scope) else {
             return &[];
         };
-        let entry = &self.filling.names.entries()[d];
-        let Some(c) = entry_in(
-            self.filling.names.entries(),
-            entry.space,
-            entry.name.as_slice(),
-            Sign::Classes,
-        ) else {
-            return &[];
-        };
-        listed_at(self.permissions, c)
+        permissions_at(entries, self.permissions, d)
     }
 
     /// Reports the words among some terms that are not listed.
@@ -234,24 +217,4 @@ impl<'s, 'a> Judge<'s, 'a> {
         }
         Ok(())
     }
-}
-
-/// The list of an entry.
-fn listed_at(permissions: &[Vec<Bytes>], entry: usize) -> &[Bytes]
-    requires { (v : Vector Text) → Contains permissions.now v → IsStrictlySortedBy text_cmp v.items }
-    ensures value { result.now ≡ listed_for permissions.now entry }
-    ensures sorted { IsStrictlySortedBy text_cmp result.now }
-{
-    match permissions.get(entry) {
-        Some(list) => list.as_slice(),
-        None => &[],
-    }
-}
-
-/// Whether a name is in a rising list of names.
-fn is_listed(names: &[Bytes], name: &[u8]) -> bool
-    requires { IsStrictlySortedBy text_cmp names.now }
-    ensures { result ≡ list_any (same_bytes name.now) names.now }
-{
-    place_among(names, name).is_some()
 }

@@ -22,6 +22,7 @@ mod names;
 mod numbers;
 mod opt_set;
 mod path;
+mod permission_word;
 mod permissions;
 mod row;
 mod run;

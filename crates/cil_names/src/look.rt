@@ -11,7 +11,7 @@ ghost use Rattle.cil_names.specs.Spaces.{AreSpaces, space_at};
 
 use crate::entry::Entry;
 use crate::kinds::{rank_of, rank_wanted, wants};
-use crate::opt_set::OptSet;
+use crate::opt_set::are_set;
 use crate::path::asked_scope;
 use crate::space::{Space, asked_in};
 use cil_modset::NoMemory;
@@ -105,7 +105,7 @@ fn push_listed(found: &mut Vec<usize>, named: Option<usize>) -> Result<(), NoMem
 pub fn resolve(
     spaces: &[Space],
     entries: &[Entry],
-    enabled: &OptSet,
+    enabled: &[bool],
     word: &Word,
     scope: &[usize],
 ) -> Option<usize>
@@ -127,7 +127,7 @@ pub fn resolve(
 
 /// Whether an entry is declared where these optionals are enabled. It costs a step for each statement that declares it,
 /// until one is enabled.
-pub fn is_declared(enabled: &OptSet, entry: &Entry) -> bool
+pub fn is_declared(enabled: &[bool], entry: &Entry) -> bool
     ensures { result ≡ is_declared_in (is_in enabled.now) entry.now }
 {
     if entry.always {
@@ -137,14 +137,14 @@ pub fn is_declared(enabled: &OptSet, entry: &Entry) -> bool
 }
 
 /// Whether one of these rounds is in the set.
-fn has_one(enabled: &OptSet, rounds: &[Vec<usize>]) -> bool
+fn has_one(enabled: &[bool], rounds: &[Vec<usize>]) -> bool
     ensures { result ≡ list_any (λ r. list_all (is_in enabled.now) r.items) rounds.now }
 {
-    rounds.iter().any(|round| enabled.has_all(round.as_slice()))
+    rounds.iter().any(|round| are_set(enabled, round.as_slice()))
 }
 
 /// Whether the entry of this number is declared where these optionals are enabled.
-fn has_declared(enabled: &OptSet, entries: &[Entry], d: usize) -> bool
+fn has_declared(enabled: &[bool], entries: &[Entry], d: usize) -> bool
     ensures { result ≡ is_declared_at (is_in enabled.now) entries.now d }
 {
     match entries.get(d) {
@@ -154,7 +154,7 @@ fn has_declared(enabled: &OptSet, entries: &[Entry], d: usize) -> bool
 }
 
 /// The number, where its entry is declared where these optionals are enabled.
-fn where_declared(enabled: &OptSet, entries: &[Entry], named: Option<usize>) -> Option<usize>
+fn where_declared(enabled: &[bool], entries: &[Entry], named: Option<usize>) -> Option<usize>
     ensures { result ≡ find (is_declared_at (is_in enabled.now) entries.now) (listed named) }
 {
     let d = named?;

@@ -1,20 +1,28 @@
 //! The declared names of a policy, and what words name.
 
-ghost use Rattle.std.specs.Prelude.{◌≡◌, ◌↔◌, ◌≤◌, ◌<◌, ℕ, All, IfOk, IfSome, IsTrue, List, MatchOption, Some, find, length, slice_get};
+ghost use Rattle.std.specs.Prelude.{◌≡◌, ◌↔◌, ◌≤◌, ◌<◌, ℕ, All, Contains, IfOk, IfSome, IsTrue, List, MatchOption, Some, find, length, slice_get};
+ghost use Rattle.std.specs.Global.{Vec as Vector};
 ghost use Rattle.std.specs.List.Sorted.{IsStrictlySortedBy};
 ghost use Rattle.std.specs.Ordering.{on};
+ghost use Rattle.cil_sexpr.specs.Lists.{text_cmp};
+ghost use Rattle.cil_syntax.specs.declared.fault.Bytes.{Bytes as Text};
 ghost use Rattle.cil_names.specs.declared.instance.Instance.{Instance};
 ghost use Rattle.cil_names.specs.declared.entry.Entry.{Entry};
-ghost use Rattle.cil_names.specs.Entries.{AreEntries, AreOrdered, HasNoEntryIn, IsAnswer, IsEntryIn, candidates_of, is_declared_at, is_in, key_cmp, key_of, scoped};
+ghost use Rattle.cil_names.specs.Entries.{AreEntries, AreOrdered, HasNoEntryIn, IsAnswer, IsEntryIn, candidates_of, is_declared_at, is_in, items_of, key_cmp, key_of, listed, scoped};
+ghost use Rattle.cil_names.specs.Item.{OptSet as OptionalSet};
+ghost use Rattle.cil_names.specs.PermissionWords.{IsAnswerFor, wanted_candidates};
+ghost use Rattle.cil_names.specs.Resolves.{Permission};
 ghost use Rattle.cil_names.specs.Spaces.{space_at};
+ghost use Rattle.cil_names.specs.Unresolved.{ArePermissions};
 
 use crate::entry::Entry;
 use crate::kinds::rank_of;
 use crate::look;
 use crate::opt_set::OptSet;
+use crate::permission_word::class_with;
 use crate::space::Spaces;
 use cil_modset::NoMemory;
-use cil_syntax::{Sign, Word};
+use cil_syntax::{Bytes, Sign, Word};
 use std::alloc::Global;
 use std::marker::Model;
 
@@ -129,8 +137,41 @@ impl<'a> Names<'a> {
         look::resolve(
             spaces.as_slice(),
             self.entries.as_slice(),
-            enabled,
+            enabled.as_slice(),
             word,
+            scope,
+        )
+    }
+
+    /// The number of the class or class map that a permission word names, which is its one candidate: that of its class
+    /// word, if it has the permission. Classes do not hang on optionals, so this does not either. The permissions are
+    /// given in byte order, as a list for each entry. It costs what `resolve` costs for the class word, and two searches
+    /// by halving; it takes no memory.
+    pub fn resolve_permission(
+        &self,
+        spaces: &Spaces,
+        permissions: &[Vec<Bytes>],
+        class: &Word,
+        permission: &Word,
+        scope: &[usize],
+    ) -> Option<usize>
+        requires ordered { AreOrdered spaces.now self.now }
+        requires sorted { (v : Vector Text) → Contains permissions.now v → IsStrictlySortedBy text_cmp v.items }
+        requires within { All (λ k. k ≤ length spaces.now) scope.now }
+        ensures within { IfSome result (λ d. d < length self.now) }
+        // Where these are the declared names of some instances, and the permissions of their classes, it is what the
+        // permission could name and what it names.
+        ensures candidate { (is : List Instance) → AreEntries spaces.now is self.now → ArePermissions spaces.now self.now (items_of spaces.now is) permissions.now
+            → listed result ≡ wanted_candidates spaces.now self.now (items_of spaces.now is) (Permission (scoped spaces.now scope.now class.now) (scoped spaces.now scope.now permission.now)) }
+        ensures names { (is : List Instance) (s : OptionalSet) → AreEntries spaces.now is self.now → ArePermissions spaces.now self.now (items_of spaces.now is) permissions.now
+            → IsAnswerFor spaces.now is self.now s (Permission (scoped spaces.now scope.now class.now) (scoped spaces.now scope.now permission.now)) result }
+    {
+        class_with(
+            spaces.as_slice(),
+            self.entries.as_slice(),
+            permissions,
+            class,
+            permission,
             scope,
         )
     }

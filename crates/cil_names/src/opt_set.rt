@@ -28,20 +28,41 @@ impl OptSet {
         OptSet { flags }
     }
 
+    /// The flags.
+    pub fn as_slice(&self) -> &[bool]
+        ensures { result.now ≡ self.now }
+    {
+        self.flags.as_slice()
+    }
+
     /// Whether an optional is in the set.
     pub fn has(&self, optional: usize) -> bool
         ensures { result ≡ is_in self.now optional }
     {
-        match self.flags.get(optional) {
-            Some(flag) => *flag,
-            None => false,
-        }
+        is_set(self.flags.as_slice(), optional)
     }
 
     /// Whether all of these optionals are in the set.
     pub fn has_all(&self, round: &[usize]) -> bool
         ensures { result ≡ list_all (is_in self.now) round.now }
     {
-        round.iter().all(|optional| self.has(*optional))
+        are_set(self.flags.as_slice(), round)
     }
+}
+
+/// Whether the flag of an optional is true; a number without a flag has none.
+fn is_set(flags: &[bool], optional: usize) -> bool
+    ensures { result ≡ is_in flags.now optional }
+{
+    match flags.get(optional) {
+        Some(flag) => *flag,
+        None => false,
+    }
+}
+
+/// Whether the flags of all of these optionals are true.
+pub fn are_set(flags: &[bool], round: &[usize]) -> bool
+    ensures { result ≡ list_all (is_in flags.now) round.now }
+{
+    round.iter().all(|optional| is_set(flags, *optional))
 }

@@ -1,0 +1,107 @@
+//! Permission words: each names the class or class map of its class word, where that has the permission.
+
+ghost use Rattle.std.specs.Prelude.{◌≡◌, ◌≤◌, ◌<◌, [], All, Contains, IfSome, List, length, ℕ};
+ghost use Rattle.std.specs.Global.{Vec as Vector};
+ghost use Rattle.std.specs.List.{list_any};
+ghost use Rattle.std.specs.List.Sorted.{IsStrictlySortedBy};
+ghost use Rattle.std.specs.Ordering.{on};
+ghost use Rattle.cil_sexpr.specs.Lists.{text_cmp};
+ghost use Rattle.cil_syntax.specs.declared.fault.Bytes.{Bytes as Text};
+ghost use Rattle.cil_syntax.specs.Spelling.{same_bytes};
+ghost use Rattle.cil_names.specs.declared.instance.Instance.{Instance};
+ghost use Rattle.cil_names.specs.declared.space.Space.{Space as ASpace};
+ghost use Rattle.cil_names.specs.Entries.{AreEntries, AreOrdered, items_of, key_cmp, key_of, scoped};
+ghost use Rattle.cil_names.specs.Item.{nobody};
+ghost use Rattle.cil_names.specs.Meanings.{meant};
+ghost use Rattle.cil_names.specs.PermissionWords.{class_with as the_class_with, has_permission_at};
+ghost use Rattle.cil_names.specs.Spaces.{AreSpaces};
+ghost use Rattle.cil_names.specs.Unresolved.{ArePermissions, listed_at as listed_for};
+
+use crate::entry::Entry;
+use crate::look::{entry_in, resolve};
+use crate::numbers::place_among;
+use crate::space::Space;
+use cil_syntax::{Bytes, Sign, Word};
+
+/// The number of the class or class map that a class word names. Classes do not hang on optionals, so the word is looked
+/// up where none is enabled.
+pub fn class_named(
+    spaces: &[Space],
+    entries: &[Entry],
+    class: &Word,
+    scope: &[usize],
+) -> Option<usize>
+    requires spaces { AreSpaces spaces.now }
+    requires entries { AreOrdered spaces.now entries.now }
+    requires within { All (λ k. k ≤ length spaces.now) scope.now }
+    ensures value { result ≡ meant spaces.now entries.now nobody (scoped spaces.now scope.now class.now) }
+    ensures within { IfSome result (λ d. d < length entries.now) }
+{
+    resolve(spaces, entries, &[], class, scope)
+}
+
+/// The permissions of the class that has the name of an entry, in byte order; none where no class has it. They are given
+/// as a list for each entry.
+pub fn permissions_at<'s>(
+    entries: &[Entry],
+    permissions: &'s [Vec<Bytes>],
+    d: usize,
+) -> &'s [Bytes]
+    requires rising { IsStrictlySortedBy (on key_of key_cmp) entries.now }
+    requires sorted { (v : Vector Text) → Contains permissions.now v → IsStrictlySortedBy text_cmp v.items }
+    requires within { d < length entries.now }
+    ensures sorted { IsStrictlySortedBy text_cmp result.now }
+    ensures listed { (ss : List ASpace) (is : List Instance) → AreSpaces ss → AreEntries ss is entries.now → ArePermissions ss entries.now (items_of ss is) permissions.now
+        → (p : List ℕ) → list_any (same_bytes p) result.now ≡ has_permission_at ss entries.now (items_of ss is) p d }
+{
+    let entry = &entries[d];
+    let Some(class) = entry_in(entries, entry.space, entry.name.as_slice(), Sign::Classes) else {
+        return &[];
+    };
+    listed_at(permissions, class)
+}
+
+/// The list of an entry.
+fn listed_at(permissions: &[Vec<Bytes>], entry: usize) -> &[Bytes]
+    requires { (v : Vector Text) → Contains permissions.now v → IsStrictlySortedBy text_cmp v.items }
+    ensures value { result.now ≡ listed_for permissions.now entry }
+    ensures sorted { IsStrictlySortedBy text_cmp result.now }
+{
+    match permissions.get(entry) {
+        Some(list) => list.as_slice(),
+        None => &[],
+    }
+}
+
+/// Whether a name is in a rising list of names.
+pub fn is_listed(names: &[Bytes], name: &[u8]) -> bool
+    requires { IsStrictlySortedBy text_cmp names.now }
+    ensures { result ≡ list_any (same_bytes name.now) names.now }
+{
+    place_among(names, name).is_some()
+}
+
+/// The number of the class or class map that a permission word names.
+pub fn class_with(
+    spaces: &[Space],
+    entries: &[Entry],
+    permissions: &[Vec<Bytes>],
+    class: &Word,
+    permission: &Word,
+    scope: &[usize],
+) -> Option<usize>
+    requires spaces { AreSpaces spaces.now }
+    requires entries { AreOrdered spaces.now entries.now }
+    requires sorted { (v : Vector Text) → Contains permissions.now v → IsStrictlySortedBy text_cmp v.items }
+    requires within { All (λ k. k ≤ length spaces.now) scope.now }
+    ensures value { (is : List Instance) → AreEntries spaces.now is entries.now → ArePermissions spaces.now entries.now (items_of spaces.now is) permissions.now
+        → result ≡ the_class_with spaces.now entries.now (items_of spaces.now is) (scoped spaces.now scope.now class.now) (scoped spaces.now scope.now permission.now) }
+    ensures within { IfSome result (λ d. d < length entries.now) }
+{
+    let d = class_named(spaces, entries, class, scope)?;
+    let listed = permissions_at(entries, permissions, d);
+    if !is_listed(listed, permission.bytes.as_slice()) {
+        return None;
+    }
+    Some(d)
+}
