@@ -20,6 +20,7 @@ pub mod NumberLemmas
 pub mod OrderLemmas
 pub mod PathLemmas
 pub mod PermissionLemmas
+pub mod PermissionWordLemmas
 pub mod Qualified
 pub mod RisingLemmas
 pub mod RowLemmas

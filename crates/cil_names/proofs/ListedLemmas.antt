@@ -17,6 +17,7 @@ use Rattle.cil_names.specs.Declarations.{Symbol, by, declared_by}
 use Rattle.cil_names.specs.Entries.{AreEntries, HasNoEntry, IsAnswer, IsEntryAt, IsNamed, is_in, items_of}
 use Rattle.cil_names.specs.Item.{OptSet, ScopedWord, is_enabled, nobody}
 use Rattle.cil_names.specs.Numbers.{symbol_of}
+use Rattle.cil_names.specs.PermissionWords.{has_permission_at}
 use Rattle.cil_names.specs.Resolves.{Permission as APermission, fits, found_in, gives_permission, has_permission, is_wanted, listed_permissions, resolves}
 use Rattle.cil_names.specs.Spaces.{AreSpaces, space_at}
 use Rattle.cil_names.specs.Unresolved.{ArePermissions, listed_at}
@@ -31,6 +32,9 @@ pub answered_found : (ss : List Space) (is : List Instance) (es : List Entry) (s
     → is_some r ≡ is_some (found_in (items_of ss is) s w)
 answered_found ss is es s w None none = ap is_some (sym none)
 answered_found ss is es s w (Some d) named = ap is_some (sym named.found)
+
+alike : (t u : Symbol) → t.space ≡ u.space → t.name ≡ u.name → t ≡ u
+alike t u p q = λ i. record { space = p i; name = q i }
 
 module _ (ss : List Space) (are : AreSpaces ss) (is : List Instance) (es : List Entry) (entries : AreEntries ss is es) where
   -- a permission is given to a class that is declared
@@ -55,39 +59,43 @@ module _ (ss : List Space) (are : AreSpaces ss) (is : List Instance) (es : List 
         | inr f ↦ f
       ]
 
-  module _ (flags : List Bool) (off : flags ≡ []) (w : ScopedWord) (d : ℕ) (named : IsNamed ss is es (is_in flags) w d) (e : Entry) (at : slice_get es d ≡ Some e) where
-    plainly : IsNamed ss is es nobody w d
-    plainly = subst (λ (fl : List Bool). IsNamed ss is es (is_in fl) w d) off named
+  -- the class of the name of an entry
+  module _ (d : ℕ) (e : Entry) (at : slice_get es d ≡ Some e) (p : List ℕ) where
+    has_of : has_permission_at ss es (items_of ss is) p d ≡ has_permission (items_of ss is) (symbol_of ss e) p
+    has_of = ap (λ o. option_map_or (λ (x : Entry). has_permission (items_of ss is) (symbol_of ss x) p) o false) at
 
-    abbrev found_symbol : Symbol
-    found_symbol = record { space = plainly.space; name = (asked w.bytes).name }
+    -- no class has this name
+    pub listed_of_none : HasNoEntry es e.name signs.Classes e.space → false ≡ has_permission_at ss es (items_of ss is) p d
+    listed_of_none none = sym (has_of ∙ no_class e.space e.name (entries.ordered.within e (member_of_number es d e at)) none p)
 
-    one_symbol : symbol_of ss e ≡ found_symbol
-    one_symbol =
-        let (space, name, wanted) = parts_of ss (asked w.bytes).name w.sign plainly.space plainly.entry plainly.fits in
-        let same : plainly.entry ≡ e = one_some plainly.entry e (sym plainly.at ∙ at) in
-        ap (symbol_of ss) (sym same) ∙ alike (symbol_of ss plainly.entry) found_symbol space name
-      where
-        alike : (t u : Symbol) → t.space ≡ u.space → t.name ≡ u.name → t ≡ u
-        alike t u p q = λ i. record { space = p i; name = q i }
-
-    asks_symbol : (s : OptSet) (q : ScopedWord) → resolves (items_of ss is) s (APermission w q) ≡ has_permission (items_of ss is) (symbol_of ss e) q.bytes
-    asks_symbol s q =
-        ap (λ o. option_map_or (λ n. has_permission (items_of ss is) (record { space = n; name = (asked w.bytes).name }) q.bytes) o false) plainly.found
-        ∙ ap (λ (t : Symbol). has_permission (items_of ss is) t q.bytes) (sym one_symbol)
-
-    -- the class has no entry
-    pub listed_of_none : HasNoEntry es e.name signs.Classes e.space → (s : OptSet) (q : ScopedWord) → false ≡ resolves (items_of ss is) s (APermission w q)
-    listed_of_none none s q = sym (asks_symbol s q ∙ no_class e.space e.name (entries.ordered.within e (member_of_number es d e at)) none q.bytes)
-
-    -- the class has one
+    -- one has it
     pub listed_of_class : (lists : List (Vec Bytes)) → ArePermissions ss es (items_of ss is) lists → (c : ℕ) → IsEntryAt es e.name signs.Classes e.space c → (l : List (List ℕ))
-        → l ≡ listed_at lists c → (s : OptSet) (q : ScopedWord) → list_any (same_bytes q.bytes) l ≡ resolves (items_of ss is) s (APermission w q)
-    listed_of_class lists permissions c class_ l same s q =
+        → l ≡ listed_at lists c → list_any (same_bytes p) l ≡ has_permission_at ss es (items_of ss is) p d
+    listed_of_class lists permissions c class_ l same =
         let (space, name, wanted) = parts_fit e.name signs.Classes e.space class_.entry class_.fits in
-        ap (list_any (same_bytes q.bytes)) same ∙ permissions.each c class_.entry class_.at wanted q.bytes
-        ∙ ap (λ (t : Symbol). has_permission (items_of ss is) t q.bytes) (alike (symbol_of ss class_.entry) (symbol_of ss e) (ap (space_at ss) space) name)
-        ∙ sym (asks_symbol s q)
-      where
-        alike : (t u : Symbol) → t.space ≡ u.space → t.name ≡ u.name → t ≡ u
-        alike t u p q = λ i. record { space = p i; name = q i }
+        ap (list_any (same_bytes p)) same ∙ permissions.each c class_.entry class_.at wanted p
+        ∙ ap (λ (t : Symbol). has_permission (items_of ss is) t p) (alike (symbol_of ss class_.entry) (symbol_of ss e) (ap (space_at ss) space) name)
+        ∙ sym has_of
+
+  -- the class that a class word names
+  module _ (c : ScopedWord) (d : ℕ) (named : IsNamed ss is es nobody c d) where
+    abbrev found_symbol : Symbol
+    found_symbol = record { space = named.space; name = (asked c.bytes).name }
+
+    one_symbol : symbol_of ss named.entry ≡ found_symbol
+    one_symbol =
+        let (space, name, wanted) = parts_of ss (asked c.bytes).name c.sign named.space named.entry named.fits in
+        alike (symbol_of ss named.entry) found_symbol space name
+
+    -- a permission resolves where this class has it
+    pub asked_of_class : (s : OptSet) (q : ScopedWord) → resolves (items_of ss is) s (APermission c q) ≡ has_permission_at ss es (items_of ss is) q.bytes d
+    asked_of_class s q =
+        ap (λ o. option_map_or (λ n. has_permission (items_of ss is) (record { space = n; name = (asked c.bytes).name }) q.bytes) o false) named.found
+        ∙ ap (λ (t : Symbol). has_permission (items_of ss is) t q.bytes) (sym one_symbol)
+        ∙ sym (has_of d named.entry named.at q.bytes)
+
+-- a permission of a class that is missing does not resolve
+pub asked_of_none : (ss : List Space) (is : List Instance) (es : List Entry) (c : ScopedWord) → IsAnswer ss is es nobody c None → (s : OptSet) (q : ScopedWord)
+    → resolves (items_of ss is) s (APermission c q) ≡ false
+asked_of_none ss is es c none s q =
+    ap (λ o. option_map_or (λ n. has_permission (items_of ss is) (record { space = n; name = (asked c.bytes).name }) q.bytes) o false) none

@@ -1,0 +1,90 @@
+-- What a permission word names, and that it is the same whatever is enabled.
+use Rattle.std.proofs.Common.{◌≡◌, ℕ, ◌||◌, Bool, true, false, cond, List, [], ◌∷◌, refl, sym, ◌∙◌, ap, subst, inl, inr}
+use Rattle.std.specs.Prelude.{Option, Some, None, find, slice_get}
+use Rattle.std.specs.Global.{Vec}
+use Rattle.std.specs.List.{list_all, list_any}
+use Rattle.std.specs.Option.{is_some, option_map_or}
+use Rattle.std.proofs.lemmas.Bool.{cases_Bool, true≢false}
+use Rattle.cil_names.specs.declared.entry.Entry.{Entry}
+use Rattle.cil_names.specs.declared.instance.Instance.{Instance}
+use Rattle.cil_names.specs.declared.space.Space.{Space}
+use Rattle.cil_names.specs.Entries.{AreEntries, IsAnswer, IsNamed, is_declared_at, is_declared_in, items_of, listed}
+use Rattle.cil_names.specs.Item.{OptSet, ScopedWord, nobody}
+use Rattle.cil_names.specs.Laws.{WantedMeansWhatItNames}
+use Rattle.cil_names.specs.Meanings.{meant}
+use Rattle.cil_names.specs.PermissionWords.{IsAnswerFor, class_with, has_permission_at, wanted_meaning}
+use Rattle.cil_names.specs.Resolves.{Wanted, Word as AWord, Permission as APermission, found_in}
+use Rattle.cil_names.specs.Spaces.{AreSpaces}
+use Rattle.cil_names.proofs.AnswerLemmas.{answer_is}
+use Rattle.cil_names.proofs.ListedLemmas.{answered_found, asked_of_class, asked_of_none}
+
+-- ---- the class of a class word, if it has the permission
+
+module _ (has : ℕ → Bool) (m : Option ℕ) where
+  pub no_class_named : None ≡ m → None ≡ find has (listed m)
+  no_class_named e = ap (λ o. find has (listed o)) e
+
+  pub class_lacks : (d : ℕ) → Some d ≡ m → has d ≡ false → None ≡ find has (listed m)
+  class_lacks d e f = sym (ap (λ b. cond b (Some d) None) f) ∙ ap (λ o. find has (listed o)) e
+
+  pub class_has : (d : ℕ) → Some d ≡ m → has d ≡ true → Some d ≡ find has (listed m)
+  class_has d e t = sym (ap (λ b. cond b (Some d) None) t) ∙ ap (λ o. find has (listed o)) e
+
+-- ---- what is declared where no optional is enabled is declared
+
+none_round : (s : OptSet) (os : List ℕ) → list_all nobody os ≡ true → list_all s os ≡ true
+none_round s [] e = refl
+none_round s (o ∷ os) e = absurd (true≢false (sym e))
+
+none_rounds : (s : OptSet) (rs : List (Vec ℕ)) → list_any (λ r. list_all nobody r.items) rs ≡ true → list_any (λ r. list_all s r.items) rs ≡ true
+none_rounds s [] e = absurd (true≢false (sym e))
+none_rounds s (r ∷ rs) e =
+    elim (cases_Bool (list_all nobody r.items)) [
+      | inl t ↦ ap (λ b. b || list_any (λ r. list_all s r.items) rs) (none_round s r.items t)
+      | inr f ↦ either (list_all s r.items) (none_rounds s rs (sym (ap (λ b. b || list_any (λ r. list_all nobody r.items) rs) f) ∙ e))
+    ]
+  where
+    either : (a : Bool) {b : Bool} → b ≡ true → (a || b) ≡ true
+    either true e = refl
+    either false e = e
+
+always_declared : (s : OptSet) (always : Bool) (rs : List (Vec ℕ)) → (always || list_any (λ r. list_all nobody r.items) rs) ≡ true
+    → (always || list_any (λ r. list_all s r.items) rs) ≡ true
+always_declared s true rs e = refl
+always_declared s false rs e = none_rounds s rs e
+
+-- ---- what is wanted
+
+module _ (ss : List Space) (are : AreSpaces ss) (is : List Instance) (es : List Entry) (entries : AreEntries ss is es) (s : OptSet) where
+  word_answer : (w : ScopedWord) (r : Option ℕ) → IsAnswer ss is es s w r → IsAnswerFor ss is es s (AWord w) r
+  word_answer w None none = ap is_some none
+  word_answer w (Some d) named = named
+
+  module _ (c p : ScopedWord) where
+    abbrev has : ℕ → Bool
+    has d = has_permission_at ss es (items_of ss is) p.bytes d
+
+    by_has : (d : ℕ) → IsNamed ss is es nobody c d → (b : Bool) → has d ≡ b → IsAnswerFor ss is es s (APermission c p) (cond b (Some d) None)
+    by_has d named true t = (named, t)
+    by_has d named false f = asked_of_class ss are is es entries c d named s p ∙ f
+
+    by_class : (m : Option ℕ) → IsAnswer ss is es nobody c m → IsAnswerFor ss is es s (APermission c p) (find has (listed m))
+    by_class None none = asked_of_none ss is es c none s p
+    by_class (Some d) named = by_has d named (has d) refl
+
+    pub permission_answer : IsAnswerFor ss is es s (APermission c p) (class_with ss es (items_of ss is) c p)
+    permission_answer = by_class (meant ss es nobody c) (answer_is ss are is es entries nobody c)
+
+    declared_too : (r : Option ℕ) → IsAnswerFor ss is es s (APermission c p) r → r ≡ find (is_declared_at s es) (listed r)
+    declared_too None none = refl
+    declared_too (Some d) (named, t) =
+        sym (ap (λ b. cond b (Some d) None)
+        (ap (λ o. option_map_or (is_declared_in s) o false) named.at ∙ always_declared s named.entry.always named.entry.rounds.items named.live))
+
+  wanted_answer : (w : Wanted) → IsAnswerFor ss is es s w (wanted_meaning ss es (items_of ss is) s w)
+  wanted_answer (AWord w) = word_answer w (meant ss es s w) (answer_is ss are is es entries s w)
+  wanted_answer (APermission c p) =
+      subst (IsAnswerFor ss is es s (APermission c p)) (declared_too c p (class_with ss es (items_of ss is) c p) (permission_answer c p)) (permission_answer c p)
+
+pub wanted_means : WantedMeansWhatItNames
+wanted_means = λ ss is es s w are entries. wanted_answer ss are is es entries s w

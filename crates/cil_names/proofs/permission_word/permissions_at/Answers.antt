@@ -1,0 +1,24 @@
+use Rattle.std.proofs.Common.{rules, ◌≡◌, ◌∙◌, ap, sym}
+use Rattle.std.specs.Prelude.{Some, slice_get}
+use Rattle.std.proofs.lemmas.Option.{slice_get-get_or}
+use Rattle.cil_names.proofs.ListedLemmas.{listed_of_class, listed_of_none}
+use Rattle.cil_names.proofs.NumberLemmas.{nothing_rises}
+use Rattle.cil_names.proofs.permission_word.permissions_at.Goals as goal
+
+pub returns-in_default-clause-sorted : goal.returns-in_default-clause-sorted
+returns-in_default-clause-sorted c = nothing_rises
+
+pub returns-in_default-clause-listed : goal.returns-in_default-clause-listed
+returns-in_default-clause-listed c =
+    λ ss is are entries permissions p.
+    let at : slice_get c.args.entries.now c.args.d ≡ Some c.index-entries-d.result =
+    slice_get-get_or c.args.entries.now c.args.d c.index-entries-d.result c.requires.within ∙ ap Some (sym c.index-entries-d.is) in
+    listed_of_none ss are is c.args.entries.now entries c.args.d c.index-entries-d.result at p (search rules)
+
+pub returns-clause-listed : goal.returns-clause-listed
+returns-clause-listed c =
+    λ ss is are entries permissions p.
+    let at : slice_get c.args.entries.now c.args.d ≡ Some c.index-entries-d.result =
+    slice_get-get_or c.args.entries.now c.args.d c.index-entries-d.result c.requires.within ∙ ap Some (sym c.index-entries-d.is) in
+    listed_of_class ss are is c.args.entries.now entries c.args.d c.index-entries-d.result at p c.args.permissions.now permissions c.in-Some.class (search rules)
+    c.listed_at.result.now c.listed_at.ensures.value
