@@ -168,7 +168,7 @@ impl<'a> Names<'a> {
     {
         class_with(
             spaces.as_slice(),
-            self.entries.as_slice(),
+            self.entries(),
             permissions,
             class,
             permission,
