@@ -13,7 +13,7 @@ use Rattle.cil_names.specs.Item.{OptSet, ScopedWord, nobody}
 use Rattle.cil_names.specs.Laws.{WantedMeansWhatItNames}
 use Rattle.cil_names.specs.Meanings.{meant}
 use Rattle.cil_names.specs.PermissionWords.{IsAnswerFor, class_with, has_permission_at, wanted_meaning}
-use Rattle.cil_names.specs.Resolves.{Wanted, Word as AWord, Permission as APermission, found_in}
+use Rattle.cil_names.specs.Resolves.{Wanted, Word as AWord, Permission as APermission, resolves}
 use Rattle.cil_names.specs.Spaces.{AreSpaces}
 use Rattle.cil_names.proofs.AnswerLemmas.{answer_is}
 use Rattle.cil_names.proofs.ListedLemmas.{answered_found, asked_of_class, asked_of_none}
@@ -56,6 +56,14 @@ always_declared s false rs e = none_rounds s rs e
 -- ---- what is wanted
 
 module _ (ss : List Space) (are : AreSpaces ss) (is : List Instance) (es : List Entry) (entries : AreEntries ss is es) (s : OptSet) where
+  -- a permission resolves where the class that its class word names has it
+  module _ (c : ScopedWord) (q : ScopedWord) where
+    pub asked_unnamed : None ≡ meant ss es nobody c → false ≡ resolves (items_of ss is) s (APermission c q)
+    asked_unnamed none = sym (asked_of_none ss is es c (subst (IsAnswer ss is es nobody c) (sym none) (answer_is ss are is es entries nobody c)) s q)
+
+    pub asked_named : (d : ℕ) → Some d ≡ meant ss es nobody c → resolves (items_of ss is) s (APermission c q) ≡ has_permission_at ss es (items_of ss is) q.bytes d
+    asked_named d some = asked_of_class ss are is es entries c d (subst (IsAnswer ss is es nobody c) (sym some) (answer_is ss are is es entries nobody c)) s q
+
   word_answer : (w : ScopedWord) (r : Option ℕ) → IsAnswer ss is es s w r → IsAnswerFor ss is es s (AWord w) r
   word_answer w None none = ap is_some none
   word_answer w (Some d) named = named
