@@ -140,7 +140,9 @@ pub fn is_declared(enabled: &[bool], entry: &Entry) -> bool
 fn has_one(enabled: &[bool], rounds: &[Vec<usize>]) -> bool
     ensures { result ≡ list_any (λ r. list_all (is_in enabled.now) r.items) rounds.now }
 {
-    rounds.iter().any(|round| are_set(enabled, round.as_slice()))
+    rounds
+        .iter()
+        .any(|round| are_set(enabled, round.as_slice()))
 }
 
 /// Whether the entry of this number is declared where these optionals are enabled.

@@ -42,11 +42,7 @@ pub fn class_named(
 
 /// The permissions of the class that has the name of an entry, in byte order; none where no class has it. They are given
 /// as a list for each entry.
-pub fn permissions_at<'s>(
-    entries: &[Entry],
-    permissions: &'s [Vec<Bytes>],
-    d: usize,
-) -> &'s [Bytes]
+pub fn permissions_at<'s>(entries: &[Entry], permissions: &'s [Vec<Bytes>], d: usize) -> &'s [Bytes]
     requires rising { IsStrictlySortedBy (on key_of key_cmp) entries.now }
     requires sorted { (v : Vector Text) → Contains permissions.now v → IsStrictlySortedBy text_cmp v.items }
     requires within { d < length entries.now }

@@ -33,6 +33,8 @@ mod merged_hosts;
 #[cfg(test)]
 mod module_sets;
 #[cfg(test)]
+mod permission_words;
+#[cfg(test)]
 mod placed_words;
 #[cfg(test)]
 mod policies;

@@ -70,7 +70,7 @@ pub(crate) fn entries(alloc: Global, declared: &[Declared]) -> Result<Vec<Entry<
     Ok(entries)
 }
 
-fn word(bytes: &'static [u8], sign: Sign) -> Word<'static> {
+pub(crate) fn word(bytes: &'static [u8], sign: Sign) -> Word<'static> {
     Word {
         at: Spot::of(0, 0),
         bytes: Excerpt::of(bytes),

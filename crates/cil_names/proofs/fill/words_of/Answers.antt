@@ -33,8 +33,8 @@ returns-in-Some c =
     (λ f fault. subst (λ l. Contains l f) (sym all) (all_back c.args.lookup.now.spaces.now c.args.instances.now (is_in c.args.lookup.now.enabled.now) f fault))
     c.in-Some.ensures.faults
 
-pub returns : goal.returns
-returns c =
+pub returns-in-None : goal.returns-in-None
+returns-in-None c =
     let all = all_passed (faults_in (items_of c.args.lookup.now.spaces.now c.args.instances.now) (is_in c.args.lookup.now.enabled.now) c.args.lookup.now.spaces.now) c.args.instances.now c.loop-instance.instance-index c.loop-instance-test.false c.loop-instance.faults.items _ c.loop-instance.invariant.1 in
     let ended : c.push-2.new.self.items ≡ c.loop-instance.starts.items ++ length c.loop-instance.words.items ∷ [] = let h = c.in_ok-push-2.ensures.items in let n = c.len-2.ensures in search (rules, h, n) in (
       record {
