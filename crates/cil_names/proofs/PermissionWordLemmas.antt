@@ -1,6 +1,6 @@
 -- What a permission word names, and that it is the same whatever is enabled.
 use Rattle.std.proofs.Common.{◌≡◌, ℕ, ◌||◌, Bool, true, false, cond, List, [], ◌∷◌, refl, sym, ◌∙◌, ap, subst, inl, inr}
-use Rattle.std.specs.Prelude.{Option, Some, None, find, slice_get}
+use Rattle.std.specs.Prelude.{Option, Some, None, find}
 use Rattle.std.specs.Global.{Vec}
 use Rattle.std.specs.List.{list_all, list_any}
 use Rattle.std.specs.Option.{is_some, option_map_or}
@@ -16,7 +16,7 @@ use Rattle.cil_names.specs.PermissionWords.{IsAnswerFor, class_with, has_permiss
 use Rattle.cil_names.specs.Resolves.{Wanted, Word as AWord, Permission as APermission, resolves}
 use Rattle.cil_names.specs.Spaces.{AreSpaces}
 use Rattle.cil_names.proofs.AnswerLemmas.{answer_is}
-use Rattle.cil_names.proofs.ListedLemmas.{answered_found, asked_of_class, asked_of_none}
+use Rattle.cil_names.proofs.ListedLemmas.{asked_of_class, asked_of_none}
 
 -- ---- the class of a class word, if it has the permission
 

@@ -3,7 +3,7 @@ use Rattle.cil_names.specs.Entries.{items_of, scoped}
 use Rattle.cil_names.specs.Item.{nobody}
 use Rattle.cil_names.specs.Meanings.{meant}
 use Rattle.cil_names.specs.PermissionWords.{has_permission_at}
-use Rattle.cil_names.proofs.PermissionWordLemmas.{class_has, class_lacks, no_class_named}
+use Rattle.cil_names.proofs.PermissionWordLemmas.{class_has, class_lacks}
 use Rattle.cil_names.proofs.permission_word.class_with.Goals as goal
 
 pub returns-then-not-is_listed-clause-value : goal.returns-then-not-is_listed-clause-value

@@ -2,7 +2,6 @@ use Rattle.std.specs.Prelude.{List}
 use Rattle.std.proofs.Common.{ap, length, subst, sym, ◌∙◌}
 use Rattle.cil_names.specs.declared.entry.Entry.{Entry}
 use Rattle.cil_names.specs.Entries.{AreOrdered, items_of}
-use Rattle.cil_names.specs.Placed.{IsPlaced}
 use Rattle.cil_names.specs.Spaces.{AreSpaces}
 use Rattle.cil_names.specs.Unresolved.{ArePermissions}
 use Rattle.cil_names.proofs.FillLemmas.{placed_at}
