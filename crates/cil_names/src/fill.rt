@@ -1,6 +1,6 @@
 //! The table of words, or all words that name nothing.
 
-ghost use Rattle.std.specs.Prelude.{◌≡◌, ◌++◌, [], ◌∷◌, Contains, List, OnOk, map};
+ghost use Rattle.std.specs.Prelude.{◌≡◌, ◌++◌, Contains, List, OnOk, map};
 ghost use Rattle.std.specs.List.Sorted.{IsStrictlySortedBy};
 ghost use Rattle.std.specs.Global.{Vec as Vector};
 ghost use Rattle.cil_sexpr.specs.Lists.{text_cmp};

@@ -1,12 +1,10 @@
 //! Words that name nothing, found while the table of words is filled.
 
-ghost use Rattle.std.specs.Prelude.{◌≡◌, ◌++◌, [], ◌∷◌, Contains, List, OnOk, IfOk, map};
+ghost use Rattle.std.specs.Prelude.{◌≡◌, ◌++◌, [], ◌∷◌, List, OnOk, IfOk, map};
 ghost use Rattle.std.specs.List.{list_any};
 ghost use Rattle.std.specs.List.Sorted.{IsStrictlySortedBy};
-ghost use Rattle.std.specs.Global.{Vec as Vector};
 ghost use Rattle.cil_sexpr.specs.Lists.{text_cmp};
 ghost use Rattle.cil_syntax.specs.declared.code.FaultCode.TheVariants as causes;
-ghost use Rattle.cil_syntax.specs.declared.fault.Bytes.{Bytes as Text};
 ghost use Rattle.cil_syntax.specs.Said.{all_said, said_of};
 ghost use Rattle.cil_syntax.specs.Spelling.{same_bytes};
 ghost use Rattle.cil_syntax.specs.Reported.{fault_at};
