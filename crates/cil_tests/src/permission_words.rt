@@ -14,12 +14,7 @@ use std::alloc::Global;
 use std::test::Fail;
 
 /// A class word, a permission word, the namespaces of their scope, and the class that is named, or `-`.
-type Row = (
-    &'static [u8],
-    &'static [u8],
-    &'static [usize],
-    &'static str,
-);
+type Row = (&'static [u8], &'static [u8], &'static [usize], &'static str);
 
 /// What rows are about, a text, and the places of its statements.
 const NAMED: &[(&str, &str, &[Place], &[Row])] = &[
@@ -77,10 +72,7 @@ const NAMED: &[(&str, &str, &[Place], &[Row])] = &[
         "a type of the same name hides no class",
         "(type c)(class c (p))",
         &[P, GLOBAL],
-        &[
-            (b"c", b"p", &[1, 0], "Class c"),
-            (b"c", b"q", &[1, 0], "-"),
-        ],
+        &[(b"c", b"p", &[1, 0], "Class c"), (b"c", b"q", &[1, 0], "-")],
     ),
     (
         "a class that is declared twice is one",
@@ -99,11 +91,12 @@ fn named(
     spaces: &Spaces,
     names: &Names,
     instances: &[Instance],
-    (class, permission, scope, _): Row,
+    row: Row,
 ) -> Result<Option<usize>, Fail>
     requires entries { AreEntries spaces.now instances.now names.now }
     requires placed { ArePlaced spaces.now instances.now }
 {
+    let (class, permission, scope, _) = row;
     if !spaces.has_all(scope) {
         return Err(Fail::from("no namespace"));
     }
