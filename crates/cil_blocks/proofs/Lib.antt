@@ -3,10 +3,13 @@ pub mod Begun
 pub mod ContentLemmas
 pub mod CycleLemmas
 pub mod CycleSearch
+pub mod Cycles
+pub mod DoubledLemmas
 pub mod EntryLemmas
 pub mod FaultExamples
 pub mod FirstNamed
 pub mod Given
+pub mod Kept
 pub mod LawLemmas
 pub mod ListLemmas
 pub mod MarkLemmas
@@ -18,8 +21,8 @@ pub mod PartLemmas
 pub mod Paths
 pub mod ProgramLemmas
 pub mod Queue
-pub mod Rising
 pub mod ReportLemmas
+pub mod Rising
 pub mod RunLemmas
 pub mod ScopeLemmas
 pub mod Searches

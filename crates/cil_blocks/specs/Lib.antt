@@ -1,4 +1,5 @@
 pub mod Contents
+pub mod Doubled
 pub mod Entries
 pub mod InheritFaults
 pub mod Laws

@@ -9,6 +9,7 @@
 
 pub mod contents;
 pub mod cycles;
+pub mod doubled;
 mod entry;
 mod guess;
 pub mod laws;

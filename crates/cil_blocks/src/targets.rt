@@ -228,7 +228,7 @@ fn names_of<'a>(alloc: Global, path: &'a [u8]) -> Result<Vec<Excerpt<'a>>, NoMem
 }
 
 /// Numbers from a place on.
-fn from(numbers: &[usize], start: usize) -> &[usize]
+pub fn from(numbers: &[usize], start: usize) -> &[usize]
     requires { start ≤ length numbers.now }
     ensures { result.now ≡ drop start numbers.now }
 {
@@ -236,7 +236,7 @@ fn from(numbers: &[usize], start: usize) -> &[usize]
 }
 
 /// The first so many numbers.
-fn up_to(numbers: &[usize], end: usize) -> &[usize]
+pub fn up_to(numbers: &[usize], end: usize) -> &[usize]
     requires { end ≤ length numbers.now }
     ensures { result.now ≡ take end numbers.now }
 {
