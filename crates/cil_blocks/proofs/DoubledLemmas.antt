@@ -5,10 +5,10 @@ use Rattle.std.specs.List.Sorted.{IsPermutation}
 use Rattle.std.proofs.lemmas.List.{take_all}
 use Rattle.std.proofs.lemmas.List.Sorted.{Contains-permutation, IsPermutation-sym}
 use Rattle.cil_syntax.specs.Written.{Written}
-use Rattle.cil_blocks.specs.Doubled.{AreAlike, AreOthers, AreWrittenTwice, HasOther, IsMatched, IsWrittenTwice, is_named_at}
+use Rattle.cil_blocks.specs.Doubled.{AreAlike, AreOthers, AreThose, AreWrittenTwice, HasOther, IsMatched, IsWrittenTwice, is_named_at}
 use Rattle.cil_blocks.specs.Entries.{statement_at}
 use Rattle.cil_blocks.specs.Named.{full_at}
-use Rattle.cil_blocks.proofs.Kept.{AreThose, in_more}
+use Rattle.cil_blocks.proofs.Kept.{in_more}
 
 -- ---- another one in a list
 

@@ -4,12 +4,9 @@ use Rattle.std.specs.Prelude.{◌↔◌, Contains}
 use Rattle.std.proofs.lemmas.List.{take_more, take_all}
 use Rattle.std.proofs.lemmas.List.Elements.{Contains-append_left, Contains-append_right, Contains-append_cases}
 use Rattle.cil_sexpr.specs.Lists.{contains_here, contains_cases, contains_none}
-use Rattle.cil_blocks.specs.Doubled.{only_if}
+use Rattle.cil_blocks.specs.Doubled.{AreKept, AreThose, only_if}
 
 module _ {X : Type 0} where
-  abbrev pub AreThose : (X → Type 0) → List X → Type 0
-  AreThose P xs = (x : X) → Contains xs x ↔ P x
-
   pub no_members : (P : X → Type 0) (xs : List X) → xs ≡ [] → ((x : X) → P x → ⊥) → AreThose P xs
   no_members P xs e none x = ((λ c. absurd (contains_none x (subst (λ ys. Contains ys x) e c))), (λ p. absurd (none x p)))
 
@@ -37,23 +34,20 @@ module _ {X : Type 0} where
       )
 
   module _ (T : X → Type 0) where
-    abbrev pub AreKept : List X → List X → Type 0
-    AreKept xs found = AreThose (λ x. Contains xs x × T x) found
-
-    pub none_kept : (found : List X) → found ≡ [] → AreKept [] found
+    pub none_kept : (found : List X) → found ≡ [] → AreKept T [] found
     none_kept found e = no_members (λ x. Contains [] x × T x) found e (λ x p. contains_none x p.0)
 
     -- one more of a list is looked at
     pub kept_more : (xs : List X) (k : ℕ) (v d : X) (old more new : List X) → k < length xs → v ≡ get_or xs k d → AreThose (λ x. (x ≡ v) × T x) more
-        → AreKept (take k xs) old → new ≡ old ++ more → AreKept (take (k + 1) xs) new
+        → AreKept T (take k xs) old → new ≡ old ++ more → AreKept T (take (k + 1) xs) new
     kept_more xs k v d old more new h is last so e =
         grown (λ x. Contains (take k xs) x × T x) (λ x. (x ≡ v) × T x) (λ x. Contains (take (k + 1) xs) x × T x) old more new so last e (λ x. (
           (λ p. elim ((in_more xs k v d x h is).0 p.0) [ inl c ↦ inl (c, p.1) | inr same ↦ inr (same, p.1) ]),
           (λ s. elim s [ inl p ↦ ((in_more xs k v d x h is).1 (inl p.0), p.1) | inr p ↦ ((in_more xs k v d x h is).1 (inr p.0), p.1) ]),
         ))
 
-    pub all_kept : (xs : List X) (k : ℕ) (found : List X) → length xs ≤ k → AreKept (take k xs) found → AreKept xs found
-    all_kept xs k found over so = subst (λ ys. AreKept ys found) (take_all k xs over) so
+    pub all_kept : (xs : List X) (k : ℕ) (found : List X) → length xs ≤ k → AreKept T (take k xs) found → AreKept T xs found
+    all_kept xs k found over so = subst (λ ys. AreKept T ys found) (take_all k xs over) so
 
 -- ---- numbers
 

@@ -13,6 +13,7 @@ pub mod Kept
 pub mod LawLemmas
 pub mod ListLemmas
 pub mod MarkLemmas
+pub mod MemberLemmas
 pub mod NameLemmas
 pub mod OneStanding
 pub mod OneTarget
@@ -21,11 +22,14 @@ pub mod PartLemmas
 pub mod Paths
 pub mod ProgramLemmas
 pub mod Queue
+pub mod Reached
 pub mod ReportLemmas
 pub mod Rising
 pub mod RunLemmas
 pub mod ScopeLemmas
 pub mod Searches
+pub mod SeedLaw
+pub mod SeedLists
 pub mod StandingWalk
 pub mod StepLemmas
 pub mod TargetLemmas

@@ -8,4 +8,5 @@ pub mod Marks
 pub mod Named
 pub mod Opens
 pub mod Reports
+pub mod Seeds
 pub mod Steps

@@ -1,18 +1,40 @@
 //! The blocks and macros that share their name with another one. In writing, a sort by full name and two searches by halving
-//! for each of them are the cost.
+//! for each of them are the cost; what standing costs says `seeds.rt`.
 
 ghost use Rattle.std.specs.Prelude.{◌≡◌, ◌<◌, ◌↔◌, ◌++◌, ℕ, Contains, IfOk, OnOk, length, true};
 ghost use Rattle.std.specs.List.Sorted.{IsPermutation, IsSortedByKey};
 ghost use Rattle.cil_syntax.specs.Program.{IsNested, program_of};
 ghost use Rattle.cil_blocks.specs.Contents.{is_named};
-ghost use Rattle.cil_blocks.specs.Doubled.{AreAlike, AreOthers, AreWrittenTwice, HasOther, is_named_at, only_if};
-ghost use Rattle.cil_blocks.specs.Named.{full_at, names_cmp};
+ghost use Rattle.cil_blocks.specs.Doubled.{AreAlike, AreDoubled, AreOthers, AreWrittenTwice, HasOther, is_named_at, only_if};
+ghost use Rattle.cil_blocks.specs.Entries.{AreParts};
+ghost use Rattle.cil_blocks.specs.Named.{AreAllTargets, full_at, names_cmp};
 
 use crate::names::compare_names;
-use crate::targets::{from, up_to};
+use crate::parts::Parts;
+use crate::seeds::standing_twice;
+use crate::targets::{Targets, from, up_to};
 use cil_modset::NoMemory;
 use cil_syntax::{Keyword, Statement};
 use std::alloc::Global;
+
+/// The numbers of the blocks and macros that share their name with another one: written in one namespace, or standing in
+/// one. A number may come more than once.
+pub fn doubled_of(
+    alloc: Global,
+    statements: &[Statement],
+    parts: &Parts,
+    targets: &Targets,
+) -> Result<Vec<usize>, NoMemory>
+    requires nested { IsNested statements.now }
+    requires parts { AreParts (program_of statements.now) parts.now }
+    requires targets { AreAllTargets (program_of statements.now) targets.now }
+    ensures { IfOk result (λ found. AreDoubled (program_of statements.now) (length statements.now) found.items) }
+{
+    let mut found = written_twice(alloc, statements)?;
+    let standing = standing_twice(alloc, statements, parts, targets)?;
+    found.extend_from_slice(standing.as_slice())?;
+    Ok(found)
+}
 
 /// The numbers of the blocks and macros that share their name with another one that is written in the same namespace.
 pub fn written_twice(alloc: Global, statements: &[Statement]) -> Result<Vec<usize>, NoMemory>

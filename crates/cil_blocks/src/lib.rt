@@ -18,6 +18,8 @@ pub mod names;
 pub mod opened;
 pub mod parts;
 pub mod reports;
+pub mod reach;
+pub mod seeds;
 pub mod targets;
 pub mod walker;
 

@@ -11,7 +11,7 @@ use cil_syntax::{Excerpt, Keyword, Statement};
 use std::cmp::Ordering;
 
 /// Whether a statement is a block.
-fn is_block_at(statements: &[Statement], number: usize) -> bool
+pub fn is_block_at(statements: &[Statement], number: usize) -> bool
     ensures { IsNested statements.now → result ≡ is_block (statement_at (program_of statements.now) number).statement.keyword }
 {
     match statements.get(number) {

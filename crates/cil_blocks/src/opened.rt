@@ -70,7 +70,7 @@ fn first_number(numbers: &[usize]) -> Option<usize>
 }
 
 /// The number of a block, if it is not abstract.
-fn opened_block(statements: &[Statement], parts: &Parts, number: usize) -> Option<usize>
+pub fn opened_block(statements: &[Statement], parts: &Parts, number: usize) -> Option<usize>
     requires nested { IsNested statements.now }
     requires parts { AreParts (program_of statements.now) parts.now }
     requires within { number < length statements.now }

@@ -1,7 +1,6 @@
 use Rattle.std.proofs.Common.{◌≡◌, ◌<◌, ℕ, true}
 use Rattle.cil_syntax.specs.Program.{program_of}
-use Rattle.cil_blocks.specs.Doubled.{is_named_at}
-use Rattle.cil_blocks.proofs.Kept.{AreThose}
+use Rattle.cil_blocks.specs.Doubled.{AreThose, is_named_at}
 use Rattle.cil_blocks.proofs.doubled.named_numbers.Given as goal
 
 abbrev pub invariant-loop-i : goal.invariant-loop-i

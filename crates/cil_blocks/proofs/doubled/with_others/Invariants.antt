@@ -1,8 +1,8 @@
 use Rattle.std.proofs.Common.{ℕ, take}
 use Rattle.cil_syntax.specs.Program.{program_of}
+use Rattle.cil_blocks.specs.Doubled.{AreKept}
 use Rattle.cil_blocks.specs.Named.{full_at}
 use Rattle.cil_blocks.proofs.DoubledLemmas.{HasMatch}
-use Rattle.cil_blocks.proofs.Kept.{AreKept}
 use Rattle.cil_blocks.proofs.doubled.with_others.Given as goal
 
 abbrev pub invariant-loop-number : goal.invariant-loop-number
