@@ -41,6 +41,9 @@ same_pair p q e =
 pub same_those : {X : Type 0} (xs ys : List X) → xs ≡ ys → AreThose (Contains ys) xs
 same_those xs ys e x = ((λ c. subst (λ zs. Contains zs x) e c), (λ c. subst (λ zs. Contains zs x) (sym e) c))
 
+pub those_over : {X : Type 0} (P : X → Type 0) (xs ys : List X) → xs ≡ ys → AreThose P ys → AreThose P xs
+those_over P xs ys e so = subst (λ zs. AreThose P zs) (sym e) so
+
 -- ---- what is put in
 
 module _ {X : Type 0} (eq : X → X → Bool) (same : (x y : X) → eq x y ≡ true → x ≡ y) where

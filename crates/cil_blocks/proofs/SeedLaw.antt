@@ -302,13 +302,15 @@ module _ (ss : List Statement) (nested : IsNested ss) (ps : Parts) (ts : Targets
       let g = get_at ws w k in
       let below = g.1 in
       let is : statement_at ws g.0 ≡ w = get_so ws g.0 w nothing g.2 in
+      let own = sym t.one_name in
+      let space = sym e in
       record {
         within = h;
         is_one = t.first;
         other = g.0;
         other_within = omega (arith, below, l);
         is_other = subst (λ (y : Written). is_named y.statement.keyword ≡ true) (sym is) t.second;
-        one_name = ap full_name is ∙ (λ j. t.one_name (~ j) ∷ e (~ j));
+        one_name = ap full_name is ∙ (λ j. own j ∷ space j);
         differ = λ d. t.differ (ap (λ (m : ℕ). (statement_at ws m).statement.at) (sym d) ∙ ap (λ (y : Written). y.statement.at) is);
       }
 

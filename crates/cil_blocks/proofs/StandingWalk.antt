@@ -52,7 +52,7 @@ at_in at (Some s) e = ap Some (sym (same_spots at s e))
 in_at : (at : Spot) (o : Option Spot) → o ≡ Some at → is_at at o ≡ true
 in_at at o e = subst (λ x. is_at at x ≡ true) (sym e) (spots_same at at refl)
 
-top_on : {X : Type 0} (o : Option X) → on_top_by o ≡ true → o ≡ None
+pub top_on : {X : Type 0} (o : Option X) → on_top_by o ≡ true → o ≡ None
 top_on None e = refl
 top_on (Some x) e = absurd (let f : false ≡ true = e in cc)
 

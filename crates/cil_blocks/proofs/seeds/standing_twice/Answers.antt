@@ -1,0 +1,50 @@
+use Rattle.std.proofs.Common.{◌<◌, List, ℕ, arith, get_or, length, sym, ◌∙◌, ap}
+use Rattle.std.specs.Prelude.{None, slice_get}
+use Rattle.indexmap.specs.IndexSet.{insert_key}
+use Rattle.cil_syntax.specs.Program.{program_of}
+use Rattle.cil_blocks.specs.Seeds.{IsDoubledBy, IsNext, Pair}
+use Rattle.cil_blocks.proofs.ListLemmas.{is_there}
+use Rattle.cil_blocks.proofs.Reached.{all_told, at_first, none_told, one_opened, one_told, pair_eq, those_over}
+use Rattle.cil_blocks.proofs.seeds.standing_twice.Goals as goal
+
+pub loop-at-init : goal.loop-at-init
+loop-at-init c =
+    let ws = program_of c.args.statements.now in
+    let ps = c.args.parts.now in
+    let ts = c.args.targets.now in
+    record {
+      so = at_first (IsNext ws ps ts) (None, None) c.insert.new.self.keys
+          (c.in_ok-insert.ensures.keys ∙ ap (λ (ks : List Pair). insert_key pair_eq ks (None, None)) c.new-pairs.ensures.empty);
+      told = none_told (IsNext ws ps ts) (None, None) (IsDoubledBy ws ps ts) c.insert.new.self.keys c.new-found.result.items c.new-found.ensures.items;
+    }
+
+pub loop-at-preserved : goal.loop-at-preserved
+loop-at-preserved c =
+    let ws = program_of c.args.statements.now in
+    let ps = c.args.parts.now in
+    let ts = c.args.targets.now in
+    let h = c.loop-at-test.true in
+    let l = c.len.ensures.len in
+    let same = ap length c.as_slice.ensures.keys in
+    let inside : c.loop-at.at < length c.as_slice.result.now = omega (arith, h, l, same) in
+    let pair : Pair = get_or c.as_slice.result.now c.loop-at.at (None, None) in
+    let here =
+    ap (λ (xs : List Pair). slice_get xs c.loop-at.at) (sym c.as_slice.ensures.keys) ∙ is_there c.as_slice.result.now c.loop-at.at (None, None) inside in
+    record {
+      so = one_opened (IsNext ws ps ts) (None, None) c.loop-at.at c.loop-at.pairs.keys c.as_slice-in-loop-at-2.result.now c.insert_pairs.new.pairs.keys pair here
+          (those_over (IsNext ws ps ts pair) _ _ c.as_slice-in-loop-at-2.ensures.value c.in_ok-matched.ensures.next) c.in_ok-insert_pairs.ensures c.loop-at.invariant.so;
+      told = one_told (IsNext ws ps ts) (None, None) (IsDoubledBy ws ps ts) c.loop-at.at c.loop-at.pairs.keys c.in_ok-insert_pairs.ensures.behind c.insert_pairs.new.pairs.keys pair
+          c.loop-at.found.items c.as_slice-in-loop-at.result.now c.extend_from_slice.new.self.items here c.in_ok-insert_pairs.ensures.is
+          (those_over (IsDoubledBy ws ps ts pair) _ _ c.as_slice-in-loop-at.ensures.value c.in_ok-matched.ensures.doubled) c.loop-at.invariant.told
+          c.in_ok-extend_from_slice.ensures.items;
+    }
+
+pub returns : goal.returns
+returns c =
+    let ws = program_of c.args.statements.now in
+    let ps = c.args.parts.now in
+    let ts = c.args.targets.now in
+    let h = c.loop-at-test.false in
+    let l = c.len.ensures.len in
+    all_told (IsNext ws ps ts) (None, None) (IsDoubledBy ws ps ts) c.loop-at.at c.loop-at.pairs.keys c.loop-at.found.items (omega (arith, h, l)) c.loop-at.invariant.so
+    c.loop-at.invariant.told
