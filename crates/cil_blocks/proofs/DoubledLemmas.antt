@@ -1,12 +1,11 @@
 -- Blocks and macros that are written twice.
-use Rattle.std.proofs.Common.{◌≡◌, ◌⊎◌, ℕ, ◌+◌, ◌<◌, ◌≤◌, Bool, true, false, List, [], ◌∷◌, length, get_or, take, drop, refl, sym, ◌∙◌, ap, subst, inl, inr, arith}
+use Rattle.std.proofs.Common.{◌≡◌, ℕ, ◌+◌, ◌<◌, ◌≤◌, Bool, true, false, List, length, get_or, take, refl, sym, ◌∙◌, subst, inl, inr}
 use Rattle.std.specs.Prelude.{◌↔◌, Contains, IfOk, Result, Ok, Err}
 use Rattle.std.specs.List.Sorted.{IsPermutation}
 use Rattle.std.proofs.lemmas.List.{take_all}
 use Rattle.std.proofs.lemmas.List.Sorted.{Contains-permutation, IsPermutation-sym}
 use Rattle.cil_syntax.specs.Written.{Written}
-use Rattle.cil_blocks.specs.Doubled.{AreAlike, AreOthers, AreThose, AreWrittenTwice, HasOther, IsMatched, IsWrittenTwice, is_named_at}
-use Rattle.cil_blocks.specs.Entries.{statement_at}
+use Rattle.cil_blocks.specs.Doubled.{AreAlike, AreOthers, AreThose, AreWrittenTwice, HasOther, IsMatched, is_named_at}
 use Rattle.cil_blocks.specs.Named.{full_at}
 use Rattle.cil_blocks.proofs.Kept.{in_more}
 

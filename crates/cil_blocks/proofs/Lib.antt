@@ -30,6 +30,7 @@ pub mod ScopeLemmas
 pub mod Searches
 pub mod SeedLaw
 pub mod SeedLists
+pub mod SeedsShare
 pub mod StandingWalk
 pub mod StepLemmas
 pub mod TargetLemmas

@@ -151,19 +151,19 @@ module _ {X : Type 0} (opens : X → X → Type 0) (start : X) where
           (λ t. earlier i t inside),
           (λ o. elim o [
             | inl t ↦ let h = t.before in record {
-                place = t.place;
-                teller = t.teller;
-                before = omega (arith, h);
-                is_teller = ap (λ zs. slice_get zs t.place) longer ∙ get_in_front xs behind t.place (omega (arith, h, inside)) ∙ t.is_teller;
-                told = t.told;
-              }
+              place = t.place;
+              teller = t.teller;
+              before = omega (arith, h);
+              is_teller = ap (λ zs. slice_get zs t.place) longer ∙ get_in_front xs behind t.place (omega (arith, h, inside)) ∙ t.is_teller;
+              told = t.told;
+            }
             | inr t ↦ record {
-                place = at;
-                teller = s;
-                before = omega arith;
-                is_teller = ap (λ zs. slice_get zs at) longer ∙ get_in_front xs behind at inside ∙ here;
-                told = t;
-              }
+              place = at;
+              teller = s;
+              before = omega arith;
+              is_teller = ap (λ zs. slice_get zs at) longer ∙ get_in_front xs behind at inside ∙ here;
+              told = t;
+            }
           ]),
         )) where
           places : (k n : ℕ) → k < n + 1 → (k < n) ⊎ (k ≡ n)
@@ -172,12 +172,12 @@ module _ {X : Type 0} (opens : X → X → Type 0) (start : X) where
           earlier : (i : ℕ) → IsToldBy (at + 1) ys i → at < length xs → IsToldBy at xs i ⊎ tells s i
           earlier i t inside = elim (places t.place at t.before) [
             | inl below ↦ inl (record {
-                place = t.place;
-                teller = t.teller;
-                before = below;
-                is_teller = sym (get_in_front xs behind t.place (omega (arith, below, inside))) ∙ ap (λ zs. slice_get zs t.place) (sym longer) ∙ t.is_teller;
-                told = t.told;
-              })
+              place = t.place;
+              teller = t.teller;
+              before = below;
+              is_teller = sym (get_in_front xs behind t.place (omega (arith, below, inside))) ∙ ap (λ zs. slice_get zs t.place) (sym longer) ∙ t.is_teller;
+              told = t.told;
+            })
             | inr last ↦ inr (subst (λ z. tells z i)
                 (some_same t.teller s (sym t.is_teller ∙ ap (λ zs. slice_get zs t.place) longer ∙ get_in_front xs behind t.place (omega (arith, last, inside)) ∙ ap (slice_get xs) last ∙ here))
                 t.told)

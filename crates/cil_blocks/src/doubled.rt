@@ -103,11 +103,7 @@ fn by_written_name(statements: &[Statement], mut numbers: Vec<usize>) -> Vec<usi
 }
 
 /// Those of some statements that have the full name of one.
-fn written_alike<'n>(
-    statements: &[Statement],
-    numbers: &'n [usize],
-    number: usize,
-) -> &'n [usize]
+fn written_alike<'n>(statements: &[Statement], numbers: &'n [usize], number: usize) -> &'n [usize]
     requires nested { IsNested statements.now }
     requires sorted { IsSortedByKey (full_at (program_of statements.now)) names_cmp numbers.now }
     ensures { AreAlike (full_at (program_of statements.now)) numbers.now number result.now }

@@ -1,5 +1,6 @@
 //! What a seed gives to a namespace: the blocks and macros directly in it and in the blocks that are handed to it. A seed
-//! costs a step for each statement directly in these bodies, and a sort of the blocks and macros among them.
+//! costs a step for each statement directly in these bodies, a sort of the blocks and macros among them, and for each of
+//! these blocks a look at the statements directly in it, up to a mark that it is abstract.
 
 ghost use Rattle.std.specs.Prelude.{◌≡◌, ◌<◌, ◌↔◌, ◌++◌, ℕ, IfOk, OnOk, flat_map, length, true};
 ghost use Rattle.std.specs.List.Sorted.{IsPermutation, IsSortedByKey};

@@ -99,7 +99,12 @@ fn matched_of(
     requires open_blocks { IsSortedByKey (own_name (program_of statements.now)) text_cmp others.now.open_blocks.items }
     ensures { IfOk result (AreMatchedOf (program_of statements.now) ones.now others.now) }
 {
-    let doubled = doubled_among(alloc, statements, ones.named.as_slice(), others.named.as_slice())?;
+    let doubled = doubled_among(
+        alloc,
+        statements,
+        ones.named.as_slice(),
+        others.named.as_slice(),
+    )?;
     let next = pairs_among(
         alloc,
         statements,

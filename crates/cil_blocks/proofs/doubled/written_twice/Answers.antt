@@ -1,5 +1,4 @@
-use Rattle.std.proofs.Common.{sym, subst, List, ℕ}
-use Rattle.std.specs.Global.{Vec}
+use Rattle.std.proofs.Common.{subst, List, ℕ}
 use Rattle.cil_syntax.specs.Program.{program_of}
 use Rattle.cil_blocks.specs.Doubled.{AreOthers}
 use Rattle.cil_blocks.specs.Named.{full_at}

@@ -1,4 +1,4 @@
-use Rattle.std.proofs.Common.{ℕ, ◌-◌, ◌^◌}
+use Rattle.std.proofs.Common.{◌-◌, ◌^◌}
 use Rattle.cil_blocks.specs.Seeds.{IsHanded}
 use Rattle.cil_blocks.proofs.Reached.{AreSoFar}
 use Rattle.cil_blocks.proofs.reach.reached_from.Given as goal

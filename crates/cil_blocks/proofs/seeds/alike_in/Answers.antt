@@ -1,4 +1,4 @@
-use Rattle.std.proofs.Common.{rules, List, sym, subst}
+use Rattle.std.proofs.Common.{rules, sym, subst}
 use Rattle.std.specs.List.Sorted.{IsSortedByKey}
 use Rattle.std.proofs.lemmas.List.Sorted.{IsPartitionPoint-from_clause}
 use Rattle.std.proofs.lemmas.Cmp.{nat_list_cmp_total}

@@ -1,4 +1,4 @@
-use Rattle.std.proofs.Common.{◌<◌, List, ℕ, arith, get_or, length, sym, ◌∙◌, ap}
+use Rattle.std.proofs.Common.{◌<◌, List, arith, get_or, length, sym, ◌∙◌, ap}
 use Rattle.std.specs.Prelude.{None, slice_get}
 use Rattle.indexmap.specs.IndexSet.{insert_key}
 use Rattle.cil_syntax.specs.Program.{program_of}

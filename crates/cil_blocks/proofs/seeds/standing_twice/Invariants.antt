@@ -1,4 +1,4 @@
-use Rattle.std.proofs.Common.{ℕ, ◌-◌, ◌^◌}
+use Rattle.std.proofs.Common.{◌-◌, ◌^◌}
 use Rattle.std.specs.Prelude.{None}
 use Rattle.cil_syntax.specs.Program.{program_of}
 use Rattle.cil_blocks.specs.Doubled.{AreThose}
@@ -9,7 +9,7 @@ use Rattle.cil_blocks.proofs.seeds.standing_twice.Given as goal
 abbrev pub invariant-loop-at : goal.invariant-loop-at
 invariant-loop-at l = record {
   so : AreSoFar (IsNext (program_of l.statements) l.parts l.targets) (None, None) l.at l.pairs.keys;
-  told : AreThose (IsToldBy (IsNext (program_of l.statements) l.parts l.targets) (None, None) (IsDoubledBy (program_of l.statements) l.parts l.targets) l.at l.pairs.keys) l.found.items
+  told : AreThose (IsToldBy (IsNext (program_of l.statements) l.parts l.targets) (None, None) (IsDoubledBy (program_of l.statements) l.parts l.targets) l.at l.pairs.keys) l.found.items;
 }
 
 -- a set has fewer members than there are places in memory
