@@ -6,8 +6,8 @@
 //! faults are defined and not yet computed, so `contents_of` speaks of programs in which nothing is wrong. Macros are not
 //! unfolded here.
 //! step; `targets.rt` finds the blocks that blockinherits name, and `doubled.rt` the blocks and macros that share their name
-//! with another one. The other faults are defined and not yet computed, so
-//! `contents_of` speaks of programs in which nothing is wrong. Macros are not unfolded here.
+//! with another one. The other faults are defined and not yet computed, so `contents_of` speaks of programs in which nothing
+//! is wrong. Macros are not unfolded here.
 #![tactic(auto)]
 
 pub mod contents;
