@@ -3,12 +3,12 @@ pub mod Begun
 pub mod ContentLemmas
 pub mod CycleLemmas
 pub mod CycleSearch
-pub mod Cycles
 pub mod DoubledLemmas
 pub mod EntryLemmas
 pub mod FaultExamples
 pub mod FirstNamed
 pub mod Given
+pub mod InheritLemmas
 pub mod Kept
 pub mod LawLemmas
 pub mod ListLemmas

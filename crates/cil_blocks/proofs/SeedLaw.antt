@@ -13,7 +13,7 @@ use Rattle.cil_blocks.specs.Entries.{AreParts, nothing, statement_at}
 use Rattle.cil_blocks.specs.InheritFaults.{Gives, IsDoubled, IsNamedTwice, IsOf, in_contents, in_writing}
 use Rattle.cil_blocks.specs.Named.{AreAllTargets, full_name}
 use Rattle.cil_blocks.specs.Seeds.{StandsTwice, body_of, body_parts}
-use Rattle.cil_blocks.proofs.Cycles.{is_shared}
+use Rattle.cil_blocks.proofs.CycleLemmas.{is_shared}
 use Rattle.cil_blocks.proofs.Kept.{grown}
 use Rattle.cil_blocks.proofs.ListLemmas.{get_at, get_so}
 use Rattle.cil_blocks.proofs.MemberLemmas.{named_below}

@@ -10,13 +10,14 @@ use Rattle.cil_blocks.specs.Named.{full_at}
 abbrev pub AreDoubled : List Written → ℕ → List ℕ → Type 0
 AreDoubled ws n found = (i : ℕ) → Contains found i ↔ ((i < n) × IsDoubled ws (statement_at ws i))
 
--- the list has exactly these
-abbrev pub AreThose : {X : Type 0} → (X → Type 0) → List X → Type 0
-AreThose P xs = (x : _) → Contains xs x ↔ P x
+module _ {X : Type 0} where
+  -- the list has exactly these
+  abbrev pub AreThose : (X → Type 0) → List X → Type 0
+  AreThose P xs = (x : X) → Contains xs x ↔ P x
 
--- those of a list that pass
-abbrev pub AreKept : {X : Type 0} → (X → Type 0) → List X → List X → Type 0
-AreKept T xs found = AreThose (λ x. Contains xs x × T x) found
+  -- those of a list that pass
+  abbrev pub AreKept : (X → Type 0) → List X → List X → Type 0
+  AreKept T xs found = AreThose (λ x. Contains xs x × T x) found
 
 -- the statement of a number is a block or a macro
 abbrev pub is_named_at : List Written → ℕ → Bool

@@ -1,5 +1,5 @@
 -- What is told of blocks, statement by statement, and what the whole step answers. This project's profile.
-use Rattle.std.specs.Prelude.{◌≡◌, ◌≤◌, ◌<◌, ◌↔◌, ℕ, true, List, [], ◌∷◌, length, Contains, Option, Some, None, slice_get}
+use Rattle.std.specs.Prelude.{◌≡◌, ◌⊎◌, ◌≤◌, ◌<◌, ◌↔◌, ℕ, true, List, [], ◌∷◌, length, Contains, Option, Some, None, slice_get}
 use Rattle.cil_sexpr.specs.Lists.{Lists}
 use Rattle.cil_syntax.specs.declared.code.FaultCode.{FaultCode}
 use Rattle.cil_syntax.specs.declared.code.FaultCode.TheVariants as causes
@@ -60,6 +60,13 @@ IsToldOf ws P told f = (w : Written) × Contains ws w × P w × Contains (told w
 abbrev pub AreAllFaults : (Fault → Type 0) → Option (List Fault) → Type 0
 AreAllFaults step None = (f : Fault) → step f → ⊥
 AreAllFaults step (Some faults) = AreFaults step faults
+
+-- the last list has the faults of the first two
+abbrev pub AreJoined : Option (List Fault) → Option (List Fault) → Option (List Fault) → Type 0
+AreJoined None other joined = joined ≡ other
+AreJoined (Some faults) None joined = joined ≡ Some faults
+AreJoined (Some faults) (Some others) None = ⊥
+AreJoined (Some faults) (Some others) (Some joined) = AreFaults (λ f. Contains faults f ⊎ Contains others f) joined
 
 -- ---- what stands, as it is kept
 

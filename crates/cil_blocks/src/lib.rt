@@ -1,13 +1,11 @@
-//! Blocks and inheritance: what stands in which namespace, with the scope of its words.
+//! Blocks and inheritance: what stands in which namespace, with the scope of its words, or all that is wrong with the
+//! blocks of a program.
 //!
-//! Start at `contents_of` in `contents.rt`. `specs/Contents.antt` says what stands where and through which blockinherits;
-//! `specs/InheritFaults.antt` what is wrong with blocks; `laws.rt` has laws of both. `walker.rt` opens what stands, step by
-//! step; `targets.rt` finds the blocks that blockinherits name, and `cycles.rt` the blockinherits that lie on a cycle. The
-//! faults are defined and not yet computed, so `contents_of` speaks of programs in which nothing is wrong. Macros are not
-//! unfolded here.
-//! step; `targets.rt` finds the blocks that blockinherits name, and `doubled.rt` the blocks and macros that share their name
-//! with another one. The other faults are defined and not yet computed, so `contents_of` speaks of programs in which nothing
-//! is wrong. Macros are not unfolded here.
+//! Start at `inherit` in `inheritance.rt`. `specs/Contents.antt` says what stands where and through which blockinherits;
+//! `specs/InheritFaults.antt` what is wrong with blocks; `laws.rt` has laws of both. `targets.rt` finds the blocks that
+//! blockinherits name, `doubled.rt` the blocks and macros that share their name with another one, and `cycles.rt` the
+//! blockinherits that lie on a cycle; `reports.rt` tells what is wrong. `walker.rt` opens what stands, step by step. Macros are
+//! not unfolded here.
 #![tactic(auto)]
 
 pub mod contents;
@@ -15,16 +13,20 @@ pub mod cycles;
 pub mod doubled;
 mod entry;
 mod guess;
+pub mod inheritance;
 pub mod laws;
 mod levels;
 pub mod names;
 pub mod opened;
 pub mod parts;
-pub mod reports;
 pub mod reach;
+pub mod reports;
 pub mod seeds;
+pub mod spaces;
 pub mod targets;
 pub mod walker;
 
 pub use entry::Entry;
+pub use inheritance::{MOST_INSTANCES, inherit};
 pub use parts::Parts;
+pub use spaces::Spaces;

@@ -7,13 +7,13 @@ use Rattle.cil_blocks.proofs.contents.contents_of.Goals as goal
 pub returns-clause-all : goal.returns-clause-all
 returns-clause-all c =
     if_some _ _ c.walk.result
-    (λ v all none. all (program_of c.args.statements.now) (walkable c.args.statements.now c.in_ok-parts.parts c.as_slice-2.result.now c.requires c.one_target.ensures c.in_ok-parts.ensures
-    (λ one. subst (AreOpened (program_of c.args.statements.now)) (sym c.as_slice-2.ensures.value) (c.in_ok-opened.ensures one)) none))
+    (λ v all none. all (program_of c.args.statements.now) (walkable c.args.statements.now c.args.parts.now c.as_slice.result.now c.requires.nested c.one_target.ensures c.requires.parts
+    (λ one. subst (AreOpened (program_of c.args.statements.now)) (sym c.as_slice.ensures.value) (c.in_ok-opened.ensures one)) none))
     c.walk.ensures.all
 
 pub returns-clause-many : goal.returns-clause-many
 returns-clause-many c =
     if_none _ _ c.walk.result
-    (λ many none. many (program_of c.args.statements.now) (walkable c.args.statements.now c.in_ok-parts.parts c.as_slice-2.result.now c.requires c.one_target.ensures c.in_ok-parts.ensures
-    (λ one. subst (AreOpened (program_of c.args.statements.now)) (sym c.as_slice-2.ensures.value) (c.in_ok-opened.ensures one)) none))
+    (λ many none. many (program_of c.args.statements.now) (walkable c.args.statements.now c.args.parts.now c.as_slice.result.now c.requires.nested c.one_target.ensures c.requires.parts
+    (λ one. subst (AreOpened (program_of c.args.statements.now)) (sym c.as_slice.ensures.value) (c.in_ok-opened.ensures one)) none))
     c.walk.ensures.many
