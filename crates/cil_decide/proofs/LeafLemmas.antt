@@ -21,7 +21,7 @@ module _ (m : ℕ) where
   pub name_said : (at : ℕ) (bytes : Bytes) → said_of m (variants.Name at bytes) ≡ Name (spot_at m at) bytes
   name_said at bytes = search (rules, the_lemmas)
 
-  pub form_said : (at : ℕ) (op : Op) (parts : Vec rust.Term Global) → said_of m (variants.Form at op parts) ≡ Form (spot_at m at) op (all_said m parts.items)
+  pub form_said : (at : ℕ) (op : Op) (parts : Vec rust.Term Global) → said_of m (variants.Form op at parts) ≡ Form (spot_at m at) op (all_said m parts.items)
   form_said at op parts = search (rules, the_lemmas)
 
   abbrev pub leaves_of : rust.Term → List Word
@@ -38,7 +38,7 @@ module _ (m : ℕ) where
   unfolding words_in
   leaves_name t at bytes is = ap words_in (ap (said_of m) is ∙ name_said at bytes)
 
-  pub leaves_form : (t : rust.Term) (at : ℕ) (op : Op) (parts : Vec rust.Term Global) → t ≡ variants.Form at op parts → leaves_of t ≡ all_leaves parts.items
+  pub leaves_form : (t : rust.Term) (at : ℕ) (op : Op) (parts : Vec rust.Term Global) → t ≡ variants.Form op at parts → leaves_of t ≡ all_leaves parts.items
   unfolding words_in
   leaves_form t at op parts is = ap words_in (ap (said_of m) is ∙ form_said at op parts)
 
@@ -84,7 +84,7 @@ module _ (m : ℕ) where
         ∙ drop-drop (length (leaves_of x)) (length (all_leaves (take i xs))) words
         ∙ ap (λ n. drop n words) (sym (ap length (leaves_more xs i x within is) ∙ length-append (all_leaves (take i xs)) (leaves_of x)))
 
-    pub behind_all : (t : rust.Term) (at : ℕ) (op : Op) (parts : Vec rust.Term Global) (xs : List rust.Term) (i : ℕ) (rest : List Y) → t ≡ variants.Form at op parts → xs ≡ parts.items
+    pub behind_all : (t : rust.Term) (at : ℕ) (op : Op) (parts : Vec rust.Term Global) (xs : List rust.Term) (i : ℕ) (rest : List Y) → t ≡ variants.Form op at parts → xs ≡ parts.items
         → length xs ≤ i → rest ≡ drop (length (all_leaves (take i xs))) words → rest ≡ drop (length (leaves_of t)) words
     behind_all t at op parts xs i rest is same over so_far =
         so_far ∙ ap (λ l. drop (length l) words) (ap all_leaves (take_all i xs over ∙ same) ∙ sym (leaves_form t at op parts is))

@@ -89,7 +89,7 @@ module _ (k : Known) (scope : List ℕ) (m : ℕ) (t : rust.Term) where
   is_word : (w : LookedUp) → t ≡ variants.Leaf w → term_in_scope k scope m t ≡ Leaf (word_in_scope k scope (word_in m w))
   is_word w is = ap (across (word_in_scope k scope)) (ap (said_of m) is ∙ leaf_said m w) ∙ leaf_across (word_in_scope k scope) (word_in m w)
 
-  is_form : (at : ℕ) (op : Op) (parts : Vec rust.Term Global) → t ≡ variants.Form at op parts
+  is_form : (at : ℕ) (op : Op) (parts : Vec rust.Term Global) → t ≡ variants.Form op at parts
       → term_in_scope k scope m t ≡ Form (spot_at m at) op (all_across (word_in_scope k scope) (all_said m parts.items))
   is_form at op parts is =
       ap (across (word_in_scope k scope)) (ap (said_of m) is ∙ form_said m at op parts) ∙ form_across (word_in_scope k scope) (spot_at m at) op (all_said m parts.items)
@@ -110,7 +110,7 @@ module _ (k : Known) (scope : List ℕ) (m : ℕ) (t : rust.Term) where
         subst (HasTarget xs (enabled_in k))
         (ap (across (word_in_scope k scope)) (ap (said_of m) is ∙ name_said m at bytes) ∙ name_across (word_in_scope k scope) (spot_at m at) bytes) h
 
-    pub form_reached : (at : ℕ) (op : Op) (parts : Vec rust.Term Global) (r : Option Target) → t ≡ variants.Form at op parts
+    pub form_reached : (at : ℕ) (op : Op) (parts : Vec rust.Term Global) (r : Option Target) → t ≡ variants.Form op at parts
         → MatchOption r (op ≡ ops.Itself → ⊥) (λ target. (op ≡ ops.Itself) × (target ≡ targets.Itself))
         → MatchOption r (HasTarget xs (enabled_in k) (term_in_scope k scope m t) → ⊥)
         (λ target. HasTarget xs (enabled_in k) (term_in_scope k scope m t) × IsTargetOf xs (enabled_in k) types (term_in_scope k scope m t) target)

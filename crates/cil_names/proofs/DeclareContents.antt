@@ -24,7 +24,7 @@ leaf_said m w = search (rules, the_lemmas)
 name_said : (m : ℕ) (at : ℕ) (bytes : List ℕ) → said_of m (rust.Name at bytes) ≡ Name (spot_at m at) bytes
 name_said m at bytes = search (rules, the_lemmas)
 
-form_said : (m : ℕ) (at : ℕ) (op : Op) (parts : Vec rust.Term) → said_of m (rust.Form at op parts) ≡ Form (spot_at m at) op (all_said m parts.items)
+form_said : (m : ℕ) (at : ℕ) (op : Op) (parts : Vec rust.Term) → said_of m (rust.Form op at parts) ≡ Form (spot_at m at) op (all_said m parts.items)
 form_said m at op parts = search (rules, the_lemmas)
 
 abbrev pub bare_word : Scope → List ℕ → Sign → Bare
@@ -39,7 +39,7 @@ module _ (m : ℕ) (s : Scope) (t : rust.Term) where
   unfolding bare_term replaced
   is_name at bytes e = ap (bare_term m s) e ∙ ap (λ u. replaced (λ at. nowhere) bare (replaced (λ at. at) (in_scope s) u)) (name_said m at bytes)
 
-  pub is_form : (at : ℕ) (op : Op) (parts : Vec rust.Term) → t ≡ rust.Form at op parts → bare_term m s t ≡ Form nowhere op (bare_terms m s parts.items)
+  pub is_form : (at : ℕ) (op : Op) (parts : Vec rust.Term) → t ≡ rust.Form op at parts → bare_term m s t ≡ Form nowhere op (bare_terms m s parts.items)
   unfolding bare_term bare_terms replaced
   is_form at op parts e = ap (bare_term m s) e ∙ ap (λ u. replaced (λ at. nowhere) bare (replaced (λ at. at) (in_scope s) u)) (form_said m at op parts)
 
@@ -101,13 +101,13 @@ module _ (m n : ℕ) (s t : Scope) (one : Bool) (scopes : (IsTrue one → s ≡ 
       tells_of same _ _ (Name nowhere x) (Name nowhere y) (is_name m s a at x e) (is_name n t b bt y f)
       ((λ g. ap (Name nowhere) (tells.0 g)), (λ g. tells.1 (ap name_bytes g)))
 
-  pub forms_tell : (at bt : ℕ) (o p : Op) (xs ys : Vec rust.Term) (same : Bool) → a ≡ rust.Form at o xs → b ≡ rust.Form bt p ys → o ≡ p
+  pub forms_tell : (at bt : ℕ) (o p : Op) (xs ys : Vec rust.Term) (same : Bool) → a ≡ rust.Form o at xs → b ≡ rust.Form p bt ys → o ≡ p
       → Tells same (bare_terms m s xs.items) (bare_terms n t ys.items) → Tells same (bare_term m s a) (bare_term n t b)
   forms_tell at bt o p xs ys same e f one_op tells =
       tells_of same _ _ (Form nowhere o (bare_terms m s xs.items)) (Form nowhere p (bare_terms n t ys.items)) (is_form m s a at o xs e) (is_form n t b bt p ys f)
       ((λ g. λ i. Form nowhere (one_op i) (tells.0 g i)), (λ g. tells.1 (ap parts_of g)))
 
-  pub ops_tell : (at bt : ℕ) (o p : Op) (xs ys : Vec rust.Term) (same : Bool) → a ≡ rust.Form at o xs → b ≡ rust.Form bt p ys → same ≡ false
+  pub ops_tell : (at bt : ℕ) (o p : Op) (xs ys : Vec rust.Term) (same : Bool) → a ≡ rust.Form o at xs → b ≡ rust.Form p bt ys → same ≡ false
       → (o ≡ p → IsTrue same) → Tells same (bare_term m s a) (bare_term n t b)
   ops_tell at bt o p xs ys same e f is told =
       tells_of same _ _ (Form nowhere o (bare_terms m s xs.items)) (Form nowhere p (bare_terms n t ys.items)) (is_form m s a at o xs e) (is_form n t b bt p ys f)

@@ -17,7 +17,7 @@ leaf_said m w = search (rules, the_lemmas)
 pub name_said : (m at : ℕ) (bytes : List ℕ) → said_of m (rust.Name at bytes) ≡ Name (spot_at m at) bytes
 name_said m at bytes = search (rules, the_lemmas)
 
-pub form_said : (m at : ℕ) (op : Op) (parts : Vec rust.Term) → said_of m (rust.Form at op parts) ≡ Form (spot_at m at) op (all_said m parts.items)
+pub form_said : (m at : ℕ) (op : Op) (parts : Vec rust.Term) → said_of m (rust.Form op at parts) ≡ Form (spot_at m at) op (all_said m parts.items)
 form_said m at op parts = search (rules, the_lemmas)
 
 module _ {Y : Type 0} (m : ℕ) (f : Word → Y) where
@@ -38,7 +38,7 @@ module _ {Y : Type 0} (m : ℕ) (f : Word → Y) where
     unfolding words_in
     of_name at bytes is = sym (ap (λ u. old ++ map f (words_in u)) (ap (said_of m) is ∙ name_said m at bytes) ∙ append-nil old)
 
-    pub of_form : (at : ℕ) (op : Op) (parts : Vec rust.Term) → t ≡ rust.Form at op parts → (items : List rust.Term) → items ≡ parts.items → new ≡ old ++ all_meant items
+    pub of_form : (at : ℕ) (op : Op) (parts : Vec rust.Term) → t ≡ rust.Form op at parts → (items : List rust.Term) → items ≡ parts.items → new ≡ old ++ all_meant items
         → new ≡ old ++ map f (words_in (said_of m t))
     unfolding words_in
     of_form at op parts is items same push =

@@ -50,7 +50,7 @@ module _ (ss : List Space) (sc : List ℕ) (n : Namespace) (m : ℕ) where
   unfolding replaced
   scoped_name t at bytes e = ap (scoped_term ss sc m) e ∙ ap (replaced (λ at. at) (scoped ss sc)) (name_said m at bytes)
 
-  pub scoped_form : (t : rust.Term) (at : ℕ) (op : Op) (parts : Vec rust.Term) → t ≡ rust.Form at op parts → scoped_term ss sc m t ≡ Form (spot_at m at) op (scoped_terms ss sc m parts.items)
+  pub scoped_form : (t : rust.Term) (at : ℕ) (op : Op) (parts : Vec rust.Term) → t ≡ rust.Form op at parts → scoped_term ss sc m t ≡ Form (spot_at m at) op (scoped_terms ss sc m parts.items)
   unfolding replaced
   scoped_form t at op parts e = ap (scoped_term ss sc m) e ∙ ap (replaced (λ at. at) (scoped ss sc)) (form_said m at op parts)
 
@@ -101,7 +101,7 @@ module _ (ss : List Space) (sc : List ℕ) (n : Namespace) (m : ℕ) where
     unfolding words_in
     name_unlisted at bytes is = sym (ap (λ u. old ++ faults_unless_listed permissions n (words_in u)) (scoped_name t at bytes is) ∙ append-nil old)
 
-    pub form_unlisted : (at : ℕ) (op : Op) (parts : Vec rust.Term) → t ≡ rust.Form at op parts → (items : List rust.Term) → items ≡ parts.items
+    pub form_unlisted : (at : ℕ) (op : Op) (parts : Vec rust.Term) → t ≡ rust.Form op at parts → (items : List rust.Term) → items ≡ parts.items
         → new ≡ old ++ faults_unless_listed permissions n (all_words_in (scoped_terms ss sc m items)) → new ≡ old ++ faults_unless_listed permissions n (words_in (scoped_term ss sc m t))
     unfolding words_in
     form_unlisted at op parts is items same push =
@@ -136,7 +136,7 @@ module _ (ss : List Space) (sc : List ℕ) (n : Namespace) (m : ℕ) where
     unfolding wanted_in
     name_told at bytes is = sym (ap (λ u. old ++ faults_of_all xs s n (wanted_in u)) (scoped_name t at bytes is) ∙ append-nil old)
 
-    pub class_told : (at : ℕ) (op : Op) (parts : Vec rust.Term) → t ≡ rust.Form at op parts → (items : List rust.Term) → items ≡ parts.items → is_class_list op ≡ true
+    pub class_told : (at : ℕ) (op : Op) (parts : Vec rust.Term) → t ≡ rust.Form op at parts → (items : List rust.Term) → items ≡ parts.items → is_class_list op ≡ true
         → new ≡ old ++ faults_of_all xs s n (words_of_class (scoped_terms ss sc m items)) → new ≡ old ++ faults_of_all xs s n (wanted_in (scoped_term ss sc m t))
     unfolding wanted_in
     class_told at op parts is items same of_class push =
@@ -144,7 +144,7 @@ module _ (ss : List Space) (sc : List ℕ) (n : Namespace) (m : ℕ) where
         ∙ sym (ap (λ u. old ++ faults_of_all xs s n (wanted_in u)) (scoped_form t at op parts is)
         ∙ ap (λ b. old ++ faults_of_all xs s n (if b then words_of_class (scoped_terms ss sc m parts.items) else all_wanted_in (scoped_terms ss sc m parts.items))) of_class)
 
-    pub form_told : (at : ℕ) (op : Op) (parts : Vec rust.Term) → t ≡ rust.Form at op parts → (items : List rust.Term) → items ≡ parts.items → is_class_list op ≡ false
+    pub form_told : (at : ℕ) (op : Op) (parts : Vec rust.Term) → t ≡ rust.Form op at parts → (items : List rust.Term) → items ≡ parts.items → is_class_list op ≡ false
         → new ≡ old ++ faults_of_all xs s n (all_wanted_in (scoped_terms ss sc m items)) → new ≡ old ++ faults_of_all xs s n (wanted_in (scoped_term ss sc m t))
     unfolding wanted_in
     form_told at op parts is items same other push =

@@ -37,10 +37,10 @@ fn is_same_term(a: &Term, b: &Term, one_scope: bool) -> bool
             Term::Name(_, other) => is_same_text(name.as_slice(), other.as_slice()),
             Term::Form(_, _, _) => false,
         },
-        Term::Form(_, op, parts) => match b {
+        Term::Form(op, _, parts) => match b {
             Term::Leaf(_) => false,
             Term::Name(_, _) => false,
-            Term::Form(_, other, rest) => {
+            Term::Form(other, _, rest) => {
                 is_same_op(*op, *other)
                     && is_same_content(parts.as_slice(), rest.as_slice(), one_scope)
             }

@@ -70,7 +70,7 @@ impl<'s, 'a> Judge<'s, 'a> {
                 self.word(words, faults, &word.in_module(self.filling.module))?;
             }
             Term::Name(_, _) => {}
-            Term::Form(_, op, parts) => {
+            Term::Form(op, _, parts) => {
                 if op.is_class_list() {
                     self.class_list(words, faults, parts.as_slice())?;
                 } else {

@@ -33,7 +33,7 @@ word_view m w = search (rules, the_lemmas)
 name_view : (m at : ℕ) (bytes : List ℕ) → said_of m (variants.Name at bytes) ≡ Name (spot_at m at) bytes
 name_view m at bytes = search (rules, the_lemmas)
 
-form_view : (m at : ℕ) (op : Op) (parts : Vec rust.Term Global) → said_of m (variants.Form at op parts) ≡ Form (spot_at m at) op (all_said m parts.items)
+form_view : (m at : ℕ) (op : Op) (parts : Vec rust.Term Global) → said_of m (variants.Form op at parts) ≡ Form (spot_at m at) op (all_said m parts.items)
 form_view m at op parts = search (rules, the_lemmas)
 
 front : (m : ℕ) (ts : List rust.Term) (t : rust.Term) → 1 ≤ length ts → t ≡ get_or ts 0 t → all_said m ts ≡ cons (said_of m t) (all_said m (drop 1 ts))
@@ -52,7 +52,7 @@ found_named m None there e = sym (ap listed e)
 found_named m (Some n) there e = sym (ap listed e)
 
 module _ (ts : List rust.Term) (t : rust.Term) (some : 1 ≤ length ts) (first : t ≡ get_or ts 0 t) where
-  pub behind_a_form : (at : ℕ) (op : Op) (parts : Vec rust.Term Global) → t ≡ variants.Form at op parts → (r : Option NameAt) (rest : List rust.Term) → rest ≡ drop 1 ts
+  pub behind_a_form : (at : ℕ) (op : Op) (parts : Vec rust.Term Global) → t ≡ variants.Form op at parts → (r : Option NameAt) (rest : List rust.Term) → rest ≡ drop 1 ts
       → ((m : ℕ) → MatchOption r (named_in_front (all_said m rest) ≡ None) (λ n. named_in_front (all_said m rest) ≡ Some (named_at m n)))
       → (m : ℕ) → are_named m (listed r) ≡ parameter_in (all_said m ts)
   behind_a_form at op parts is r rest same found m =
@@ -75,7 +75,7 @@ one_has_none (a ∷ []) few m = refl
 one_has_none (a ∷ b ∷ more) few m = absurd (omega (arith, few))
 
 pub form_has_parts : (ts : List rust.Term) (t : rust.Term) (at : ℕ) (op : Op) (parts : Vec rust.Term Global) (shown : List rust.Term) → 2 ≤ length ts → t ≡ get_or ts 1 t
-    → t ≡ variants.Form at op parts → shown ≡ parts.items → (m : ℕ) → parameters_in (all_said m shown) ≡ parameters_of (all_said m ts)
+    → t ≡ variants.Form op at parts → shown ≡ parts.items → (m : ℕ) → parameters_in (all_said m shown) ≡ parameters_of (all_said m ts)
 form_has_parts ts t at op parts shown some first is same m =
     second ts t (λ xs. parameters_in (all_said m shown) ≡ parameters_of (all_said m xs)) some first
     (λ a more. ap (λ xs. parameters_in (all_said m xs)) same

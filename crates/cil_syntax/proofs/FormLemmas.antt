@@ -97,20 +97,20 @@ module _ (m : ℕ) (ts : List rust.Term) (t : rust.Term) (some : 1 ≤ length ts
       let view : said_of m (variants.Leaf w) ≡ Leaf (word_in m w) = search (rules, the_lemmas) in
       ap name_in_front (first_said m ts t some first ∙ ap (λ y. cons y (all_said m (drop 1 ts))) (ap (said_of m) is ∙ view))
 
-  pub form_has_no_name : (at : ℕ) (op : Op) (parts : Vec rust.Term Global) → t ≡ variants.Form at op parts → name_in_front (all_said m ts) ≡ None
+  pub form_has_no_name : (at : ℕ) (op : Op) (parts : Vec rust.Term Global) → t ≡ variants.Form op at parts → name_in_front (all_said m ts) ≡ None
   form_has_no_name at op parts is =
-      let view : said_of m (variants.Form at op parts) ≡ Form (spot_at m at) op (all_said m parts.items) = search (rules, the_lemmas) in
+      let view : said_of m (variants.Form op at parts) ≡ Form (spot_at m at) op (all_said m parts.items) = search (rules, the_lemmas) in
       ap name_in_front (first_said m ts t some first ∙ ap (λ y. cons y (all_said m (drop 1 ts))) (ap (said_of m) is ∙ view))
 
 -- ---- a class permission
 
-pub class_parted : (m : ℕ) (t : rust.Term) (at : ℕ) (op : Op) (parts : Vec rust.Term Global) (items : List rust.Term) (r : Option ClassParts) → t ≡ variants.Form at op parts
+pub class_parted : (m : ℕ) (t : rust.Term) (at : ℕ) (op : Op) (parts : Vec rust.Term Global) (items : List rust.Term) (r : Option ClassParts) → t ≡ variants.Form op at parts
     → items ≡ parts.items → op ≡ ops.ClassPermissions
     → MatchOption r (word_and_term (all_said m items) ≡ None)
     (λ found. all_said m items ≡ cons (Leaf found.class) (cons (said_of m found.permissions.now) nil))
     → MatchOption r (class_form (said_of m t) ≡ None) (λ found. IsClassForm (said_of m t) found.class (said_of m found.permissions.now))
 class_parted m t at op parts items r is same list found =
-    let view : said_of m (variants.Form at op parts) ≡ Form (spot_at m at) op (all_said m parts.items) = search (rules, the_lemmas) in
+    let view : said_of m (variants.Form op at parts) ≡ Form (spot_at m at) op (all_said m parts.items) = search (rules, the_lemmas) in
     let whole : said_of m t ≡ Form (spot_at m at) ops.ClassPermissions (all_said m items) =
     ap (said_of m) is ∙ view ∙ ap (λ o. Form (spot_at m at) o (all_said m parts.items)) list ∙ ap (λ ts. Form (spot_at m at) ops.ClassPermissions (all_said m ts)) (sym same) in
     parted r whole found

@@ -49,10 +49,10 @@ right_operands shape false (c ∷ d ∷ e ∷ cs) h = absurd (omega (arith, h))
 
 -- a form of terms that were read
 pub formed_told : (m : ℕ) (space : List ℕ) (at : ℕ) (op : Op) (r : Option (Reading (Terms Word))) (old new : List Fault) (parts : Vec rust.Term Global)
-    → AreTold m space r old new (Some parts) → IsTold m space (formed (spot_at m at) op [] r) old new (Some (variants.Form at op parts))
+    → AreTold m space r old new (Some parts) → IsTold m space (formed (spot_at m at) op [] r) old new (Some (variants.Form op at parts))
 formed_told m space at op None old new parts h = absurd h
 formed_told m space at op (Some r) old new parts h =
-    let view : said_of m (variants.Form at op parts) ≡ Form (spot_at m at) op (all_said m parts.items) = search (rules, the_lemmas) in
+    let view : said_of m (variants.Form op at parts) ≡ Form (spot_at m at) op (all_said m parts.items) = search (rules, the_lemmas) in
     (view ∙ ap (Form (spot_at m at) op) h.0, h.1)
 
 -- nothing was read, and so no form

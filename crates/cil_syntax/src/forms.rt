@@ -98,7 +98,7 @@ impl<'a> Term<'a> {
         match self {
             Term::Leaf(_) => None,
             Term::Name(_, _) => None,
-            Term::Form(_, op, parts) => {
+            Term::Form(op, _, parts) => {
                 if op.is_class_list() {
                     word_and_term(parts.as_slice(), module)
                 } else {

@@ -61,7 +61,7 @@ impl<'r, 'a> Reader<'r, 'a> {
             return Err(Stop::OtherShape);
         };
         let parts = self.read_row(row, items.as_slice(), faults)?;
-        Ok(Term::Form(span.start, op, parts))
+        Ok(Term::Form(op, span.start, parts))
     }
 
     /// Reads the items of a list by a row.

@@ -102,7 +102,7 @@ impl<'r, 'a> Reader<'r, 'a> {
     {
         let Some((op, span)) = operator_at_head(self.text, nodes) else {
             let parts = self.read_sets(sign, nodes, faults)?;
-            return Ok(Term::Form(at, Op::Union, parts));
+            return Ok(Term::Form(Op::Union, at, parts));
         };
         let word = bytes_at(self.text, span);
         self.report(faults, FaultCode::Unsupported, span.start, word)?;
@@ -110,7 +110,7 @@ impl<'r, 'a> Reader<'r, 'a> {
             return Err(Stop::OtherShape);
         }
         let operands = self.read_sets(sign, &nodes[1..], faults)?;
-        Ok(Term::Form(at, op, operands))
+        Ok(Term::Form(op, at, operands))
     }
 
     /// Reads any number of sets.

@@ -100,7 +100,7 @@ impl<'r, 'a> Reader<'r, 'a> {
         ensures { Tells self.now.number (space_of self.now.place.now) (left_out_reading (spot_at self.now.number at) op word.now) faults.old.items faults.new.items result }
     {
         self.report(faults, FaultCode::Unsupported, at, word)?;
-        Ok(Term::Form(at, op, Vec::new(self.alloc)))
+        Ok(Term::Form(op, at, Vec::new(self.alloc)))
     }
 
     /// Reads one word, as it is.
@@ -120,7 +120,7 @@ impl<'r, 'a> Reader<'r, 'a> {
         if bytes_at(self.text, *span) != fixed {
             return Err(Stop::OtherShape);
         }
-        Ok(Term::Form(span.start, op, Vec::new(self.alloc)))
+        Ok(Term::Form(op, span.start, Vec::new(self.alloc)))
     }
 
     /// Reads one word that is not supported.

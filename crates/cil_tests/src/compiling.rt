@@ -49,7 +49,7 @@ const SECTIONS: &str =
     types: Names { names: [a, b] }, classes: [Class { name: file, permissions: Names { names: [open, read] } }], \
     user_roles: [Link { holder: 0, held: 1 }], \
     role_types: [Link { holder: 1, held: 0 }, Link { holder: 1, held: 1 }], \
-    allow: [Rule { source: Numbers { numbers: [0] }, target: Types(Numbers { numbers: [1] }), class: 0, mask: 2 }] }";
+    allow: [Rule { source: Numbers { numbers: One(0) }, target: Types(Numbers { numbers: One(1) }), class: 0, mask: 2 }] }";
 
 /// Modules, and their tables or faults.
 const ANSWERS: &[(&[&str], &str)] = &[
@@ -205,7 +205,7 @@ fn seventy_thousand_types_are_numbered(rt: HostRuntime) -> Result<(), Fail> {
     // `n9999` is the greatest name in byte order, and `n0` the least.
     assert_eq!(rt;
         rules,
-        "[Rule { source: Numbers { numbers: [69999] }, target: Types(Numbers { numbers: [0] }), class: 0, mask: 1 }] }"
+        "[Rule { source: Numbers { numbers: One(69999) }, target: Types(Numbers { numbers: One(0) }), class: 0, mask: 1 }] }"
     );
     Ok(())
 }

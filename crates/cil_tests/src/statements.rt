@@ -17,7 +17,7 @@ fn show_term(out: &mut Vec<u8>, alloc: Global, term: &Term) -> Result<(), Fail> 
             out.extend_from_slice(format!(in alloc; " Name:{at}:")?.as_bytes())?;
             out.extend_from_slice(bytes.as_slice())?;
         }
-        Term::Form(at, op, parts) => {
+        Term::Form(op, at, parts) => {
             out.extend_from_slice(format!(in alloc; " {op:?}:{at}[")?.as_bytes())?;
             for part in parts {
                 show_term(out, alloc, part)?;

@@ -55,7 +55,7 @@ read_set_list-returns-in_err-parts t c =
 pub read_set_list-returns-in_default : goal.read_set_list-returns-in_default
 read_set_list-returns-in_default t c =
     let m = c.args.self.now.number in
-    subst (λ w. IsTold m (space_of c.args.self.now.place.now) w c.args.faults.now.items c.read_sets.new.faults.items (Some (variants.Form c.args.at ops.Union c.in_ok-parts.parts)))
+    subst (λ w. IsTold m (space_of c.args.self.now.place.now) w c.args.faults.now.items c.read_sets.new.faults.items (Some (variants.Form ops.Union c.args.at c.in_ok-parts.parts)))
     (sym (c.in_default.ensures m (spot_at m c.args.at) c.args.sign))
     (formed_told m (space_of c.args.self.now.place.now) c.args.at ops.Union _ _ _ c.in_ok-parts.parts c.in_ok-parts.ensures)
 
