@@ -219,7 +219,7 @@ module _ (ws : List Written) where
   fails_so (Faults l) h = faults_alike (InheritFault ws) (InheritStep ws) l (λ f i. of_blocks f i) (of_blocks_alone l h) h
   fails_so NoMemory h = h
 
-  limit_alone : HasNoFault ws → (f : Fault) → InheritStep ws f → f ≡ limit_fault
+  pub limit_alone : HasNoFault ws → (f : Fault) → InheritStep ws f → f ≡ limit_fault
   limit_alone none f (of_blocks g i) = absurd (none f i)
   limit_alone none f (too_many other over) = refl
 
@@ -265,7 +265,7 @@ is_some P o x e h = subst (λ p. IfSome p P) e h
 
 -- ---- what stands
 
-standing_total : IsTotalOrder standing_cmp
+pub standing_total : IsTotalOrder standing_cmp
 standing_total = on_total (λ s. s.trail) (then_total (on_total length nat_cmp_total) (lists_total spot_total))
 
 pub are_contents : (ss : List Statement) (es : List Entry) → IsNested ss → HasNoFault (program_of ss)

@@ -7,6 +7,7 @@ pub mod DoubledLemmas
 pub mod EntryLemmas
 pub mod FaultExamples
 pub mod FirstNamed
+pub mod FlatContents
 pub mod Given
 pub mod InheritLemmas
 pub mod Kept

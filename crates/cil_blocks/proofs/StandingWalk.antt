@@ -189,7 +189,7 @@ module _ (ws : List Written) where
       omega (arith, l)
 
   module _ (rising : IsStrictlySortedBy written_cmp ws) where
-    rising_map : (f : Written → Standing) → ((v w : Written) → written_cmp v w ≡ Less → standing_cmp (f v) (f w) ≡ Less) → (us : List Written)
+    pub rising_map : (f : Written → Standing) → ((v w : Written) → written_cmp v w ≡ Less → standing_cmp (f v) (f w) ≡ Less) → (us : List Written)
         → IsStrictlySortedBy written_cmp us → IsStrictlySortedBy standing_cmp (map f us)
     unfolding IsStrictlySortedBy
     rising_map f h [] r = tt

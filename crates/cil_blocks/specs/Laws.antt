@@ -1,14 +1,17 @@
 -- Laws of contents and of what is wrong with blocks.
-use Rattle.std.specs.Prelude.{◌≡◌, ◌↔◌, Bool, true, false, List, Contains, Option}
+use Rattle.std.specs.Prelude.{◌≡◌, ◌↔◌, Bool, true, false, List, Contains, Option, None}
+use Rattle.std.specs.List.Sorted.{IsStrictlySortedBy}
+use Rattle.cil_sexpr.specs.Lists.{Lists}
 use Rattle.cil_syntax.specs.declared.fault.Fault.{Fault}
 use Rattle.cil_syntax.specs.declared.kind.Keyword.{Keyword}
 use Rattle.cil_syntax.specs.declared.kind.Keyword.TheVariants as keywords
 use Rattle.cil_syntax.specs.declared.program.Statement.{Statement}
 use Rattle.cil_syntax.specs.Program.{IsNested, program_of}
 use Rattle.cil_syntax.specs.Scopes.{Namespace}
-use Rattle.cil_syntax.specs.Written.{Written}
-use Rattle.cil_blocks.specs.Contents.{Standing, Stands, Target, path_of}
-use Rattle.cil_blocks.specs.InheritFaults.{Gives, InheritFault, IsOf}
+use Rattle.cil_syntax.specs.Laws.{Outcome}
+use Rattle.cil_syntax.specs.Written.{Written, written_cmp}
+use Rattle.cil_blocks.specs.Contents.{Standing, Stands, Target, is_block, is_inheriting, is_named, path_of, standing_cmp}
+use Rattle.cil_blocks.specs.InheritFaults.{Gives, InheritFault, InheritStep, IsOf}
 use Rattle.cil_blocks.specs.Leads.{IsCycle, IsShared}
 
 -- nothing is wrong with the blocks
@@ -58,3 +61,16 @@ StandsSomehow ws n w = (s : Standing) × Stands ws s × (s.statement ≡ w) × (
 abbrev pub AreGiven : Type 0
 AreGiven =
     (ws : List Written) (n : Namespace) (w : Written) → Contains ws w → stands_in_blocks w.statement.keyword ≡ true → StandsSomehow ws n w ↔ IsGiven ws n w
+
+-- a statement of a policy without blocks and macros
+pub record IsFlat (w : Written) : Type 0 where
+  pub on_top : w.context.under ≡ None
+  pub no_block : is_block w.statement.keyword ≡ false
+  pub no_name : is_named w.statement.keyword ≡ false
+  pub no_inheritance : is_inheriting w.statement.keyword ≡ false
+
+-- a law: a policy without blocks and macros has contents, or the fault of too many statements
+abbrev pub HaveFlatContents : Type 0
+HaveFlatContents =
+    (ws : List Written) → IsStrictlySortedBy written_cmp ws → ((w : Written) → Contains ws w → IsFlat w)
+    → Outcome (Lists standing_cmp (Stands ws)) (InheritStep ws)

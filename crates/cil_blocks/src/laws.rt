@@ -1,6 +1,6 @@
 //! Laws that fix the definitions: what holds of the contents of every program. Nothing here is run.
 
-ghost use Rattle.cil_blocks.specs.Laws.{AreCycles, AreGiven, AreShared, HaveOneStanding, HaveOneTarget};
+ghost use Rattle.cil_blocks.specs.Laws.{AreCycles, AreGiven, AreShared, HaveFlatContents, HaveOneStanding, HaveOneTarget};
 
 /// Where nothing is wrong with the blocks of a program, each blockinherit has one target.
 pub fn one_target()
@@ -29,4 +29,9 @@ pub fn shared()
 /// namespace. So two of one name in one namespace can be found without chains.
 pub fn given()
     ensures { AreGiven }
+{}
+
+/// A policy without blocks and macros has contents, each statement once, or more of them than there may be.
+pub fn flat_contents()
+    ensures { HaveFlatContents }
 {}
