@@ -11,6 +11,9 @@ use Rattle.cil_syntax.specs.Laws.{AlwaysHaveProgramOrFaults, Outcome as StepOutc
 use Rattle.cil_syntax.specs.Table.{entry_of}
 use Rattle.cil_syntax.specs.Terms.{Leaf, Name, Form, Terms, nil, cons}
 use Rattle.cil_syntax.specs.Written.{Written, IsWritten, ShapeFault, written_cmp}
+use Rattle.cil_blocks.specs.Contents.{Stands, standing_cmp}
+use Rattle.cil_blocks.specs.InheritFaults.{InheritStep}
+use Rattle.cil_blocks.specs.Laws.{HaveFlatContents}
 use Rattle.cil_decide.specs.declared.tables.Class.{Class}
 use Rattle.cil_decide.specs.CompileRefusal.{CompileFails}
 use Rattle.cil_decide.specs.Compiled.{IsRowOf, IsTable}
@@ -24,7 +27,8 @@ use Rattle.cil_decide.specs.Laws.{AlwaysCompilesOrFails, Outcome, compiles, fail
 use Rattle.cil_names.specs.Resolves.{has_permission}
 use Rattle.cil_decide.specs.Table.{Table, IsOrderly, most_permissions}
 use Rattle.cil_decide.proofs.AgreesLemmas.{table_agrees}
-use Rattle.cil_decide.proofs.CompileLemmas.{clash_fails, words_fail, widths_fail, nothing_wrong}
+use Rattle.cil_decide.proofs.CompileLemmas.{IsFront, clash_fails, inherit_fails, no_program_step, nothing_wrong, widths_fail, words_fail}
+use Rattle.cil_decide.proofs.FlatPrograms.{is_flat}
 use Rattle.cil_decide.proofs.FiniteFaults.{finite_clashes, finite_unresolved, finite_wide, step_outcome}
 use Rattle.cil_decide.proofs.FinitePolicy.{Front}
 use Rattle.cil_decide.proofs.ListLemmas.{from_map}
@@ -47,7 +51,7 @@ module _ (xs : List Item) (none : (f : Fault) → ClassFault nobody xs f → ⊥
 
 -- ---- the steps
 
-module _ (modules : List (List ℕ)) (program : List Written) (is_program : Lists written_cmp (IsWritten modules) program) (shape : (f : Fault) → ShapeFault modules f → ⊥) where
+module _ (modules : List (List ℕ)) (program : List Written) (is_program : Lists written_cmp (IsWritten modules) program) (front : IsFront modules) where
   items : List Item
   items = map item_of program
 
@@ -68,26 +72,34 @@ module _ (modules : List (List ℕ)) (program : List Written) (is_program : List
       compiles t.0 (orderly items narrow t.0 t.1) (record {
         items = items;
         are_items = are_items;
-        no_faults = nothing_wrong modules items are_items shape apart named narrow;
+        no_faults = nothing_wrong modules items are_items front apart named narrow;
         table = t.1;
         agrees = table_agrees items flat t.0 t.1;
       })
 
   outcome : Outcome modules
   outcome = elim (step_outcome (ClashFault items) (finite_clashes items)) [
-    | inl clash ↦ failed clash.0 (clash_fails modules items are_items shape (Faults clash.0) clash.1)
+    | inl clash ↦ failed clash.0 (clash_fails modules items are_items front (Faults clash.0) clash.1)
     | inr apart ↦ elim (step_outcome (ResolveFault nobody items) (finite_unresolved items nobody)) [
-      | inl lost ↦ failed lost.0 (words_fail modules items are_items shape apart (Faults lost.0) lost.1)
+      | inl lost ↦ failed lost.0 (words_fail modules items are_items front apart (Faults lost.0) lost.1)
       | inr named ↦ elim (step_outcome (ClassFault nobody items) (finite_wide items nobody)) [
-        | inl broad ↦ failed broad.0 (widths_fail modules items are_items shape apart named (Faults broad.0) broad.1)
+        | inl broad ↦ failed broad.0 (widths_fail modules items are_items front apart named (Faults broad.0) broad.1)
         | inr narrow ↦ without_faults apart named narrow
       ]
     ]
   ]
 
-by_shape : (modules : List (List ℕ)) → StepOutcome (Lists written_cmp (IsWritten modules)) (ShapeFault modules) → Outcome modules
-by_shape modules (succeeds program is none) = outcome modules program is none
-by_shape modules (step_fails faults are) = fails faults (inl are) are.some
+by_blocks : (modules : List (List ℕ)) (program : List Written) → Lists written_cmp (IsWritten modules) program → ((f : Fault) → ShapeFault modules f → ⊥)
+    → StepOutcome (Lists standing_cmp (Stands program)) (InheritStep program) → Outcome modules
+by_blocks modules program is shape (succeeds contents are blocks) =
+    outcome modules program is (record { shape = shape; blocks = no_program_step modules program is InheritStep blocks })
+by_blocks modules program is shape (step_fails faults are) =
+    let refused = inherit_fails modules program is shape (Faults faults) are in fails faults refused.0 refused.1
 
-pub always_compiles_or_fails : AlwaysHaveProgramOrFaults → AlwaysCompilesOrFails
-always_compiles_or_fails law modules readable = by_shape modules (law modules readable)
+by_shape : HaveFlatContents → (modules : List (List ℕ)) → StepOutcome (Lists written_cmp (IsWritten modules)) (ShapeFault modules) → Outcome modules
+by_shape blocks modules (succeeds program is none) =
+    by_blocks modules program is none (blocks program is.rising (λ w c. is_flat modules w ((is.members w).0 c)))
+by_shape blocks modules (step_fails faults are) = fails faults (inl are) are.some
+
+pub always_compiles_or_fails : AlwaysHaveProgramOrFaults → HaveFlatContents → AlwaysCompilesOrFails
+always_compiles_or_fails law blocks modules readable = by_shape blocks modules (law modules readable)

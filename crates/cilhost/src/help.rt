@@ -61,6 +61,7 @@ Faults of a policy, one a line after FAULTS: NUMBER MODULE PLACE NAMESPACE WORD
   25  a word that is not a name
   26  a reserved word in place of a name
   36  a name with two different declarations
+  38  more than 1000000 statements; it is told alone, with module 0, place 0 and - as the word
   41  a word that names nothing
   55  a class of more than 32 permissions
 
