@@ -32,10 +32,7 @@ pub const MOST_INSTANCES: usize = 1_000_000;
 ///
 /// Errors: the faults of names that are given twice, of targets that are no block, and of targets that lead back to where
 /// they are inherited; where there is none of these, one fault if more than 1,000,000 statements stand; or out of memory.
-pub fn inherit<'p, 'a>(
-    alloc: Global,
-    program: &'p Program<'a>,
-) -> Result<Spaces<'p, 'a>, Failure>
+pub fn inherit<'p, 'a>(alloc: Global, program: &'p Program<'a>) -> Result<Spaces<'p, 'a>, Failure>
     ensures { Answers (λ s. s.0 ≡ program.now) (InheritStep (program_of program.now)) result }
 {
     let statements = program.statements();
@@ -167,10 +164,7 @@ fn is_unresolved(statements: &[Statement], targets: &Targets, number: usize) -> 
 }
 
 /// The faults of both lists.
-fn both(
-    one: Option<FaultList>,
-    other: Option<FaultList>,
-) -> Result<Option<FaultList>, NoMemory>
+fn both(one: Option<FaultList>, other: Option<FaultList>) -> Result<Option<FaultList>, NoMemory>
     ensures { IfOk result (AreJoined one other) }
 {
     let Some(list) = one else {

@@ -42,11 +42,7 @@ fn names_round<'a>(
 }
 
 /// The namespace in which a statement is written: the names of the blocks round it, the outermost first, joined by dots.
-fn spelled_space(
-    alloc: Global,
-    statements: &[Statement],
-    number: usize,
-) -> Result<Bytes, NoMemory>
+fn spelled_space(alloc: Global, statements: &[Statement], number: usize) -> Result<Bytes, NoMemory>
     requires { IsNested statements.now }
     ensures { IfOk result (λ space. space ≡ qualified (statement_at (program_of statements.now) number).context.space) }
 {

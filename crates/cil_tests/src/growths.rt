@@ -88,7 +88,7 @@ fn a_refused_growth_leaves_the_set(rt: HostRuntime) -> Result<(), Fail> {
 }
 
 /// The set of some texts, made once more where a growth is refused.
-fn set_at_last(alloc: Global, texts: &[&str]) -> Option<ModuleSet> {
+pub(crate) fn set_at_last(alloc: Global, texts: &[&str]) -> Option<ModuleSet> {
     match set_of(alloc, texts) {
         Ok(set) => Some(set),
         Err(_) => set_of(alloc, texts).ok(),
@@ -114,7 +114,7 @@ fn faults_apart<T: Drop>(answer: Result<T, Failure>) -> Option<Result<T, FaultLi
 }
 
 /// Whether faults are printed so, at once or when it is asked again.
-fn are_printed(alloc: Global, faults: &FaultList, want: &[u8]) -> bool {
+pub(crate) fn are_printed(alloc: Global, faults: &FaultList, want: &[u8]) -> bool {
     match render(alloc, faults) {
         Ok(lines) => lines.as_slice() == want,
         Err(_) => render(alloc, faults).is_ok_and(|lines| lines.as_slice() == want),
