@@ -198,6 +198,15 @@ const STANDING: &[(&[&str], &str)] = &[
         ],
         "0 2 1/0 3/1 5/1 7/1 4/3 6/4 8/5 4/7 1/8",
     ),
+    // Words with dots: a namespace is asked for the whole path, so a block that ends it too early is passed over.
+    (
+        &["(block a (block c (block d (type x)))(blockinherit c.d))"],
+        "0 1/0 4/0 2/1 3/2 3/3",
+    ),
+    (
+        &["(block c (block d (type x)))(block a (block c)(blockinherit c.d))"],
+        "0 3 1/0 4/1 5/1 2/2 2/4",
+    ),
     // Macros stand, and what is in them does not.
     (
         &["(block a (macro m () (type x)))(block n (blockinherit a))(call n.m)"],
