@@ -1,10 +1,11 @@
 //! Times what the crates do beside SHA-256 of the same bytes, on texts that it makes in memory.
 //!
-//! Start at `run`. `text.rt` makes the texts; `read.rt`, `write.rt`, `import.rt`, `compiled.rt` and
-//! `look_up.rt` take the times.
+//! Start at `run`. `text.rt` makes the texts; `read.rt`, `write.rt`, `import.rt`, `compiled.rt`, `look_up.rt` and
+//! `blocks.rt` take the times.
 //! `bench/README.md` says how the figures are read.
 #![tactic(auto)]
 
+mod blocks;
 mod compiled;
 mod error;
 mod figures;
@@ -14,6 +15,7 @@ mod read;
 mod text;
 mod write;
 
+use crate::blocks::Form;
 use crate::error::BenchError;
 use cil_sexpr::LONGEST_TEXT;
 use std::alloc::Global;
@@ -31,6 +33,9 @@ const MOST_RULES: usize = 1_000_000;
 /// How many namespaces a scope may have here, the global one among them.
 const MOST_SCOPE: usize = look_up::SPACES + 1;
 
+/// How many templates or blocks a policy may have here.
+const MOST_BLOCKS: usize = 50_000;
+
 /// What is to be timed.
 enum Task {
     /// Printing the usage; nothing is timed.
@@ -45,6 +50,8 @@ enum Task {
     Compile(usize),
     /// The look-up of words in scopes of this many namespaces.
     LookUp(usize),
+    /// What stands by inheritance, with so many templates or blocks.
+    Blocks(Form, usize),
 }
 
 /// The task of the program's words, its own name first. None is a call for help.
@@ -61,6 +68,10 @@ fn task_of(words: &[String]) -> Option<Task> {
         "import" if number <= MOST => Some(Task::Import(number)),
         "compile" if number <= MOST_RULES => Some(Task::Compile(number)),
         "look-up" if number > 0 && number <= MOST_SCOPE => Some(Task::LookUp(number)),
+        "chain" if number <= MOST_BLOCKS => Some(Task::Blocks(Form::Chain, number)),
+        "heirs" if number <= MOST_BLOCKS => Some(Task::Blocks(Form::Heirs, number)),
+        "templates" if number <= MOST_BLOCKS => Some(Task::Blocks(Form::Templates, number)),
+        "doubling" if number <= MOST_BLOCKS => Some(Task::Blocks(Form::Doubling, number)),
         _ => None,
     }
 }
@@ -83,7 +94,8 @@ fn run<R: Print + Env + CpuClock + AllocGlobal>(rt: &R, alloc: Global) -> Result
                 bench write BYTES, a number of at most {LONGEST_TEXT}\n       \
                 bench import MODULES, a number of at most {MOST}\n       \
                 bench compile RULES, a number of at most {MOST_RULES}\n       \
-                bench look-up NAMESPACES, a number from 1 to {MOST_SCOPE}"
+                bench look-up NAMESPACES, a number from 1 to {MOST_SCOPE}\n       \
+                bench chain|heirs|templates|doubling BLOCKS, a number of at most {MOST_BLOCKS}"
             )?;
             Ok(())
         }
@@ -92,6 +104,7 @@ fn run<R: Print + Env + CpuClock + AllocGlobal>(rt: &R, alloc: Global) -> Result
         Task::Import(modules) => import::run(rt, alloc, modules),
         Task::Compile(rules) => compiled::run(rt, alloc, rules),
         Task::LookUp(scope) => look_up::run(rt, alloc, scope),
+        Task::Blocks(form, count) => blocks::run(rt, alloc, form, count),
     }
 }
 
