@@ -8,7 +8,7 @@ row() {
     quietest inherit_us "$1" "$2"
     awk -v form="$1" -v count="$2" -v bytes="$(figure bytes)" -v standing="$(figure standing)" -v write="$(figure write_us)" \
         -v inherit="$(figure inherit_us)" -v peak="$(cat "$work/peak")" \
-        'BEGIN { printf "%-10s %7d %9d %9s %9.1f %11.1f %9.1f\n", form, count, bytes, standing > 0 ? standing : "38", write / 1000, inherit / 1000,
+        'BEGIN { printf "%-10s %7d %9d %9s %9.1f %11.1f %9.1f\n", form, count, bytes, (standing > 0 ? standing : "38"), write / 1000, inherit / 1000,
             peak * 1024 / 1000000 }'
 }
 
