@@ -97,7 +97,7 @@ fn naming_of(alloc: Global, steps: &Steps) -> Result<Vec<Vec<usize>>, NoMemory> 
 }
 
 fn no_lists(alloc: Global, count: usize) -> Result<Vec<Vec<usize>>, NoMemory> {
-    let mut lists = Vec::new(alloc);
+    let mut lists = Vec::with_capacity(alloc, count)?;
     for _ in 0..count {
         lists.push(Vec::new(alloc))?;
     }
@@ -137,7 +137,7 @@ fn steps_to_each(
     steps: &Steps,
     naming: &[Vec<usize>],
 ) -> Result<Left, NoMemory> {
-    let mut left = no_steps(alloc);
+    let mut left = no_steps(alloc, steps.count)?;
     for number in 0..steps.count {
         let round = usize::from(under_at(statements, number).is_some());
         let named = naming_at(naming, number).len();
@@ -148,7 +148,7 @@ fn steps_to_each(
 
 /// All are left, and the steps from each are counted.
 fn steps_from_each(alloc: Global, steps: &Steps) -> Result<Left, NoMemory> {
-    let mut left = no_steps(alloc);
+    let mut left = no_steps(alloc, steps.count)?;
     for number in 0..steps.count {
         let inside = parts_at(steps.parts, number).len();
         let named = steps.targets.at(number).len();
@@ -157,11 +157,12 @@ fn steps_from_each(alloc: Global, steps: &Steps) -> Result<Left, NoMemory> {
     Ok(left)
 }
 
-fn no_steps(alloc: Global) -> Left {
-    Left {
-        steps: Vec::new(alloc),
+fn no_steps(alloc: Global, count: usize) -> Result<Left, NoMemory> {
+    let steps = Vec::with_capacity(alloc, count)?;
+    Ok(Left {
+        steps,
         free: Vec::new(alloc),
-    }
+    })
 }
 
 impl Left {

@@ -30,7 +30,7 @@ pub fn opened_of(
     requires targets { AreAllTargets (program_of statements.now) targets.now }
     ensures { IfOk result (λ opened. HasOneTarget (program_of statements.now) → AreOpened (program_of statements.now) opened.items) }
 {
-    let mut opened = Vec::new(alloc);
+    let mut opened = Vec::with_capacity(alloc, statements.len())?;
     for number in 0..statements.len() {
         opened.push(opened_at(statements, parts, targets, number))?;
     }

@@ -22,9 +22,10 @@ pub fn parts_of(alloc: Global, statements: &[Statement]) -> Result<Parts, NoMemo
     requires { IsNested statements.now }
     ensures { IfOk result (AreParts (program_of statements.now)) }
 {
+    let inside = Vec::with_capacity(alloc, statements.len())?;
     let mut parts = Parts {
         tops: Vec::new(alloc),
-        inside: Vec::new(alloc),
+        inside,
     };
     for (i, statement) in statements.iter().enumerate() {
         parts.add(alloc, i, statement.under)?;

@@ -133,7 +133,7 @@ pub fn targets_of<'b>(
     requires listed { AreBlocks (program_of statements.now) blocks.now }
     ensures { IfOk result (AreAllTargets (program_of statements.now)) }
 {
-    let mut lists = Vec::new(alloc);
+    let mut lists = Vec::with_capacity(alloc, statements.len())?;
     for number in 0..statements.len() {
         lists.push(targets_kept(alloc, statements, blocks, number)?)?;
     }

@@ -25,7 +25,7 @@ pub fn walk(
     ensures few { IfOk result (λ o. IfSome o (λ v. length v.items ≤ limit)) }
     ensures many { IfOk result (λ o. IfNone o ((ws : List Written) → IsWalkable ws parts.now opened.now → IsOver standing_cmp (Stands ws) limit)) }
 {
-    let mut entries = Vec::new(alloc);
+    let mut entries = Vec::with_capacity(alloc, parts.tops.len())?;
     push_all(&mut entries, parts.tops.as_slice(), None)?;
     let mut at = 0;
     while at < entries.len() {

@@ -4,7 +4,7 @@ use Rattle.cil_blocks.proofs.walker.walk.Goals as goal
 
 pub loop-at-init : goal.loop-at-init
 loop-at-init c =
-    (omega arith, λ ws w. started ws c.args.parts.now c.args.opened.now w _ _ _ c.new-entries.ensures.items c.as_slice.ensures.value (c.in_ok-push_all.ensures ws))
+    (omega arith, λ ws w. started ws c.args.parts.now c.args.opened.now w _ _ _ c.in_ok-entries.ensures.items c.as_slice.ensures.value (c.in_ok-push_all.ensures ws))
 
 pub returns-then-len-limit-clause-many : goal.returns-then-len-limit-clause-many
 returns-then-len-limit-clause-many c =
