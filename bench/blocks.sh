@@ -12,10 +12,11 @@ row() {
             peak * 1024 / 1000000 }'
 }
 
-# $1 is the time for 1,250 templates or blocks, $2 for 10,000: eight times as many, or sixteen with room for the logarithm.
+# Compares the time $3 for 10,000 templates or blocks with the time $2 for 1,250, in the form $1. Eight times as many, with the
+# logarithm and what a shared machine adds, should take less than sixteen times as long.
 growth() {
     awk -v form="$1" -v first="$2" -v last="$3" 'BEGIN {
-        printf "%s: 10,000 take %.1f times as long as 1,250: %s\n", form, last / first, last <= 16 * first ? "n log n" : "MORE THAN N LOG N" }'
+        printf "%s: 10,000 take %.1f times as long as 1,250: %s\n", form, last / first, last <= 16 * first ? "at most 16" : "MORE THAN 16" }'
 }
 
 printf '%-10s %7s %9s %9s %9s %11s %9s\n' form blocks bytes standing 'write ms' 'inherit ms' 'peak MB'

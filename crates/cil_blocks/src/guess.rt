@@ -1,6 +1,7 @@
 //! A guess at levels. Statements are taken away one by one: from below those that lead to none that is left, and from above
 //! those to which none that is left leads. What stays from both sides is on a cycle, or on a way from one cycle to another.
-//! Each costs one pass. Nothing is promised of a guess; `levels.rt` tries it.
+//! Each costs one pass over the statements and over the targets of all blockinherits, of which there are several for one
+//! only where a name is given twice. Nothing is promised of a guess; `levels.rt` tries it.
 
 use crate::levels::Steps;
 use crate::walker::parts_at;

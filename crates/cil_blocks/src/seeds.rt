@@ -1,7 +1,10 @@
 //! The blocks and macros that share their name with another one in some namespace. Pairs of seeds that give to one namespace
-//! are gone through, from that of the texts with itself: two blocks of one name, one of each seed, are the next pair. Where
-//! no name is twice, each pair is of a seed with itself, and the cost is that of what each seed gives (`reach.rt`), with two
-//! searches by halving for each block and macro. The bad case are n blocks of one name in one place: they are n * n pairs.
+//! are gone through, from that of the texts with itself: two blocks of one name, one of each seed, are the next pair.
+//!
+//! Where no name is twice, each pair is of a seed with itself, and costs what the seed gives (`reach.rt`), with two searches
+//! by halving for each block and macro. That is at most what stands in the policy: long where blocks that are no templates
+//! inherit one another in a chain, since each of them is a seed and has all that is before it. The bad case are n blocks of
+//! one name in one namespace, each of which is a fault: they are n * n pairs, which are all kept.
 
 ghost use Rattle.std.specs.Prelude.{◌≡◌, ◌↔◌, ◌++◌, ℕ, Contains, IfOk, OnOk, true};
 ghost use Rattle.std.specs.List.Sorted.{IsSortedByKey};
