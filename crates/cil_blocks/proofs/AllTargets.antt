@@ -1,23 +1,24 @@
 -- The targets of all blockinherits, as they are gathered.
-use Rattle.std.proofs.Common.{◌≡◌, ℕ, ◌+◌, ◌<◌, ◌≤◌, ◌⊎◌, true, false, List, [], ◌∷◌, ◌++◌, length, refl, sym, ◌∙◌, ap, subst, inl, inr, arith}
-use Rattle.std.specs.Prelude.{Contains, Some, slice_get}
+use Rattle.std.proofs.Common.{◌≡◌, ℕ, ◌+◌, ◌<◌, ◌≤◌, ◌⊎◌, true, false, List, [], ◌∷◌, ◌++◌, length, sym, ◌∙◌, ap, subst, inl, inr, arith}
+use Rattle.std.specs.Prelude.{Contains, slice_get}
 use Rattle.std.proofs.lemmas.List.{length-append}
 use denote.Ref.{Bor}
 use Rattle.cil_sexpr.specs.Lists.{contains_none}
 use Rattle.cil_syntax.specs.Written.{Written}
 use Rattle.cil_blocks.specs.declared.targets.Targets.{Targets}
-use Rattle.cil_blocks.specs.Contents.{Target, is_inheriting}
+use Rattle.cil_blocks.specs.Contents.{is_inheriting}
 use Rattle.cil_blocks.specs.Entries.{AreBelow, statement_at}
 use Rattle.cil_blocks.specs.Named.{AreAllTargets, AreTargets, AreTargetsOf, borrowed, targets_in}
-use Rattle.cil_blocks.proofs.ListLemmas.{contains_mapped, from_mapped, get_behind, get_in_front, none_some, not_there}
+use Rattle.cil_sexpr.specs.MadeLists.{contains_map, from_map}
+use Rattle.cil_sexpr.specs.Places.{get_behind, get_in_front, not_there}
 
 module _ (ws : List Written) where
   pub are_targets : (i : ℕ) (found : List ℕ) → is_inheriting (statement_at ws i).statement.keyword ≡ true → AreTargets ws i found → AreBelow (length ws) found
       → AreTargetsOf ws i found
   are_targets i found h t below = record {
     inheriting = λ k c. h;
-    named = λ k c. (below k c, (t (statement_at ws k)).1 (contains_mapped (statement_at ws) found k c));
-    all = λ b g u. let m = from_mapped (statement_at ws) found b ((t b).0 u) in (m.0, m.1, m.2);
+    named = λ k c. (below k c, (t (statement_at ws k)).1 (contains_map (statement_at ws) found k c));
+    all = λ b g u. let m = from_map (statement_at ws) found b ((t b).0 u) in (m.0, m.1, m.2);
   }
 
   pub no_targets_of : (i : ℕ) → is_inheriting (statement_at ws i).statement.keyword ≡ false → AreTargetsOf ws i []

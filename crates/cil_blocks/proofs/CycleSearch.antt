@@ -9,7 +9,7 @@ use Rattle.cil_blocks.specs.Entries.{AreBelow, parts_at}
 use Rattle.cil_blocks.specs.Marks.{AreAdded, AreMarked, IsBegun, is_marked}
 use Rattle.cil_blocks.specs.Named.{targets_in}
 use Rattle.cil_blocks.specs.Steps.{IsStep, Reaches, StayBelow, itself, onward}
-use Rattle.cil_blocks.proofs.ListLemmas.{get_at, get_contains, get_in_front, in_range, none_some, some_same}
+use Rattle.cil_sexpr.specs.Places.{get_at, get_contains, get_in_front, in_range, none_some, some_same}
 use Rattle.cil_blocks.proofs.MarkLemmas.{both_added, few_reached}
 use Rattle.cil_blocks.proofs.StepLemmas.{or_last}
 

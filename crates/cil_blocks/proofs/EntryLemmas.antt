@@ -12,8 +12,8 @@ use Rattle.cil_blocks.specs.Contents.{Standing, Stands, is_abstract, standing_cm
 use Rattle.cil_blocks.specs.Entries.{AreOpened, AreParts, IsWalkable, IsWithin, SaysOpened, opened_as, opened_by, opened_in, opened_of, opener_of, parts_at, standing_as, standing_through, standing_under, standings_from, standings_of, statement_at, stepped}
 use Rattle.cil_blocks.specs.InheritFaults.{IsOver}
 use Rattle.cil_blocks.specs.Opens.{opens, opens_as, opens_target, parts, target_of, tops}
-use Rattle.cil_blocks.proofs.ListLemmas.{get_in_front}
-use Rattle.cil_blocks.proofs.Queue as queue
+use Rattle.cil_sexpr.specs.Places.{get_in_front}
+use Rattle.cil_sexpr.specs.Queue as queue
 use Rattle.cil_blocks.proofs.StandingWalk.{queue_order, reached_stands, stands_reached}
 
 module _ (ws : List Written) where

@@ -16,7 +16,7 @@ use Rattle.cil_syntax.specs.Terms.{Leaf, Name, Form, Terms, nil, cons}
 use Rattle.cil_syntax.specs.Written.{Written, at_top}
 use Rattle.cil_blocks.specs.Contents.{Target, block_space, has_block, is_abstract, standing_in_block, standing_inherited, standing_top}
 use Rattle.cil_blocks.specs.InheritFaults.{Gives, InheritFault, cycle, directly, handed, own, standing_twice, texts, unresolved, written_twice}
-use Rattle.cil_blocks.proofs.ListLemmas.{get_contains, some_same}
+use Rattle.cil_sexpr.specs.Places.{get_contains, some_same}
 
 abbrev spot : ℕ → Spot
 spot at = record { «module» = 0; at = at }

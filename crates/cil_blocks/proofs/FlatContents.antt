@@ -1,5 +1,5 @@
 -- What stands in a policy without blocks and macros: each statement, once.
-use Rattle.std.proofs.Common.{◌≡◌, ◌≤◌, ◌<◌, ℕ, true, false, List, [], ◌∷◌, length, map, refl, sym, ◌∙◌, ap, subst, inl, inr, arith}
+use Rattle.std.proofs.Common.{◌≡◌, true, false, List, [], ◌∷◌, length, map, refl, sym, ◌∙◌, subst, inl, inr, arith}
 use Rattle.std.specs.Prelude.{Contains}
 use Rattle.std.specs.List.Sorted.{IsStrictlySortedBy}
 use Rattle.std.proofs.lemmas.Bool.{cases_lt}
@@ -7,16 +7,15 @@ use Rattle.std.proofs.lemmas.List.{length-map}
 use Rattle.cil_sexpr.specs.Lists.{Lists, contains_cases, contains_here, contains_none}
 use Rattle.cil_syntax.specs.declared.fault.Fault.{Fault}
 use Rattle.cil_syntax.specs.Fails.{AreFaults}
-use Rattle.cil_syntax.specs.FaultOrder.{fault_cmp}
 use Rattle.cil_syntax.specs.Laws.{Outcome, succeeds, fails}
 use Rattle.cil_syntax.specs.Written.{Written, written_cmp}
-use Rattle.cil_blocks.specs.Contents.{Standing, Stands, in_block, in_optional, inherited, is_block, is_inheriting, spot_cmp, standing_cmp, standing_top, top}
+use Rattle.cil_blocks.specs.Contents.{Standing, Stands, in_block, in_optional, inherited, is_block, is_inheriting, spot_cmp, standing_cmp, standing_top, top, spot_total}
 use Rattle.cil_blocks.specs.InheritFaults.{InheritFault, InheritStep, IsOver, cycle, limit_fault, most_instances, standing_twice, too_many, unresolved, written_twice}
 use Rattle.cil_blocks.specs.Laws.{HaveFlatContents, IsFlat}
 use Rattle.cil_blocks.proofs.InheritLemmas.{limit_alone, no_step, standing_total}
-use Rattle.cil_blocks.proofs.ListLemmas.{contains_mapped, from_mapped}
-use Rattle.cil_blocks.proofs.Paths.{alone, spot_total}
-use Rattle.cil_blocks.proofs.Rising.{not_over}
+use Rattle.cil_sexpr.specs.MadeLists.{contains_map, from_map}
+use Rattle.cil_sexpr.specs.Paths.{alone}
+use Rattle.cil_sexpr.specs.Rising.{not_over}
 use Rattle.cil_blocks.proofs.StandingWalk.{rising_map}
 
 never : true ≡ false → ⊥
@@ -44,8 +43,8 @@ module _ (ws : List Written) (rising : IsStrictlySortedBy written_cmp ws) (flat 
   contents = record {
     rising = rising_map ws rising standing_top (λ v w e. alone spot_cmp spot_total v.statement.at w.statement.at e) ws rising;
     members = λ s. (
-      (λ c. let m = from_mapped standing_top ws s c in subst (Stands ws) m.2 (top m.0 m.1 (flat m.0 m.1).on_top)),
-      (λ t. let w = on_top s t in subst (Contains (map standing_top ws)) w.2 (contains_mapped standing_top ws w.0 w.1)),
+      (λ c. let m = from_map standing_top ws s c in subst (Stands ws) m.2 (top m.0 m.1 (flat m.0 m.1).on_top)),
+      (λ t. let w = on_top s t in subst (Contains (map standing_top ws)) w.2 (contains_map standing_top ws w.0 w.1)),
     );
   }
 

@@ -22,7 +22,7 @@ use Rattle.cil_syntax.specs.Scopes.{Namespace}
 use Rattle.cil_syntax.specs.Written.{Named, Written, named_in_front}
 use Rattle.cil_blocks.specs.declared.entry.Entry.{Entry}
 use Rattle.cil_blocks.specs.declared.targets.Targets.{Targets}
-use Rattle.cil_blocks.specs.Contents.{Stands, first_word, is_inheriting, standing_cmp}
+use Rattle.cil_blocks.specs.Contents.{Stands, first_word, is_inheriting, standing_cmp, spot_total}
 use Rattle.cil_blocks.specs.Doubled.{only_if}
 use Rattle.cil_blocks.specs.Entries.{standings_of, statement_at}
 use Rattle.cil_blocks.specs.InheritFaults.{InheritFault, InheritStep, IsDoubled, IsOver, cycle, in_contents, in_writing, limit_fault, most_instances, of_blocks, standing_twice, too_many, unresolved, written_twice}
@@ -31,10 +31,9 @@ use Rattle.cil_blocks.specs.Named.{AreAllTargets, targets_in}
 use Rattle.cil_blocks.specs.Reports.{AreAllFaults, AreContents, AreJoined, AreNumbersOf, IsCyclic, IsToldOf, IsUnresolved, fault_of_name, fault_of_word, name_fault, target_fault}
 use Rattle.cil_blocks.specs.Steps.{AreOnCycles}
 use Rattle.cil_blocks.proofs.EntryLemmas.{standings_length}
-use Rattle.cil_blocks.proofs.ListLemmas.{none_some}
-use Rattle.cil_blocks.proofs.Paths.{spot_total}
+use Rattle.cil_sexpr.specs.Places.{none_some}
 use Rattle.cil_blocks.proofs.ReportLemmas.{told_so}
-use Rattle.cil_blocks.proofs.Rising.{not_over}
+use Rattle.cil_sexpr.specs.Rising.{not_over}
 
 -- ---- lists of faults
 

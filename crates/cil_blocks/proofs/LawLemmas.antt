@@ -4,7 +4,7 @@ use Rattle.cil_syntax.specs.declared.term.Spot.{Spot}
 use Rattle.cil_syntax.specs.Program.{program_of}
 use Rattle.cil_blocks.specs.Laws.{HaveOneTarget, HaveOneStanding}
 use Rattle.cil_blocks.proofs.Begun.{block_is_named, has_name}
-use Rattle.cil_blocks.proofs.OneStanding.{one_standing}
+use Rattle.cil_blocks.specs.OneStanding.{one_standing}
 use Rattle.cil_blocks.proofs.OneTarget.{one_target}
 use Rattle.cil_blocks.proofs.ProgramLemmas.{are_apart}
 

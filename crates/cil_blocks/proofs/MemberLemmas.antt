@@ -16,9 +16,9 @@ use Rattle.cil_blocks.specs.Contents.{is_block, is_named}
 use Rattle.cil_blocks.specs.Doubled.{AreKept, AreThose, is_named_at}
 use Rattle.cil_blocks.specs.Entries.{nothing, statement_at}
 use Rattle.cil_blocks.specs.Seeds.{AreMatched, AreMatchedOf, AreMembers, IsGivenBy, IsMember, IsOpen, IsOpenMember, Pair, Reaches, body_parts, own_name}
-use Rattle.cil_blocks.proofs.ListLemmas.{in_range}
+use Rattle.cil_sexpr.specs.Places.{in_range}
 use Rattle.cil_blocks.proofs.NameLemmas.{get_none}
-use Rattle.cil_blocks.proofs.SeedLists.{from_flat, into_flat}
+use Rattle.cil_sexpr.specs.MadeLists.{from_flat, contains_flat}
 
 pub block_named : (k : Keyword) → is_block k ≡ true → is_named k ≡ true
 block_named keywords.Block e = refl
@@ -50,7 +50,7 @@ module _ (ws : List Written) where
         → AreThose (IsGivenBy ps ts seed) all
     all_given seed reached all so e i = (
       (λ c. let f = from_flat (body_parts ps) reached i (subst (λ xs. Contains xs i) e c) in record { body = f.0; reached = (so f.0).0 f.1; is_in = f.2 }),
-      (λ g. subst (λ xs. Contains xs i) (sym e) (into_flat (body_parts ps) reached g.body i ((so g.body).1 g.reached) g.is_in)),
+      (λ g. subst (λ xs. Contains xs i) (sym e) (contains_flat (body_parts ps) reached g.body i ((so g.body).1 g.reached) g.is_in)),
     )
 
     kept_those : (P T : ℕ → Type 0) (xs found : List ℕ) → AreThose P xs → AreKept T xs found → AreThose (λ i. P i × T i) found

@@ -18,7 +18,7 @@ use Rattle.cil_syntax.specs.Written.{Context, Written, bytes_of, named_in_front,
 use Rattle.cil_blocks.specs.Contents.{is_block, name_of}
 use Rattle.cil_blocks.specs.Entries.{nothing, statement_at}
 use Rattle.cil_blocks.specs.Named.{IsBlockAt, full_at, full_name, names_cmp, rank, space_in}
-use Rattle.cil_blocks.proofs.ListLemmas.{get_so, in_range, is_there, none_some}
+use Rattle.cil_sexpr.specs.Places.{get_so, in_range, is_there, none_some}
 use Rattle.cil_blocks.proofs.ProgramLemmas.{program_length, stands_on_top, stands_under, written_at}
 
 -- ---- what is at a number

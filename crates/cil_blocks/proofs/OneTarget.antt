@@ -13,8 +13,8 @@ use Rattle.cil_syntax.specs.declared.fault.Fault.{Fault}
 use Rattle.cil_syntax.specs.declared.term.Word.{Word}
 use Rattle.cil_syntax.specs.Written.{Written, Named, named_in_front}
 use Rattle.cil_blocks.specs.Laws.{HasOneTarget}
-use Rattle.cil_blocks.proofs.OneStanding.{AreApart}
-use Rattle.cil_blocks.proofs.ListLemmas.{some_same}
+use Rattle.cil_blocks.specs.OneStanding.{AreApart}
+use Rattle.cil_sexpr.specs.Places.{some_same}
 
 -- two namespaces that compare alike are one
 pub same_spaces : (a b : Namespace) → same_space a b ≡ true → a ≡ b

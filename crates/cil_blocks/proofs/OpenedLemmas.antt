@@ -15,7 +15,7 @@ use Rattle.cil_blocks.specs.Laws.{HasOneTarget}
 use Rattle.cil_blocks.specs.Named.{AreAllTargets, AreTargetsOf, targets_in}
 use Rattle.cil_blocks.specs.Opens.{parts, target_of}
 use Rattle.cil_blocks.proofs.AllTargets.{targets_of_one}
-use Rattle.cil_blocks.proofs.ListLemmas.{in_range, none_some, not_there, some_same}
+use Rattle.cil_sexpr.specs.Places.{none_some, not_there, some_same}
 use Rattle.cil_blocks.proofs.NameLemmas.{get_none}
 use Rattle.cil_blocks.proofs.StandingWalk.{is_the_target, target_is}
 

@@ -12,7 +12,8 @@ use Rattle.cil_blocks.specs.declared.parts.Parts.{Parts}
 use Rattle.cil_blocks.specs.Contents.{is_at, same_spot}
 use Rattle.cil_blocks.specs.Entries.{AreBelow, AreParts, IsWithin, nothing, numbers_in, parts_at, put_at, put_top, statement_at}
 use Rattle.cil_blocks.specs.Opens.{is_on_top, on_top_by}
-use Rattle.cil_blocks.proofs.ListLemmas.{get_so, in_range, is_there, tied_places}
+use Rattle.cil_sexpr.specs.Places.{get_so, in_range, is_there}
+use Rattle.cil_sexpr.specs.Rising.{tied_places}
 use Rattle.cil_blocks.proofs.ProgramLemmas.{program_length, stands_on_top, stands_under, tied, written_at}
 use Rattle.cil_blocks.proofs.StandingWalk.{same_spots, spots_same}
 

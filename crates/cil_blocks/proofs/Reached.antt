@@ -14,7 +14,7 @@ use Rattle.cil_sexpr.specs.Lists.{contains_here, contains_none}
 use Rattle.cil_blocks.specs.Doubled.{AreThose}
 use Rattle.cil_blocks.specs.Seeds.{IsJoined, IsReachedBy, Pair, at_start, further}
 use Rattle.cil_blocks.proofs.Kept.{grown, in_one, no_members}
-use Rattle.cil_blocks.proofs.ListLemmas.{get_at, get_contains, get_in_front, in_range, some_same}
+use Rattle.cil_sexpr.specs.Places.{get_at, get_contains, get_in_front, in_range, some_same}
 
 -- ---- equality of bodies and of pairs, as the code tests it
 

@@ -1,6 +1,6 @@
 -- What is told of blocks, and where.
-use Rattle.std.proofs.Common.{◌≡◌, ◌⊎◌, ℕ, ◌<◌, true, List, [], ◌∷◌, ◌++◌, length, map, refl, sym, ◌∙◌, ap, subst, inl, inr, append-nil, append_assoc}
-use Rattle.std.specs.Prelude.{◌↔◌, Contains, Option, Some, None, reverse}
+use Rattle.std.proofs.Common.{◌≡◌, ℕ, List, [], ◌∷◌, ◌++◌, map, refl, sym, ◌∙◌, ap, subst, inl, inr, append-nil}
+use Rattle.std.specs.Prelude.{◌↔◌, Contains, None, reverse}
 use Rattle.std.specs.List.{flat_map}
 use Rattle.std.proofs.lemmas.List.{map-append, reverse-append}
 use Rattle.std.proofs.lemmas.List.Elements.{Contains-append_left, Contains-append_right, Contains-append_cases}
@@ -8,7 +8,6 @@ use denote.Ref.{Bor}
 use Rattle.cil_sexpr.specs.Lists.{contains_cases, contains_here, contains_later, contains_none}
 use Rattle.cil_syntax.specs.declared.code.FaultCode.{FaultCode}
 use Rattle.cil_syntax.specs.declared.fault.Fault.{Fault}
-use Rattle.cil_syntax.specs.declared.term.Spot.{Spot}
 use Rattle.cil_syntax.specs.declared.term.Word.{Word}
 use Rattle.cil_syntax.specs.Around.{names_of}
 use Rattle.cil_syntax.specs.Forms.{name_in_front}
@@ -17,7 +16,7 @@ use Rattle.cil_syntax.specs.Written.{Written, named_in_front}
 use Rattle.cil_blocks.specs.Contents.{first_word}
 use Rattle.cil_blocks.specs.Entries.{nothing, statement_at}
 use Rattle.cil_blocks.specs.Reports.{AreNumbersOf, IsToldOf, fault_of_name, fault_of_word, name_fault, target_fault}
-use Rattle.cil_blocks.proofs.ListLemmas.{get_at, get_contains, get_so, is_there, none_some}
+use Rattle.cil_sexpr.specs.Places.{get_at, get_contains, get_so, is_there, none_some}
 
 -- ---- lists
 

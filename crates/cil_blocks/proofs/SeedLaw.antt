@@ -15,7 +15,7 @@ use Rattle.cil_blocks.specs.Named.{AreAllTargets, full_name}
 use Rattle.cil_blocks.specs.Seeds.{StandsTwice, body_of, body_parts}
 use Rattle.cil_blocks.proofs.CycleLemmas.{is_shared}
 use Rattle.cil_blocks.proofs.Kept.{grown}
-use Rattle.cil_blocks.proofs.ListLemmas.{get_at, get_so}
+use Rattle.cil_sexpr.specs.Places.{get_at, get_so}
 use Rattle.cil_blocks.proofs.MemberLemmas.{named_below}
 use Rattle.cil_blocks.proofs.ProgramLemmas.{program_length}
 use Rattle.cil_blocks.proofs.SeedsShare.{both_reached, have_seeds, number_of, one_number, part_below, part_of, same_number, seeds_share, sharing, written}

@@ -15,10 +15,12 @@ use Rattle.cil_blocks.specs.Leads.{Shares, first, second}
 use Rattle.cil_blocks.specs.Named.{AreAllTargets, targets_in}
 use Rattle.cil_blocks.specs.Opens.{is_on_top, parts}
 use Rattle.cil_blocks.specs.Seeds.{AreSeeds, IsHanded, IsNext, Pair, Reaches, at_start, bodies, body_of, body_parts, further, handed_to}
-use Rattle.cil_blocks.proofs.ListLemmas.{contains_mapped, from_mapped, get_contains, is_there, kept_into, kept_is, tied_places}
+use Rattle.cil_sexpr.specs.MadeLists.{contains_map, from_map, from_flat, contains_flat}
+use Rattle.cil_sexpr.specs.Places.{get_contains, is_there}
+use Rattle.cil_sexpr.specs.Searches.{kept_into, kept_is}
+use Rattle.cil_sexpr.specs.Rising.{tied_places}
 use Rattle.cil_blocks.proofs.MemberLemmas.{block_named, named_below}
 use Rattle.cil_blocks.proofs.ProgramLemmas.{tied}
-use Rattle.cil_blocks.proofs.SeedLists.{from_flat, into_flat}
 use Rattle.cil_blocks.proofs.StandingWalk.{in_parts, parts_of, top_on}
 
 on_top : (w : Written) → w.context.under ≡ None → is_on_top w ≡ true
@@ -48,11 +50,11 @@ module _ (ss : List Statement) (nested : IsNested ss) (ps : Parts) (ts : Targets
 
   pub part_of : (body : Option ℕ) (i : ℕ) → IsWithin body (length ws) → Contains (body_parts ps body) i → IsOf (body_of ws body) (statement_at ws i)
   part_of None i h c =
-      let k = kept_is is_on_top ws (statement_at ws i) (subst (λ xs. Contains xs (statement_at ws i)) are_parts.tops (contains_mapped (statement_at ws) ps.tops.items i c)) in
+      let k = kept_is is_on_top ws (statement_at ws i) (subst (λ xs. Contains xs (statement_at ws i)) are_parts.tops (contains_map (statement_at ws) ps.tops.items i c)) in
       top_on (statement_at ws i).context.under k.1
   part_of (Some k) i h c =
       (parts_of ws (statement_at ws k) (statement_at ws i)
-      (subst (λ xs. Contains xs (statement_at ws i)) (are_parts.inside k h) (contains_mapped (statement_at ws) (parts_at ps k) i c))).1
+      (subst (λ xs. Contains xs (statement_at ws i)) (are_parts.inside k h) (contains_map (statement_at ws) (parts_at ps k) i c))).1
 
   pub record IsPartOf (body : Option ℕ) (w : Written) : Type 0 where
     pub number : ℕ
@@ -61,10 +63,10 @@ module _ (ss : List Statement) (nested : IsNested ss) (ps : Parts) (ts : Targets
 
   pub number_of : (body : Option ℕ) (w : Written) → IsWithin body (length ws) → Contains ws w → IsOf (body_of ws body) w → IsPartOf body w
   number_of None w h c o =
-      let m = from_mapped (statement_at ws) ps.tops.items w (subst (λ xs. Contains xs w) (sym are_parts.tops) (kept_into is_on_top ws w c (on_top w o))) in
+      let m = from_map (statement_at ws) ps.tops.items w (subst (λ xs. Contains xs w) (sym are_parts.tops) (kept_into is_on_top ws w c (on_top w o))) in
       record { number = m.0; is_in = m.1; is = m.2 }
   number_of (Some k) w h c o =
-      let m = from_mapped (statement_at ws) (parts_at ps k) w (subst (λ xs. Contains xs w) (sym (are_parts.inside k h)) (in_parts ws (statement_at ws k) w c o)) in
+      let m = from_map (statement_at ws) (parts_at ps k) w (subst (λ xs. Contains xs w) (sym (are_parts.inside k h)) (in_parts ws (statement_at ws k) w c o)) in
       record { number = m.0; is_in = m.1; is = m.2 }
 
   -- ---- what is handed on
@@ -80,12 +82,12 @@ module _ (ss : List Statement) (nested : IsNested ss) (ps : Parts) (ts : Targets
   unfolding handed_to
   handed_by a b c =
       let f = from_flat (λ v. bodies (targets_in ts v)) (body_parts ps a) b c in
-      let m = from_mapped Some (targets_in ts f.0) b f.2 in
+      let m = from_map Some (targets_in ts f.0) b f.2 in
       record { through = f.0; target = m.0; is_in = f.1; is_target = m.1; is = sym m.2 }
 
   hands : (a : Option ℕ) (v k : ℕ) → Contains (body_parts ps a) v → Contains (targets_in ts v) k → IsHanded ps ts a (Some k)
   unfolding handed_to
-  hands a v k c t = into_flat (λ x. bodies (targets_in ts x)) (body_parts ps a) v (Some k) c (contains_mapped Some (targets_in ts v) k t)
+  hands a v k c t = contains_flat (λ x. bodies (targets_in ts x)) (body_parts ps a) v (Some k) c (contains_map Some (targets_in ts v) k t)
 
   -- ---- from seeds to shared namespaces
 

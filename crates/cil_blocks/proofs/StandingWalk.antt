@@ -14,12 +14,15 @@ use Rattle.cil_sexpr.specs.Lists.{contains_none, all_at}
 use Rattle.cil_syntax.specs.declared.term.Spot.{Spot}
 use Rattle.cil_syntax.specs.declared.kind.Keyword.{Keyword}
 use Rattle.cil_syntax.specs.declared.kind.Keyword.TheVariants as keywords
-use Rattle.cil_blocks.specs.Contents.{first_word, block_space, is_block_named, is_block, is_inheriting, is_abstract, is_at, same_spot, IsIn, Target, Standing, standing_top, standing_in_block, standing_inherited, standing_cmp, path_cmp, spot_cmp, Stands, top, in_block, in_optional, inherited}
+use Rattle.cil_blocks.specs.Contents.{first_word, block_space, is_block_named, is_block, is_inheriting, is_abstract, is_at, same_spot, IsIn, Target, Standing, standing_top, standing_in_block, standing_inherited, standing_cmp, path_cmp, spot_cmp, Stands, top, in_block, in_optional, inherited, spot_total}
 use Rattle.cil_blocks.specs.Opens.{on_top_by, target_in, target_by, is_on_top, tops, parts, target_of, opens_target, opens_as, opens}
 use Rattle.cil_syntax.specs.Written.{Written, written_cmp}
-use Rattle.cil_blocks.proofs.ListLemmas.{all_from, contains_mapped, find_some, found_is, from_mapped, kept_into, kept_is, none_some}
-use Rattle.cil_blocks.proofs.Paths.{spot_total, opened_later, opened_beside, longer_than_one, alone}
-use Rattle.cil_blocks.proofs.Queue.{IsReached, at_first, onward, IsQueueOrder}
+use Rattle.cil_sexpr.specs.Rising.{all_from}
+use Rattle.cil_sexpr.specs.MadeLists.{contains_map, from_map}
+use Rattle.cil_sexpr.specs.Searches.{find_some, found_is, kept_into, kept_is}
+use Rattle.cil_sexpr.specs.Places.{none_some}
+use Rattle.cil_sexpr.specs.Paths.{opened_later, opened_beside, longer_than_one, alone}
+use Rattle.cil_sexpr.specs.Queue.{IsReached, at_first, onward, IsQueueOrder}
 
 -- ---- places
 
@@ -97,7 +100,7 @@ module _ (ws : List Written) where
         → Contains (if b then [] else map (standing_in_block s) (parts ws s.statement)) t → Stands ws t
     opened_block s t true a k st c = absurd (contains_none t c)
     opened_block s t false a k st c =
-        let m = from_mapped (standing_in_block s) (parts ws s.statement) t c in
+        let m = from_map (standing_in_block s) (parts ws s.statement) t c in
         let p = parts_of s.statement m.0 m.1 in
         subst (Stands ws) m.2 (in_block s m.0 st k a p.0 p.1)
 
@@ -105,7 +108,7 @@ module _ (ws : List Written) where
         → Contains (opens_target ws s o) t → Stands ws t
     opened_target s t None e k st c = absurd (contains_none t c)
     opened_target s t (Some b) e k st c =
-        let m = from_mapped (standing_inherited s b) (parts ws b) t c in
+        let m = from_map (standing_inherited s b) (parts ws b) t c in
         let p = parts_of b m.0 m.1 in
         subst (Stands ws) m.2 (inherited s b m.0 st k (target_is s.statement b e) p.0 p.1)
 
@@ -117,7 +120,7 @@ module _ (ws : List Written) where
     pub stands_reached : (s : Standing) → IsReached standing_cmp (tops ws) (opens ws) s → Stands ws s
     unfolding opens
     stands_reached s (at_first t c) =
-        let m = from_mapped standing_top (filter is_on_top ws) t c in
+        let m = from_map standing_top (filter is_on_top ws) t c in
         let k = kept_is is_on_top ws m.0 m.1 in
         subst (Stands ws) m.2 (top m.0 k.0 (top_on m.0.context.under k.1))
     stands_reached s (onward p t r c) = opened_as p t p.statement.statement.keyword refl (stands_reached p r) c
@@ -140,15 +143,15 @@ module _ (ws : List Written) where
     pub reached_stands : (s : Standing) → Stands ws s → IsReached standing_cmp (tops ws) (opens ws) s
     unfolding opens
     reached_stands s (top w c u) =
-        at_first (standing_top w) (contains_mapped standing_top (filter is_on_top ws) w (kept_into is_on_top ws w c (none_on_top w.context.under u)))
+        at_first (standing_top w) (contains_map standing_top (filter is_on_top ws) w (kept_into is_on_top ws w c (none_on_top w.context.under u)))
     reached_stands s (in_block p w sp k a c u) =
         onward p (standing_in_block p w) (reached_stands p sp)
-        (block_opens p (standing_in_block p w) p.statement.statement.keyword k a (contains_mapped (standing_in_block p) (parts ws p.statement) w (in_parts p.statement w c u)))
+        (block_opens p (standing_in_block p w) p.statement.statement.keyword k a (contains_map (standing_in_block p) (parts ws p.statement) w (in_parts p.statement w c u)))
     reached_stands s (in_optional p w sp k c u) = absurd (let f : false ≡ true = k in cc)
     reached_stands s (inherited p b w sp k t c u) =
         onward p (standing_inherited p b w) (reached_stands p sp)
         (inheriting_opens p (standing_inherited p b w) p.statement.statement.keyword b k (is_the_target p.statement b t)
-        (contains_mapped (standing_inherited p b) (parts ws b) w (in_parts b w c u)))
+        (contains_map (standing_inherited p b) (parts ws b) w (in_parts b w c u)))
 
   -- ---- the order of the queue
 
@@ -159,7 +162,7 @@ module _ (ws : List Written) where
   mapped_step : (s t : Standing) (f : Written → Standing) (us : List Written) → ((w : Written) → (f w).trail ≡ s.trail ++ w.statement.at ∷ [])
       → Contains (map f us) t → IsStepOf s t
   mapped_step s t f us h c =
-      let m = from_mapped f us t c in (m.0.statement.at, ap (λ (x : Standing). x.trail) (sym m.2) ∙ h m.0)
+      let m = from_map f us t c in (m.0.statement.at, ap (λ (x : Standing). x.trail) (sym m.2) ∙ h m.0)
 
   block_step : (s t : Standing) (b : Bool) → Contains (if b then [] else map (standing_in_block s) (parts ws s.statement)) t → IsStepOf s t
   block_step s t true c = absurd (contains_none t c)
@@ -180,7 +183,7 @@ module _ (ws : List Written) where
 
   some_trail : (s : Standing) → IsReached standing_cmp (tops ws) (opens ws) s → 1 ≤ length s.trail
   some_trail s (at_first t c) =
-      let m = from_mapped standing_top (filter is_on_top ws) t c in
+      let m = from_map standing_top (filter is_on_top ws) t c in
       let l : length t.trail ≡ 1 = ap (λ (x : Standing). length x.trail) (sym m.2) in
       omega (arith, l)
   some_trail s (onward p t r c) =
@@ -194,7 +197,7 @@ module _ (ws : List Written) where
     unfolding IsStrictlySortedBy
     rising_map f h [] r = tt
     rising_map f h (u ∷ us) r = (
-      all_from (λ y. standing_cmp (f u) y ≡ Less) (map f us) (λ y c. let back = from_mapped f us y c in
+      all_from (λ y. standing_cmp (f u) y ≡ Less) (map f us) (λ y c. let back = from_map f us y c in
           subst (λ y. standing_cmp (f u) y ≡ Less) back.2 (h u back.0 (all_at (λ w. written_cmp u w ≡ Less) us back.0 r.0 back.1))),
       rising_map f h us r.1,
     )
@@ -234,7 +237,7 @@ module _ (ws : List Written) where
       start_rises = rising_map standing_top (λ v w e. alone spot_cmp spot_total v.statement.at w.statement.at e) (filter is_on_top ws)
           (IsStrictlySortedBy-filter written_cmp is_on_top ws rising);
       each_rises = λ s r. opens_rise s;
-      behind_start = λ x y b c r d. let m = from_mapped standing_top (filter is_on_top ws) x c in let a = a_step y b d in
+      behind_start = λ x y b c r d. let m = from_map standing_top (filter is_on_top ws) x c in let a = a_step y b d in
           (λ i. path_cmp ((sym m.2 i).trail) (a.1 i)) ∙ longer_than_one spot_cmp spot_total y.trail m.0.statement.at a.0 (some_trail y r);
       later = λ x y a b r q e c d. let p = a_step x a c in let s = a_step y b d in
           (λ i. path_cmp (p.1 i) (s.1 i)) ∙ opened_later spot_cmp spot_total x.trail y.trail p.0 s.0 e;

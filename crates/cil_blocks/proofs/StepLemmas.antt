@@ -17,9 +17,11 @@ use Rattle.cil_blocks.specs.Leads as leads
 use Rattle.cil_blocks.specs.Leads.{IsOnCycle, Leads, here, nested}
 use Rattle.cil_blocks.specs.Named.{AreAllTargets, targets_in}
 use Rattle.cil_blocks.specs.Steps.{AreOnCycles, IsStep, LeadBack, NeverRise, Reaches, StayBelow, itself, level_at, onward}
-use Rattle.cil_blocks.proofs.ListLemmas.{contains_mapped, from_mapped, get_contains, get_so, in_range, is_there, tied_places}
+use Rattle.cil_sexpr.specs.MadeLists.{contains_map, from_map}
+use Rattle.cil_sexpr.specs.Places.{get_contains, get_so, in_range, is_there}
+use Rattle.cil_sexpr.specs.Rising.{tied_places}
 use Rattle.cil_blocks.proofs.MarkLemmas.{only_one}
-use Rattle.cil_blocks.proofs.OneStanding.{first_of_three}
+use Rattle.cil_blocks.specs.OneStanding.{first_of_three}
 use Rattle.cil_blocks.proofs.ProgramLemmas.{in_number, stands_under, tied, written_at}
 use Rattle.cil_blocks.proofs.StandingWalk.{in_parts, parts_of}
 
@@ -118,11 +120,11 @@ module _ (ss : List Statement) (ordered : IsNested ss) (ps : Parts) (ts : Target
   part_written : (q k : ℕ) → q < length ws → Contains (parts_at ps q) k → Contains ws (statement_at ws k) × IsIn (statement_at ws k) (statement_at ws q)
   part_written q k h c =
       parts_of ws (statement_at ws q) (statement_at ws k)
-      (subst (λ xs. Contains xs (statement_at ws k)) (are_parts.inside q h) (contains_mapped (statement_at ws) (parts_at ps q) k c))
+      (subst (λ xs. Contains xs (statement_at ws k)) (are_parts.inside q h) (contains_map (statement_at ws) (parts_at ps q) k c))
 
   part_number : (q : ℕ) (w : Written) → q < length ws → Contains ws w → IsIn w (statement_at ws q) → (k : ℕ) × Contains (parts_at ps q) k × (statement_at ws k ≡ w)
   part_number q w h c i =
-      from_mapped (statement_at ws) (parts_at ps q) w (subst (λ xs. Contains xs w) (sym (are_parts.inside q h)) (in_parts ws (statement_at ws q) w c i))
+      from_map (statement_at ws) (parts_at ps q) w (subst (λ xs. Contains xs w) (sym (are_parts.inside q h)) (in_parts ws (statement_at ws q) w c i))
 
   target_is_block : (q k : ℕ) → Contains (targets_in ts q) k → is_inheriting (statement_at ws k).statement.keyword ≡ false
   target_is_block q k c = block_inherits_not (statement_at ws k).statement.keyword (first_of_three _ _ _ (are_targets.named q k c).1.named)

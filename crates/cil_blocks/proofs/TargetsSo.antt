@@ -13,7 +13,8 @@ use Rattle.cil_syntax.specs.Written.{Written}
 use Rattle.cil_blocks.specs.Contents.{block_space, first_word, has_block, is_block, is_block_named, name_of}
 use Rattle.cil_blocks.specs.Entries.{AreBelow, nothing, statement_at}
 use Rattle.cil_blocks.specs.Named.{AreBlocks, AreFirstNamed, AreOfName, AreTargets, HasNoneNamed, IsAsked, asked_space, space_in}
-use Rattle.cil_blocks.proofs.ListLemmas.{contains_mapped, from_mapped, get_at, get_contains, get_so, is_there, none_some, some_same}
+use Rattle.cil_sexpr.specs.MadeLists.{contains_map, from_map}
+use Rattle.cil_sexpr.specs.Places.{get_at, get_contains, get_so, is_there, none_some, some_same}
 use Rattle.cil_blocks.proofs.NameLemmas.{block_space_in}
 use Rattle.cil_blocks.proofs.OneTarget.{same_spaces, three}
 use Rattle.cil_blocks.proofs.ScopeLemmas.{scope_global}
@@ -184,9 +185,9 @@ module _ (ws : List Written) (blocks : List ℕ) (are_blocks : AreBlocks ws bloc
         let named : is_block_named (asked word.bytes).name h.0 b ≡ true =
         (λ i. is_block_named (asked (sym same i).bytes).name (sym space i) b) ∙ t.named in
         let j = named_from b (asked word.bytes).name h.0 t.is_written named in
-        subst (Contains (map (statement_at ws) found)) j.1 (contains_mapped (statement_at ws) found j.0 ((h.2 j.0).1 (j.2, j.3)))),
+        subst (Contains (map (statement_at ws) found)) j.1 (contains_map (statement_at ws) found j.0 ((h.2 j.0).1 (j.2, j.3)))),
     (λ c.
-        let back = from_mapped (statement_at ws) found b c in
+        let back = from_map (statement_at ws) found b c in
         let j = (h.2 back.0).0 back.1 in
         record {
           word = word;

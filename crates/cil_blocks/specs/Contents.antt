@@ -3,8 +3,10 @@
 use Rattle.std.specs.Prelude.{◌≡◌, ℕ, Bool, true, false, ◌&&◌, List, [], ◌∷◌, ◌++◌, length, Contains, Option, Some, None, find}
 use Rattle.std.specs.declared.cmp.Ordering.{Ordering}
 use Rattle.std.specs.Ordering.{nat_cmp, on, then_cmp}
+use Rattle.std.specs.Cmp.{IsTotalOrder}
 use Rattle.std.specs.Cmp.Lexicographic.{slice_cmp}
 use Rattle.std.specs.List.{list_any}
+use Rattle.std.proofs.lemmas.Cmp.{nat_cmp_total, on_total, then_total}
 use Rattle.cil_syntax.specs.Spelling.{same_bytes}
 use Rattle.cil_syntax.specs.declared.kind.Keyword.{Keyword}
 use Rattle.cil_syntax.specs.declared.kind.Keyword.TheVariants as keywords
@@ -156,6 +158,10 @@ pub data Stands (ws : List Written) : Standing → Type 0 where
 -- by module, then by place
 abbrev pub spot_cmp : Spot → Spot → Ordering
 spot_cmp = then_cmp (on (λ p. p.«module») nat_cmp) (on (λ p. p.at) nat_cmp)
+
+-- any two places have an order
+pub spot_total : IsTotalOrder spot_cmp
+spot_total = then_total (on_total (λ p. p.«module») nat_cmp_total) (on_total (λ p. p.at) nat_cmp_total)
 
 -- a shorter path first; of two of one length the first place that differs decides
 abbrev pub path_cmp : List Spot → List Spot → Ordering

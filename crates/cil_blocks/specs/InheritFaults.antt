@@ -1,7 +1,6 @@
 -- What is wrong with blocks and inheritance. This project's profile.
-use Rattle.std.specs.Prelude.{◌≡◌, ◌⊎◌, ℕ, ◌<◌, true, false, List, [], ◌∷◌, length, Contains, Option, Some, None}
-use Rattle.std.specs.declared.cmp.Ordering.{Ordering}
-use Rattle.std.specs.List.Sorted.{IsStrictlySortedBy}
+use Rattle.std.specs.Prelude.{◌≡◌, ◌⊎◌, ℕ, true, false, List, [], ◌∷◌, Contains, Option, Some, None}
+pub use Rattle.cil_sexpr.specs.Rising.{IsOver}
 use Rattle.cil_syntax.specs.declared.code.FaultCode.TheVariants as causes
 use Rattle.cil_syntax.specs.Scopes.{Namespace}
 use Rattle.cil_syntax.specs.declared.term.Word.{Word}
@@ -63,13 +62,6 @@ pub data InheritFault (ws : List Written) : Fault → Type 0 where
 -- how many instances there may be
 abbrev pub most_instances : ℕ
 most_instances = 1000000
-
--- more than so many things are of a set: there is a rising list of so many
-pub record IsOver {X : Type 0} (order : X → X → Ordering) (P : X → Type 0) (limit : ℕ) : Type 0 where
-  pub some : List X
-  pub rising : IsStrictlySortedBy order some
-  pub each : (x : X) → Contains some x → P x
-  pub many : limit < length some
 
 -- the whole policy, where no place is named
 abbrev pub limit_fault : Fault

@@ -6,6 +6,7 @@ pub mod Laws
 pub mod Leads
 pub mod Marks
 pub mod Named
+pub mod OneStanding
 pub mod Opens
 pub mod Reports
 pub mod Seeds

@@ -1,5 +1,5 @@
 -- What is told of blocks, statement by statement, and what the whole step answers. This project's profile.
-use Rattle.std.specs.Prelude.{◌≡◌, ◌⊎◌, ◌≤◌, ◌<◌, ◌↔◌, ℕ, true, List, [], ◌∷◌, length, Contains, Option, Some, None, slice_get}
+use Rattle.std.specs.Prelude.{◌≡◌, ◌⊎◌, ◌≤◌, ◌<◌, ◌↔◌, ℕ, true, List, [], ◌∷◌, length, Contains, Option, Some, None}
 use Rattle.cil_sexpr.specs.Lists.{Lists}
 use Rattle.cil_syntax.specs.declared.code.FaultCode.{FaultCode}
 use Rattle.cil_syntax.specs.declared.code.FaultCode.TheVariants as causes
@@ -13,8 +13,8 @@ use Rattle.cil_syntax.specs.Scopes.{Namespace}
 use Rattle.cil_syntax.specs.Written.{Named, Written, named_in_front}
 use Rattle.cil_blocks.specs.declared.entry.Entry.{Entry}
 use Rattle.cil_blocks.specs.Contents.{Stands, Target, first_word, is_inheriting, standing_cmp}
-use Rattle.cil_blocks.specs.Entries.{IsWithin, standings_of, statement_at}
-use Rattle.cil_blocks.specs.InheritFaults.{IsDoubled, most_instances}
+use Rattle.cil_blocks.specs.Entries.{standings_of, statement_at}
+use Rattle.cil_blocks.specs.InheritFaults.{most_instances}
 use Rattle.cil_blocks.specs.Laws.{HasNoFault}
 use Rattle.cil_blocks.specs.Leads.{IsOnCycle}
 

@@ -44,7 +44,7 @@ module _ {X : Type 0} where
       elim (contains_cases x y ys c) [ inl e ↦ subst P e all.0 | inr d ↦ all_at P ys x all.1 d ]
 
   module _ (order : X → X → Ordering) (total : IsTotalOrder order) where
-    not_below_itself : (x : X) → order x x ≡ Less → ⊥
+    pub not_below_itself : (x : X) → order x x ≡ Less → ⊥
     not_below_itself x e =
         let turned : Less ≡ ordering_reverse Less = sym e ∙ total.antisymm x x ∙ ap ordering_reverse e in cc
 

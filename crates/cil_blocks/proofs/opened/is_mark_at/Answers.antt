@@ -1,6 +1,6 @@
 use Rattle.std.proofs.Common.{sym, ◌∙◌, ap}
 use Rattle.cil_syntax.specs.Written.{Written, is_abstraction}
-use Rattle.cil_blocks.proofs.ListLemmas.{not_there, there_as}
+use Rattle.cil_sexpr.specs.Places.{not_there, there_as}
 use Rattle.cil_blocks.proofs.NameLemmas.{at_none, keyword_some}
 use Rattle.cil_blocks.proofs.opened.is_mark_at.Goals as goal
 

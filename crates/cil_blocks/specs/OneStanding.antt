@@ -7,35 +7,8 @@ use Rattle.cil_syntax.specs.declared.kind.Keyword.{Keyword}
 use Rattle.cil_blocks.specs.Contents.{is_block, is_inheriting, IsIn, Target, Standing, path_of, standing_top, standing_in_block, standing_in_optional, standing_inherited, Stands, top, in_block, in_optional, inherited}
 use Rattle.cil_syntax.specs.Written.{Written, written_cmp, written_total}
 use Rattle.cil_blocks.specs.Laws.{HasOneTarget}
-use Rattle.cil_blocks.proofs.ListLemmas.{not_below_itself, some_same}
-
--- ---- lists
-
-module _ {X : Type 0} where
-  abbrev tail_of : List X → List X
-  tail_of [] = []
-  tail_of (x ∷ xs) = xs
-
-  abbrev head_or : X → List X → X
-  head_or d [] = d
-  head_or d (x ∷ xs) = x
-
-  abbrev is_empty : List X → Bool
-  is_empty [] = true
-  is_empty (x ∷ xs) = false
-
-  never_empty : (x y : X) (xs : List X) → [] ≡ xs ++ x ∷ [] → ⊥
-  never_empty x y [] e = let f : true ≡ false = ap is_empty e in cc
-  never_empty x y (z ∷ zs) e = let f : true ≡ false = ap is_empty e in cc
-
-  -- two lists that end with one element each are equal part by part
-  pub same_ends : (xs ys : List X) (x y : X) → xs ++ x ∷ [] ≡ ys ++ y ∷ [] → (xs ≡ ys) × (x ≡ y)
-  same_ends [] [] x y e = (refl, ap (head_or x) e)
-  same_ends [] (z ∷ zs) x y e = absurd (never_empty y x zs (ap tail_of e))
-  same_ends (z ∷ zs) [] x y e = absurd (never_empty x y zs (sym (ap tail_of e)))
-  same_ends (z ∷ zs) (u ∷ us) x y e =
-      let rest = same_ends zs us x y (ap tail_of e) in
-      ((λ i. head_or z (e i) ∷ rest.0 i), rest.1)
+use Rattle.cil_sexpr.specs.Lists.{not_below_itself}
+use Rattle.cil_sexpr.specs.Places.{never_empty, same_ends, some_same}
 
 pub first_of_three : (a b c : Bool) → (a && b && c) ≡ true → a ≡ true
 first_of_three true b c e = refl

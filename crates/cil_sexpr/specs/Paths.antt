@@ -6,12 +6,7 @@ use Rattle.std.specs.Ordering.{nat_cmp, on, then_cmp, ordering_then, ordering_re
 use Rattle.std.specs.Cmp.{nat_cmp_is, IsTotalOrder}
 use Rattle.std.specs.Cmp.Lexicographic.{slice_cmp}
 use Rattle.std.proofs.lemmas.List.{length-append}
-use Rattle.std.proofs.lemmas.Cmp.{by_ranked, ranked, on_total, nat_cmp_total, then_total}
-use Rattle.cil_blocks.specs.Contents.{spot_cmp}
-
--- any two places have an order
-pub spot_total : IsTotalOrder spot_cmp
-spot_total = then_total (on_total (λ p. p.«module») nat_cmp_total) (on_total (λ p. p.at) nat_cmp_total)
+use Rattle.std.proofs.lemmas.Cmp.{by_ranked, ranked}
 
 less_from : (a b : ℕ) → a < b → nat_cmp a b ≡ Less
 less_from a b h = sym (nat_cmp_is a b Less h)

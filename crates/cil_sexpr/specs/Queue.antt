@@ -8,8 +8,8 @@ use Rattle.std.specs.List.Sorted.{IsStrictlySortedBy}
 use Rattle.std.proofs.lemmas.List.{length-append}
 use Rattle.std.proofs.lemmas.List.Elements.{Contains-append_left, Contains-append_right, Contains-append_cases}
 use Rattle.cil_sexpr.specs.Lists.{Lists}
-use Rattle.cil_blocks.specs.InheritFaults.{IsOver}
-use Rattle.cil_blocks.proofs.ListLemmas.{rising_join, rises_between, get_contains, get_in_front, get_at, in_range, some_same}
+use Rattle.cil_sexpr.specs.Places.{get_at, get_contains, get_in_front, in_range, some_same}
+use Rattle.cil_sexpr.specs.Rising.{IsOver, rising_join, rises_between}
 
 module _ {X : Type 0} (order : X → X → Ordering) (start : List X) (opens : X → List X) where
   pub data IsReached : X → Type 0 where
