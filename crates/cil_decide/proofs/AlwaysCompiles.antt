@@ -1,36 +1,25 @@
 -- Readable modules compile to tables or have a list of faults: step after step, as the compiler takes them.
-use Rattle.std.specs.Prelude.{Contains}
-use Rattle.std.proofs.Common.{◌≡◌, ℕ, ◌<◌, ◌≤◌, true, List, map, length, refl, sym, ◌∙◌, ap, subst, inl, inr, arith}
-use Rattle.std.proofs.lemmas.Bool.{cases_lt}
-use Rattle.cil_sexpr.specs.Lists.{Lists, text_cmp}
+use Rattle.std.proofs.Common.{ℕ, List, map, refl, sym, ap, inl, inr}
+use Rattle.cil_sexpr.specs.Lists.{Lists}
 use Rattle.cil_syntax.specs.declared.failure.Failure.TheVariants.{Faults}
 use Rattle.cil_syntax.specs.declared.fault.Fault.{Fault}
-use Rattle.cil_syntax.specs.declared.kind.Kind.{Kind}
-use Rattle.cil_syntax.specs.declared.kind.Kind.TheVariants as kinds
 use Rattle.cil_syntax.specs.Laws.{AlwaysHaveProgramOrFaults, Outcome as StepOutcome, succeeds, fails as step_fails}
-use Rattle.cil_syntax.specs.Table.{entry_of}
-use Rattle.cil_syntax.specs.Terms.{Leaf, Name, Form, Terms, nil, cons}
 use Rattle.cil_syntax.specs.Written.{Written, IsWritten, ShapeFault, written_cmp}
 use Rattle.cil_blocks.specs.Contents.{Stands, standing_cmp}
 use Rattle.cil_blocks.specs.InheritFaults.{InheritStep}
 use Rattle.cil_blocks.specs.Laws.{HaveFlatContents}
-use Rattle.cil_decide.specs.declared.tables.Class.{Class}
 use Rattle.cil_decide.specs.CompileRefusal.{CompileFails}
-use Rattle.cil_decide.specs.Compiled.{IsRowOf, IsTable}
-use Rattle.cil_syntax.specs.Scopes.{Namespace}
-use Rattle.cil_names.specs.Declarations.{Declaration, declarations, IsDeclaration, object, by, Declared, Symbol, content_of}
-use Rattle.cil_decide.specs.Faults.{ClassFault, wide}
+use Rattle.cil_decide.specs.Compiled.{IsTable}
+use Rattle.cil_decide.specs.Faults.{ClassFault}
 use Rattle.cil_names.specs.Faults.{ClashFault, ResolveFault}
 use Rattle.cil_decide.specs.Flat.{AreFlat, AreItems, item_of}
-use Rattle.cil_names.specs.Item.{ScopedWord, Item, nobody}
+use Rattle.cil_names.specs.Item.{Item, nobody}
 use Rattle.cil_decide.specs.Laws.{AlwaysCompilesOrFails, Outcome, compiles, fails}
-use Rattle.cil_names.specs.Resolves.{has_permission}
-use Rattle.cil_decide.specs.Table.{Table, IsOrderly, most_permissions}
+use Rattle.cil_decide.specs.Table.{Table, IsOrderly}
 use Rattle.cil_decide.proofs.AgreesLemmas.{table_agrees}
 use Rattle.cil_decide.proofs.CompileLemmas.{IsFront, clash_fails, inherit_fails, no_program_step, nothing_wrong, widths_fail, words_fail}
 use Rattle.cil_decide.proofs.FlatPrograms.{is_flat}
 use Rattle.cil_decide.proofs.FiniteFaults.{finite_clashes, finite_unresolved, finite_wide, step_outcome}
-use Rattle.cil_decide.proofs.FinitePolicy.{Front}
 use Rattle.cil_decide.proofs.ListLemmas.{from_map}
 use Rattle.cil_decide.proofs.TablesExist.{tables}
 use Rattle.cil_decide.proofs.WideClasses.{few}

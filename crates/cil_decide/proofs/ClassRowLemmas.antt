@@ -1,12 +1,11 @@
 -- The rows of the classes, from the entries of their names.
-use Rattle.std.specs.Prelude.{Contains, Option, Some, None, nat_eq, slice_get}
+use Rattle.std.specs.Prelude.{Some, None, nat_eq, slice_get}
 use Rattle.std.specs.Global.{Vec}
 use Rattle.std.specs.Option.{option_map, unwrap_or}
-use Rattle.std.proofs.Common.{◌≡◌, ◌⊎◌, ℕ, zero, suc, ◌+◌, ◌<◌, ◌≤◌, ◌&&◌, Bool, true, false, List, [], ◌∷◌, ◌++◌, map, length, take, get_or, set, refl, sym, ◌∙◌, ap, subst, inl, inr, arith}
+use Rattle.std.proofs.Common.{◌≡◌, ◌⊎◌, ℕ, zero, suc, ◌+◌, ◌<◌, ◌≤◌, true, false, List, [], ◌∷◌, ◌++◌, map, length, take, get_or, set, refl, sym, ◌∙◌, ap, subst, inl, inr, arith}
 use Rattle.std.proofs.lemmas.Bool.{and_from, and_parts, cases_eq, true≢false}
 use Rattle.std.proofs.lemmas.List.{take_more, take_all, map-append, length-append, length-map, length-set, length-take-le, get_or-set_same, get_or-set_other}
 use Rattle.std.proofs.lemmas.Option.{slice_get-get_or, slice_get-map, slice_get_within, get_or_from_slice_get}
-use Rattle.cil_sexpr.specs.Lists.{Lists, text_cmp}
 use Rattle.cil_syntax.specs.declared.fault.Bytes.{Bytes}
 use Rattle.cil_syntax.specs.declared.kind.Kind.{Kind}
 use Rattle.cil_syntax.specs.declared.kind.Kind.TheVariants as kinds
@@ -16,9 +15,9 @@ use Rattle.cil_names.specs.declared.space.Space.{Space}
 use Rattle.cil_names.specs.Entries.{is_declared_in}
 use Rattle.cil_names.specs.Item.{OptSet}
 use Rattle.cil_names.specs.Numbers.{AreApart, AreNumbers, has_section, is_of, names_of, spelled_of}
-use Rattle.cil_names.specs.Resolves.{kind_number}
+use Rattle.cil_syntax.specs.Kinds.{kind_number}
 use Rattle.cil_names.specs.Unresolved.{listed_at}
-use Rattle.cil_decide.specs.ClassRows.{AreClassEntries, AreListed, AreRowsOf, IsRowOfEntry}
+use Rattle.cil_decide.specs.ClassRows.{AreClassEntries, AreListed, AreRowsOf}
 use Rattle.cil_decide.specs.declared.tables.Class.{Class}
 use Rattle.cil_decide.proofs.SearchLemmas.{member_of_number, number_is, number_of_member}
 

@@ -9,12 +9,13 @@ use Rattle.cil_syntax.specs.declared.term.Op.TheVariants as ops
 use Rattle.cil_syntax.specs.declared.term.Spot.{Spot}
 use Rattle.cil_syntax.specs.Terms.{Term, Leaf, Name, Form, Terms, nil, cons}
 use Rattle.cil_decide.specs.Compiled.{HasNumber, IsNameOf, IsNumbered}
-use Rattle.cil_syntax.specs.Scopes.{asked}
+use Rattle.cil_syntax.specs.Scopes.{asked, ScopedWord}
 use Rattle.cil_names.specs.Declarations.{Declaration, declared_by, IsDeclaration, object, by, object_role, Declared, Symbol, name_of}
-use Rattle.cil_names.specs.Item.{ScopedWord, Item, OptSet, is_enabled}
+use Rattle.cil_names.specs.Item.{Item, OptSet, is_enabled}
 use Rattle.cil_decide.specs.Members.{StandsFor}
 use Rattle.cil_decide.specs.Pairs.{HasPair, of_class, names_of}
-use Rattle.cil_names.specs.Resolves.{found_in, has_permission, is_wanted}
+use Rattle.cil_names.specs.Resolves.{found_in, has_permission}
+use Rattle.cil_syntax.specs.Kinds.{is_wanted}
 use Rattle.cil_decide.proofs.DecidedEquality.{bool_is, kind_is, same_namespace, same_text}
 use Rattle.cil_decide.proofs.Finite.{Decided, Finite, decided_both, decided_same, decided_where, finite_all, finite_below, finite_either, finite_given, finite_image, finite_inverse, finite_list, finite_one, finite_same, finite_where, member}
 

@@ -9,7 +9,8 @@ use Rattle.cil_syntax.specs.Terms.{Term, Leaf, Name, Form, nil, cons}
 use Rattle.cil_decide.specs.declared.tables.Link.{Link}
 use Rattle.cil_decide.specs.Compiled.{Case, HasTarget, IsCase, IsLink, IsNumbered}
 use Rattle.cil_names.specs.Declarations.{Symbol, name_of}
-use Rattle.cil_names.specs.Item.{ScopedWord, Item, OptSet, is_enabled}
+use Rattle.cil_names.specs.Item.{Item, OptSet, is_enabled}
+use Rattle.cil_syntax.specs.Scopes.{ScopedWord}
 use Rattle.cil_decide.specs.Members.{StandsFor}
 use Rattle.cil_decide.specs.Pairs.{HasPair}
 use Rattle.cil_decide.proofs.DecidedEquality.{bool_is, keyword_is}

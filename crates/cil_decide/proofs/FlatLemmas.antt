@@ -10,11 +10,11 @@ use Rattle.cil_syntax.specs.Said.{args_of}
 use Rattle.cil_syntax.specs.Table.{entry_of}
 use Rattle.cil_syntax.specs.Terms.{Leaf, Name, Form, Terms, nil, cons}
 use Rattle.cil_syntax.specs.Written.{qualified}
-use Rattle.cil_syntax.specs.Scopes.{Namespace}
+use Rattle.cil_syntax.specs.Scopes.{Namespace, ScopedWord}
 use Rattle.cil_names.specs.declared.instance.Instance.{Instance}
 use Rattle.cil_names.specs.Declarations.{Declaration, declarations, IsDeclaration, object, by, Declared, Symbol, name_of, content_of}
 use Rattle.cil_names.specs.Entries.{item_of, items_of, scoped}
-use Rattle.cil_names.specs.Item.{Item, ScopedWord, all_replaced, nobody}
+use Rattle.cil_names.specs.Item.{Item, all_replaced, nobody}
 use Rattle.cil_names.specs.Placed.{ArePlaced, IsPlaced}
 use Rattle.cil_names.specs.Spaces.{space_at, spaces_from}
 use Rattle.cil_decide.specs.Compiled.{IsNameOf}

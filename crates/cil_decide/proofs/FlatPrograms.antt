@@ -1,5 +1,5 @@
 -- The statements of policies without blocks and macros stand at the top of their modules.
-use Rattle.std.proofs.Common.{◌≡◌, ℕ, Bool, true, false, if◌then◌else◌, List, [], ◌∷◌, refl, sym, ◌∙◌, ap, subst}
+use Rattle.std.proofs.Common.{◌≡◌, ℕ, Bool, true, false, if◌then◌else◌, List, [], ◌∷◌, refl, ap, subst}
 use Rattle.std.specs.Prelude.{Option, Some, None, find}
 use Rattle.std.specs.List.{AllByRecursion}
 use Rattle.cil_sexpr.specs.Tree.{Node, Nodes, inner_of, next, none}
@@ -8,11 +8,11 @@ use Rattle.cil_syntax.specs.declared.kind.Keyword.{Keyword}
 use Rattle.cil_syntax.specs.declared.kind.Keyword.TheVariants as keywords
 use Rattle.cil_syntax.specs.declared.term.Spot.{Spot}
 use Rattle.cil_syntax.specs.declared.term.Word.{Word}
-use Rattle.cil_syntax.specs.Shapes.{Cell, Face, Inner, Reading, a_list, a_string, a_word, cells_of, read_row}
+use Rattle.cil_syntax.specs.Shapes.{Cell, Face, Inner, Reading, a_list, a_string, a_word, read_row}
 use Rattle.cil_syntax.specs.Spelling.{same_bytes}
 use Rattle.cil_syntax.specs.Table.{Entry, entry_in, entry_of, plain, table}
 use Rattle.cil_syntax.specs.Terms.{Terms}
-use Rattle.cil_syntax.specs.Written.{Context, FoundIn, IsItem, IsWritten, Refused, Shaped, Statement, Verdict, Written, at_top, body_of, by_entry, by_head, by_items, by_reading, first, inside, later, may_stand, names_its_block, top, verdict_in, within, written}
+use Rattle.cil_syntax.specs.Written.{Context, FoundIn, IsItem, IsWritten, Refused, Shaped, Statement, Verdict, Written, at_top, body_of, by_entry, by_head, by_items, by_reading, inside, may_stand, names_its_block, top, verdict_in, within, written}
 use Rattle.cil_blocks.specs.Contents.{is_block, is_inheriting, is_named}
 use Rattle.cil_blocks.specs.Laws.{IsFlat}
 

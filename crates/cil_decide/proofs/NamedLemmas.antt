@@ -3,7 +3,7 @@ use Rattle.std.specs.Prelude.{Contains, Some, slice_get}
 use Rattle.std.specs.Global.{Vec}
 use Rattle.std.specs.List.Sorted.{IsStrictlySortedBy}
 use Rattle.std.specs.Option.{option_map, unwrap_or}
-use Rattle.std.proofs.Common.{◌≡◌, ℕ, true, List, [], get_or, map, refl, sym, ◌∙◌, ap, subst}
+use Rattle.std.proofs.Common.{◌≡◌, ℕ, true, List, [], get_or, refl, sym, ◌∙◌, ap, subst}
 use Rattle.std.proofs.lemmas.Option.{slice_get-map}
 use Rattle.cil_sexpr.specs.Gives.{Gives}
 use Rattle.cil_sexpr.specs.Lists.{Lists, text_cmp, contains_none}
@@ -12,12 +12,10 @@ use Rattle.cil_syntax.specs.declared.kind.Kind.{Kind}
 use Rattle.cil_syntax.specs.declared.kind.Kind.TheVariants as kinds
 use Rattle.cil_syntax.specs.declared.kind.Sign.TheVariants as signs
 use Rattle.cil_syntax.specs.declared.program.Statement.{Statement}
-use Rattle.cil_syntax.specs.declared.term.Word.{Word}
 use Rattle.cil_syntax.specs.Said.{args_of}
 use Rattle.cil_syntax.specs.Sorted.{lists_of}
 use Rattle.cil_syntax.specs.Spelling.{is_name}
 use Rattle.cil_syntax.specs.Table.{entry_of}
-use Rattle.cil_syntax.specs.Terms.{Name, Terms, cons}
 use Rattle.cil_names.specs.declared.entry.Entry.{Entry}
 use Rattle.cil_names.specs.declared.instance.Instance.{Instance}
 use Rattle.cil_names.specs.declared.numbers.Sections.{Sections}
@@ -26,9 +24,10 @@ use Rattle.cil_names.specs.Declarations.{Declaration, IsDeclaration, object, by,
 use Rattle.cil_names.specs.Entries.{AreEntries, is_declared_in, item_of, items_of, scoped}
 use Rattle.cil_names.specs.Item.{Item, OptSet, everybody}
 use Rattle.cil_names.specs.Numbers.{AreApart, AreNumbers, ArePlainNames, IsNameAmong, has_section, names_of, spelled_of, symbol_of}
-use Rattle.cil_names.specs.Resolves.{has_permission, is_wanted}
+use Rattle.cil_names.specs.Resolves.{has_permission}
+use Rattle.cil_syntax.specs.Kinds.{is_wanted}
 use Rattle.cil_names.specs.Unresolved.{ArePermissions, listed_at}
-use Rattle.cil_decide.specs.ClassRows.{AreRowsOf, IsRowOfEntry}
+use Rattle.cil_decide.specs.ClassRows.{AreRowsOf}
 use Rattle.cil_decide.specs.Compiled.{IsNameOf, IsRowOf}
 use Rattle.cil_decide.specs.declared.tables.Class.{Class}
 use Rattle.cil_decide.specs.Known.{AreClasses}

@@ -2,13 +2,12 @@
 use Rattle.std.specs.Prelude.{Contains, Some, None, slice_get}
 use Rattle.std.specs.Cmp.Lexicographic.{bytes_decides}
 use Rattle.std.specs.Global.{Vec}
-use Rattle.std.specs.List.{list_any}
 use Rattle.std.proofs.Common.{◌≡◌, ◌⊎◌, ℕ, ◌+◌, ◌<◌, ◌≤◌, true, false, List, [], ◌∷◌, ◌++◌, length, take, get_or, refl, sym, ◌∙◌, ap, subst, inl, inr, arith}
 use Rattle.std.proofs.lemmas.Bool.{true≢false}
 use Rattle.std.proofs.lemmas.Cmp.{nat_list_cmp_total}
 use Rattle.std.proofs.lemmas.List.{take_more, take_all}
 use Rattle.std.proofs.lemmas.List.Elements.{Contains-append_cases, Contains-append_left, Contains-append_right}
-use Rattle.cil_sexpr.specs.Lists.{Lists, text_cmp, contains_cases, contains_here, contains_later, contains_none, one_list}
+use Rattle.cil_sexpr.specs.Lists.{Lists, text_cmp, contains_cases, contains_here, contains_none, one_list}
 use Rattle.cil_syntax.specs.declared.code.FaultCode.TheVariants as causes
 use Rattle.cil_syntax.specs.declared.fault.Bytes.{Bytes}
 use Rattle.cil_syntax.specs.declared.fault.Fault.{Fault}
@@ -22,15 +21,16 @@ use Rattle.cil_syntax.specs.Spelling.{same_bytes}
 use Rattle.cil_syntax.specs.Table.{entry_of}
 use Rattle.cil_syntax.specs.Terms.{Leaf, Name, Form, Terms, nil, cons}
 use Rattle.cil_syntax.specs.Reported.{fault_at}
-use Rattle.cil_syntax.specs.Scopes.{same_space}
+use Rattle.cil_syntax.specs.Scopes.{same_space, ScopedWord}
 use Rattle.cil_names.specs.declared.entry.Entry.{Entry}
 use Rattle.cil_names.specs.declared.instance.Instance.{Instance}
 use Rattle.cil_names.specs.declared.space.Space.{Space}
-use Rattle.cil_names.specs.Declarations.{Declaration, IsDeclaration, Symbol, by, content_of, declarations, declared_by}
+use Rattle.cil_names.specs.Declarations.{Declaration, Symbol, by, content_of, declarations, declared_by}
 use Rattle.cil_names.specs.Entries.{AreEntries, HasNoEntryIn, IsEntryIn, is_entry_of, item_of, items_of, scoped}
-use Rattle.cil_names.specs.Item.{Item, OptSet, ScopedWord, all_replaced, is_enabled}
+use Rattle.cil_names.specs.Item.{Item, OptSet, all_replaced, is_enabled}
 use Rattle.cil_names.specs.Numbers.{symbol_of}
-use Rattle.cil_names.specs.Resolves.{has_permission, is_wanted}
+use Rattle.cil_names.specs.Resolves.{has_permission}
+use Rattle.cil_syntax.specs.Kinds.{is_wanted}
 use Rattle.cil_names.specs.Spaces.{space_at}
 use Rattle.cil_names.specs.Unresolved.{ArePermissions, listed_at}
 use Rattle.cil_decide.specs.Faults.{ClassFault, wide}
@@ -42,7 +42,7 @@ use Rattle.std.specs.Cmp.Lexicographic.{pointwise_decides}
 use Rattle.std.specs.List.Sorted.{IsStrictlySortedBy}
 use Rattle.std.specs.Option.{option_map_or, unwrap_or}
 use Rattle.std.specs.Prelude.{Option}
-use Rattle.std.proofs.Common.{◌&&◌, Bool}
+use Rattle.std.proofs.Common.{◌&&◌}
 use Rattle.std.proofs.lemmas.Bool.{and_from, and_parts}
 use Rattle.cil_decide.proofs.StepLemmas.{nothing_rises}
 use Rattle.std.proofs.lemmas.List.Elements.{Contains-get_or}

@@ -8,13 +8,14 @@ use Rattle.cil_syntax.specs.declared.kind.Kind.{Kind}
 use Rattle.cil_syntax.specs.declared.kind.Kind.TheVariants as kinds
 use Rattle.cil_syntax.specs.declared.kind.Sign.{Sign}
 use Rattle.cil_syntax.specs.declared.kind.Sign.TheVariants as signs
-use Rattle.cil_syntax.specs.Scopes.{Namespace, asked, spaces_asked}
+use Rattle.cil_syntax.specs.Scopes.{Namespace, asked, spaces_asked, ScopedWord}
 use Rattle.cil_names.specs.declared.entry.Entry.{Entry}
 use Rattle.cil_names.specs.declared.instance.Instance.{Instance}
 use Rattle.cil_names.specs.declared.space.Space.{Space}
 use Rattle.cil_names.specs.Entries.{AreEntries, AreOrdered, IsAnswer, IsNamed, candidate, candidates_of, is_declared_at, is_declared_in, is_entry_of, items_of, key_cmp, key_of, listed, place_where, rank}
-use Rattle.cil_names.specs.Item.{OptSet, ScopedWord}
-use Rattle.cil_names.specs.Resolves.{found_in, has, is_wanted}
+use Rattle.cil_names.specs.Item.{OptSet}
+use Rattle.cil_names.specs.Resolves.{found_in, has}
+use Rattle.cil_syntax.specs.Kinds.{is_wanted}
 use Rattle.cil_names.specs.Spaces.{AreSpaces}
 use Rattle.cil_names.proofs.DeclLemmas.{has_as}
 use Rattle.cil_names.proofs.CandidateLemmas.{parts_of, place_is}

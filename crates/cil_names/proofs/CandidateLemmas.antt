@@ -10,7 +10,7 @@ use Rattle.cil_syntax.specs.Scopes.{Namespace, names_backwards, same_space}
 use Rattle.cil_names.specs.declared.entry.Entry.{Entry}
 use Rattle.cil_names.specs.declared.space.Space.{Space}
 use Rattle.cil_names.specs.Entries.{AreOrdered, HasNoEntry, IsEntryAt, candidate, is_entry, is_entry_of, place_where, HasNoEntryIn, IsEntryIn}
-use Rattle.cil_names.specs.Resolves.{is_wanted}
+use Rattle.cil_syntax.specs.Kinds.{is_wanted}
 use Rattle.cil_names.specs.Spaces.{AreSpaces, HasNoNumber, IsAskedAt, IsAskedNowhere, IsNumber, space_at}
 use Rattle.cil_names.proofs.EntryLemmas.{parts_fit, they_fit}
 use Rattle.cil_names.proofs.SearchLemmas.{member_of_number}

@@ -13,7 +13,7 @@ use Rattle.cil_syntax.specs.Spelling.{same_bytes}
 use Rattle.cil_syntax.specs.Terms.{Term, Leaf, Name, Form, Terms, nil, cons}
 use Rattle.cil_syntax.specs.Scopes.{Namespace}
 use Rattle.cil_names.specs.Declarations.{Bare, Declaration}
-use Rattle.cil_names.specs.Resolves.{kind_number}
+use Rattle.cil_syntax.specs.Kinds.{kind_number}
 use Rattle.cil_names.proofs.KindLemmas.{one_kind, same_kind}
 
 abbrev pub Decided : Type 0 → Type 0

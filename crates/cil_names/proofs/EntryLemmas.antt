@@ -11,7 +11,7 @@ use Rattle.cil_syntax.specs.Spelling.{same_bytes}
 use Rattle.cil_names.specs.declared.entry.Entry.{Entry}
 use Rattle.cil_names.specs.Entries.{HasNoEntry, IsEntryAt, Key, is_entry, key_of, rank}
 use Rattle.cil_names.specs.Found.{IsFound, IsMissing}
-use Rattle.cil_names.specs.Resolves.{is_wanted}
+use Rattle.cil_syntax.specs.Kinds.{is_wanted}
 
 pub one_some : (x y : Entry) → Some x ≡ Some y → x ≡ y
 one_some x y e = cc

@@ -9,16 +9,17 @@ use Rattle.std.proofs.lemmas.Bool.{and_parts, cases_Bool}
 use Rattle.cil_syntax.specs.declared.fault.Bytes.{Bytes}
 use Rattle.cil_syntax.specs.declared.kind.Sign.TheVariants as signs
 use Rattle.cil_syntax.specs.Spelling.{same_bytes}
-use Rattle.cil_syntax.specs.Scopes.{asked, same_space}
+use Rattle.cil_syntax.specs.Scopes.{asked, same_space, ScopedWord}
 use Rattle.cil_names.specs.declared.entry.Entry.{Entry}
 use Rattle.cil_names.specs.declared.instance.Instance.{Instance}
 use Rattle.cil_names.specs.declared.space.Space.{Space}
 use Rattle.cil_names.specs.Declarations.{Symbol, by, declared_by}
 use Rattle.cil_names.specs.Entries.{AreEntries, HasNoEntry, IsAnswer, IsEntryAt, IsNamed, items_of}
-use Rattle.cil_names.specs.Item.{OptSet, ScopedWord, is_enabled, nobody}
+use Rattle.cil_names.specs.Item.{OptSet, is_enabled, nobody}
 use Rattle.cil_names.specs.Numbers.{symbol_of}
 use Rattle.cil_names.specs.PermissionWords.{has_permission_at}
-use Rattle.cil_names.specs.Resolves.{Permission as APermission, fits, found_in, gives_permission, has_permission, is_wanted, listed_permissions, resolves}
+use Rattle.cil_names.specs.Resolves.{Permission as APermission, fits, found_in, gives_permission, has_permission, listed_permissions, resolves}
+use Rattle.cil_syntax.specs.Kinds.{is_wanted}
 use Rattle.cil_names.specs.Spaces.{AreSpaces, space_at}
 use Rattle.cil_names.specs.Unresolved.{ArePermissions, listed_at}
 use Rattle.cil_names.proofs.CandidateLemmas.{parts_of, spaces_decide}

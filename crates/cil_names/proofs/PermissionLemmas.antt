@@ -27,17 +27,18 @@ use Rattle.cil_syntax.specs.Said.{all_said, args_of, said_of}
 use Rattle.cil_syntax.specs.Spelling.{same_bytes}
 use Rattle.cil_syntax.specs.Table.{entry_of}
 use Rattle.cil_syntax.specs.Terms.{Leaf, Name, Form, Term, Terms, nil, cons}
-use Rattle.cil_syntax.specs.Scopes.{same_space}
+use Rattle.cil_syntax.specs.Scopes.{same_space, ScopedWord}
 use Rattle.cil_names.specs.declared.entry.Entry.{Entry}
 use Rattle.cil_names.specs.declared.instance.Instance.{Instance}
 use Rattle.cil_names.specs.declared.space.Space.{Space}
 use Rattle.cil_names.specs.Declarations.{Declaration, Symbol, content_of, declarations, declared_by}
 use Rattle.cil_names.specs.Entries.{AreOrdered, HasNoEntry, IsEntryAt, item_of, items_of, scoped}
-use Rattle.cil_names.specs.Item.{Item, ScopedWord, all_replaced, is_enabled, names_in, nobody}
+use Rattle.cil_names.specs.Item.{Item, all_replaced, is_enabled, names_in, nobody}
 use Rattle.cil_names.specs.Numbers.{symbol_of}
 use Rattle.cil_names.specs.Permissions.{AreEmpty, DeclaresClass, DeclaresNoClass}
 use Rattle.cil_names.specs.Placed.{IsPlaced}
-use Rattle.cil_names.specs.Resolves.{fits, gives_permission, has_permission, is_wanted, listed_permissions}
+use Rattle.cil_names.specs.Resolves.{fits, gives_permission, has_permission, listed_permissions}
+use Rattle.cil_syntax.specs.Kinds.{is_wanted}
 use Rattle.cil_names.specs.Spaces.{AreSpaces, space_at}
 use Rattle.cil_names.specs.Unresolved.{ArePermissions, listed_at}
 use Rattle.cil_names.proofs.CandidateLemmas.{spaces_decide}

@@ -18,10 +18,10 @@ use Rattle.cil_syntax.specs.Said.{all_said, word_in}
 use Rattle.cil_syntax.specs.Spelling.{same_bytes}
 use Rattle.cil_syntax.specs.Terms.{Terms, Leaf, Name, Form, cons, nil, spot_at}
 use Rattle.cil_syntax.specs.Reported.{fault_at}
-use Rattle.cil_syntax.specs.Scopes.{Namespace}
+use Rattle.cil_syntax.specs.Scopes.{Namespace, ScopedWord}
 use Rattle.cil_names.specs.declared.space.Space.{Space}
 use Rattle.cil_names.specs.Entries.{scoped}
-use Rattle.cil_names.specs.Item.{OptSet, ScopedWord, Item, all_replaced, replaced, words_in, all_words_in}
+use Rattle.cil_names.specs.Item.{OptSet, Item, all_replaced, replaced, words_in, all_words_in}
 use Rattle.cil_names.specs.Resolves.{Wanted, Word as AWord, Permission as APermission, found_in, resolves, wanted_in, all_wanted_in, words_of_class}
 use Rattle.cil_names.specs.Unresolved.{fault_of_word, faults_of_all, faults_of_wanted, faults_unless_listed, fault_unless_listed, scoped_term, scoped_terms}
 use Rattle.cil_names.proofs.TableLemmas.{form_said, leaf_said, name_said}

@@ -9,13 +9,13 @@ use Rattle.cil_syntax.specs.declared.term.Word.{Word}
 use Rattle.cil_syntax.specs.Said.{all_said, args_of, said_of}
 use Rattle.cil_syntax.specs.Table.{entry_of}
 use Rattle.cil_syntax.specs.Terms.{Leaf, Name, Form, Term, Terms, nil, cons}
-use Rattle.cil_syntax.specs.Scopes.{Scope}
+use Rattle.cil_syntax.specs.Scopes.{Scope, ScopedWord}
 use Rattle.cil_names.specs.declared.instance.Instance.{Instance}
 use Rattle.cil_names.specs.declared.row.Row.{Row}
 use Rattle.cil_names.specs.declared.space.Space.{Space}
 use Rattle.cil_names.specs.Declarations.{Bare, Declaration, bare, content_of, nowhere}
 use Rattle.cil_names.specs.Entries.{Key, item_of, rank}
-use Rattle.cil_names.specs.Item.{OptSet, ScopedWord, all_replaced, replaced}
+use Rattle.cil_names.specs.Item.{OptSet, all_replaced, replaced}
 use Rattle.cil_names.specs.Placed.{IsPlaced}
 use Rattle.cil_names.specs.Spaces.{space_at}
 

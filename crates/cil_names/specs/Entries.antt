@@ -12,13 +12,14 @@ use Rattle.cil_syntax.specs.declared.kind.Sign.{Sign}
 use Rattle.cil_syntax.specs.declared.term.Word.{Word}
 use Rattle.cil_syntax.specs.Said.{args_of}
 use Rattle.cil_syntax.specs.Spelling.{same_bytes}
-use Rattle.cil_syntax.specs.Scopes.{Namespace, Scope, asked, same_space, spaces_asked}
+use Rattle.cil_syntax.specs.Scopes.{Namespace, Scope, asked, same_space, spaces_asked, ScopedWord}
 use Rattle.cil_names.specs.declared.entry.Entry.{Entry}
 use Rattle.cil_names.specs.declared.instance.Instance.{Instance}
 use Rattle.cil_names.specs.declared.space.Space.{Space}
 use Rattle.cil_names.specs.Declarations.{Declaration, IsDeclaration, NameSpace, of_types, of_roles, of_users, of_classes, of_blocks, name_space}
-use Rattle.cil_names.specs.Item.{ScopedWord, Item, OptSet, all_replaced, everybody}
-use Rattle.cil_names.specs.Resolves.{found_in, is_wanted}
+use Rattle.cil_names.specs.Item.{Item, OptSet, all_replaced, everybody}
+use Rattle.cil_names.specs.Resolves.{found_in}
+use Rattle.cil_syntax.specs.Kinds.{is_wanted}
 use Rattle.cil_names.specs.Spaces.{space_at}
 
 -- ---- items, where namespaces are numbers

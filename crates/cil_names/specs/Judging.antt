@@ -8,11 +8,11 @@ use Rattle.cil_syntax.specs.declared.fault.Fault.{Fault}
 use Rattle.cil_syntax.specs.declared.term.Term as rust
 use Rattle.cil_syntax.specs.declared.term.Word.{Word}
 use Rattle.cil_syntax.specs.Terms.{Term, Terms}
-use Rattle.cil_syntax.specs.Scopes.{Namespace}
+use Rattle.cil_syntax.specs.Scopes.{Namespace, ScopedWord}
 use Rattle.cil_names.specs.declared.instance.Instance.{Instance}
 use Rattle.cil_names.specs.declared.judge.Judge.{Judge}
 use Rattle.cil_names.specs.Entries.{AreEntries, AreOrdered, IsAnswer, is_in, items_of, scoped}
-use Rattle.cil_names.specs.Item.{ScopedWord, OptSet}
+use Rattle.cil_names.specs.Item.{OptSet}
 use Rattle.cil_names.specs.Meanings.{meant}
 use Rattle.cil_names.specs.Resolves.{Wanted}
 use Rattle.cil_names.specs.Spaces.{AreSpaces, space_at}

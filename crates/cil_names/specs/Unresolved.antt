@@ -14,14 +14,15 @@ use Rattle.cil_syntax.specs.Said.{all_said, said_of}
 use Rattle.cil_syntax.specs.Spelling.{same_bytes}
 use Rattle.cil_syntax.specs.Terms.{Term, Terms}
 use Rattle.cil_syntax.specs.Reported.{fault_at}
-use Rattle.cil_syntax.specs.Scopes.{Namespace}
+use Rattle.cil_syntax.specs.Scopes.{Namespace, ScopedWord}
 use Rattle.cil_names.specs.declared.entry.Entry.{Entry}
 use Rattle.cil_names.specs.declared.instance.Instance.{Instance}
 use Rattle.cil_names.specs.declared.space.Space.{Space}
 use Rattle.cil_names.specs.Entries.{item_of, scoped}
-use Rattle.cil_names.specs.Item.{ScopedWord, Item, OptSet, all_replaced, replaced}
+use Rattle.cil_names.specs.Item.{Item, OptSet, all_replaced, replaced}
 use Rattle.cil_names.specs.Numbers.{symbol_of}
-use Rattle.cil_names.specs.Resolves.{Wanted, has_permission, is_judged, is_wanted, resolves, told_word, words_of}
+use Rattle.cil_names.specs.Resolves.{Wanted, has_permission, is_judged, resolves, told_word, words_of}
+use Rattle.cil_syntax.specs.Kinds.{is_wanted}
 use Rattle.cil_names.specs.Spaces.{space_at}
 
 -- the terms of an instance, each word with the namespaces that it asks

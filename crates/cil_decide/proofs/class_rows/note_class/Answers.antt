@@ -1,10 +1,8 @@
 use Rattle.std.specs.Prelude.{Some, slice_get}
-use Rattle.std.proofs.Common.{◌≡◌, ◌∙◌, ◌+◌, ◌<◌, ℕ, List, true, ap, get_or, length, rules, set, subst, sym}
+use Rattle.std.proofs.Common.{◌≡◌, ◌∙◌, ◌+◌, ◌<◌, ℕ, List, ap, get_or, length, rules, set, subst, sym}
 use Rattle.std.proofs.lemmas.Option.{slice_get_read}
-use Rattle.cil_syntax.specs.declared.kind.Kind.TheVariants as kinds
 use Rattle.cil_names.specs.declared.entry.Entry.{Entry}
 use Rattle.cil_names.specs.Entries.{is_in}
-use Rattle.cil_names.specs.Numbers.{is_of}
 use Rattle.cil_decide.specs.ClassRows.{AreClassEntries}
 use Rattle.cil_decide.proofs.ClassRowLemmas.{class_within, not_noted, noted}
 use Rattle.cil_decide.proofs.class_rows.note_class.Goals as goal

@@ -1,5 +1,5 @@
 use Rattle.std.specs.List.{list_all}
-use Rattle.std.proofs.Common.{◌<◌, ◌≤◌, ◌∙◌, ap, length, rules, subst, sym}
+use Rattle.std.proofs.Common.{◌<◌, ◌≤◌, ◌∙◌, ap, length, rules, sym}
 use Rattle.cil_names.specs.Entries.{is_in}
 use Rattle.cil_names.specs.Unresolved.{listed_at}
 use Rattle.cil_decide.specs.Table.{most_permissions}
