@@ -8,18 +8,18 @@ use Rattle.std.specs.Cmp.Lexicographic.{slice_cmp}
 use Rattle.std.proofs.lemmas.List.{length-append}
 use Rattle.std.proofs.lemmas.Cmp.{by_ranked, ranked}
 
-less_from : (a b : ℕ) → a < b → nat_cmp a b ≡ Less
+pub less_from : (a b : ℕ) → a < b → nat_cmp a b ≡ Less
 less_from a b h = sym (nat_cmp_is a b Less h)
 
-equal_from : (a b : ℕ) → a ≡ b → nat_cmp a b ≡ Equal
+pub equal_from : (a b : ℕ) → a ≡ b → nat_cmp a b ≡ Equal
 equal_from a b h = sym (nat_cmp_is a b Equal h)
 
-below_by : (a b : ℕ) → nat_cmp a b ≡ Less → a < b
+pub below_by : (a b : ℕ) → nat_cmp a b ≡ Less → a < b
 below_by a b e =
     by_ranked _ _ _ (nat_cmp a b) (ranked a b (nat_cmp a b) refl) (λ l h. h)
     (λ q h. absurd (let f : Less ≡ Equal = sym e ∙ q in cc)) (λ g h. absurd (let f : Less ≡ Greater = sym e ∙ g in cc))
 
-same_by : (a b : ℕ) → nat_cmp a b ≡ Equal → a ≡ b
+pub same_by : (a b : ℕ) → nat_cmp a b ≡ Equal → a ≡ b
 same_by a b e =
     by_ranked _ _ _ (nat_cmp a b) (ranked a b (nat_cmp a b) refl) (λ l h. absurd (let f : Equal ≡ Less = sym e ∙ l in cc))
     (λ q h. h) (λ g h. absurd (let f : Equal ≡ Greater = sym e ∙ g in cc))

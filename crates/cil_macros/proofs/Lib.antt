@@ -1,0 +1,5 @@
+pub mod Kept
+pub mod LawLemmas
+pub mod OneInstance
+pub mod PlacedWalk
+pub mod SameParameters

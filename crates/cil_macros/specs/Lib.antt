@@ -1,0 +1,6 @@
+pub mod Calls
+pub mod ExpandFaults
+pub mod Laws
+pub mod Opens
+pub mod Parameters
+pub mod Placed
