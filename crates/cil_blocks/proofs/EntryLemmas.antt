@@ -71,7 +71,7 @@ module _ (ws : List Written) where
 
   -- ---- what a standing opens, by numbers
 
-  map_two : {X Y Z : Type 0} (f : Y → Z) (g : X → Y) (xs : List X) → map (λ x. f (g x)) xs ≡ map f (map g xs)
+  pub map_two : {X Y Z : Type 0} (f : Y → Z) (g : X → Y) (xs : List X) → map (λ x. f (g x)) xs ≡ map f (map g xs)
   map_two f g [] = refl
   map_two f g (x ∷ xs) = ap (λ ys. f (g x) ∷ ys) (map_two f g xs)
 
@@ -133,7 +133,7 @@ module _ (ws : List Written) where
   stepped_statement None w = refl
   stepped_statement (Some s) w = as_statement s s.statement.statement.keyword w
 
-  statements_from : (done : List Standing) (es : List Entry)
+  pub statements_from : (done : List Standing) (es : List Entry)
       → map (λ (s : Standing). s.statement) (standings_from ws done es) ≡ map (λ (s : Standing). s.statement) done ++ map (λ (e : Entry). statement_at ws e.statement) es
   unfolding standings_from
   statements_from done [] = sym (append-nil (map (λ (s : Standing). s.statement) done))
@@ -152,7 +152,7 @@ module _ (ws : List Written) where
   head_or d [] = d
   head_or d (x ∷ xs) = x
 
-  mapped_at : (xs : List Standing) (es : List Entry) (at : ℕ) (d : Entry) → map (λ (s : Standing). s.statement) xs ≡ map (λ (e : Entry). statement_at ws e.statement) es → at < length es
+  pub mapped_at : (xs : List Standing) (es : List Entry) (at : ℕ) (d : Entry) → map (λ (s : Standing). s.statement) xs ≡ map (λ (e : Entry). statement_at ws e.statement) es → at < length es
       → (s : Standing) × (slice_get xs at ≡ Some s) × (s.statement ≡ statement_at ws (get_or es at d).statement)
   unfolding tail_of head_or
   mapped_at xs [] at d e h = absurd (omega (arith, h))

@@ -1,3 +1,4 @@
+pub mod EntryLemmas
 pub mod Kept
 pub mod LawLemmas
 pub mod OneInstance

@@ -1,4 +1,5 @@
 pub mod Calls
+pub mod Entries
 pub mod ExpandFaults
 pub mod Laws
 pub mod Opens

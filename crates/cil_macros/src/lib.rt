@@ -5,4 +5,5 @@
 //! `laws.rt` has laws of these.
 #![tactic(auto)]
 
+pub mod entry;
 pub mod laws;

@@ -1,0 +1,58 @@
+-- What is placed, as it is kept: what stands, and then each statement that a call brings, by its number, with the place of the
+-- one that opened it.
+use Rattle.std.specs.Prelude.{◌≡◌, ℕ, ◌+◌, ◌<◌, List, [], ◌∷◌, ◌++◌, length, map, Option, Some, None, slice_get}
+use Rattle.cil_syntax.specs.Scopes.{Namespace, Scope, tidy}
+use Rattle.cil_syntax.specs.Written.{Written}
+use Rattle.cil_blocks.specs.Contents.{Standing, standing_top}
+use Rattle.cil_blocks.specs.Entries.{statement_at}
+use Rattle.cil_macros.specs.declared.entry.Body.{Body}
+use Rattle.cil_macros.specs.declared.entry.Called.{Called}
+use Rattle.cil_macros.specs.Calls.{Unfolded, placed_called, placed_in_optional, unfolded}
+use Rattle.cil_macros.specs.Opens.{starts}
+use Rattle.cil_macros.specs.Placed.{Placed, placed_standing}
+
+-- ---- what is placed
+
+-- a statement that a placed one opens: a call what is in its macro, and an optional what is in it
+abbrev pub placed_through : Placed → Option Unfolded → Written → Placed
+placed_through p None w = placed_in_optional p w
+placed_through p (Some u) w = placed_called p u w
+
+abbrev pub placed_under : List Written → List Standing → Option Placed → Written → Placed
+placed_under ws ss None w = placed_standing (standing_top w)
+placed_under ws ss (Some p) w = placed_through p (unfolded ws ss p) w
+
+-- the statement of a number, opened by the one at a place
+abbrev pub placed_by : List Written → List Standing → List Placed → ℕ → ℕ → Placed
+placed_by ws ss done opener i = placed_under ws ss (slice_get done opener) (statement_at ws i)
+
+-- the statements that calls bring, each opened by one before it
+unfoldable pub placed_from : List Written → List Standing → List Placed → List Called → List Placed
+placed_from ws ss done [] = done
+placed_from ws ss done (c ∷ cs) = placed_from ws ss (done ++ placed_by ws ss done c.opener c.statement ∷ []) cs
+
+abbrev pub placed_of : List Written → List Standing → List Called → List Placed
+placed_of ws ss cs = placed_from ws ss (starts ss) cs
+
+-- ---- bodies
+
+-- a body is that of the macro of a call that is unfolded, with its namespace and scope by numbers
+pub record IsBody (ws : List Written) (ss : List Standing) (space_at : ℕ → Namespace) (ps : List Placed) (b : Body) : Type 0 where
+  pub call : Placed
+  pub is_call : slice_get ps b.call ≡ Some call
+  pub opened : Unfolded
+  pub is_opened : unfolded ws ss call ≡ Some opened
+  pub is_macro : slice_get ss b.called ≡ Some opened.macro
+  pub space : space_at b.place.space ≡ call.standing.space
+  pub scope : map space_at b.place.scope.items ≡ tidy (opened.macro.scope ++ call.standing.scope)
+
+-- each statement that a call brings is of the body of that call, which stands before it
+pub record IsOf (bs : List Body) (count : ℕ) (c : Called) : Type 0 where
+  pub body : Body
+  pub is_body : slice_get bs c.body ≡ Some body
+  pub by_call : body.call ≡ c.opener
+  pub before : c.opener < count
+
+pub record AreBodies (ws : List Written) (ss : List Standing) (space_at : ℕ → Namespace) (cs : List Called) (bs : List Body) : Type 0 where
+  pub each : (i : ℕ) (b : Body) → slice_get bs i ≡ Some b → IsBody ws ss space_at (placed_of ws ss cs) b
+  pub brought : (j : ℕ) (c : Called) → slice_get cs j ≡ Some c → IsOf bs (length ss + j) c

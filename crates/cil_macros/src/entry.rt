@@ -1,0 +1,32 @@
+//! What calls bring, as it is kept.
+
+/// A statement that a call brings. Its namespace, its scope and the arguments follow from the call.
+#[derive(Clone, Copy, Debug, PartialEq, Eq)]
+pub struct Called {
+    /// The number of the statement.
+    pub statement: usize,
+    /// The place of the call that brings it, among all that is placed: first what stands, and then what calls bring.
+    pub opener: usize,
+    /// The number of the body that it belongs to.
+    pub body: usize,
+}
+
+/// Where statements are: their namespace, and the namespaces in which their words are looked up, by numbers.
+#[derive(Debug, Drop)]
+pub struct Place {
+    /// The number of the namespace.
+    pub space: usize,
+    /// The numbers of the namespaces that their words ask, in this order.
+    pub scope: Vec<usize>,
+}
+
+/// The body of a macro at a call.
+#[derive(Debug, Drop)]
+pub struct Body {
+    /// The place of the call among all that is placed.
+    pub call: usize,
+    /// The place of the macro among all that stands.
+    pub called: usize,
+    /// Where the statements of the body are.
+    pub place: Place,
+}
