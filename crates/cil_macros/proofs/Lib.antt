@@ -1,3 +1,5 @@
+pub mod BodyLemmas
+pub mod ChainLemmas
 pub mod EntryLemmas
 pub mod Kept
 pub mod LawLemmas

@@ -1,12 +1,13 @@
 -- What is placed, as it is kept: what stands, and then each statement that a call brings, by its number, with the place of the
 -- one that opened it.
 use Rattle.std.specs.Prelude.{◌≡◌, ℕ, ◌+◌, ◌<◌, List, [], ◌∷◌, ◌++◌, length, map, Option, Some, None, slice_get}
-use Rattle.cil_syntax.specs.Scopes.{Namespace, Scope, tidy}
+use Rattle.cil_syntax.specs.Scopes.{Namespace, tidy}
 use Rattle.cil_syntax.specs.Written.{Written}
 use Rattle.cil_blocks.specs.Contents.{Standing, standing_top}
 use Rattle.cil_blocks.specs.Entries.{statement_at}
 use Rattle.cil_macros.specs.declared.entry.Body.{Body}
 use Rattle.cil_macros.specs.declared.entry.Called.{Called}
+use Rattle.cil_macros.specs.declared.entry.Place.{Place}
 use Rattle.cil_macros.specs.Calls.{Unfolded, placed_called, placed_in_optional, unfolded}
 use Rattle.cil_macros.specs.Opens.{starts}
 use Rattle.cil_macros.specs.Placed.{Placed, placed_standing}
@@ -36,23 +37,39 @@ placed_of ws ss cs = placed_from ws ss (starts ss) cs
 
 -- ---- bodies
 
--- a body is that of the macro of a call that is unfolded, with its namespace and scope by numbers
-pub record IsBody (ws : List Written) (ss : List Standing) (space_at : ℕ → Namespace) (ps : List Placed) (b : Body) : Type 0 where
+-- a body is that of the macro of a call that is unfolded
+pub record IsBody (ws : List Written) (ss : List Standing) (ps : List Placed) (b : Body) : Type 0 where
   pub call : Placed
   pub is_call : slice_get ps b.call ≡ Some call
   pub opened : Unfolded
   pub is_opened : unfolded ws ss call ≡ Some opened
   pub is_macro : slice_get ss b.called ≡ Some opened.macro
-  pub space : space_at b.place.space ≡ call.standing.space
-  pub scope : map space_at b.place.scope.items ≡ tidy (opened.macro.scope ++ call.standing.scope)
 
--- each statement that a call brings is of the body of that call, which stands before it
+-- a statement that a call brings is of the body of that call, which stands before it
 pub record IsOf (bs : List Body) (count : ℕ) (c : Called) : Type 0 where
   pub body : Body
   pub is_body : slice_get bs c.body ≡ Some body
   pub by_call : body.call ≡ c.opener
   pub before : c.opener < count
 
-pub record AreBodies (ws : List Written) (ss : List Standing) (space_at : ℕ → Namespace) (cs : List Called) (bs : List Body) : Type 0 where
-  pub each : (i : ℕ) (b : Body) → slice_get bs i ≡ Some b → IsBody ws ss space_at (placed_of ws ss cs) b
+-- all that calls have brought so far
+pub record AreBodies (ws : List Written) (ss : List Standing) (cs : List Called) (bs : List Body) : Type 0 where
+  pub each : (i : ℕ) (b : Body) → slice_get bs i ≡ Some b → IsBody ws ss (placed_of ws ss cs) b
   pub brought : (j : ℕ) (c : Called) → slice_get cs j ≡ Some c → IsOf bs (length ss + j) c
+
+-- what is placed there was brought by a call: a statement of this body
+pub record IsBodyAt (ws : List Written) (ss : List Standing) (cs : List Called) (at : ℕ) (b : Body) : Type 0 where
+  pub so : IsBody ws ss (placed_of ws ss cs) b
+  pub before : b.call < at
+  pub statement : Written
+  pub placed : slice_get (placed_of ws ss cs) at ≡ Some (placed_called so.call so.opened statement)
+
+-- the namespace and the scope of a body are those of its statements where the call places them
+pub record IsBodyPlace (space_at : ℕ → Namespace) (call : Placed) (u : Unfolded) (p : Place) : Type 0 where
+  pub space : space_at p.space ≡ call.standing.space
+  pub scope : map space_at p.scope.items ≡ tidy (u.macro.scope ++ call.standing.scope)
+
+abbrev pub AreBodyPlaces : List Written → List Standing → (ℕ → Namespace) → List Called → List Body → Type 0
+AreBodyPlaces ws ss space_at cs bs =
+    (i : ℕ) (b : Body) (p : Placed) (u : Unfolded) → slice_get bs i ≡ Some b → slice_get (placed_of ws ss cs) b.call ≡ Some p → unfolded ws ss p ≡ Some u
+    → IsBodyPlace space_at p u b.place

@@ -5,5 +5,6 @@
 //! `laws.rt` has laws of these.
 #![tactic(auto)]
 
+pub mod chain;
 pub mod entry;
 pub mod laws;

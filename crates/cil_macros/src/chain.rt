@@ -1,0 +1,97 @@
+//! The calls through which something is placed: which statement it is, and whether a macro is among those that were called.
+
+ghost use Rattle.std.specs.Prelude.{◌≡◌, ◌+◌, ◌<◌, List, Some, length, slice_get};
+ghost use Rattle.std.specs.List.{list_any};
+ghost use Rattle.cil_syntax.specs.Program.{IsNested, program_of};
+ghost use Rattle.cil_syntax.specs.Written.{Written};
+ghost use Rattle.cil_blocks.specs.Contents.{Standing, same_spot};
+ghost use Rattle.cil_blocks.specs.Entries.{standings_of, statement_at};
+ghost use Rattle.cil_macros.specs.Entries.{AreBodies, placed_of};
+ghost use Rattle.cil_macros.specs.Placed.{Placed};
+
+use crate::entry::{Body, Called};
+use cil_blocks::Entry;
+use cil_syntax::{Spot, Statement};
+
+/// The number of the statement at a place among all that is placed.
+pub fn statement_at(entries: &[Entry], called: &[Called], at: usize) -> usize
+    requires { at < length entries.now + length called.now }
+    ensures { (ws : List Written) (p : Placed) → slice_get (placed_of ws (standings_of ws entries.now) called.now) at ≡ Some p → p.standing.statement ≡ statement_at ws result }
+{
+    if at < entries.len() {
+        return entries[at].statement;
+    }
+    called[at - entries.len()].statement
+}
+
+/// Whether a macro is among those through whose calls something is placed. It costs a step for each call on the way.
+pub fn is_repeated(
+    statements: &[Statement],
+    entries: &[Entry],
+    brought: &Brought,
+    at: usize,
+    called: Spot,
+) -> bool
+    requires nested { IsNested statements.now }
+    requires bodies { AreBodies (program_of statements.now) (standings_of (program_of statements.now) entries.now) brought.now.called.items brought.now.bodies.items }
+    requires within { at < length entries.now + length brought.now.called.items }
+    ensures { (p : Placed) → slice_get (placed_of (program_of statements.now) (standings_of (program_of statements.now) entries.now) brought.now.called.items) at ≡ Some p
+        → result ≡ list_any (same_spot called) p.macros }
+{
+    let mut place = at;
+    while let Some(body) = brought.body_at(entries.len(), place) {
+        if is_same_spot(called, spot_of(statements, entries, body.called)) {
+            return true;
+        }
+        place = body.call;
+    }
+    false
+}
+
+/// Where the statement is written that stands at a place among all that stands.
+fn spot_of(statements: &[Statement], entries: &[Entry], at: usize) -> Spot
+    requires nested { IsNested statements.now }
+    requires within { at < length entries.now }
+    ensures { (s : Standing) → slice_get (standings_of (program_of statements.now) entries.now) at ≡ Some s → result ≡ s.statement.statement.at }
+{
+    match statements.get(entries[at].statement) {
+        None => Spot { module: 0, at: 0 },
+        Some(statement) => statement.at,
+    }
+}
+
+/// Whether two positions are one.
+fn is_same_spot(one: Spot, other: Spot) -> bool
+    ensures { result ≡ same_spot one other }
+{
+    one == other
+}
+
+/// What calls have brought so far: the statements, and the bodies that they belong to.
+#[derive(Drop)]
+pub struct Brought {
+    /// The statements.
+    pub called: Vec<Called>,
+    /// The bodies.
+    pub bodies: Vec<Body>,
+}
+
+impl Brought {
+    ghost use Rattle.std.specs.Prelude.{◌≡◌, ◌+◌, ◌<◌, ◌≤◌, List, MatchOption, length};
+    ghost use Rattle.cil_syntax.specs.Written.{Written};
+    ghost use Rattle.cil_blocks.specs.Contents.{Standing};
+    ghost use Rattle.cil_macros.specs.Entries.{AreBodies, IsBodyAt};
+
+    /// The body of what is placed somewhere, if a call brought it: what stands comes first, so many.
+    pub fn body_at(&self, standing: usize, at: usize) -> Option<&Body>
+        requires { at < standing + length self.now.called.items }
+        ensures { (ws : List Written) (ss : List Standing) → length ss ≡ standing → AreBodies ws ss self.now.called.items self.now.bodies.items
+            → MatchOption result (at < standing) (λ body. IsBodyAt ws ss self.now.called.items at body.now) }
+    {
+        if at < standing {
+            return None;
+        }
+        let body = self.bodies.get(self.called[at - standing].body)?;
+        Some(body)
+    }
+}
