@@ -2,6 +2,7 @@
 use Rattle.std.proofs.Common.{◌≡◌, ℕ, ◌+◌, ◌<◌, ◌≤◌, ◌⊎◌, Bool, true, false, ◌||◌, List, [], ◌∷◌, ◌++◌, length, get_or, refl, sym, ◌∙◌, ap, subst, inl, inr, arith}
 use Rattle.std.specs.Prelude.{Option, Some, None, MatchOption, slice_get}
 use Rattle.std.specs.List.{list_any}
+use Rattle.cil_sexpr.specs.Places.{none_some, some_at, some_same, there_as}
 use Rattle.cil_syntax.specs.declared.program.Statement.{Statement}
 use Rattle.cil_syntax.specs.declared.term.Spot.{Spot}
 use Rattle.cil_syntax.specs.Program.{IsNested, opener_in, program_of, written_under}
@@ -10,7 +11,6 @@ use Rattle.cil_blocks.specs.Contents.{Standing, same_spot}
 use Rattle.cil_blocks.specs.Entries.{standings_of, statement_at}
 use Rattle.cil_blocks.specs.declared.entry.Entry.{Entry}
 use Rattle.cil_blocks.proofs.EntryLemmas.{mapped_at, statements_from}
-use Rattle.cil_blocks.proofs.ListLemmas.{none_some, some_at, some_same, there_as}
 use Rattle.cil_blocks.proofs.NameLemmas.{at_none, at_some}
 use Rattle.cil_macros.specs.declared.entry.Body.{Body}
 use Rattle.cil_macros.specs.declared.entry.Called.{Called}

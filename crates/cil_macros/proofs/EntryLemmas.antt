@@ -3,16 +3,16 @@ use Rattle.std.proofs.Common.{◌≡◌, ℕ, ◌+◌, ◌<◌, ◌≤◌, true,
 use Rattle.std.specs.Prelude.{Option, Some, None, slice_get}
 use Rattle.std.specs.List.Sorted.{IsStrictlySortedBy}
 use Rattle.std.proofs.lemmas.List.{append-nil, take_more, take_all, map-append, length-append, length-map}
+use Rattle.cil_sexpr.specs.Places.{get_in_front}
+use Rattle.cil_sexpr.specs.Rising.{IsOver}
 use Rattle.cil_sexpr.specs.Lists.{Lists}
 use Rattle.cil_syntax.specs.Written.{Written, written_cmp}
 use Rattle.cil_blocks.specs.Contents.{Standing, Stands, standing_cmp}
 use Rattle.cil_blocks.specs.Entries.{AreParts, parts_at, statement_at}
-use Rattle.cil_blocks.specs.InheritFaults.{IsOver}
 use Rattle.cil_blocks.specs.Opens.{parts}
 use Rattle.cil_blocks.specs.declared.parts.Parts.{Parts}
 use Rattle.cil_blocks.proofs.EntryLemmas.{map_two}
-use Rattle.cil_blocks.proofs.ListLemmas.{get_in_front}
-use Rattle.cil_blocks.proofs.Queue as queue
+use Rattle.cil_sexpr.specs.Queue as queue
 use Rattle.cil_macros.specs.declared.entry.Called.{Called}
 use Rattle.cil_macros.specs.Calls.{IsPlaced, Unfolded, is_call, placed_called, placed_cmp, unfolded}
 use Rattle.cil_macros.specs.Entries.{placed_by, placed_from, placed_of, placed_through, placed_under}

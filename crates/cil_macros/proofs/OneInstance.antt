@@ -4,6 +4,9 @@ use Rattle.std.specs.Prelude.{Contains, Option, Some, None, filter, find}
 use Rattle.std.specs.Option.{option_or, option_map}
 use Rattle.std.specs.declared.cmp.Ordering.{Ordering}
 use Rattle.std.specs.declared.cmp.Ordering.TheVariants.{Less, Equal, Greater}
+use Rattle.cil_blocks.specs.OneStanding.{AreApart, IsEntered, empty_path, entered, first_of_three, is_written as standing_written, keyword_of, one_standing, round_same, same_path}
+use Rattle.cil_sexpr.specs.Places.{none_some, same_ends, some_same}
+use Rattle.cil_sexpr.specs.Searches.{kept_is}
 use Rattle.cil_sexpr.specs.Lists.{contains_here, contains_later}
 use Rattle.cil_syntax.specs.declared.kind.Keyword.{Keyword}
 use Rattle.cil_syntax.specs.declared.kind.Keyword.TheVariants as keywords
@@ -12,8 +15,6 @@ use Rattle.cil_syntax.specs.Scopes.{Namespace, asked, spaces_asked}
 use Rattle.cil_syntax.specs.Written.{Written, is_macro}
 use Rattle.cil_blocks.specs.Contents.{IsIn, Standing, Stands, first_word, is_inheriting, is_optional, path_cmp, path_of}
 use Rattle.cil_blocks.specs.Laws.{HasOneTarget}
-use Rattle.cil_blocks.proofs.ListLemmas.{kept_is, none_some, some_same}
-use Rattle.cil_blocks.proofs.OneStanding.{AreApart, IsEntered, empty_path, entered, first_of_three, is_written as standing_written, keyword_of, one_standing, round_same, same_ends, same_path}
 use Rattle.cil_macros.specs.Calls.{IsPlaced, Unfolded, bounds_of_call, called, called_macro, has_macro, in_optional, is_call, is_macro_named, is_repeated, macro_in, macro_in_scope, macro_of_word, nearer_of, nearest, placed_called, placed_in_optional, stands, unfolded, unfolded_by, unfolded_with}
 use Rattle.cil_macros.specs.Placed.{Body, Bound, Placed, placed_standing, scope_of}
 

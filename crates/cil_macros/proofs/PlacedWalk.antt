@@ -6,16 +6,17 @@ use Rattle.std.specs.declared.cmp.Ordering.TheVariants.{Less, Equal, Greater}
 use Rattle.std.specs.Ordering.{nat_cmp, ordering_then}
 use Rattle.std.specs.List.Sorted.{IsStrictlySortedBy}
 use Rattle.std.proofs.lemmas.List.Kept.{IsStrictlySortedBy-filter}
+use Rattle.cil_sexpr.specs.MadeLists.{contains_map, from_map}
+use Rattle.cil_sexpr.specs.Paths.{below_by, equal_from, less_from, opened_beside, opened_later, same_by}
+use Rattle.cil_sexpr.specs.Queue.{IsQueueOrder, IsReached, at_first, onward}
+use Rattle.cil_sexpr.specs.Rising.{all_from}
 use Rattle.cil_sexpr.specs.Lists.{all_at, contains_none}
 use Rattle.cil_syntax.specs.declared.kind.Keyword.{Keyword}
 use Rattle.cil_syntax.specs.declared.kind.Keyword.TheVariants as keywords
 use Rattle.cil_syntax.specs.declared.term.Spot.{Spot}
 use Rattle.cil_syntax.specs.Written.{Written, written_cmp}
-use Rattle.cil_blocks.specs.Contents.{IsIn, Standing, is_at, is_optional, path_cmp, spot_cmp, standing_cmp}
+use Rattle.cil_blocks.specs.Contents.{IsIn, Standing, is_at, is_optional, path_cmp, spot_cmp, spot_total, standing_cmp}
 use Rattle.cil_blocks.specs.Opens.{parts}
-use Rattle.cil_blocks.proofs.ListLemmas.{all_from, contains_mapped, from_mapped}
-use Rattle.cil_blocks.proofs.Paths.{below_by, equal_from, less_from, opened_beside, opened_later, same_by, spot_total}
-use Rattle.cil_blocks.proofs.Queue.{IsQueueOrder, IsReached, at_first, onward}
 use Rattle.cil_blocks.proofs.StandingWalk.{in_parts, parts_of}
 use Rattle.cil_macros.specs.Calls.{IsPlaced, Unfolded, called, in_optional, is_call, placed_called, placed_cmp, placed_in_optional, stands, unfolded}
 use Rattle.cil_macros.specs.Opens.{opens_call, opens_inside, opens_placed, starts}
@@ -35,14 +36,14 @@ module _ (ws : List Written) (ss : List Standing) (unfolds_calls : (p : Placed) 
   opened_call : (p q : Placed) (o : Option Unfolded) → unfolded ws ss p ≡ o → IsPlaced ws ss p → Contains (opens_call ws p o) q → IsPlaced ws ss q
   opened_call p q None e ip c = absurd (contains_none q c)
   opened_call p q (Some u) e ip c =
-      let m = from_mapped (placed_called p u) (parts ws u.macro.statement) q c in
+      let m = from_map (placed_called p u) (parts ws u.macro.statement) q c in
       let k = parts_of ws u.macro.statement m.0 m.1 in
       subst (IsPlaced ws ss) m.2 (called p u m.0 ip e k.0 k.1)
 
   opened_inside : (p q : Placed) (o : Option Body) → p.body ≡ o → is_optional p.standing.statement.statement.keyword ≡ true → IsPlaced ws ss p → Contains (opens_inside ws p o) q → IsPlaced ws ss q
   opened_inside p q None e k ip c = absurd (contains_none q c)
   opened_inside p q (Some b) e k ip c =
-      let m = from_mapped (placed_in_optional p) (parts ws p.standing.statement) q c in
+      let m = from_map (placed_in_optional p) (parts ws p.standing.statement) q c in
       let i = parts_of ws p.standing.statement m.0 m.1 in
       subst (IsPlaced ws ss) m.2 (in_optional p b m.0 ip e k i.0 i.1)
 
@@ -53,23 +54,23 @@ module _ (ws : List Written) (ss : List Standing) (unfolds_calls : (p : Placed) 
 
   pub placed_reached : (p : Placed) → IsReached placed_cmp (starts ss) (opens_placed ws ss) p → IsPlaced ws ss p
   unfolding opens_placed
-  placed_reached p (at_first q c) = let m = from_mapped placed_standing ss q c in subst (IsPlaced ws ss) m.2 (stands m.0 m.1)
+  placed_reached p (at_first q c) = let m = from_map placed_standing ss q c in subst (IsPlaced ws ss) m.2 (stands m.0 m.1)
   placed_reached p (onward q r i c) = opened_either q r (is_optional q.standing.statement.statement.keyword) refl (placed_reached q i) c
 
   pub reached_placed : (p : Placed) → IsPlaced ws ss p → IsReached placed_cmp (starts ss) (opens_placed ws ss) p
   unfolding opens_placed
-  reached_placed p (stands s c) = at_first (placed_standing s) (contains_mapped placed_standing ss s c)
+  reached_placed p (stands s c) = at_first (placed_standing s) (contains_map placed_standing ss s c)
   reached_placed p (called q u w iq e c i) =
       onward q (placed_called q u w) (reached_placed q iq)
       (subst (λ l. Contains l (placed_called q u w))
       (sym (chosen_false (is_optional q.standing.statement.statement.keyword) (opens_inside ws q q.body) (opens_call ws q (unfolded ws ss q))
       (call_no_optional q.standing.statement.statement.keyword (unfolds_calls q u e)) ∙ ap (opens_call ws q) e))
-      (contains_mapped (placed_called q u) (parts ws u.macro.statement) w (in_parts ws u.macro.statement w c i)))
+      (contains_map (placed_called q u) (parts ws u.macro.statement) w (in_parts ws u.macro.statement w c i)))
   reached_placed p (in_optional q b w iq e k c i) =
       onward q (placed_in_optional q w) (reached_placed q iq)
       (subst (λ l. Contains l (placed_in_optional q w))
       (sym (chosen_true (is_optional q.standing.statement.statement.keyword) (opens_inside ws q q.body) (opens_call ws q (unfolded ws ss q)) k ∙ ap (opens_inside ws q) e))
-      (contains_mapped (placed_in_optional q) (parts ws q.standing.statement) w (in_parts ws q.standing.statement w c i)))
+      (contains_map (placed_in_optional q) (parts ws q.standing.statement) w (in_parts ws q.standing.statement w c i)))
 
   -- ---- the order of the queue
 
@@ -82,7 +83,7 @@ module _ (ws : List Written) (ss : List Standing) (unfolds_calls : (p : Placed) 
   mapped_step : (p q : Placed) (f : Written → Placed) (us : List Written) → ((w : Written) → (f w).standing.trail ≡ p.standing.trail ++ w.statement.at ∷ [])
       → ((w : Written) → (f w).steps ≡ suc p.steps) → Contains (map f us) q → IsStepOf p q
   mapped_step p q f us h k c =
-      let m = from_mapped f us q c in
+      let m = from_map f us q c in
       record { at = m.0.statement.at; trail = ap (λ (x : Placed). x.standing.trail) (sym m.2) ∙ h m.0; steps = ap (λ (x : Placed). x.steps) (sym m.2) ∙ k m.0 }
 
   call_step : (p q : Placed) (o : Option Unfolded) → Contains (opens_call ws p o) q → IsStepOf p q
@@ -123,7 +124,7 @@ module _ (ws : List Written) (ss : List Standing) (unfolds_calls : (p : Placed) 
     unfolding IsStrictlySortedBy
     rising_map order f h [] r = tt
     rising_map order f h (u ∷ us) r = (
-      all_from (λ y. placed_cmp (f u) y ≡ Less) (map f us) (λ y c. let back = from_mapped f us y c in
+      all_from (λ y. placed_cmp (f u) y ≡ Less) (map f us) (λ y c. let back = from_map f us y c in
         subst (λ y. placed_cmp (f u) y ≡ Less) back.2 (h u back.0 (all_at (λ w. order u w ≡ Less) us back.0 r.0 back.1))),
       rising_map order f h us r.1,
     )
@@ -160,7 +161,7 @@ module _ (ws : List Written) (ss : List Standing) (unfolds_calls : (p : Placed) 
       start_rises = rising_map standing_cmp placed_standing (λ v w e. as_many (placed_standing v) (placed_standing w) refl e) ss standing_rising;
       each_rises = λ p r. opens_rise p;
       behind_start = λ x y b c r d.
-        let m = from_mapped placed_standing ss x c in
+        let m = from_map placed_standing ss x c in
         let none : x.steps ≡ 0 = ap (λ (z : Placed). z.steps) (sym m.2) in
         let more = (a_step y b d).steps in
         fewer x b (omega (arith, none, more));

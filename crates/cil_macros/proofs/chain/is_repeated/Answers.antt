@@ -1,9 +1,9 @@
 use Rattle.std.proofs.Common.{◌∙◌, ap, arith, false, true}
+use Rattle.cil_sexpr.specs.Places.{in_range}
 use Rattle.cil_syntax.specs.Program.{program_of}
 use Rattle.cil_blocks.specs.Contents.{same_spot}
 use Rattle.cil_blocks.specs.Entries.{standings_of}
 use Rattle.cil_blocks.proofs.EntryLemmas.{standings_length}
-use Rattle.cil_blocks.proofs.ListLemmas.{in_range}
 use Rattle.cil_macros.proofs.ChainLemmas.{came_before, came_here, came_not}
 use Rattle.cil_macros.proofs.chain.is_repeated.Goals as goal
 

@@ -1,6 +1,6 @@
 use Rattle.std.proofs.Common.{◌-◌, ◌∙◌, ap, arith, sym}
 use Rattle.std.specs.Prelude.{slice_get}
-use Rattle.cil_blocks.proofs.ListLemmas.{not_there, there_as}
+use Rattle.cil_sexpr.specs.Places.{not_there, there_as}
 use Rattle.cil_macros.proofs.ChainLemmas.{its_body, not_gone}
 use Rattle.cil_macros.proofs.chain.Brought.body_at.Goals as goal
 
