@@ -29,7 +29,7 @@ pub(crate) fn instances_of<'s, 'a>(
     requires { IsGlobal place.now }
     ensures { IfOk result (λ instances. AreInstances statements.now instances.items) }
 {
-    let mut instances = Vec::new(alloc);
+    let mut instances = Vec::with_capacity(alloc, statements.len())?;
     for statement in statements {
         instances.push(Instance { statement, place })?;
     }

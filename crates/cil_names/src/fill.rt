@@ -44,7 +44,7 @@ pub fn words_of(
         lookup: *lookup,
         permissions,
     };
-    let mut starts = Vec::new(alloc);
+    let mut starts = Vec::with_capacity(alloc, instances.len() + 1)?;
     let mut words = Vec::new(alloc);
     let mut faults = Vec::new(alloc);
     for instance in instances {

@@ -3,7 +3,7 @@ use Rattle.cil_decide.proofs.FlatLemmas.{all_yet, none_yet, one_more}
 use Rattle.cil_decide.proofs.flat.instances_of.Goals as goal
 
 pub loop-statement-init : goal.loop-statement-init
-loop-statement-init c = none_yet c.args.statements.now _ c.new-instances.ensures.items
+loop-statement-init c = none_yet c.args.statements.now _ c.in_ok-instances.ensures.items
 
 pub loop-statement-preserved : goal.loop-statement-preserved
 loop-statement-preserved c =
