@@ -2,7 +2,8 @@
 use Rattle.std.specs.Prelude.{Option, Some, None, MatchOption}
 use Rattle.std.specs.declared.alloc.Global.{Global}
 use Rattle.std.specs.declared.vec.Vec.{Vec}
-use Rattle.std.proofs.Common.{◌≡◌, ◌≤◌, ℕ, List, [], ◌∷◌, length, get_or, drop, refl, sym, ◌∙◌, ap, arith, rules}
+use Rattle.std.proofs.Common.{◌≡◌, ◌≤◌, ◌-◌, ℕ, List, [], ◌∷◌, length, get_or, drop, take, refl, sym, ◌∙◌, ap, arith, rules}
+use Rattle.std.proofs.lemmas.List.{take_rest}
 use Rattle.cil_syntax.specs.declared.forms.ClassParts.{ClassParts}
 use Rattle.cil_syntax.specs.declared.term.LookedUp.{LookedUp}
 use Rattle.cil_syntax.specs.declared.term.Op.{Op}
@@ -12,9 +13,10 @@ use Rattle.cil_syntax.specs.declared.term.Term as rust
 use Rattle.cil_syntax.specs.declared.term.Term.{the_lemmas}
 use Rattle.cil_syntax.specs.declared.term.Term.TheVariants as variants
 use Rattle.cil_syntax.specs.declared.term.Word.{Word}
-use Rattle.cil_syntax.specs.Forms.{BeginsWithName, IsClassForm, class_form, name_in_front, rule_form, two_words, word_and_term}
+use Rattle.cil_syntax.specs.Forms.{BeginsWithName, IsClassForm, class_form, kind_and_name, kind_with, name_in_front, op_of, rule_form, two_words, word_and_term}
 use Rattle.cil_syntax.specs.Said.{all_said, said_of, word_in}
 use Rattle.cil_syntax.specs.Terms.{Term, Leaf, Name, Form, Terms, nil, cons, spot_at}
+use Rattle.cil_syntax.specs.Written.{named_in_front}
 
 one_term : (t : Term Word) → word_and_term (cons t nil) ≡ None
 one_term (Leaf w) = refl
@@ -120,3 +122,15 @@ class_parted m t at op parts items r is same list found =
         → MatchOption r (class_form (said_of m t) ≡ None) (λ f. IsClassForm (said_of m t) f.class (said_of m f.permissions.now))
     parted None w f = ap class_form w ∙ f
     parted (Some p) w f = (spot_at m at, w ∙ ap (Form (spot_at m at) ops.ClassPermissions) f)
+
+-- ---- a kind with a name behind it
+
+module _ (m : ℕ) (ts : List rust.Term) (t : rust.Term) (some : 1 ≤ length ts) (first : t ≡ get_or ts 0 t) where
+  pub has_no_kind : op_of (said_of m t) ≡ None → kind_and_name (all_said m ts) ≡ None
+  has_no_kind none = ap kind_and_name (first_said m ts t some first) ∙ ap (λ k. kind_with k (named_in_front (all_said m (drop 1 ts)))) none
+
+  pub has_kind_and_name : (kind : Op) (at : Spot) (bytes : List ℕ) → op_of (said_of m t) ≡ Some kind → BeginsWithName (all_said m (take (length ts - 1) (drop 1 ts))) at bytes
+      → kind_and_name (all_said m ts) ≡ Some (kind, record { at = at; name = bytes })
+  has_kind_and_name kind at bytes is (more, named) =
+      ap kind_and_name (first_said m ts t some first) ∙ ap (λ k. kind_with k (named_in_front (all_said m (drop 1 ts)))) is
+      ∙ ap (λ xs. kind_with (Some kind) (named_in_front xs)) (ap (all_said m) (sym (take_rest ts 1)) ∙ named)

@@ -4,6 +4,7 @@ use Rattle.cil_syntax.specs.declared.term.Op.{Op}
 use Rattle.cil_syntax.specs.declared.term.Op.TheVariants as ops
 use Rattle.cil_syntax.specs.declared.term.Spot.{Spot}
 use Rattle.cil_syntax.specs.Terms.{Term, Leaf, Name, Form, Terms, nil, cons}
+use Rattle.cil_syntax.specs.Written.{Named, named_in_front}
 
 -- ---- names
 
@@ -74,3 +75,33 @@ class_form t = None
 -- the term is a class permission with these parts
 abbrev pub IsClassForm : {L : Type 0} → Term L → L → Term L → Type 0
 IsClassForm t class_ expression = (at : Spot) × (t ≡ Form at ops.ClassPermissions (cons (Leaf class_) (cons expression nil)))
+
+-- ---- macros and calls
+
+-- the items of the list behind the first of some terms: the parameters of a macro, the arguments of a call
+abbrev pub listed_behind_first : {L : Type 0} → Terms L → Option (Terms L)
+listed_behind_first nil = None
+listed_behind_first (cons t ts) = items_in_front ts
+
+-- what joins the parts of a term
+abbrev pub op_of : {L : Type 0} → Term L → Option Op
+op_of (Leaf w) = None
+op_of (Name at bytes) = None
+op_of (Form at op parts) = Some op
+
+-- a kind, with the name behind it
+abbrev pub kind_with : Option Op → Option Named → Option (Op × Named)
+kind_with None name = None
+kind_with (Some kind) None = None
+kind_with (Some kind) (Some name) = Some (kind, name)
+
+-- the kind and the name in front of some terms
+abbrev pub kind_and_name : {L : Type 0} → Terms L → Option (Op × Named)
+kind_and_name nil = None
+kind_and_name (cons t ts) = kind_with (op_of t) (named_in_front ts)
+
+-- the kind and the name of the parameter that a term is
+abbrev pub parameter_form : {L : Type 0} → Term L → Option (Op × Named)
+parameter_form (Leaf w) = None
+parameter_form (Name at bytes) = None
+parameter_form (Form at op parts) = kind_and_name parts

@@ -3,7 +3,7 @@
 
 ghost use Rattle.std.specs.Prelude.{◌≡◌, ◌↔◌, ℕ, None, Some, IsTrue, MatchOption};
 ghost use Rattle.cil_syntax.specs.declared.term.Op.TheVariants as ops;
-ghost use Rattle.cil_syntax.specs.Forms.{BeginsWithName, IsClassForm, items_in_front, class_form, is_class_list, leaf_of, listed_behind_name, name_in_front, rule_form, two_words, word_and_term, word_in_front};
+ghost use Rattle.cil_syntax.specs.Forms.{BeginsWithName, IsClassForm, items_in_front, class_form, is_class_list, kind_and_name, leaf_of, listed_behind_first, listed_behind_name, name_in_front, op_of, parameter_form, rule_form, two_words, word_and_term, word_in_front};
 ghost use Rattle.cil_syntax.specs.Said.{all_said, args_of, said_of};
 ghost use Rattle.cil_syntax.specs.Terms.{Leaf, cons, nil};
 
@@ -48,6 +48,14 @@ pub struct WordAndTerms<'t, 'a> {
     pub terms: &'t [Term<'a>],
 }
 
+/// A parameter of a macro.
+#[derive(Debug, Drop)]
+pub struct Parameter<'a> {
+    /// The kind of its arguments.
+    pub kind: Op,
+    pub name: DeclaredName<'a>,
+}
+
 impl<'a> Statement<'a> {
     /// The name with which the statement begins.
     pub fn declared_name(&self) -> Option<DeclaredName<'a>>
@@ -61,6 +69,13 @@ impl<'a> Statement<'a> {
         ensures { MatchOption result (listed_behind_name (args_of self.now) ≡ None) (λ items. listed_behind_name (args_of self.now) ≡ Some (all_said self.now.at.«module» items.now)) }
     {
         behind_name(self.args.as_slice(), self.at.module)
+    }
+
+    /// The items of the list behind the first term, such as the parameters of a macro or the arguments of a call.
+    pub fn listed_behind_first(&self) -> Option<&[Term<'a>]>
+        ensures { MatchOption result (listed_behind_first (args_of self.now) ≡ None) (λ items. listed_behind_first (args_of self.now) ≡ Some (all_said self.now.at.«module» items.now)) }
+    {
+        behind_first(self.args.as_slice(), self.at.module)
     }
 
     /// The words of a statement of two looked-up words.
@@ -88,6 +103,29 @@ impl<'a> Term<'a> {
             Term::Leaf(word) => Some(word.in_module(module)),
             Term::Name(_, _) => None,
             Term::Form(_, _, _) => None,
+        }
+    }
+
+    /// What joins the parts of the term. This does not depend on the module of its statement.
+    pub fn op(&self) -> Option<Op>
+        ensures { (m : ℕ) → result ≡ op_of (said_of m self.now) }
+    {
+        match self {
+            Term::Leaf(_) => None,
+            Term::Name(_, _) => None,
+            Term::Form(op, _, _) => Some(*op),
+        }
+    }
+
+    /// The parameter of a macro that the term is, in a statement of this module.
+    pub fn parameter(&self, module: u64) -> Option<Parameter<'a>>
+        ensures { MatchOption result (parameter_form (said_of «module» self.now) ≡ None)
+            (λ p. parameter_form (said_of «module» self.now) ≡ Some (p.kind, record { at = p.name.at; name = p.name.bytes.now })) }
+    {
+        match self {
+            Term::Leaf(_) => None,
+            Term::Name(_, _) => None,
+            Term::Form(_, _, parts) => kind_and_name(parts.as_slice(), module),
         }
     }
 
@@ -160,6 +198,28 @@ fn items_in_front<'t, 'a>(terms: &'t [Term<'a>], module: u64) -> Option<&'t [Ter
             Term::Leaf(_) => None,
             Term::Name(_, _) => None,
         },
+    }
+}
+
+fn behind_first<'t, 'a>(terms: &'t [Term<'a>], module: u64) -> Option<&'t [Term<'a>]>
+    ensures { MatchOption result (listed_behind_first (all_said «module» terms.now) ≡ None) (λ items. listed_behind_first (all_said «module» terms.now) ≡ Some (all_said «module» items.now)) }
+{
+    match terms {
+        [] => None,
+        [_, rest @ ..] => items_in_front(rest, module),
+    }
+}
+
+fn kind_and_name<'a>(terms: &[Term<'a>], module: u64) -> Option<Parameter<'a>>
+    ensures { MatchOption result (kind_and_name (all_said «module» terms.now) ≡ None)
+        (λ p. kind_and_name (all_said «module» terms.now) ≡ Some (p.kind, record { at = p.name.at; name = p.name.bytes.now })) }
+{
+    match terms {
+        [] => None,
+        [kind, rest @ ..] => Some(Parameter {
+            kind: kind.op()?,
+            name: name_in_front(rest, module)?,
+        }),
     }
 }
 

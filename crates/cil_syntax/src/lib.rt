@@ -36,10 +36,14 @@ pub use code::FaultCode;
 pub use failure::Failure;
 pub use fault::{Bytes, Fault, push_fault};
 pub use fault_list::FaultList;
-pub use forms::{ClassParts, DeclaredName, RuleParts, WordAndTerms, WordPair, word_and_terms};
+pub use forms::{
+    ClassParts, DeclaredName, Parameter, RuleParts, WordAndTerms, WordPair, word_and_terms,
+};
 pub use kind::{Dialect, Keyword, Kind, Nesting, Sign};
 pub use path::{Path, PathParts, parted, path_of};
 pub use place::joined;
 pub use printed::render;
 pub use program::{Program, Statement, written, written_in};
+pub use spelling::is_reserved;
 pub use term::{Excerpt, LookedUp, Op, Spot, Term, Word};
+pub use words::is_spelled_for;

@@ -18,7 +18,7 @@ use cil_modset::NoMemory;
 use cil_sexpr::Node;
 
 /// Whether a word is spelled as its sign wants.
-pub(crate) fn is_spelled_for(sign: Sign, word: &[u8]) -> bool
+pub fn is_spelled_for(sign: Sign, word: &[u8]) -> bool
     ensures { result ≡ is_spelled sign word.now }
 {
     match sign {
