@@ -1,3 +1,4 @@
+pub mod ArgumentLemmas
 pub mod BodyLemmas
 pub mod ChainLemmas
 pub mod EntryLemmas

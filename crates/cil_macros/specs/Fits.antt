@@ -1,13 +1,29 @@
 -- Whether the arguments of a call fit the parameters of a macro: this depends on what is written alone, and not on where the
 -- call is placed.
-use Rattle.std.specs.Prelude.{◌≡◌, Bool, true, false, ◌&&◌, List, [], ◌∷◌, Option, Some, None, is_some}
+use Rattle.std.specs.Prelude.{◌≡◌, ℕ, Bool, true, false, ◌&&◌, not, List, [], ◌∷◌, Option, Some, None, is_some}
 use Rattle.std.proofs.Common.{refl, sym, ◌∙◌, ap}
+use Rattle.cil_syntax.specs.declared.kind.Sign.{Sign}
+use Rattle.cil_syntax.specs.declared.term.Op.{Op}
 use Rattle.cil_syntax.specs.declared.term.Word.{Word}
+use Rattle.cil_syntax.specs.Shapes.{Shape, is_spelled}
+use Rattle.cil_syntax.specs.Spelling.{is_reserved}
 use Rattle.cil_syntax.specs.Terms.{Term, Terms, nil, cons}
 use Rattle.cil_syntax.specs.Written.{Written}
 use Rattle.cil_macros.specs.Calls.{bound, bound_more, filled_by}
-use Rattle.cil_macros.specs.Parameters.{Parameter, argument_of}
+use Rattle.cil_macros.specs.Parameters.{Parameter, argument_kind, argument_of, cell_in, read_argument, sound}
 use Rattle.cil_macros.specs.Placed.{Bound, Placed}
+
+-- a term that was kept reads by a shape without a fault
+abbrev pub is_read_as : Shape → Term Word → Bool
+is_read_as shape t = is_some (sound ((cell_in t).read shape))
+
+-- an argument has the form of a kind
+abbrev pub has_form : Op → Term Word → Bool
+has_form kind t = is_some (read_argument (argument_kind kind) (cell_in t))
+
+-- a word has the spelling that a sign wants, and is not reserved
+abbrev pub is_sound_word : Sign → List ℕ → Bool
+is_sound_word sign bytes = not (is_reserved bytes) && is_spelled sign bytes
 
 -- the arguments are as many as the parameters, and each has the form of its parameter's kind
 abbrev pub fits : List Parameter → Terms Word → Bool

@@ -5,6 +5,9 @@
 //! `laws.rt` has laws of these.
 #![tactic(auto)]
 
+mod arguments;
 pub mod chain;
 pub mod entry;
 pub mod laws;
+
+pub use arguments::arguments_fit;

@@ -1,0 +1,112 @@
+//! Whether the arguments of a call fit the parameters of a macro. What an argument of each kind is, is asked here alone.
+//! Costs one visit for each parameter.
+
+ghost use Rattle.std.specs.Prelude.{◌≡◌, ℕ, false, List, MatchOption, drop};
+ghost use Rattle.cil_syntax.specs.declared.term.Word.{Word};
+ghost use Rattle.cil_syntax.specs.Said.{all_said, args_of, said_of};
+ghost use Rattle.cil_syntax.specs.Shapes.{any_text, looked_up};
+ghost use Rattle.cil_syntax.specs.Terms.{Terms, cons};
+ghost use Rattle.cil_macros.specs.Fits.{fits, has_form, is_read_as, is_sound_word};
+ghost use Rattle.cil_macros.specs.Parameters.{call_arguments, is_text, macro_parameters, parameters_in};
+
+use cil_syntax::{Op, Sign, Statement, Term, is_reserved, is_spelled_for};
+
+/// Whether the arguments of a call fit the parameters of a macro: they are as many, and each has the form of its
+/// parameter's kind.
+pub fn arguments_fit(called: &Statement, call: &Statement) -> bool
+    ensures { result ≡ fits (macro_parameters (args_of called.now)) (call_arguments (args_of call.now)) }
+{
+    all_fit(listed(called), called.at.module, listed(call))
+}
+
+/// The items of the list behind the first term of a statement: none where no list is there.
+fn listed<'t, 'a>(statement: &'t Statement<'a>) -> &'t [Term<'a>]
+    ensures { all_said statement.now.at.«module» result.now ≡ call_arguments (args_of statement.now) }
+{
+    if let Some(items) = statement.listed_behind_first() {
+        return items;
+    }
+    // An empty list, of the statement's own lifetime.
+    &statement.args.as_slice()[..0]
+}
+
+/// Whether arguments fit parameters, which are of this module.
+fn all_fit(parameters: &[Term], module: u64, arguments: &[Term]) -> bool
+    ensures { (n : ℕ) → result ≡ fits (parameters_in (all_said «module» parameters.now)) (all_said n arguments.now) }
+{
+    let mut taken = 0;
+    for parameter in parameters {
+        let Some(next) = behind_fitting(parameter, module, arguments, taken) else {
+            return false;
+        };
+        taken = next;
+    }
+    taken >= arguments.len()
+}
+
+/// The number of the argument behind that of a parameter, whose own has this number: none where there is none, or where it
+/// does not fit. What is no parameter takes no argument.
+fn behind_fitting(parameter: &Term, module: u64, arguments: &[Term], taken: usize) -> Option<usize>
+    ensures { (n : ℕ) (more : Terms Word) → MatchOption result (fits (parameters_in (cons (said_of «module» parameter.now) more)) (all_said n (drop taken arguments.now)) ≡ false)
+        (λ next. fits (parameters_in (cons (said_of «module» parameter.now) more)) (all_said n (drop taken arguments.now)) ≡ fits (parameters_in more) (all_said n (drop next arguments.now))) }
+{
+    let Some(found) = parameter.parameter(module) else {
+        return Some(taken);
+    };
+    let argument = arguments.get(taken)?;
+    if !has_form(found.kind, argument) {
+        return None;
+    }
+    Some(taken + 1)
+}
+
+/// Whether an argument has the form of a kind.
+fn has_form(kind: Op, argument: &Term) -> bool
+    ensures { (n : ℕ) → result ≡ has_form kind (said_of n argument.now) }
+{
+    match kind {
+        Op::TypeKind => is_word(Sign::Types, argument),
+        Op::RoleKind => is_word(Sign::Roles, argument),
+        Op::UserKind => is_word(Sign::Users, argument),
+        Op::ClassKind => is_word(Sign::PlainClass, argument),
+        Op::NameKind => is_text(argument),
+        Op::TextKind => is_text(argument),
+        _ => false,
+    }
+}
+
+/// Whether an argument is a word that may be looked up.
+fn is_word(sign: Sign, argument: &Term) -> bool
+    ensures { (n : ℕ) → result ≡ is_read_as (looked_up sign) (said_of n argument.now) }
+{
+    match argument {
+        Term::Leaf(word) => is_sound(sign, word.bytes.as_slice()),
+        Term::Name(_, _) => false,
+        Term::Form(_, _, _) => false,
+    }
+}
+
+/// Whether a word has the spelling that its sign wants, and is not reserved.
+fn is_sound(sign: Sign, word: &[u8]) -> bool
+    ensures { result ≡ is_sound_word sign word.now }
+{
+    !is_reserved(word) && is_spelled_for(sign, word)
+}
+
+/// Whether an argument is a word or a string.
+fn is_text(argument: &Term) -> bool
+    ensures { (n : ℕ) → result ≡ is_read_as any_text (said_of n argument.now) }
+{
+    match argument {
+        Term::Leaf(_) => true,
+        Term::Name(_, _) => true,
+        Term::Form(op, _, _) => is_text_op(*op),
+    }
+}
+
+/// Whether what joins some parts makes a string of them.
+fn is_text_op(op: Op) -> bool
+    ensures { result ≡ is_text op }
+{
+    matches!(op, Op::UnreadText)
+}
