@@ -15,6 +15,9 @@ pub mod LawLemmas
 pub mod MarkLemmas
 pub mod MemberLemmas
 pub mod NameLemmas
+pub mod NamespaceKeys
+pub mod NamespaceLemmas
+pub mod NumberLemmas
 pub mod OneTarget
 pub mod OpenedLemmas
 pub mod PartLemmas

@@ -62,7 +62,7 @@ tails x y xs ys e = ap tail_of e
 same_itself : (x : List ℕ) → same_bytes x x ≡ true
 same_itself x = text_true x x (same_bytes x x) refl refl
 
-space_itself : (n : Namespace) → same_space n n ≡ true
+pub space_itself : (n : Namespace) → same_space n n ≡ true
 space_itself [] = refl
 space_itself (x ∷ n) = both (same_bytes x x) (same_space n n) (same_itself x) (space_itself n) where
   both : (a b : Bool) → a ≡ true → b ≡ true → (a && b) ≡ true

@@ -6,6 +6,8 @@ pub mod Laws
 pub mod Leads
 pub mod Marks
 pub mod Named
+pub mod Namespaces
+pub mod Numbers
 pub mod OneStanding
 pub mod Opens
 pub mod Reports
