@@ -129,9 +129,9 @@ module _ (ws : List Written) (ss : List Standing) where
           before = o.before;
           so = b;
           placed = brought_at cs j c e o.before
-          ∙ ap (λ k. Some (placed_under ws ss (slice_get (placed_of ws ss cs) k) (statement_at ws c.statement))) (sym o.by_call)
-          ∙ ap (λ q. Some (placed_under ws ss q (statement_at ws c.statement))) b.is_call
-          ∙ ap (λ q. Some (placed_through b.call q (statement_at ws c.statement))) b.is_opened;
+              ∙ ap (λ k. Some (placed_under ws ss (slice_get (placed_of ws ss cs) k) (statement_at ws c.statement))) (sym o.by_call)
+              ∙ ap (λ q. Some (placed_under ws ss q (statement_at ws c.statement))) b.is_call
+              ∙ ap (λ q. Some (placed_through b.call q (statement_at ws c.statement))) b.is_opened;
         }
 
 -- ---- the statement at a place

@@ -24,6 +24,7 @@ module _ (m : ℕ) where
 
   mutual
     unfolding kept all_kept cell_of cells_of read_word read_string read_list read_row
+
     is_kept : (n : Node) → (cell_of m n).read unread ≡ reads (kept n) []
     is_kept (TextWord place bytes) = refl
     is_kept (Quoted place bytes) = refl
@@ -35,6 +36,7 @@ module _ (m : ℕ) where
 
   mutual
     unfolding kept all_kept cell_of cells_of cell_in cells_in
+
     reads_as_node : (n : Node) → cell_in (kept n) ≡ cell_of m n
     reads_as_node (TextWord place bytes) = refl
     reads_as_node (Quoted place bytes) = refl

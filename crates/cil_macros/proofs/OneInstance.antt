@@ -51,7 +51,6 @@ not_repeated false m o u e = with_bounds m o u e
 
 module _ (ws : List Written) (ss : List Standing) (are_apart : AreApart ws) (one_target : HasOneTarget ws)
     (each : (s : Standing) → Contains ss s → Stands ws s) where
-
   written_of : (p : Placed) → IsPlaced ws ss p → Contains ws p.standing.statement
   written_of p (stands s c) = standing_written ws are_apart one_target s (each s c)
   written_of p (called q u w ip e c i) = c

@@ -125,7 +125,7 @@ module _ (ws : List Written) (ss : List Standing) (unfolds_calls : (p : Placed) 
     rising_map order f h [] r = tt
     rising_map order f h (u ∷ us) r = (
       all_from (λ y. placed_cmp (f u) y ≡ Less) (map f us) (λ y c. let back = from_map f us y c in
-        subst (λ y. placed_cmp (f u) y ≡ Less) back.2 (h u back.0 (all_at (λ w. order u w ≡ Less) us back.0 r.0 back.1))),
+          subst (λ y. placed_cmp (f u) y ≡ Less) back.2 (h u back.0 (all_at (λ w. order u w ≡ Less) us back.0 r.0 back.1))),
       rising_map order f h us r.1,
     )
 
@@ -161,9 +161,9 @@ module _ (ws : List Written) (ss : List Standing) (unfolds_calls : (p : Placed) 
       start_rises = rising_map standing_cmp placed_standing (λ v w e. as_many (placed_standing v) (placed_standing w) refl e) ss standing_rising;
       each_rises = λ p r. opens_rise p;
       behind_start = λ x y b c r d.
-        let m = from_map placed_standing ss x c in
-        let none : x.steps ≡ 0 = ap (λ (z : Placed). z.steps) (sym m.2) in
-        let more = (a_step y b d).steps in
-        fewer x b (omega (arith, none, more));
+          let m = from_map placed_standing ss x c in
+          let none : x.steps ≡ 0 = ap (λ (z : Placed). z.steps) (sym m.2) in
+          let more = (a_step y b d).steps in
+          fewer x b (omega (arith, none, more));
       later = λ x y a b r q e c d. by_steps (nat_cmp x.steps y.steps) x y a b refl e (a_step x a c) (a_step y b d);
     }

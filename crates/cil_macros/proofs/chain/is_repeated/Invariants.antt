@@ -9,7 +9,7 @@ abbrev pub invariant-loop-body : goal.invariant-loop-body
 invariant-loop-body l =
     (l.place < length l.entries + length l.brought.called.items)
     × ((r : Bool) → IsCame (program_of l.statements) (standings_of (program_of l.statements) l.entries) l.brought.called.items l.called l.place r
-      → IsCame (program_of l.statements) (standings_of (program_of l.statements) l.entries) l.brought.called.items l.called l.at r)
+    → IsCame (program_of l.statements) (standings_of (program_of l.statements) l.entries) l.brought.called.items l.called l.at r)
 
 abbrev pub decreases-loop-body : goal.decreases-loop-body
 decreases-loop-body l = l.place

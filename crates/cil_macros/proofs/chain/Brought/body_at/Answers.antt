@@ -9,14 +9,14 @@ returns-in_err-body c =
     let behind = c.if-at-standing.false in
     let within = c.requires in
     λ ws ss long are_bodies. absurd (not_gone ws ss c.args.self.now.called.items c.args.self.now.bodies.items are_bodies c.args.at (c.args.at - c.args.standing)
-      c.index.result.now (omega (arith, behind, within)) (omega (arith, behind, long)) c.index.ensures
-      (ap (λ xs. slice_get xs c.index.result.now.body) (sym c.deref.ensures.value) ∙ not_there c.deref.result.now c.index.result.now.body c.in_err-body.ensures.lookup.3))
+    c.index.result.now (omega (arith, behind, within)) (omega (arith, behind, long)) c.index.ensures
+    (ap (λ xs. slice_get xs c.index.result.now.body) (sym c.deref.ensures.value) ∙ not_there c.deref.result.now c.index.result.now.body c.in_err-body.ensures.lookup.3))
 
 pub returns : goal.returns
 returns c =
     let behind = c.if-at-standing.false in
     let within = c.requires in
     λ ws ss long are_bodies. its_body ws ss c.args.self.now.called.items c.args.self.now.bodies.items are_bodies c.args.at (c.args.at - c.args.standing)
-      c.index.result.now (omega (arith, behind, within)) (omega (arith, behind, long)) c.index.ensures c.in_ok-body.body.now
-      (ap (λ xs. slice_get xs c.index.result.now.body) (sym c.deref.ensures.value)
-      ∙ there_as c.deref.result.now c.index.result.now.body c.in_ok-body.body.now c.in_ok-body.ensures.lookup.3.0 c.in_ok-body.ensures.lookup.1)
+    c.index.result.now (omega (arith, behind, within)) (omega (arith, behind, long)) c.index.ensures c.in_ok-body.body.now
+    (ap (λ xs. slice_get xs c.index.result.now.body) (sym c.deref.ensures.value)
+    ∙ there_as c.deref.result.now c.index.result.now.body c.in_ok-body.body.now c.in_ok-body.ensures.lookup.3.0 c.in_ok-body.ensures.lookup.1)
