@@ -1,7 +1,7 @@
 //! Times what the crates do beside SHA-256 of the same bytes, on texts that it makes in memory.
 //!
-//! Start at `run`. `text.rt` makes the texts; `read.rt`, `write.rt`, `import.rt`, `compiled.rt`, `look_up.rt` and
-//! `blocks.rt` take the times.
+//! Start at `run`. `text.rt` makes the texts; `read.rt`, `write.rt`, `import.rt`, `compiled.rt`, `look_up.rt`,
+//! `blocks.rt` and `macros.rt` take the times.
 //! `bench/README.md` says how the figures are read.
 #![tactic(auto)]
 
@@ -11,12 +11,14 @@ mod error;
 mod figures;
 mod import;
 mod look_up;
+mod macros;
 mod read;
 mod text;
 mod write;
 
 use crate::blocks::Form;
 use crate::error::BenchError;
+use crate::macros::Way;
 use cil_sexpr::LONGEST_TEXT;
 use std::alloc::Global;
 use std::env;
@@ -52,6 +54,8 @@ enum Task {
     LookUp(usize),
     /// What stands by inheritance, with so many templates or blocks.
     Blocks(Form, usize),
+    /// What calls bring, with so many macros or calls.
+    Macros(Way, usize),
 }
 
 /// The task of the program's words, its own name first. None is a call for help.
@@ -72,6 +76,9 @@ fn task_of(words: &[String]) -> Option<Task> {
         "heirs" if number <= MOST_BLOCKS => Some(Task::Blocks(Form::Heirs, number)),
         "templates" if number <= MOST_BLOCKS => Some(Task::Blocks(Form::Templates, number)),
         "doubling" if number <= MOST_BLOCKS => Some(Task::Blocks(Form::Doubling, number)),
+        "macro-chain" if number <= MOST_BLOCKS => Some(Task::Macros(Way::Chain, number)),
+        "macro-calls" if number <= MOST_BLOCKS => Some(Task::Macros(Way::Calls, number)),
+        "macro-doubling" if number <= MOST_BLOCKS => Some(Task::Macros(Way::Doubling, number)),
         _ => None,
     }
 }
@@ -95,7 +102,8 @@ fn run<R: Print + Env + CpuClock + AllocGlobal>(rt: &R, alloc: Global) -> Result
                 bench import MODULES, a number of at most {MOST}\n       \
                 bench compile RULES, a number of at most {MOST_RULES}\n       \
                 bench look-up NAMESPACES, a number from 1 to {MOST_SCOPE}\n       \
-                bench chain|heirs|templates|doubling BLOCKS, a number of at most {MOST_BLOCKS}"
+                bench chain|heirs|templates|doubling BLOCKS, a number of at most {MOST_BLOCKS}\n       \
+                bench macro-chain|macro-calls|macro-doubling MACROS, a number of at most {MOST_BLOCKS}"
             )?;
             Ok(())
         }
@@ -105,6 +113,7 @@ fn run<R: Print + Env + CpuClock + AllocGlobal>(rt: &R, alloc: Global) -> Result
         Task::Compile(rules) => compiled::run(rt, alloc, rules),
         Task::LookUp(scope) => look_up::run(rt, alloc, scope),
         Task::Blocks(form, count) => blocks::run(rt, alloc, form, count),
+        Task::Macros(way, count) => macros::run(rt, alloc, way, count),
     }
 }
 

@@ -19,7 +19,7 @@ use Rattle.cil_blocks.proofs.StandingWalk.{queue_order, reached_stands, stands_r
 module _ (ws : List Written) where
   -- ---- the view of one more
 
-  pushed_from : (done : List Standing) (es : List Entry) (e : Entry)
+  pub pushed_from : (done : List Standing) (es : List Entry) (e : Entry)
       → standings_from ws done (es ++ e ∷ []) ≡ standings_from ws done es ++ stepped ws (standings_from ws done es) e.opener e.statement ∷ []
   unfolding standings_from
   pushed_from done [] e = refl

@@ -21,6 +21,8 @@ pub mod NumberLemmas
 pub mod OneTarget
 pub mod OpenedLemmas
 pub mod PartLemmas
+pub mod PlaceLemmas
+pub mod PlacingLemmas
 pub mod ProgramLemmas
 pub mod Reached
 pub mod ReportLemmas
@@ -29,6 +31,7 @@ pub mod ScopeLemmas
 pub mod SeedLaw
 pub mod SeedLists
 pub mod SeedsShare
+pub mod SpelledLemmas
 pub mod StandingWalk
 pub mod StepLemmas
 pub mod TargetLemmas

@@ -1,18 +1,18 @@
 -- Namespaces as they are kept: keys of a set.
-use Rattle.std.proofs.Common.{◌≡◌, ◌⊎◌, ℕ, zero, suc, ◌+◌, ◌<◌, ◌≤◌, Bool, true, false, if◌then◌else◌, List, [], ◌∷◌, ◌++◌, length, get_or, map, refl, sym, ◌∙◌, ap, subst, inl, inr, arith}
-use Rattle.std.specs.Prelude.{◌&&◌, Some, None, slice_get}
+use Rattle.std.proofs.Common.{◌≡◌, ◌⊎◌, ℕ, zero, suc, ◌+◌, ◌<◌, ◌≤◌, Bool, true, false, if◌then◌else◌, List, [], ◌∷◌, ◌++◌, length, refl, sym, ◌∙◌, ap, subst, inl, inr, arith}
+use Rattle.std.specs.Prelude.{◌&&◌, Some, slice_get}
 use Rattle.std.specs.List.{list_any}
-use Rattle.std.specs.Cmp.Lexicographic.{same_text, other_text}
+use Rattle.std.specs.Cmp.Lexicographic.{same_text}
 use Rattle.std.proofs.Math.Dec.{eqb}
 use Rattle.std.proofs.lemmas.Bool.{eqb-true}
 use Rattle.std.proofs.lemmas.List.{append-nil, length-append, map-append}
 use Rattle.std.proofs.lemmas.List.Folds.{list_any_at}
 use Rattle.indexmap.specs.IndexSet.{insert_key}
-use Rattle.cil_sexpr.specs.Places.{get_behind, get_in_front, get_so, in_range, is_there, none_some, not_there, some_at, some_same}
+use Rattle.cil_sexpr.specs.Places.{get_behind, get_in_front, get_so, in_range, none_some, some_same}
 use Rattle.cil_syntax.specs.Spelling.{same_bytes}
 use Rattle.cil_blocks.specs.declared.namespaces.Space.{Space}
-use Rattle.cil_blocks.specs.Namespaces.{AreNamespaces, HasNoNumber, IsGrown, IsNumber, Key, inner_at, space_at, space_of, spaces_of}
-use Rattle.cil_blocks.proofs.NamespaceLemmas.{HasNone, child_missing, next_of}
+use Rattle.cil_blocks.specs.Namespaces.{AreNamespaces, IsGrown, IsNumber, Key, inner_at, space_at, space_of, spaces_of}
+use Rattle.cil_blocks.proofs.NamespaceLemmas.{HasNone, next_of}
 use Rattle.cil_blocks.proofs.StandingWalk.{text_true}
 
 -- ---- keys

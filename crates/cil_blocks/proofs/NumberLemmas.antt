@@ -1,12 +1,12 @@
 -- Scopes by numbers: each namespace once, at its first place.
-use Rattle.std.proofs.Common.{◌≡◌, ◌⊎◌, ℕ, zero, suc, ◌+◌, ◌<◌, ◌≤◌, Bool, true, false, not, if◌then◌else◌, List, [], ◌∷◌, ◌++◌, length, map, refl, sym, ◌∙◌, ap, subst, inl, inr, arith, append_assoc}
-use Rattle.std.specs.Prelude.{◌==◌, ◌||◌, Contains, Some, None, slice_get, filter, fold}
+use Rattle.std.proofs.Common.{◌≡◌, ℕ, zero, suc, ◌<◌, ◌≤◌, Bool, true, false, not, if◌then◌else◌, List, [], ◌∷◌, ◌++◌, length, map, refl, sym, ◌∙◌, ap, subst, inl, inr, arith, append_assoc}
+use Rattle.std.specs.Prelude.{◌==◌, ◌||◌, Some, None, filter}
 use Rattle.std.specs.List.{list_any}
 use Rattle.std.proofs.lemmas.Bool.{eqb-true}
 use Rattle.std.proofs.lemmas.List.{append-nil, map-append}
-use Rattle.std.proofs.lemmas.List.Elements.{Contains-append_left, Contains-append_right, Contains-append_cases}
+use Rattle.std.proofs.lemmas.List.Elements.{Contains-append_cases}
 use Rattle.cil_sexpr.specs.Places.{none_some, some_at}
-use Rattle.cil_sexpr.specs.Lists.{contains_here, contains_later, contains_cases, contains_none}
+use Rattle.cil_sexpr.specs.Lists.{contains_here, contains_later, contains_none}
 use Rattle.cil_syntax.specs.Scopes.{Namespace, Scope, apart, chain, same_space, tidy}
 use Rattle.cil_syntax.specs.Written.{is_outside}
 use Rattle.cil_blocks.specs.declared.namespaces.Space.{Space}
@@ -229,7 +229,7 @@ pub pushed_within : (ss : List Space) (ks none new : List ℕ) → none ≡ [] �
 pushed_within ss ks none new e is h =
     subst (AreWithin ss) (sym (is ∙ ap (λ xs. with_numbers xs ks) e)) (all_within ss ks [] h (λ m c. absurd (contains_none m c)))
 
-nothing_apart : apart [] ≡ []
+pub nothing_apart : apart [] ≡ []
 unfolding apart
 nothing_apart = refl
 

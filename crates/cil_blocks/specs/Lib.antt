@@ -10,6 +10,8 @@ pub mod Namespaces
 pub mod Numbers
 pub mod OneStanding
 pub mod Opens
+pub mod Places
+pub mod Placing
 pub mod Reports
 pub mod Seeds
 pub mod Steps

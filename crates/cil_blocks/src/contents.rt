@@ -4,39 +4,35 @@ ghost use Rattle.std.specs.Prelude.{◌≡◌, ◌≤◌, IfNone, IfOk, IfSome, 
 ghost use Rattle.cil_sexpr.specs.Lists.{Lists};
 ghost use Rattle.cil_syntax.specs.Program.{IsNested, program_of};
 ghost use Rattle.cil_blocks.specs.Contents.{Stands, standing_cmp};
-ghost use Rattle.cil_blocks.specs.Entries.{AreParts, standings_of};
+ghost use Rattle.cil_blocks.specs.Entries.{AreOpened, AreParts, standings_of};
 ghost use Rattle.cil_blocks.specs.InheritFaults.{IsOver};
-ghost use Rattle.cil_blocks.specs.Laws.{HasNoFault};
-ghost use Rattle.cil_blocks.specs.Named.{AreAllTargets};
+ghost use Rattle.cil_blocks.specs.Laws.{HasNoFault, HasOneTarget};
 
 use crate::entry::Entry;
 use crate::laws;
-use crate::opened::opened_of;
 use crate::parts::Parts;
-use crate::targets::Targets;
 use crate::walker::walk;
 use cil_modset::NoMemory;
 use cil_syntax::Statement;
 use std::alloc::Global;
 
 /// All that stands in a program in which nothing is wrong with the blocks, in the order of the walk; or nothing where that is
-/// more than the limit. A look at each statement and a step for each entry are its cost.
+/// more than the limit. A step for each entry is its cost.
 pub fn contents_of(
     alloc: Global,
     statements: &[Statement],
     parts: &Parts,
-    targets: &Targets,
+    opened: &[Option<usize>],
     limit: usize,
 ) -> Result<Option<Vec<Entry>>, NoMemory>
     requires nested { IsNested statements.now }
     requires parts { AreParts (program_of statements.now) parts.now }
-    requires targets { AreAllTargets (program_of statements.now) targets.now }
+    requires opened { HasOneTarget (program_of statements.now) → AreOpened (program_of statements.now) opened.now }
     ensures all { IfOk result (λ o. IfSome o (λ v. HasNoFault (program_of statements.now) → Lists standing_cmp (Stands (program_of statements.now)) (standings_of (program_of statements.now) v.items))) }
     ensures few { IfOk result (λ o. IfSome o (λ v. length v.items ≤ limit)) }
     ensures many { IfOk result (λ o. IfNone o (HasNoFault (program_of statements.now) → IsOver standing_cmp (Stands (program_of statements.now)) limit)) }
 {
     // Where nothing is wrong, each blockinherit has one target.
     laws::one_target();
-    let opened = opened_of(alloc, statements, parts, targets)?;
-    walk(alloc, parts, opened.as_slice(), limit)
+    walk(alloc, parts, opened, limit)
 }

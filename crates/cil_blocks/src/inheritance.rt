@@ -9,6 +9,7 @@ ghost use Rattle.cil_syntax.specs.Refusal.{Answers};
 ghost use Rattle.cil_blocks.specs.Entries.{AreParts, statement_at};
 ghost use Rattle.cil_blocks.specs.InheritFaults.{InheritFault, InheritStep, IsDoubled, limit_fault, most_instances};
 ghost use Rattle.cil_blocks.specs.Named.{AreAllTargets};
+ghost use Rattle.cil_blocks.specs.Places.{AreStandings, statements_in};
 ghost use Rattle.cil_blocks.specs.Reports.{AreAllFaults, AreJoined, AreNumbersOf, IsCyclic, IsToldOf, IsUnresolved, name_fault, target_fault};
 
 use crate::contents::contents_of;
@@ -16,7 +17,9 @@ use crate::cycles::cycles_of;
 use crate::doubled::{doubled_of, push_if};
 use crate::laws;
 use crate::names::is_inheriting;
+use crate::opened::opened_of;
 use crate::parts::{Parts, parts_of};
+use crate::places::places_of;
 use crate::reports::{name_faults, target_faults};
 use crate::spaces::Spaces;
 use crate::targets::{Targets, blocks_of, targets_of};
@@ -33,19 +36,25 @@ pub const MOST_INSTANCES: usize = 1_000_000;
 /// Errors: the faults of names that are given twice, of targets that are no block, and of targets that lead back to where
 /// they are inherited; where there is none of these, one fault if more than 1,000,000 statements stand; or out of memory.
 pub fn inherit<'p, 'a>(alloc: Global, program: &'p Program<'a>) -> Result<Spaces<'p, 'a>, Failure>
-    ensures { Answers (λ s. s.0 ≡ program.now) (InheritStep (program_of program.now)) result }
+    ensures { Answers (λ s. (statements_in s ≡ program.now) × AreStandings s) (InheritStep (program_of program.now)) result }
 {
     let statements = program.statements();
     let parts = parts_of(alloc, statements)?;
     let blocks = blocks_of(alloc, statements)?;
     let targets = targets_of(alloc, statements, blocks.as_slice())?;
     check_blocks(alloc, statements, &parts, &targets)?;
-    let Some(entries) = contents_of(alloc, statements, &parts, &targets, MOST_INSTANCES)? else {
+    let opened = opened_of(alloc, statements, &parts, &targets)?;
+    let Some(entries) = contents_of(alloc, statements, &parts, opened.as_slice(), MOST_INSTANCES)?
+    else {
         return Err(Failure::Faults(over_the_limit(alloc)?));
     };
+    // Where nothing is wrong, each blockinherit has one target.
+    laws::one_target();
+    let located = places_of(alloc, statements, opened.as_slice(), entries.as_slice())?;
     Ok(Spaces {
         statements,
         entries,
+        located,
     })
 }
 
@@ -177,7 +186,7 @@ fn both(one: Option<FaultList>, other: Option<FaultList>) -> Result<Option<Fault
 }
 
 /// The fault of more statements than may stand: that of the whole policy, at no place.
-fn over_the_limit(alloc: Global) -> Result<FaultList, NoMemory>
+pub fn over_the_limit(alloc: Global) -> Result<FaultList, NoMemory>
     ensures { IfOk result (AreFaults (λ f. f ≡ limit_fault)) }
 {
     let mut faults = Vec::new(alloc);

@@ -1,7 +1,7 @@
 //! The full names of blocks: a block's own name, and those of the blocks round it. No name is copied; a comparison goes
 //! up from block to block for as long as the names are alike.
 
-ghost use Rattle.std.specs.Prelude.{◌≡◌, ◌<◌, ◌≤◌, ◌++◌, IfSome};
+ghost use Rattle.std.specs.Prelude.{◌≡◌, ◌<◌, ◌≤◌, ◌++◌, IfSome, None};
 ghost use Rattle.cil_syntax.specs.Program.{IsNested, program_of};
 ghost use Rattle.cil_blocks.specs.Contents.{is_block, is_inheriting, name_of};
 ghost use Rattle.cil_blocks.specs.Entries.{statement_at};
@@ -57,9 +57,10 @@ pub fn outer(statements: &[Statement], number: usize) -> Option<usize>
 }
 
 /// A number, if it is lower than another one.
-fn lower(number: Option<usize>, limit: usize) -> Option<usize>
+pub fn lower(number: Option<usize>, limit: usize) -> Option<usize>
     ensures lower { rank result ≤ limit }
     ensures same { rank number ≤ limit → result ≡ number }
+    ensures higher { limit < rank number → result ≡ None }
 {
     let found = number?;
     if found < limit { Some(found) } else { None }

@@ -52,6 +52,13 @@ impl<'a> Namespaces<'a> {
         }
     }
 
+    /// Each of them is there once.
+    pub fn are_namespaces(&self)
+        ensures { AreNamespaces self.now }
+    {
+        let _ = &self.keys;
+    }
+
     /// How many there are, without the global one. A number is at most that.
     pub fn len(&self) -> usize
         ensures count { result ≡ length self.now }

@@ -23,7 +23,7 @@ impl Model for Numbers {
 }
 
 impl Numbers {
-    ghost use Rattle.std.specs.Prelude.{◌≡◌, ◌++◌, ◌∷◌, [], OnOk, slice_get};
+    ghost use Rattle.std.specs.Prelude.{◌≡◌, ◌++◌, ◌∷◌, [], OnErr, OnOk, slice_get};
 
     /// No numbers.
     pub fn new(alloc: Global) -> Numbers
@@ -47,7 +47,8 @@ impl Numbers {
 
     /// Puts a number behind the others.
     pub fn push(&mut self, number: usize) -> Result<(), NoMemory>
-        ensures { OnOk result (self.new ≡ self.old ++ number ∷ []) }
+        ensures pushed { OnOk result (self.new ≡ self.old ++ number ∷ []) }
+        ensures same { OnErr result (self.new ≡ self.old) }
     {
         if number == 0 && self.others.is_empty() && self.zeros < usize::MAX {
             self.zeros += 1;

@@ -45,6 +45,27 @@ pub fn scope_inherited(
     Ok(inner)
 }
 
+/// The scope of what stands by two: first the one, and then the other.
+pub fn scope_joined(
+    alloc: Global,
+    namespaces: &Namespaces,
+    one: &[usize],
+    other: &[usize],
+) -> Result<SmallVec<usize, 4>, NoMemory>
+    requires one { AreWithin namespaces.now one.now }
+    requires other { AreWithin namespaces.now other.now }
+    ensures within { IfOk result (λ joined. AreWithin namespaces.now joined.items) }
+    ensures tidy { IfOk result (λ joined. map (space_at namespaces.now) joined.items ≡ tidy (map (space_at namespaces.now) one.now ++ map (space_at namespaces.now) other.now)) }
+{
+    // Different numbers are of different namespaces.
+    namespaces.are_namespaces();
+    let mut joined = SmallVec::new(alloc);
+    push_all(&mut joined, one)?;
+    push_all(&mut joined, other)?;
+    joined.push(0)?;
+    Ok(joined)
+}
+
 /// Adds a number, unless it is there.
 fn push_new(scope: &mut SmallVec<usize, 4>, number: usize) -> Result<(), NoMemory>
     ensures { OnOk result (scope.new.items ≡ with_number scope.old.items number) }

@@ -1,13 +1,19 @@
 -- Readable modules compile to tables or have a list of faults: step after step, as the compiler takes them.
-use Rattle.std.proofs.Common.{ℕ, List, map, refl, sym, ap, inl, inr}
+use Rattle.std.proofs.Common.{◌≡◌, ℕ, false, List, map, refl, sym, ap, inl, inr}
 use Rattle.cil_sexpr.specs.Lists.{Lists}
+use Rattle.cil_sexpr.specs.MadeLists.{from_map}
 use Rattle.cil_syntax.specs.declared.failure.Failure.TheVariants.{Faults}
 use Rattle.cil_syntax.specs.declared.fault.Fault.{Fault}
+use Rattle.cil_syntax.specs.declared.kind.Keyword.{Keyword}
+use Rattle.cil_syntax.specs.declared.kind.Keyword.TheVariants as keywords
 use Rattle.cil_syntax.specs.Laws.{AlwaysHaveProgramOrFaults, Outcome as StepOutcome, succeeds, fails as step_fails}
-use Rattle.cil_syntax.specs.Written.{Written, IsWritten, ShapeFault, written_cmp}
-use Rattle.cil_blocks.specs.Contents.{Stands, standing_cmp}
+use Rattle.cil_syntax.specs.Written.{Written, IsWritten, ShapeFault, is_macro, written_cmp}
+use Rattle.cil_blocks.specs.Contents.{Standing, Stands, is_named, standing_cmp}
 use Rattle.cil_blocks.specs.InheritFaults.{InheritStep}
 use Rattle.cil_blocks.specs.Laws.{HaveFlatContents}
+use Rattle.cil_macros.specs.Calls.{IsPlaced, placed_cmp}
+use Rattle.cil_macros.specs.ExpandFaults.{ExpandStep}
+use Rattle.cil_macros.specs.Laws.{HaveFlatInstances}
 use Rattle.cil_decide.specs.CompileRefusal.{CompileFails}
 use Rattle.cil_decide.specs.Compiled.{IsTable}
 use Rattle.cil_decide.specs.Faults.{ClassFault}
@@ -17,10 +23,9 @@ use Rattle.cil_names.specs.Item.{Item, nobody}
 use Rattle.cil_decide.specs.Laws.{AlwaysCompilesOrFails, Outcome, compiles, fails}
 use Rattle.cil_decide.specs.Table.{Table, IsOrderly}
 use Rattle.cil_decide.proofs.AgreesLemmas.{table_agrees}
-use Rattle.cil_decide.proofs.CompileLemmas.{IsFront, clash_fails, inherit_fails, no_program_step, nothing_wrong, widths_fail, words_fail}
+use Rattle.cil_decide.proofs.CompileLemmas.{IsFront, clash_fails, expand_fails, front_of, inherit_fails, nothing_wrong, widths_fail, words_fail}
 use Rattle.cil_decide.proofs.FlatPrograms.{is_flat}
 use Rattle.cil_decide.proofs.FiniteFaults.{finite_clashes, finite_unresolved, finite_wide, step_outcome}
-use Rattle.cil_decide.proofs.ListLemmas.{from_map}
 use Rattle.cil_decide.proofs.TablesExist.{tables}
 use Rattle.cil_decide.proofs.WideClasses.{few}
 
@@ -78,17 +83,28 @@ module _ (modules : List (List ℕ)) (program : List Written) (is_program : List
     ]
   ]
 
-by_blocks : (modules : List (List ℕ)) (program : List Written) → Lists written_cmp (IsWritten modules) program → ((f : Fault) → ShapeFault modules f → ⊥)
+not_macro : (k : Keyword) → is_named k ≡ false → is_macro k ≡ false
+not_macro keywords.Macro e = cc
+not_macro k e = refl
+
+by_calls : (modules : List (List ℕ)) (program : List Written) (standings : List Standing) → Lists written_cmp (IsWritten modules) program → ((f : Fault) → ShapeFault modules f → ⊥)
+    → Lists standing_cmp (Stands program) standings → ((f : Fault) → InheritStep program f → ⊥)
+    → StepOutcome (Lists placed_cmp (IsPlaced program standings)) (ExpandStep program standings) → Outcome modules
+by_calls modules program standings is shape are blocks (succeeds placed all calls) = outcome modules program is (front_of modules program standings is are shape blocks calls)
+by_calls modules program standings is shape are blocks (step_fails faults wrong) =
+    let refused = expand_fails modules program standings is are shape blocks (Faults faults) wrong in fails faults refused.0 refused.1
+
+by_blocks : HaveFlatInstances → (modules : List (List ℕ)) (program : List Written) → Lists written_cmp (IsWritten modules) program → ((f : Fault) → ShapeFault modules f → ⊥)
     → StepOutcome (Lists standing_cmp (Stands program)) (InheritStep program) → Outcome modules
-by_blocks modules program is shape (succeeds contents are blocks) =
-    outcome modules program is (record { shape = shape; blocks = no_program_step modules program is InheritStep blocks })
-by_blocks modules program is shape (step_fails faults are) =
+by_blocks instances modules program is shape (succeeds contents are blocks) =
+    by_calls modules program contents is shape are blocks (instances program contents is.rising are (λ w c. not_macro w.statement.keyword (is_flat modules w ((is.members w).0 c)).no_name))
+by_blocks instances modules program is shape (step_fails faults are) =
     let refused = inherit_fails modules program is shape (Faults faults) are in fails faults refused.0 refused.1
 
-by_shape : HaveFlatContents → (modules : List (List ℕ)) → StepOutcome (Lists written_cmp (IsWritten modules)) (ShapeFault modules) → Outcome modules
-by_shape blocks modules (succeeds program is none) =
-    by_blocks modules program is none (blocks program is.rising (λ w c. is_flat modules w ((is.members w).0 c)))
-by_shape blocks modules (step_fails faults are) = fails faults (inl are) are.some
+by_shape : HaveFlatContents → HaveFlatInstances → (modules : List (List ℕ)) → StepOutcome (Lists written_cmp (IsWritten modules)) (ShapeFault modules) → Outcome modules
+by_shape blocks instances modules (succeeds program is none) =
+    by_blocks instances modules program is none (blocks program is.rising (λ w c. is_flat modules w ((is.members w).0 c)))
+by_shape blocks instances modules (step_fails faults are) = fails faults (inl are) are.some
 
-pub always_compiles_or_fails : AlwaysHaveProgramOrFaults → HaveFlatContents → AlwaysCompilesOrFails
-always_compiles_or_fails law blocks modules readable = by_shape blocks modules (law modules readable)
+pub always_compiles_or_fails : AlwaysHaveProgramOrFaults → HaveFlatContents → HaveFlatInstances → AlwaysCompilesOrFails
+always_compiles_or_fails law blocks instances modules readable = by_shape blocks instances modules (law modules readable)

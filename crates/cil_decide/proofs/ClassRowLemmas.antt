@@ -17,9 +17,10 @@ use Rattle.cil_names.specs.Item.{OptSet}
 use Rattle.cil_names.specs.Numbers.{AreApart, AreNumbers, has_section, is_of, names_of, spelled_of}
 use Rattle.cil_syntax.specs.Kinds.{kind_number}
 use Rattle.cil_names.specs.Unresolved.{listed_at}
+use Rattle.cil_names.proofs.SearchLemmas.{member_of_number, number_of_member}
 use Rattle.cil_decide.specs.ClassRows.{AreClassEntries, AreListed, AreRowsOf}
 use Rattle.cil_decide.specs.declared.tables.Class.{Class}
-use Rattle.cil_decide.proofs.SearchLemmas.{member_of_number, number_is, number_of_member}
+use Rattle.cil_decide.proofs.SearchLemmas.{number_is}
 
 some_same : {X : Type 0} {a b : X} → Some a ≡ Some b → a ≡ b
 some_same {X} {a} {b} e = ap (λ o. unwrap_or o a) e

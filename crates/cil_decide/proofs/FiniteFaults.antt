@@ -7,6 +7,8 @@ use Rattle.std.proofs.lemmas.Bool.{and_parts, cases_lt}
 use Rattle.std.proofs.lemmas.Cmp.{nat_list_cmp_total}
 use Rattle.std.proofs.lemmas.Map.Lookups.{exact_bytes}
 use Rattle.cil_sexpr.specs.Lists.{Lists, text_cmp, one_list}
+use Rattle.cil_sexpr.specs.MadeLists.{contains_flat}
+use Rattle.cil_sexpr.specs.Searches.{any_true}
 use Rattle.cil_syntax.specs.declared.code.FaultCode.TheVariants as causes
 use Rattle.cil_syntax.specs.declared.fault.Fault.{Fault}
 use Rattle.cil_syntax.specs.declared.kind.Keyword.TheVariants as keywords
@@ -26,7 +28,6 @@ use Rattle.cil_decide.specs.Table.{most_permissions}
 use Rattle.cil_decide.proofs.DecidedEquality.{bool_is, keyword_is, same_declaration, same_namespace, same_number, same_text}
 use Rattle.cil_decide.proofs.Finite.{Decided, Finite, decided_both, decided_not, decided_same, decided_where, finite_all, finite_given, finite_if, finite_list, finite_listing, finite_same, finite_where}
 use Rattle.cil_decide.proofs.FinitePolicy.{Front, finite_declarations, finite_front}
-use Rattle.cil_decide.proofs.ListLemmas.{any_true, contains_flat}
 
 -- ---- clashes
 

@@ -4,6 +4,7 @@ use Rattle.std.proofs.Common.{◌≡◌, ℕ, zero, suc, ◌+◌, ◌<◌, List,
 use Rattle.std.proofs.lemmas.List.{map-append, take_more, take_all}
 use Rattle.std.proofs.lemmas.List.Elements.{Contains-append_cases}
 use Rattle.cil_sexpr.specs.Lists.{contains_cases, contains_here, contains_later, contains_none}
+use Rattle.cil_sexpr.specs.MadeLists.{contains_map, from_map}
 use Rattle.cil_syntax.specs.declared.kind.Kind.{Kind}
 use Rattle.cil_syntax.specs.declared.program.Statement.{Statement}
 use Rattle.cil_syntax.specs.Said.{args_of}
@@ -19,7 +20,6 @@ use Rattle.cil_names.specs.Placed.{ArePlaced, IsPlaced}
 use Rattle.cil_names.specs.Spaces.{space_at, spaces_from}
 use Rattle.cil_decide.specs.Compiled.{IsNameOf}
 use Rattle.cil_decide.specs.Flat.{AreFlat, AreInstances, IsGlobal, flat_item, globally, flat_items, global_symbol}
-use Rattle.cil_decide.proofs.ListLemmas.{contains_map, from_map}
 
 -- the items of statements have no namespaces
 pub flat_is_flat : (ss : List Statement) → AreFlat (flat_items ss)

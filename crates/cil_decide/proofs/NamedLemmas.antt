@@ -7,6 +7,7 @@ use Rattle.std.proofs.Common.{◌≡◌, ℕ, true, List, [], get_or, refl, sym,
 use Rattle.std.proofs.lemmas.Option.{slice_get-map}
 use Rattle.cil_sexpr.specs.Gives.{Gives}
 use Rattle.cil_sexpr.specs.Lists.{Lists, text_cmp, contains_none}
+use Rattle.cil_sexpr.specs.MadeLists.{from_map}
 use Rattle.cil_syntax.specs.declared.fault.Bytes.{Bytes}
 use Rattle.cil_syntax.specs.declared.kind.Kind.{Kind}
 use Rattle.cil_syntax.specs.declared.kind.Kind.TheVariants as kinds
@@ -27,6 +28,7 @@ use Rattle.cil_names.specs.Numbers.{AreApart, AreNumbers, ArePlainNames, IsNameA
 use Rattle.cil_names.specs.Resolves.{has_permission}
 use Rattle.cil_syntax.specs.Kinds.{is_wanted}
 use Rattle.cil_names.specs.Unresolved.{ArePermissions, listed_at}
+use Rattle.cil_names.proofs.SearchLemmas.{member_of_number, number_of_member}
 use Rattle.cil_decide.specs.ClassRows.{AreRowsOf}
 use Rattle.cil_decide.specs.Compiled.{IsNameOf, IsRowOf}
 use Rattle.cil_decide.specs.declared.tables.Class.{Class}
@@ -34,8 +36,7 @@ use Rattle.cil_decide.specs.Known.{AreClasses}
 use Rattle.cil_decide.specs.Table.{class_cmp}
 use Rattle.cil_decide.proofs.ClassRowLemmas.{class_from, class_named, class_parts}
 use Rattle.cil_decide.proofs.CompileLemmas.{AreNamed, rising_by}
-use Rattle.cil_decide.proofs.ListLemmas.{from_map}
-use Rattle.cil_decide.proofs.SearchLemmas.{member_of_number, number_is, number_of_member}
+use Rattle.cil_decide.proofs.SearchLemmas.{number_is}
 use Rattle.cil_decide.proofs.WideClasses.{in_front, of_own_kind}
 use Rattle.cil_decide.proofs.WidthLemmas.{listed_are, said_front}
 

@@ -11,6 +11,7 @@ use Rattle.std.proofs.lemmas.Nat.Bits.{bit_at-pow_same, bit_at-pow_other}
 use Rattle.std.proofs.lemmas.Option.{none-some, same_Some, slice_get_within}
 use Rattle.cil_sexpr.specs.Gives.{Gives}
 use Rattle.cil_sexpr.specs.Lists.{Lists, text_cmp}
+use Rattle.cil_sexpr.specs.MadeLists.{contains_map, from_map}
 use Rattle.cil_syntax.specs.Listing.{Listing}
 use Rattle.cil_syntax.specs.declared.kind.Keyword.TheVariants as keywords
 use Rattle.cil_syntax.specs.declared.kind.Kind.TheVariants as kinds
@@ -27,6 +28,7 @@ use Rattle.cil_syntax.specs.Scopes.{ScopedWord}
 use Rattle.cil_decide.specs.Pairs.{HasPair}
 use Rattle.cil_decide.specs.Flat.{AreFlat, global_symbol}
 use Rattle.cil_names.specs.Resolves.{has_permission}
+use Rattle.cil_names.proofs.SearchLemmas.{number_of_member}
 use Rattle.cil_decide.specs.Table.{Table, class_cmp, link_cmp, link_total, one_link, rule_cmp, rule_total, one_rule}
 use Rattle.cil_decide.proofs.BitLemmas.{none_set, set_in_either, set_is_one}
 use Rattle.cil_decide.proofs.CompileLemmas.{rising_by}
@@ -35,9 +37,7 @@ use Rattle.cil_decide.proofs.Finite.{Decided, Finite, chosen, decided_same, fini
 use Rattle.cil_decide.proofs.FiniteFaults.{permissions_of}
 use Rattle.cil_decide.proofs.FinitePolicy.{decided_pair, finite_has_number, finite_names, pair_class}
 use Rattle.cil_decide.proofs.FiniteRecords.{finite_cases, finite_links}
-use Rattle.cil_decide.proofs.ListLemmas.{contains_map, from_map}
 use Rattle.cil_decide.proofs.FlatLemmas.{declared_here, global_symbol_of, name_declared, name_of_global}
-use Rattle.cil_decide.proofs.SearchLemmas.{number_of_member}
 
 equal_numbers : (m n : ℕ) → nat_cmp m n ≡ Equal → m ≡ n
 equal_numbers m n e =

@@ -3,6 +3,7 @@ use Rattle.std.specs.Prelude.{Contains}
 use Rattle.std.proofs.Common.{◌≡◌, ℕ, ◌<◌, ◌≤◌, true, List, [], length, refl, sym, ◌∙◌, ap, subst, inl, inr, arith}
 use Rattle.std.proofs.lemmas.Bool.{cases_lt}
 use Rattle.cil_sexpr.specs.Lists.{Lists, text_cmp, contains_cases, contains_none}
+use Rattle.cil_sexpr.specs.MadeLists.{from_map}
 use Rattle.cil_syntax.specs.declared.fault.Fault.{Fault}
 use Rattle.cil_syntax.specs.declared.kind.Keyword.{Keyword}
 use Rattle.cil_syntax.specs.declared.kind.Keyword.TheVariants as keywords
@@ -19,7 +20,6 @@ use Rattle.cil_decide.specs.declared.tables.Class.{Class}
 use Rattle.cil_decide.specs.Compiled.{IsRowOf}
 use Rattle.cil_decide.specs.Faults.{ClassFault, wide}
 use Rattle.cil_decide.specs.Table.{most_permissions}
-use Rattle.cil_decide.proofs.ListLemmas.{from_map}
 
 -- only a class statement declares a class
 pub class_keyword : (k : Keyword) → Contains (entry_of k).declares kinds.Class → k ≡ keywords.Class

@@ -8,6 +8,8 @@ use Rattle.std.proofs.lemmas.Cmp.{nat_list_cmp_total}
 use Rattle.std.proofs.lemmas.List.{take_more, take_all}
 use Rattle.std.proofs.lemmas.List.Elements.{Contains-append_cases, Contains-append_left, Contains-append_right}
 use Rattle.cil_sexpr.specs.Lists.{Lists, text_cmp, contains_cases, contains_here, contains_none, one_list}
+use Rattle.cil_sexpr.specs.MadeLists.{contains_map, from_map}
+use Rattle.cil_sexpr.specs.Searches.{any_from, any_true}
 use Rattle.cil_syntax.specs.declared.code.FaultCode.TheVariants as causes
 use Rattle.cil_syntax.specs.declared.fault.Bytes.{Bytes}
 use Rattle.cil_syntax.specs.declared.fault.Fault.{Fault}
@@ -36,8 +38,6 @@ use Rattle.cil_names.specs.Unresolved.{ArePermissions, listed_at}
 use Rattle.cil_decide.specs.Faults.{ClassFault, wide}
 use Rattle.cil_decide.specs.Table.{most_permissions}
 use Rattle.cil_decide.specs.Widths.{DeclaresClass, DeclaresNoClass, IsWide}
-use Rattle.cil_decide.proofs.ListLemmas.{any_from, any_true, contains_map, from_map}
-use Rattle.cil_decide.proofs.SearchLemmas.{member_of_number}
 use Rattle.std.specs.Cmp.Lexicographic.{pointwise_decides}
 use Rattle.std.specs.List.Sorted.{IsStrictlySortedBy}
 use Rattle.std.specs.Option.{option_map_or, unwrap_or}
@@ -47,6 +47,7 @@ use Rattle.std.proofs.lemmas.Bool.{and_from, and_parts}
 use Rattle.cil_decide.proofs.StepLemmas.{nothing_rises}
 use Rattle.std.proofs.lemmas.List.Elements.{Contains-get_or}
 use Rattle.cil_names.specs.Placed.{ArePlaced, IsPlaced}
+use Rattle.cil_names.proofs.SearchLemmas.{member_of_number}
 
 some_same : {X : Type 0} {a b : X} → Some a ≡ Some b → a ≡ b
 some_same {X} {a} {b} e = ap (λ o. unwrap_or o a) e

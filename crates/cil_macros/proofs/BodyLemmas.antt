@@ -1,9 +1,8 @@
 -- What is placed behind what stands is of the body of a call: with its statement, its arguments, its scope and its macros.
-use Rattle.std.proofs.Common.{◌≡◌, ℕ, zero, suc, ◌+◌, ◌<◌, ◌≤◌, ◌⊎◌, List, [], ◌∷◌, ◌++◌, length, get_or, map, refl, sym, ◌∙◌, ap, subst, inl, inr, arith, append_assoc}
+use Rattle.std.proofs.Common.{◌≡◌, ℕ, zero, suc, ◌+◌, ◌<◌, List, [], ◌∷◌, ◌++◌, length, get_or, map, refl, sym, ◌∙◌, ap, arith, append_assoc}
 use Rattle.std.specs.Prelude.{Option, Some, None, slice_get}
 use Rattle.std.proofs.lemmas.List.{append-nil, length-append, length-map, map-append}
-use Rattle.cil_sexpr.specs.Places.{get_behind, get_in_front, get_so, in_range, is_there, none_some, some_same}
-use Rattle.cil_syntax.specs.Scopes.{Namespace, tidy}
+use Rattle.cil_sexpr.specs.Places.{get_behind, get_in_front, in_range, is_there, none_some, some_same}
 use Rattle.cil_syntax.specs.Written.{Written}
 use Rattle.cil_blocks.specs.Contents.{Standing}
 use Rattle.cil_blocks.specs.Entries.{standings_of, statement_at}
@@ -12,10 +11,9 @@ use Rattle.cil_blocks.proofs.EntryLemmas.{mapped_at, standings_length, statement
 use Rattle.cil_macros.specs.declared.entry.Body.{Body}
 use Rattle.cil_macros.specs.declared.entry.Called.{Called}
 use Rattle.cil_macros.specs.Calls.{Unfolded, placed_called, unfolded}
-use Rattle.cil_macros.specs.Entries.{AreBodies, IsBody, IsOf, placed_by, placed_from, placed_of, placed_through, placed_under}
+use Rattle.cil_macros.specs.Entries.{AreBodies, IsBody, placed_by, placed_from, placed_of, placed_through, placed_under}
 use Rattle.cil_macros.specs.Opens.{starts}
 use Rattle.cil_macros.specs.Placed.{Placed, placed_standing}
-use Rattle.cil_macros.proofs.EntryLemmas.{placed_length}
 
 module _ (ws : List Written) (ss : List Standing) where
   -- ---- places

@@ -1,13 +1,13 @@
 -- What calls bring, as it is kept: one more is one placed statement more, and what a call opens is the body of its macro.
 use Rattle.std.proofs.Common.{◌≡◌, ℕ, ◌+◌, ◌<◌, ◌≤◌, true, List, [], ◌∷◌, ◌++◌, length, get_or, map, take, refl, sym, ◌∙◌, ap, subst, arith, append_assoc}
-use Rattle.std.specs.Prelude.{Option, Some, None, slice_get}
+use Rattle.std.specs.Prelude.{Some, None, slice_get}
 use Rattle.std.specs.List.Sorted.{IsStrictlySortedBy}
-use Rattle.std.proofs.lemmas.List.{append-nil, take_more, take_all, map-append, length-append, length-map}
+use Rattle.std.proofs.lemmas.List.{take_more, map-append, length-append, length-map}
 use Rattle.cil_sexpr.specs.Places.{get_in_front}
 use Rattle.cil_sexpr.specs.Rising.{IsOver}
 use Rattle.cil_sexpr.specs.Lists.{Lists}
 use Rattle.cil_syntax.specs.Written.{Written, written_cmp}
-use Rattle.cil_blocks.specs.Contents.{Standing, Stands, standing_cmp}
+use Rattle.cil_blocks.specs.Contents.{Standing, standing_cmp}
 use Rattle.cil_blocks.specs.Entries.{AreParts, parts_at, statement_at}
 use Rattle.cil_blocks.specs.Opens.{parts}
 use Rattle.cil_blocks.specs.declared.parts.Parts.{Parts}

@@ -1,11 +1,11 @@
 -- An argument of a call is kept whole: read by any shape later, it reads as its node does.
-use Rattle.std.proofs.Common.{◌≡◌, ℕ, List, [], ◌∷◌, refl, sym, ◌∙◌, ap, subst}
+use Rattle.std.proofs.Common.{◌≡◌, ℕ, [], ◌∷◌, refl, sym, ◌∙◌, ap}
 use Rattle.std.specs.Prelude.{Some}
 use Rattle.cil_sexpr.specs.Tree.{Node, Word as TextWord, Quoted, Branch, Nodes, none, next}
 use Rattle.cil_syntax.specs.declared.kind.Sign.TheVariants as signs
 use Rattle.cil_syntax.specs.declared.term.Op.TheVariants as ops
 use Rattle.cil_syntax.specs.declared.term.Word.{Word}
-use Rattle.cil_syntax.specs.Shapes.{Cell, Inner, Reading, a_list, cell_of, cells_of, formed, joined, many, read_list, read_row, read_string, read_word, reads, unread}
+use Rattle.cil_syntax.specs.Shapes.{Reading, a_list, cell_of, cells_of, formed, joined, many, read_list, read_row, read_string, read_word, reads, unread}
 use Rattle.cil_syntax.specs.Terms.{Term, Leaf, Name, Form, Terms, nil, cons, spot_of}
 use Rattle.cil_macros.specs.Laws.{AreKept}
 use Rattle.cil_macros.specs.Parameters.{cell_in, cells_in}

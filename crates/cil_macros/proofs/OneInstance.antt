@@ -1,53 +1,16 @@
 -- A statement is placed once through each chain of inheritances and calls.
-use Rattle.std.proofs.Common.{◌≡◌, ℕ, ◌⊎◌, Bool, true, false, if◌then◌else◌, List, [], ◌∷◌, refl, sym, ◌∙◌, ap, subst, inl, inr}
-use Rattle.std.specs.Prelude.{Contains, Option, Some, None, filter, find}
-use Rattle.std.specs.Option.{option_or, option_map}
-use Rattle.std.specs.declared.cmp.Ordering.{Ordering}
-use Rattle.std.specs.declared.cmp.Ordering.TheVariants.{Less, Equal, Greater}
-use Rattle.cil_blocks.specs.OneStanding.{AreApart, IsEntered, empty_path, entered, first_of_three, is_written as standing_written, keyword_of, one_standing, round_same, same_path}
+use Rattle.std.proofs.Common.{◌≡◌, ◌⊎◌, true, List, [], refl, sym, ◌∙◌, ap, inl, inr}
+use Rattle.std.specs.Prelude.{Contains, Some, None}
+use Rattle.cil_blocks.specs.OneStanding.{AreApart, IsEntered, empty_path, entered, is_written as standing_written, keyword_of, one_standing, round_same, same_path}
 use Rattle.cil_sexpr.specs.Places.{none_some, same_ends, some_same}
-use Rattle.cil_sexpr.specs.Searches.{kept_is}
-use Rattle.cil_sexpr.specs.Lists.{contains_here, contains_later}
 use Rattle.cil_syntax.specs.declared.kind.Keyword.{Keyword}
 use Rattle.cil_syntax.specs.declared.kind.Keyword.TheVariants as keywords
-use Rattle.cil_syntax.specs.declared.term.Word.{Word}
-use Rattle.cil_syntax.specs.Scopes.{Namespace, asked, spaces_asked}
 use Rattle.cil_syntax.specs.Written.{Written, is_macro}
-use Rattle.cil_blocks.specs.Contents.{IsIn, Standing, Stands, first_word, is_inheriting, is_optional, path_cmp, path_of}
+use Rattle.cil_blocks.specs.Contents.{IsIn, Standing, Stands, is_inheriting, is_optional, path_of}
 use Rattle.cil_blocks.specs.Laws.{HasOneTarget}
-use Rattle.cil_macros.specs.Calls.{IsPlaced, Unfolded, bounds_of_call, called, called_macro, has_macro, in_optional, is_call, is_macro_named, is_repeated, macro_in, macro_in_scope, macro_of_word, nearer_of, nearest, placed_called, placed_in_optional, stands, unfolded, unfolded_by, unfolded_with}
-use Rattle.cil_macros.specs.Placed.{Body, Bound, Placed, placed_standing, scope_of}
-
--- the nearest is one of them
-nearer_is : (o : Ordering) (s t : Standing) (ss : List Standing) → Contains ss t → Contains (s ∷ ss) (nearer_of o s t)
-nearer_is Less s t ss c = contains_here s ss
-nearer_is Equal s t ss c = contains_here s ss
-nearer_is Greater s t ss c = contains_later t s ss c
-
-nearest_of : (s m : Standing) (ss : List Standing) (o : Option Standing) → ((t : Standing) → o ≡ Some t → Contains ss t)
-    → option_or (option_map (λ t. nearer_of (path_cmp (path_of s) (path_of t)) s t) o) (Some s) ≡ Some m → Contains (s ∷ ss) m
-nearest_of s m ss None rest e = subst (Contains (s ∷ ss)) (some_same s m e) (contains_here s ss)
-nearest_of s m ss (Some t) rest e =
-    subst (Contains (s ∷ ss)) (some_same (nearer_of (path_cmp (path_of s) (path_of t)) s t) m e) (nearer_is (path_cmp (path_of s) (path_of t)) s t ss (rest t refl))
-
-nearest_is : (ss : List Standing) (m : Standing) → nearest ss ≡ Some m → Contains ss m
-unfolding nearest
-nearest_is [] m e = absurd (none_some m e)
-nearest_is (s ∷ ss) m e = nearest_of s m ss (nearest ss) (nearest_is ss) e
-
--- ---- what a call names
-
-call_names : (b : Bool) (o : Option Standing) (m : Standing) → (if b then o else None) ≡ Some m → (b ≡ true) × (o ≡ Some m)
-call_names true o m e = (refl, e)
-call_names false o m e = absurd (none_some m e)
-
-with_bounds : (m : Standing) (o : Option (List Bound)) (u : Unfolded) → unfolded_with m o ≡ Some u → m ≡ u.macro
-with_bounds m None u e = absurd (none_some u e)
-with_bounds m (Some bs) u e = let f = some_same _ u e in ap (λ (x : Unfolded). x.macro) f
-
-not_repeated : (b : Bool) (m : Standing) (o : Option (List Bound)) (u : Unfolded) → (if b then None else unfolded_with m o) ≡ Some u → m ≡ u.macro
-not_repeated true m o u e = absurd (none_some u e)
-not_repeated false m o u e = with_bounds m o u e
+use Rattle.cil_macros.specs.Calls.{IsPlaced, Unfolded, called, in_optional, is_call, placed_called, placed_in_optional, stands, unfolded}
+use Rattle.cil_macros.specs.Placed.{Body, Placed, placed_standing}
+use Rattle.cil_macros.proofs.CalledMacros.{IsMacroCall, is_macro_call}
 
 module _ (ws : List Written) (ss : List Standing) (are_apart : AreApart ws) (one_target : HasOneTarget ws)
     (each : (s : Standing) → Contains ss s → Stands ws s) where
@@ -55,37 +18,6 @@ module _ (ws : List Written) (ss : List Standing) (are_apart : AreApart ws) (one
   written_of p (stands s c) = standing_written ws are_apart one_target s (each s c)
   written_of p (called q u w ip e c i) = c
   written_of p (in_optional q b w ip e o c i) = c
-
-  -- ---- what is unfolded is a call, of a macro that stands
-
-  record IsMacroCall (p : Placed) (u : Unfolded) : Type 0 where
-    pub call : is_call p.standing.statement.statement.keyword ≡ true
-    pub is_standing : Contains ss u.macro
-    pub macro : is_macro u.macro.statement.statement.keyword ≡ true
-
-  found_macro : (name : List ℕ) (o : Option Namespace) (m : Standing) → macro_in ss name o ≡ Some m
-      → Contains ss m × (is_macro m.statement.statement.keyword ≡ true)
-  found_macro name None m e = absurd (none_some m e)
-  found_macro name (Some n) m e =
-      let f = kept_is (is_macro_named name n) ss m (nearest_is (filter (is_macro_named name n) ss) m e) in (f.0, first_of_three _ _ _ f.1)
-
-  word_names : (p : Placed) (o : Option Word) (m : Standing) → macro_of_word ws ss p o ≡ Some m
-      → Contains ss m × (is_macro m.statement.statement.keyword ≡ true)
-  unfolding macro_in_scope
-  word_names p None m e = absurd (none_some m e)
-  word_names p (Some w) m e =
-      found_macro (asked w.bytes).name (find (has_macro ss (asked w.bytes).name) (spaces_asked (asked w.bytes) (scope_of ws p w))) m e
-
-  unfolded_of : (p : Placed) (o : Option Standing) (u : Unfolded) → unfolded_by ws p o ≡ Some u → o ≡ Some u.macro
-  unfolded_of p None u e = absurd (none_some u e)
-  unfolded_of p (Some m) u e = ap Some (not_repeated (is_repeated p m) m (bounds_of_call ws p m) u e)
-
-  is_macro_call : (p : Placed) (u : Unfolded) → unfolded ws ss p ≡ Some u → IsMacroCall p u
-  unfolding unfolded called_macro
-  is_macro_call p u e =
-      let named = call_names (is_call p.standing.statement.statement.keyword) (macro_of_word ws ss p (first_word p.standing.statement.statement.args)) u.macro (unfolded_of p (called_macro ws ss p) u e) in
-      let macro = word_names p (first_word p.standing.statement.statement.args) u.macro named.1 in
-      record { call = named.0; is_standing = macro.0; macro = macro.1 }
 
   -- ---- keywords that are not two
 
@@ -126,7 +58,7 @@ module _ (ws : List Written) (ss : List Standing) (are_apart : AreApart ws) (one
 
   came_by : (p : Placed) → IsPlaced ws ss p → (Contains ss p.standing × (p.body ≡ None)) ⊎ IsCalled p
   came_by p (stands s c) = inl (c, refl)
-  came_by p (called q u w iq e c i) = inr (record { by = q; placed = iq; call = (is_macro_call q u e).call; chain = refl })
+  came_by p (called q u w iq e c i) = inr (record { by = q; placed = iq; call = (is_macro_call ws ss q u e).call; chain = refl })
   came_by p (in_optional q b w iq e o c i) = further (came_by q iq) where
     further : (Contains ss q.standing × (q.body ≡ None)) ⊎ IsCalled q → (Contains ss (placed_in_optional q w).standing × ((placed_in_optional q w).body ≡ None)) ⊎ IsCalled (placed_in_optional q w)
     further (inl x) = absurd (none_some b (sym x.1 ∙ e))
@@ -145,7 +77,7 @@ module _ (ws : List Written) (ss : List Standing) (are_apart : AreApart ws) (one
   in_body_not_standing : (s : Standing) (q : Placed) (b : Body) → Contains ss s → IsPlaced ws ss q → path_of s ≡ path_of q.standing → q.body ≡ Some b → ⊥
   in_body_not_standing s q b c iq e f = not_standing s q c iq e (by_calls q b f (came_by q iq))
 
-  macro_and_optional : (u : Unfolded) (r t : Placed) (w x : Written) → IsMacroCall r u → Contains ws t.standing.statement → IsIn w u.macro.statement
+  macro_and_optional : (u : Unfolded) (r t : Placed) (w x : Written) → IsMacroCall ws ss r u → Contains ws t.standing.statement → IsIn w u.macro.statement
       → IsIn x t.standing.statement → w ≡ x → is_optional t.standing.statement.statement.keyword ≡ true → ⊥
   macro_and_optional u r t w x is_call c i j same o =
       let round = round_same ws are_apart one_target w x u.macro.statement t.standing.statement same (written_macro u is_call.is_standing) c i j in
@@ -156,11 +88,11 @@ module _ (ws : List Written) (ss : List Standing) (are_apart : AreApart ws) (one
   one_instance p q (stands s c) (stands t d) e =
       ap placed_standing (one_standing ws are_apart one_target s t (each s c) (each t d) e)
   one_instance p q (stands s c) (called r u w ir f d i) e =
-      absurd (not_standing s (placed_called r u w) c (called r u w ir f d i) e (record { by = r; placed = ir; call = (is_macro_call r u f).call; chain = refl }))
+      absurd (not_standing s (placed_called r u w) c (called r u w ir f d i) e (record { by = r; placed = ir; call = (is_macro_call ws ss r u f).call; chain = refl }))
   one_instance p q (stands s c) (in_optional r b w ir f o d i) e =
       absurd (in_body_not_standing s (placed_in_optional r w) b c (in_optional r b w ir f o d i) e f)
   one_instance p q (called r u w ir f d i) (stands s c) e =
-      absurd (not_standing s (placed_called r u w) c (called r u w ir f d i) (sym e) (record { by = r; placed = ir; call = (is_macro_call r u f).call; chain = refl }))
+      absurd (not_standing s (placed_called r u w) c (called r u w ir f d i) (sym e) (record { by = r; placed = ir; call = (is_macro_call ws ss r u f).call; chain = refl }))
   one_instance p q (in_optional r b w ir f o d i) (stands s c) e =
       absurd (in_body_not_standing s (placed_in_optional r w) b c (in_optional r b w ir f o d i) (sym e) f)
   one_instance p q (called r u w ir f d i) (called t v x it g c j) e =
@@ -169,9 +101,9 @@ module _ (ws : List Written) (ss : List Standing) (are_apart : AreApart ws) (one
       let opened : u ≡ v = some_same u v (sym f ∙ ap (unfolded ws ss) one ∙ g) in
       λ k. placed_called (one k) (opened k) (same k)
   one_instance p q (called r u w ir f d i) (in_optional t b x it g o c j) e =
-      absurd (macro_and_optional u r t w x (is_macro_call r u f) (written_of t it) i j (same_statement p q (called r u w ir f d i) (in_optional t b x it g o c j) e) o)
+      absurd (macro_and_optional u r t w x (is_macro_call ws ss r u f) (written_of t it) i j (same_statement p q (called r u w ir f d i) (in_optional t b x it g o c j) e) o)
   one_instance p q (in_optional t b x it g o c j) (called r u w ir f d i) e =
-      absurd (macro_and_optional u r t w x (is_macro_call r u f) (written_of t it) i j (sym (same_statement p q (in_optional t b x it g o c j) (called r u w ir f d i) e)) o)
+      absurd (macro_and_optional u r t w x (is_macro_call ws ss r u f) (written_of t it) i j (sym (same_statement p q (in_optional t b x it g o c j) (called r u w ir f d i) e)) o)
   one_instance p q (in_optional r b w ir f o d i) (in_optional t g x it h l c j) e =
       let same = same_statement p q (in_optional r b w ir f o d i) (in_optional t g x it h l c j) e in
       let round = round_same ws are_apart one_target w x r.standing.statement t.standing.statement same (written_of r ir) (written_of t it) i j in

@@ -1,5 +1,5 @@
 -- What is placed is what the queue reaches that begins with all that stands.
-use Rattle.std.proofs.Common.{◌≡◌, ℕ, suc, ◌<◌, Bool, true, false, if◌then◌else◌, List, [], ◌∷◌, ◌++◌, map, refl, sym, ◌∙◌, ap, subst, arith}
+use Rattle.std.proofs.Common.{◌≡◌, suc, ◌<◌, Bool, true, false, if◌then◌else◌, List, [], ◌∷◌, ◌++◌, map, refl, sym, ◌∙◌, ap, subst, arith}
 use Rattle.std.specs.Prelude.{Contains, Option, Some, None}
 use Rattle.std.specs.declared.cmp.Ordering.{Ordering}
 use Rattle.std.specs.declared.cmp.Ordering.TheVariants.{Less, Equal, Greater}
@@ -15,7 +15,7 @@ use Rattle.cil_syntax.specs.declared.kind.Keyword.{Keyword}
 use Rattle.cil_syntax.specs.declared.kind.Keyword.TheVariants as keywords
 use Rattle.cil_syntax.specs.declared.term.Spot.{Spot}
 use Rattle.cil_syntax.specs.Written.{Written, written_cmp}
-use Rattle.cil_blocks.specs.Contents.{IsIn, Standing, is_at, is_optional, path_cmp, spot_cmp, spot_total, standing_cmp}
+use Rattle.cil_blocks.specs.Contents.{Standing, is_at, is_optional, path_cmp, spot_cmp, spot_total, standing_cmp}
 use Rattle.cil_blocks.specs.Opens.{parts}
 use Rattle.cil_blocks.proofs.StandingWalk.{in_parts, parts_of}
 use Rattle.cil_macros.specs.Calls.{IsPlaced, Unfolded, called, in_optional, is_call, placed_called, placed_cmp, placed_in_optional, stands, unfolded}

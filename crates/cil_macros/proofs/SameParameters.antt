@@ -1,8 +1,8 @@
 -- Parameters with their kinds have the names that are compared where a macro is read.
-use Rattle.std.proofs.Common.{◌≡◌, List, [], ◌∷◌, ◌++◌, map, refl, sym, ◌∙◌, ap}
+use Rattle.std.proofs.Common.{◌≡◌, ◌++◌, map, refl, ◌∙◌}
 use Rattle.std.proofs.lemmas.List.{map-append}
 use Rattle.cil_syntax.specs.declared.term.Word.{Word}
-use Rattle.cil_syntax.specs.Terms.{Term, Leaf, Name, Form, Terms, nil, cons}
+use Rattle.cil_syntax.specs.Terms.{Leaf, Name, Form, Terms, nil, cons}
 use Rattle.cil_syntax.specs.Written.{Named, parameter_in as named_in, parameters_in as names_in}
 use Rattle.cil_macros.specs.Laws.{HaveTheirNames}
 use Rattle.cil_macros.specs.Parameters.{Parameter, parameter_in, parameters_in}

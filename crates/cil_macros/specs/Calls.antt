@@ -15,7 +15,7 @@ use Rattle.cil_syntax.specs.Terms.{Term, Terms, nil, cons}
 use Rattle.cil_syntax.specs.Written.{Written, is_macro}
 use Rattle.cil_blocks.specs.Contents.{IsIn, Standing, first_word, is_optional, name_of, path_cmp, path_of, same_spot, standing_in_optional}
 use Rattle.cil_macros.specs.Parameters.{Parameter, argument_of, call_arguments, macro_parameters}
-use Rattle.cil_macros.specs.Placed.{Body, Bound, Placed, filled, meaning, placed_standing, scope_of}
+use Rattle.cil_macros.specs.Placed.{Body, Bound, Placed, filled, meaning, placed_standing}
 
 abbrev pub is_call : Keyword → Bool
 is_call keywords.Call = true
@@ -45,18 +45,17 @@ abbrev pub macro_in : List Standing → List ℕ → Option Namespace → Option
 macro_in ss name None = None
 macro_in ss name (Some n) = nearest (filter (is_macro_named name n) ss)
 
--- the macro that a word names in a scope
+-- the macro that a word names in a scope. A body declares no macro, so the home scope serves no word of a macro
 unfoldable pub macro_in_scope : List Standing → Word → Scope → Option Standing
 macro_in_scope ss w scope = macro_in ss (asked w.bytes).name (find (has_macro ss (asked w.bytes).name) (spaces_asked (asked w.bytes) scope))
 
-abbrev pub macro_of_word : List Written → List Standing → Placed → Option Word → Option Standing
-macro_of_word ws ss p None = None
-macro_of_word ws ss p (Some w) = macro_in_scope ss w (scope_of ws p w)
+abbrev pub macro_of_word : List Standing → Placed → Option Word → Option Standing
+macro_of_word ss p None = None
+macro_of_word ss p (Some w) = macro_in_scope ss w p.standing.scope
 
 -- the macro that a call names
-unfoldable pub called_macro : List Written → List Standing → Placed → Option Standing
-called_macro ws ss p =
-    if is_call p.standing.statement.statement.keyword then macro_of_word ws ss p (first_word p.standing.statement.statement.args) else None
+unfoldable pub called_macro : List Standing → Placed → Option Standing
+called_macro ss p = if is_call p.standing.statement.statement.keyword then macro_of_word ss p (first_word p.standing.statement.statement.args) else None
 
 -- ---- the arguments of a call
 
@@ -101,7 +100,7 @@ unfolded_by ws p (Some m) = if is_repeated p m then None else unfolded_with m (b
 
 -- what a call brings: nothing where it names no macro, repeats one, or its arguments do not fit
 unfoldable pub unfolded : List Written → List Standing → Placed → Option Unfolded
-unfolded ws ss p = unfolded_by ws p (called_macro ws ss p)
+unfolded ws ss p = unfolded_by ws p (called_macro ss p)
 
 -- the scope of the place of the outermost call
 abbrev pub home_of : Scope → Option Body → Scope

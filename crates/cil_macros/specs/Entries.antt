@@ -1,13 +1,14 @@
 -- What is placed, as it is kept: what stands, and then each statement that a call brings, by its number, with the place of the
 -- one that opened it.
-use Rattle.std.specs.Prelude.{◌≡◌, ℕ, ◌+◌, ◌<◌, List, [], ◌∷◌, ◌++◌, length, map, Option, Some, None, slice_get}
-use Rattle.cil_syntax.specs.Scopes.{Namespace, tidy}
+use Rattle.std.specs.Prelude.{◌≡◌, ℕ, ◌+◌, ◌<◌, List, [], ◌∷◌, ◌++◌, length, Contains, Option, Some, None, slice_get}
+use Rattle.cil_syntax.specs.Scopes.{tidy}
 use Rattle.cil_syntax.specs.Written.{Written}
 use Rattle.cil_blocks.specs.Contents.{Standing, standing_top}
+use Rattle.cil_blocks.specs.declared.namespaces.Space.{Space}
 use Rattle.cil_blocks.specs.Entries.{statement_at}
+use Rattle.cil_blocks.specs.Places.{IsPlace, numbered}
 use Rattle.cil_macros.specs.declared.entry.Body.{Body}
 use Rattle.cil_macros.specs.declared.entry.Called.{Called}
-use Rattle.cil_macros.specs.declared.entry.Place.{Place}
 use Rattle.cil_macros.specs.Calls.{Unfolded, placed_called, placed_in_optional, unfolded}
 use Rattle.cil_macros.specs.Opens.{starts}
 use Rattle.cil_macros.specs.Placed.{Placed, placed_standing}
@@ -64,12 +65,8 @@ pub record IsBodyAt (ws : List Written) (ss : List Standing) (cs : List Called) 
   pub statement : Written
   pub placed : slice_get (placed_of ws ss cs) at ≡ Some (placed_called so.call so.opened statement)
 
--- the namespace and the scope of a body are those of its statements where the call places them
-pub record IsBodyPlace (space_at : ℕ → Namespace) (call : Placed) (u : Unfolded) (p : Place) : Type 0 where
-  pub space : space_at p.space ≡ call.standing.space
-  pub scope : map space_at p.scope.items ≡ tidy (u.macro.scope ++ call.standing.scope)
-
-abbrev pub AreBodyPlaces : List Written → List Standing → (ℕ → Namespace) → List Called → List Body → Type 0
-AreBodyPlaces ws ss space_at cs bs =
-    (i : ℕ) (b : Body) (p : Placed) (u : Unfolded) → slice_get bs i ≡ Some b → slice_get (placed_of ws ss cs) b.call ≡ Some p → unfolded ws ss p ≡ Some u
-    → IsBodyPlace space_at p u b.place
+-- the place of a body is that of its statements, where the call places them
+abbrev pub AreBodyPlaces : List Written → List Standing → List Space → List Called → List Body → Type 0
+AreBodyPlaces ws ss spaces cs bs =
+    (b : Body) (p : Placed) (u : Unfolded) → Contains bs b → slice_get (placed_of ws ss cs) b.call ≡ Some p → unfolded ws ss p ≡ Some u
+    → IsPlace spaces p.standing.space (tidy (u.macro.scope ++ p.standing.scope)) (numbered b.place)

@@ -14,10 +14,10 @@ use Rattle.cil_macros.specs.Placed.{Placed}
 -- a call of a macro through which it came itself, and a call whose arguments do not fit. Both are told at the word of the
 -- macro, in the namespace in which the call is placed; one call may have both
 pub data ExpandFault (ws : List Written) (ss : List Standing) : Fault → Type 0 where
-  call_cycle : (p : Placed) (m : Standing) (word : Word) → IsPlaced ws ss p → called_macro ws ss p ≡ Some m
+  call_cycle : (p : Placed) (m : Standing) (word : Word) → IsPlaced ws ss p → called_macro ss p ≡ Some m
       → first_word p.standing.statement.statement.args ≡ Some word → is_repeated p m ≡ true
       → ExpandFault ws ss (fault_at causes.CallCycle word.at p.standing.space word.bytes)
-  call_arguments : (p : Placed) (m : Standing) (word : Word) → IsPlaced ws ss p → called_macro ws ss p ≡ Some m
+  call_arguments : (p : Placed) (m : Standing) (word : Word) → IsPlaced ws ss p → called_macro ss p ≡ Some m
       → first_word p.standing.statement.statement.args ≡ Some word → bounds_of_call ws p m ≡ None
       → ExpandFault ws ss (fault_at causes.CallArguments word.at p.standing.space word.bytes)
 

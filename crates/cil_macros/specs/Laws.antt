@@ -1,17 +1,22 @@
 -- Laws of what calls bring.
-use Rattle.std.specs.Prelude.{◌≡◌, ℕ, List, [], map, Contains, Some}
+use Rattle.std.specs.Prelude.{◌≡◌, ℕ, false, List, [], map, Contains, Some}
+use Rattle.std.specs.List.Sorted.{IsStrictlySortedBy}
+use Rattle.cil_sexpr.specs.Lists.{Lists}
 use Rattle.cil_sexpr.specs.Tree.{Node}
 use Rattle.cil_syntax.specs.declared.program.Statement.{Statement}
+use Rattle.cil_syntax.specs.declared.kind.Sign.TheVariants as signs
 use Rattle.cil_syntax.specs.declared.term.Word.{Word}
 use Rattle.cil_syntax.specs.Program.{IsNested, program_of}
 use Rattle.cil_syntax.specs.Shapes.{Inner, cell_of, unread}
 use Rattle.cil_syntax.specs.Terms.{Term, Terms}
-use Rattle.cil_syntax.specs.Written.{parameters_of}
-use Rattle.cil_blocks.specs.Contents.{Standing, Stands, path_of}
+use Rattle.cil_syntax.specs.Laws.{Outcome}
+use Rattle.cil_syntax.specs.Written.{Written, is_macro, parameters_of, written_cmp}
+use Rattle.cil_blocks.specs.Contents.{Standing, Stands, path_of, standing_cmp}
 use Rattle.cil_blocks.specs.Laws.{HasNoFault}
-use Rattle.cil_macros.specs.Calls.{IsPlaced}
+use Rattle.cil_macros.specs.Calls.{IsPlaced, placed_cmp}
+use Rattle.cil_macros.specs.ExpandFaults.{ExpandStep}
 use Rattle.cil_macros.specs.Parameters.{cell_in, macro_parameters}
-use Rattle.cil_macros.specs.Placed.{Placed}
+use Rattle.cil_macros.specs.Placed.{Placed, scope_of}
 
 -- a law: a statement is placed once through each chain of blockinherits and calls
 abbrev pub HaveOneInstance : Type 0
@@ -29,3 +34,13 @@ AreKept =
 -- a law: the parameters of a macro with their kinds are those whose names are compared where the macro is read
 abbrev pub HaveTheirNames : Type 0
 HaveTheirNames = (args : Terms Word) → map (λ p. p.name) (macro_parameters args) ≡ parameters_of args
+
+-- a law: a word that names a macro is looked up in the scope of its place, in a body too
+abbrev pub HaveMacrosOfTheirPlace : Type 0
+HaveMacrosOfTheirPlace = (ws : List Written) (p : Placed) (w : Word) → w.sign ≡ signs.Macros → scope_of ws p w ≡ p.standing.scope
+
+-- a law: in a policy without macros what stands is all that is placed, or there are too many statements
+abbrev pub HaveFlatInstances : Type 0
+HaveFlatInstances =
+    (ws : List Written) (ss : List Standing) → IsStrictlySortedBy written_cmp ws → Lists standing_cmp (Stands ws) ss
+    → ((w : Written) → Contains ws w → is_macro w.statement.keyword ≡ false) → Outcome (Lists placed_cmp (IsPlaced ws ss)) (ExpandStep ws ss)

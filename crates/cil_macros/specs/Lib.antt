@@ -1,8 +1,14 @@
+pub mod Asked
+pub mod CallFaults
 pub mod Calls
 pub mod Entries
 pub mod ExpandFaults
 pub mod Fits
+pub mod Instances
 pub mod Laws
+pub mod Macros
+pub mod Nearest
 pub mod Opens
 pub mod Parameters
 pub mod Placed
+pub mod Walks

@@ -1,6 +1,6 @@
 -- What a placed statement opens: a call that is unfolded the statements directly in its macro, an optional of a body those
 -- directly in it.
-use Rattle.std.specs.Prelude.{Bool, if◌then◌else◌, List, [], map, Option, Some, None}
+use Rattle.std.specs.Prelude.{if◌then◌else◌, List, [], map, Option, Some, None}
 use Rattle.cil_syntax.specs.Written.{Written}
 use Rattle.cil_blocks.specs.Contents.{Standing, is_optional}
 use Rattle.cil_blocks.specs.Opens.{parts}

@@ -1,6 +1,6 @@
 -- Statements as they are placed by inheritances and calls, and what their words mean there. CIL Reference Guide, "Call /
 -- Macro Statements"; how words of a body are looked up is this project's profile.
-use Rattle.std.specs.Prelude.{ℕ, Bool, true, false, ◌&&◌, if◌then◌else◌, List, [], Option, Some, None, find}
+use Rattle.std.specs.Prelude.{ℕ, Bool, false, ◌&&◌, if◌then◌else◌, List, [], Option, Some, None, find}
 use Rattle.std.specs.List.{list_any}
 use Rattle.cil_syntax.specs.declared.kind.Sign.{Sign}
 use Rattle.cil_syntax.specs.declared.term.Spot.{Spot}

@@ -24,6 +24,14 @@ pub fn statement_at(entries: &[Entry], called: &[Called], at: usize) -> usize
     called[at - entries.len()].statement
 }
 
+/// The number of the statement that stands at a place among all that stands.
+pub fn standing_statement(entries: &[Entry], at: usize) -> usize
+    requires { at < length entries.now }
+    ensures { (ws : List Written) (s : Standing) → slice_get (standings_of ws entries.now) at ≡ Some s → s.statement ≡ statement_at ws result }
+{
+    entries[at].statement
+}
+
 /// Whether a macro is among those through whose calls something is placed. It costs a step for each call on the way.
 pub fn is_repeated(
     statements: &[Statement],
@@ -49,7 +57,7 @@ pub fn is_repeated(
 }
 
 /// Where the statement is written that stands at a place among all that stands.
-fn spot_of(statements: &[Statement], entries: &[Entry], at: usize) -> Spot
+pub fn spot_of(statements: &[Statement], entries: &[Entry], at: usize) -> Spot
     requires nested { IsNested statements.now }
     requires within { at < length entries.now }
     ensures { (s : Standing) → slice_get (standings_of (program_of statements.now) entries.now) at ≡ Some s → result ≡ s.statement.statement.at }
@@ -77,7 +85,7 @@ pub struct Brought {
 }
 
 impl Brought {
-    ghost use Rattle.std.specs.Prelude.{◌≡◌, ◌+◌, ◌<◌, ◌≤◌, List, MatchOption, length};
+    ghost use Rattle.std.specs.Prelude.{◌≡◌, ◌+◌, ◌<◌, ◌≤◌, List, Contains, IfSome, MatchOption, length};
     ghost use Rattle.cil_syntax.specs.Written.{Written};
     ghost use Rattle.cil_blocks.specs.Contents.{Standing};
     ghost use Rattle.cil_macros.specs.Entries.{AreBodies, IsBodyAt};
@@ -85,7 +93,8 @@ impl Brought {
     /// The body of what is placed somewhere, if a call brought it: what stands comes first, so many.
     pub fn body_at(&self, standing: usize, at: usize) -> Option<&Body>
         requires { at < standing + length self.now.called.items }
-        ensures { (ws : List Written) (ss : List Standing) → length ss ≡ standing → AreBodies ws ss self.now.called.items self.now.bodies.items
+        ensures kept { IfSome result (λ body. Contains self.now.bodies.items body.now) }
+        ensures body { (ws : List Written) (ss : List Standing) → length ss ≡ standing → AreBodies ws ss self.now.called.items self.now.bodies.items
             → MatchOption result (at < standing) (λ body. IsBodyAt ws ss self.now.called.items at body.now) }
     {
         if at < standing {

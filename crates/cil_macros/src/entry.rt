@@ -1,5 +1,7 @@
 //! What calls bring, as it is kept.
 
+use cil_blocks::Place;
+
 /// A statement that a call brings. Its namespace, its scope and the arguments follow from the call.
 #[derive(Clone, Copy, Debug, PartialEq, Eq)]
 pub struct Called {
@@ -9,15 +11,6 @@ pub struct Called {
     pub opener: usize,
     /// The number of the body that it belongs to.
     pub body: usize,
-}
-
-/// Where statements are: their namespace, and the namespaces in which their words are looked up, by numbers.
-#[derive(Debug, Drop)]
-pub struct Place {
-    /// The number of the namespace.
-    pub space: usize,
-    /// The numbers of the namespaces that their words ask, in this order.
-    pub scope: Vec<usize>,
 }
 
 /// The body of a macro at a call.

@@ -1,6 +1,6 @@
 //! Laws that fix the definitions. Nothing here is run.
 
-ghost use Rattle.cil_macros.specs.Laws.{AreKept, HaveOneInstance, HaveTheirNames};
+ghost use Rattle.cil_macros.specs.Laws.{AreKept, HaveFlatInstances, HaveMacrosOfTheirPlace, HaveOneInstance, HaveTheirNames};
 
 /// Where nothing is wrong with the blocks of a program, a statement is placed once through each chain of blockinherits and
 /// calls: its namespace, its scopes and its arguments follow from where it is written and from that chain.
@@ -16,4 +16,14 @@ pub fn kept()
 /// The parameters of a macro with their kinds are those whose names are compared where the macro is read.
 pub fn same_parameters()
     ensures { HaveTheirNames }
+{}
+
+/// A word that names a macro is looked up in the scope of its place, in a body too: nothing that a body has declares a macro.
+pub fn macros_of_their_place()
+    ensures { HaveMacrosOfTheirPlace }
+{}
+
+/// In a policy without macros what stands is all that is placed, or there are more than 1,000,000 statements.
+pub fn flat_instances()
+    ensures { HaveFlatInstances }
 {}

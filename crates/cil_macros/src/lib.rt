@@ -6,8 +6,20 @@
 #![tactic(auto)]
 
 mod arguments;
+mod asked;
+pub mod calls;
 pub mod chain;
 pub mod entry;
+pub mod expansion;
+pub mod faults;
+pub mod instances;
 pub mod laws;
+mod macros;
+mod nearest;
+pub mod source;
+pub mod walk;
 
 pub use arguments::arguments_fit;
+pub use expansion::expand;
+pub use instances::Instances;
+pub use macros::{Macros, macro_called, macros_of};

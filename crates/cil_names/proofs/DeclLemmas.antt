@@ -1,10 +1,9 @@
 -- A namespace has a name exactly where an entry of it is declared.
-use Rattle.std.proofs.Common.{◌≡◌, ℕ, ◌&&◌, ◌||◌, Bool, true, false, List, [], ◌∷◌, refl, sym, ◌∙◌, ap, inl, inr}
-use Rattle.std.specs.Prelude.{Contains}
+use Rattle.std.proofs.Common.{◌≡◌, ℕ, ◌&&◌, ◌||◌, Bool, true, false, List, refl, sym, ◌∙◌, ap, inl, inr}
 use Rattle.std.specs.List.{list_any}
 use Rattle.std.specs.Cmp.Lexicographic.{bytes_decides}
-use Rattle.std.proofs.lemmas.Bool.{or_cases, and_parts, and_from, true≢false}
-use Rattle.cil_sexpr.specs.Lists.{contains_here, contains_later, contains_cases, contains_none}
+use Rattle.std.proofs.lemmas.Bool.{or_cases, or_right, and_parts, and_from, true≢false}
+use Rattle.cil_sexpr.specs.Searches.{any_from, any_true}
 use Rattle.cil_syntax.specs.declared.kind.Sign.{Sign}
 use Rattle.cil_syntax.specs.Spelling.{same_bytes}
 use Rattle.cil_syntax.specs.Scopes.{Namespace, same_space}
@@ -18,27 +17,6 @@ use Rattle.cil_names.specs.Resolves.{fits, has}
 use Rattle.cil_syntax.specs.Kinds.{is_wanted}
 use Rattle.cil_names.proofs.CandidateLemmas.{parts_of, spaces_decide, they_are}
 use Rattle.cil_names.proofs.SearchLemmas.{member_of_number, number_of_member}
-
-or_second : (a b : Bool) → b ≡ true → (a || b) ≡ true
-or_second true b h = refl
-or_second false b h = h
-
-module _ {X : Type 0} (p : X → Bool) where
-  pub any_from : (xs : List X) (x : X) → Contains xs x → p x ≡ true → list_any p xs ≡ true
-  any_from [] x c e = absurd (contains_none x c)
-  any_from (y ∷ ys) x c e =
-      elim (contains_cases x y ys c) [
-        | inl s ↦ ap (λ b. b || list_any p ys) (ap p s ∙ e)
-        | inr d ↦ or_second (p y) (list_any p ys) (any_from ys x d e)
-      ]
-
-  pub any_true : (xs : List X) → list_any p xs ≡ true → (x : X) × Contains xs x × (p x ≡ true)
-  any_true [] e = absurd (let f : false ≡ true = e in cc)
-  any_true (x ∷ xs) e =
-      elim (or_cases (p x) (list_any p xs) e) [
-        | inl h ↦ (x, contains_here x xs, h)
-        | inr h ↦ let r = any_true xs h in (r.0, contains_later r.0 x xs r.1, r.2)
-      ]
 
 module _ (xs : List Item) (s : OptSet) (name : List ℕ) (sign : Sign) (n : Namespace) where
   pub has_true : has xs s name sign n ≡ true → (d : Declaration) × IsDeclaration xs s d × (fits name sign n d ≡ true)
@@ -57,7 +35,7 @@ module _ (xs : List Item) (s : OptSet) (name : List ℕ) (sign : Sign) (n : Name
   unfolding has
   has_from d object h = ap (λ b. b || list_any (λ x. is_enabled s x && list_any (fits name sign n) (declared_by x)) xs) h
   has_from d (by x e c is_on by_it) h =
-      or_second (fits name sign n object_role) _
+      or_right (fits name sign n object_role) _
       (any_from (λ y. is_enabled s y && list_any (fits name sign n) (declared_by y)) xs x c
       (and_from (is_enabled s x) (list_any (fits name sign n) (declared_by x)) is_on (any_from (fits name sign n) (declared_by x) d by_it h)))
 

@@ -7,6 +7,7 @@ use Rattle.std.specs.Ordering.{on}
 use Rattle.std.proofs.Common.{◌≡◌, ℕ, true, List, map, length, refl, sym, ◌∙◌, ap, subst, inl, inr, arith}
 use Rattle.std.proofs.lemmas.List.Sorted.{Contains-permutation, IsPermutation-sym}
 use Rattle.cil_sexpr.specs.Lists.{contains_here, contains_later, contains_cases, contains_none}
+use Rattle.cil_sexpr.specs.MadeLists.{contains_flat, contains_map, from_flat, from_map}
 use Rattle.cil_syntax.specs.declared.kind.Kind.{Kind}
 use Rattle.cil_syntax.specs.declared.kind.Kind.TheVariants as kinds
 use Rattle.cil_syntax.specs.declared.term.Spot.{Spot}
@@ -26,7 +27,6 @@ use Rattle.cil_names.specs.Item.{OptSet, all_replaced, is_enabled}
 use Rattle.cil_syntax.specs.Scopes.{ScopedWord}
 use Rattle.cil_names.specs.Placed.{ArePlaced, IsPlaced}
 use Rattle.cil_names.specs.Spaces.{AreSpaces, space_at}
-use Rattle.cil_names.proofs.ListLemmas.{contains_flat, contains_map, from_flat, from_map}
 use Rattle.cil_names.proofs.SpaceLemmas.{global_at}
 
 -- ---- the rows of one instance are its declarations

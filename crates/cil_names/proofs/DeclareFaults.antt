@@ -5,6 +5,7 @@ use Rattle.std.specs.Option.{unwrap_or}
 use Rattle.std.proofs.Common.{◌≡◌, ℕ, zero, suc, Bool, true, false, List, [], ◌∷◌, refl, sym, ◌∙◌, ap, subst, inl, inr}
 use Rattle.std.proofs.lemmas.Bool.{true≢false}
 use Rattle.cil_sexpr.specs.Lists.{contains_here, contains_later, contains_cases, contains_none}
+use Rattle.cil_sexpr.specs.MadeLists.{contains_flat, contains_map, from_flat, from_map}
 use Rattle.cil_syntax.specs.declared.code.FaultCode.TheVariants as causes
 use Rattle.cil_syntax.specs.declared.failure.Failure.{Failure}
 use Rattle.cil_syntax.specs.declared.failure.Failure.TheVariants.{Faults, NoMemory}
@@ -34,7 +35,6 @@ use Rattle.cil_syntax.specs.Scopes.{ScopedWord}
 use Rattle.cil_names.specs.Spaces.{space_at}
 use Rattle.cil_names.proofs.DeclareDecided.{same_declaration}
 use Rattle.cil_names.proofs.DeclareDone.{AreRunsOf, declared_row, in_rows, of_row, placed_in, row_declared, row_is, row_of, run_of, said, space_within}
-use Rattle.cil_names.proofs.ListLemmas.{contains_flat, contains_map, from_flat, from_map}
 use Rattle.cil_names.proofs.OrderLemmas.{key_total, one_key}
 use Rattle.cil_names.proofs.SearchLemmas.{number_of_member, one_number}
 use Rattle.cil_names.proofs.SpaceLemmas.{same_number}

@@ -9,6 +9,7 @@ use Rattle.std.specs.Ordering.{on}
 use Rattle.std.specs.Global.{Vec}
 use Rattle.std.proofs.Common.{◌≡◌, ℕ, Bool, true, false, ◌||◌, List, [], ◌∷◌, ◌++◌, map, length, refl, sym, ◌∙◌, ap, subst}
 use Rattle.std.proofs.lemmas.Option.{slice_get-map}
+use Rattle.cil_sexpr.specs.Searches.{any_from, any_true}
 use Rattle.cil_names.specs.declared.entry.Entry.{Entry}
 use Rattle.cil_names.specs.declared.instance.Instance.{Instance}
 use Rattle.cil_names.specs.declared.row.Row.{Row}
@@ -22,7 +23,6 @@ use Rattle.cil_names.specs.Item.{OptSet, everybody}
 use Rattle.cil_names.specs.Spaces.{space_at}
 use Rattle.cil_names.proofs.DeclareFaults.{all_enabled}
 use Rattle.cil_names.proofs.DeclareDone.{AreRunsOf, declared_row, in_rows, placed_in, row_declared, run_of, space_within}
-use Rattle.cil_names.proofs.DeclLemmas.{any_from, any_true}
 use Rattle.cil_names.proofs.SearchLemmas.{member_of_number, number_of_member}
 
 -- ---- where an entry is declared

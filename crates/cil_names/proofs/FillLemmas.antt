@@ -5,6 +5,7 @@ use Rattle.std.proofs.Common.{◌≡◌, ℕ, ◌+◌, ◌<◌, true, false, Lis
 use Rattle.std.proofs.lemmas.Bool.{and_parts, and_from, cases_Bool, not-true}
 use Rattle.std.proofs.lemmas.List.Elements.{Contains-get_or}
 use Rattle.cil_sexpr.specs.Lists.{contains_cases, contains_here, contains_none}
+use Rattle.cil_sexpr.specs.MadeLists.{contains_flat, contains_map, from_flat, from_map}
 use Rattle.cil_syntax.specs.declared.code.FaultCode.TheVariants as causes
 use Rattle.cil_syntax.specs.declared.fault.Fault.{Fault}
 use Rattle.cil_syntax.specs.Fails.{AreFaults}
@@ -21,7 +22,6 @@ use Rattle.cil_names.specs.Placed.{IsPlaced}
 use Rattle.cil_names.specs.Resolves.{Wanted, is_judged, resolves, told_word, words_of}
 use Rattle.cil_names.specs.Spaces.{space_at}
 use Rattle.cil_names.specs.Unresolved.{fault_of_word, faults_in, faults_of_all, faults_of_wanted, is_outside}
-use Rattle.cil_names.proofs.ListLemmas.{contains_flat, contains_map, from_flat, from_map}
 use Rattle.cil_names.proofs.ScopeLemmas.{passed_on}
 
 -- one set of faults has the list of an equal one

@@ -1,5 +1,6 @@
 pub mod AnswerLemmas
 pub mod CandidateLemmas
+pub mod CountLemmas
 pub mod DeclLemmas
 pub mod DeclareContents
 pub mod DeclareDecided
@@ -13,7 +14,6 @@ pub mod DeclareRunLemmas
 pub mod EntryLemmas
 pub mod FillLemmas
 pub mod KindLemmas
-pub mod ListLemmas
 pub mod ListedLemmas
 pub mod MeaningLemmas
 pub mod NumberLemmas

@@ -6,6 +6,7 @@ use Rattle.std.specs.List.{list_any}
 use Rattle.std.specs.Option.{is_some, option_map_or}
 use Rattle.std.specs.Cmp.Lexicographic.{bytes_decides}
 use Rattle.std.proofs.lemmas.Bool.{and_parts, cases_Bool}
+use Rattle.cil_sexpr.specs.Searches.{any_true}
 use Rattle.cil_syntax.specs.declared.fault.Bytes.{Bytes}
 use Rattle.cil_syntax.specs.declared.kind.Sign.TheVariants as signs
 use Rattle.cil_syntax.specs.Spelling.{same_bytes}
@@ -23,7 +24,6 @@ use Rattle.cil_syntax.specs.Kinds.{is_wanted}
 use Rattle.cil_names.specs.Spaces.{AreSpaces, space_at}
 use Rattle.cil_names.specs.Unresolved.{ArePermissions, listed_at}
 use Rattle.cil_names.proofs.CandidateLemmas.{parts_of, spaces_decide}
-use Rattle.cil_names.proofs.DeclLemmas.{any_true}
 use Rattle.cil_names.proofs.EntryLemmas.{parts_fit, they_fit}
 use Rattle.cil_names.proofs.SearchLemmas.{member_of_number}
 use Rattle.cil_names.proofs.SpaceLemmas.{same_number}

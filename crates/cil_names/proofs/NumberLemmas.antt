@@ -10,6 +10,8 @@ use Rattle.std.proofs.lemmas.List.{drop_all}
 use Rattle.std.proofs.lemmas.List.Elements.{Contains-get_or}
 use Rattle.std.proofs.lemmas.Option.{get_or_from_slice_get, slice_get-map}
 use Rattle.cil_sexpr.specs.Lists.{Lists, text_cmp, contains_cases, contains_here, contains_none}
+use Rattle.cil_sexpr.specs.MadeLists.{contains_flat, from_flat}
+use Rattle.cil_sexpr.specs.Searches.{any_from, any_true}
 use Rattle.cil_syntax.specs.declared.kind.Kind.{Kind}
 use Rattle.cil_syntax.specs.declared.kind.Kind.TheVariants as kinds
 use Rattle.cil_syntax.specs.Sorted.{lists_of}
@@ -24,9 +26,7 @@ use Rattle.cil_names.specs.Numbers.{AreNumbers, IsNameAmong, has_section, is_of,
 use Rattle.cil_syntax.specs.Kinds.{kind_number}
 use Rattle.cil_names.proofs.AnswerLemmas.{none_where}
 use Rattle.cil_names.proofs.CandidateLemmas.{place_is, place_none, place_some}
-use Rattle.cil_names.proofs.DeclLemmas.{any_from, any_true}
 use Rattle.cil_names.proofs.KindLemmas.{one_kind, same_kind}
-use Rattle.cil_names.proofs.ListLemmas.{contains_flat, from_flat}
 use Rattle.cil_names.proofs.ScopeLemmas.{cut, passed_on}
 use Rattle.cil_names.proofs.SearchLemmas.{member_of_number, number_of_member}
 

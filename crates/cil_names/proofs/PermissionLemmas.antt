@@ -12,6 +12,8 @@ use Rattle.std.proofs.lemmas.List.Elements.{Contains-append_cases}
 use Rattle.std.proofs.lemmas.List.Folds.{list_any-append}
 use Rattle.std.proofs.lemmas.Option.{slice_get-get_or, slice_get_within, get_or_from_slice_get}
 use Rattle.cil_sexpr.specs.Lists.{Lists, text_cmp, contains_cases, contains_here, contains_none}
+use Rattle.cil_sexpr.specs.MadeLists.{from_map}
+use Rattle.cil_sexpr.specs.Searches.{any_from, any_true}
 use Rattle.cil_syntax.specs.declared.fault.Bytes.{Bytes}
 use Rattle.cil_syntax.specs.declared.kind.Keyword.{Keyword}
 use Rattle.cil_syntax.specs.declared.kind.Keyword.TheVariants as keywords
@@ -42,9 +44,7 @@ use Rattle.cil_syntax.specs.Kinds.{is_wanted}
 use Rattle.cil_names.specs.Spaces.{AreSpaces, space_at}
 use Rattle.cil_names.specs.Unresolved.{ArePermissions, listed_at}
 use Rattle.cil_names.proofs.CandidateLemmas.{spaces_decide}
-use Rattle.cil_names.proofs.DeclLemmas.{any_from, any_true}
 use Rattle.cil_names.proofs.EntryLemmas.{one_some, parts_fit, they_fit}
-use Rattle.cil_names.proofs.ListLemmas.{from_map}
 use Rattle.cil_names.proofs.NumberLemmas.{nothing_rises}
 use Rattle.cil_names.proofs.SearchLemmas.{member_of_number, number_of_member}
 use Rattle.cil_names.proofs.SpaceLemmas.{same_number}

@@ -14,6 +14,7 @@ ghost use Rattle.cil_names.specs.Meanings.{meanings};
 ghost use Rattle.cil_names.specs.Rows.{IsTableOf};
 ghost use Rattle.cil_names.specs.Unresolved.{ArePermissions, faults_in};
 
+use crate::count::count_words;
 use crate::instance::Instance;
 use crate::judge::Judge;
 use crate::meaning::Meaning;
@@ -45,7 +46,7 @@ pub fn words_of(
         permissions,
     };
     let mut starts = Vec::with_capacity(alloc, instances.len() + 1)?;
-    let mut words = Vec::new(alloc);
+    let mut words = Vec::with_capacity(alloc, count_words(instances))?;
     let mut faults = Vec::new(alloc);
     for instance in instances {
         starts.push(words.len())?;

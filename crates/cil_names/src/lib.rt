@@ -10,6 +10,7 @@
 
 mod clash;
 mod content;
+mod count;
 mod entry;
 mod fill;
 mod gather;

@@ -1,5 +1,5 @@
 -- The names of parameters among the terms of Rust, and those that clash.
-use Rattle.std.proofs.Common.{◌≡◌, ℕ, suc, zero, ◌+◌, ◌<◌, ◌≤◌, Bool, true, false, if◌then◌else◌, ◌||◌, List, [], ◌∷◌, ◌++◌, length, get_or, map, drop, take, ◌-◌, refl, sym, ◌∙◌, ap, subst, arith, rules, append_assoc, drop-cons}
+use Rattle.std.proofs.Common.{◌≡◌, ℕ, suc, ◌+◌, ◌<◌, ◌≤◌, Bool, true, false, if◌then◌else◌, ◌||◌, List, [], ◌∷◌, ◌++◌, length, get_or, map, drop, take, refl, sym, ◌∙◌, ap, subst, arith, rules, append_assoc, drop-cons}
 use Rattle.std.specs.Prelude.{Option, Some, None, MatchOption, Result, Ok, Err, IfOk}
 use Rattle.std.specs.List.{list_any}
 use Rattle.std.specs.declared.alloc.Global.{Global}
@@ -18,7 +18,7 @@ use Rattle.cil_syntax.specs.Said.{all_said, said_of, word_in}
 use Rattle.cil_syntax.specs.Spelling.{is_one_of, same_bytes}
 use Rattle.cil_syntax.specs.Terms.{Term, Leaf, Name, Form, Terms, nil, cons, spot_at}
 use Rattle.cil_syntax.specs.Told.{told}
-use Rattle.cil_syntax.specs.Written.{Named, bytes_of, clash_of, declared_clash, fault_in, named_in_front, parameter_in, parameters_in, parameters_of, repeated_from}
+use Rattle.cil_syntax.specs.Written.{Named, clash_of, declared_clash, fault_in, named_in_front, parameter_in, parameters_in, parameters_of, repeated_from}
 
 -- a word among names
 pub named_among : (names : List NameAt) (word : List ℕ) → list_any (λ (n : NameAt). same_bytes word n.bytes.now) names ≡ is_one_of (bytes_of_names names) word

@@ -1,22 +1,21 @@
 -- The list of a tree has what is found in it and nothing else, and rises by place.
-use Rattle.std.proofs.Common.{◌≡◌, ℕ, zero, suc, ◌+◌, ◌<◌, ◌≤◌, ◌⊎◌, List, [], ◌∷◌, ◌++◌, length, refl, sym, ◌∙◌, ap, subst, inl, inr, arith}
-use Rattle.std.specs.Prelude.{Contains, Option, Some, None}
+use Rattle.std.proofs.Common.{◌≡◌, ℕ, zero, suc, ◌<◌, List, [], ◌∷◌, ◌++◌, length, refl, sym, subst, inl, inr, arith}
+use Rattle.std.specs.Prelude.{Contains}
 use Rattle.std.specs.declared.cmp.Ordering.{Ordering}
 use Rattle.std.specs.declared.cmp.Ordering.TheVariants.{Less}
 use Rattle.std.specs.Ordering.{nat_cmp, on}
 use Rattle.std.specs.List.Sorted.{IsStrictlySortedBy}
 use Rattle.std.proofs.lemmas.List.Elements.{Contains-append_cases}
-use Rattle.cil_sexpr.specs.Lists.{contains_here, contains_cases, contains_none}
+use Rattle.cil_sexpr.specs.Lists.{contains_cases, contains_none}
 use Rattle.cil_sexpr.specs.Text.{IsText}
 use Rattle.cil_sexpr.specs.Tree.{Node, Word as TextWord, Quoted, Branch, Nodes, none, next, span_of, inner_of, IsBetween, AreInOrder}
 use Rattle.cil_modset.specs.Modules.{module_of}
 use Rattle.cil_syntax.specs.declared.kind.Dialect.{Dialect}
-use Rattle.cil_syntax.specs.Shapes.{Inner}
 use Rattle.cil_syntax.specs.Table.{Body, plain, behind, entry_of}
 use Rattle.cil_syntax.specs.Standpoints.{Standpoint, Opening, closed, opened, opening_by, opening_of, found_from, found_behind}
-use Rattle.cil_syntax.specs.Written.{Statement, Context, at_top, Verdict, Refused, Shaped, verdict_in, IsItem, first, later, skipped, within, inside_of, body_of, FoundIn, top, inside}
-use Rattle.cil_syntax.proofs.PlacesApart.{start_of, AllFrom, apart_from, apart_behind, strictly, placed, not_empty, behind_verdict}
-use Rattle.cil_syntax.proofs.StatementOrder.{all_from, rising_join, less_from}
+use Rattle.cil_syntax.specs.Written.{Context, at_top, Verdict, Refused, Shaped, verdict_in, IsItem, first, later, skipped, within, inside_of, FoundIn, top, inside}
+use Rattle.cil_syntax.proofs.PlacesApart.{start_of, apart_from, apart_behind, strictly, behind_verdict}
+use Rattle.cil_syntax.proofs.StatementOrder.{rising_join, less_from}
 
 abbrev pub place_order : Standpoint → Standpoint → Ordering
 place_order = on start_of nat_cmp

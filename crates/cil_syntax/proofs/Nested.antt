@@ -1,6 +1,6 @@
 -- What was read without fault is in order as a program: each statement stands where it may, and begins as it should.
-use Rattle.std.proofs.Common.{◌≡◌, ℕ, zero, suc, ◌⊎◌, Bool, true, false, ◌&&◌, not, if◌then◌else◌, List, [], ◌∷◌, ◌++◌, map, refl, sym, ◌∙◌, ap, subst, inl, inr}
-use Rattle.std.specs.Prelude.{Contains, Option, Some, None, find, slice_get}
+use Rattle.std.proofs.Common.{◌≡◌, ℕ, zero, suc, Bool, true, false, ◌&&◌, not, if◌then◌else◌, List, [], ◌∷◌, map, refl, sym, ◌∙◌, ap, subst, inl, inr}
+use Rattle.std.specs.Prelude.{Contains, Some, None, find, slice_get}
 use Rattle.std.specs.List.Sorted.{IsStrictlySortedBy}
 use Rattle.std.proofs.lemmas.List.Elements.{Contains-append_cases}
 use Rattle.cil_sexpr.specs.Lists.{contains_here, contains_later, contains_cases, contains_none}
@@ -12,11 +12,11 @@ use Rattle.cil_syntax.specs.declared.kind.Keyword.{Keyword}
 use Rattle.cil_syntax.specs.declared.kind.Keyword.TheVariants as keywords
 use Rattle.cil_syntax.specs.declared.program.Statement as program
 use Rattle.cil_syntax.specs.declared.term.Word.{Word}
-use Rattle.cil_syntax.specs.Grammar.{Fits, FitsRow, name, word, one, as_many, not_as_many}
+use Rattle.cil_syntax.specs.Grammar.{FitsRow, name, word, one, as_many, not_as_many}
 use Rattle.cil_syntax.specs.Program.{IsNested, begins_with_name, begins_with_word, is_begun, program_of}
 use Rattle.cil_syntax.specs.Shapes.{Row, item, declared_name, looked_up}
 use Rattle.cil_syntax.specs.Spelling.{same_bytes}
-use Rattle.cil_syntax.specs.Table.{Entry, entry_in, entry_of, nested_entries, nested_only, set_aside, set_aside_words, table, table_of}
+use Rattle.cil_syntax.specs.Table.{Entry, entry_of, nested_entries, nested_only, set_aside, set_aside_words, table, table_of}
 use Rattle.cil_syntax.specs.Terms.{Terms}
 use Rattle.cil_syntax.specs.Told.{AreUnder}
 use Rattle.cil_syntax.specs.Written.{Written, allows, is_abstraction, is_outside, may_stand, names_its_block, IsWrittenIn, written, ShapeFaultIn, inner, fault_of, written_cmp}

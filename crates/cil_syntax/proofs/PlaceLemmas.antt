@@ -1,9 +1,9 @@
 -- The names round a node: joined by dots, and the innermost.
-use Rattle.std.proofs.Common.{◌≡◌, ℕ, suc, zero, ◌+◌, ◌-◌, ◌<◌, ◌≤◌, Bool, true, false, if◌then◌else◌, List, [], ◌∷◌, ◌++◌, length, get_or, map, take, refl, sym, ◌∙◌, ap, subst, arith, append_assoc}
-use Rattle.std.specs.Prelude.{Option, Some, None, reverse, slice_get}
+use Rattle.std.proofs.Common.{◌≡◌, ℕ, suc, zero, ◌+◌, ◌-◌, ◌<◌, ◌≤◌, Bool, true, false, if◌then◌else◌, List, [], ◌∷◌, ◌++◌, length, get_or, map, take, refl, sym, ◌∙◌, ap, arith, append_assoc}
+use Rattle.std.specs.Prelude.{Some, None, reverse, slice_get}
 use Rattle.std.specs.List.{join_with_byte}
 use Rattle.std.specs.Option.{option_map}
-use Rattle.std.proofs.lemmas.List.{append-nil, take_more, take_all, map-append, length-map, length-append, reverse-append}
+use Rattle.std.proofs.lemmas.List.{take_more, take_all, map-append, length-map, length-append, reverse-append}
 use denote.Ref.{Bor}
 use Rattle.cil_syntax.specs.Around.{names_of}
 use Rattle.cil_syntax.specs.Written.{innermost, is_nonempty}

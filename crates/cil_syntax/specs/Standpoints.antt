@@ -5,9 +5,8 @@ use Rattle.std.specs.List.{flat_map}
 use Rattle.cil_sexpr.specs.Tree.{Node, Word as TextWord, Quoted, Branch, Nodes, none, next}
 use Rattle.cil_syntax.specs.declared.fault.Fault.{Fault}
 use Rattle.cil_syntax.specs.declared.kind.Dialect.{Dialect}
-use Rattle.cil_syntax.specs.Shapes.{Inner}
 use Rattle.cil_syntax.specs.Table.{Body, plain, behind, entry_of}
-use Rattle.cil_syntax.specs.Written.{Statement, Context, Written, Verdict, Refused, Shaped, fault_of, verdict_in, inside_of}
+use Rattle.cil_syntax.specs.Written.{Context, Written, Verdict, Refused, Shaped, fault_of, verdict_in, inside_of}
 
 -- a node, and where it stands
 pub record Standpoint : Type 0 where

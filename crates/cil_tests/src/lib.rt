@@ -31,6 +31,8 @@ mod hosts;
 #[cfg(test)]
 mod look_ups;
 #[cfg(test)]
+mod macros;
+#[cfg(test)]
 mod merged_hosts;
 #[cfg(test)]
 mod module_sets;

@@ -3,14 +3,16 @@ use Rattle.cil_syntax.specs.declared.program.Statement.{Statement}
 use Rattle.cil_syntax.specs.Fails.{AreFaults}
 use Rattle.cil_syntax.specs.Program.{program_of}
 use Rattle.cil_syntax.specs.Refusal.{Fails}
-use Rattle.cil_blocks.specs.declared.spaces.Spaces.{Spaces}
+use Rattle.cil_blocks.specs.declared.entry.Entry.{Entry}
+use Rattle.cil_blocks.specs.Entries.{AreOpened}
 use Rattle.cil_blocks.specs.InheritFaults.{InheritStep}
+use Rattle.cil_blocks.specs.Places.{ArePlaces, AreStandings, Standings, statements_in}
 use Rattle.cil_blocks.proofs.InheritLemmas.{are_contents, fails_so, is_none, is_some, no_more, over_so, refused}
 use Rattle.cil_blocks.proofs.inheritance.inherit.Goals as goal
 
 pub returns-in_err-check_blocks : goal.returns-in_err-check_blocks
 returns-in_err-check_blocks c =
-    refused (λ (s : Spaces). s.0 ≡ c.args.program.now) (InheritStep (program_of c.args.program.now)) c.from_residual-in_err-check_blocks.result _
+    refused (λ (s : Standings). (statements_in s ≡ c.args.program.now) × AreStandings s) (InheritStep (program_of c.args.program.now)) c.from_residual-in_err-check_blocks.result _
     c.from_residual-in_err-check_blocks.ensures.1
     (subst (λ (ss : List Statement). Fails (InheritStep (program_of ss)) c.in_err-check_blocks.field-0.0) c.statements-statements.ensures.same
     (fails_so (program_of c.statements-statements.result.now) c.in_err-check_blocks.field-0.0 c.in_err-check_blocks.ensures))
@@ -23,7 +25,16 @@ returns-in_default c =
 
 pub returns : goal.returns
 returns c = (
-  c.statements-statements.ensures.same,
+  (
+    c.statements-statements.ensures.same,
+    record {
+      contents = are_contents c.statements-statements.result.now c.in-Some.entries.items (subst Rattle.cil_syntax.specs.Program.IsNested (sym c.statements-statements.ensures.same) c.statements-statements.ensures.nested)
+          c.in_ok-check_blocks.ensures.1 (is_some _ c.in_ok-entries.field-0 c.in-Some.entries c.in-Some.is c.in_ok-entries.ensures.all)
+          (is_some _ c.in_ok-entries.field-0 c.in-Some.entries c.in-Some.is c.in_ok-entries.ensures.few);
+      places = subst (λ (es : List Entry). ArePlaces (program_of c.statements-statements.result.now) es c.in_ok-located.located.namespaces c.in_ok-located.located.places)
+          c.as_slice-4.ensures.value c.in_ok-located.ensures;
+    },
+  ),
   subst (λ (ss : List Statement). (f : _) → InheritStep (program_of ss) f → ⊥) c.statements-statements.ensures.same
       (no_more c.statements-statements.result.now c.in-Some.entries.items
       (are_contents c.statements-statements.result.now c.in-Some.entries.items (subst Rattle.cil_syntax.specs.Program.IsNested (sym c.statements-statements.ensures.same) c.statements-statements.ensures.nested)
@@ -31,8 +42,17 @@ returns c = (
       (is_some _ c.in_ok-entries.field-0 c.in-Some.entries c.in-Some.is c.in_ok-entries.ensures.few))),
 )
 
+pub places_of-requires-clause-opened : goal.places_of-requires-clause-opened
+places_of-requires-clause-opened c =
+    subst (AreOpened (program_of c.statements-statements.result.now)) (sym c.as_slice-3.ensures.value)
+    (c.in_ok-opened.ensures (c.one_target.ensures c.statements-statements.result.now (subst Rattle.cil_syntax.specs.Program.IsNested (sym c.statements-statements.ensures.same) c.statements-statements.ensures.nested)
+    c.in_ok-check_blocks.ensures.1))
+
 pub invariant_of-result : goal.invariant_of-result
-invariant_of-result c =
-    are_contents c.statements-statements.result.now c.in-Some.entries.items (subst Rattle.cil_syntax.specs.Program.IsNested (sym c.statements-statements.ensures.same) c.statements-statements.ensures.nested)
-    c.in_ok-check_blocks.ensures.1 (is_some _ c.in_ok-entries.field-0 c.in-Some.entries c.in-Some.is c.in_ok-entries.ensures.all)
-    (is_some _ c.in_ok-entries.field-0 c.in-Some.entries c.in-Some.is c.in_ok-entries.ensures.few)
+invariant_of-result c = record {
+  contents = are_contents c.statements-statements.result.now c.in-Some.entries.items (subst Rattle.cil_syntax.specs.Program.IsNested (sym c.statements-statements.ensures.same) c.statements-statements.ensures.nested)
+      c.in_ok-check_blocks.ensures.1 (is_some _ c.in_ok-entries.field-0 c.in-Some.entries c.in-Some.is c.in_ok-entries.ensures.all)
+      (is_some _ c.in_ok-entries.field-0 c.in-Some.entries c.in-Some.is c.in_ok-entries.ensures.few);
+  places = subst (λ (es : List Entry). ArePlaces (program_of c.statements-statements.result.now) es c.in_ok-located.located.namespaces c.in_ok-located.located.places)
+      c.as_slice-4.ensures.value c.in_ok-located.ensures;
+}

@@ -1,5 +1,5 @@
-use Rattle.std.proofs.Common.{sym, ◌∙◌}
-use Rattle.cil_blocks.proofs.NumberLemmas.{chain_begun, chain_ended, chain_more, inner_behind}
+use Rattle.std.proofs.Common.{sym}
+use Rattle.cil_blocks.proofs.NumberLemmas.{chain_ended, chain_more, inner_behind}
 use Rattle.cil_blocks.proofs.scopes.push_chain.Goals as goal
 
 pub loop-space-smaller : goal.loop-space-smaller

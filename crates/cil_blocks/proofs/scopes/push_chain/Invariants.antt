@@ -1,4 +1,3 @@
-use Rattle.std.proofs.Common.{ℕ}
 use Rattle.cil_blocks.proofs.NumberLemmas.{IsChained}
 use Rattle.cil_blocks.proofs.scopes.push_chain.Given as goal
 

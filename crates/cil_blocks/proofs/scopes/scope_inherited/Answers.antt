@@ -1,9 +1,7 @@
-use Rattle.std.proofs.Common.{◌∙◌, [], ap, map, refl, sym, subst}
-use Rattle.cil_syntax.specs.Scopes.{apart, chain}
-use Rattle.cil_sexpr.specs.Lists.{contains_none}
+use Rattle.std.proofs.Common.{◌∙◌, ap, map, sym, subst}
 use Rattle.cil_blocks.specs.Namespaces.{space_at}
-use Rattle.cil_blocks.specs.Numbers.{AreWithin, with_numbers}
-use Rattle.cil_blocks.proofs.NumberLemmas.{all_pushed, all_within, closed, closed_within, pushed_within}
+use Rattle.cil_blocks.specs.Numbers.{AreWithin}
+use Rattle.cil_blocks.proofs.NumberLemmas.{all_pushed, closed, closed_within, pushed_within}
 use Rattle.cil_blocks.proofs.scopes.scope_inherited.Goals as goal
 
 pub push_chain-requires-clause-numbers : goal.push_chain-requires-clause-numbers

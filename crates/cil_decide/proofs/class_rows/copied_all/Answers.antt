@@ -1,6 +1,6 @@
-use Rattle.std.proofs.Common.{◌∙◌}
+use Rattle.std.proofs.Common.{[], ◌∷◌, ◌++◌, ◌∙◌, ap}
 use Rattle.std.proofs.lemmas.List.{map-id}
-use Rattle.cil_decide.proofs.ListLemmas.{mapped_more, mapped_all}
+use Rattle.cil_sexpr.specs.MadeLists.{one_mapped, all_mapped}
 use Rattle.cil_decide.proofs.class_rows.copied_all.Goals as goal
 
 pub loop-name-init : goal.loop-name-init
@@ -8,8 +8,8 @@ loop-name-init c = c.new-copies.ensures.items
 
 pub loop-name-preserved : goal.loop-name-preserved
 loop-name-preserved c =
-    mapped_more (λ n. n) _ _ _ _ _ _ c.loop-name-test.true c.name-item.is c.loop-name.invariant c.in_ok-push.ensures.items
-    (c.in_ok-copy_of.ensures ∙ c.as_slice.ensures)
+    one_mapped (λ n. n) _ _ _ _ [] _ _ c.loop-name-test.true c.name-item.is c.loop-name.invariant
+    (c.in_ok-push.ensures.items ∙ ap (λ name. c.loop-name.copies.items ++ name ∷ []) (c.in_ok-copy_of.ensures ∙ c.as_slice.ensures))
 
 pub returns : goal.returns
-returns c = mapped_all (λ n. n) _ _ _ c.loop-name.invariant c.loop-name-test.false ∙ map-id _
+returns c = all_mapped (λ n. n) _ _ [] _ c.loop-name-test.false c.loop-name.invariant ∙ map-id _

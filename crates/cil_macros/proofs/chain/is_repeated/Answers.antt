@@ -12,7 +12,7 @@ spot_of-requires-clause-within c =
     let ws = program_of c.args.statements.now in
     let ss = standings_of ws c.args.entries.now in
     let l = standings_length ws c.args.entries.now in
-    let b = c.in-Some.ensures ws ss l c.requires.bodies in
+    let b = c.in-Some.ensures.body ws ss l c.requires.bodies in
     let h = in_range ss c.in-Some.body.now.called b.so.opened.macro b.so.is_macro in
     omega (arith, h, l)
 
@@ -20,7 +20,7 @@ pub returns-then-is_same_spot : goal.returns-then-is_same_spot
 returns-then-is_same_spot c =
     let ws = program_of c.args.statements.now in
     let ss = standings_of ws c.args.entries.now in
-    let b = c.in-Some.ensures ws ss (standings_length ws c.args.entries.now) c.requires.bodies in
+    let b = c.in-Some.ensures.body ws ss (standings_length ws c.args.entries.now) c.requires.bodies in
     c.loop-body.invariant.1 true (came_here ws ss c.args.brought.now.called.items c.args.called c.loop-body.place c.in-Some.body.now b
     (c.if-is_same_spot.ensures ∙ ap (same_spot c.args.called) (c.spot_of.ensures b.so.opened.macro b.so.is_macro)))
 
@@ -28,13 +28,13 @@ pub loop-body-smaller : goal.loop-body-smaller
 loop-body-smaller c =
     let ws = program_of c.args.statements.now in
     let ss = standings_of ws c.args.entries.now in
-    (c.in-Some.ensures ws ss (standings_length ws c.args.entries.now) c.requires.bodies).before
+    (c.in-Some.ensures.body ws ss (standings_length ws c.args.entries.now) c.requires.bodies).before
 
 pub loop-body-preserved : goal.loop-body-preserved
 loop-body-preserved c =
     let ws = program_of c.args.statements.now in
     let ss = standings_of ws c.args.entries.now in
-    let b = c.in-Some.ensures ws ss (standings_length ws c.args.entries.now) c.requires.bodies in
+    let b = c.in-Some.ensures.body ws ss (standings_length ws c.args.entries.now) c.requires.bodies in
     let h = b.before in
     let within = c.loop-body.invariant.0 in (
       omega (arith, h, within),
@@ -47,5 +47,5 @@ returns c =
     let ws = program_of c.args.statements.now in
     let ss = standings_of ws c.args.entries.now in
     let l = standings_length ws c.args.entries.now in
-    let h = c.in_default.ensures ws ss l c.requires.bodies in
+    let h = c.in_default.ensures.body ws ss l c.requires.bodies in
     c.loop-body.invariant.1 false (came_not ws ss c.args.brought.now.called.items c.args.called c.loop-body.place (omega (arith, h, l)))

@@ -1,4 +1,4 @@
-use Rattle.std.proofs.Common.{◌≡◌, ◌≤◌, length, refl, ap, sym, ◌∙◌, arith}
+use Rattle.std.proofs.Common.{◌≤◌, length, refl, ap, sym, ◌∙◌, arith}
 use Rattle.cil_syntax.specs.Program.{context_in, opener_in, program_from, program_of}
 use Rattle.cil_syntax.proofs.AllModules.{none_read, one_more_read, all_read, all_refused, no_fault}
 use Rattle.cil_syntax.proofs.Nested.{nested, none_under}

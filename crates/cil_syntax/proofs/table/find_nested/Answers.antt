@@ -1,4 +1,4 @@
-use Rattle.std.proofs.Common.{sym, ◌∙◌, ap}
+use Rattle.std.proofs.Common.{sym}
 use Rattle.cil_syntax.specs.Table.{nested_entries, set_aside, set_aside_words}
 use Rattle.cil_syntax.proofs.Tabled.{of_first, set_aside_found, nothing_found}
 use Rattle.cil_syntax.proofs.table.find_nested.Goals as goal

@@ -1,6 +1,6 @@
 use Rattle.std.proofs.Common.{◌∷◌, ◌+◌, subst}
 use Rattle.cil_blocks.specs.Namespaces.{IsNumber, Key, spaces_of}
-use Rattle.cil_blocks.proofs.NamespaceKeys.{inserted, number_found, same_key}
+use Rattle.cil_blocks.proofs.NamespaceKeys.{inserted, number_found}
 use Rattle.cil_blocks.proofs.NamespaceLemmas.{stays}
 use Rattle.cil_blocks.proofs.namespaces.Namespaces.number.Goals as goal
 

@@ -1,0 +1,301 @@
+-- Places one after another: what one statement opens has one place, which follows from the place of that statement.
+use Rattle.std.proofs.Common.{◌≡◌, ◌⊎◌, ℕ, ◌+◌, ◌<◌, ◌≤◌, true, false, List, [], ◌∷◌, ◌++◌, length, get_or, map, take, refl, sym, ◌∙◌, ap, subst, inl, inr, arith}
+use Rattle.std.specs.Prelude.{Option, None, Some, slice_get}
+use Rattle.std.specs.Option.{option_map}
+use Rattle.std.proofs.lemmas.List.{append-nil, length-append, get_or-take, length-take-le, take_more}
+use Rattle.std.proofs.Common.{append_assoc}
+use Rattle.cil_sexpr.specs.Lists.{contains_here, contains_later, contains_none}
+use Rattle.cil_sexpr.specs.Places.{get_behind, get_in_front, get_so, in_range, none_some, not_there, some_at, some_same}
+use Rattle.cil_syntax.specs.declared.kind.Keyword.{Keyword}
+use Rattle.cil_syntax.specs.declared.kind.Keyword.TheVariants as keywords
+use Rattle.cil_syntax.specs.declared.program.Statement.{Statement}
+use Rattle.cil_syntax.specs.Program.{IsNested, program_of}
+use Rattle.cil_syntax.specs.Scopes.{Namespace, chain, tidy}
+use Rattle.cil_syntax.specs.Written.{Written}
+use Rattle.cil_blocks.specs.declared.entry.Entry.{Entry}
+use Rattle.cil_blocks.specs.declared.namespaces.Space.{Space}
+use Rattle.cil_blocks.specs.Contents.{Standing, is_inheriting, name_of}
+use Rattle.cil_blocks.specs.Entries.{SaysOpened, opened_as, opened_of, opener_of, standing_as, standing_through, standing_under, standings_from, standings_of, statement_at, stepped}
+use Rattle.cil_blocks.specs.Named.{rank}
+use Rattle.cil_blocks.specs.Namespaces.{AreNamespaces, IsGrown, IsNumber, space_at}
+use Rattle.cil_blocks.specs.Numbers.{AreWithin, with_number, with_numbers}
+use Rattle.cil_blocks.specs.Places.{IsPlace, IsPlaced, Numbered}
+use Rattle.cil_blocks.specs.Placing.{AreFirstPlaces, IsInherited, IsPlaceInside, IsPlaceThrough, IsRepeated, global_place, inherited_as, inherited_of}
+use Rattle.cil_blocks.proofs.EntryLemmas.{mapped_at, pushed_from, standings_length, statements_from}
+use Rattle.cil_blocks.proofs.NameLemmas.{at_none}
+use Rattle.cil_blocks.proofs.NamespaceKeys.{at_or_last}
+use Rattle.cil_blocks.proofs.NamespaceLemmas.{global_at, no_shorter, number_stays, stays}
+use Rattle.cil_blocks.proofs.NumberLemmas.{all_apart, all_within, closed, closed_within, nothing_apart, one_apart, within_more}
+
+-- ---- namespaces that are added
+
+pub none_added : (ss : List Space) → IsGrown ss ss
+none_added ss = ([], sym (append-nil ss))
+
+pub both_added : (old mid new : List Space) → IsGrown old mid → IsGrown mid new → IsGrown old new
+both_added old mid new g h = (g.0 ++ h.0, h.1 ∙ ap (λ ss. ss ++ h.0) g.1 ∙ append_assoc old g.0 h.0)
+
+pub within_stays : (old new : List Space) (ks : List ℕ) → IsGrown old new → AreWithin old ks → AreWithin new ks
+within_stays old new ks g all = λ k c. let l = no_shorter old new g in let h = all k c in omega (arith, l, h)
+
+scope_stays : (old new : List Space) (ks : List ℕ) → IsGrown old new → AreWithin old ks → map (space_at new) ks ≡ map (space_at old) ks
+scope_stays old new [] g all = refl
+scope_stays old new (k ∷ ks) g all =
+    ap (λ n. n ∷ map (space_at new) ks) (stays old new k g (all k (contains_here k ks)))
+    ∙ ap (λ ns. space_at old k ∷ ns) (scope_stays old new ks g (λ m c. all m (contains_later m k ks c)))
+
+-- a place stays what it is
+pub place_stays : (old new : List Space) (space : Namespace) (scope : List Namespace) (p : Numbered) → IsGrown old new → IsPlace old space scope p → IsPlace new space scope p
+place_stays old new space scope p g is = record {
+  is_space = number_stays old new space p.0 g is.is_space;
+  within = within_stays old new p.1 g is.within;
+  is_scope = scope_stays old new p.1 g is.within ∙ is.is_scope;
+}
+
+-- ---- the place of what is opened
+
+pub global_number : (ss : List Space) (n : Namespace) → [] ≡ n → IsNumber ss n 0
+global_number ss n e = subst (λ m. IsNumber ss m 0) e (record { within = omega arith; is = global_at ss })
+
+pub global_so : (ss : List Space) → IsPlace ss [] ([] ∷ []) global_place
+global_so ss = record {
+  is_space = record { within = omega arith; is = global_at ss };
+  within = closed_within ss [] (λ m c. absurd (contains_none m c));
+  is_scope = ap (λ n. n ∷ []) (global_at ss);
+}
+
+pub block_place : (old new : List Space) (outer : Numbered) (name : List ℕ) (space : ℕ) (items : List ℕ) → AreNamespaces new → IsGrown old new
+    → IsNumber new (name ∷ space_at old outer.0) space → items ≡ with_numbers (with_number [] space) outer.1 ++ 0 ∷ []
+    → (w : Written) → name_of w ≡ name → IsPlaceThrough old new outer w None (space, items)
+block_place old new outer name space items are g is e w named = λ s v same so.
+    let now = place_stays old new s.space s.scope outer g so in
+    let whole : name ∷ space_at old outer.0 ≡ name_of s.statement ∷ s.space =
+    ap (λ x. x ∷ space_at old outer.0) (sym named ∙ sym (ap name_of same)) ∙ ap (λ n. name_of s.statement ∷ n) so.is_space.is in
+    let none : AreWithin new [] = λ m c. absurd (contains_none m c) in
+    let first = within_more new space [] is.within none in
+    let at : map (space_at new) (with_numbers (with_number [] space) outer.1) ≡ _ =
+    all_apart new are outer.1 (with_number [] space) (space_at new space ∷ []) now.within first (one_apart new are space [] [] is.within none (sym nothing_apart)) in
+    record {
+      is_space = subst (λ n. IsNumber new n space) whole is;
+      within = subst (AreWithin new) (sym e) (closed_within new (with_numbers (with_number [] space) outer.1) (all_within new outer.1 (with_number [] space) now.within first));
+      is_scope = ap (map (space_at new)) e
+          ∙ closed new are (with_numbers (with_number [] space) outer.1) (space_at new space ∷ map (space_at new) outer.1) at
+          ∙ ap (λ n. tidy (n ∷ map (space_at new) outer.1)) (is.is ∙ whole)
+          ∙ ap (λ ns. tidy ((name_of s.statement ∷ s.space) ∷ ns)) now.is_scope;
+    }
+
+pub inherited_place : (ss : List Space) (outer : Numbered) (written : ℕ) (items : List ℕ) → AreWithin ss items
+    → map (space_at ss) items ≡ tidy (map (space_at ss) outer.1 ++ chain (space_at ss written))
+    → (w b : Written) → IsNumber ss b.context.space written → IsPlaceThrough ss ss outer w (Some b) (outer.0, items)
+inherited_place ss outer written items all e w b is = λ s v same so. record {
+  is_space = so.is_space;
+  within = all;
+  is_scope = e ∙ ap (λ ns. tidy (ns ++ chain (space_at ss written))) so.is_scope ∙ ap (λ n. tidy (s.scope ++ chain n)) is.is;
+}
+
+pub through_grown : (old new : List Space) (outer place : Numbered) (w : Written) (o : Option Written) → IsGrown old new → IsPlaceThrough new new outer w o place
+    → IsPlaceThrough old new outer w o place
+through_grown old new outer place w o g f = λ s v same so. f s v same (place_stays old new s.space s.scope outer g so)
+
+module _ (ws : List Written) where
+  as_through : (s : Standing) (k : Keyword) (w : Written) → standing_as ws s k w ≡ standing_through s (inherited_as ws s.statement k) w
+  as_through s keywords.BlockInherit w = refl
+  as_through s k w = refl
+
+  pub inside_so : (old new : List Space) (outer place : Numbered) (number : ℕ) (o : Option Written) → o ≡ inherited_of ws (statement_at ws number)
+      → IsPlaceThrough old new outer (statement_at ws number) o place → IsPlaceInside ws old new outer number place
+  inside_so old new outer place number o e f = λ s w same so.
+      subst (λ (t : Standing). IsPlace new t.space t.scope place)
+      (sym (as_through s s.statement.statement.keyword w ∙ ap (λ x. standing_through s x w) (ap (inherited_of ws) same ∙ sym e))) (f s w same so)
+
+  -- ---- what is inherited
+
+  other_inherited : (k : Keyword) (w : Written) → is_inheriting k ≡ false → inherited_as ws w k ≡ None
+  other_inherited keywords.BlockInherit w e = absurd (let f : true ≡ false = e in cc)
+  other_inherited k w e = refl
+
+  opened_inherited : (k : Keyword) (w : Written) → is_inheriting k ≡ true → opened_as ws w k ≡ inherited_as ws w k
+  opened_inherited keywords.BlockInherit w e = refl
+  opened_inherited k w e = absurd (let f : false ≡ true = e in cc)
+
+  pub not_inheriting : (number : ℕ) (k : Keyword) → (statement_at ws number).statement.keyword ≡ k → is_inheriting k ≡ false → IsInherited ws number None
+  not_inheriting number k is e = sym (other_inherited (statement_at ws number).statement.keyword (statement_at ws number) (ap is_inheriting is ∙ e))
+
+  said : (n : Option (Option ℕ)) (o : Option ℕ) (w : Option Written) → (n ≡ None) × (o ≡ None) ⊎ (n ≡ Some o) → SaysOpened ws n w → option_map (statement_at ws) o ≡ w
+  said None o w e s = elim e [ inl f ↦ ap (option_map (statement_at ws)) f.1 ∙ sym s | inr f ↦ absurd (none_some o f) ]
+  said (Some None) o w e s =
+      elim e [ inl f ↦ absurd (none_some None (sym f.0)) | inr f ↦ ap (option_map (statement_at ws)) (sym (some_same None o f)) ∙ sym s ]
+  said (Some (Some k)) o w e s =
+      elim e [ inl f ↦ absurd (none_some (Some k) (sym f.0)) | inr f ↦ ap (option_map (statement_at ws)) (sym (some_same (Some k) o f)) ∙ sym s.1 ]
+
+  pub inheriting : (number : ℕ) (k : Keyword) (n : Option (Option ℕ)) (o : Option ℕ) → (statement_at ws number).statement.keyword ≡ k → is_inheriting k ≡ true
+      → (n ≡ None) × (o ≡ None) ⊎ (n ≡ Some o) → SaysOpened ws n (opened_of ws (statement_at ws number)) → IsInherited ws number o
+  inheriting number k n o is e found s =
+      said n o (opened_of ws (statement_at ws number)) found s
+      ∙ opened_inherited (statement_at ws number).statement.keyword (statement_at ws number) (ap is_inheriting is ∙ e)
+
+pub nothing_inherited : (ss : List Statement) → IsNested ss → (number : ℕ) → slice_get ss number ≡ None → IsInherited (program_of ss) number None
+nothing_inherited ss nested number e = sym (ap (inherited_of (program_of ss)) (at_none ss nested number e))
+
+-- ---- openers
+
+below_or_not : (k n : ℕ) → (k < n) ⊎ (n ≤ k)
+below_or_not k n = grind arith
+
+-- a number that is lower than a limit, or none
+pub record IsLower (o : Option ℕ) (n : ℕ) (r : Option ℕ) : Type 0 where
+  pub lower : rank r ≤ n
+  pub same : rank o ≤ n → r ≡ o
+  pub higher : n < rank o → r ≡ None
+
+pub lower_same : (o : Option ℕ) (n k : ℕ) (r : Option ℕ) → IsLower o n r → r ≡ Some k → (k < n) × (o ≡ Some k)
+lower_same None n k r l e = absurd (none_some k (sym (l.same (omega arith)) ∙ e))
+lower_same (Some m) n k r l e =
+    elim (below_or_not m n) [
+      | inl h ↦ let same : Some m ≡ Some k = sym (l.same (omega (arith, h))) ∙ e in
+          (let f = some_same m k same in omega (arith, h, f), same)
+      | inr h ↦ absurd (none_some k (sym (l.higher (omega (arith, h))) ∙ e))
+    ]
+
+pub lower_opener : {X : Type 0} (done : List X) (o : Option ℕ) (n : ℕ) (r : Option ℕ) → length done ≡ n → IsLower o n r → opener_of done o ≡ opener_of done r
+lower_opener done None n r e l = ap (opener_of done) (sym (l.same (omega arith)))
+lower_opener done (Some k) n r e l =
+    elim (below_or_not k n) [
+      | inl h ↦ ap (opener_of done) (sym (l.same (omega (arith, h))))
+      | inr h ↦ not_there done k (omega (arith, h, e)) ∙ ap (opener_of done) (sym (l.higher (omega (arith, h))))
+    ]
+
+-- ---- one entry more
+
+module _ (ws : List Written) where
+  abbrev HasPlaces : List Space → List Standing → List Numbered → Type 0
+  HasPlaces ss done ps = (i : ℕ) (s : Standing) → slice_get done i ≡ Some s → IsPlaced ss ps i s
+
+  placed_more : (old new : List Space) (done : List Standing) (t : Standing) (ps : List Numbered) (p : Numbered) → IsGrown old new → length ps ≡ length done
+      → HasPlaces old done ps → IsPlace new t.space t.scope p → HasPlaces new (done ++ t ∷ []) (ps ++ p ∷ [])
+  placed_more old new done t ps p g l so is i s e =
+      elim (at_or_last done t i s e) [
+        | inl there ↦ let q = so i s there in record {
+          place = q.place;
+          is = get_in_front ps (p ∷ []) i (in_range ps i q.place q.is) ∙ q.is;
+          so = place_stays old new s.space s.scope q.place g q.so;
+        }
+        | inr (last, same) ↦ record {
+          place = p;
+          is = get_behind ps (p ∷ []) 0 i (omega (arith, last, l));
+          so = subst (λ (x : Standing). IsPlace new x.space x.scope p) same is;
+        }
+      ]
+
+  -- what is put behind the first entries
+  pub first_more : (old new : List Space) (es : List Entry) (e d : Entry) (k : ℕ) (ps qs : List Numbered) (p : Numbered) → k < length es → e ≡ get_or es k d
+      → IsGrown old new → AreFirstPlaces ws (take k es) old ps → qs ≡ ps ++ p ∷ []
+      → IsPlace new (stepped ws (standings_of ws (take k es)) e.opener e.statement).space (stepped ws (standings_of ws (take k es)) e.opener e.statement).scope p
+      → AreFirstPlaces ws (take (k + 1) es) new qs
+  first_more old new es e d k ps qs p h is g so same place =
+      let whole : take (k + 1) es ≡ take k es ++ e ∷ [] = take_more es k d h ∙ ap (λ x. take k es ++ x ∷ []) (sym is) in
+      let l = so.as_many in
+      let m = standings_length ws (take k es) in
+      subst (λ xs. AreFirstPlaces ws xs new qs) (sym whole) (subst (AreFirstPlaces ws (take k es ++ e ∷ []) new) (sym same)
+      (record {
+        as_many = length-append ps (p ∷ []) ∙ ap (λ n. n + 1) l ∙ sym (length-append (take k es) (e ∷ []));
+        so = subst (λ xs. HasPlaces new xs (ps ++ p ∷ [])) (sym (pushed_from ws [] (take k es) e))
+            (placed_more old new (standings_of ws (take k es)) (stepped ws (standings_of ws (take k es)) e.opener e.statement) ps p g (l ∙ sym m) so.so place);
+      }))
+
+  -- ---- the places of openers
+
+  done_length : (es : List Entry) (k : ℕ) → k < length es → length (standings_of ws (take k es)) ≡ k
+  done_length es k h = let l = standings_length ws (take k es) in let m = length-take-le k es (omega (arith, h)) in omega (arith, l, m)
+
+  -- the opener of an entry stands, and has a place
+  pub record IsOpener (ss : List Space) (es : List Entry) (ps : List Numbered) (k opener : ℕ) (x : Entry) : Type 0 where
+    pub standing : Standing
+    pub stands : slice_get (standings_of ws (take k es)) opener ≡ Some standing
+    pub is_placed : IsPlaced ss ps opener standing
+    pub says : standing.statement ≡ statement_at ws x.statement
+
+  pub is_opener : (ss : List Space) (es : List Entry) (ps : List Numbered) (k opener : ℕ) (x d : Entry) → k < length es → opener < k → x ≡ get_or es opener d
+      → AreFirstPlaces ws (take k es) ss ps → IsOpener ss es ps k opener x
+  is_opener ss es ps k opener x d h below is so =
+      let m = length-take-le k es (omega (arith, h)) in
+      let s = mapped_at ws (standings_of ws (take k es)) (take k es) opener d (statements_from ws [] (take k es)) (omega (arith, m, below)) in
+      record {
+        standing = s.0;
+        stands = s.1;
+        is_placed = so.so opener s.0 s.1;
+        says = s.2 ∙ ap (λ (e : Entry). statement_at ws e.statement) (get_or-take k es opener d below ∙ sym is);
+      }
+
+  pub opener_missing : (ss : List Space) (es : List Entry) (ps : List Numbered) (k opener : ℕ) (x : Entry) → IsOpener ss es ps k opener x → slice_get ps opener ≡ None → ⊥
+  opener_missing ss es ps k opener x o none = none_some o.is_placed.place (sym none ∙ o.is_placed.is)
+
+  -- the place that is there is that of the opener
+  pub opener_place : (ss : List Space) (es : List Entry) (ps : List Numbered) (k opener : ℕ) (x : Entry) (p : Numbered) → (o : IsOpener ss es ps k opener x)
+      → slice_get ps opener ≡ Some p → IsPlace ss o.standing.space o.standing.scope p
+  opener_place ss es ps k opener x p o e =
+      subst (IsPlace ss o.standing.space o.standing.scope) (some_same o.is_placed.place p (sym o.is_placed.is ∙ e)) o.is_placed.so
+
+  -- ---- the next place
+
+  -- at the top of a module
+  pub global_next : (ss : List Space) (es : List Entry) (e d : Entry) (k : ℕ) (ps qs : List Numbered) → k < length es → e ≡ get_or es k d → IsLower e.opener k None
+      → AreFirstPlaces ws (take k es) ss ps → qs ≡ ps ++ global_place ∷ [] → AreFirstPlaces ws (take (k + 1) es) ss qs
+  global_next ss es e d k ps qs h is low so same =
+      first_more ss ss es e d k ps qs global_place h is (none_added ss) so same
+      (subst (λ o. IsPlace ss (standing_under ws o (statement_at ws e.statement)).space (standing_under ws o (statement_at ws e.statement)).scope global_place)
+      (sym (lower_opener (standings_of ws (take k es)) e.opener k None (done_length es k h) low)) (global_so ss))
+
+  -- under one that opens it
+  pub inside_next : (old new : List Space) (es : List Entry) (e x d : Entry) (k opener : ℕ) (ps qs : List Numbered) (p q : Numbered) → k < length es → e ≡ get_or es k d
+      → IsLower e.opener k (Some opener) → AreFirstPlaces ws (take k es) old ps → IsOpener old es ps k opener x → slice_get ps opener ≡ Some p
+      → IsGrown old new → IsPlaceInside ws old new p x.statement q → qs ≡ ps ++ q ∷ [] → AreFirstPlaces ws (take (k + 1) es) new qs
+  inside_next old new es e x d k opener ps qs p q h is low so o at g inside same =
+      first_more old new es e d k ps qs q h is g so same
+      (subst (λ s. IsPlace new (standing_under ws s (statement_at ws e.statement)).space (standing_under ws s (statement_at ws e.statement)).scope q)
+      (sym (lower_opener (standings_of ws (take k es)) e.opener k (Some opener) (done_length es k h) low ∙ o.stands))
+      (inside o.standing (statement_at ws e.statement) o.says (opener_place old es ps k opener x p o at)))
+
+  -- what one opens is in one place
+  through_alike : (ss : List Space) (p : Numbered) (s : Standing) (o : Option Written) (v w : Written) → IsPlace ss (standing_through s o v).space (standing_through s o v).scope p
+      → IsPlace ss (standing_through s o w).space (standing_through s o w).scope p
+  through_alike ss p s None v w is = is
+  through_alike ss p s (Some b) v w is = is
+
+  under_alike : (ss : List Space) (p : Numbered) (s : Standing) (v w : Written) → IsPlace ss (standing_under ws (Some s) v).space (standing_under ws (Some s) v).scope p
+      → IsPlace ss (standing_under ws (Some s) w).space (standing_under ws (Some s) w).scope p
+  under_alike ss p s v w is =
+      subst (λ (t : Standing). IsPlace ss t.space t.scope p) (sym (as_through ws s s.statement.statement.keyword w))
+      (through_alike ss p s (inherited_of ws s.statement) v w
+      (subst (λ (t : Standing). IsPlace ss t.space t.scope p) (as_through ws s s.statement.statement.keyword v) is))
+
+  pub again_next : (ss : List Space) (es : List Entry) (e d : Entry) (k opener before : ℕ) (ps qs : List Numbered) → k < length es → e ≡ get_or es k d
+      → IsLower e.opener k (Some opener) → IsRepeated es k opener before → AreFirstPlaces ws (take k es) ss ps
+      → ((p : Numbered) → slice_get ps before ≡ Some p → qs ≡ ps ++ p ∷ []) → AreFirstPlaces ws (take (k + 1) es) ss qs
+  again_next ss es e d k opener before ps qs h is low r so f =
+      let last = r.last in
+      let early = r.earlier in
+      let old = standings_of ws (take before es) in
+      let inside = in_range es before r.entry r.is in
+      let length_old = done_length es before inside in
+      let t = stepped ws old r.entry.opener r.entry.statement in
+      let whole : take k es ≡ take before es ++ r.entry ∷ [] =
+      ap (λ n. take n es) last ∙ take_more es before r.entry inside ∙ ap (λ x. take before es ++ x ∷ []) (get_so es before r.entry r.entry r.is) in
+      let now : standings_of ws (take k es) ≡ old ++ t ∷ [] = ap (standings_of ws) whole ∙ pushed_from ws [] (take before es) r.entry in
+      let there = so.so before t (ap (λ xs. slice_get xs before) now ∙ get_behind old (t ∷ []) 0 before (omega (arith, length_old))) in
+      let s = some_at old opener (omega (arith, length_old, early)) in
+      let same : t ≡ standing_under ws (Some s.0) (statement_at ws r.entry.statement) =
+      ap (λ o. standing_under ws (opener_of old o) (statement_at ws r.entry.statement)) r.alike
+      ∙ ap (λ o. standing_under ws o (statement_at ws r.entry.statement)) s.1 in
+      let mine : opener_of (standings_of ws (take k es)) e.opener ≡ Some s.0 =
+      lower_opener (standings_of ws (take k es)) e.opener k (Some opener) (done_length es k h) low
+      ∙ ap (λ xs. slice_get xs opener) now ∙ get_in_front old (t ∷ []) opener (omega (arith, length_old, early)) ∙ s.1 in
+      first_more ss ss es e d k ps qs there.place h is (none_added ss) so (f there.place there.is)
+      (subst (λ o. IsPlace ss (standing_under ws o (statement_at ws e.statement)).space (standing_under ws o (statement_at ws e.statement)).scope there.place) (sym mine)
+      (under_alike ss there.place s.0 (statement_at ws r.entry.statement) (statement_at ws e.statement)
+      (subst (λ (x : Standing). IsPlace ss x.space x.scope there.place) same there.so)))
+
+  pub none_placed : (ss : List Space) (ps : List Numbered) (es : List Entry) → ps ≡ [] → AreFirstPlaces ws (take 0 es) ss ps
+  unfolding standings_from
+  none_placed ss ps es e =
+      subst (AreFirstPlaces ws (take 0 es) ss) (sym e) (record { as_many = refl; so = λ i s f. absurd (none_some s f) })

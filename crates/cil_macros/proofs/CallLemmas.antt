@@ -1,0 +1,141 @@
+-- What the statement at a place is, where it is, and which arguments it has.
+use Rattle.std.proofs.Common.{◌≡◌, ℕ, ◌+◌, ◌<◌, Bool, true, false, if◌then◌else◌, List, length, refl, sym, ◌∙◌, ap, subst, arith}
+use Rattle.std.specs.Prelude.{Contains, Option, Some, None, is_some, slice_get}
+use Rattle.cil_sexpr.specs.Places.{in_range, some_at, some_same}
+use Rattle.cil_syntax.specs.declared.program.Statement.{Statement}
+use Rattle.cil_syntax.specs.Program.{IsNested, program_of}
+use Rattle.cil_syntax.specs.Said.{args_of}
+use Rattle.cil_syntax.specs.Terms.{Terms}
+use Rattle.cil_syntax.specs.declared.term.Word.{Word}
+use Rattle.cil_syntax.specs.Written.{Written, is_macro}
+use Rattle.cil_blocks.specs.declared.entry.Entry.{Entry}
+use Rattle.cil_blocks.specs.Contents.{Standing}
+use Rattle.cil_blocks.specs.Entries.{standings_of, statement_at}
+use Rattle.cil_blocks.specs.Places.{IsPlace, Standings, entries_in, numbered, spaces_in}
+use Rattle.cil_blocks.proofs.EntryLemmas.{standings_length}
+use Rattle.cil_blocks.proofs.NameLemmas.{args_some, at_none}
+use Rattle.cil_macros.specs.declared.entry.Body.{Body}
+use Rattle.cil_macros.specs.declared.entry.Called.{Called}
+use Rattle.cil_macros.specs.Calls.{Unfolded, bounds_of_call, called_macro, is_call, is_repeated, placed_called, unfolded, unfolded_by, unfolded_with}
+use Rattle.cil_macros.specs.Entries.{AreBodyPlaces, IsBodyAt, placed_of}
+use Rattle.cil_macros.specs.Fits.{fits, fits_when}
+use Rattle.cil_macros.specs.Macros.{IsMacroAt, all_standing}
+use Rattle.cil_macros.specs.Parameters.{call_arguments, macro_parameters}
+use Rattle.cil_macros.specs.Placed.{Bound, Placed, placed_standing}
+use Rattle.cil_macros.specs.Walks.{IsUnfoldedAt, placed_in, written_in}
+use Rattle.cil_macros.proofs.BodyLemmas.{standing_at}
+use Rattle.cil_macros.proofs.CalledMacros.{names_macro}
+use Rattle.cil_macros.proofs.EntryLemmas.{placed_length}
+
+module _ (s : Standings) where
+  -- something stands at each rank, and its place is kept
+  pub rank_there : (i : ℕ) → i < length (entries_in s) → (m : Standing) × (slice_get (all_standing s) i ≡ Some m)
+  rank_there i h =
+      let l = standings_length (written_in s) (entries_in s) in
+      some_at (all_standing s) i (omega (arith, h, l))
+
+  pub unfolded_below : (p : Placed) (i : ℕ) → IsUnfoldedAt (written_in s) (all_standing s) p i → i < length (entries_in s)
+  unfolded_below p i u =
+      let h = in_range (all_standing s) i u.opened.macro u.at in
+      let l = standings_length (written_in s) (entries_in s) in
+      omega (arith, h, l)
+
+module _ (s : Standings) (cs : List Called) where
+  -- something is placed at each place
+  pub placed_there : (at : ℕ) → at < length (entries_in s) + length cs → (p : Placed) × (slice_get (placed_in s cs) at ≡ Some p)
+  placed_there at h =
+      let l = placed_length (written_in s) (all_standing s) cs in
+      let m = standings_length (written_in s) (entries_in s) in
+      some_at (placed_in s cs) at (omega (arith, h, l, m))
+
+  -- what is a rank of a macro is one of an entry
+  pub macro_below : (o : Option Standing) (i : ℕ) → IsMacroAt (all_standing s) o i → i < length (entries_in s)
+  macro_below o i m =
+      let h = in_range (all_standing s) i m.called m.at in
+      let l = standings_length (written_in s) (entries_in s) in
+      omega (arith, h, l)
+
+  -- its statement, by the number of it
+  pub stated_by : (es : List Entry) (xs : List Called) (at n : ℕ) → es ≡ entries_in s → xs ≡ cs
+      → ((ws : List Written) (p : Placed) → slice_get (placed_of ws (standings_of ws es) xs) at ≡ Some p → p.standing.statement ≡ statement_at ws n)
+      → (p : Placed) → slice_get (placed_in s cs) at ≡ Some p → p.standing.statement ≡ statement_at (written_in s) n
+  stated_by es xs at n e f so p g =
+      so (written_in s) p (ap (λ zs. slice_get (placed_of (written_in s) (standings_of (written_in s) zs) xs) at) e ∙ ap (λ zs. slice_get (placed_in s zs) at) f ∙ g)
+
+  pub stands_by : (es : List Entry) (i n : ℕ) → es ≡ entries_in s
+      → ((ws : List Written) (m : Standing) → slice_get (standings_of ws es) i ≡ Some m → m.statement ≡ statement_at ws n)
+      → (m : Standing) → slice_get (all_standing s) i ≡ Some m → m.statement ≡ statement_at (written_in s) n
+  stands_by es i n e so m g = so (written_in s) m (ap (λ zs. slice_get (standings_of (written_in s) zs) i) e ∙ g)
+
+  -- what is placed where something stands is that
+  pub stood_at : (at : ℕ) → at < length (entries_in s) → (p : Placed) → slice_get (placed_in s cs) at ≡ Some p
+      → (m : Standing) × (slice_get (all_standing s) at ≡ Some m) × (p ≡ placed_standing m)
+  stood_at at h p e =
+      let m = rank_there s at h in
+      (m.0, m.1, some_same p (placed_standing m.0) (sym e ∙ standing_at (written_in s) (all_standing s) cs at m.0 m.1))
+
+  -- the place of what a call brought
+  pub brought_to : (bs : List Body) → AreBodyPlaces (written_in s) (all_standing s) (spaces_in s) cs bs → (at : ℕ) (b : Body) → Contains bs b
+      → IsBodyAt (written_in s) (all_standing s) cs at b → (p : Placed) → slice_get (placed_in s cs) at ≡ Some p
+      → IsPlace (spaces_in s) p.standing.space p.standing.scope (numbered b.place)
+  brought_to bs are at b c x p e =
+      let same = some_same p (placed_called x.so.call x.so.opened x.statement) (sym e ∙ x.placed) in
+      subst (λ (q : Placed). IsPlace (spaces_in s) q.standing.space q.standing.scope (numbered b.place)) (sym same)
+      (are b x.so.call x.so.opened c x.so.is_call x.so.is_opened)
+
+-- ---- arguments
+
+module _ (ss : List Statement) (nested : IsNested ss) (standings : List Standing) (p : Placed) (m : Standing) (called : called_macro standings p ≡ Some m) where
+  pub call_there : (n : ℕ) → p.standing.statement ≡ statement_at (program_of ss) n → slice_get ss n ≡ None → ⊥
+  call_there n e none =
+      let f : is_call (statement_at (program_of ss) n).statement.keyword ≡ true = ap (λ (w : Written). is_call w.statement.keyword) (sym e) ∙ (names_macro (program_of ss) standings p m called).0 in
+      let g = sym (ap (λ (w : Written). is_call w.statement.keyword) (at_none ss nested n none)) ∙ f in cc
+
+  pub macro_there : (k : ℕ) → m.statement ≡ statement_at (program_of ss) k → slice_get ss k ≡ None → ⊥
+  macro_there k e none =
+      let f : is_macro (statement_at (program_of ss) k).statement.keyword ≡ true = ap (λ (w : Written). is_macro w.statement.keyword) (sym e) ∙ (names_macro (program_of ss) standings p m called).2 in
+      let g = sym (ap (λ (w : Written). is_macro w.statement.keyword) (at_none ss nested k none)) ∙ f in cc
+
+module _ (ss : List Statement) (nested : IsNested ss) (p : Placed) (m : Standing) (n k : ℕ)
+    (is_call_at : p.standing.statement ≡ statement_at (program_of ss) n) (is_macro_at : m.statement ≡ statement_at (program_of ss) k) where
+  pub fits_bound : (call macro : Statement) (b : Bool) → slice_get ss n ≡ Some call → slice_get ss k ≡ Some macro
+      → b ≡ fits (macro_parameters (args_of macro)) (call_arguments (args_of call)) → b ≡ is_some (bounds_of_call (program_of ss) p m)
+  fits_bound call macro b e f g =
+      g
+      ∙ ap (λ (t : Terms Word). fits (macro_parameters t) (call_arguments (args_of call))) (sym (args_some ss nested k macro f) ∙ ap (λ (w : Written). w.statement.args) (sym is_macro_at))
+      ∙ ap (λ (t : Terms Word). fits (macro_parameters m.statement.statement.args) (call_arguments t)) (sym (args_some ss nested n call e) ∙ ap (λ (w : Written). w.statement.args) (sym is_call_at))
+      ∙ fits_when (program_of ss) p (macro_parameters m.statement.statement.args) (call_arguments p.standing.statement.statement.args)
+
+-- ---- whether a call is unfolded
+
+module _ (ws : List Written) (ss : List Standing) (p : Placed) where
+  pub uncalled : called_macro ss p ≡ None → unfolded ws ss p ≡ None
+  unfolding unfolded
+  uncalled e = ap (unfolded_by ws p) e
+
+  either_none : (b : Bool) (m : Standing) (o : Option (List Bound)) → is_some o ≡ false → (if b then None else unfolded_with m o) ≡ None
+  either_none true m o e = refl
+  either_none false m None e = refl
+  either_none false m (Some bs) e = cc
+
+  pub again : (m : Standing) → called_macro ss p ≡ Some m → true ≡ is_repeated p m → unfolded ws ss p ≡ None
+  unfolding unfolded
+  again m e f = ap (unfolded_by ws p) e ∙ ap (λ b. if b then None else unfolded_with m (bounds_of_call ws p m)) (sym f)
+
+  pub unfit : (m : Standing) → called_macro ss p ≡ Some m → false ≡ is_some (bounds_of_call ws p m) → unfolded ws ss p ≡ None
+  unfolding unfolded
+  unfit m e f = ap (unfolded_by ws p) e ∙ either_none (is_repeated p m) m (bounds_of_call ws p m) (sym f)
+
+  with_some : (m : Standing) (o : Option (List Bound)) → is_some o ≡ true → (u : Unfolded) × (unfolded_with m o ≡ Some u) × (u.macro ≡ m)
+  with_some m None e = cc
+  with_some m (Some bs) e = (record { macro = m; bounds = bs }, refl, refl)
+
+  pub is_unfolded : (m : Standing) (i : ℕ) → IsMacroAt ss (called_macro ss p) i → called_macro ss p ≡ Some m → false ≡ is_repeated p m → true ≡ is_some (bounds_of_call ws p m) → IsUnfoldedAt ws ss p i
+  unfolding unfolded
+  is_unfolded m i at e f g =
+      let u = with_some m (bounds_of_call ws p m) (sym g) in
+      record {
+        opened = u.0;
+        is = ap (unfolded_by ws p) e ∙ ap (λ b. if b then None else unfolded_with m (bounds_of_call ws p m)) (sym f) ∙ u.1;
+        at = at.at ∙ ap Some (some_same at.called m (sym at.is ∙ e) ∙ sym u.2);
+      }

@@ -1,0 +1,100 @@
+-- Where no macro stands, nothing is placed but what stands.
+use Rattle.std.proofs.Common.{◌≡◌, true, false, List, [], ◌∷◌, length, refl, sym, ◌∙◌, subst, inl, inr, arith}
+use Rattle.std.specs.Prelude.{Contains, Option, Some, None}
+use Rattle.std.specs.List.Sorted.{IsStrictlySortedBy}
+use Rattle.std.proofs.lemmas.Bool.{cases_lt}
+use Rattle.std.proofs.lemmas.List.{length-map}
+use Rattle.cil_sexpr.specs.Lists.{Lists, contains_cases, contains_here, contains_none}
+use Rattle.cil_sexpr.specs.MadeLists.{contains_map, from_map}
+use Rattle.cil_sexpr.specs.Places.{none_some}
+use Rattle.cil_sexpr.specs.Rising.{IsOver}
+use Rattle.cil_syntax.specs.declared.fault.Fault.{Fault}
+use Rattle.cil_syntax.specs.Fails.{AreFaults}
+use Rattle.cil_syntax.specs.Laws.{Outcome, succeeds, fails}
+use Rattle.cil_syntax.specs.Written.{Written, is_macro, written_cmp}
+use Rattle.cil_blocks.specs.Contents.{Standing, Stands, in_block, in_optional as optional_stands, inherited, standing_cmp, top}
+use Rattle.cil_blocks.specs.InheritFaults.{limit_fault, most_instances}
+use Rattle.cil_macros.specs.Calls.{IsPlaced, Unfolded, called, called_macro, in_optional, is_call, placed_cmp, stands, unfolded}
+use Rattle.cil_macros.specs.ExpandFaults.{ExpandFault, ExpandStep, call_arguments, call_cycle, too_many}
+use Rattle.cil_macros.specs.Laws.{HaveFlatInstances}
+use Rattle.cil_macros.specs.Opens.{starts}
+use Rattle.cil_macros.specs.Placed.{Placed, placed_standing}
+use Rattle.cil_macros.proofs.CallLemmas.{uncalled}
+use Rattle.cil_macros.proofs.CalledMacros.{names_macro}
+use Rattle.cil_macros.proofs.ExpandLemmas.{limit_alone, no_step}
+use Rattle.cil_macros.proofs.PlacedWalk.{queue_order}
+
+never : true ≡ false → ⊥
+never e = cc
+
+stands_written : (ws : List Written) (s : Standing) → Stands ws s → Contains ws s.statement
+stands_written ws s (top w c u) = c
+stands_written ws s (in_block p w sp b a c u) = c
+stands_written ws s (optional_stands p w sp o c u) = c
+stands_written ws s (inherited p b w sp i t c u) = c
+
+module _ (ws : List Written) (ss : List Standing) (rising : IsStrictlySortedBy written_cmp ws) (are : Lists standing_cmp (Stands ws) ss)
+    (flat : (w : Written) → Contains ws w → is_macro w.statement.keyword ≡ false) where
+  no_macro : (p : Placed) (m : Standing) → called_macro ss p ≡ Some m → ⊥
+  no_macro p m e =
+      let n = names_macro ws ss p m e in
+      never (sym n.2 ∙ flat m.statement (stands_written ws m ((are.members m).0 n.1)))
+
+  none_called : (p : Placed) (o : Option Standing) → called_macro ss p ≡ o → called_macro ss p ≡ None
+  none_called p None e = e
+  none_called p (Some m) e = absurd (no_macro p m e)
+
+  not_unfolded : (p : Placed) (u : Unfolded) → unfolded ws ss p ≡ Some u → ⊥
+  not_unfolded p u e = none_some u (sym (uncalled ws ss p (none_called p (called_macro ss p) refl)) ∙ e)
+
+  placed_stands : (p : Placed) → IsPlaced ws ss p → Contains (starts ss) p
+  placed_stands p (stands s c) = contains_map placed_standing ss s c
+  placed_stands p (called q u w iq e c i) = absurd (not_unfolded q u e)
+  placed_stands p (in_optional q b w iq e o c i) = absurd (never (sym o))
+
+  unfolds_calls : (p : Placed) (u : Unfolded) → unfolded ws ss p ≡ Some u → is_call p.standing.statement.statement.keyword ≡ true
+  unfolds_calls p u e = absurd (not_unfolded p u e)
+
+  placed : Lists placed_cmp (IsPlaced ws ss) (starts ss)
+  placed = record {
+    rising = (queue_order ws ss unfolds_calls rising are.rising).start_rises;
+    members = λ p. (
+      (λ c. let m = from_map placed_standing ss p c in subst (IsPlaced ws ss) m.2 (stands m.0 m.1)),
+      placed_stands p,
+    );
+  }
+
+  no_fault : (f : Fault) → ExpandFault ws ss f → ⊥
+  no_fault f (call_cycle p m w ip e g again) = no_macro p m e
+  no_fault f (call_arguments p m w ip e g none) = no_macro p m e
+
+  limit_listed : IsOver placed_cmp (IsPlaced ws ss) most_instances → AreFaults (ExpandStep ws ss) (limit_fault ∷ [])
+  unfolding IsStrictlySortedBy
+  limit_listed over = record {
+    listed = record {
+      rising = (tt, tt);
+      members = λ f. (
+        (λ c. elim (contains_cases f limit_fault [] c) [ inl e ↦ subst (ExpandStep ws ss) e (too_many over) | inr d ↦ absurd (contains_none f d) ]),
+        (λ s. subst (Contains (limit_fault ∷ [])) (sym (limit_alone ws ss over f s)) (contains_here limit_fault [])),
+      );
+    };
+    some = omega arith;
+  }
+
+  counted : length (starts ss) ≡ length ss
+  counted = length-map ss placed_standing
+
+  outcome : Outcome (Lists placed_cmp (IsPlaced ws ss)) (ExpandStep ws ss)
+  outcome = elim (cases_lt most_instances (length ss)) [
+    | inl many ↦ fails (limit_fault ∷ [])
+        (limit_listed (record {
+          some = starts ss;
+          rising = placed.rising;
+          each = λ p c. (placed.members p).0 c;
+          many = let l = counted in omega (arith, l, many);
+        }))
+    | inr few ↦ succeeds (starts ss) placed (no_step ws ss (starts ss) placed (let l = counted in omega (arith, l, few)) no_fault)
+  ]
+
+pub have_flat_instances : HaveFlatInstances
+have_flat_instances ws ss rising are flat = outcome ws ss rising are flat

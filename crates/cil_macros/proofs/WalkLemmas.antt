@@ -1,0 +1,278 @@
+-- The walk: what a call brings is put behind what was brought before, and its body is kept.
+use Rattle.std.proofs.Common.{◌≡◌, ℕ, zero, suc, ◌+◌, ◌<◌, ◌≤◌, ◌⊎◌, true, false, List, [], ◌∷◌, ◌++◌, length, get_or, map, take, refl, sym, ◌∙◌, ap, subst, inl, inr, arith, append_assoc}
+use Rattle.std.specs.Prelude.{Contains, Some, slice_get}
+use Rattle.std.proofs.lemmas.List.{append-nil, map-append, take_more}
+use Rattle.std.proofs.lemmas.List.Elements.{Contains-append_cases}
+use Rattle.cil_sexpr.specs.Lists.{contains_cases, contains_none}
+use Rattle.cil_sexpr.specs.Places.{get_behind, get_in_front, in_range, is_there, none_some, some_same}
+use Rattle.cil_blocks.specs.Contents.{Standing}
+use Rattle.cil_blocks.specs.declared.namespaces.Space.{Space}
+use Rattle.cil_blocks.specs.declared.parts.Parts.{Parts}
+use Rattle.cil_blocks.specs.declared.places.Place.{Place}
+use Rattle.cil_blocks.specs.Entries.{AreParts, parts_at, standings_of, statement_at}
+use Rattle.cil_blocks.specs.Places.{AreStandings, IsPlace, Standings, entries_in, numbered, spaces_in}
+use Rattle.cil_blocks.proofs.EntryLemmas.{standings_length}
+use Rattle.cil_syntax.specs.Scopes.{tidy}
+use Rattle.cil_syntax.specs.Written.{Written, is_macro}
+use Rattle.cil_macros.specs.declared.entry.Body.{Body}
+use Rattle.cil_macros.specs.declared.entry.Called.{Called}
+use Rattle.cil_macros.specs.Calls.{IsPlaced, Unfolded, is_call, placed_cmp, unfolded}
+use Rattle.cil_macros.specs.Entries.{AreBodies, AreBodyPlaces, IsBody, IsOf, placed_by, placed_from, placed_of, placed_under}
+use Rattle.cil_macros.specs.Opens.{opens_placed, starts}
+use Rattle.cil_macros.specs.Placed.{Placed}
+use Rattle.cil_macros.specs.Walks.{IsUnfoldedAt, called_by, placed_in, written_in}
+use Rattle.cil_macros.specs.Macros.{all_standing}
+use Rattle.cil_macros.proofs.EntryLemmas.{AreSoFar, all_placed, opens_so, placed_length, started, too_many, went_on}
+use Rattle.cil_macros.proofs.CallLemmas.{placed_there}
+use Rattle.cil_sexpr.specs.Lists.{Lists}
+use Rattle.cil_sexpr.specs.Rising.{IsOver}
+use Rattle.cil_macros.proofs.CalledMacros.{is_macro_call}
+
+get_of_contains : {X : Type 0} (xs : List X) (x : X) → Contains xs x → (i : ℕ) × (slice_get xs i ≡ Some x)
+get_of_contains xs x (k, h, e) = (k, is_there xs k x h ∙ ap Some e)
+
+-- one number more is put behind the others
+pub one_called : (numbers : List ℕ) (k opener body : ℕ) (old cs new : List Called) → k < length numbers
+    → cs ≡ old ++ map (called_by opener body) (take k numbers) → new ≡ cs ++ called_by opener body (get_or numbers k 0) ∷ []
+    → new ≡ old ++ map (called_by opener body) (take (k + 1) numbers)
+one_called numbers k opener body old cs new h so e =
+    e ∙ ap (λ xs. xs ++ called_by opener body (get_or numbers k 0) ∷ []) so
+    ∙ append_assoc old (map (called_by opener body) (take k numbers)) (called_by opener body (get_or numbers k 0) ∷ [])
+    ∙ ap (λ xs. old ++ xs) (sym (map-append (called_by opener body) (take k numbers) (get_or numbers k 0 ∷ [])))
+    ∙ ap (λ xs. old ++ map (called_by opener body) xs) (sym (take_more numbers k 0 h))
+
+-- a macro is a statement of the program
+number_of_macro : (ws : List Written) (k : ℕ) → is_macro (statement_at ws k).statement.keyword ≡ true → k < length ws
+number_of_macro [] k e = let f : false ≡ true = e in cc
+number_of_macro (w ∷ ws) zero e = omega arith
+number_of_macro (w ∷ ws) (suc k) e = let h = number_of_macro ws k e in omega (arith, h)
+
+module _ (ws : List Written) (ss : List Standing) where
+  -- ---- what is placed when some more are brought
+
+  brought_more : (done : List Placed) (cs ds : List Called) → placed_from ws ss done (cs ++ ds) ≡ placed_from ws ss (placed_from ws ss done cs) ds
+  unfolding placed_from
+  brought_more done [] ds = refl
+  brought_more done (c ∷ cs) ds = brought_more (done ++ placed_by ws ss done c.opener c.statement ∷ []) cs ds
+
+  all_by : (opener body : ℕ) (xs ys : List Placed) (numbers : List ℕ) → opener < length xs
+      → placed_from ws ss (xs ++ ys) (map (called_by opener body) numbers) ≡ (xs ++ ys) ++ map (placed_by ws ss xs opener) numbers
+  unfolding placed_from
+  all_by opener body xs ys [] h = sym (append-nil (xs ++ ys))
+  all_by opener body xs ys (n ∷ ns) h =
+      let now = placed_by ws ss (xs ++ ys) opener n in
+      let same : now ≡ placed_by ws ss xs opener n = ap (λ o. placed_under ws ss o (statement_at ws n)) (get_in_front xs ys opener h) in
+      ap (λ zs. placed_from ws ss zs (map (called_by opener body) ns)) (append_assoc xs ys (now ∷ []))
+      ∙ all_by opener body xs (ys ++ now ∷ []) ns h
+      ∙ ap (λ zs. zs ++ map (placed_by ws ss xs opener) ns) (sym (append_assoc xs ys (now ∷ [])))
+      ∙ append_assoc (xs ++ ys) (now ∷ []) (map (placed_by ws ss xs opener) ns)
+      ∙ ap (λ x. (xs ++ ys) ++ x ∷ map (placed_by ws ss xs opener) ns) same
+
+  -- the statements that a call brings are placed behind the others
+  pub all_brought : (cs : List Called) (opener body : ℕ) (numbers : List ℕ) → opener < length ss + length cs
+      → placed_of ws ss (cs ++ map (called_by opener body) numbers) ≡ placed_of ws ss cs ++ map (placed_by ws ss (placed_of ws ss cs) opener) numbers
+  all_brought cs opener body numbers h =
+      let old = placed_of ws ss cs in
+      let l = placed_length ws ss cs in
+      brought_more (starts ss) cs (map (called_by opener body) numbers)
+      ∙ ap (λ zs. placed_from ws ss zs (map (called_by opener body) numbers)) (sym (append-nil old))
+      ∙ all_by opener body old [] numbers (omega (arith, h, l))
+      ∙ ap (λ zs. zs ++ map (placed_by ws ss old opener) numbers) (append-nil old)
+
+  -- ---- bodies
+
+  -- a body stays one when more is placed
+  body_stays : (ps more : List Placed) (b : Body) → IsBody ws ss ps b → IsBody ws ss (ps ++ more) b
+  body_stays ps more b x = record {
+    call = x.call;
+    is_call = get_in_front ps more b.call (in_range ps b.call x.call x.is_call) ∙ x.is_call;
+    opened = x.opened;
+    is_opened = x.is_opened;
+    is_macro = x.is_macro;
+  }
+
+  -- what is at a place of two lists is of the first or of the second
+  either_at : {X : Type 0} (xs ys : List X) (i : ℕ) (x : X) → slice_get (xs ++ ys) i ≡ Some x
+      → ((i < length xs) × (slice_get xs i ≡ Some x)) ⊎ ((j : ℕ) × (i ≡ length xs + j) × (slice_get ys j ≡ Some x))
+  either_at [] ys i x e = inr (i, omega arith, e)
+  either_at (y ∷ xs) ys zero x e = inl (omega arith, e)
+  either_at (y ∷ xs) ys (suc i) x e = shifted (either_at xs ys i x e)
+    where
+      shifted : ((i < length xs) × (slice_get xs i ≡ Some x)) ⊎ ((j : ℕ) × (i ≡ length xs + j) × (slice_get ys j ≡ Some x))
+          → ((suc i < length (y ∷ xs)) × (slice_get (y ∷ xs) (suc i) ≡ Some x)) ⊎ ((j : ℕ) × (suc i ≡ length (y ∷ xs) + j) × (slice_get ys j ≡ Some x))
+      shifted (inl h) = let l = h.0 in inl (omega (arith, l), h.1)
+      shifted (inr h) = let l = h.1 in inr (h.0, omega (arith, l), h.2)
+
+  module _ (cs : List Called) (bs : List Body) (b : Body) (numbers : List ℕ) (are : AreBodies ws ss cs bs) (is : IsBody ws ss (placed_of ws ss cs) b)
+      (within : b.call < length ss + length cs) where
+    abbrev new : List Called
+    new = cs ++ map (called_by b.call (length bs)) numbers
+
+    abbrev more : List Placed
+    more = map (placed_by ws ss (placed_of ws ss cs) b.call) numbers
+
+    placed_more : placed_of ws ss new ≡ placed_of ws ss cs ++ more
+    placed_more = all_brought cs b.call (length bs) numbers within
+
+    each_body : (i : ℕ) (x : Body) → slice_get (bs ++ b ∷ []) i ≡ Some x → IsBody ws ss (placed_of ws ss cs) x
+    each_body i x e = by (either_at bs (b ∷ []) i x e)
+      where
+        by : ((i < length bs) × (slice_get bs i ≡ Some x)) ⊎ ((j : ℕ) × (i ≡ length bs + j) × (slice_get (b ∷ []) j ≡ Some x)) → IsBody ws ss (placed_of ws ss cs) x
+        by (inl h) = are.each i x h.1
+        by (inr (zero, f, g)) = subst (IsBody ws ss (placed_of ws ss cs)) (some_same b x g) is
+        by (inr (suc j, f, g)) = absurd (none_some x g)
+
+    of_old : (count : ℕ) (c : Called) → IsOf bs count c → IsOf (bs ++ b ∷ []) count c
+    of_old count c x = record {
+      body = x.body;
+      is_body = get_in_front bs (b ∷ []) c.body (in_range bs c.body x.body x.is_body) ∙ x.is_body;
+      by_call = x.by_call;
+      before = x.before;
+    }
+
+    one_of : (ns : List ℕ) (j : ℕ) (c : Called) → slice_get (map (called_by b.call (length bs)) ns) j ≡ Some c → (c.body ≡ length bs) × (c.opener ≡ b.call)
+    one_of [] j c e = absurd (none_some c e)
+    one_of (n ∷ ns) zero c e = let same = some_same (called_by b.call (length bs) n) c e in (ap (λ (x : Called). x.body) (sym same), ap (λ (x : Called). x.opener) (sym same))
+    one_of (n ∷ ns) (suc j) c e = one_of ns j c e
+
+    of_new : (j k : ℕ) (c : Called) → j ≡ length cs + k → slice_get (map (called_by b.call (length bs)) numbers) k ≡ Some c → IsOf (bs ++ b ∷ []) (length ss + j) c
+    of_new j k c f e =
+        let o = one_of numbers k c e in
+        let same = o.1 in
+        record {
+          body = b;
+          is_body = ap (slice_get (bs ++ b ∷ [])) o.0 ∙ get_behind bs (b ∷ []) 0 (length bs) (omega arith);
+          by_call = sym o.1;
+          before = omega (arith, within, f, same);
+        }
+
+    -- the bodies are those of what was brought, with this one
+    pub bodies_more : AreBodies ws ss new (bs ++ b ∷ [])
+    bodies_more = record {
+      each = λ i x e. subst (λ ps. IsBody ws ss ps x) (sym placed_more) (body_stays (placed_of ws ss cs) more x (each_body i x e));
+      brought = λ j c e. by j c (either_at cs (map (called_by b.call (length bs)) numbers) j c e);
+    }
+      where
+        by : (j : ℕ) (c : Called) → ((j < length cs) × (slice_get cs j ≡ Some c)) ⊎ ((k : ℕ) × (j ≡ length cs + k) × (slice_get (map (called_by b.call (length bs)) numbers) k ≡ Some c))
+            → IsOf (bs ++ b ∷ []) (length ss + j) c
+        by j c (inl h) = of_old (length ss + j) c (are.brought j c h.1)
+        by j c (inr (k, f, g)) = of_new j k c f g
+
+    -- and so are their places
+    pub places_more : (spaces : List Space) → AreBodyPlaces ws ss spaces cs bs
+        → ((p : Placed) (u : Unfolded) → slice_get (placed_of ws ss cs) b.call ≡ Some p → unfolded ws ss p ≡ Some u → IsPlace spaces p.standing.space (tidy (u.macro.scope ++ p.standing.scope)) (numbered b.place))
+        → AreBodyPlaces ws ss spaces new (bs ++ b ∷ [])
+    places_more spaces old so x p u c e f = by (Contains-append_cases bs (b ∷ []) x c)
+      where
+        -- the call of a body stands where it stood
+        before : (y : Body) → y.call < length (placed_of ws ss cs) → slice_get (placed_of ws ss new) y.call ≡ Some p → slice_get (placed_of ws ss cs) y.call ≡ Some p
+        before y h g = sym (get_in_front (placed_of ws ss cs) more y.call h) ∙ ap (λ ps. slice_get ps y.call) (sym placed_more) ∙ g
+
+        its : (y : Body) → y ≡ x → slice_get (placed_of ws ss new) y.call ≡ Some p
+        its y d = ap (λ (z : Body). slice_get (placed_of ws ss new) z.call) d ∙ e
+
+        by : (Contains bs x ⊎ Contains (b ∷ []) x) → IsPlace spaces p.standing.space (tidy (u.macro.scope ++ p.standing.scope)) (numbered x.place)
+        by (inl d) =
+            let i = get_of_contains bs x d in
+            let y = are.each i.0 x i.1 in
+            old x p u d (before x (in_range (placed_of ws ss cs) x.call y.call y.is_call) e) f
+        by (inr d) = elim (contains_cases x b [] d) [
+          | inl same ↦ subst (λ (z : Body). IsPlace spaces p.standing.space (tidy (u.macro.scope ++ p.standing.scope)) (numbered z.place)) same
+              (so p u (before b (in_range (placed_of ws ss cs) b.call is.call is.is_call) (its b same)) f)
+          | inr none ↦ absurd (contains_none x none)
+        ]
+
+-- ---- a step of the walk
+
+module _ (s : Standings) (cs : List Called) (bs : List Body) (at called : ℕ) (p : Placed) (here : slice_get (placed_in s cs) at ≡ Some p)
+    (u : IsUnfoldedAt (written_in s) (all_standing s) p called) (within : at < length (entries_in s) + length cs) where
+  its_body : (place : Place) → IsBody (written_in s) (all_standing s) (placed_in s cs) (record { call = at; called = called; place = place })
+  its_body place = record { call = p; is_call = here; opened = u.opened; is_opened = u.is; is_macro = u.at }
+
+  range : at < length (all_standing s) + length cs
+  range = let l = standings_length (written_in s) (entries_in s) in omega (arith, within, l)
+
+  pub bodies_opened : (place : Place) (numbers : List ℕ) (body : ℕ) (new : List Called) (more : List Body) → AreBodies (written_in s) (all_standing s) cs bs
+      → body ≡ length bs → new ≡ cs ++ map (called_by at body) numbers → more ≡ bs ++ (record { call = at; called = called; place = place }) ∷ []
+      → AreBodies (written_in s) (all_standing s) new more
+  bodies_opened place numbers body new more are l e f =
+      subst (λ xs. AreBodies (written_in s) (all_standing s) new xs) (sym f)
+      (subst (λ xs. AreBodies (written_in s) (all_standing s) xs (bs ++ (record { call = at; called = called; place = place }) ∷ []))
+      (sym (e ∙ ap (λ n. cs ++ map (called_by at n) numbers) l))
+      (bodies_more (written_in s) (all_standing s) cs bs (record { call = at; called = called; place = place }) numbers are (its_body place) range))
+
+  pub places_opened : (place : Place) (numbers : List ℕ) (body : ℕ) (new : List Called) (more : List Body) → AreBodies (written_in s) (all_standing s) cs bs
+      → AreBodyPlaces (written_in s) (all_standing s) (spaces_in s) cs bs
+      → ((q : Placed) (m : Standing) → slice_get (placed_in s cs) at ≡ Some q → slice_get (all_standing s) called ≡ Some m
+      → IsPlace (spaces_in s) q.standing.space (tidy (m.scope ++ q.standing.scope)) (numbered place))
+      → body ≡ length bs → new ≡ cs ++ map (called_by at body) numbers → more ≡ bs ++ (record { call = at; called = called; place = place }) ∷ []
+      → AreBodyPlaces (written_in s) (all_standing s) (spaces_in s) new more
+  places_opened place numbers body new more are places so l e f =
+      subst (λ xs. AreBodyPlaces (written_in s) (all_standing s) (spaces_in s) new xs) (sym f)
+      (subst (λ xs. AreBodyPlaces (written_in s) (all_standing s) (spaces_in s) xs (bs ++ (record { call = at; called = called; place = place }) ∷ []))
+      (sym (e ∙ ap (λ n. cs ++ map (called_by at n) numbers) l))
+      (places_more (written_in s) (all_standing s) cs bs (record { call = at; called = called; place = place }) numbers are (its_body place) range (spaces_in s) places
+      (λ q v g i. so q v.macro g (u.at ∙ ap (λ (w : Unfolded). Some w.macro) (same_opened q v g i)))))
+    where
+      same_opened : (q : Placed) (v : Unfolded) → slice_get (placed_in s cs) at ≡ Some q → unfolded (written_in s) (all_standing s) q ≡ Some v → u.opened ≡ v
+      same_opened q v g i = some_same u.opened v (sym u.is ∙ ap (unfolded (written_in s) (all_standing s)) (some_same p q (sym here ∙ g)) ∙ i)
+
+  -- what is placed is what was placed, and what this statement opens
+  pub placed_opened : (ps : Parts) → AreParts (written_in s) ps → (k body : ℕ) (numbers : List ℕ) (new : List Called)
+      → ((ws : List Written) (m : Standing) → slice_get (standings_of ws (entries_in s)) called ≡ Some m → m.statement ≡ statement_at ws k)
+      → numbers ≡ parts_at ps k → new ≡ cs ++ map (called_by at body) numbers → placed_in s new ≡ placed_in s cs ++ opens_placed (written_in s) (all_standing s) p
+  placed_opened ps are_parts k body numbers new statement n e =
+      ap (placed_in s) e
+      ∙ all_brought (written_in s) (all_standing s) cs at body numbers range
+      ∙ ap (λ ks. placed_in s cs ++ map (placed_by (written_in s) (all_standing s) (placed_in s cs) at) ks) n
+      ∙ ap (λ xs. placed_in s cs ++ xs)
+      (opens_so (written_in s) (all_standing s) ps are_parts (placed_in s cs) at k p u.opened here u.is (number_of_macro (written_in s) k keyword) same)
+    where
+      same : u.opened.macro.statement ≡ statement_at (written_in s) k
+      same = statement (written_in s) u.opened.macro u.at
+
+      keyword : is_macro (statement_at (written_in s) k).statement.keyword ≡ true
+      keyword = ap (λ (w : Written). is_macro w.statement.keyword) (sym same) ∙ (is_macro_call (written_in s) (all_standing s) p u.opened u.is).macro
+
+-- ---- the whole walk
+
+module _ (s : Standings) where
+  abbrev pub AreReached : ℕ → List Called → Type 0
+  AreReached at cs = AreSoFar (written_in s) (all_standing s) at (placed_in s cs)
+
+  -- nothing is brought yet
+  pub no_bodies : (cs : List Called) (bs : List Body) → cs ≡ [] → bs ≡ [] → AreBodies (written_in s) (all_standing s) cs bs
+  no_bodies cs bs e f = record {
+    each = λ i b g. absurd (none_some b (ap (λ xs. slice_get xs i) (sym f) ∙ g));
+    brought = λ j c g. absurd (none_some c (ap (λ xs. slice_get xs j) (sym e) ∙ g));
+  }
+
+  pub no_places : (cs : List Called) (bs : List Body) → bs ≡ [] → AreBodyPlaces (written_in s) (all_standing s) (spaces_in s) cs bs
+  no_places cs bs f b p u c e g = absurd (contains_none b (subst (λ xs. Contains xs b) f c))
+
+  module _ (are : AreStandings s) where
+    calls : (p : Placed) (u : Unfolded) → unfolded (written_in s) (all_standing s) p ≡ Some u → is_call p.standing.statement.statement.keyword ≡ true
+    calls p u e = (is_macro_call (written_in s) (all_standing s) p u e).call
+
+    pub begun : (cs : List Called) → cs ≡ [] → AreReached 0 cs
+    begun cs e =
+        subst (AreReached 0) (sym e)
+        (started (written_in s) (all_standing s) calls are.contents.nested.rising are.contents.standings.rising)
+
+    pub gone_on : (at : ℕ) (cs new : List Called) → at < length (entries_in s) + length cs → AreReached at cs
+        → ((p : Placed) → slice_get (placed_in s cs) at ≡ Some p → placed_in s new ≡ placed_in s cs ++ opens_placed (written_in s) (all_standing s) p) → AreReached (at + 1) new
+    gone_on at cs new h so e =
+        let p = placed_there s cs at h in
+        went_on (written_in s) (all_standing s) calls are.contents.nested.rising are.contents.standings.rising at cs new p.0 p.1 so (e p.0 p.1)
+
+    pub all_reached : (at : ℕ) (cs : List Called) → length (entries_in s) + length cs ≤ at → AreReached at cs
+        → Lists placed_cmp (IsPlaced (written_in s) (all_standing s)) (placed_in s cs)
+    all_reached at cs h so =
+        let l = standings_length (written_in s) (entries_in s) in
+        all_placed (written_in s) (all_standing s) calls are.contents.nested.rising are.contents.standings.rising at cs (omega (arith, h, l)) so
+
+    pub over_reached : (at limit : ℕ) (cs : List Called) → limit < length (entries_in s) + length cs → AreReached at cs
+        → IsOver placed_cmp (IsPlaced (written_in s) (all_standing s)) limit
+    over_reached at limit cs h so =
+        let l = standings_length (written_in s) (entries_in s) in
+        too_many (written_in s) (all_standing s) calls are.contents.nested.rising are.contents.standings.rising at limit cs (omega (arith, h, l)) so

@@ -1,0 +1,42 @@
+use Rattle.std.proofs.Common.{refl}
+use Rattle.cil_blocks.proofs.InheritLemmas.{is_none, is_some}
+use Rattle.cil_macros.specs.Macros.{all_standing}
+use Rattle.cil_macros.specs.Walks.{placed_in, written_in}
+use Rattle.cil_macros.proofs.ExpandLemmas.{no_fault, no_step, over_so, placed_few, refused_calls}
+use Rattle.cil_macros.proofs.expansion.expand.Goals as goal
+
+pub returns-in_default : goal.returns-in_default
+returns-in_default c =
+    let s = c.args.spaces.now in
+    over_so (written_in s) (all_standing s) c.in_ok-over_the_limit.field-0 (is_none _ c.in_ok-brought.field-0 c.in_default.is c.in_ok-brought.ensures.many) c.in_ok-over_the_limit.ensures
+
+pub returns-in-Some-of : goal.returns-in-Some-of
+returns-in-Some-of c =
+    let s = c.args.spaces.now in
+    let cs = c.in-Some.brought.called.items in
+    refused_calls (written_in s) (all_standing s) (placed_in s cs) (is_some _ c.in_ok-brought.field-0 c.in-Some.brought c.in-Some.is c.in_ok-brought.ensures.all)
+    (placed_few s cs (is_some _ c.in_ok-brought.field-0 c.in-Some.brought c.in-Some.is c.in_ok-brought.ensures.few))
+    c.in_ok-faults.faults.items c.in-Some-of.list c.in_ok-faults.ensures c.in-Some-of.ensures.faults
+
+pub invariant_of-result : goal.invariant_of-result
+invariant_of-result c =
+    let s = c.args.spaces.now in
+    let cs = c.in-Some.brought.called.items in
+    let placed = is_some _ c.in_ok-brought.field-0 c.in-Some.brought c.in-Some.is c.in_ok-brought.ensures.all in
+    record {
+      brought = is_some _ c.in_ok-brought.field-0 c.in-Some.brought c.in-Some.is c.in_ok-brought.ensures.brought;
+      lawful = no_fault (written_in s) (all_standing s) (placed_in s cs) placed c.in_ok-faults.faults.items c.in_ok-faults.ensures (c.in_default-of.ensures.none.0 refl);
+      placed = placed;
+      few = is_some _ c.in_ok-brought.field-0 c.in-Some.brought c.in-Some.is c.in_ok-brought.ensures.few;
+    }
+
+pub returns : goal.returns
+returns c =
+    let s = c.args.spaces.now in
+    let cs = c.in-Some.brought.called.items in
+    let placed = is_some _ c.in_ok-brought.field-0 c.in-Some.brought c.in-Some.is c.in_ok-brought.ensures.all in (
+      refl,
+      no_step (written_in s) (all_standing s) (placed_in s cs) placed
+          (placed_few s cs (is_some _ c.in_ok-brought.field-0 c.in-Some.brought c.in-Some.is c.in_ok-brought.ensures.few))
+          (no_fault (written_in s) (all_standing s) (placed_in s cs) placed c.in_ok-faults.faults.items c.in_ok-faults.ensures (c.in_default-of.ensures.none.0 refl)),
+    )

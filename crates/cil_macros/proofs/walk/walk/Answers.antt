@@ -1,0 +1,47 @@
+use Rattle.std.proofs.Common.{ap, arith, length}
+use Rattle.cil_macros.proofs.WalkLemmas.{all_reached, begun, gone_on, no_bodies, no_places, over_reached}
+use Rattle.cil_macros.proofs.walk.walk.Goals as goal
+
+pub loop-at-init : goal.loop-at-init
+loop-at-init c =
+    let s = c.args.source.now.spaces.now in (
+      omega arith,
+      record {
+        bodies = no_bodies s c.new.result.items c.new-2.result.items c.new.ensures.items c.new-2.ensures.items;
+        places = no_places s c.new.result.items c.new-2.result.items c.new-2.ensures.items;
+      },
+      begun s c.requires.standings c.new.result.items c.new.ensures.items,
+    )
+
+pub returns-then-standing-len-clause-many : goal.returns-then-standing-len-clause-many
+returns-then-standing-len-clause-many c =
+    let s = c.args.source.now.spaces.now in
+    let h = c.if-standing-len.true in
+    let l = ap length c.entries-standing.ensures.same in
+    let m = c.len-in-loop-at.ensures in
+    let n = c.loop-at.brought.called.ok in
+    over_reached s c.requires.standings c.loop-at.at c.args.limit c.loop-at.brought.called.items (omega (arith, h, l, m, n)) c.loop-at.invariant.2
+
+pub loop-at-preserved : goal.loop-at-preserved
+loop-at-preserved c =
+    let s = c.args.source.now.spaces.now in
+    let h = c.loop-at-test.true in
+    let few = c.if-standing-len.false in
+    let l = ap length c.entries-standing.ensures.same in
+    let m = c.len.ensures in
+    let m2 = c.len-in-loop-at.ensures in
+    let n = c.loop-at.brought.called.ok in (
+      omega (arith, h, few, m, m2),
+      c.in_ok-open.ensures.brought,
+      gone_on s c.requires.standings c.loop-at.at c.loop-at.brought.called.items c.open.new.self.called.items (omega (arith, h, l, m, n)) c.loop-at.invariant.2
+          c.in_ok-open.ensures.opened,
+    )
+
+pub returns-clause-all : goal.returns-clause-all
+returns-clause-all c =
+    let s = c.args.source.now.spaces.now in
+    let h = c.loop-at-test.false in
+    let l = ap length c.entries-standing.ensures.same in
+    let m = c.len.ensures in
+    let n = c.loop-at.brought.called.ok in
+    all_reached s c.requires.standings c.loop-at.at c.loop-at.brought.called.items (omega (arith, h, l, m, n)) c.loop-at.invariant.2

@@ -1,0 +1,47 @@
+-- What is wrong with calls, placed statement by placed statement, as it is told.
+use Rattle.std.specs.Prelude.{◌≡◌, ℕ, Bool, false, not, if◌then◌else◌, List, [], ◌∷◌, ◌++◌, Option, Some, None, is_some, slice_get}
+use Rattle.cil_syntax.specs.declared.code.FaultCode.{FaultCode}
+use Rattle.cil_syntax.specs.declared.code.FaultCode.TheVariants as causes
+use Rattle.cil_syntax.specs.declared.fault.Fault.{Fault}
+use Rattle.cil_syntax.specs.declared.term.Word.{Word}
+use Rattle.cil_syntax.specs.Reported.{fault_at}
+use Rattle.cil_syntax.specs.Scopes.{Namespace}
+use Rattle.cil_syntax.specs.Written.{Written}
+use Rattle.cil_blocks.specs.Contents.{Standing, first_word}
+use Rattle.cil_blocks.specs.Places.{Standings}
+use Rattle.cil_macros.specs.declared.entry.Called.{Called}
+use Rattle.cil_macros.specs.declared.faults.Wrong.{Wrong}
+use Rattle.cil_macros.specs.Calls.{bounds_of_call, called_macro, is_repeated}
+use Rattle.cil_macros.specs.Macros.{all_standing}
+use Rattle.cil_macros.specs.Placed.{Placed}
+use Rattle.cil_macros.specs.Walks.{placed_in, written_in}
+
+-- the call came through its macro already
+abbrev pub is_again : Placed → Option Standing → Bool
+is_again p None = false
+is_again p (Some m) = is_repeated p m
+
+-- its arguments do not fit
+abbrev pub is_unfit : List Written → Placed → Option Standing → Bool
+is_unfit ws p None = false
+is_unfit ws p (Some m) = not (is_some (bounds_of_call ws p m))
+
+-- a fault at a word, if there is one
+abbrev pub told_if : Bool → FaultCode → Namespace → Word → List Fault
+told_if wrong code space w = if wrong then fault_at code w.at space w.bytes ∷ [] else []
+
+abbrev pub told : Namespace → Wrong → Option Word → List Fault
+told space x None = []
+told space x (Some w) = told_if x.again causes.CallCycle space w ++ told_if x.unfit causes.CallArguments space w
+
+-- what is wrong with a placed statement
+abbrev pub wrong_of : List Written → List Standing → Placed → Wrong
+wrong_of ws ss p = record { again = is_again p (called_macro ss p); unfit = is_unfit ws p (called_macro ss p) }
+
+-- and its faults
+abbrev pub faults_of : List Written → List Standing → Placed → List Fault
+faults_of ws ss p = told p.standing.space (wrong_of ws ss p) (first_word p.standing.statement.statement.args)
+
+-- what is wrong there
+abbrev pub SaysWrong : Standings → List Called → ℕ → Wrong → Type 0
+SaysWrong s cs at x = (p : Placed) → slice_get (placed_in s cs) at ≡ Some p → x ≡ wrong_of (written_in s) (all_standing s) p

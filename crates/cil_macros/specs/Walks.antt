@@ -1,0 +1,54 @@
+-- The walk over calls: what it stands on, and what holds of what it has brought so far.
+use Rattle.std.specs.Prelude.{◌≡◌, ℕ, List, Option, Some, None, slice_get, MatchOption}
+use Rattle.cil_syntax.specs.Program.{program_of}
+use Rattle.cil_syntax.specs.Written.{Written}
+use Rattle.cil_blocks.specs.Contents.{Standing}
+use Rattle.cil_blocks.specs.Entries.{AreParts}
+use Rattle.cil_blocks.specs.Places.{AreStandings, Standings, spaces_in, statements_in}
+use Rattle.cil_macros.specs.declared.chain.Brought.{Brought}
+use Rattle.cil_macros.specs.declared.entry.Called.{Called}
+use Rattle.cil_macros.specs.declared.source.Source.{Source}
+use Rattle.cil_macros.specs.Calls.{Unfolded, called_macro, unfolded}
+use Rattle.cil_macros.specs.Entries.{AreBodies, AreBodyPlaces, placed_of}
+use Rattle.cil_macros.specs.Macros.{AreMacros, IsMacroAt, all_standing}
+use Rattle.cil_macros.specs.Placed.{Placed}
+
+abbrev pub written_in : Standings → List Written
+written_in s = program_of (statements_in s)
+
+-- all that is placed: what stands, and then what calls bring
+abbrev pub placed_in : Standings → List Called → List Placed
+placed_in s cs = placed_of (written_in s) (all_standing s) cs
+
+-- what a walk stands on
+pub record IsSource (s : Source) : Type 0 where
+  pub standings : AreStandings s.spaces.now
+  pub macros : AreMacros s.spaces.now s.macros.now
+  pub parts : AreParts (written_in s.spaces.now) s.parts.now
+
+-- what a walk has brought
+pub record AreBrought (s : Standings) (b : Brought) : Type 0 where
+  pub bodies : AreBodies (written_in s) (all_standing s) b.called.items b.bodies.items
+  pub places : AreBodyPlaces (written_in s) (all_standing s) (spaces_in s) b.called.items b.bodies.items
+
+-- the macro that is called there, by its rank
+abbrev pub SaysMeant : Standings → List Called → ℕ → Option ℕ → Type 0
+SaysMeant s cs at o =
+    (p : Placed) → slice_get (placed_in s cs) at ≡ Some p
+    → MatchOption o (called_macro (all_standing s) p ≡ None) (IsMacroAt (all_standing s) (called_macro (all_standing s) p))
+
+-- the macro, by its rank, is that of a call that is unfolded
+pub record IsUnfoldedAt (ws : List Written) (ss : List Standing) (p : Placed) (i : ℕ) : Type 0 where
+  pub opened : Unfolded
+  pub is : unfolded ws ss p ≡ Some opened
+  pub at : slice_get ss i ≡ Some opened.macro
+
+-- the macro that is unfolded there, by its rank
+abbrev pub SaysUnfolded : Standings → List Called → ℕ → Option ℕ → Type 0
+SaysUnfolded s cs at o =
+    (p : Placed) → slice_get (placed_in s cs) at ≡ Some p
+    → MatchOption o (unfolded (written_in s) (all_standing s) p ≡ None) (IsUnfoldedAt (written_in s) (all_standing s) p)
+
+-- a statement that a call brings
+abbrev pub called_by : ℕ → ℕ → ℕ → Called
+called_by opener body number = record { statement = number; opener = opener; body = body }

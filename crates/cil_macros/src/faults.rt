@@ -1,0 +1,131 @@
+//! What is wrong with calls, told at the word of the macro, in the namespace in which the call is placed. A look at each placed
+//! statement is the cost.
+
+ghost use Rattle.std.specs.Prelude.{◌≡◌, ◌+◌, ◌<◌, ◌≤◌, ◌++◌, ◌∷◌, [], IfOk, OnOk, Some, length, slice_get};
+ghost use Rattle.std.specs.List.{flat_map};
+ghost use Rattle.cil_blocks.specs.Namespaces.{space_at};
+ghost use Rattle.cil_blocks.specs.Places.{entries_in};
+ghost use Rattle.cil_macros.specs.CallFaults.{SaysWrong, faults_of, told_if};
+ghost use Rattle.cil_macros.specs.Macros.{all_standing};
+ghost use Rattle.cil_macros.specs.Placed.{Placed};
+ghost use Rattle.cil_macros.specs.Walks.{AreBrought, IsSource, placed_in, written_in};
+
+use crate::calls::{comes_again, has_arguments, macro_at, place_at};
+use crate::chain::{Brought, statement_at};
+use crate::source::Source;
+use cil_blocks::Namespaces;
+use cil_blocks::spelled::spelled;
+use cil_modset::NoMemory;
+use cil_syntax::{Bytes, Fault, FaultCode, Word, word_and_terms};
+use std::alloc::Global;
+
+/// What is wrong with a call. Both may be.
+#[derive(Clone, Copy)]
+pub struct Wrong {
+    /// It came through its macro already.
+    pub again: bool,
+    /// Its arguments are too few or too many, or have not the forms that the macro asks.
+    pub unfit: bool,
+}
+
+/// Where a fault is told: at a word, in the namespace of a number.
+#[derive(Clone, Copy)]
+struct Site<'s, 'a> {
+    namespaces: &'s Namespaces<'a>,
+    space: usize,
+    word: &'s Word<'a>,
+}
+
+/// The faults of all calls.
+pub fn call_faults(
+    alloc: Global,
+    source: &Source,
+    brought: &Brought,
+) -> Result<Vec<Fault>, NoMemory>
+    requires source { IsSource source.now }
+    requires brought { AreBrought source.now.spaces.now brought.now }
+    ensures { IfOk result (λ faults. faults.items ≡ flat_map (faults_of (written_in source.now.spaces.now) (all_standing source.now.spaces.now)) (placed_in source.now.spaces.now brought.now.called.items)) }
+{
+    let mut faults = Vec::new(alloc);
+    for at in 0..source.spaces.entries().len() + brought.called.len() {
+        report(alloc, &mut faults, source, brought, at)?;
+    }
+    Ok(faults)
+}
+
+/// Tells what is wrong with the statement at a place.
+fn report(
+    alloc: Global,
+    faults: &mut Vec<Fault>,
+    source: &Source,
+    brought: &Brought,
+    at: usize,
+) -> Result<(), NoMemory>
+    requires source { IsSource source.now }
+    requires brought { AreBrought source.now.spaces.now brought.now }
+    requires within { at < length (entries_in source.now.spaces.now) + length brought.now.called.items }
+    ensures { OnOk result ((p : Placed) → slice_get (placed_in source.now.spaces.now brought.now.called.items) at ≡ Some p
+        → faults.new.items ≡ faults.old.items ++ faults_of (written_in source.now.spaces.now) (all_standing source.now.spaces.now) p) }
+{
+    let wrong = wrong_at(source, brought, at);
+    let number = statement_at(source.spaces.entries(), brought.called.as_slice(), at);
+    let Some(statement) = source.spaces.statements().get(number) else {
+        return Ok(());
+    };
+    let Some(front) = word_and_terms(statement.args.as_slice(), statement.at.module) else {
+        return Ok(());
+    };
+    let site = Site {
+        namespaces: source.spaces.namespaces(),
+        space: place_at(source, brought, at).space,
+        word: &front.word,
+    };
+    report_if(alloc, faults, wrong.again, FaultCode::CallCycle, &site)?;
+    report_if(alloc, faults, wrong.unfit, FaultCode::CallArguments, &site)?;
+    Ok(())
+}
+
+/// What is wrong with the statement at a place.
+fn wrong_at(source: &Source, brought: &Brought, at: usize) -> Wrong
+    requires source { IsSource source.now }
+    requires brought { AreBrought source.now.spaces.now brought.now }
+    requires within { at < length (entries_in source.now.spaces.now) + length brought.now.called.items }
+    ensures { SaysWrong source.now.spaces.now brought.now.called.items at result }
+{
+    let Some(called) = macro_at(source, brought, at) else {
+        return Wrong {
+            again: false,
+            unfit: false,
+        };
+    };
+    Wrong {
+        again: comes_again(source, brought, at, called),
+        unfit: !has_arguments(source, brought, at, called),
+    }
+}
+
+/// Tells a fault, if there is one.
+fn report_if(
+    alloc: Global,
+    faults: &mut Vec<Fault>,
+    wrong: bool,
+    code: FaultCode,
+    site: &Site,
+) -> Result<(), NoMemory>
+    requires { site.now.space ≤ length site.now.namespaces.now }
+    ensures { OnOk result (faults.new.items ≡ faults.old.items ++ told_if wrong code (space_at site.now.namespaces.now site.now.space) site.now.word.now) }
+{
+    if !wrong {
+        return Ok(());
+    }
+    let space = spelled(alloc, site.namespaces, site.space)?;
+    let word = Bytes::copy_of(alloc, site.word.bytes.as_slice())?;
+    faults.push(Fault {
+        code,
+        module: site.word.at.module,
+        at: site.word.at.at,
+        space,
+        word,
+    })?;
+    Ok(())
+}
