@@ -131,7 +131,7 @@ a_parameter (cons (Form at op parts) (cons (Leaf w) ts)) kind name e = cc
 a_parameter (cons (Form at op parts) (cons (Name bt bytes) ts)) kind name e = ap (λ (p : Op × Named). record { kind = p.0; name = p.1 } ∷ []) (one_pair (op, record { at = bt; name = bytes }) (kind, name) e)
 a_parameter (cons (Form at op parts) (cons (Form bt other more) ts)) kind name e = cc
 
-one_parameter : (t : Term Word) (kind : Op) (name : Named) (more : Terms Word) → parameter_form t ≡ Some (kind, name)
+pub one_parameter : (t : Term Word) (kind : Op) (name : Named) (more : Terms Word) → parameter_form t ≡ Some (kind, name)
     → parameters_in (cons t more) ≡ record { kind = kind; name = name } ∷ parameters_in more
 one_parameter (Leaf w) kind name more e = cc
 one_parameter (Name at bytes) kind name more e = cc
@@ -142,7 +142,7 @@ unfolding argument_of
 judged_by_kind x t = refl
 
 -- the first of the arguments that are left
-first_left : (n : ℕ) (arguments : List rust.Term) (k : ℕ) (t : rust.Term) → k < length arguments → t ≡ get_or arguments k t
+pub first_left : (n : ℕ) (arguments : List rust.Term) (k : ℕ) (t : rust.Term) → k < length arguments → t ≡ get_or arguments k t
     → all_said n (drop k arguments) ≡ cons (said_of n t) (all_said n (drop (k + 1) arguments))
 first_left n arguments k t within is =
     at_drop_more (all_said n) arguments k t within ∙ ap (λ x. cons (said_of n x) (all_said n (drop (k + 1) arguments))) (sym is)

@@ -7,8 +7,11 @@ pub mod Fits
 pub mod Instances
 pub mod Laws
 pub mod Macros
+pub mod Meant
 pub mod Nearest
+pub mod Openings
 pub mod Opens
 pub mod Parameters
 pub mod Placed
+pub mod Scene
 pub mod Walks

@@ -119,6 +119,13 @@ text_cell at (cons (Leaf w) ts) = record { at = at; face = a_string; read = read
 text_cell at (cons (Name bt bytes) ts) = record { at = at; face = a_string; read = read_string at bytes }
 text_cell at (cons (Form bt op parts) ts) = record { at = at; face = a_string; read = read_string at [] }
 
+-- the bytes of a string that was kept
+abbrev pub string_in : {L : Type 0} → Terms L → List ℕ
+string_in nil = []
+string_in (cons (Leaf w) ts) = []
+string_in (cons (Name at bytes) ts) = bytes
+string_in (cons (Form at op parts) ts) = []
+
 -- an argument that was kept, as a node that is read by a shape now
 unfoldable mutual
   pub cell_in : Term Word → Cell

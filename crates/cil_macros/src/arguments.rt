@@ -7,9 +7,10 @@ ghost use Rattle.cil_syntax.specs.Said.{all_said, args_of, said_of};
 ghost use Rattle.cil_syntax.specs.Shapes.{any_text, looked_up};
 ghost use Rattle.cil_syntax.specs.Terms.{Terms, cons};
 ghost use Rattle.cil_macros.specs.Fits.{fits, has_form, is_read_as, is_sound_word};
-ghost use Rattle.cil_macros.specs.Parameters.{call_arguments, is_text, macro_parameters, parameters_in};
+ghost use Rattle.cil_macros.specs.Meant.{first_for, is_for, kind_sign};
+ghost use Rattle.cil_macros.specs.Parameters.{argument_kind, call_arguments, is_text, macro_parameters, parameters_in, serves_sign};
 
-use cil_syntax::{Op, Sign, Statement, Term, is_reserved, is_spelled_for};
+use cil_syntax::{Op, Parameter, Sign, Statement, Term, Word, is_reserved, is_spelled_for};
 
 /// Whether the arguments of a call fit the parameters of a macro: they are as many, and each has the form of its
 /// parameter's kind.
@@ -20,7 +21,7 @@ pub fn arguments_fit(called: &Statement, call: &Statement) -> bool
 }
 
 /// The items of the list behind the first term of a statement: none where no list is there.
-fn listed<'t, 'a>(statement: &'t Statement<'a>) -> &'t [Term<'a>]
+pub(crate) fn listed<'t, 'a>(statement: &'t Statement<'a>) -> &'t [Term<'a>]
     ensures { all_said statement.now.at.«module» result.now ≡ call_arguments (args_of statement.now) }
 {
     if let Some(items) = statement.listed_behind_first() {
@@ -72,6 +73,63 @@ fn has_form(kind: Op, argument: &Term) -> bool
         Op::NameKind => is_text(argument),
         Op::TextKind => is_text(argument),
         _ => false,
+    }
+}
+
+/// The number of the first parameter of a macro for which a word stands: none where it stands for none.
+pub(crate) fn parameter_for(called: &Statement, word: &Word) -> Option<usize>
+    ensures { result ≡ first_for word.now (macro_parameters (args_of called.now)) }
+{
+    first_serving(listed(called), called.at.module, word)
+}
+
+/// The same of parameters of this module.
+fn first_serving(parameters: &[Term], module: u64, word: &Word) -> Option<usize>
+    ensures { result ≡ first_for word.now (parameters_in (all_said «module» parameters.now)) }
+{
+    let mut before = 0;
+    for term in parameters {
+        if let Some(parameter) = term.parameter(module) {
+            if is_for(word, &parameter) {
+                return Some(before);
+            }
+            before += 1;
+        }
+    }
+    None
+}
+
+/// Whether a word stands for a parameter: it is its name, where an argument of its kind may be put.
+fn is_for(word: &Word, parameter: &Parameter) -> bool
+    ensures { result ≡ is_for word.now (record { kind = parameter.now.kind; name = record { at = parameter.now.name.at; name = parameter.now.name.bytes.now } }) }
+{
+    word.bytes.as_slice() == parameter.name.bytes && serves(parameter.kind, word.sign)
+}
+
+/// Whether an argument of a kind may be put where a word of a sign stands.
+fn serves(kind: Op, sign: Sign) -> bool
+    ensures { result ≡ serves_sign (argument_kind kind) sign }
+{
+    match kind {
+        Op::TypeKind => matches!(sign, Sign::Types),
+        Op::RoleKind => matches!(sign, Sign::Roles),
+        Op::UserKind => matches!(sign, Sign::Users),
+        Op::ClassKind => matches!(sign, Sign::Classes | Sign::PlainClass),
+        Op::NameKind | Op::TextKind => matches!(sign, Sign::Text),
+        _ => false,
+    }
+}
+
+/// The sign of a word that is an argument of a kind.
+pub(crate) fn sign_of(kind: Op) -> Sign
+    ensures { result ≡ kind_sign kind }
+{
+    match kind {
+        Op::TypeKind => Sign::Types,
+        Op::RoleKind => Sign::Roles,
+        Op::UserKind => Sign::Users,
+        Op::ClassKind => Sign::PlainClass,
+        _ => Sign::Text,
     }
 }
 

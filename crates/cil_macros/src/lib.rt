@@ -15,7 +15,11 @@ pub mod faults;
 pub mod instances;
 pub mod laws;
 mod macros;
+mod meaning;
+pub mod meant;
 mod nearest;
+pub mod openings;
+pub mod scene;
 pub mod source;
 pub mod walk;
 

@@ -1,0 +1,62 @@
+-- What words mean where they are placed, as it is kept: a word in the scope of what is placed somewhere, or a string.
+use Rattle.std.specs.Prelude.{◌≡◌, ℕ, Bool, ◌&&◌, if◌then◌else◌, suc, List, [], ◌∷◌, length, Option, Some, None, slice_get}
+use Rattle.std.specs.Option.{option_map}
+use Rattle.cil_syntax.specs.declared.kind.Sign.{Sign}
+use Rattle.cil_syntax.specs.declared.kind.Sign.TheVariants as signs
+use Rattle.cil_syntax.specs.declared.term.Op.{Op}
+use Rattle.cil_syntax.specs.declared.term.Op.TheVariants as ops
+use Rattle.cil_syntax.specs.declared.term.Spot.{Spot}
+use Rattle.cil_syntax.specs.declared.term.Word.{Word}
+use Rattle.cil_syntax.specs.Scopes.{Scope, ScopedWord}
+use Rattle.cil_syntax.specs.Spelling.{same_bytes}
+use Rattle.cil_syntax.specs.Terms.{Term, Leaf, Name, Form, Terms, nil, cons}
+use Rattle.cil_macros.specs.declared.meant.Meant.{Meant}
+use Rattle.cil_macros.specs.Parameters.{Parameter, argument_kind, serves_sign}
+use Rattle.cil_macros.specs.Placed.{Bound, Placed}
+
+-- ---- words and strings
+
+-- the scope of what is placed somewhere
+abbrev pub scope_there : Option Placed → Scope
+scope_there None = []
+scope_there (Some p) = p.standing.scope
+
+-- a string, or a word of a sign in the scope of what is placed there
+abbrev pub meant_in : List Placed → Sign → Spot → List ℕ → Option ℕ → Term ScopedWord
+meant_in ps sign at bytes None = Form at ops.UnreadText (cons (Name at bytes) nil)
+meant_in ps sign at bytes (Some k) = Leaf record { at = at; bytes = bytes; sign = sign; scope = scope_there (slice_get ps k) }
+
+-- what is meant, where a word of a sign stands
+abbrev pub meant_term : List Placed → Sign → Meant → Term ScopedWord
+meant_term ps sign m = meant_in ps sign m.at m.bytes m.scope
+
+-- ---- arguments
+
+-- the sign of the words that are arguments of a kind
+abbrev pub kind_sign : Op → Sign
+kind_sign ops.TypeKind = signs.Types
+kind_sign ops.RoleKind = signs.Roles
+kind_sign ops.UserKind = signs.Users
+kind_sign ops.ClassKind = signs.PlainClass
+kind_sign op = signs.Text
+
+-- parameters with what their arguments mean
+abbrev pub bounds_by : List Placed → List Parameter → List Meant → List Bound
+bounds_by ps [] ms = []
+bounds_by ps (x ∷ xs) [] = []
+bounds_by ps (x ∷ xs) (m ∷ ms) = record { parameter = x; value = meant_term ps (kind_sign x.kind) m } ∷ bounds_by ps xs ms
+
+-- what the arguments of a call mean, one for each parameter
+pub record AreArguments (ps : List Placed) (xs : List Parameter) (bs : List Bound) (ms : List Meant) : Type 0 where
+  pub many : length ms ≡ length xs
+  pub so : bs ≡ bounds_by ps xs ms
+
+-- ---- the parameter for which a word stands
+
+abbrev pub is_for : Word → Parameter → Bool
+is_for w x = same_bytes x.name.name w.bytes && serves_sign (argument_kind x.kind) w.sign
+
+-- the number of the first one
+abbrev pub first_for : Word → List Parameter → Option ℕ
+first_for w [] = None
+first_for w (x ∷ xs) = if is_for w x then Some 0 else option_map (λ k. suc k) (first_for w xs)

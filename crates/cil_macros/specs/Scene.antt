@@ -1,0 +1,38 @@
+-- What meanings follow from: all that stands, and what calls bring.
+use Rattle.std.specs.Prelude.{◌≡◌, ℕ, ◌+◌, ◌<◌, List, length, Option, Some, None, find}
+use Rattle.cil_syntax.specs.declared.term.Word.{Word}
+use Rattle.cil_blocks.specs.Places.{AreStandings, entries_in}
+use Rattle.cil_macros.specs.declared.meant.Meant.{Meant}
+use Rattle.cil_macros.specs.declared.openings.Opening.{Opening}
+use Rattle.cil_macros.specs.declared.scene.Scene.{Scene}
+use Rattle.cil_macros.specs.Entries.{IsInFirst}
+use Rattle.cil_macros.specs.Macros.{all_standing}
+use Rattle.cil_macros.specs.Meant.{meant_term}
+use Rattle.cil_macros.specs.Openings.{AreOpenings}
+use Rattle.cil_macros.specs.Placed.{Bound, Placed, is_served, put}
+use Rattle.cil_macros.specs.Walks.{AreBrought, placed_in, written_in}
+
+pub record IsScene (s : Scene) : Type 0 where
+  pub standings : AreStandings s.spaces.now
+  pub brought : AreBrought s.spaces.now s.brought.now
+
+-- all that is placed there
+abbrev pub placed_of_scene : Scene → List Placed
+placed_of_scene s = placed_in s.spaces.now s.brought.now.called.items
+
+-- what is placed at a place stands, or it is known what its body has from its call
+pub record IsKnown (s : Scene) (os : List Opening) (at : ℕ) : Type 0 where
+  pub scene : IsScene s
+  pub within : at < length (entries_in s.spaces.now) + length s.brought.now.called.items
+  pub opened : AreOpenings (written_in s.spaces.now) (all_standing s.spaces.now) (placed_of_scene s) s.brought.now.bodies.items os
+  pub first : IsInFirst s.brought.now.called.items (length (entries_in s.spaces.now)) at (length os)
+
+-- the argument for which a word stands, as it is put there
+pub record IsArgument (ps : List Placed) (w : Word) (bs : List Bound) (m : Meant) : Type 0 where
+  pub bound : Bound
+  pub is : find (is_served w) bs ≡ Some bound
+  pub put_there : put w.sign bound.value ≡ meant_term ps w.sign m
+
+abbrev pub SaysArgument : List Placed → Word → List Bound → Option Meant → Type 0
+SaysArgument ps w bs None = find (is_served w) bs ≡ None
+SaysArgument ps w bs (Some m) = IsArgument ps w bs m

@@ -1,0 +1,85 @@
+//! What a word means where it is placed: its argument, or itself in a scope. A word of a body costs a step for each parameter
+//! of its macro.
+
+ghost use Rattle.std.specs.Prelude.{◌≡◌, ◌+◌, ◌<◌, List, MatchOption, Some, length, slice_get};
+ghost use Rattle.cil_syntax.specs.Program.{IsNested, program_of};
+ghost use Rattle.cil_syntax.specs.Written.{Written};
+ghost use Rattle.cil_blocks.specs.Contents.{Standing};
+ghost use Rattle.cil_blocks.specs.Entries.{statement_at};
+ghost use Rattle.cil_blocks.specs.Places.{entries_in};
+ghost use Rattle.cil_macros.specs.Entries.{AreBodies, placed_of};
+ghost use Rattle.cil_macros.specs.Macros.{all_standing};
+ghost use Rattle.cil_macros.specs.Meant.{AreArguments, meant_term};
+ghost use Rattle.cil_macros.specs.Openings.{IsNumbered};
+ghost use Rattle.cil_macros.specs.Parameters.{macro_parameters};
+ghost use Rattle.cil_macros.specs.Placed.{Bound, Placed, declares, meaning};
+ghost use Rattle.cil_macros.specs.Scene.{IsKnown, SaysArgument, placed_of_scene};
+ghost use Rattle.cil_macros.specs.Walks.{placed_in, written_in};
+
+use crate::arguments::parameter_for;
+use crate::chain::{Brought, standing_statement};
+use crate::meant::Meant;
+use crate::openings::Opening;
+use crate::scene::Scene;
+use cil_syntax::{Statement, Word};
+
+/// What a word of the statement at a place means there, where it is known what the bodies round it have from their calls.
+pub fn meaning_at<'a>(
+    scene: Scene<'_, '_, 'a>,
+    openings: &[Opening<'a>],
+    at: usize,
+    word: &Word<'a>,
+) -> Meant<'a>
+    requires { IsKnown scene openings.now at }
+    ensures { (p : Placed) → slice_get (placed_of_scene scene) at ≡ Some p
+        → meant_term (placed_of_scene scene) word.now.sign result ≡ meaning (written_in scene.spaces.now) p word.now }
+{
+    let standing = scene.spaces.entries().len();
+    let Some(number) = body_number(scene.brought, standing, at) else {
+        return Meant::word(word.at, word.bytes.as_slice(), at);
+    };
+    let opening = &openings[number];
+    let called = standing_statement(scene.spaces.entries(), scene.brought.bodies[number].called);
+    if let Some(argument) = argument_for(scene.spaces.statements(), opening, called, word) {
+        return argument;
+    }
+    if declares_at(scene.spaces.statements(), called, word) {
+        return Meant::word(word.at, word.bytes.as_slice(), opening.home);
+    }
+    Meant::word(word.at, word.bytes.as_slice(), at)
+}
+
+/// The argument for which a word stands in the body of the macro that is the statement of a number.
+fn argument_for<'a>(
+    statements: &[Statement<'a>],
+    opening: &Opening<'a>,
+    called: usize,
+    word: &Word<'a>,
+) -> Option<Meant<'a>>
+    requires { IsNested statements.now }
+    ensures { (ps : List Placed) (bs : List Bound) → AreArguments ps (macro_parameters (statement_at (program_of statements.now) called).statement.args) bs opening.now.arguments.items
+        → SaysArgument ps word.now bs result }
+{
+    let number = parameter_for(statements.get(called)?, word)?;
+    let argument = opening.arguments.get(number)?;
+    Some(argument.copied())
+}
+
+/// The number of the body of what is placed somewhere, if a call brought it: what stands comes first, so many.
+pub fn body_number(brought: &Brought, standing: usize, at: usize) -> Option<usize>
+    requires { at < standing + length brought.now.called.items }
+    ensures { MatchOption result (at < standing) (IsNumbered brought.now.called.items standing at) }
+{
+    if at < standing {
+        return None;
+    }
+    Some(brought.called[at - standing].body)
+}
+
+/// Whether the body of the macro that is the statement of a number declares a word.
+fn declares_at(statements: &[Statement], called: usize, word: &Word) -> bool
+    requires { IsNested statements.now }
+    ensures { result ≡ declares (program_of statements.now) (statement_at (program_of statements.now) called) word.now.bytes word.now.sign }
+{
+    false
+}

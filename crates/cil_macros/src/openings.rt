@@ -1,0 +1,190 @@
+//! What each body of a macro has from its call: the place of the outermost call, and what its arguments mean. A body costs a
+//! step for each argument, since those of the bodies round it are known.
+
+ghost use Rattle.std.specs.Prelude.{◌≡◌, ◌+◌, ◌<◌, IfOk, Some, length, slice_get};
+ghost use Rattle.cil_blocks.specs.Places.{entries_in};
+ghost use Rattle.cil_macros.specs.declared.entry.Body.{Body};
+ghost use Rattle.cil_macros.specs.Calls.{Unfolded, home_of, unfolded};
+ghost use Rattle.cil_macros.specs.Macros.{all_standing};
+ghost use Rattle.cil_macros.specs.Meant.{AreArguments, scope_there};
+ghost use Rattle.cil_macros.specs.Openings.{AreOpenings, IsOpening};
+ghost use Rattle.cil_macros.specs.Parameters.{macro_parameters, string_in};
+ghost use Rattle.cil_macros.specs.Placed.{Placed};
+ghost use Rattle.cil_macros.specs.Scene.{IsScene, placed_of_scene};
+ghost use Rattle.cil_macros.specs.Walks.{placed_in, written_in};
+
+use crate::arguments::{listed, sign_of};
+use crate::chain::{standing_statement, statement_at};
+use crate::meaning::{body_number, meaning_at};
+use crate::meant::Meant;
+use crate::scene::Scene;
+use cil_modset::NoMemory;
+use cil_syntax::{Excerpt, Op, Spot, Statement, Term, Word};
+use std::alloc::Global;
+
+/// What the body of a macro has from its call.
+#[derive(Drop)]
+pub struct Opening<'a> {
+    /// The place of the outermost call: the one that stands in no body.
+    pub home: usize,
+    /// What the arguments mean, one for each parameter of the macro.
+    pub arguments: Vec<Meant<'a>>,
+}
+
+/// What the body of a macro takes its arguments from.
+#[derive(Clone, Copy)]
+struct Call<'c, 's, 'p, 'a> {
+    scene: Scene<'s, 'p, 'a>,
+    openings: &'c [Opening<'a>],
+    at: usize,
+}
+
+/// What each body has from its call, in the order of the bodies.
+pub fn openings_of<'a>(
+    alloc: Global,
+    scene: Scene<'_, '_, 'a>,
+) -> Result<Vec<Opening<'a>>, NoMemory>
+    requires { IsScene scene }
+    ensures each { IfOk result (λ os. AreOpenings (written_in scene.spaces.now) (all_standing scene.spaces.now) (placed_of_scene scene) scene.brought.now.bodies.items os.items) }
+    ensures many { IfOk result (λ os. length os.items ≡ length scene.brought.now.bodies.items) }
+{
+    let count = scene.brought.bodies.len();
+    let mut openings = Vec::new(alloc);
+    while openings.len() < count {
+        let opening = opening_of(alloc, scene, openings.as_slice())?;
+        openings.push(opening)?;
+    }
+    Ok(openings)
+}
+
+/// What the next body has from its call, where it is known of those before it.
+fn opening_of<'a>(
+    alloc: Global,
+    scene: Scene<'_, '_, 'a>,
+    openings: &[Opening<'a>],
+) -> Result<Opening<'a>, NoMemory>
+    requires scene { IsScene scene }
+    requires next { length openings.now < length scene.brought.now.bodies.items }
+    requires opened { AreOpenings (written_in scene.spaces.now) (all_standing scene.spaces.now) (placed_of_scene scene) scene.brought.now.bodies.items openings.now }
+    ensures { IfOk result (λ o. (b : Body) → slice_get scene.brought.now.bodies.items (length openings.now) ≡ Some b
+        → IsOpening (written_in scene.spaces.now) (all_standing scene.spaces.now) (placed_of_scene scene) b o) }
+{
+    let body = &scene.brought.bodies[openings.len()];
+    let call = Call {
+        scene,
+        openings,
+        at: body.call,
+    };
+    let arguments = call.arguments(alloc, body.called)?;
+    Ok(Opening {
+        home: call.home(),
+        arguments,
+    })
+}
+
+impl<'c, 's, 'p, 'a> Call<'c, 's, 'p, 'a> {
+    ghost use Rattle.std.specs.Prelude.{◌≡◌, ◌+◌, ◌<◌, List, IfOk, Some, length, slice_get};
+    ghost use Rattle.cil_syntax.specs.declared.term.Word.{Word};
+    ghost use Rattle.cil_syntax.specs.Said.{args_of, said_of};
+    ghost use Rattle.cil_syntax.specs.Terms.{Term};
+    ghost use Rattle.cil_blocks.specs.Places.{entries_in};
+    ghost use Rattle.cil_macros.specs.Calls.{Unfolded, bound, home_of, unfolded};
+    ghost use Rattle.cil_macros.specs.Macros.{all_standing};
+    ghost use Rattle.cil_macros.specs.Meant.{AreArguments, kind_sign, meant_term, scope_there};
+    ghost use Rattle.cil_macros.specs.Scene.{IsKnown, placed_of_scene};
+    ghost use Rattle.cil_macros.specs.Parameters.{Parameter, argument_of, call_arguments, macro_parameters};
+    ghost use Rattle.cil_macros.specs.Placed.{Bound, Placed, filled, meaning};
+    ghost use Rattle.cil_macros.specs.Walks.{placed_in, written_in};
+
+    /// The place of the outermost call.
+    fn home(&self) -> usize
+        requires { IsKnown self.now.scene self.now.openings.now self.now.at }
+        ensures { (p : Placed) → slice_get (placed_of_scene self.now.scene) self.now.at ≡ Some p
+            → scope_there (slice_get (placed_of_scene self.now.scene) result) ≡ home_of p.standing.scope p.body }
+    {
+        let standing = self.scene.spaces.entries().len();
+        match body_number(self.scene.brought, standing, self.at) {
+            None => self.at,
+            Some(number) => self.openings[number].home,
+        }
+    }
+
+    /// What the arguments mean, where the macro of a rank is called.
+    fn arguments(&self, alloc: Global, called: usize) -> Result<Vec<Meant<'a>>, NoMemory>
+        requires call { IsKnown self.now.scene self.now.openings.now self.now.at }
+        requires standing { called < length (entries_in self.now.scene.spaces.now) }
+        ensures { IfOk result (λ ms. (p : Placed) (u : Unfolded) → slice_get (placed_of_scene self.now.scene) self.now.at ≡ Some p
+            → unfolded (written_in self.now.scene.spaces.now) (all_standing self.now.scene.spaces.now) p ≡ Some u → slice_get (all_standing self.now.scene.spaces.now) called ≡ Some u.macro
+            → AreArguments (placed_of_scene self.now.scene) (macro_parameters u.macro.statement.statement.args) u.bounds ms.items) }
+    {
+        let spaces = self.scene.spaces;
+        let entries = spaces.entries();
+        let brought = self.scene.brought.called.as_slice();
+        let Some(macro_statement) = spaces.statements().get(standing_statement(entries, called))
+        else {
+            return Ok(Vec::new(alloc));
+        };
+        let Some(call) = spaces.statements().get(statement_at(entries, brought, self.at)) else {
+            return Ok(Vec::new(alloc));
+        };
+        self.meanings(alloc, macro_statement, call)
+    }
+
+    /// What the arguments of a call mean, one for each parameter of its macro.
+    fn meanings(
+        &self,
+        alloc: Global,
+        called: &Statement<'a>,
+        call: &Statement<'a>,
+    ) -> Result<Vec<Meant<'a>>, NoMemory>
+        requires { IsKnown self.now.scene self.now.openings.now self.now.at }
+        ensures { IfOk result (λ ms. (p : Placed) (bs : List Bound) → slice_get (placed_of_scene self.now.scene) self.now.at ≡ Some p
+            → bound (written_in self.now.scene.spaces.now) p (macro_parameters (args_of called.now)) (call_arguments (args_of call.now)) ≡ Some bs
+            → AreArguments (placed_of_scene self.now.scene) (macro_parameters (args_of called.now)) bs ms.items) }
+    {
+        let arguments = listed(call);
+        let mut meanings = Vec::new(alloc);
+        for term in listed(called) {
+            if let Some(parameter) = term.parameter(called.at.module) {
+                let Some(argument) = arguments.get(meanings.len()) else {
+                    return Ok(meanings);
+                };
+                meanings.push(self.meaning(parameter.kind, argument, call.at.module))?;
+            }
+        }
+        Ok(meanings)
+    }
+
+    /// What an argument of a kind means, which is written in this module.
+    fn meaning(&self, kind: Op, argument: &Term<'a>, module: u64) -> Meant<'a>
+        requires { IsKnown self.now.scene self.now.openings.now self.now.at }
+        ensures { (p : Placed) (x : Parameter) (t : Term Word) → slice_get (placed_of_scene self.now.scene) self.now.at ≡ Some p
+            → x.kind ≡ kind → argument_of x (said_of «module» argument.now) ≡ Some t
+            → meant_term (placed_of_scene self.now.scene) (kind_sign kind) result ≡ filled (meaning (written_in self.now.scene.spaces.now) p) t }
+    {
+        match argument {
+            Term::Leaf(word) => {
+                let own = Word {
+                    at: Spot::of(module, word.at),
+                    bytes: Excerpt::of(word.bytes.as_slice()),
+                    sign: sign_of(kind),
+                };
+                meaning_at(self.scene, self.openings, self.at, &own)
+            }
+            Term::Name(at, bytes) => Meant::string(Spot::of(module, *at), bytes.as_slice()),
+            Term::Form(_, at, parts) => {
+                Meant::string(Spot::of(module, *at), string_in(parts.as_slice()))
+            }
+        }
+    }
+}
+
+/// The bytes of a string, which is a name in a term of its own.
+fn string_in<'a>(parts: &[Term<'a>]) -> &'a [u8]
+    ensures { (n : ℕ) → result.now ≡ string_in (all_said n parts.now) }
+{
+    match parts.first() {
+        Some(Term::Name(_, bytes)) => bytes.as_slice(),
+        _ => b"",
+    }
+}

@@ -1,0 +1,13 @@
+//! What meanings follow from.
+
+use crate::chain::Brought;
+use cil_blocks::Spaces;
+
+/// What meanings follow from.
+#[derive(Clone, Copy)]
+pub struct Scene<'s, 'p, 'a> {
+    /// All that stands.
+    pub spaces: &'s Spaces<'p, 'a>,
+    /// What calls bring.
+    pub brought: &'s Brought,
+}
