@@ -1,6 +1,7 @@
 pub mod ArgumentLemmas
 pub mod AskedLemmas
 pub mod BodyLemmas
+pub mod BodyMeaning
 pub mod CallLemmas
 pub mod CalledMacros
 pub mod ChainLemmas
@@ -12,6 +13,7 @@ pub mod Kept
 pub mod LawLemmas
 pub mod MacroLemmas
 pub mod MacroScope
+pub mod MeaningLemmas
 pub mod NearestLemmas
 pub mod OneInstance
 pub mod PlacedWalk

@@ -25,14 +25,14 @@ use cil_syntax::{Statement, Word};
 
 /// What a word of the statement at a place means there, where it is known what the bodies round it have from their calls.
 pub fn meaning_at<'a>(
-    scene: Scene<'_, '_, 'a>,
+    scene: &Scene<'_, '_, 'a>,
     openings: &[Opening<'a>],
     at: usize,
     word: &Word<'a>,
 ) -> Meant<'a>
-    requires { IsKnown scene openings.now at }
-    ensures { (p : Placed) → slice_get (placed_of_scene scene) at ≡ Some p
-        → meant_term (placed_of_scene scene) word.now.sign result ≡ meaning (written_in scene.spaces.now) p word.now }
+    requires { IsKnown scene.now openings.now at }
+    ensures { (p : Placed) → slice_get (placed_of_scene scene.now) at ≡ Some p
+        → meant_term (placed_of_scene scene.now) word.now.sign result ≡ meaning (written_in scene.now.spaces.now) p word.now }
 {
     let standing = scene.spaces.entries().len();
     let Some(number) = body_number(scene.brought, standing, at) else {

@@ -1,7 +1,8 @@
 //! What each body of a macro has from its call: the place of the outermost call, and what its arguments mean. A body costs a
 //! step for each argument, since those of the bodies round it are known.
 
-ghost use Rattle.std.specs.Prelude.{◌≡◌, ◌+◌, ◌<◌, IfOk, Some, length, slice_get};
+ghost use Rattle.std.specs.Prelude.{◌≡◌, ◌+◌, ◌<◌, IfOk, Some, length, slice_get, ℕ};
+ghost use Rattle.cil_syntax.specs.Said.{all_said};
 ghost use Rattle.cil_blocks.specs.Places.{entries_in};
 ghost use Rattle.cil_macros.specs.declared.entry.Body.{Body};
 ghost use Rattle.cil_macros.specs.Calls.{Unfolded, home_of, unfolded};
@@ -34,7 +35,7 @@ pub struct Opening<'a> {
 /// What the body of a macro takes its arguments from.
 #[derive(Clone, Copy)]
 struct Call<'c, 's, 'p, 'a> {
-    scene: Scene<'s, 'p, 'a>,
+    scene: &'c Scene<'s, 'p, 'a>,
     openings: &'c [Opening<'a>],
     at: usize,
 }
@@ -42,11 +43,11 @@ struct Call<'c, 's, 'p, 'a> {
 /// What each body has from its call, in the order of the bodies.
 pub fn openings_of<'a>(
     alloc: Global,
-    scene: Scene<'_, '_, 'a>,
+    scene: &Scene<'_, '_, 'a>,
 ) -> Result<Vec<Opening<'a>>, NoMemory>
-    requires { IsScene scene }
-    ensures each { IfOk result (λ os. AreOpenings (written_in scene.spaces.now) (all_standing scene.spaces.now) (placed_of_scene scene) scene.brought.now.bodies.items os.items) }
-    ensures many { IfOk result (λ os. length os.items ≡ length scene.brought.now.bodies.items) }
+    requires { IsScene scene.now }
+    ensures each { IfOk result (λ os. AreOpenings (written_in scene.now.spaces.now) (all_standing scene.now.spaces.now) (placed_of_scene scene.now) scene.now.brought.now.bodies.items os.items) }
+    ensures many { IfOk result (λ os. length os.items ≡ length scene.now.brought.now.bodies.items) }
 {
     let count = scene.brought.bodies.len();
     let mut openings = Vec::new(alloc);
@@ -60,14 +61,14 @@ pub fn openings_of<'a>(
 /// What the next body has from its call, where it is known of those before it.
 fn opening_of<'a>(
     alloc: Global,
-    scene: Scene<'_, '_, 'a>,
+    scene: &Scene<'_, '_, 'a>,
     openings: &[Opening<'a>],
 ) -> Result<Opening<'a>, NoMemory>
-    requires scene { IsScene scene }
-    requires next { length openings.now < length scene.brought.now.bodies.items }
-    requires opened { AreOpenings (written_in scene.spaces.now) (all_standing scene.spaces.now) (placed_of_scene scene) scene.brought.now.bodies.items openings.now }
-    ensures { IfOk result (λ o. (b : Body) → slice_get scene.brought.now.bodies.items (length openings.now) ≡ Some b
-        → IsOpening (written_in scene.spaces.now) (all_standing scene.spaces.now) (placed_of_scene scene) b o) }
+    requires scene { IsScene scene.now }
+    requires next { length openings.now < length scene.now.brought.now.bodies.items }
+    requires opened { AreOpenings (written_in scene.now.spaces.now) (all_standing scene.now.spaces.now) (placed_of_scene scene.now) scene.now.brought.now.bodies.items openings.now }
+    ensures { IfOk result (λ o. (b : Body) → slice_get scene.now.brought.now.bodies.items (length openings.now) ≡ Some b
+        → IsOpening (written_in scene.now.spaces.now) (all_standing scene.now.spaces.now) (placed_of_scene scene.now) b o) }
 {
     let body = &scene.brought.bodies[openings.len()];
     let call = Call {
@@ -98,9 +99,9 @@ impl<'c, 's, 'p, 'a> Call<'c, 's, 'p, 'a> {
 
     /// The place of the outermost call.
     fn home(&self) -> usize
-        requires { IsKnown self.now.scene self.now.openings.now self.now.at }
-        ensures { (p : Placed) → slice_get (placed_of_scene self.now.scene) self.now.at ≡ Some p
-            → scope_there (slice_get (placed_of_scene self.now.scene) result) ≡ home_of p.standing.scope p.body }
+        requires { IsKnown self.now.scene.now self.now.openings.now self.now.at }
+        ensures { (p : Placed) → slice_get (placed_of_scene self.now.scene.now) self.now.at ≡ Some p
+            → scope_there (slice_get (placed_of_scene self.now.scene.now) result) ≡ home_of p.standing.scope p.body }
     {
         let standing = self.scene.spaces.entries().len();
         match body_number(self.scene.brought, standing, self.at) {
@@ -111,11 +112,11 @@ impl<'c, 's, 'p, 'a> Call<'c, 's, 'p, 'a> {
 
     /// What the arguments mean, where the macro of a rank is called.
     fn arguments(&self, alloc: Global, called: usize) -> Result<Vec<Meant<'a>>, NoMemory>
-        requires call { IsKnown self.now.scene self.now.openings.now self.now.at }
-        requires standing { called < length (entries_in self.now.scene.spaces.now) }
-        ensures { IfOk result (λ ms. (p : Placed) (u : Unfolded) → slice_get (placed_of_scene self.now.scene) self.now.at ≡ Some p
-            → unfolded (written_in self.now.scene.spaces.now) (all_standing self.now.scene.spaces.now) p ≡ Some u → slice_get (all_standing self.now.scene.spaces.now) called ≡ Some u.macro
-            → AreArguments (placed_of_scene self.now.scene) (macro_parameters u.macro.statement.statement.args) u.bounds ms.items) }
+        requires call { IsKnown self.now.scene.now self.now.openings.now self.now.at }
+        requires standing { called < length (entries_in self.now.scene.now.spaces.now) }
+        ensures { IfOk result (λ ms. (p : Placed) (u : Unfolded) → slice_get (placed_of_scene self.now.scene.now) self.now.at ≡ Some p
+            → unfolded (written_in self.now.scene.now.spaces.now) (all_standing self.now.scene.now.spaces.now) p ≡ Some u → slice_get (all_standing self.now.scene.now.spaces.now) called ≡ Some u.macro
+            → AreArguments (placed_of_scene self.now.scene.now) (macro_parameters u.macro.statement.statement.args) u.bounds ms.items) }
     {
         let spaces = self.scene.spaces;
         let entries = spaces.entries();
@@ -137,10 +138,10 @@ impl<'c, 's, 'p, 'a> Call<'c, 's, 'p, 'a> {
         called: &Statement<'a>,
         call: &Statement<'a>,
     ) -> Result<Vec<Meant<'a>>, NoMemory>
-        requires { IsKnown self.now.scene self.now.openings.now self.now.at }
-        ensures { IfOk result (λ ms. (p : Placed) (bs : List Bound) → slice_get (placed_of_scene self.now.scene) self.now.at ≡ Some p
-            → bound (written_in self.now.scene.spaces.now) p (macro_parameters (args_of called.now)) (call_arguments (args_of call.now)) ≡ Some bs
-            → AreArguments (placed_of_scene self.now.scene) (macro_parameters (args_of called.now)) bs ms.items) }
+        requires { IsKnown self.now.scene.now self.now.openings.now self.now.at }
+        ensures { IfOk result (λ ms. (p : Placed) (bs : List Bound) → slice_get (placed_of_scene self.now.scene.now) self.now.at ≡ Some p
+            → bound (written_in self.now.scene.now.spaces.now) p (macro_parameters (args_of called.now)) (call_arguments (args_of call.now)) ≡ Some bs
+            → AreArguments (placed_of_scene self.now.scene.now) (macro_parameters (args_of called.now)) bs ms.items) }
     {
         let arguments = listed(call);
         let mut meanings = Vec::new(alloc);
@@ -157,10 +158,10 @@ impl<'c, 's, 'p, 'a> Call<'c, 's, 'p, 'a> {
 
     /// What an argument of a kind means, which is written in this module.
     fn meaning(&self, kind: Op, argument: &Term<'a>, module: u64) -> Meant<'a>
-        requires { IsKnown self.now.scene self.now.openings.now self.now.at }
-        ensures { (p : Placed) (x : Parameter) (t : Term Word) → slice_get (placed_of_scene self.now.scene) self.now.at ≡ Some p
+        requires { IsKnown self.now.scene.now self.now.openings.now self.now.at }
+        ensures { (p : Placed) (x : Parameter) (t : Term Word) → slice_get (placed_of_scene self.now.scene.now) self.now.at ≡ Some p
             → x.kind ≡ kind → argument_of x (said_of «module» argument.now) ≡ Some t
-            → meant_term (placed_of_scene self.now.scene) (kind_sign kind) result ≡ filled (meaning (written_in self.now.scene.spaces.now) p) t }
+            → meant_term (placed_of_scene self.now.scene.now) (kind_sign kind) result ≡ filled (meaning (written_in self.now.scene.now.spaces.now) p) t }
     {
         match argument {
             Term::Leaf(word) => {

@@ -1,0 +1,129 @@
+-- What a word of a placed statement means: where the statement stands, and in a body.
+use Rattle.std.proofs.Common.{◌≡◌, ℕ, ◌+◌, ◌<◌, Bool, true, false, if◌then◌else◌, List, [], length, refl, sym, ◌∙◌, ap, subst, arith}
+use Rattle.std.specs.Prelude.{Option, Some, None, find, slice_get}
+use Rattle.cil_sexpr.specs.Places.{in_range, some_same}
+use Rattle.cil_syntax.specs.declared.term.Word.{Word}
+use Rattle.cil_syntax.specs.Scopes.{Scope, ScopedWord}
+use Rattle.cil_syntax.specs.Terms.{Term, Leaf}
+use Rattle.cil_syntax.specs.Written.{Written}
+use Rattle.cil_blocks.specs.Contents.{Standing}
+use Rattle.cil_blocks.specs.Entries.{statement_at}
+use Rattle.cil_blocks.specs.Places.{entries_in}
+use Rattle.cil_blocks.proofs.EntryLemmas.{standings_length}
+use Rattle.cil_macros.specs.declared.entry.Body as code
+use Rattle.cil_macros.specs.declared.meant.Meant.{Meant}
+use Rattle.cil_macros.specs.declared.openings.Opening.{Opening}
+use Rattle.cil_macros.specs.declared.scene.Scene.{Scene}
+use Rattle.cil_macros.specs.Calls.{Unfolded, home_of, placed_called, unfolded}
+use Rattle.cil_macros.specs.Entries.{IsBody}
+use Rattle.cil_macros.specs.Macros.{all_standing}
+use Rattle.cil_macros.specs.Meant.{AreArguments, meant_term, scope_there}
+use Rattle.cil_macros.specs.Openings.{IsNumbered, IsOpening}
+use Rattle.cil_macros.specs.Parameters.{macro_parameters}
+use Rattle.cil_macros.specs.Placed.{Body, Bound, Placed, declares, is_served, meaning, meant_by, placed_standing, scope_in, scope_of, scoped}
+use Rattle.cil_macros.specs.Scene.{IsArgument, IsKnown, SaysArgument, placed_of_scene}
+use Rattle.cil_macros.specs.Walks.{written_in}
+use Rattle.cil_macros.proofs.BodyLemmas.{IsBrought, is_brought}
+use Rattle.cil_macros.proofs.CallLemmas.{stood_at}
+
+-- a word in a scope
+abbrev in_scope : Word → Scope → Term ScopedWord
+in_scope w scope = Leaf record { at = w.at; bytes = w.bytes; sign = w.sign; scope = scope }
+
+-- the same, as it is kept
+abbrev pub kept_word : Word → ℕ → Meant
+kept_word w k = record { at = w.at; bytes = w.bytes; scope = Some k }
+
+pub same_word : (w : Word) (k : ℕ) (m : Meant) (bytes : List ℕ) → m ≡ record { at = w.at; bytes = bytes; scope = Some k } → bytes ≡ w.bytes → m ≡ kept_word w k
+same_word w k m bytes e f = e ∙ ap (λ (xs : List ℕ). let r : Meant = record { at = w.at; bytes = xs; scope = Some k } in r) f
+
+module _ (ws : List Written) (p : Placed) (w : Word) where
+  by_argument : (o : Option Bound) → find (is_served w) p.bounds ≡ o → meaning ws p w ≡ meant_by ws p w o
+  unfolding meaning
+  by_argument o e = ap (meant_by ws p w) e
+
+  own_scope : (b : Body) (d : Bool) → p.body ≡ Some b → d ≡ declares ws b.macro w.bytes w.sign → scope_of ws p w ≡ (if d then b.home else p.standing.scope)
+  own_scope b d e f = ap (λ o. scope_in ws p.standing.scope o w) e ∙ ap (λ c. if c then b.home else p.standing.scope) (sym f)
+
+module _ (s : Scene) (os : List Opening) (at : ℕ) (known : IsKnown s os at) (w : Word) (p : Placed) (here : slice_get (placed_of_scene s) at ≡ Some p) where
+  abbrev ws : List Written
+  ws = written_in s.spaces.now
+
+  abbrev ss : List Standing
+  ss = all_standing s.spaces.now
+
+  abbrev ps : List Placed
+  ps = placed_of_scene s
+
+  scope_here : scope_there (slice_get ps at) ≡ p.standing.scope
+  scope_here = ap scope_there here
+
+  -- a word of what stands
+  pub standing_word : at < length (entries_in s.spaces.now) → meant_term ps w.sign (kept_word w at) ≡ meaning ws p w
+  standing_word h =
+      let m = stood_at s.spaces.now s.brought.now.called.items at h p here in
+      ap (in_scope w) scope_here
+      ∙ sym (by_argument ws p w None (ap (λ (q : Placed). find (is_served w) q.bounds) m.2)
+      ∙ ap (in_scope w) (ap (λ (q : Placed). scope_of ws q w) m.2 ∙ sym (ap (λ (q : Placed). q.standing.scope) m.2)))
+
+  -- ---- a word of a body
+
+  module _ (number : ℕ) (n : IsNumbered s.brought.now.called.items (length (entries_in s.spaces.now)) at number) where
+    abbrev pub brought : IsBrought ws ss s.brought.now.called.items s.brought.now.bodies.items known.scene.brought.bodies (length ss + n.rank) n.called
+    brought = is_brought ws ss s.brought.now.called.items s.brought.now.bodies.items known.scene.brought.bodies n.rank n.called n.is
+
+    numbered_body : slice_get s.brought.now.bodies.items number ≡ Some brought.body
+    numbered_body = ap (slice_get s.brought.now.bodies.items) (sym n.body) ∙ brought.is_body
+
+    pub number_below : number < length s.brought.now.bodies.items
+    number_below = in_range s.brought.now.bodies.items number brought.body numbered_body
+
+    placed_here : p ≡ placed_called brought.so.call brought.so.opened (statement_at ws n.called.statement)
+    placed_here =
+        let l = standings_length ws (entries_in s.spaces.now) in
+        let behind = n.behind in
+        some_same p (placed_called brought.so.call brought.so.opened (statement_at ws n.called.statement))
+        (sym here ∙ ap (slice_get ps) (let e : at ≡ length ss + n.rank = omega (arith, l, behind) in e) ∙ brought.placed)
+
+    module _ (b : code.Body) (e : slice_get s.brought.now.bodies.items number ≡ Some b) (o : Opening) (f : slice_get os number ≡ Some o) where
+      same_body : brought.body ≡ b
+      same_body = some_same brought.body b (sym numbered_body ∙ e)
+
+      opening : IsOpening ws ss ps b o
+      opening = known.opened number b o e f
+
+      is_call : slice_get ps b.call ≡ Some brought.so.call
+      is_call = ap (λ (x : code.Body). slice_get ps x.call) (sym same_body) ∙ brought.so.is_call
+
+      pub macro_here : slice_get ss b.called ≡ Some brought.so.opened.macro
+      macro_here = ap (λ (x : code.Body). slice_get ss x.called) (sym same_body) ∙ brought.so.is_macro
+
+      module _ (called : ℕ) (stated : (m : Standing) → slice_get ss b.called ≡ Some m → m.statement ≡ statement_at ws called) where
+        macro_stated : brought.so.opened.macro.statement ≡ statement_at ws called
+        macro_stated = stated brought.so.opened.macro macro_here
+
+        pub arguments_here : AreArguments ps (macro_parameters (statement_at ws called).statement.args) p.bounds o.arguments.items
+        arguments_here =
+            subst (λ (x : Written). AreArguments ps (macro_parameters x.statement.args) p.bounds o.arguments.items) macro_stated
+            (subst (λ bs. AreArguments ps (macro_parameters brought.so.opened.macro.statement.statement.args) bs o.arguments.items)
+            (ap (λ (q : Placed). q.bounds) (sym placed_here))
+            (opening.arguments brought.so.call brought.so.opened is_call brought.so.is_opened))
+
+        pub argument_word : (m : Meant) → IsArgument ps w p.bounds m → meant_term ps w.sign m ≡ meaning ws p w
+        argument_word m x = sym (by_argument ws p w (Some x.bound) x.is ∙ x.put_there)
+
+        pub home_word : find (is_served w) p.bounds ≡ None → true ≡ declares ws (statement_at ws called) w.bytes w.sign
+            → meant_term ps w.sign (kept_word w o.home) ≡ meaning ws p w
+        home_word none d =
+            ap (in_scope w) (opening.home brought.so.call is_call)
+            ∙ sym (by_argument ws p w None none
+            ∙ ap (in_scope w) (own_scope ws p w (record { macro = brought.so.opened.macro.statement; home = home_of brought.so.call.standing.scope brought.so.call.body }) true
+            (ap (λ (q : Placed). q.body) placed_here) (d ∙ ap (λ x. declares ws x w.bytes w.sign) (sym macro_stated))))
+
+        pub place_word : find (is_served w) p.bounds ≡ None → false ≡ declares ws (statement_at ws called) w.bytes w.sign
+            → meant_term ps w.sign (kept_word w at) ≡ meaning ws p w
+        place_word none d =
+            ap (in_scope w) scope_here
+            ∙ sym (by_argument ws p w None none
+            ∙ ap (in_scope w) (own_scope ws p w (record { macro = brought.so.opened.macro.statement; home = home_of brought.so.call.standing.scope brought.so.call.body }) false
+            (ap (λ (q : Placed). q.body) placed_here) (d ∙ ap (λ x. declares ws x w.bytes w.sign) (sym macro_stated))))
