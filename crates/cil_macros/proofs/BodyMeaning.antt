@@ -45,7 +45,7 @@ module _ (ws : List Written) (p : Placed) (w : Word) where
   own_scope : (b : Body) (d : Bool) → p.body ≡ Some b → d ≡ declares ws b.macro w.bytes w.sign → scope_of ws p w ≡ (if d then b.home else p.standing.scope)
   own_scope b d e f = ap (λ o. scope_in ws p.standing.scope o w) e ∙ ap (λ c. if c then b.home else p.standing.scope) (sym f)
 
-module _ (s : Scene) (os : List Opening) (at : ℕ) (known : IsKnown s os at) (w : Word) (p : Placed) (here : slice_get (placed_of_scene s) at ≡ Some p) where
+module _ (s : Scene) (os : List Opening) (at : ℕ) (known : IsKnown s os at) (p : Placed) (here : slice_get (placed_of_scene s) at ≡ Some p) where
   abbrev ws : List Written
   ws = written_in s.spaces.now
 
@@ -59,12 +59,18 @@ module _ (s : Scene) (os : List Opening) (at : ℕ) (known : IsKnown s os at) (w
   scope_here = ap scope_there here
 
   -- a word of what stands
-  pub standing_word : at < length (entries_in s.spaces.now) → meant_term ps w.sign (kept_word w at) ≡ meaning ws p w
-  standing_word h =
+  pub standing_word : (w : Word) → at < length (entries_in s.spaces.now) → meant_term ps w.sign (kept_word w at) ≡ meaning ws p w
+  standing_word w h =
       let m = stood_at s.spaces.now s.brought.now.called.items at h p here in
       ap (in_scope w) scope_here
       ∙ sym (by_argument ws p w None (ap (λ (q : Placed). find (is_served w) q.bounds) m.2)
       ∙ ap (in_scope w) (ap (λ (q : Placed). scope_of ws q w) m.2 ∙ sym (ap (λ (q : Placed). q.standing.scope) m.2)))
+
+  -- its home
+  pub standing_home : at < length (entries_in s.spaces.now) → scope_there (slice_get ps at) ≡ home_of p.standing.scope p.body
+  standing_home h =
+      let m = stood_at s.spaces.now s.brought.now.called.items at h p here in
+      scope_here ∙ sym (ap (λ (q : Placed). home_of p.standing.scope q.body) m.2)
 
   -- ---- a word of a body
 
@@ -72,7 +78,7 @@ module _ (s : Scene) (os : List Opening) (at : ℕ) (known : IsKnown s os at) (w
     abbrev pub brought : IsBrought ws ss s.brought.now.called.items s.brought.now.bodies.items known.scene.brought.bodies (length ss + n.rank) n.called
     brought = is_brought ws ss s.brought.now.called.items s.brought.now.bodies.items known.scene.brought.bodies n.rank n.called n.is
 
-    numbered_body : slice_get s.brought.now.bodies.items number ≡ Some brought.body
+    pub numbered_body : slice_get s.brought.now.bodies.items number ≡ Some brought.body
     numbered_body = ap (slice_get s.brought.now.bodies.items) (sym n.body) ∙ brought.is_body
 
     pub number_below : number < length s.brought.now.bodies.items
@@ -98,6 +104,9 @@ module _ (s : Scene) (os : List Opening) (at : ℕ) (known : IsKnown s os at) (w
       pub macro_here : slice_get ss b.called ≡ Some brought.so.opened.macro
       macro_here = ap (λ (x : code.Body). slice_get ss x.called) (sym same_body) ∙ brought.so.is_macro
 
+      pub body_home : scope_there (slice_get ps o.home) ≡ home_of p.standing.scope p.body
+      body_home = opening.home brought.so.call is_call ∙ sym (ap (λ (q : Placed). home_of p.standing.scope q.body) placed_here)
+
       module _ (called : ℕ) (stated : (m : Standing) → slice_get ss b.called ≡ Some m → m.statement ≡ statement_at ws called) where
         macro_stated : brought.so.opened.macro.statement ≡ statement_at ws called
         macro_stated = stated brought.so.opened.macro macro_here
@@ -109,20 +118,20 @@ module _ (s : Scene) (os : List Opening) (at : ℕ) (known : IsKnown s os at) (w
             (ap (λ (q : Placed). q.bounds) (sym placed_here))
             (opening.arguments brought.so.call brought.so.opened is_call brought.so.is_opened))
 
-        pub argument_word : (m : Meant) → IsArgument ps w p.bounds m → meant_term ps w.sign m ≡ meaning ws p w
-        argument_word m x = sym (by_argument ws p w (Some x.bound) x.is ∙ x.put_there)
+        pub argument_word : (w : Word) → (m : Meant) → IsArgument ps w p.bounds m → meant_term ps w.sign m ≡ meaning ws p w
+        argument_word w m x = sym (by_argument ws p w (Some x.bound) x.is ∙ x.put_there)
 
-        pub home_word : find (is_served w) p.bounds ≡ None → true ≡ declares ws (statement_at ws called) w.bytes w.sign
+        pub home_word : (w : Word) → find (is_served w) p.bounds ≡ None → true ≡ declares ws (statement_at ws called) w.bytes w.sign
             → meant_term ps w.sign (kept_word w o.home) ≡ meaning ws p w
-        home_word none d =
+        home_word w none d =
             ap (in_scope w) (opening.home brought.so.call is_call)
             ∙ sym (by_argument ws p w None none
             ∙ ap (in_scope w) (own_scope ws p w (record { macro = brought.so.opened.macro.statement; home = home_of brought.so.call.standing.scope brought.so.call.body }) true
             (ap (λ (q : Placed). q.body) placed_here) (d ∙ ap (λ x. declares ws x w.bytes w.sign) (sym macro_stated))))
 
-        pub place_word : find (is_served w) p.bounds ≡ None → false ≡ declares ws (statement_at ws called) w.bytes w.sign
+        pub place_word : (w : Word) → find (is_served w) p.bounds ≡ None → false ≡ declares ws (statement_at ws called) w.bytes w.sign
             → meant_term ps w.sign (kept_word w at) ≡ meaning ws p w
-        place_word none d =
+        place_word w none d =
             ap (in_scope w) scope_here
             ∙ sym (by_argument ws p w None none
             ∙ ap (in_scope w) (own_scope ws p w (record { macro = brought.so.opened.macro.statement; home = home_of brought.so.call.standing.scope brought.so.call.body }) false

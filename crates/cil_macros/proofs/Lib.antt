@@ -16,7 +16,9 @@ pub mod MacroScope
 pub mod MeaningLemmas
 pub mod NearestLemmas
 pub mod OneInstance
+pub mod OpeningLemmas
 pub mod PlacedWalk
 pub mod SameParameters
 pub mod ServingLemmas
+pub mod ValueLemmas
 pub mod WalkLemmas

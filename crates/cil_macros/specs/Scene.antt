@@ -1,15 +1,18 @@
 -- What meanings follow from: all that stands, and what calls bring.
-use Rattle.std.specs.Prelude.{◌≡◌, ℕ, ◌+◌, ◌<◌, List, length, Option, Some, None, find}
+use Rattle.std.specs.Prelude.{◌≡◌, ℕ, ◌+◌, ◌<◌, List, length, Option, Some, None, find, slice_get}
+use Rattle.cil_syntax.specs.declared.term.Op.{Op}
 use Rattle.cil_syntax.specs.declared.term.Word.{Word}
+use Rattle.cil_syntax.specs.Terms.{Term}
 use Rattle.cil_blocks.specs.Places.{AreStandings, entries_in}
 use Rattle.cil_macros.specs.declared.meant.Meant.{Meant}
 use Rattle.cil_macros.specs.declared.openings.Opening.{Opening}
 use Rattle.cil_macros.specs.declared.scene.Scene.{Scene}
 use Rattle.cil_macros.specs.Entries.{IsInFirst}
 use Rattle.cil_macros.specs.Macros.{all_standing}
-use Rattle.cil_macros.specs.Meant.{meant_term}
+use Rattle.cil_macros.specs.Meant.{kind_sign, meant_term}
 use Rattle.cil_macros.specs.Openings.{AreOpenings}
-use Rattle.cil_macros.specs.Placed.{Bound, Placed, is_served, put}
+use Rattle.cil_macros.specs.Parameters.{Parameter, argument_of}
+use Rattle.cil_macros.specs.Placed.{Bound, Placed, filled, is_served, meaning, put}
 use Rattle.cil_macros.specs.Walks.{AreBrought, placed_in, written_in}
 
 pub record IsScene (s : Scene) : Type 0 where
@@ -26,6 +29,12 @@ pub record IsKnown (s : Scene) (os : List Opening) (at : ℕ) : Type 0 where
   pub within : at < length (entries_in s.spaces.now) + length s.brought.now.called.items
   pub opened : AreOpenings (written_in s.spaces.now) (all_standing s.spaces.now) (placed_of_scene s) s.brought.now.bodies.items os
   pub first : IsInFirst s.brought.now.called.items (length (entries_in s.spaces.now)) at (length os)
+
+-- what an argument of a kind means, of the call that is placed there
+abbrev pub SaysValue : Scene → ℕ → Op → Term Word → Meant → Type 0
+SaysValue s at kind argument m =
+    (p : Placed) (x : Parameter) (value : Term Word) → slice_get (placed_of_scene s) at ≡ Some p → x.kind ≡ kind → argument_of x argument ≡ Some value
+    → meant_term (placed_of_scene s) (kind_sign kind) m ≡ filled (meaning (written_in s.spaces.now) p) value
 
 -- the argument for which a word stands, as it is put there
 pub record IsArgument (ps : List Placed) (w : Word) (bs : List Bound) (m : Meant) : Type 0 where

@@ -4,7 +4,6 @@
 ghost use Rattle.std.specs.Prelude.{◌≡◌, ◌+◌, ◌<◌, IfOk, Some, length, slice_get, ℕ};
 ghost use Rattle.cil_syntax.specs.Said.{all_said};
 ghost use Rattle.cil_blocks.specs.Places.{entries_in};
-ghost use Rattle.cil_macros.specs.declared.entry.Body.{Body};
 ghost use Rattle.cil_macros.specs.Calls.{Unfolded, home_of, unfolded};
 ghost use Rattle.cil_macros.specs.Macros.{all_standing};
 ghost use Rattle.cil_macros.specs.Meant.{AreArguments, scope_there};
@@ -16,6 +15,7 @@ ghost use Rattle.cil_macros.specs.Walks.{placed_in, written_in};
 
 use crate::arguments::{listed, sign_of};
 use crate::chain::{standing_statement, statement_at};
+use crate::entry::Body;
 use crate::meaning::{body_number, meaning_at};
 use crate::meant::Meant;
 use crate::scene::Scene;
@@ -49,10 +49,9 @@ pub fn openings_of<'a>(
     ensures each { IfOk result (λ os. AreOpenings (written_in scene.now.spaces.now) (all_standing scene.now.spaces.now) (placed_of_scene scene.now) scene.now.brought.now.bodies.items os.items) }
     ensures many { IfOk result (λ os. length os.items ≡ length scene.now.brought.now.bodies.items) }
 {
-    let count = scene.brought.bodies.len();
     let mut openings = Vec::new(alloc);
-    while openings.len() < count {
-        let opening = opening_of(alloc, scene, openings.as_slice())?;
+    for body in scene.brought.bodies.as_slice() {
+        let opening = opening_of(alloc, scene, openings.as_slice(), body)?;
         openings.push(opening)?;
     }
     Ok(openings)
@@ -63,14 +62,13 @@ fn opening_of<'a>(
     alloc: Global,
     scene: &Scene<'_, '_, 'a>,
     openings: &[Opening<'a>],
+    body: &Body,
 ) -> Result<Opening<'a>, NoMemory>
     requires scene { IsScene scene.now }
-    requires next { length openings.now < length scene.now.brought.now.bodies.items }
+    requires next { slice_get scene.now.brought.now.bodies.items (length openings.now) ≡ Some body.now }
     requires opened { AreOpenings (written_in scene.now.spaces.now) (all_standing scene.now.spaces.now) (placed_of_scene scene.now) scene.now.brought.now.bodies.items openings.now }
-    ensures { IfOk result (λ o. (b : Body) → slice_get scene.now.brought.now.bodies.items (length openings.now) ≡ Some b
-        → IsOpening (written_in scene.now.spaces.now) (all_standing scene.now.spaces.now) (placed_of_scene scene.now) b o) }
+    ensures { IfOk result (IsOpening (written_in scene.now.spaces.now) (all_standing scene.now.spaces.now) (placed_of_scene scene.now) body.now) }
 {
-    let body = &scene.brought.bodies[openings.len()];
     let call = Call {
         scene,
         openings,
@@ -85,16 +83,14 @@ fn opening_of<'a>(
 
 impl<'c, 's, 'p, 'a> Call<'c, 's, 'p, 'a> {
     ghost use Rattle.std.specs.Prelude.{◌≡◌, ◌+◌, ◌<◌, List, IfOk, Some, length, slice_get};
-    ghost use Rattle.cil_syntax.specs.declared.term.Word.{Word};
     ghost use Rattle.cil_syntax.specs.Said.{args_of, said_of};
-    ghost use Rattle.cil_syntax.specs.Terms.{Term};
     ghost use Rattle.cil_blocks.specs.Places.{entries_in};
     ghost use Rattle.cil_macros.specs.Calls.{Unfolded, bound, home_of, unfolded};
     ghost use Rattle.cil_macros.specs.Macros.{all_standing};
-    ghost use Rattle.cil_macros.specs.Meant.{AreArguments, kind_sign, meant_term, scope_there};
-    ghost use Rattle.cil_macros.specs.Scene.{IsKnown, placed_of_scene};
-    ghost use Rattle.cil_macros.specs.Parameters.{Parameter, argument_of, call_arguments, macro_parameters};
-    ghost use Rattle.cil_macros.specs.Placed.{Bound, Placed, filled, meaning};
+    ghost use Rattle.cil_macros.specs.Meant.{AreArguments, scope_there};
+    ghost use Rattle.cil_macros.specs.Scene.{IsKnown, SaysValue, placed_of_scene};
+    ghost use Rattle.cil_macros.specs.Parameters.{call_arguments, macro_parameters};
+    ghost use Rattle.cil_macros.specs.Placed.{Bound, Placed};
     ghost use Rattle.cil_macros.specs.Walks.{placed_in, written_in};
 
     /// The place of the outermost call.
@@ -150,18 +146,16 @@ impl<'c, 's, 'p, 'a> Call<'c, 's, 'p, 'a> {
                 let Some(argument) = arguments.get(meanings.len()) else {
                     return Ok(meanings);
                 };
-                meanings.push(self.meaning(parameter.kind, argument, call.at.module))?;
+                meanings.push(self.argument_meaning(parameter.kind, argument, call.at.module))?;
             }
         }
         Ok(meanings)
     }
 
     /// What an argument of a kind means, which is written in this module.
-    fn meaning(&self, kind: Op, argument: &Term<'a>, module: u64) -> Meant<'a>
+    fn argument_meaning(&self, kind: Op, argument: &Term<'a>, module: u64) -> Meant<'a>
         requires { IsKnown self.now.scene.now self.now.openings.now self.now.at }
-        ensures { (p : Placed) (x : Parameter) (t : Term Word) → slice_get (placed_of_scene self.now.scene.now) self.now.at ≡ Some p
-            → x.kind ≡ kind → argument_of x (said_of «module» argument.now) ≡ Some t
-            → meant_term (placed_of_scene self.now.scene.now) (kind_sign kind) result ≡ filled (meaning (written_in self.now.scene.now.spaces.now) p) t }
+        ensures { SaysValue self.now.scene.now self.now.at kind (said_of «module» argument.now) result }
     {
         match argument {
             Term::Leaf(word) => {

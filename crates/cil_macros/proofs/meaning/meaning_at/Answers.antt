@@ -19,14 +19,14 @@ returns-in_default c = λ p here.
     let l = ap length c.entries-standing.ensures.same in
     let below = c.in_default.ensures in
     ap (meant_term (placed_of_scene c.args.scene.now) c.args.word.now.sign) (same_word c.args.word.now c.args.at c.word.result _ c.word.ensures c.as_slice.ensures)
-    ∙ standing_word c.args.scene.now c.args.openings.now c.args.at c.requires c.args.word.now p here (omega (arith, l, below))
+    ∙ standing_word c.args.scene.now c.args.openings.now c.args.at c.requires p here c.args.word.now (omega (arith, l, below))
 
 pub index-requires : goal.index-requires
 index-requires c =
     let s = c.args.scene.now in
     let n = subst (λ k. IsNumbered s.brought.now.called.items k c.args.at c.in-Some.number) (ap length c.entries-standing.ensures.same) c.in-Some.ensures in
     let here = placed_there s.spaces.now s.brought.now.called.items c.args.at c.requires.within in
-    let h = number_below s c.args.openings.now c.args.at c.requires c.args.word.now here.0 here.1 c.in-Some.number n in
+    let h = number_below s c.args.openings.now c.args.at c.requires here.0 here.1 c.in-Some.number n in
     let l = s.brought.now.bodies.ok.0 in
     omega (arith, h, l)
 
@@ -35,12 +35,12 @@ standing_statement-called-requires c =
     let s = c.args.scene.now in
     let n = subst (λ k. IsNumbered s.brought.now.called.items k c.args.at c.in-Some.number) (ap length c.entries-standing.ensures.same) c.in-Some.ensures in
     let here = placed_there s.spaces.now s.brought.now.called.items c.args.at c.requires.within in
-    let h = number_below s c.args.openings.now c.args.at c.requires c.args.word.now here.0 here.1 c.in-Some.number n in
+    let h = number_below s c.args.openings.now c.args.at c.requires here.0 here.1 c.in-Some.number n in
     let b = there_as s.brought.now.bodies.items c.in-Some.number c.index.result.now h c.index.ensures in
     let first = c.requires.first n.rank n.called n.behind n.is in
     let same = n.body in
     let o = there_as c.args.openings.now c.in-Some.number c.index-openings-number.result (omega (arith, first, same)) c.index-openings-number.is in
-    let m = macro_here s c.args.openings.now c.args.at c.requires c.args.word.now here.0 here.1 c.in-Some.number n c.index.result.now b c.index-openings-number.result o in
+    let m = macro_here s c.args.openings.now c.args.at c.requires here.0 here.1 c.in-Some.number n c.index.result.now b c.index-openings-number.result o in
     let k = in_range (all_standing s.spaces.now) c.index.result.now.called _ m in
     let l = standings_length (written_in s.spaces.now) (entries_in s.spaces.now) in
     let e = ap length c.entries.ensures.same in
@@ -50,49 +50,49 @@ pub returns-in-Some-argument_for : goal.returns-in-Some-argument_for
 returns-in-Some-argument_for c = λ p here.
     let s = c.args.scene.now in
     let n = subst (λ k. IsNumbered s.brought.now.called.items k c.args.at c.in-Some.number) (ap length c.entries-standing.ensures.same) c.in-Some.ensures in
-    let h = number_below s c.args.openings.now c.args.at c.requires c.args.word.now p here c.in-Some.number n in
+    let h = number_below s c.args.openings.now c.args.at c.requires p here c.in-Some.number n in
     let b = there_as s.brought.now.bodies.items c.in-Some.number c.index.result.now h c.index.ensures in
     let first = c.requires.first n.rank n.called n.behind n.is in
     let same = n.body in
     let o = there_as c.args.openings.now c.in-Some.number c.index-openings-number.result (omega (arith, first, same)) c.index-openings-number.is in
     let called = c.standing_statement-called.result in
     let stated = stands_by s.spaces.now s.brought.now.called.items c.entries.result.now c.index.result.now.called called c.entries.ensures.same c.standing_statement-called.ensures in
-    let are = arguments_here s c.args.openings.now c.args.at c.requires c.args.word.now p here c.in-Some.number n c.index.result.now b c.index-openings-number.result o called stated in
+    let are = arguments_here s c.args.openings.now c.args.at c.requires p here c.in-Some.number n c.index.result.now b c.index-openings-number.result o called stated in
     let so = rw c.statements.ensures at c.in-Some-argument_for.ensures in
-    argument_word s c.args.openings.now c.args.at c.requires c.args.word.now p here c.in-Some.number n c.index.result.now b c.index-openings-number.result o called stated
-    c.in-Some-argument_for.argument (so (placed_of_scene s) p.bounds are)
+    argument_word s c.args.openings.now c.args.at c.requires p here c.in-Some.number n c.index.result.now b c.index-openings-number.result o called stated
+    c.args.word.now c.in-Some-argument_for.argument (so (placed_of_scene s) p.bounds are)
 
 pub returns-then-declares_at : goal.returns-then-declares_at
 returns-then-declares_at c = λ p here.
     let s = c.args.scene.now in
     let n = subst (λ k. IsNumbered s.brought.now.called.items k c.args.at c.in-Some.number) (ap length c.entries-standing.ensures.same) c.in-Some.ensures in
-    let h = number_below s c.args.openings.now c.args.at c.requires c.args.word.now p here c.in-Some.number n in
+    let h = number_below s c.args.openings.now c.args.at c.requires p here c.in-Some.number n in
     let b = there_as s.brought.now.bodies.items c.in-Some.number c.index.result.now h c.index.ensures in
     let first = c.requires.first n.rank n.called n.behind n.is in
     let same = n.body in
     let o = there_as c.args.openings.now c.in-Some.number c.index-openings-number.result (omega (arith, first, same)) c.index-openings-number.is in
     let called = c.standing_statement-called.result in
     let stated = stands_by s.spaces.now s.brought.now.called.items c.entries.result.now c.index.result.now.called called c.entries.ensures.same c.standing_statement-called.ensures in
-    let are = arguments_here s c.args.openings.now c.args.at c.requires c.args.word.now p here c.in-Some.number n c.index.result.now b c.index-openings-number.result o called stated in
+    let are = arguments_here s c.args.openings.now c.args.at c.requires p here c.in-Some.number n c.index.result.now b c.index-openings-number.result o called stated in
     let so = rw c.statements.ensures at c.in_default-argument_for.ensures in
     ap (meant_term (placed_of_scene s) c.args.word.now.sign)
     (same_word c.args.word.now c.index-openings-number.result.home c.word-then-declares_at.result _ c.word-then-declares_at.ensures c.as_slice-then-declares_at.ensures)
-    ∙ home_word s c.args.openings.now c.args.at c.requires c.args.word.now p here c.in-Some.number n c.index.result.now b c.index-openings-number.result o called stated
-    (so (placed_of_scene s) p.bounds are) (rw c.statements-2.ensures at c.if-declares_at.ensures)
+    ∙ home_word s c.args.openings.now c.args.at c.requires p here c.in-Some.number n c.index.result.now b c.index-openings-number.result o called stated
+    c.args.word.now (so (placed_of_scene s) p.bounds are) (rw c.statements-2.ensures at c.if-declares_at.ensures)
 
 pub returns : goal.returns
 returns c = λ p here.
     let s = c.args.scene.now in
     let n = subst (λ k. IsNumbered s.brought.now.called.items k c.args.at c.in-Some.number) (ap length c.entries-standing.ensures.same) c.in-Some.ensures in
-    let h = number_below s c.args.openings.now c.args.at c.requires c.args.word.now p here c.in-Some.number n in
+    let h = number_below s c.args.openings.now c.args.at c.requires p here c.in-Some.number n in
     let b = there_as s.brought.now.bodies.items c.in-Some.number c.index.result.now h c.index.ensures in
     let first = c.requires.first n.rank n.called n.behind n.is in
     let same = n.body in
     let o = there_as c.args.openings.now c.in-Some.number c.index-openings-number.result (omega (arith, first, same)) c.index-openings-number.is in
     let called = c.standing_statement-called.result in
     let stated = stands_by s.spaces.now s.brought.now.called.items c.entries.result.now c.index.result.now.called called c.entries.ensures.same c.standing_statement-called.ensures in
-    let are = arguments_here s c.args.openings.now c.args.at c.requires c.args.word.now p here c.in-Some.number n c.index.result.now b c.index-openings-number.result o called stated in
+    let are = arguments_here s c.args.openings.now c.args.at c.requires p here c.in-Some.number n c.index.result.now b c.index-openings-number.result o called stated in
     let so = rw c.statements.ensures at c.in_default-argument_for.ensures in
     ap (meant_term (placed_of_scene s) c.args.word.now.sign) (same_word c.args.word.now c.args.at c.word-2.result _ c.word-2.ensures c.as_slice-2.ensures)
-    ∙ place_word s c.args.openings.now c.args.at c.requires c.args.word.now p here c.in-Some.number n c.index.result.now b c.index-openings-number.result o called stated
-    (so (placed_of_scene s) p.bounds are) (rw c.statements-2.ensures at c.if-declares_at.ensures)
+    ∙ place_word s c.args.openings.now c.args.at c.requires p here c.in-Some.number n c.index.result.now b c.index-openings-number.result o called stated
+    c.args.word.now (so (placed_of_scene s) p.bounds are) (rw c.statements-2.ensures at c.if-declares_at.ensures)
