@@ -7,6 +7,7 @@ pub mod ChainLemmas
 pub mod EntryLemmas
 pub mod ExpandLemmas
 pub mod FaultLemmas
+pub mod FirstLemmas
 pub mod FlatInstances
 pub mod Kept
 pub mod LawLemmas

@@ -92,7 +92,7 @@ module _ (ws : List Written) (ss : List Standing) where
   }
 
   -- what is at a place of two lists is of the first or of the second
-  either_at : {X : Type 0} (xs ys : List X) (i : ℕ) (x : X) → slice_get (xs ++ ys) i ≡ Some x
+  pub either_at : {X : Type 0} (xs ys : List X) (i : ℕ) (x : X) → slice_get (xs ++ ys) i ≡ Some x
       → ((i < length xs) × (slice_get xs i ≡ Some x)) ⊎ ((j : ℕ) × (i ≡ length xs + j) × (slice_get ys j ≡ Some x))
   either_at [] ys i x e = inr (i, omega arith, e)
   either_at (y ∷ xs) ys zero x e = inl (omega arith, e)

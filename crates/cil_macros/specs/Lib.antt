@@ -3,6 +3,7 @@ pub mod CallFaults
 pub mod Calls
 pub mod Entries
 pub mod ExpandFaults
+pub mod Firsts
 pub mod Fits
 pub mod Instances
 pub mod Laws

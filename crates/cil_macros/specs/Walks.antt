@@ -10,6 +10,7 @@ use Rattle.cil_macros.specs.declared.entry.Called.{Called}
 use Rattle.cil_macros.specs.declared.source.Source.{Source}
 use Rattle.cil_macros.specs.Calls.{Unfolded, called_macro, unfolded}
 use Rattle.cil_macros.specs.Entries.{AreBodies, AreBodyPlaces, placed_of}
+use Rattle.cil_macros.specs.Firsts.{AreFirsts}
 use Rattle.cil_macros.specs.Macros.{AreMacros, IsMacroAt, all_standing}
 use Rattle.cil_macros.specs.Placed.{Placed}
 
@@ -30,6 +31,7 @@ pub record IsSource (s : Source) : Type 0 where
 pub record AreBrought (s : Standings) (b : Brought) : Type 0 where
   pub bodies : AreBodies (written_in s) (all_standing s) b.called.items b.bodies.items
   pub places : AreBodyPlaces (written_in s) (all_standing s) (spaces_in s) b.called.items b.bodies.items
+  pub firsts : AreFirsts (all_standing s) b
 
 -- the macro that is called there, by its rank
 abbrev pub SaysMeant : Standings → List Called → ℕ → Option ℕ → Type 0
