@@ -1,12 +1,12 @@
 -- The first body of each macro: how the table grows, and why nothing came through a macro whose first body is later.
-use Rattle.std.proofs.Common.{◌≡◌, ℕ, zero, suc, ◌+◌, ◌<◌, ◌≤◌, ◌==◌, ◌&&◌, ◌⊎◌, Bool, true, false, cond, if◌then◌else◌, List, [], ◌∷◌, ◌++◌, length, get_or, map, refl, sym, ◌∙◌, ap, subst, inl, inr, arith}
+use Rattle.std.proofs.Common.{◌≡◌, ℕ, zero, suc, ◌+◌, ◌<◌, ◌≤◌, ◌==◌, ◌&&◌, ◌⊎◌, Bool, true, false, cond, if◌then◌else◌, List, [], ◌∷◌, ◌++◌, length, refl, sym, ◌∙◌, ap, subst, inl, inr, arith}
 use Rattle.std.proofs.lemmas.Grind.{common_steps}
 use Rattle.std.specs.Prelude.{Option, Some, None, is_some, slice_get}
 use Rattle.std.specs.List.{position, position_or_len}
 use Rattle.std.specs.Map.{lookup}
 use Rattle.std.specs.Option.{option_or}
 use Rattle.std.proofs.lemmas.Bool.{eqb-true}
-use Rattle.std.proofs.lemmas.List.{length-append, length-map}
+use Rattle.std.proofs.lemmas.List.{length-append}
 use Rattle.std.proofs.lemmas.List.Folds.{position_or_len_push}
 use Rattle.std.proofs.lemmas.List.Sums.{fails_before_first}
 use Rattle.indexmap.specs.IndexMap.{IndexMap, get}
@@ -21,7 +21,6 @@ use Rattle.cil_macros.specs.declared.entry.Called.{Called}
 use Rattle.cil_macros.specs.declared.chain.Brought.{Brought}
 use Rattle.cil_macros.specs.Entries.{AreBodies, IsBodyAt, placed_of}
 use Rattle.cil_macros.specs.Firsts.{AreFirsts, IsEarlier, IsFirstKept, Key, is_body_of, is_stated_at, key_of, same_key}
-use Rattle.cil_macros.specs.Walks.{called_by}
 use Rattle.cil_macros.proofs.BodyLemmas.{is_brought}
 use Rattle.cil_macros.proofs.ChainLemmas.{IsCame, came_before, came_not}
 use Rattle.cil_macros.proofs.EntryLemmas.{placed_length}
@@ -89,13 +88,16 @@ module _ (ws : List Written) (ss : List Standing) (cs : List Called) (bs : List 
   its_body j at c e place =
       let b = is_brought ws ss cs bs are j c e in
       let call = b.by_call in
-      let before = b.before in
-      (b.body, b.is_body, record {
-        so = b.so;
-        before = omega (arith, call, before, place);
-        statement = statement_at ws c.statement;
-        placed = ap (slice_get (placed_of ws ss cs)) place ∙ b.placed;
-      })
+      let before = b.before in (
+        b.body,
+        b.is_body,
+        record {
+          so = b.so;
+          before = omega (arith, call, before, place);
+          statement = statement_at ws c.statement;
+          placed = ap (slice_get (placed_of ws ss cs)) place ∙ b.placed;
+        },
+      )
 
   of_another : (i : ℕ) (b : Body) (m : Standing) → i < first → slice_get bs i ≡ Some b → slice_get ss b.called ≡ Some m
       → false ≡ same_spot spot m.statement.statement.at
