@@ -4,6 +4,7 @@ pub mod BodyLemmas
 pub mod CallLemmas
 pub mod CalledMacros
 pub mod ChainLemmas
+pub mod DeclaredLemmas
 pub mod EntryLemmas
 pub mod ExpandLemmas
 pub mod FaultLemmas

@@ -42,7 +42,7 @@ one_called numbers k opener body old cs new h so e =
     ∙ ap (λ xs. old ++ map (called_by opener body) xs) (sym (take_more numbers k 0 h))
 
 -- a macro is a statement of the program
-number_of_macro : (ws : List Written) (k : ℕ) → is_macro (statement_at ws k).statement.keyword ≡ true → k < length ws
+pub number_of_macro : (ws : List Written) (k : ℕ) → is_macro (statement_at ws k).statement.keyword ≡ true → k < length ws
 number_of_macro [] k e = let f : false ≡ true = e in cc
 number_of_macro (w ∷ ws) zero e = omega arith
 number_of_macro (w ∷ ws) (suc k) e = let h = number_of_macro ws k e in omega (arith, h)
