@@ -5,7 +5,7 @@ use Rattle.cil_sexpr.specs.Places.{in_range, some_same}
 use Rattle.cil_syntax.specs.declared.term.Word.{Word}
 use Rattle.cil_syntax.specs.Scopes.{Scope, ScopedWord}
 use Rattle.cil_syntax.specs.Terms.{Term, Leaf}
-use Rattle.cil_syntax.specs.Written.{Written}
+use Rattle.cil_syntax.specs.Written.{Written, is_macro}
 use Rattle.cil_blocks.specs.Contents.{Standing}
 use Rattle.cil_blocks.specs.Entries.{statement_at}
 use Rattle.cil_blocks.specs.Places.{entries_in}
@@ -25,6 +25,8 @@ use Rattle.cil_macros.specs.Scene.{IsArgument, IsKnown, SaysArgument, placed_of_
 use Rattle.cil_macros.specs.Walks.{written_in}
 use Rattle.cil_macros.proofs.BodyLemmas.{IsBrought, is_brought}
 use Rattle.cil_macros.proofs.CallLemmas.{stood_at}
+use Rattle.cil_macros.proofs.CalledMacros.{is_macro_call}
+use Rattle.cil_macros.proofs.WalkLemmas.{number_of_macro}
 
 -- a word in a scope
 abbrev in_scope : Word → Scope → Term ScopedWord
@@ -110,6 +112,11 @@ module _ (s : Scene) (os : List Opening) (at : ℕ) (known : IsKnown s os at) (p
       module _ (called : ℕ) (stated : (m : Standing) → slice_get ss b.called ≡ Some m → m.statement ≡ statement_at ws called) where
         macro_stated : brought.so.opened.macro.statement ≡ statement_at ws called
         macro_stated = stated brought.so.opened.macro macro_here
+
+        pub macro_below : called < length ws
+        macro_below =
+            number_of_macro ws called
+            (ap (λ (x : Written). is_macro x.statement.keyword) (sym macro_stated) ∙ (is_macro_call ws ss brought.so.call brought.so.opened brought.so.is_opened).macro)
 
         pub arguments_here : AreArguments ps (macro_parameters (statement_at ws called).statement.args) p.bounds o.arguments.items
         arguments_here =

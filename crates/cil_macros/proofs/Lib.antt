@@ -5,9 +5,11 @@ pub mod BodyMeaning
 pub mod CallLemmas
 pub mod CalledMacros
 pub mod ChainLemmas
+pub mod DeclaredLemmas
 pub mod EntryLemmas
 pub mod ExpandLemmas
 pub mod FaultLemmas
+pub mod FirstLemmas
 pub mod FlatInstances
 pub mod Kept
 pub mod LawLemmas

@@ -42,7 +42,7 @@ one_called numbers k opener body old cs new h so e =
     ∙ ap (λ xs. old ++ map (called_by opener body) xs) (sym (take_more numbers k 0 h))
 
 -- a macro is a statement of the program
-number_of_macro : (ws : List Written) (k : ℕ) → is_macro (statement_at ws k).statement.keyword ≡ true → k < length ws
+pub number_of_macro : (ws : List Written) (k : ℕ) → is_macro (statement_at ws k).statement.keyword ≡ true → k < length ws
 number_of_macro [] k e = let f : false ≡ true = e in cc
 number_of_macro (w ∷ ws) zero e = omega arith
 number_of_macro (w ∷ ws) (suc k) e = let h = number_of_macro ws k e in omega (arith, h)
@@ -92,7 +92,7 @@ module _ (ws : List Written) (ss : List Standing) where
   }
 
   -- what is at a place of two lists is of the first or of the second
-  either_at : {X : Type 0} (xs ys : List X) (i : ℕ) (x : X) → slice_get (xs ++ ys) i ≡ Some x
+  pub either_at : {X : Type 0} (xs ys : List X) (i : ℕ) (x : X) → slice_get (xs ++ ys) i ≡ Some x
       → ((i < length xs) × (slice_get xs i ≡ Some x)) ⊎ ((j : ℕ) × (i ≡ length xs + j) × (slice_get ys j ≡ Some x))
   either_at [] ys i x e = inr (i, omega arith, e)
   either_at (y ∷ xs) ys zero x e = inl (omega arith, e)

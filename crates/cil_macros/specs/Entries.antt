@@ -70,11 +70,3 @@ abbrev pub AreBodyPlaces : List Written → List Standing → List Space → Lis
 AreBodyPlaces ws ss spaces cs bs =
     (b : Body) (p : Placed) (u : Unfolded) → Contains bs b → slice_get (placed_of ws ss cs) b.call ≡ Some p → unfolded ws ss p ≡ Some u
     → IsPlace spaces p.standing.space (tidy (u.macro.scope ++ p.standing.scope)) (numbered b.place)
-
--- what is placed there stands, or is of one of so many first bodies
-abbrev pub IsInFirst : List Called → ℕ → ℕ → ℕ → Type 0
-IsInFirst cs standing at count = (j : ℕ) (c : Called) → at ≡ standing + j → slice_get cs j ≡ Some c → c.body < count
-
--- the call of a body stands, or is of a body before it
-abbrev pub AreEarlier : List Called → ℕ → List Body → Type 0
-AreEarlier cs standing bs = (i : ℕ) (b : Body) → slice_get bs i ≡ Some b → IsInFirst cs standing b.call i

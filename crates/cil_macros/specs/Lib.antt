@@ -1,8 +1,10 @@
 pub mod Asked
 pub mod CallFaults
 pub mod Calls
+pub mod DeclaredInBodies
 pub mod Entries
 pub mod ExpandFaults
+pub mod Firsts
 pub mod Fits
 pub mod Instances
 pub mod Laws

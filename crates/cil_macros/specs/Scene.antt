@@ -1,4 +1,4 @@
--- What meanings follow from: all that stands, and what calls bring.
+-- What meanings follow from: all that stands, what calls bring, and what bodies declare.
 use Rattle.std.specs.Prelude.{◌≡◌, ℕ, ◌+◌, ◌<◌, List, length, Option, Some, None, find, slice_get}
 use Rattle.cil_syntax.specs.declared.term.Op.{Op}
 use Rattle.cil_syntax.specs.declared.term.Word.{Word}
@@ -7,7 +7,8 @@ use Rattle.cil_blocks.specs.Places.{AreStandings, entries_in}
 use Rattle.cil_macros.specs.declared.meant.Meant.{Meant}
 use Rattle.cil_macros.specs.declared.openings.Opening.{Opening}
 use Rattle.cil_macros.specs.declared.scene.Scene.{Scene}
-use Rattle.cil_macros.specs.Entries.{IsInFirst}
+use Rattle.cil_macros.specs.DeclaredInBodies.{AreDeclared}
+use Rattle.cil_macros.specs.Firsts.{IsEarlier}
 use Rattle.cil_macros.specs.Macros.{all_standing}
 use Rattle.cil_macros.specs.Meant.{kind_sign, meant_term}
 use Rattle.cil_macros.specs.Openings.{AreOpenings}
@@ -18,6 +19,7 @@ use Rattle.cil_macros.specs.Walks.{AreBrought, placed_in, written_in}
 pub record IsScene (s : Scene) : Type 0 where
   pub standings : AreStandings s.spaces.now
   pub brought : AreBrought s.spaces.now s.brought.now
+  pub declared : AreDeclared (written_in s.spaces.now) s.declared.now
 
 -- all that is placed there
 abbrev pub placed_of_scene : Scene → List Placed
@@ -28,7 +30,7 @@ pub record IsKnown (s : Scene) (os : List Opening) (at : ℕ) : Type 0 where
   pub scene : IsScene s
   pub within : at < length (entries_in s.spaces.now) + length s.brought.now.called.items
   pub opened : AreOpenings (written_in s.spaces.now) (all_standing s.spaces.now) (placed_of_scene s) s.brought.now.bodies.items os
-  pub first : IsInFirst s.brought.now.called.items (length (entries_in s.spaces.now)) at (length os)
+  pub first : IsEarlier s.brought.now.called.items (length os) (length (entries_in s.spaces.now)) at
 
 -- what an argument of a kind means, of the call that is placed there
 abbrev pub SaysValue : Scene → ℕ → Op → Term Word → Meant → Type 0

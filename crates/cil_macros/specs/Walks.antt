@@ -1,15 +1,16 @@
 -- The walk over calls: what it stands on, and what holds of what it has brought so far.
-use Rattle.std.specs.Prelude.{◌≡◌, ℕ, List, length, Option, Some, None, slice_get, MatchOption}
+use Rattle.std.specs.Prelude.{◌≡◌, ℕ, List, Option, Some, None, slice_get, MatchOption}
 use Rattle.cil_syntax.specs.Program.{program_of}
 use Rattle.cil_syntax.specs.Written.{Written}
 use Rattle.cil_blocks.specs.Contents.{Standing}
 use Rattle.cil_blocks.specs.Entries.{AreParts}
-use Rattle.cil_blocks.specs.Places.{AreStandings, Standings, entries_in, spaces_in, statements_in}
+use Rattle.cil_blocks.specs.Places.{AreStandings, Standings, spaces_in, statements_in}
 use Rattle.cil_macros.specs.declared.chain.Brought.{Brought}
 use Rattle.cil_macros.specs.declared.entry.Called.{Called}
 use Rattle.cil_macros.specs.declared.source.Source.{Source}
 use Rattle.cil_macros.specs.Calls.{Unfolded, called_macro, unfolded}
-use Rattle.cil_macros.specs.Entries.{AreBodies, AreBodyPlaces, AreEarlier, placed_of}
+use Rattle.cil_macros.specs.Entries.{AreBodies, AreBodyPlaces, placed_of}
+use Rattle.cil_macros.specs.Firsts.{AreFirsts}
 use Rattle.cil_macros.specs.Macros.{AreMacros, IsMacroAt, all_standing}
 use Rattle.cil_macros.specs.Placed.{Placed}
 
@@ -30,7 +31,7 @@ pub record IsSource (s : Source) : Type 0 where
 pub record AreBrought (s : Standings) (b : Brought) : Type 0 where
   pub bodies : AreBodies (written_in s) (all_standing s) b.called.items b.bodies.items
   pub places : AreBodyPlaces (written_in s) (all_standing s) (spaces_in s) b.called.items b.bodies.items
-  pub earlier : AreEarlier b.called.items (length (entries_in s)) b.bodies.items
+  pub firsts : AreFirsts (all_standing s) b
 
 -- the macro that is called there, by its rank
 abbrev pub SaysMeant : Standings → List Called → ℕ → Option ℕ → Type 0

@@ -9,6 +9,7 @@ mod arguments;
 mod asked;
 pub mod calls;
 pub mod chain;
+pub mod declared_names;
 pub mod entry;
 pub mod expansion;
 pub mod faults;
@@ -24,6 +25,7 @@ pub mod source;
 pub mod walk;
 
 pub use arguments::arguments_fit;
+pub use declared_names::{Declared, declared_in_bodies};
 pub use expansion::expand;
 pub use instances::Instances;
 pub use macros::{Macros, macro_called, macros_of};

@@ -93,7 +93,7 @@ fn nearer(spaces: &Spaces, rank: usize, behind: Option<usize>) -> usize
 }
 
 /// Whether the statement of a number is a macro.
-fn is_macro_at(statements: &[Statement], number: usize) -> bool
+pub fn is_macro_at(statements: &[Statement], number: usize) -> bool
     requires { IsNested statements.now }
     ensures { result ≡ is_macro (statement_at (program_of statements.now) number).statement.keyword }
 {

@@ -12,7 +12,7 @@ ghost use Rattle.cil_macros.specs.Macros.{all_standing};
 ghost use Rattle.cil_macros.specs.Meant.{AreArguments, meant_term};
 ghost use Rattle.cil_macros.specs.Openings.{IsNumbered};
 ghost use Rattle.cil_macros.specs.Parameters.{macro_parameters};
-ghost use Rattle.cil_macros.specs.Placed.{Bound, Placed, declares, meaning};
+ghost use Rattle.cil_macros.specs.Placed.{Bound, Placed, meaning};
 ghost use Rattle.cil_macros.specs.Scene.{IsKnown, SaysArgument, placed_of_scene};
 ghost use Rattle.cil_macros.specs.Walks.{placed_in, written_in};
 
@@ -43,7 +43,7 @@ pub fn meaning_at<'a>(
     if let Some(argument) = argument_for(scene.spaces.statements(), opening, called, word) {
         return argument;
     }
-    if declares_at(scene.spaces.statements(), called, word) {
+    if scene.declared.has(called, word.bytes.as_slice(), word.sign) {
         return Meant::word(word.at, word.bytes.as_slice(), opening.home);
     }
     Meant::word(word.at, word.bytes.as_slice(), at)
@@ -74,12 +74,4 @@ pub fn body_number(brought: &Brought, standing: usize, at: usize) -> Option<usiz
         return None;
     }
     Some(brought.called[at - standing].body)
-}
-
-/// Whether the body of the macro that is the statement of a number declares a word.
-fn declares_at(statements: &[Statement], called: usize, word: &Word) -> bool
-    requires { IsNested statements.now }
-    ensures { result ≡ declares (program_of statements.now) (statement_at (program_of statements.now) called) word.now.bytes word.now.sign }
-{
-    false
 }

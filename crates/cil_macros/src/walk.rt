@@ -14,13 +14,14 @@ ghost use Rattle.cil_macros.specs.Placed.{Placed};
 ghost use Rattle.cil_macros.specs.Walks.{AreBrought, IsSource, called_by, placed_in, written_in};
 
 use crate::calls::{place_at, standing_place, unfolded_at};
-use crate::chain::{Brought, standing_statement};
+use crate::chain::{Brought, keep_first, spot_of, standing_statement};
 use crate::entry::{Body, Called};
 use crate::source::Source;
 use cil_blocks::Place;
 use cil_blocks::scopes::scope_joined;
 use cil_blocks::walker::parts_at;
 use cil_modset::NoMemory;
+use indexmap::IndexMap;
 use std::alloc::Global;
 
 /// All that calls bring; or nothing where that is, with what stands, more than the limit.
@@ -35,6 +36,7 @@ pub fn walk(alloc: Global, source: &Source, limit: usize) -> Result<Option<Broug
     let mut brought = Brought {
         called: Vec::new(alloc),
         bodies: Vec::new(alloc),
+        firsts: IndexMap::new(alloc),
     };
     let mut at = 0;
     while at < standing + brought.called.len() {
@@ -100,8 +102,11 @@ impl Brought {
             return Ok(());
         };
         let place = body_place(alloc, source, self, at, called)?;
-        let number = standing_statement(source.spaces.entries(), called);
+        let entries = source.spaces.entries();
+        let number = standing_statement(entries, called);
         let body = self.bodies.len();
+        let spot = spot_of(source.spaces.statements(), entries, called);
+        keep_first(&mut self.firsts, spot, body)?;
         self.bodies.push(Body {
             call: at,
             called,

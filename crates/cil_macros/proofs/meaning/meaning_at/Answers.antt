@@ -8,9 +8,10 @@ use Rattle.cil_blocks.proofs.EntryLemmas.{standings_length}
 use Rattle.cil_macros.specs.Macros.{all_standing}
 use Rattle.cil_macros.specs.Meant.{meant_term}
 use Rattle.cil_macros.specs.Openings.{IsNumbered}
+use Rattle.cil_macros.specs.Placed.{declares}
 use Rattle.cil_macros.specs.Scene.{placed_of_scene}
 use Rattle.cil_macros.specs.Walks.{written_in}
-use Rattle.cil_macros.proofs.BodyMeaning.{argument_word, arguments_here, home_word, macro_here, number_below, place_word, same_word, standing_word}
+use Rattle.cil_macros.proofs.BodyMeaning.{argument_word, arguments_here, home_word, macro_below, macro_here, number_below, place_word, same_word, standing_word}
 use Rattle.cil_macros.proofs.CallLemmas.{placed_there, stands_by}
 use Rattle.cil_macros.proofs.meaning.meaning_at.Goals as goal
 
@@ -62,8 +63,8 @@ returns-in-Some-argument_for c = λ p here.
     argument_word s c.args.openings.now c.args.at c.requires p here c.in-Some.number n c.index.result.now b c.index-openings-number.result o called stated
     c.args.word.now c.in-Some-argument_for.argument (so (placed_of_scene s) p.bounds are)
 
-pub returns-then-declares_at : goal.returns-then-declares_at
-returns-then-declares_at c = λ p here.
+pub returns-then-has : goal.returns-then-has
+returns-then-has c = λ p here.
     let s = c.args.scene.now in
     let n = subst (λ k. IsNumbered s.brought.now.called.items k c.args.at c.in-Some.number) (ap length c.entries-standing.ensures.same) c.in-Some.ensures in
     let h = number_below s c.args.openings.now c.args.at c.requires p here c.in-Some.number n in
@@ -75,10 +76,12 @@ returns-then-declares_at c = λ p here.
     let stated = stands_by s.spaces.now s.brought.now.called.items c.entries.result.now c.index.result.now.called called c.entries.ensures.same c.standing_statement-called.ensures in
     let are = arguments_here s c.args.openings.now c.args.at c.requires p here c.in-Some.number n c.index.result.now b c.index-openings-number.result o called stated in
     let so = rw c.statements.ensures at c.in_default-argument_for.ensures in
+    let below = macro_below s c.args.openings.now c.args.at c.requires p here c.in-Some.number n c.index.result.now b c.index-openings-number.result o called stated in
     ap (meant_term (placed_of_scene s) c.args.word.now.sign)
-    (same_word c.args.word.now c.index-openings-number.result.home c.word-then-declares_at.result _ c.word-then-declares_at.ensures c.as_slice-then-declares_at.ensures)
+    (same_word c.args.word.now c.index-openings-number.result.home c.word-then-has.result _ c.word-then-has.ensures c.as_slice-then-has.ensures)
     ∙ home_word s c.args.openings.now c.args.at c.requires p here c.in-Some.number n c.index.result.now b c.index-openings-number.result o called stated
-    c.args.word.now (so (placed_of_scene s) p.bounds are) (rw c.statements-2.ensures at c.if-declares_at.ensures)
+    c.args.word.now (so (placed_of_scene s) p.bounds are)
+    (c.if-has.ensures (written_in s.spaces.now) c.requires.scene.declared below ∙ ap (λ bytes. declares (written_in s.spaces.now) (statement_at (written_in s.spaces.now) called) bytes c.args.word.now.sign) c.as_slice-2.ensures)
 
 pub returns : goal.returns
 returns c = λ p here.
@@ -93,6 +96,8 @@ returns c = λ p here.
     let stated = stands_by s.spaces.now s.brought.now.called.items c.entries.result.now c.index.result.now.called called c.entries.ensures.same c.standing_statement-called.ensures in
     let are = arguments_here s c.args.openings.now c.args.at c.requires p here c.in-Some.number n c.index.result.now b c.index-openings-number.result o called stated in
     let so = rw c.statements.ensures at c.in_default-argument_for.ensures in
-    ap (meant_term (placed_of_scene s) c.args.word.now.sign) (same_word c.args.word.now c.args.at c.word-2.result _ c.word-2.ensures c.as_slice-2.ensures)
+    let below = macro_below s c.args.openings.now c.args.at c.requires p here c.in-Some.number n c.index.result.now b c.index-openings-number.result o called stated in
+    ap (meant_term (placed_of_scene s) c.args.word.now.sign) (same_word c.args.word.now c.args.at c.word-2.result _ c.word-2.ensures c.as_slice-3.ensures)
     ∙ place_word s c.args.openings.now c.args.at c.requires p here c.in-Some.number n c.index.result.now b c.index-openings-number.result o called stated
-    c.args.word.now (so (placed_of_scene s) p.bounds are) (rw c.statements-2.ensures at c.if-declares_at.ensures)
+    c.args.word.now (so (placed_of_scene s) p.bounds are)
+    (c.if-has.ensures (written_in s.spaces.now) c.requires.scene.declared below ∙ ap (λ bytes. declares (written_in s.spaces.now) (statement_at (written_in s.spaces.now) called) bytes c.args.word.now.sign) c.as_slice-2.ensures)

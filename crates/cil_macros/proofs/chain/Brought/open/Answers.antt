@@ -1,14 +1,19 @@
-use Rattle.std.proofs.Common.{◌≡◌, ◌∙◌, ◌++◌, List, ap, arith, length, subst, sym}
+use Rattle.std.proofs.Common.{◌≡◌, ◌∙◌, ◌++◌, List, ap, arith, length, map, subst, sym}
 use Rattle.std.specs.Prelude.{Some, slice_get}
 use Rattle.std.proofs.lemmas.List.{append-nil}
+use Rattle.cil_syntax.specs.declared.program.Statement.{Statement}
+use Rattle.cil_syntax.specs.Program.{program_of}
 use Rattle.cil_syntax.specs.Written.{Written}
 use Rattle.cil_blocks.specs.declared.entry.Entry.{Entry}
 use Rattle.cil_blocks.specs.Contents.{Standing}
 use Rattle.cil_blocks.specs.Entries.{standings_of, statement_at}
+use Rattle.cil_blocks.specs.Places.{entries_in}
+use Rattle.cil_blocks.proofs.EntryLemmas.{standings_length}
 use Rattle.cil_macros.specs.Macros.{all_standing}
-use Rattle.cil_macros.specs.Walks.{placed_in, written_in}
+use Rattle.cil_macros.specs.Walks.{called_by, placed_in, written_in}
 use Rattle.cil_macros.proofs.CallLemmas.{placed_there, unfolded_below}
 use Rattle.cil_macros.proofs.EntryLemmas.{opens_nothing}
+use Rattle.cil_macros.proofs.FirstLemmas.{firsts_opened}
 use Rattle.cil_macros.proofs.WalkLemmas.{bodies_opened, placed_opened, places_opened}
 use Rattle.cil_macros.proofs.chain.Brought.open.Goals as goal
 
@@ -29,7 +34,15 @@ standing_statement-number-requires c =
     let s = c.args.source.now.spaces.now in
     let p = placed_there s c.args.self.now.called.items c.args.at c.requires.within in
     let h = unfolded_below s p.0 c.in-Some.called (c.in-Some.ensures p.0 p.1) in
-    let l = ap length c.entries.ensures.same in
+    let l = ap length c.entries-entries.ensures.same in
+    omega (arith, h, l)
+
+pub spot_of-spot-requires-clause-within : goal.spot_of-spot-requires-clause-within
+spot_of-spot-requires-clause-within c =
+    let s = c.args.source.now.spaces.now in
+    let p = placed_there s c.args.self.now.called.items c.args.at c.requires.within in
+    let h = unfolded_below s p.0 c.in-Some.called (c.in-Some.ensures p.0 p.1) in
+    let l = ap length c.entries-entries.ensures.same in
     omega (arith, h, l)
 
 pub returns-clause-brought : goal.returns-clause-brought
@@ -39,9 +52,18 @@ returns-clause-brought c =
     let bs = c.args.self.now.bodies.items in
     let p = placed_there s cs c.args.at c.requires.within in
     let u = c.in-Some.ensures p.0 p.1 in
+    let range = c.requires.within in
+    let l = standings_length (written_in s) (entries_in s) in
     record {
       bodies = bodies_opened s cs bs c.args.at c.in-Some.called p.0 p.1 u c.requires.within c.in_ok-place.place c.parts_at.result.now c.len-body.result _ _
           c.requires.brought.bodies (c.len-body.ensures ∙ c.args.self.now.bodies.ok.0) c.in_ok-push_called.ensures c.in_ok-push.ensures.items;
+      firsts = firsts_opened (written_in s) (all_standing s) c.args.self.now _ c.requires.brought.bodies c.requires.brought.firsts
+          (record { call = c.args.at; called = c.in-Some.called; place = c.in_ok-place.place }) u.opened.macro u.at (omega (arith, range, l))
+          (map (called_by c.args.at c.len-body.result) c.parts_at.result.now) c.in_ok-push_called.ensures c.in_ok-push.ensures.items
+          c.spot_of-spot.result
+          (c.spot_of-spot.ensures u.opened.macro (ap (λ (es : List Entry). slice_get (standings_of (program_of c.statements.result.now) es) c.in-Some.called) c.entries-entries.ensures.same
+          ∙ ap (λ (xs : List Statement). slice_get (standings_of (program_of xs) (entries_in s)) c.in-Some.called) c.statements.ensures ∙ u.at))
+          c.len-body.result (c.len-body.ensures ∙ c.args.self.now.bodies.ok.0) c.in_ok-keep_first.ensures;
       places = places_opened s cs bs c.args.at c.in-Some.called p.0 p.1 u c.requires.within c.in_ok-place.place c.parts_at.result.now c.len-body.result _ _
           c.requires.brought.bodies c.requires.brought.places c.in_ok-place.ensures (c.len-body.ensures ∙ c.args.self.now.bodies.ok.0) c.in_ok-push_called.ensures c.in_ok-push.ensures.items;
     }
@@ -54,5 +76,5 @@ returns-clause-opened c = λ p e.
     placed_opened s cs bs c.args.at c.in-Some.called p e (c.in-Some.ensures p e) c.requires.within c.args.source.now.parts.now c.requires.source.parts
     c.standing_statement-number.result c.len-body.result c.parts_at.result.now _
     (subst (λ (es : List Entry). (ws : List Written) (m : Standing) → slice_get (standings_of ws es) c.in-Some.called ≡ Some m → m.statement ≡ statement_at ws c.standing_statement-number.result)
-    c.entries.ensures.same c.standing_statement-number.ensures)
+    c.entries-entries.ensures.same c.standing_statement-number.ensures)
     c.parts_at.ensures c.in_ok-push_called.ensures

@@ -1,0 +1,6 @@
+use Rattle.std.proofs.Common.{arith}
+use Rattle.cil_macros.proofs.DeclaredLemmas.{all_taken, none_declared}
+use Rattle.cil_macros.proofs.declared_names.declared_in_bodies.Goals as goal
+
+pub returns : goal.returns
+returns c = all_taken c.args.statements.now c.loop-number.declared c.loop-number.number c.loop-number-test.false c.loop-number.invariant
