@@ -3,6 +3,7 @@ pub mod AskedLemmas
 pub mod BodyLemmas
 pub mod BodyMeaning
 pub mod CallLemmas
+pub mod CallOpening
 pub mod CalledMacros
 pub mod ChainLemmas
 pub mod DeclaredLemmas

@@ -1,18 +1,29 @@
--- All instances, as they are kept: what stands, and what calls bring. This project's profile.
-use Rattle.std.specs.Prelude.{◌≤◌, ◌+◌, length}
+-- All instances, as they are kept: what stands, what calls bring, and what the words of both mean. This project's profile.
+use Rattle.std.specs.Prelude.{◌≡◌, ◌≤◌, ◌+◌, length, List}
 use Rattle.cil_sexpr.specs.Lists.{Lists}
 use Rattle.cil_syntax.specs.declared.fault.Fault.{Fault}
 use Rattle.cil_blocks.specs.InheritFaults.{most_instances}
-use Rattle.cil_blocks.specs.Places.{Standings, entries_in}
+use Rattle.cil_blocks.specs.Places.{AreStandings, Standings, entries_in}
 use Rattle.cil_macros.specs.declared.chain.Brought.{Brought}
+use Rattle.cil_macros.specs.declared.declared_names.Declared.{Declared}
+use Rattle.cil_macros.specs.declared.openings.Opening.{Opening}
 use Rattle.cil_macros.specs.Calls.{IsPlaced, placed_cmp}
+use Rattle.cil_macros.specs.DeclaredInBodies.{AreDeclared}
 use Rattle.cil_macros.specs.ExpandFaults.{ExpandFault}
 use Rattle.cil_macros.specs.Macros.{all_standing}
+use Rattle.cil_macros.specs.Openings.{AreOpenings}
 use Rattle.cil_macros.specs.Walks.{AreBrought, placed_in, written_in}
 
 -- all that is placed in a program in which nothing is wrong with the blocks and the calls
 pub record AreInstances (s : Standings) (b : Brought) : Type 0 where
+  pub standings : AreStandings s
   pub brought : AreBrought s b
   pub lawful : (f : Fault) → ExpandFault (written_in s) (all_standing s) f → ⊥
   pub placed : Lists placed_cmp (IsPlaced (written_in s) (all_standing s)) (placed_in s b.called.items)
   pub few : length (entries_in s) + length b.called.items ≤ most_instances
+
+-- and what words mean there
+pub record AreMeant (s : Standings) (b : Brought) (d : Declared) (os : List Opening) : Type 0 where
+  pub declared : AreDeclared (written_in s) d
+  pub openings : AreOpenings (written_in s) (all_standing s) (placed_in s b.called.items) b.bodies.items os
+  pub many : length os ≡ length b.bodies.items

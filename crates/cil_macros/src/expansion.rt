@@ -6,9 +6,12 @@ ghost use Rattle.cil_macros.specs.ExpandFaults.{ExpandStep};
 ghost use Rattle.cil_macros.specs.Macros.{all_standing};
 ghost use Rattle.cil_macros.specs.Walks.{written_in};
 
+use crate::declared_names::declared_in_bodies;
 use crate::faults::call_faults;
 use crate::instances::Instances;
 use crate::macros::macros_of;
+use crate::openings::openings_of;
+use crate::scene::Scene;
 use crate::source::Source;
 use crate::walk::walk;
 use cil_blocks::inheritance::over_the_limit;
@@ -42,5 +45,17 @@ pub fn expand<'s, 'p, 'a>(
     if let Some(list) = FaultList::of(faults) {
         return Err(Failure::Faults(list));
     }
-    Ok(Instances { spaces, brought })
+    let declared = declared_in_bodies(alloc, spaces.statements())?;
+    let scene = Scene {
+        spaces,
+        brought: &brought,
+        declared: &declared,
+    };
+    let openings = openings_of(alloc, &scene)?;
+    Ok(Instances {
+        spaces,
+        brought,
+        declared,
+        openings,
+    })
 }

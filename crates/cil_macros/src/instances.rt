@@ -2,9 +2,15 @@
 
 ghost use Rattle.std.specs.Prelude.{◌≡◌};
 
-use crate::chain::Brought;
+use crate::chain::{Brought, statement_at};
+use crate::declared_names::Declared;
 use crate::entry::Called;
+use crate::meaning::meaning_at;
+use crate::meant::Meant;
+use crate::openings::Opening;
+use crate::scene::Scene;
 use cil_blocks::Spaces;
+use cil_syntax::Word;
 use std::marker::Model;
 
 /// All that is placed in a program in which nothing is wrong with the blocks and the calls: what stands, and then what each call
@@ -13,6 +19,8 @@ use std::marker::Model;
 pub struct Instances<'s, 'p, 'a> {
     pub(crate) spaces: &'s Spaces<'p, 'a>,
     pub(crate) brought: Brought,
+    pub(crate) declared: Declared<'a>,
+    pub(crate) openings: Vec<Opening<'a>>,
 }
 
 impl<'s, 'p, 'a> Model for Instances<'s, 'p, 'a> {
@@ -20,7 +28,7 @@ impl<'s, 'p, 'a> Model for Instances<'s, 'p, 'a> {
     ghost use Rattle.cil_syntax.specs.contracts.term.Term as term;
     ghost use Rattle.cil_blocks.specs.Places.{Standings};
     ghost use Rattle.cil_macros.specs.declared.entry.Called.{Called};
-    ghost use Rattle.cil_macros.specs.Instances.{AreInstances};
+    ghost use Rattle.cil_macros.specs.Instances.{AreInstances, AreMeant};
     ghost use Rattle.std.specs.Coded.{codes};
     ghost use denote.Signature.{static_lft};
 
@@ -30,16 +38,19 @@ impl<'s, 'p, 'a> Model for Instances<'s, 'p, 'a> {
 
     ghost view = { λ i. (i.spaces.now, i.brought.called.items) };
 
-    ghost invariant = { λ i. AreInstances i.spaces.now i.brought };
+    ghost invariant = { λ i. AreInstances i.spaces.now i.brought × AreMeant i.spaces.now i.brought i.declared i.openings.items };
 }
 
 impl<'s, 'p, 'a> Instances<'s, 'p, 'a> {
-    ghost use Rattle.std.specs.Prelude.{◌≡◌, ◌+◌, ◌≤◌, length};
+    ghost use Rattle.std.specs.Prelude.{◌≡◌, ◌+◌, ◌<◌, ◌≤◌, Some, length, slice_get};
     ghost use Rattle.cil_sexpr.specs.Lists.{Lists};
     ghost use Rattle.cil_blocks.specs.InheritFaults.{most_instances};
     ghost use Rattle.cil_blocks.specs.Places.{entries_in};
     ghost use Rattle.cil_macros.specs.Calls.{IsPlaced, placed_cmp};
     ghost use Rattle.cil_macros.specs.Macros.{all_standing};
+    ghost use Rattle.cil_blocks.specs.Entries.{statement_at};
+    ghost use Rattle.cil_macros.specs.Meant.{meant_term};
+    ghost use Rattle.cil_macros.specs.Placed.{Placed, meaning};
     ghost use Rattle.cil_macros.specs.Walks.{placed_in, written_in};
 
     /// All that stands, with the statements of the program.
@@ -56,5 +67,36 @@ impl<'s, 'p, 'a> Instances<'s, 'p, 'a> {
         ensures few { length (entries_in self.now.0) + length self.now.1 ≤ most_instances }
     {
         self.brought.called.as_slice()
+    }
+
+    /// How many instances there are: at most 1,000,000. Their places count from 0: first what stands, and then what calls bring.
+    pub fn len(&self) -> usize
+        ensures { result ≡ length (entries_in self.now.0) + length self.now.1 }
+    {
+        self.spaces.entries().len() + self.brought.called.len()
+    }
+
+    /// The number of the statement at a place.
+    pub fn statement(&self, at: usize) -> usize
+        requires { at < length (entries_in self.now.0) + length self.now.1 }
+        ensures { (p : Placed) → slice_get (placed_in self.now.0 self.now.1) at ≡ Some p → p.standing.statement ≡ statement_at (written_in self.now.0) result }
+    {
+        statement_at(self.spaces.entries(), self.brought.called.as_slice(), at)
+    }
+
+    /// What a word of the statement at a place means there: its argument, if it stands for a parameter of the macro in whose
+    /// body it is; and otherwise itself, in the scope of the outermost call for what the body itself declares, and in that of
+    /// the place for all else.
+    pub fn meaning(&self, at: usize, word: &Word<'a>) -> Meant<'a>
+        requires { at < length (entries_in self.now.0) + length self.now.1 }
+        ensures { (p : Placed) → slice_get (placed_in self.now.0 self.now.1) at ≡ Some p
+            → meant_term (placed_in self.now.0 self.now.1) word.now.sign result ≡ meaning (written_in self.now.0) p word.now }
+    {
+        let scene = Scene {
+            spaces: self.spaces,
+            brought: &self.brought,
+            declared: &self.declared,
+        };
+        meaning_at(&scene, self.openings.as_slice(), at, word)
     }
 }

@@ -29,3 +29,4 @@ pub use declared_names::{Declared, declared_in_bodies};
 pub use expansion::expand;
 pub use instances::Instances;
 pub use macros::{Macros, macro_called, macros_of};
+pub use meant::Meant;

@@ -124,7 +124,8 @@ impl<'c, 's, 'p, 'a> Call<'c, 's, 'p, 'a> {
         let Some(call) = spaces.statements().get(statement_at(entries, brought, self.at)) else {
             return Ok(Vec::new(alloc));
         };
-        self.meanings(alloc, macro_statement, call)
+        let meanings = self.meanings(alloc, macro_statement, call)?;
+        Ok(meanings)
     }
 
     /// What the arguments of a call mean, one for each parameter of its macro.

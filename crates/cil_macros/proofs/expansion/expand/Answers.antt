@@ -22,13 +22,20 @@ pub invariant_of-result : goal.invariant_of-result
 invariant_of-result c =
     let s = c.args.spaces.now in
     let cs = c.in-Some.brought.called.items in
-    let placed = is_some _ c.in_ok-brought.field-0 c.in-Some.brought c.in-Some.is c.in_ok-brought.ensures.all in
-    record {
-      brought = is_some _ c.in_ok-brought.field-0 c.in-Some.brought c.in-Some.is c.in_ok-brought.ensures.brought;
-      lawful = no_fault (written_in s) (all_standing s) (placed_in s cs) placed c.in_ok-faults.faults.items c.in_ok-faults.ensures (c.in_default-of.ensures.none.0 refl);
-      placed = placed;
-      few = is_some _ c.in_ok-brought.field-0 c.in-Some.brought c.in-Some.is c.in_ok-brought.ensures.few;
-    }
+    let placed = is_some _ c.in_ok-brought.field-0 c.in-Some.brought c.in-Some.is c.in_ok-brought.ensures.all in (
+      record {
+        standings = c.in_ok-macros.ensures.standings;
+        brought = is_some _ c.in_ok-brought.field-0 c.in-Some.brought c.in-Some.is c.in_ok-brought.ensures.brought;
+        lawful = no_fault (written_in s) (all_standing s) (placed_in s cs) placed c.in_ok-faults.faults.items c.in_ok-faults.ensures (c.in_default-of.ensures.none.0 refl);
+        placed = placed;
+        few = is_some _ c.in_ok-brought.field-0 c.in-Some.brought c.in-Some.is c.in_ok-brought.ensures.few;
+      },
+      record {
+        declared = rw c.statements-2.ensures at c.in_ok-declared.ensures;
+        openings = c.in_ok-openings.ensures.each;
+        many = c.in_ok-openings.ensures.many;
+      },
+    )
 
 pub returns : goal.returns
 returns c =
