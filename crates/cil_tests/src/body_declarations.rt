@@ -6,13 +6,13 @@ use cil_syntax::{Dialect, Program, Sign, written_in};
 use std::alloc::Global;
 use std::test::Fail;
 
-/// Two macros that declare one name in two kinds, and a type outside of both. The statements have these numbers: `m` 0, `k` 3.
+/// Two macros that declare one name in two kinds, and a type outside of both. The macros have the numbers 0 and 3.
 const TWO: &[&str] = &["(macro m () (type x)(user u))(macro k () (role x))(type y)"];
 
-/// A macro in a block, and one that calls it: 1 and 4.
+/// A macro in a block, and one that calls it. They have the numbers 1 and 4.
 const IN_BLOCK: &[&str] = &["(block b (macro m () (type x))(type y))(macro k () (call b.m ()))"];
 
-/// Two macros of one name in two modules: 0 and 2.
+/// Two macros of one name in two modules. They have the numbers 0 and 2.
 const MODULES: &[&str] = &["(macro m () (type x))", "(macro m () (type y))"];
 
 /// Modules, the number of a macro, a word and what it wants; and whether the body of the macro declares that.

@@ -313,7 +313,7 @@ fn brought_by_calls(alloc: Global, spaces: &Spaces) -> Option<Result<usize, Faul
     }
 }
 
-/// The same of a program in which nothing is wrong with the blocks, each step asked once more where a growth is refused.
+/// The same of a program in which nothing is wrong with the blocks; asked once more where a growth is refused.
 fn brought_in(alloc: Global, program: &Program) -> Option<Result<usize, FaultList>> {
     let spaces = match inherit(alloc, program) {
         Ok(spaces) => spaces,
