@@ -259,6 +259,3 @@ no_kind_left f ks i over so = ap (list_any f) (sym (drop_all i ks over)) ∙ so
 pub all_taken : (ss : List Statement) (d : Declared) (n : ℕ) → length ss ≤ n → AreDeclaredUpTo (program_of ss) n d → AreDeclared (program_of ss) d
 all_taken ss d n over so k h =
     so k h ∙ ap (list_any (is_declared_by (program_of ss) k)) (take_all n (program_of ss) (let l = program_length ss in omega (arith, over, l)))
-
-pub none_declared : (ws : List Written) (d : Declared) → d.keys.keys ≡ [] → AreDeclaredUpTo ws 0 d
-none_declared ws d e k h = ap (list_any (same_key k)) e
