@@ -1,8 +1,7 @@
 -- What bodies declare: the macro round a statement, one statement more, and what a word asks of the table.
-use Rattle.std.proofs.Common.{◌≡◌, ℕ, suc, ◌+◌, ◌<◌, ◌≤◌, ◌==◌, ◌&&◌, ◌||◌, Bool, true, false, cond, if◌then◌else◌, List, [], ◌∷◌, ◌++◌, length, get_or, map, take, drop, refl, sym, ◌∙◌, ap, subst, arith, drop-cons}
+use Rattle.std.proofs.Common.{◌≡◌, ℕ, suc, ◌+◌, ◌<◌, ◌≤◌, ◌==◌, ◌&&◌, ◌||◌, Bool, true, false, cond, if◌then◌else◌, List, [], ◌∷◌, length, get_or, map, take, drop, refl, sym, ◌∙◌, ap, arith, drop-cons}
 use Rattle.std.specs.Prelude.{Contains, Option, Some, None, nat_eq, slice_get}
 use Rattle.std.specs.List.{list_any}
-use Rattle.std.specs.Cmp.Lexicographic.{same_text}
 use Rattle.std.proofs.lemmas.Bool.{eqb-true}
 use Rattle.std.proofs.lemmas.List.{drop_all, take_all, take_more}
 use Rattle.std.proofs.lemmas.List.Folds.{list_any-append}
@@ -217,8 +216,7 @@ module _ (ws : List Written) (d : Declared) (are : AreDeclared ws d) (number : �
       let t = both_true (is_in_body (statement_at ws number) v.context.macro) (declares_name name.now sign v) e in
       let u = both_true (list_any (is_wanted sign) (entry_of v.statement.keyword).declares) (same_bytes (name_of v) name.now) t.1 in
       let x = any_true (is_wanted sign) (entry_of v.statement.keyword).declares u.0 in
-      let q = any_true (λ y. nat_eq (kind_number y) (kind_number x.0)) (kinds_of sign) x.2 in
-      (
+      let q = any_true (λ y. nat_eq (kind_number y) (kind_number x.0)) (kinds_of sign) x.2 in (
         kind_number q.0,
         contains_map kind_number (kinds_of sign) q.0 q.1,
         true_both (is_in_body (statement_at ws number) v.context.macro) (list_any (λ y. nat_eq (kind_number y) (kind_number q.0)) (entry_of v.statement.keyword).declares && same_bytes (name_of v) name.now) t.0
@@ -261,6 +259,3 @@ no_kind_left f ks i over so = ap (list_any f) (sym (drop_all i ks over)) ∙ so
 pub all_taken : (ss : List Statement) (d : Declared) (n : ℕ) → length ss ≤ n → AreDeclaredUpTo (program_of ss) n d → AreDeclared (program_of ss) d
 all_taken ss d n over so k h =
     so k h ∙ ap (list_any (is_declared_by (program_of ss) k)) (take_all n (program_of ss) (let l = program_length ss in omega (arith, over, l)))
-
-pub none_declared : (ws : List Written) (d : Declared) → d.keys.keys ≡ [] → AreDeclaredUpTo ws 0 d
-none_declared ws d e k h = ap (list_any (same_key k)) e

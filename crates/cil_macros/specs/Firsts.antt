@@ -1,5 +1,5 @@
--- The first body of each macro, as it is kept. A call that belongs to an earlier body than the first one of its macro did not
--- come through that macro.
+-- The first body of each macro, as it is kept. A call that belongs to an earlier body than the first one of its macro did
+-- not come through that macro.
 use Rattle.std.specs.Prelude.{◌≡◌, ℕ, ◌+◌, ◌<◌, ◌==◌, ◌&&◌, if◌then◌else◌, Bool, false, List, length, Option, Some, None, slice_get}
 use Rattle.std.specs.List.{position}
 use Rattle.std.specs.Option.{option_or}

@@ -1,4 +1,5 @@
-//! The calls through which something is placed: which statement it is, and whether a macro is among those that were called.
+//! The calls through which something is placed: which statement it is, and whether a macro is among those that were
+//! called.
 
 ghost use Rattle.std.specs.Prelude.{◌≡◌, ◌+◌, ◌<◌, List, OnOk, Some, length, slice_get};
 ghost use Rattle.std.specs.List.{list_any};
@@ -35,8 +36,8 @@ pub fn standing_statement(entries: &[Entry], at: usize) -> usize
     entries[at].statement
 }
 
-/// Whether a macro is among those through whose calls something is placed. It costs a hash, and a step for each call on the way whose
-/// body is not before the first one of the macro: none where the macro has no body yet.
+/// Whether a macro is among those through whose calls something is placed. It costs a hash, and a step for each call on
+/// the way that belongs to a body no earlier than the first one of the macro: none where the macro has no body yet.
 pub fn is_repeated(
     statements: &[Statement],
     entries: &[Entry],

@@ -1,6 +1,6 @@
-//! What the bodies of macros declare: for each name and kind one entry, by the number of the macro. To make the table costs a hash
-//! for each declaration in a body, and for each declaration a step for each statement round it, 128 at most. A look-up costs a
-//! hash for each kind that a word may name, three at most.
+//! What the bodies of macros declare: for each name and kind one entry, by the number of the macro. To make the table
+//! costs a hash for each declaration in a body, and for each declaration a step for each statement round it, 128 at
+//! most. A look-up costs a hash for each kind that a word may name, three at most.
 
 ghost use Rattle.std.specs.Prelude.{◌≡◌, ◌<◌, ◌≤◌, IfOk, MatchOption, [], ◌∷◌, length, map};
 ghost use Rattle.cil_syntax.specs.Kinds.{kind_number, kinds_of};

@@ -346,7 +346,7 @@ const IN_DISORDER: &str =
     "(block b (blockinherit b)(block x))(blockinherit nob)(macro b ())(block a (blockinherit b)(macro x ()))";
 
 /// The statements of a set, read once more where a growth is refused.
-fn read_at_last<'m>(alloc: Global, modules: &'m ModuleSet) -> Option<Program<'m>> {
+pub(crate) fn read_at_last<'m>(alloc: Global, modules: &'m ModuleSet) -> Option<Program<'m>> {
     match written_in(alloc, modules, Dialect::Nested) {
         Err(Failure::NoMemory) => written_in(alloc, modules, Dialect::Nested).ok(),
         answer => answer.ok(),

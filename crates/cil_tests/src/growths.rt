@@ -1,14 +1,17 @@
 //! Tests that pass with every growth allowed, and with any one of them refused (`scripts/refuse-growths` does so in turn):
 //! the call that lost it says so and has changed nothing, so each call is tried once more.
 
+use crate::blocks::read_at_last;
 use crate::bundles::BUNDLE_OF_THREE;
 use crate::module_sets::{A, B, C, holds};
 use crate::policies::{FIRST, set_of};
 use crate::text_faults::fault;
+use cil_blocks::{Spaces, inherit};
 use cil_decide::{
     ClassId, Compiled, class_named, compile, decide, parse_context, permission_at, permission_named,
 };
 use cil_host::{Host, QueryFault};
+use cil_macros::expand;
 use cil_modset::{Join, ModuleSet};
 use cil_server::{Counted, Served, serve};
 use cil_sexpr::{ReadCode, ReadError, ReadFault, read};
@@ -292,4 +295,66 @@ fn a_refused_growth_is_told(rt: HostRuntime) -> Result<(), Fail> {
         assert!(rt; replies_at_last(alloc, &mut host, &mut written, input, output));
     }
     Ok(())
+}
+
+/// Calls in a body, with an argument that is handed on, in two namespaces: they bring 10 statements.
+const IN_ORDER: &str =
+    "(macro a ((type t)) (type x)(roletype r t))(macro b ((type t)) (call a (t))(type y))(block n (call b (z)))(call b (z))(call a (w))";
+
+/// A macro that calls itself, and with too few arguments, in two namespaces.
+const IN_DISORDER: &str = "(macro m ((type x)) (call m ()))(call m (t))(block n (call m (t)))";
+
+/// How many statements calls bring, or the faults. None where there is no memory.
+fn brought_by_calls(alloc: Global, spaces: &Spaces) -> Option<Result<usize, FaultList>> {
+    match expand(alloc, spaces) {
+        Ok(instances) => Some(Ok(instances.called().len())),
+        Err(Failure::Faults(faults)) => Some(Err(faults)),
+        Err(Failure::NoMemory) => None,
+    }
+}
+
+/// The same of a program in which nothing is wrong with the blocks; asked once more where a growth is refused.
+fn brought_in(alloc: Global, program: &Program) -> Option<Result<usize, FaultList>> {
+    let spaces = match inherit(alloc, program) {
+        Ok(spaces) => spaces,
+        Err(_) => inherit(alloc, program).ok()?,
+    };
+    match brought_by_calls(alloc, &spaces) {
+        None => brought_by_calls(alloc, &spaces),
+        answer => answer,
+    }
+}
+
+/// The same of a text.
+fn brought_at_last(alloc: Global, text: &str) -> Option<Result<usize, FaultList>> {
+    let modules = set_at_last(alloc, &[text])?;
+    let program = read_at_last(alloc, &modules)?;
+    brought_in(alloc, &program)
+}
+
+/// Whether calls that are in order bring so many statements.
+fn are_brought(alloc: Global, want: usize) -> bool {
+    match brought_at_last(alloc, IN_ORDER) {
+        Some(Ok(count)) => count == want,
+        _ => false,
+    }
+}
+
+/// Whether calls that are not in order have these faults.
+fn are_no_calls(alloc: Global, want: &[u8]) -> bool {
+    match brought_at_last(alloc, IN_DISORDER) {
+        Some(Err(faults)) => are_printed(alloc, &faults, want),
+        _ => false,
+    }
+}
+
+#[test]
+fn a_refused_growth_of_calls_is_no_fault(rt: HostRuntime) {
+    assert!(rt; are_brought(rt.alloc(), 10));
+    assert!(rt;
+        are_no_calls(
+            rt.alloc(),
+            b"34 0 26 . m\n34 0 26 n m\n35 0 26 . m\n35 0 26 n m\n"
+        )
+    );
 }

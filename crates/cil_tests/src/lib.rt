@@ -11,6 +11,8 @@ mod blocks;
 #[cfg(test)]
 mod bodies;
 #[cfg(test)]
+mod body_declarations;
+#[cfg(test)]
 mod bundles;
 #[cfg(test)]
 mod compiling;

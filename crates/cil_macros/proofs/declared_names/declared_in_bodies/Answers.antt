@@ -1,5 +1,4 @@
-use Rattle.std.proofs.Common.{arith}
-use Rattle.cil_macros.proofs.DeclaredLemmas.{all_taken, none_declared}
+use Rattle.cil_macros.proofs.DeclaredLemmas.{all_taken}
 use Rattle.cil_macros.proofs.declared_names.declared_in_bodies.Goals as goal
 
 pub returns : goal.returns

@@ -1,4 +1,4 @@
-use Rattle.std.proofs.Common.{◌∙◌, sym, ap}
+use Rattle.std.proofs.Common.{◌∙◌, ap}
 use Rattle.cil_syntax.specs.declared.kind.Keyword.{Keyword}
 use Rattle.cil_syntax.specs.Table.{entry_of}
 use Rattle.cil_blocks.proofs.NameLemmas.{keyword_some}
