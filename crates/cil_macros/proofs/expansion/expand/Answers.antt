@@ -1,5 +1,8 @@
-use Rattle.std.proofs.Common.{refl}
-use Rattle.cil_blocks.proofs.InheritLemmas.{is_none, is_some}
+use Rattle.std.proofs.Common.{◌≡◌, List, refl}
+use Rattle.cil_blocks.proofs.InheritLemmas.{is_none, is_some, refused}
+use Rattle.cil_blocks.specs.Places.{Standings}
+use Rattle.cil_macros.specs.declared.entry.Called.{Called}
+use Rattle.cil_macros.specs.ExpandFaults.{ExpandStep}
 use Rattle.cil_macros.specs.Macros.{all_standing}
 use Rattle.cil_macros.specs.Walks.{placed_in, written_in}
 use Rattle.cil_macros.proofs.ExpandLemmas.{no_fault, no_step, over_so, placed_few, refused_calls}
@@ -17,6 +20,11 @@ returns-in-Some-of c =
     refused_calls (written_in s) (all_standing s) (placed_in s cs) (is_some _ c.in_ok-brought.field-0 c.in-Some.brought c.in-Some.is c.in_ok-brought.ensures.all)
     (placed_few s cs (is_some _ c.in_ok-brought.field-0 c.in-Some.brought c.in-Some.is c.in_ok-brought.ensures.few))
     c.in_ok-faults.faults.items c.in-Some-of.list c.in_ok-faults.ensures c.in-Some-of.ensures.faults
+
+pub returns-in_err-openings : goal.returns-in_err-openings
+returns-in_err-openings c =
+    let s = c.args.spaces.now in
+    refused (λ (i : Standings × List Called). i.0 ≡ s) (ExpandStep (written_in s) (all_standing s)) c.from_residual-in_err-openings.result _ c.from_residual-in_err-openings.ensures.1 tt
 
 pub invariant_of-result : goal.invariant_of-result
 invariant_of-result c =
