@@ -16,4 +16,5 @@ pub mod NearestLemmas
 pub mod OneInstance
 pub mod PlacedWalk
 pub mod SameParameters
+pub mod ScopeLemmas
 pub mod WalkLemmas

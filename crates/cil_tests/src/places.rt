@@ -2,7 +2,7 @@
 
 use crate::policies::set_of;
 use cil_blocks::spelled::spelled;
-use cil_blocks::{Namespaces, Place, Spaces, inherit};
+use cil_blocks::{Namespaces, ScopeList, Spaces, inherit};
 use cil_modset::ModuleSet;
 use cil_syntax::{Dialect, Program, written_in};
 use std::alloc::Global;
@@ -117,19 +117,22 @@ fn show_space(
     Ok(())
 }
 
-/// Adds a namespace and a scope, in a line of their own.
+/// Adds the namespace and the scope of an entry, in a line of their own.
 fn show_place(
     alloc: Global,
     out: &mut String,
-    namespaces: &Namespaces,
-    place: &Place,
+    spaces: &Spaces,
+    rank: usize,
+    scope: &mut ScopeList,
 ) -> Result<(), Fail> {
     write!(out, " ")?;
-    show_space(alloc, out, namespaces, place.space)?;
+    let space = spaces.space(rank).ok_or("no place")?;
+    show_space(alloc, out, spaces.namespaces(), space)?;
     write!(out, ":")?;
-    for number in place.scope.as_slice() {
+    spaces.scope_into(alloc, rank, scope)?;
+    for number in scope.as_slice() {
         write!(out, " ")?;
-        show_space(alloc, out, namespaces, *number)?;
+        show_space(alloc, out, spaces.namespaces(), *number)?;
     }
     write!(out, "\n")?;
     Ok(())
@@ -138,11 +141,11 @@ fn show_place(
 /// All that stands, a line for each.
 fn shown(alloc: Global, spaces: &Spaces) -> Result<String, Fail> {
     let mut out = String::new(alloc);
+    let mut scope = ScopeList::new(alloc);
     for (rank, entry) in spaces.entries().iter().enumerate() {
         let statement = entry.statement;
         write!(out, "{statement}")?;
-        let place = spaces.places().get(rank).ok_or("no place")?;
-        show_place(alloc, &mut out, spaces.namespaces(), place)?;
+        show_place(alloc, &mut out, spaces, rank, &mut scope)?;
     }
     Ok(out)
 }
