@@ -1,5 +1,6 @@
 pub mod AllTargets
 pub mod Begun
+pub mod ChainNumbers
 pub mod ContentLemmas
 pub mod CycleLemmas
 pub mod CycleSearch
@@ -18,6 +19,7 @@ pub mod NameLemmas
 pub mod NamespaceKeys
 pub mod NamespaceLemmas
 pub mod NumberLemmas
+pub mod OnceLemmas
 pub mod OneTarget
 pub mod OpenedLemmas
 pub mod PartLemmas

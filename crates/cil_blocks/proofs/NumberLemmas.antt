@@ -189,7 +189,7 @@ module _ (ss : List Space) (are : AreNamespaces ss) where
     is = λ s e. ([], e ∙ ap apart (sym (append-nil s)), refl);
   }
 
-  chain_next : (k : ℕ) (s : Space) → inner_at ss k ≡ Some s → chain (at k) ≡ at k ∷ chain (at s.outer)
+  pub chain_next : (k : ℕ) (s : Space) → inner_at ss k ≡ Some s → chain (at k) ≡ at k ∷ chain (at s.outer)
   unfolding chain
   chain_next zero s e = absurd (none_some s e)
   chain_next (suc i) s e =
@@ -212,7 +212,7 @@ module _ (ss : List Space) (are : AreNamespaces ss) where
         );
   }
 
-  none_left : (k : ℕ) → k ≤ length ss → inner_at ss k ≡ None → chain (at k) ≡ []
+  pub none_left : (k : ℕ) → k ≤ length ss → inner_at ss k ≡ None → chain (at k) ≡ []
   unfolding chain
   none_left zero h e = ap chain (global_at ss)
   none_left (suc i) h e = absurd (let s = some_at ss i (omega (arith, h)) in none_some s.0 (sym e ∙ s.1))

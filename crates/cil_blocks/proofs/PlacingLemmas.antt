@@ -1,8 +1,11 @@
--- Places one after another: what one statement opens has one place, which follows from the place of that statement.
-use Rattle.std.proofs.Common.{◌≡◌, ◌⊎◌, ℕ, ◌+◌, ◌<◌, ◌≤◌, true, false, List, [], ◌∷◌, ◌++◌, length, get_or, map, take, refl, sym, ◌∙◌, ap, subst, inl, inr, arith}
-use Rattle.std.specs.Prelude.{Option, None, Some, slice_get}
+-- Places one after another: what one statement opens has one place, which is reached from the place of that statement.
+use Rattle.std.proofs.Common.{◌≡◌, ◌⊎◌, ℕ, suc, ◌+◌, ◌<◌, ◌≤◌, true, false, List, [], ◌∷◌, ◌++◌, length, get_or, map, take, refl, sym, ◌∙◌, ap, subst, inl, inr, arith}
+use Rattle.std.specs.Prelude.{Option, None, Some, flat_map, slice_get}
 use Rattle.std.specs.Option.{option_map}
-use Rattle.std.proofs.lemmas.List.{append-nil, length-append, get_or-take, length-take-le, take_more}
+use Rattle.std.proofs.lemmas.Grind.{flat_map-append}
+use Rattle.std.proofs.lemmas.List.{append-nil, length-append, length-map, get_or-take, length-take-le, map-append, take_more}
+use Rattle.std.proofs.lemmas.List.Elements.{Contains-append_cases}
+use Rattle.std.proofs.lemmas.Option.{slice_get-map}
 use Rattle.std.proofs.Common.{append_assoc}
 use Rattle.cil_sexpr.specs.Lists.{contains_here, contains_later, contains_none}
 use Rattle.cil_sexpr.specs.Places.{get_behind, get_in_front, get_so, in_range, none_some, not_there, some_at, some_same}
@@ -10,7 +13,7 @@ use Rattle.cil_syntax.specs.declared.kind.Keyword.{Keyword}
 use Rattle.cil_syntax.specs.declared.kind.Keyword.TheVariants as keywords
 use Rattle.cil_syntax.specs.declared.program.Statement.{Statement}
 use Rattle.cil_syntax.specs.Program.{IsNested, program_of}
-use Rattle.cil_syntax.specs.Scopes.{Namespace, chain, tidy}
+use Rattle.cil_syntax.specs.Scopes.{Namespace, apart, chain, tidy}
 use Rattle.cil_syntax.specs.Written.{Written}
 use Rattle.cil_blocks.specs.declared.entry.Entry.{Entry}
 use Rattle.cil_blocks.specs.declared.namespaces.Space.{Space}
@@ -18,14 +21,17 @@ use Rattle.cil_blocks.specs.Contents.{Standing, is_inheriting, name_of}
 use Rattle.cil_blocks.specs.Entries.{SaysOpened, opened_as, opened_of, opener_of, standing_as, standing_through, standing_under, standings_from, standings_of, statement_at, stepped}
 use Rattle.cil_blocks.specs.Named.{rank}
 use Rattle.cil_blocks.specs.Namespaces.{AreNamespaces, IsGrown, IsNumber, space_at}
-use Rattle.cil_blocks.specs.Numbers.{AreWithin, with_number, with_numbers}
-use Rattle.cil_blocks.specs.Places.{IsPlace, IsPlaced, Numbered}
-use Rattle.cil_blocks.specs.Placing.{AreFirstPlaces, IsInherited, IsPlaceInside, IsPlaceThrough, IsRepeated, global_place, inherited_as, inherited_of}
+use Rattle.cil_blocks.specs.Numbers.{AreWithin, chain_numbers, with_number, with_numbers}
+use Rattle.cil_blocks.specs.Places.{IsPlace, IsPlaced, Numbered, Reached, all_numbered, numbered, numbers_of, reached_through, reached_top}
+use Rattle.cil_blocks.specs.Placing.{AreFirstPlaces, AreFirstReached, IsInherited, IsInside, IsPlaceThrough, IsRepeated, IsSpaceAt, IsThrough, global_place, inherited_as, inherited_of}
+use Rattle.cil_blocks.proofs.ChainNumbers.{chain_all, chain_spaces, chains_stay}
 use Rattle.cil_blocks.proofs.EntryLemmas.{mapped_at, pushed_from, standings_length, statements_from}
+use Rattle.cil_blocks.proofs.Kept.{in_one}
 use Rattle.cil_blocks.proofs.NameLemmas.{at_none}
 use Rattle.cil_blocks.proofs.NamespaceKeys.{at_or_last}
 use Rattle.cil_blocks.proofs.NamespaceLemmas.{global_at, no_shorter, number_stays, stays}
-use Rattle.cil_blocks.proofs.NumberLemmas.{all_apart, all_within, closed, closed_within, nothing_apart, one_apart, within_more}
+use Rattle.cil_blocks.proofs.NumberLemmas.{all_apart, all_pushed, all_within, closed, closed_within, nothing_apart, one_apart, within_more}
+use Rattle.cil_blocks.proofs.OnceLemmas.{more_numbers, scope_again}
 
 -- ---- namespaces that are added
 
@@ -93,20 +99,89 @@ inherited_place ss outer written items all e w b is = λ s v same so. record {
   is_scope = e ∙ ap (λ ns. tidy (ns ++ chain (space_at ss written))) so.is_scope ∙ ap (λ n. tidy (s.scope ++ chain n)) is.is;
 }
 
-pub through_grown : (old new : List Space) (outer place : Numbered) (w : Written) (o : Option Written) → IsGrown old new → IsPlaceThrough new new outer w o place
-    → IsPlaceThrough old new outer w o place
-through_grown old new outer place w o g f = λ s v same so. f s v same (place_stays old new s.space s.scope outer g so)
+-- what is left of a place when namespaces are added
+pub numbered_stays : (old new : List Space) (r : Reached) → AreNamespaces old → IsGrown old new → AreWithin old r.2 → numbered new r ≡ numbered old r
+numbered_stays old new r are g all = ap (λ ks. (r.0, with_numbers [] (r.1 ++ ks) ++ 0 ∷ [])) (chains_stay old new are g r.2 all)
+
+-- what is inherited there puts the namespaces round its block behind the others
+module _ (ss : List Space) (are : AreNamespaces ss) (r : Reached) (n : ℕ) (h : n ≤ length ss) where
+  abbrev scope_before : List ℕ
+  scope_before = with_numbers [] (numbers_of ss r) ++ 0 ∷ []
+
+  abbrev scope_behind : List ℕ
+  scope_behind = with_numbers [] (numbers_of ss (reached_through r r.0 (Some n)))
+
+  put_behind : scope_behind ≡ with_numbers (with_numbers [] scope_before) (chain_numbers ss n)
+  put_behind =
+      ap (λ ks. with_numbers [] (r.1 ++ ks)) (flat_map-append (chain_numbers ss) r.2 (n ∷ []))
+      ∙ ap (λ ks. with_numbers [] (r.1 ++ (flat_map (chain_numbers ss) r.2 ++ ks))) (append-nil (chain_numbers ss n))
+      ∙ ap (with_numbers []) (sym (append_assoc r.1 (flat_map (chain_numbers ss) r.2) (chain_numbers ss n)))
+      ∙ more_numbers [] (numbers_of ss r) (chain_numbers ss n)
+      ∙ ap (λ ks. with_numbers ks (chain_numbers ss n)) (sym (scope_again [] (numbers_of ss r)))
+
+  module _ (before : AreWithin ss scope_before) where
+    first_within : AreWithin ss (with_numbers [] scope_before)
+    first_within = all_within ss scope_before [] before (λ m c. absurd (contains_none m c))
+
+    pub behind_within : AreWithin ss (scope_behind ++ 0 ∷ [])
+    behind_within =
+        closed_within ss scope_behind
+        (subst (AreWithin ss) (sym put_behind) (all_within ss (chain_numbers ss n) (with_numbers [] scope_before) (chain_all ss are n h) first_within))
+
+    pub behind_is : map (space_at ss) (scope_behind ++ 0 ∷ []) ≡ tidy (map (space_at ss) scope_before ++ chain (space_at ss n))
+    behind_is =
+        closed ss are scope_behind (map (space_at ss) scope_before ++ chain (space_at ss n))
+        (ap (map (space_at ss)) put_behind
+        ∙ all_apart ss are (chain_numbers ss n) (with_numbers [] scope_before) (map (space_at ss) scope_before) (chain_all ss are n h) first_within
+        (all_pushed ss are scope_before [] (with_numbers [] scope_before) refl refl before)
+        ∙ ap (λ ns. apart (map (space_at ss) scope_before ++ ns)) (chain_spaces ss are n h))
+
+-- the place of what is opened, as it is reached
+pub through_place : (old new : List Space) (r : Reached) (opener : Written) (o : Option Written) (space : ℕ) (written : Option ℕ) → AreNamespaces old → AreNamespaces new
+    → IsGrown old new → AreWithin old r.2 → IsThrough old new r.0 opener o space written
+    → IsPlaceThrough old new (numbered old r) opener o (numbered new (reached_through r space written))
+through_place old new r opener None space written before are g all so =
+    subst (λ (v : Option ℕ). IsPlaceThrough old new (numbered old r) opener None (numbered new (reached_through r space v))) (sym so.0)
+    (λ s w same is.
+    block_place old new (numbered old r) (name_of opener) space (with_numbers [] (space ∷ numbers_of new r) ++ 0 ∷ []) are g so.1
+    (ap (λ ks. ks ++ 0 ∷ []) (sym (scope_again (with_number [] space) (numbers_of new r)))
+    ∙ ap (λ (p : Numbered). with_numbers (with_number [] space) p.1 ++ 0 ∷ []) (numbered_stays old new r before g all))
+    opener refl s w same is)
+through_place old new r opener (Some b) space written before are g all (same, (n, e, number)) =
+    subst (λ (v : Option ℕ). IsPlaceThrough old new (numbered old r) opener (Some b) (numbered new (reached_through r space v))) (sym e)
+    (subst (λ (k : ℕ). IsPlaceThrough old new (numbered old r) opener (Some b) (numbered new (reached_through r k (Some n)))) (sym same)
+    (λ s w stated is.
+    let now = subst (IsPlace new s.space s.scope) (sym (numbered_stays old new r before g all)) (place_stays old new s.space s.scope (numbered old r) g is) in
+    inherited_place new (numbered new r) n (scope_behind new are r n number.within ++ 0 ∷ []) (behind_within new are r n number.within now.within)
+    (behind_is new are r n number.within now.within) opener b number s w stated now))
+
+-- what is round the blocks that are inherited there
+pub through_within : (old new : List Space) (r : Reached) (opener : Written) (o : Option Written) (space : ℕ) (written : Option ℕ) → IsGrown old new → AreWithin old r.2
+    → IsThrough old new r.0 opener o space written → AreWithin new (reached_through r space written).2
+through_within old new r opener None space written g all so =
+    subst (λ (v : Option ℕ). AreWithin new (reached_through r space v).2) (sym so.0) (within_stays old new r.2 g all)
+through_within old new r opener (Some b) space written g all (same, (n, e, number)) =
+    subst (λ (v : Option ℕ). AreWithin new (reached_through r space v).2) (sym e)
+    (λ m c. elim (Contains-append_cases r.2 (n ∷ []) m c) [
+      | inl d ↦ within_stays old new r.2 g all m d
+      | inr d ↦ let f = in_one m n d in let h = number.within in omega (arith, f, h)
+    ])
 
 module _ (ws : List Written) where
+  abbrev IsPlaceInside : List Space → List Space → Numbered → ℕ → Numbered → Type 0
+  IsPlaceInside old new outer number place =
+      (s : Standing) (w : Written) → s.statement ≡ statement_at ws number → IsPlace old s.space s.scope outer
+      → IsPlace new (standing_under ws (Some s) w).space (standing_under ws (Some s) w).scope place
+
   as_through : (s : Standing) (k : Keyword) (w : Written) → standing_as ws s k w ≡ standing_through s (inherited_as ws s.statement k) w
   as_through s keywords.BlockInherit w = refl
   as_through s k w = refl
 
-  pub inside_so : (old new : List Space) (outer place : Numbered) (number : ℕ) (o : Option Written) → o ≡ inherited_of ws (statement_at ws number)
-      → IsPlaceThrough old new outer (statement_at ws number) o place → IsPlaceInside ws old new outer number place
-  inside_so old new outer place number o e f = λ s w same so.
+  inside_so : (old new : List Space) (outer place : Numbered) (number : ℕ) → IsPlaceThrough old new outer (statement_at ws number) (inherited_of ws (statement_at ws number)) place
+      → IsPlaceInside old new outer number place
+  inside_so old new outer place number f = λ s w same so.
       subst (λ (t : Standing). IsPlace new t.space t.scope place)
-      (sym (as_through s s.statement.statement.keyword w ∙ ap (λ x. standing_through s x w) (ap (inherited_of ws) same ∙ sym e))) (f s w same so)
+      (sym (as_through s s.statement.statement.keyword w ∙ ap (λ x. standing_through s x w) (ap (inherited_of ws) same))) (f s w same so)
 
   -- ---- what is inherited
 
@@ -295,7 +370,89 @@ module _ (ws : List Written) where
       (under_alike ss there.place s.0 (statement_at ws r.entry.statement) (statement_at ws e.statement)
       (subst (λ (x : Standing). IsPlace ss x.space x.scope there.place) same there.so)))
 
-  pub none_placed : (ss : List Space) (ps : List Numbered) (es : List Entry) → ps ≡ [] → AreFirstPlaces ws (take 0 es) ss ps
+  -- ---- the same of places as they are reached
+
+  all_stay : (old new : List Space) (rs : List Reached) → AreNamespaces old → IsGrown old new → ((i : ℕ) (r : Reached) → slice_get rs i ≡ Some r → AreWithin old r.2)
+      → all_numbered new rs ≡ all_numbered old rs
+  all_stay old new [] are g all = refl
+  all_stay old new (r ∷ rs) are g all =
+      ap (λ p. p ∷ all_numbered new rs) (numbered_stays old new r are g (all 0 r refl))
+      ∙ ap (λ ps. numbered old r ∷ ps) (all_stay old new rs are g (λ i q e. all (suc i) q e))
+
+  reached_get : (ss : List Space) (rs : List Reached) (i : ℕ) (r : Reached) → slice_get rs i ≡ Some r → slice_get (all_numbered ss rs) i ≡ Some (numbered ss r)
+  reached_get ss rs i r e = slice_get-map (numbered ss) rs i ∙ ap (option_map (numbered ss)) e
+
+  -- the numbers of one more are put behind those of the others
+  reached_more : (old new : List Space) (es : List Entry) (k : ℕ) (rs qs : List Reached) (r : Reached) → all_numbered new rs ≡ all_numbered old rs → IsGrown old new
+      → AreFirstReached ws (take k es) old rs → qs ≡ rs ++ r ∷ [] → AreWithin new r.2
+      → AreFirstPlaces ws (take (k + 1) es) new (all_numbered old rs ++ numbered new r ∷ []) → AreFirstReached ws (take (k + 1) es) new qs
+  reached_more old new es k rs qs r same g so e all places = record {
+    places = subst (AreFirstPlaces ws (take (k + 1) es) new)
+        (ap (λ ps. ps ++ numbered new r ∷ []) (sym same) ∙ sym (map-append (numbered new) rs (r ∷ [])) ∙ ap (all_numbered new) (sym e)) places;
+    within = λ i q at. elim (at_or_last rs r i q (ap (λ xs. slice_get xs i) (sym e) ∙ at)) [
+      | inl there ↦ within_stays old new q.2 g (so.within i q there)
+      | inr (last, is) ↦ subst (λ (x : Reached). AreWithin new x.2) is all
+    ];
+  }
+
+  pub reached_global : (ss : List Space) (es : List Entry) (e d : Entry) (k : ℕ) (rs qs : List Reached) → k < length es → e ≡ get_or es k d → IsLower e.opener k None
+      → AreFirstReached ws (take k es) ss rs → qs ≡ rs ++ reached_top ∷ [] → AreFirstReached ws (take (k + 1) es) ss qs
+  reached_global ss es e d k rs qs h is low so same =
+      reached_more ss ss es k rs qs reached_top refl (none_added ss) so same (λ m c. absurd (contains_none m c))
+      (global_next ss es e d k (all_numbered ss rs) (all_numbered ss rs ++ global_place ∷ []) h is low so.places refl)
+
+  -- the rank before has a place
+  pub reached_again : (ss : List Space) (es : List Entry) (e d : Entry) (k opener before : ℕ) (rs qs : List Reached) → k < length es → e ≡ get_or es k d
+      → IsLower e.opener k (Some opener) → IsRepeated es k opener before → AreFirstReached ws (take k es) ss rs
+      → ((r : Reached) → slice_get rs before ≡ Some r → qs ≡ rs ++ r ∷ []) → AreFirstReached ws (take (k + 1) es) ss qs
+  reached_again ss es e d k opener before rs qs h is low again so f =
+      let l = so.places.as_many in
+      let m = length-take-le k es (omega (arith, h)) in
+      let n = length-map rs (numbered ss) in
+      let last = again.last in
+      let r = some_at rs before (omega (arith, l, m, n, last)) in
+      reached_more ss ss es k rs qs r.0 refl (none_added ss) so (f r.0 r.1) (so.within before r.0 r.1)
+      (again_next ss es e d k opener before (all_numbered ss rs) (all_numbered ss rs ++ numbered ss r.0 ∷ []) h is low again so.places
+      (λ p at. ap (λ x. all_numbered ss rs ++ x ∷ []) (some_same (numbered ss r.0) p (sym (reached_get ss rs before r.0 r.1) ∙ at))))
+
+  pub reached_inside : (old new : List Space) (es : List Entry) (e x d : Entry) (k opener outer : ℕ) (rs qs : List Reached) (r : Reached) (space : ℕ) (written : Option ℕ)
+      → k < length es → e ≡ get_or es k d → x ≡ get_or es opener d → IsLower e.opener k (Some opener) → AreFirstReached ws (take k es) old rs → slice_get rs opener ≡ Some r → outer ≡ r.0
+      → AreNamespaces old → AreNamespaces new → IsGrown old new → IsInside ws old new outer x.statement space written → qs ≡ rs ++ reached_through r space written ∷ []
+      → AreFirstReached ws (take (k + 1) es) new qs
+  reached_inside old new es e x d k opener outer rs qs r space written h is opens low so at from before are g into same =
+      let inside : IsInside ws old new r.0 x.statement space written = subst (λ n. IsInside ws old new n x.statement space written) from into in
+      let all = so.within opener r at in
+      let below = (lower_same e.opener k opener (Some opener) low refl).0 in
+      reached_more old new es k rs qs (reached_through r space written) (all_stay old new rs before g so.within) g so same
+      (through_within old new r (statement_at ws x.statement) (inherited_of ws (statement_at ws x.statement)) space written g all inside)
+      (inside_next old new es e x d k opener (all_numbered old rs) (all_numbered old rs ++ numbered new (reached_through r space written) ∷ []) (numbered old r)
+      (numbered new (reached_through r space written)) h is low so.places (is_opener old es (all_numbered old rs) k opener x d h below opens so.places) (reached_get old rs opener r at) g
+      (inside_so ws old new (numbered old r) (numbered new (reached_through r space written)) x.statement
+      (through_place old new r (statement_at ws x.statement) (inherited_of ws (statement_at ws x.statement)) space written before are g all inside)) refl)
+
+  -- the opener of an entry has a place
+  pub opener_reached : (ss : List Space) (es : List Entry) (k opener : ℕ) (rs : List Reached) → k < length es → opener < k → AreFirstReached ws (take k es) ss rs
+      → slice_get rs opener ≡ None → ⊥
+  opener_reached ss es k opener rs h below so none =
+      let l = so.places.as_many in
+      let m = length-take-le k es (omega (arith, h)) in
+      let n = length-map rs (numbered ss) in
+      let r = some_at rs opener (omega (arith, l, m, n, below)) in
+      none_some r.0 (sym none ∙ r.1)
+
+  -- and so has a namespace
+  pub reached_space : (ss : List Space) (es : List Entry) (k opener space : ℕ) (x d : Entry) (rs : List Reached) → k < length es → opener < k → x ≡ get_or es opener d
+      → AreFirstReached ws (take k es) ss rs → IsSpaceAt rs opener space → space ≤ length ss
+  reached_space ss es k opener space x d rs h below is so at =
+      let o = is_opener ss es (all_numbered ss rs) k opener x d h below is so.places in
+      let w = (opener_place ss es (all_numbered ss rs) k opener x (numbered ss at.0) o (reached_get ss rs opener at.0 at.1)).is_space.within in
+      let e = at.2 in
+      omega (arith, w, e)
+
+  pub none_reached : (ss : List Space) (rs : List Reached) (es : List Entry) → rs ≡ [] → AreFirstReached ws (take 0 es) ss rs
   unfolding standings_from
-  none_placed ss ps es e =
-      subst (AreFirstPlaces ws (take 0 es) ss) (sym e) (record { as_many = refl; so = λ i s f. absurd (none_some s f) })
+  none_reached ss rs es e =
+      subst (AreFirstReached ws (take 0 es) ss) (sym e) (record {
+        places = record { as_many = refl; so = λ i s f. absurd (none_some s f) };
+        within = λ i r f. absurd (none_some r f);
+      })

@@ -1,7 +1,8 @@
 -- Lists of numbers: of namespaces, as a scope, and numbers of which many in front are 0.
-use Rattle.std.specs.Prelude.{◌≤◌, ◌==◌, ◌||◌, ℕ, if◌then◌else◌, List, [], ◌∷◌, ◌++◌, length, fold, replicate, Contains}
+use Rattle.std.specs.Prelude.{◌≤◌, ◌==◌, ◌||◌, ℕ, zero, suc, if◌then◌else◌, List, [], ◌∷◌, ◌++◌, length, fold, replicate, Contains, Option, Some, None}
 use Rattle.std.specs.List.{list_any}
 use Rattle.cil_blocks.specs.declared.namespaces.Space.{Space}
+use Rattle.cil_blocks.specs.Namespaces.{inner_at}
 
 -- so many zeros, and then others
 abbrev pub behind_zeros : ℕ → List ℕ → List ℕ
@@ -17,3 +18,18 @@ with_number ks k = if (k == 0) || list_any (λ m. k == m) ks then ks else ks ++ 
 
 abbrev pub with_numbers : List ℕ → List ℕ → List ℕ
 with_numbers ks more = fold with_number ks more
+
+-- ---- the namespaces round one
+
+abbrev pub chain_through : ℕ → Option Space → (ℕ → List ℕ) → List ℕ
+chain_through k None round = []
+chain_through k (Some s) round = k ∷ round s.outer
+
+-- the numbers of a namespace and of those round it, the innermost first; so many at most
+unfoldable pub chain_within : List Space → ℕ → ℕ → List ℕ
+chain_within ss zero k = []
+chain_within ss (suc most) k = chain_through k (inner_at ss k) (chain_within ss most)
+
+-- the numbers of a namespace and of those round it: they fall, so that there are no more than the first says
+abbrev pub chain_numbers : List Space → ℕ → List ℕ
+chain_numbers ss k = chain_within ss k k

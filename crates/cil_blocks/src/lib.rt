@@ -35,5 +35,5 @@ pub use entry::Entry;
 pub use inheritance::{MOST_INSTANCES, inherit};
 pub use namespaces::{Namespaces, Space};
 pub use parts::Parts;
-pub use places::{Place, Places};
+pub use scopes::ScopeList;
 pub use spaces::Spaces;

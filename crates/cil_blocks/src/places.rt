@@ -1,38 +1,39 @@
 //! Where statements stand, by the numbers of namespaces. What one statement opens has one place, so a place is kept once for
-//! each run of entries that were opened by the same one, and the places of a flat policy take no memory. A place costs a look
-//! at its whole scope for each number in it, and a blockinherit a hash for each block round its target.
+//! each run of entries that were opened by the same one, and the places of a flat policy take no memory. A place is kept as the
+//! step from the one before it, and its scope is computed when it is asked: a step for each place on the way, and a hash for
+//! each namespace. A blockinherit costs a hash for each block round its target.
 
-ghost use Rattle.std.specs.Prelude.{◌≡◌, ◌≤◌, IfOk, IfSome, None, OnOk, Some, length};
+ghost use Rattle.std.specs.Prelude.{◌≡◌, ◌≤◌, ◌<◌, ◌++◌, ◌∷◌, [], IfOk, IfSome, List, MatchOption, None, OnOk, Some, length, flat_map, reverse};
 ghost use Rattle.cil_syntax.specs.Program.{IsNested, program_of};
 ghost use Rattle.cil_blocks.specs.Entries.{AreOpened, statement_at};
-ghost use Rattle.cil_blocks.specs.Namespaces.{IsGrown, IsNumber};
-ghost use Rattle.cil_blocks.specs.Numbers.{AreWithin};
-ghost use Rattle.cil_blocks.specs.Places.{ArePlaces, numbered};
-ghost use Rattle.cil_blocks.specs.Placing.{IsInherited, IsPlaceThrough, IsRepeated};
-ghost use Rattle.cil_syntax.specs.Written.{Written};
-ghost use Rattle.cil_blocks.specs.Contents.{name_of};
+ghost use Rattle.cil_blocks.specs.declared.namespaces.Space.{Space};
+ghost use Rattle.cil_blocks.specs.Namespaces.{AreNamespaces, IsGrown, IsNumber, space_at};
+ghost use Rattle.cil_blocks.specs.Numbers.{chain_numbers, with_numbers};
+ghost use Rattle.cil_blocks.specs.Places.{ArePlaces, Reached, all_numbered, numbers_of, reached_at, reached_by, reached_top};
+ghost use Rattle.cil_blocks.specs.Placing.{AreBehind, IsInherited, IsRepeated, numbers_left};
 
 use crate::entry::Entry;
 use crate::names::{block_above, is_inheriting, lower, name_at};
 use crate::namespaces::Namespaces;
 use crate::numbers::Numbers;
-use crate::scopes::{scope_in_block, scope_inherited};
+use crate::scopes::ScopeList;
 use cil_modset::NoMemory;
 use cil_syntax::Statement;
-use smallvec::SmallVec;
 use std::alloc::Global;
 use std::marker::Model;
 
-/// A namespace, and the namespaces in which the words of its statements are looked up, in this order, by their numbers.
+/// A place as it is kept: the step from another one.
 #[derive(Debug, Drop)]
 pub struct Place {
-    /// The number of the namespace.
+    /// The number of its namespace.
     pub space: usize,
-    /// The numbers of the scope. That of the global namespace is the last.
-    pub scope: SmallVec<usize, 4>,
+    /// The place from which it is reached: 0 for the top of a module, or the place of that one among those kept, counted from 1.
+    pub outer: usize,
+    /// Of what is inherited the number of the namespace in which the inherited block is written; none of what is in a block.
+    pub written: Option<usize>,
 }
 
-/// The place of each of some statements. Contracts see the list of these.
+/// The place of each of some statements. Contracts see how each is reached.
 #[derive(Drop)]
 pub struct Places {
     kept: Vec<Place>,
@@ -41,47 +42,61 @@ pub struct Places {
 
 impl Model for Places {
     ghost use Rattle.std.specs.Prelude.{List};
-    ghost use Rattle.cil_blocks.specs.Places.{Numbered, places_by};
+    ghost use Rattle.cil_blocks.specs.Places.{Reached, reached_of};
     ghost use Rattle.cil_blocks.specs.Placing.{AreChosen};
 
-    ghost Value = { List Numbered };
+    ghost Value = { List Reached };
 
-    ghost view = { λ a. places_by a.kept.items a.which };
+    ghost view = { λ a. reached_of a.kept.items a.which };
 
     ghost invariant = { λ a. AreChosen a.kept.items a.which };
 }
 
 impl Places {
     ghost use Rattle.std.specs.Prelude.{◌≡◌, ◌++◌, ◌∷◌, [], IfOk, MatchOption, None, OnOk, Some, slice_get};
-    ghost use Rattle.cil_blocks.specs.Places.{Numbered, numbered};
-    ghost use Rattle.cil_blocks.specs.Placing.{global_place};
+    ghost use Rattle.cil_blocks.specs.Numbers.{with_numbers};
+    ghost use Rattle.cil_blocks.specs.Places.{Reached, numbers_of, reached_through, reached_top};
+    ghost use Rattle.cil_blocks.specs.Placing.{IsSpaceAt};
 
     /// No place of any statement.
-    fn new(alloc: Global) -> Result<Places, NoMemory>
-        ensures { IfOk result (λ places. places ≡ []) }
+    fn new(alloc: Global) -> Places
+        ensures { result ≡ [] }
     {
-        let mut scope = SmallVec::new(alloc);
-        scope.push(0)?;
-        let mut kept = Vec::new(alloc);
-        kept.push(Place { space: 0, scope })?;
-        Ok(Places {
-            kept,
+        Places {
+            kept: Vec::new(alloc),
             which: Numbers::new(alloc),
-        })
+        }
     }
 
-    /// The place of the statement of a rank.
-    pub fn get(&self, rank: usize) -> Option<&Place>
-        ensures { MatchOption result (slice_get self.now rank ≡ None) (λ p. slice_get self.now rank ≡ Some (p.now.space, p.now.scope.items)) }
+    /// The number of the namespace in which the statement of a rank stands.
+    pub fn space(&self, rank: usize) -> Option<usize>
+        ensures { MatchOption result (slice_get self.now rank ≡ None) (IsSpaceAt self.now rank) }
     {
         let which = self.which.get(rank)?;
-        let place = self.kept.get(which)?;
-        Some(place)
+        Some(space_of(self.kept.as_slice(), which))
+    }
+
+    /// Adds the numbers in which the words of the statement of a rank are looked up, but for that of the global namespace.
+    pub fn add_scope(
+        &self,
+        alloc: Global,
+        namespaces: &Namespaces,
+        rank: usize,
+        scope: &mut ScopeList,
+    ) -> Result<(), NoMemory>
+        ensures { OnOk result ((r : Reached) → slice_get self.now rank ≡ Some r → scope.new ≡ with_numbers scope.old (numbers_of namespaces.now r)) }
+    {
+        let Some(which) = self.which.get(rank) else {
+            return Ok(());
+        };
+        let mut left = add_blocks(alloc, self.kept.as_slice(), which, scope)?;
+        add_chains(namespaces, &mut left, scope)?;
+        Ok(())
     }
 
     /// Puts the place of the top of a module behind the others.
     fn push_global(&mut self) -> Result<(), NoMemory>
-        ensures { OnOk result (self.new ≡ self.old ++ global_place ∷ []) }
+        ensures { OnOk result (self.new ≡ self.old ++ reached_top ∷ []) }
     {
         self.which.push(0)?;
         Ok(())
@@ -89,7 +104,7 @@ impl Places {
 
     /// Puts the place of a rank behind the others once more.
     fn push_again(&mut self, rank: usize) -> Result<(), NoMemory>
-        ensures { OnOk result ((p : Numbered) → slice_get self.old rank ≡ Some p → self.new ≡ self.old ++ p ∷ []) }
+        ensures { OnOk result ((r : Reached) → slice_get self.old rank ≡ Some r → self.new ≡ self.old ++ r ∷ []) }
     {
         if let Some(which) = self.which.get(rank) {
             self.which.push(which)?;
@@ -97,15 +112,94 @@ impl Places {
         Ok(())
     }
 
-    /// Puts a place behind the others.
-    fn push(&mut self, place: Place) -> Result<(), NoMemory>
-        ensures { OnOk result (self.new ≡ self.old ++ numbered place ∷ []) }
+    /// Puts the place of what the statement of a rank opens behind the others.
+    fn push_inside(&mut self, rank: usize, inside: Inside) -> Result<(), NoMemory>
+        ensures { OnOk result ((r : Reached) → slice_get self.old rank ≡ Some r → self.new ≡ self.old ++ reached_through r inside.space inside.written ∷ []) }
     {
-        let number = self.kept.len();
-        self.kept.push(place)?;
-        self.which.push(number)?;
+        let Some(outer) = self.which.get(rank) else {
+            return Ok(());
+        };
+        self.kept.push(Place {
+            space: inside.space,
+            outer,
+            written: inside.written,
+        })?;
+        self.which.push(self.kept.len())?;
         Ok(())
     }
+}
+
+/// What a statement opens: in which namespace, and where the block is written that it inherits.
+#[derive(Clone, Copy)]
+struct Inside {
+    space: usize,
+    written: Option<usize>,
+}
+
+/// The place of a number among those kept; none for the top of a module.
+fn place_at(kept: &[Place], number: usize) -> Option<&Place>
+    requires { AreBehind kept.now }
+    ensures { MatchOption result (reached_at kept.now number ≡ reached_top) (λ p. (reached_at kept.now number ≡ reached_by (reached_at kept.now p.now.outer) p.now) × (p.now.outer < number)) }
+{
+    let before = number.checked_sub(1)?;
+    let place = kept.get(before)?;
+    Some(place)
+}
+
+/// The namespace of the place of a number.
+fn space_of(kept: &[Place], number: usize) -> usize
+    requires { AreBehind kept.now }
+    ensures { result ≡ (reached_at kept.now number).0 }
+{
+    match place_at(kept, number) {
+        None => 0,
+        Some(place) => place.space,
+    }
+}
+
+/// Adds the blocks in which a place is, the innermost first. Gives the namespaces that are left: those in which the blocks are
+/// written that are inherited on the way, the innermost first.
+fn add_blocks(
+    alloc: Global,
+    kept: &[Place],
+    number: usize,
+    scope: &mut ScopeList,
+) -> Result<Vec<usize>, NoMemory>
+    requires { AreBehind kept.now }
+    ensures { IfOk result (λ left. (ss : List Space) → with_numbers scope.new (numbers_left ss reached_top left.items) ≡ with_numbers scope.old (numbers_left ss (reached_at kept.now number) [])) }
+{
+    let mut left = Vec::new(alloc);
+    let mut at = number;
+    while let Some(place) = place_at(kept, at) {
+        add_block(place, scope, &mut left)?;
+        at = place.outer;
+    }
+    Ok(left)
+}
+
+/// Adds the block of a place, or to what is left the namespace in which the inherited block is written.
+fn add_block(place: &Place, scope: &mut ScopeList, left: &mut Vec<usize>) -> Result<(), NoMemory>
+    ensures { OnOk result ((ss : List Space) (r : Reached) → with_numbers scope.new (numbers_left ss r left.new.items) ≡ with_numbers scope.old (numbers_left ss (reached_by r place.now) left.old.items)) }
+{
+    match place.written {
+        None => scope.add(place.space)?,
+        Some(written) => left.push(written)?,
+    }
+    Ok(())
+}
+
+/// Adds the namespaces round those that are left, the last of them first.
+fn add_chains(
+    namespaces: &Namespaces,
+    left: &mut Vec<usize>,
+    scope: &mut ScopeList,
+) -> Result<(), NoMemory>
+    ensures { OnOk result (scope.new ≡ with_numbers scope.old (numbers_left namespaces.now reached_top left.old.items)) }
+{
+    while let Some(written) = left.pop() {
+        scope.add_chain(namespaces, written)?;
+    }
+    Ok(())
 }
 
 /// Namespaces, and the places in them of all that stands.
@@ -120,7 +214,6 @@ pub struct Located<'a> {
 /// What places follow from.
 #[derive(Drop)]
 struct Source<'s, 'a> {
-    alloc: Global,
     statements: &'s [Statement<'a>],
     opened: &'s [Option<usize>],
     entries: &'s [Entry],
@@ -135,16 +228,15 @@ pub fn places_of<'a>(
 ) -> Result<Located<'a>, NoMemory>
     requires nested { IsNested statements.now }
     requires opened { AreOpened (program_of statements.now) opened.now }
-    ensures { IfOk result (λ located. ArePlaces (program_of statements.now) entries.now located.namespaces located.places) }
+    ensures { IfOk result (λ located. ArePlaces (program_of statements.now) entries.now located.namespaces (all_numbered located.namespaces located.places)) }
 {
     let source = Source {
-        alloc,
         statements,
         opened,
         entries,
     };
     let mut namespaces = Namespaces::global(alloc);
-    let mut places = Places::new(alloc)?;
+    let mut places = Places::new(alloc);
     for rank in 0..entries.len() {
         source.add_place(&mut namespaces, &mut places, rank)?;
     }
@@ -155,10 +247,8 @@ impl<'s, 'a> Source<'s, 'a> {
     ghost use Rattle.std.specs.Prelude.{◌≡◌, ◌≤◌, ◌<◌, ◌+◌, IfOk, IfSome, OnOk, length, take};
     ghost use Rattle.cil_syntax.specs.Program.{IsNested, program_of};
     ghost use Rattle.cil_blocks.specs.Entries.{AreOpened, statement_at};
-    ghost use Rattle.cil_blocks.specs.Namespaces.{IsGrown, IsNumber};
-    ghost use Rattle.cil_blocks.specs.Numbers.{AreWithin};
-    ghost use Rattle.cil_blocks.specs.Places.{ArePlaces, numbered};
-    ghost use Rattle.cil_blocks.specs.Placing.{AreFirstPlaces, IsInherited, IsPlaceInside, IsPlaceThrough, IsRepeated};
+    ghost use Rattle.cil_blocks.specs.Namespaces.{AreNamespaces, IsGrown};
+    ghost use Rattle.cil_blocks.specs.Placing.{AreFirstReached, IsInside};
 
     /// Adds the place of the next entry.
     fn add_place(
@@ -170,8 +260,8 @@ impl<'s, 'a> Source<'s, 'a> {
         requires nested { IsNested self.now.statements.now }
         requires opened { AreOpened (program_of self.now.statements.now) self.now.opened.now }
         requires next { rank < length self.now.entries.now }
-        requires first { AreFirstPlaces (program_of self.now.statements.now) (take rank self.now.entries.now) namespaces.old places.old }
-        ensures { OnOk result (AreFirstPlaces (program_of self.now.statements.now) (take (rank + 1) self.now.entries.now) namespaces.new places.new) }
+        requires first { AreFirstReached (program_of self.now.statements.now) (take rank self.now.entries.now) namespaces.old places.old }
+        ensures { OnOk result (AreFirstReached (program_of self.now.statements.now) (take (rank + 1) self.now.entries.now) namespaces.new places.new) }
     {
         let Some(opener) = lower(self.entries[rank].opener, rank) else {
             places.push_global()?;
@@ -181,38 +271,45 @@ impl<'s, 'a> Source<'s, 'a> {
             places.push_again(before)?;
             return Ok(());
         }
-        let Some(outer) = places.get(opener) else {
+        let Some(outer) = places.space(opener) else {
             return Ok(());
         };
-        let place = self.place_inside(namespaces, self.entries[opener].statement, outer)?;
-        places.push(place)?;
+        let inside = self.inside(namespaces, self.entries[opener].statement, outer)?;
+        places.push_inside(opener, inside)?;
         Ok(())
     }
 
-    /// The place of what the statement of a number opens where it has a place itself.
-    fn place_inside(
+    /// What the statement of a number opens where it is in the namespace of another number.
+    fn inside(
         &self,
         namespaces: &mut Namespaces<'a>,
         number: usize,
-        outer: &Place,
-    ) -> Result<Place, NoMemory>
+        outer: usize,
+    ) -> Result<Inside, NoMemory>
         requires nested { IsNested self.now.statements.now }
         requires opened { AreOpened (program_of self.now.statements.now) self.now.opened.now }
-        requires space { outer.now.space ≤ length namespaces.old }
-        requires scope { AreWithin namespaces.old outer.now.scope.items }
+        requires space { outer ≤ length namespaces.old }
         ensures grown { OnOk result (IsGrown namespaces.old namespaces.new) }
-        ensures inside { IfOk result (λ place. IsPlaceInside (program_of self.now.statements.now) namespaces.old namespaces.new (numbered outer.now) number (numbered place)) }
+        ensures once { OnOk result (AreNamespaces namespaces.old × AreNamespaces namespaces.new) }
+        ensures inside { IfOk result (λ inside. IsInside (program_of self.now.statements.now) namespaces.old namespaces.new outer number inside.space inside.written) }
     {
+        // Each namespace is there once, before and after.
+        namespaces.are_namespaces();
         match inherited_at(self.statements, self.opened, number) {
             None => {
-                let name = name_at(self.statements, number);
-                let place = place_in_block(self.alloc, namespaces, name, outer)?;
-                Ok(place)
+                let space = namespaces.number(outer, name_at(self.statements, number))?;
+                Ok(Inside {
+                    space,
+                    written: None,
+                })
             }
             Some(block) => {
                 let written = number_of_space(namespaces, self.statements, block)?;
-                let place = place_inherited(self.alloc, namespaces, written, outer)?;
-                Ok(place)
+                namespaces.are_namespaces();
+                Ok(Inside {
+                    space: outer,
+                    written: Some(written),
+                })
             }
         }
     }
@@ -264,39 +361,4 @@ fn number_of_space<'a>(
     let outer = number_of_space(namespaces, statements, block)?;
     let space = namespaces.number(outer, name_at(statements, block))?;
     Ok(space)
-}
-
-/// The place of what is in a block of a name that has a place itself.
-fn place_in_block<'a>(
-    alloc: Global,
-    namespaces: &mut Namespaces<'a>,
-    name: &'a [u8],
-    outer: &Place,
-) -> Result<Place, NoMemory>
-    requires { outer.now.space ≤ length namespaces.old }
-    ensures grown { OnOk result (IsGrown namespaces.old namespaces.new) }
-    ensures inside { IfOk result (λ place. (w : Written) → name_of w ≡ name.now → IsPlaceThrough namespaces.old namespaces.new (numbered outer.now) w None (numbered place)) }
-{
-    let space = namespaces.number(outer.space, name)?;
-    let scope = scope_in_block(alloc, space, outer.scope.as_slice())?;
-    Ok(Place { space, scope })
-}
-
-/// The place of what is inherited from a block that is written in the namespace of a number.
-fn place_inherited(
-    alloc: Global,
-    namespaces: &Namespaces,
-    written: usize,
-    outer: &Place,
-) -> Result<Place, NoMemory>
-    requires space { outer.now.space ≤ length namespaces.now }
-    requires scope { AreWithin namespaces.now outer.now.scope.items }
-    requires number { written ≤ length namespaces.now }
-    ensures { IfOk result (λ place. (w b : Written) → IsNumber namespaces.now b.context.space written → IsPlaceThrough namespaces.now namespaces.now (numbered outer.now) w (Some b) (numbered place)) }
-{
-    let scope = scope_inherited(alloc, namespaces, outer.scope.as_slice(), written)?;
-    Ok(Place {
-        space: outer.space,
-        scope,
-    })
 }

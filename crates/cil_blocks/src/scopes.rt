@@ -1,108 +1,84 @@
-//! Scopes by the numbers of namespaces: each once, at its first place, and that of the global namespace last. A scope is
-//! compared with itself; it is at most as long as blocks nest and inherit one another.
+//! Scopes by the numbers of namespaces: each once, at its first place, and that of the global namespace last. A number costs a
+//! hash.
 
-ghost use Rattle.std.specs.Prelude.{◌≡◌, ◌≤◌, ◌∷◌, ◌++◌, [], IfOk, OnOk, List, length, map};
-ghost use Rattle.cil_syntax.specs.Scopes.{Scope, apart, chain, tidy};
-ghost use Rattle.cil_blocks.specs.Namespaces.{AreNamespaces, space_at};
-ghost use Rattle.cil_blocks.specs.Numbers.{AreWithin, with_number, with_numbers};
+ghost use Rattle.std.specs.Prelude.{◌≡◌};
 
 use crate::namespaces::Namespaces;
 use cil_modset::NoMemory;
-use smallvec::SmallVec;
+use indexmap::IndexSet;
 use std::alloc::Global;
+use std::marker::Model;
 
-/// The scope in a block, of the namespace of the block and the scope in which it stands.
-pub fn scope_in_block(
-    alloc: Global,
-    number: usize,
-    scope: &[usize],
-) -> Result<SmallVec<usize, 4>, NoMemory>
-    ensures { IfOk result (λ inner. inner.items ≡ with_numbers (with_number [] number) scope.now ++ 0 ∷ []) }
-{
-    let mut inner = SmallVec::new(alloc);
-    push_new(&mut inner, number)?;
-    push_all(&mut inner, scope)?;
-    inner.push(0)?;
-    Ok(inner)
+/// The namespaces of a scope, by their numbers. One list serves for many scopes, one after another. Contracts see the list.
+#[derive(Drop)]
+pub struct ScopeList {
+    numbers: IndexSet<usize>,
 }
 
-/// The scope of what is inherited: that of the blockinherit, and then the namespaces round the block.
-pub fn scope_inherited(
-    alloc: Global,
-    namespaces: &Namespaces,
-    scope: &[usize],
-    written: usize,
-) -> Result<SmallVec<usize, 4>, NoMemory>
-    requires numbers { AreWithin namespaces.now scope.now }
-    requires number { written ≤ length namespaces.now }
-    ensures within { IfOk result (λ inner. AreWithin namespaces.now inner.items) }
-    ensures tidy { IfOk result (λ inner. map (space_at namespaces.now) inner.items ≡ tidy (map (space_at namespaces.now) scope.now ++ chain (space_at namespaces.now written))) }
-{
-    let mut inner = SmallVec::new(alloc);
-    push_all(&mut inner, scope)?;
-    push_chain(namespaces, &mut inner, written)?;
-    inner.push(0)?;
-    Ok(inner)
+impl Model for ScopeList {
+    ghost use Rattle.std.specs.Prelude.{List, ℕ};
+
+    ghost Value = { List ℕ };
+
+    ghost view = { λ a. a.numbers.keys };
 }
 
-/// The scope of what stands by two: first the one, and then the other.
-pub fn scope_joined(
-    alloc: Global,
-    namespaces: &Namespaces,
-    one: &[usize],
-    other: &[usize],
-) -> Result<SmallVec<usize, 4>, NoMemory>
-    requires one { AreWithin namespaces.now one.now }
-    requires other { AreWithin namespaces.now other.now }
-    ensures within { IfOk result (λ joined. AreWithin namespaces.now joined.items) }
-    ensures tidy { IfOk result (λ joined. map (space_at namespaces.now) joined.items ≡ tidy (map (space_at namespaces.now) one.now ++ map (space_at namespaces.now) other.now)) }
-{
-    // Different numbers are of different namespaces.
-    namespaces.are_namespaces();
-    let mut joined = SmallVec::new(alloc);
-    push_all(&mut joined, one)?;
-    push_all(&mut joined, other)?;
-    joined.push(0)?;
-    Ok(joined)
-}
+impl ScopeList {
+    ghost use Rattle.std.specs.Prelude.{◌≡◌, ◌++◌, ◌∷◌, ◌==◌, [], OnErr, OnOk, false};
+    ghost use Rattle.std.specs.List.{list_any};
+    ghost use Rattle.cil_blocks.specs.Numbers.{chain_numbers, with_number, with_numbers};
 
-/// Adds a number, unless it is there.
-fn push_new(scope: &mut SmallVec<usize, 4>, number: usize) -> Result<(), NoMemory>
-    ensures { OnOk result (scope.new.items ≡ with_number scope.old.items number) }
-{
-    if number == 0 || scope.as_slice().contains(&number) {
-        return Ok(());
+    /// No namespaces.
+    pub fn new(alloc: Global) -> ScopeList
+        ensures { result ≡ [] }
+    {
+        ScopeList {
+            numbers: IndexSet::new(alloc),
+        }
     }
-    scope.push(number)?;
-    Ok(())
-}
 
-/// Adds the numbers that are not there.
-fn push_all(scope: &mut SmallVec<usize, 4>, numbers: &[usize]) -> Result<(), NoMemory>
-    ensures { OnOk result (scope.new.items ≡ with_numbers scope.old.items numbers.now) }
-{
-    for number in numbers {
-        push_new(scope, *number)?;
+    /// The numbers, in order.
+    pub fn as_slice(&self) -> &[usize]
+        ensures { result.now ≡ self.now }
+    {
+        self.numbers.as_slice()
     }
-    Ok(())
-}
 
-/// Adds the numbers of a namespace and of those round it, if they are not there.
-fn push_chain(
-    namespaces: &Namespaces,
-    scope: &mut SmallVec<usize, 4>,
-    number: usize,
-) -> Result<(), NoMemory>
-    requires numbers { AreWithin namespaces.now scope.old.items }
-    requires number { number ≤ length namespaces.now }
-    ensures once { AreNamespaces namespaces.now }
-    ensures within { OnOk result (AreWithin namespaces.now scope.new.items) }
-    ensures apart { OnOk result ((s : Scope) → map (space_at namespaces.now) scope.old.items ≡ apart s → map (space_at namespaces.now) scope.new.items ≡ apart (s ++ chain (space_at namespaces.now number))) }
-{
-    let mut at = number;
-    while let Some(space) = namespaces.get(at) {
-        push_new(scope, at)?;
-        at = space.outer;
+    /// Takes all numbers out. Their memory is kept.
+    pub fn clear(&mut self)
+        ensures { self.new ≡ [] }
+    {
+        self.numbers.clear();
     }
-    Ok(())
+
+    /// Adds a number, unless it is there, or that of the global namespace.
+    pub fn add(&mut self, number: usize) -> Result<(), NoMemory>
+        ensures { OnOk result (self.new ≡ with_number self.old number) }
+    {
+        if number == 0 {
+            return Ok(());
+        }
+        self.numbers.insert(number)?;
+        Ok(())
+    }
+
+    /// Adds the numbers of a namespace and of those round it, unless they are there.
+    pub fn add_chain(&mut self, namespaces: &Namespaces, number: usize) -> Result<(), NoMemory>
+        ensures { OnOk result (self.new ≡ with_numbers self.old (chain_numbers namespaces.now number)) }
+    {
+        let mut at = number;
+        while let Some(space) = namespaces.get(at) {
+            self.add(at)?;
+            at = space.outer;
+        }
+        Ok(())
+    }
+
+    /// Puts the global namespace behind the others.
+    pub fn close(&mut self) -> Result<(), NoMemory>
+        ensures { OnOk result (list_any (λ k. 0 == k) self.old ≡ false → self.new ≡ self.old ++ 0 ∷ []) }
+    {
+        self.numbers.insert(0)?;
+        Ok(())
+    }
 }

@@ -4,8 +4,11 @@ ghost use Rattle.std.specs.Prelude.{◌≡◌};
 
 use crate::entry::Entry;
 use crate::namespaces::Namespaces;
-use crate::places::{Located, Places};
+use crate::places::Located;
+use crate::scopes::ScopeList;
+use cil_modset::NoMemory;
 use cil_syntax::Statement;
+use std::alloc::Global;
 use std::marker::Model;
 
 /// All that stands in a program in which nothing is wrong with the blocks. Contracts see the statements of the program and
@@ -19,7 +22,7 @@ pub struct Spaces<'p, 'a> {
 
 impl<'p, 'a> Model for Spaces<'p, 'a> {
     ghost use Rattle.cil_syntax.specs.contracts.term.Term as term;
-    ghost use Rattle.cil_blocks.specs.Places.{AreStandings, Standings};
+    ghost use Rattle.cil_blocks.specs.Places.{AreStandings, Standings, all_numbered};
     ghost use Rattle.std.specs.Coded.{codes};
     ghost use denote.Signature.{static_lft};
 
@@ -27,14 +30,15 @@ impl<'p, 'a> Model for Spaces<'p, 'a> {
 
     ghost coded = { Prim.hlevel (codes, (term.the_row static_lft).coded) };
 
-    ghost view = { λ s. (s.statements.now, s.entries.items, s.located.namespaces, s.located.places) };
+    ghost view = { λ s. (s.statements.now, s.entries.items, s.located.namespaces, all_numbered s.located.namespaces s.located.places) };
 
-    ghost invariant = { λ s. AreStandings (s.statements.now, s.entries.items, s.located.namespaces, s.located.places) };
+    ghost invariant = { λ s. AreStandings (s.statements.now, s.entries.items, s.located.namespaces, all_numbered s.located.namespaces s.located.places) };
 }
 
 impl<'p, 'a> Spaces<'p, 'a> {
-    ghost use Rattle.std.specs.Prelude.{◌≡◌};
-    ghost use Rattle.cil_blocks.specs.Places.{AreStandings, entries_in, places_in, spaces_in, statements_in};
+    ghost use Rattle.std.specs.Prelude.{◌≡◌, MatchOption, None, OnOk, Some, slice_get};
+    ghost use Rattle.cil_blocks.specs.Numbers.{with_numbers};
+    ghost use Rattle.cil_blocks.specs.Places.{AreStandings, IsInSpace, Numbered, entries_in, places_in, spaces_in, statements_in};
 
     /// The statements of the program, in order.
     pub fn statements(&self) -> &'p [Statement<'a>]
@@ -58,10 +62,45 @@ impl<'p, 'a> Spaces<'p, 'a> {
         &self.located.namespaces
     }
 
-    /// Where each entry is, by its rank.
-    pub fn places(&self) -> &Places
-        ensures { result.now ≡ places_in self.now }
+    /// The number of the namespace in which the entry of a rank stands.
+    pub fn space(&self, rank: usize) -> Option<usize>
+        ensures { MatchOption result (slice_get (places_in self.now) rank ≡ None) (IsInSpace (places_in self.now) rank) }
     {
-        &self.located.places
+        self.located.places.space(rank)
+    }
+
+    /// Adds the scope of the entry of a rank to another one, but for the global namespace. It costs a step for each block and
+    /// each blockinherit through which the entry came, and a hash for each namespace.
+    pub fn add_scope(
+        &self,
+        alloc: Global,
+        rank: usize,
+        scope: &mut ScopeList,
+    ) -> Result<(), NoMemory>
+        ensures { OnOk result ((p : Numbered) → slice_get (places_in self.now) rank ≡ Some p → scope.new ≡ with_numbers scope.old p.1) }
+    {
+        let located = &self.located;
+        located
+            .places
+            .add_scope(alloc, &located.namespaces, rank, scope)?;
+        Ok(())
+    }
+
+    /// Fills a list with the scope of the entry of a rank: the namespaces in which its words are looked up.
+    pub fn scope_into(
+        &self,
+        alloc: Global,
+        rank: usize,
+        scope: &mut ScopeList,
+    ) -> Result<(), NoMemory>
+        ensures { OnOk result ((p : Numbered) → slice_get (places_in self.now) rank ≡ Some p → scope.new ≡ p.1) }
+    {
+        scope.clear();
+        let located = &self.located;
+        located
+            .places
+            .add_scope(alloc, &located.namespaces, rank, scope)?;
+        scope.close()?;
+        Ok(())
     }
 }

@@ -11,18 +11,19 @@ use Rattle.cil_syntax.specs.Written.{Written, is_macro}
 use Rattle.cil_blocks.specs.declared.entry.Entry.{Entry}
 use Rattle.cil_blocks.specs.Contents.{Standing}
 use Rattle.cil_blocks.specs.Entries.{standings_of, statement_at}
-use Rattle.cil_blocks.specs.Places.{IsPlace, Standings, entries_in, numbered, spaces_in}
+use Rattle.cil_blocks.specs.Namespaces.{IsNumber}
+use Rattle.cil_blocks.specs.Places.{Standings, entries_in, spaces_in}
 use Rattle.cil_blocks.proofs.EntryLemmas.{standings_length}
 use Rattle.cil_blocks.proofs.NameLemmas.{args_some, at_none}
 use Rattle.cil_macros.specs.declared.entry.Body.{Body}
 use Rattle.cil_macros.specs.declared.entry.Called.{Called}
 use Rattle.cil_macros.specs.Calls.{Unfolded, bounds_of_call, called_macro, is_call, is_repeated, placed_called, unfolded, unfolded_by, unfolded_with}
-use Rattle.cil_macros.specs.Entries.{AreBodyPlaces, IsBodyAt, placed_of}
+use Rattle.cil_macros.specs.Entries.{AreBodySpaces, IsBodyAt, placed_of}
 use Rattle.cil_macros.specs.Fits.{fits, fits_when}
 use Rattle.cil_macros.specs.Macros.{IsMacroAt, all_standing}
 use Rattle.cil_macros.specs.Parameters.{call_arguments, macro_parameters}
 use Rattle.cil_macros.specs.Placed.{Bound, Placed, placed_standing}
-use Rattle.cil_macros.specs.Walks.{IsUnfoldedAt, placed_in, written_in}
+use Rattle.cil_macros.specs.Walks.{IsUnfoldedAt, SaysMeant, SaysUnfolded, placed_in, written_in}
 use Rattle.cil_macros.proofs.BodyLemmas.{standing_at}
 use Rattle.cil_macros.proofs.CalledMacros.{names_macro}
 use Rattle.cil_macros.proofs.EntryLemmas.{placed_length}
@@ -74,14 +75,12 @@ module _ (s : Standings) (cs : List Called) where
       let m = rank_there s at h in
       (m.0, m.1, some_same p (placed_standing m.0) (sym e ∙ standing_at (written_in s) (all_standing s) cs at m.0 m.1))
 
-  -- the place of what a call brought
-  pub brought_to : (bs : List Body) → AreBodyPlaces (written_in s) (all_standing s) (spaces_in s) cs bs → (at : ℕ) (b : Body) → Contains bs b
-      → IsBodyAt (written_in s) (all_standing s) cs at b → (p : Placed) → slice_get (placed_in s cs) at ≡ Some p
-      → IsPlace (spaces_in s) p.standing.space p.standing.scope (numbered b.place)
+  -- the namespace of what a call brought
+  pub brought_to : (bs : List Body) → AreBodySpaces (written_in s) (all_standing s) (spaces_in s) cs bs → (at : ℕ) (b : Body) → Contains bs b
+      → IsBodyAt (written_in s) (all_standing s) cs at b → (p : Placed) → slice_get (placed_in s cs) at ≡ Some p → IsNumber (spaces_in s) p.standing.space b.space
   brought_to bs are at b c x p e =
       let same = some_same p (placed_called x.so.call x.so.opened x.statement) (sym e ∙ x.placed) in
-      subst (λ (q : Placed). IsPlace (spaces_in s) q.standing.space q.standing.scope (numbered b.place)) (sym same)
-      (are b x.so.call x.so.opened c x.so.is_call x.so.is_opened)
+      subst (λ (q : Placed). IsNumber (spaces_in s) q.standing.space b.space) (sym same) (are b x.so.call c x.so.is_call)
 
 -- ---- arguments
 
@@ -139,3 +138,18 @@ module _ (ws : List Written) (ss : List Standing) (p : Placed) where
         is = ap (unfolded_by ws p) e ∙ ap (λ b. if b then None else unfolded_with m (bounds_of_call ws p m)) (sym f) ∙ u.1;
         at = at.at ∙ ap Some (some_same at.called m (sym at.is ∙ e) ∙ sym u.2);
       }
+
+-- ---- what was told of a call
+
+module _ (s : Standings) (cs : List Called) (at : ℕ) where
+  pub not_meant : (o : Option ℕ) → o ≡ None → SaysMeant s cs at o → SaysMeant s cs at None
+  not_meant o e so = subst (SaysMeant s cs at) e so
+
+  pub is_meant : (o : Option ℕ) (k : ℕ) → o ≡ Some k → SaysMeant s cs at o → SaysMeant s cs at (Some k)
+  is_meant o k e so = subst (SaysMeant s cs at) e so
+
+  pub not_unfolded : (o : Option ℕ) → o ≡ None → SaysUnfolded s cs at o → SaysUnfolded s cs at None
+  not_unfolded o e so = subst (SaysUnfolded s cs at) e so
+
+  pub unfolded_is : (o : Option ℕ) (k : ℕ) → o ≡ Some k → SaysUnfolded s cs at o → SaysUnfolded s cs at (Some k)
+  unfolded_is o k e so = subst (SaysUnfolded s cs at) e so

@@ -22,6 +22,7 @@ pub mod OneInstance
 pub mod OpeningLemmas
 pub mod PlacedWalk
 pub mod SameParameters
+pub mod ScopeLemmas
 pub mod ServingLemmas
 pub mod ValueLemmas
 pub mod WalkLemmas

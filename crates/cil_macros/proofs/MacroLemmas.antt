@@ -21,7 +21,7 @@ use Rattle.cil_blocks.specs.Numbers.{AreWithin}
 use Rattle.cil_blocks.specs.Contents.{Standing, first_word, name_of, path_cmp, path_of}
 use Rattle.cil_blocks.specs.declared.namespaces.Space.{Space}
 use Rattle.cil_blocks.specs.Namespaces.{AreNamespaces, HasNoNumber, IsNumber, Key, space_at}
-use Rattle.cil_blocks.specs.Places.{AreStandings, Numbered, Standings, entries_in, places_in, spaces_in, statements_in}
+use Rattle.cil_blocks.specs.Places.{AreStandings, IsInSpace, Numbered, Standings, entries_in, places_in, spaces_in, statements_in}
 use Rattle.cil_blocks.proofs.EntryLemmas.{map_two, mapped_at, standings_length, statements_from}
 use Rattle.cil_blocks.proofs.NamespaceLemmas.{global_at, one_to_one}
 use Rattle.cil_blocks.proofs.Kept.{in_one}
@@ -239,10 +239,10 @@ module _ (s : Standings) (are : AreStandings s) (rank : ℕ) where
     pub placed_here : slice_get (places_in s) rank ≡ None → ⊥
     placed_here none = let place = are.places rank x here in none_some place.place (sym none ∙ place.is)
 
-    pub number_here : (p : Numbered) → slice_get (places_in s) rank ≡ Some p → IsNumber (spaces_in s) x.space p.0
-    number_here p e =
+    pub number_in : (n : ℕ) → IsInSpace (places_in s) rank n → IsNumber (spaces_in s) x.space n
+    number_in n (p, at, is) =
         let place = are.places rank x here in
-        subst (λ (q : Numbered). IsNumber (spaces_in s) x.space q.0) (some_same place.place p (sym place.is ∙ e)) place.so.is_space
+        subst (IsNumber (spaces_in s) x.space) (ap (λ (q : Numbered). q.0) (some_same place.place p (sym place.is ∙ at)) ∙ sym is) place.so.is_space
 
 module _ (s : Standings) (name : List ℕ) where
   module _ (inner : Namespace) where

@@ -8,16 +8,15 @@ use Rattle.cil_sexpr.specs.Places.{get_behind, get_in_front, in_range, is_there,
 use Rattle.cil_blocks.specs.Contents.{Standing}
 use Rattle.cil_blocks.specs.declared.namespaces.Space.{Space}
 use Rattle.cil_blocks.specs.declared.parts.Parts.{Parts}
-use Rattle.cil_blocks.specs.declared.places.Place.{Place}
 use Rattle.cil_blocks.specs.Entries.{AreParts, parts_at, standings_of, statement_at}
-use Rattle.cil_blocks.specs.Places.{AreStandings, IsPlace, Standings, entries_in, numbered, spaces_in}
+use Rattle.cil_blocks.specs.Namespaces.{IsNumber}
+use Rattle.cil_blocks.specs.Places.{AreStandings, Standings, entries_in, spaces_in}
 use Rattle.cil_blocks.proofs.EntryLemmas.{standings_length}
-use Rattle.cil_syntax.specs.Scopes.{tidy}
 use Rattle.cil_syntax.specs.Written.{Written, is_macro}
 use Rattle.cil_macros.specs.declared.entry.Body.{Body}
 use Rattle.cil_macros.specs.declared.entry.Called.{Called}
 use Rattle.cil_macros.specs.Calls.{IsPlaced, Unfolded, is_call, placed_cmp, unfolded}
-use Rattle.cil_macros.specs.Entries.{AreBodies, AreBodyPlaces, IsBody, IsOf, placed_by, placed_from, placed_of, placed_under}
+use Rattle.cil_macros.specs.Entries.{AreBodies, AreBodySpaces, IsBody, IsOf, placed_by, placed_from, placed_of, placed_under}
 use Rattle.cil_macros.specs.Opens.{opens_placed, starts}
 use Rattle.cil_macros.specs.Placed.{Placed}
 use Rattle.cil_macros.specs.Walks.{IsUnfoldedAt, called_by, placed_in, written_in}
@@ -158,11 +157,11 @@ module _ (ws : List Written) (ss : List Standing) where
         by j c (inl h) = of_old (length ss + j) c (are.brought j c h.1)
         by j c (inr (k, f, g)) = of_new j k c f g
 
-    -- and so are their places
-    pub places_more : (spaces : List Space) → AreBodyPlaces ws ss spaces cs bs
-        → ((p : Placed) (u : Unfolded) → slice_get (placed_of ws ss cs) b.call ≡ Some p → unfolded ws ss p ≡ Some u → IsPlace spaces p.standing.space (tidy (u.macro.scope ++ p.standing.scope)) (numbered b.place))
-        → AreBodyPlaces ws ss spaces new (bs ++ b ∷ [])
-    places_more spaces old so x p u c e f = by (Contains-append_cases bs (b ∷ []) x c)
+    -- and so are their namespaces
+    pub spaces_more : (spaces : List Space) → AreBodySpaces ws ss spaces cs bs
+        → ((p : Placed) → slice_get (placed_of ws ss cs) b.call ≡ Some p → IsNumber spaces p.standing.space b.space)
+        → AreBodySpaces ws ss spaces new (bs ++ b ∷ [])
+    spaces_more spaces old so x p c e = by (Contains-append_cases bs (b ∷ []) x c)
       where
         -- the call of a body stands where it stood
         before : (y : Body) → y.call < length (placed_of ws ss cs) → slice_get (placed_of ws ss new) y.call ≡ Some p → slice_get (placed_of ws ss cs) y.call ≡ Some p
@@ -171,14 +170,14 @@ module _ (ws : List Written) (ss : List Standing) where
         its : (y : Body) → y ≡ x → slice_get (placed_of ws ss new) y.call ≡ Some p
         its y d = ap (λ (z : Body). slice_get (placed_of ws ss new) z.call) d ∙ e
 
-        by : (Contains bs x ⊎ Contains (b ∷ []) x) → IsPlace spaces p.standing.space (tidy (u.macro.scope ++ p.standing.scope)) (numbered x.place)
+        by : (Contains bs x ⊎ Contains (b ∷ []) x) → IsNumber spaces p.standing.space x.space
         by (inl d) =
             let i = get_of_contains bs x d in
             let y = are.each i.0 x i.1 in
-            old x p u d (before x (in_range (placed_of ws ss cs) x.call y.call y.is_call) e) f
+            old x p d (before x (in_range (placed_of ws ss cs) x.call y.call y.is_call) e)
         by (inr d) = elim (contains_cases x b [] d) [
-          | inl same ↦ subst (λ (z : Body). IsPlace spaces p.standing.space (tidy (u.macro.scope ++ p.standing.scope)) (numbered z.place)) same
-              (so p u (before b (in_range (placed_of ws ss cs) b.call is.call is.is_call) (its b same)) f)
+          | inl same ↦ subst (λ (z : Body). IsNumber spaces p.standing.space z.space) same
+              (so p (before b (in_range (placed_of ws ss cs) b.call is.call is.is_call) (its b same)))
           | inr none ↦ absurd (contains_none x none)
         ]
 
@@ -186,36 +185,31 @@ module _ (ws : List Written) (ss : List Standing) where
 
 module _ (s : Standings) (cs : List Called) (bs : List Body) (at called : ℕ) (p : Placed) (here : slice_get (placed_in s cs) at ≡ Some p)
     (u : IsUnfoldedAt (written_in s) (all_standing s) p called) (within : at < length (entries_in s) + length cs) where
-  its_body : (place : Place) → IsBody (written_in s) (all_standing s) (placed_in s cs) (record { call = at; called = called; place = place })
-  its_body place = record { call = p; is_call = here; opened = u.opened; is_opened = u.is; is_macro = u.at }
+  its_body : (space : ℕ) → IsBody (written_in s) (all_standing s) (placed_in s cs) (record { call = at; called = called; space = space })
+  its_body space = record { call = p; is_call = here; opened = u.opened; is_opened = u.is; is_macro = u.at }
 
   range : at < length (all_standing s) + length cs
   range = let l = standings_length (written_in s) (entries_in s) in omega (arith, within, l)
 
-  pub bodies_opened : (place : Place) (numbers : List ℕ) (body : ℕ) (new : List Called) (more : List Body) → AreBodies (written_in s) (all_standing s) cs bs
-      → body ≡ length bs → new ≡ cs ++ map (called_by at body) numbers → more ≡ bs ++ (record { call = at; called = called; place = place }) ∷ []
+  pub bodies_opened : (space : ℕ) (numbers : List ℕ) (body : ℕ) (new : List Called) (more : List Body) → AreBodies (written_in s) (all_standing s) cs bs
+      → body ≡ length bs → new ≡ cs ++ map (called_by at body) numbers → more ≡ bs ++ (record { call = at; called = called; space = space }) ∷ []
       → AreBodies (written_in s) (all_standing s) new more
-  bodies_opened place numbers body new more are l e f =
+  bodies_opened space numbers body new more are l e f =
       subst (λ xs. AreBodies (written_in s) (all_standing s) new xs) (sym f)
-      (subst (λ xs. AreBodies (written_in s) (all_standing s) xs (bs ++ (record { call = at; called = called; place = place }) ∷ []))
+      (subst (λ xs. AreBodies (written_in s) (all_standing s) xs (bs ++ (record { call = at; called = called; space = space }) ∷ []))
       (sym (e ∙ ap (λ n. cs ++ map (called_by at n) numbers) l))
-      (bodies_more (written_in s) (all_standing s) cs bs (record { call = at; called = called; place = place }) numbers are (its_body place) range))
+      (bodies_more (written_in s) (all_standing s) cs bs (record { call = at; called = called; space = space }) numbers are (its_body space) range))
 
-  pub places_opened : (place : Place) (numbers : List ℕ) (body : ℕ) (new : List Called) (more : List Body) → AreBodies (written_in s) (all_standing s) cs bs
-      → AreBodyPlaces (written_in s) (all_standing s) (spaces_in s) cs bs
-      → ((q : Placed) (m : Standing) → slice_get (placed_in s cs) at ≡ Some q → slice_get (all_standing s) called ≡ Some m
-      → IsPlace (spaces_in s) q.standing.space (tidy (m.scope ++ q.standing.scope)) (numbered place))
-      → body ≡ length bs → new ≡ cs ++ map (called_by at body) numbers → more ≡ bs ++ (record { call = at; called = called; place = place }) ∷ []
-      → AreBodyPlaces (written_in s) (all_standing s) (spaces_in s) new more
-  places_opened place numbers body new more are places so l e f =
-      subst (λ xs. AreBodyPlaces (written_in s) (all_standing s) (spaces_in s) new xs) (sym f)
-      (subst (λ xs. AreBodyPlaces (written_in s) (all_standing s) (spaces_in s) xs (bs ++ (record { call = at; called = called; place = place }) ∷ []))
+  pub spaces_opened : (space : ℕ) (numbers : List ℕ) (body : ℕ) (new : List Called) (more : List Body) → AreBodies (written_in s) (all_standing s) cs bs
+      → AreBodySpaces (written_in s) (all_standing s) (spaces_in s) cs bs
+      → ((q : Placed) → slice_get (placed_in s cs) at ≡ Some q → IsNumber (spaces_in s) q.standing.space space)
+      → body ≡ length bs → new ≡ cs ++ map (called_by at body) numbers → more ≡ bs ++ (record { call = at; called = called; space = space }) ∷ []
+      → AreBodySpaces (written_in s) (all_standing s) (spaces_in s) new more
+  spaces_opened space numbers body new more are spaces so l e f =
+      subst (λ xs. AreBodySpaces (written_in s) (all_standing s) (spaces_in s) new xs) (sym f)
+      (subst (λ xs. AreBodySpaces (written_in s) (all_standing s) (spaces_in s) xs (bs ++ (record { call = at; called = called; space = space }) ∷ []))
       (sym (e ∙ ap (λ n. cs ++ map (called_by at n) numbers) l))
-      (places_more (written_in s) (all_standing s) cs bs (record { call = at; called = called; place = place }) numbers are (its_body place) range (spaces_in s) places
-      (λ q v g i. so q v.macro g (u.at ∙ ap (λ (w : Unfolded). Some w.macro) (same_opened q v g i)))))
-    where
-      same_opened : (q : Placed) (v : Unfolded) → slice_get (placed_in s cs) at ≡ Some q → unfolded (written_in s) (all_standing s) q ≡ Some v → u.opened ≡ v
-      same_opened q v g i = some_same u.opened v (sym u.is ∙ ap (unfolded (written_in s) (all_standing s)) (some_same p q (sym here ∙ g)) ∙ i)
+      (spaces_more (written_in s) (all_standing s) cs bs (record { call = at; called = called; space = space }) numbers are (its_body space) range (spaces_in s) spaces so))
 
   -- what is placed is what was placed, and what this statement opens
   pub placed_opened : (ps : Parts) → AreParts (written_in s) ps → (k body : ℕ) (numbers : List ℕ) (new : List Called)
@@ -247,8 +241,8 @@ module _ (s : Standings) where
     brought = λ j c g. absurd (none_some c (ap (λ xs. slice_get xs j) (sym e) ∙ g));
   }
 
-  pub no_places : (cs : List Called) (bs : List Body) → bs ≡ [] → AreBodyPlaces (written_in s) (all_standing s) (spaces_in s) cs bs
-  no_places cs bs f b p u c e g = absurd (contains_none b (subst (λ xs. Contains xs b) f c))
+  pub no_spaces : (cs : List Called) (bs : List Body) → bs ≡ [] → AreBodySpaces (written_in s) (all_standing s) (spaces_in s) cs bs
+  no_spaces cs bs f b p c e = absurd (contains_none b (subst (λ xs. Contains xs b) f c))
 
   module _ (are : AreStandings s) where
     calls : (p : Placed) (u : Unfolded) → unfolded (written_in s) (all_standing s) p ≡ Some u → is_call p.standing.statement.statement.keyword ≡ true

@@ -1,12 +1,11 @@
 -- What is placed, as it is kept: what stands, and then each statement that a call brings, by its number, with the place of the
 -- one that opened it.
 use Rattle.std.specs.Prelude.{◌≡◌, ℕ, ◌+◌, ◌<◌, List, [], ◌∷◌, ◌++◌, length, Contains, Option, Some, None, slice_get}
-use Rattle.cil_syntax.specs.Scopes.{tidy}
 use Rattle.cil_syntax.specs.Written.{Written}
 use Rattle.cil_blocks.specs.Contents.{Standing, standing_top}
 use Rattle.cil_blocks.specs.declared.namespaces.Space.{Space}
 use Rattle.cil_blocks.specs.Entries.{statement_at}
-use Rattle.cil_blocks.specs.Places.{IsPlace, numbered}
+use Rattle.cil_blocks.specs.Namespaces.{IsNumber}
 use Rattle.cil_macros.specs.declared.entry.Body.{Body}
 use Rattle.cil_macros.specs.declared.entry.Called.{Called}
 use Rattle.cil_macros.specs.Calls.{Unfolded, placed_called, placed_in_optional, unfolded}
@@ -65,8 +64,7 @@ pub record IsBodyAt (ws : List Written) (ss : List Standing) (cs : List Called) 
   pub statement : Written
   pub placed : slice_get (placed_of ws ss cs) at ≡ Some (placed_called so.call so.opened statement)
 
--- the place of a body is that of its statements, where the call places them
-abbrev pub AreBodyPlaces : List Written → List Standing → List Space → List Called → List Body → Type 0
-AreBodyPlaces ws ss spaces cs bs =
-    (b : Body) (p : Placed) (u : Unfolded) → Contains bs b → slice_get (placed_of ws ss cs) b.call ≡ Some p → unfolded ws ss p ≡ Some u
-    → IsPlace spaces p.standing.space (tidy (u.macro.scope ++ p.standing.scope)) (numbered b.place)
+-- the number of a body is that of the namespace of its statements, which is that of the call
+abbrev pub AreBodySpaces : List Written → List Standing → List Space → List Called → List Body → Type 0
+AreBodySpaces ws ss spaces cs bs =
+    (b : Body) (p : Placed) → Contains bs b → slice_get (placed_of ws ss cs) b.call ≡ Some p → IsNumber spaces p.standing.space b.space

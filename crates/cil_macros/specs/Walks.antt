@@ -1,15 +1,19 @@
 -- The walk over calls: what it stands on, and what holds of what it has brought so far.
-use Rattle.std.specs.Prelude.{◌≡◌, ℕ, List, Option, Some, None, slice_get, MatchOption}
+use Rattle.std.specs.Prelude.{◌≡◌, ℕ, List, map, Option, Some, None, slice_get, MatchOption}
 use Rattle.cil_syntax.specs.Program.{program_of}
+use Rattle.cil_syntax.specs.Scopes.{Scope}
 use Rattle.cil_syntax.specs.Written.{Written}
+use Rattle.cil_blocks.specs.declared.namespaces.Space.{Space}
 use Rattle.cil_blocks.specs.Contents.{Standing}
 use Rattle.cil_blocks.specs.Entries.{AreParts}
+use Rattle.cil_blocks.specs.Namespaces.{space_at}
+use Rattle.cil_blocks.specs.Numbers.{AreWithin}
 use Rattle.cil_blocks.specs.Places.{AreStandings, Standings, spaces_in, statements_in}
 use Rattle.cil_macros.specs.declared.chain.Brought.{Brought}
 use Rattle.cil_macros.specs.declared.entry.Called.{Called}
 use Rattle.cil_macros.specs.declared.source.Source.{Source}
 use Rattle.cil_macros.specs.Calls.{Unfolded, called_macro, unfolded}
-use Rattle.cil_macros.specs.Entries.{AreBodies, AreBodyPlaces, placed_of}
+use Rattle.cil_macros.specs.Entries.{AreBodies, AreBodySpaces, placed_of}
 use Rattle.cil_macros.specs.Firsts.{AreFirsts}
 use Rattle.cil_macros.specs.Macros.{AreMacros, IsMacroAt, all_standing}
 use Rattle.cil_macros.specs.Placed.{Placed}
@@ -21,6 +25,11 @@ written_in s = program_of (statements_in s)
 abbrev pub placed_in : Standings → List Called → List Placed
 placed_in s cs = placed_of (written_in s) (all_standing s) cs
 
+-- the numbers are those of a scope
+pub record IsScope (spaces : List Space) (scope : Scope) (ks : List ℕ) : Type 0 where
+  pub within : AreWithin spaces ks
+  pub is : map (space_at spaces) ks ≡ scope
+
 -- what a walk stands on
 pub record IsSource (s : Source) : Type 0 where
   pub standings : AreStandings s.spaces.now
@@ -30,7 +39,7 @@ pub record IsSource (s : Source) : Type 0 where
 -- what a walk has brought
 pub record AreBrought (s : Standings) (b : Brought) : Type 0 where
   pub bodies : AreBodies (written_in s) (all_standing s) b.called.items b.bodies.items
-  pub places : AreBodyPlaces (written_in s) (all_standing s) (spaces_in s) b.called.items b.bodies.items
+  pub spaces : AreBodySpaces (written_in s) (all_standing s) (spaces_in s) b.called.items b.bodies.items
   pub firsts : AreFirsts (all_standing s) b
 
 -- the macro that is called there, by its rank

@@ -1,78 +1,148 @@
 //! What is known of the statement at a place: where it is, which macro it calls, and whether the call is unfolded.
 
-ghost use Rattle.std.specs.Prelude.{◌≡◌, ◌+◌, ◌<◌, MatchOption, Some, is_some, length, slice_get};
+ghost use Rattle.std.specs.Prelude.{◌≡◌, ◌+◌, ◌<◌, ◌≤◌, IfOk, MatchOption, OnOk, Some, is_some, length, slice_get};
 ghost use Rattle.cil_blocks.specs.Contents.{Standing};
-ghost use Rattle.cil_blocks.specs.Places.{IsPlace, entries_in, numbered, spaces_in};
+ghost use Rattle.cil_blocks.specs.Namespaces.{IsNumber};
+ghost use Rattle.cil_blocks.specs.Places.{entries_in, spaces_in};
 ghost use Rattle.cil_macros.specs.Calls.{bounds_of_call, called_macro, is_repeated};
 ghost use Rattle.cil_macros.specs.Macros.{all_standing};
 ghost use Rattle.cil_macros.specs.Placed.{Placed};
-ghost use Rattle.cil_macros.specs.Walks.{AreBrought, IsSource, SaysMeant, SaysUnfolded, placed_in, written_in};
+ghost use Rattle.cil_macros.specs.Walks.{AreBrought, IsScope, IsSource, SaysMeant, SaysUnfolded, placed_in, written_in};
 
 use crate::arguments::arguments_fit;
 use crate::chain::{Brought, is_repeated, spot_of, standing_statement, statement_at};
-use crate::macros::macro_called;
+use crate::macros::{is_call_at, macro_called};
 use crate::source::Source;
-use cil_blocks::Place;
+use cil_blocks::ScopeList;
+use cil_modset::NoMemory;
+use std::alloc::Global;
 
-/// Where the statement of a rank stands: its namespace, and the namespaces in which its words are looked up.
-pub fn standing_place<'s>(source: &'s Source, rank: usize) -> &'s Place
+/// The number of the namespace in which the statement of a rank stands.
+fn standing_space(source: &Source, rank: usize) -> usize
     requires source { IsSource source.now }
     requires standing { rank < length (entries_in source.now.spaces.now) }
-    ensures { (m : Standing) → slice_get (all_standing source.now.spaces.now) rank ≡ Some m → IsPlace (spaces_in source.now.spaces.now) m.space m.scope (numbered result.now) }
+    ensures { (m : Standing) → slice_get (all_standing source.now.spaces.now) rank ≡ Some m → IsNumber (spaces_in source.now.spaces.now) m.space result }
 {
-    let Some(place) = source.spaces.places().get(rank) else {
+    let Some(space) = source.spaces.space(rank) else {
         unreachable!()
     };
-    place
+    space
 }
 
-/// Where the statement at a place is put.
-pub fn place_at<'s>(source: &'s Source, brought: &'s Brought, at: usize) -> &'s Place
+/// The number of the namespace in which the statement at a place is put.
+pub fn space_at(source: &Source, brought: &Brought, at: usize) -> usize
     requires source { IsSource source.now }
     requires brought { AreBrought source.now.spaces.now brought.now }
     requires within { at < length (entries_in source.now.spaces.now) + length brought.now.called.items }
-    ensures { (p : Placed) → slice_get (placed_in source.now.spaces.now brought.now.called.items) at ≡ Some p
-        → IsPlace (spaces_in source.now.spaces.now) p.standing.space p.standing.scope (numbered result.now) }
+    ensures { (p : Placed) → slice_get (placed_in source.now.spaces.now brought.now.called.items) at ≡ Some p → IsNumber (spaces_in source.now.spaces.now) p.standing.space result }
 {
     let standing = source.spaces.entries().len();
     if at < standing {
-        return standing_place(source, at);
+        return standing_space(source, at);
     }
     let Some(body) = brought.body_at(standing, at) else {
         unreachable!()
     };
-    &body.place
+    body.space
 }
 
-/// The rank of the macro that the statement at a place calls: none if it is no call, or names no macro.
-pub fn macro_at(source: &Source, brought: &Brought, at: usize) -> Option<usize>
+/// Fills a list with the scope of the statement at a place.
+pub fn scope_at(
+    alloc: Global,
+    source: &Source,
+    brought: &Brought,
+    at: usize,
+    scope: &mut ScopeList,
+) -> Result<(), NoMemory>
     requires source { IsSource source.now }
     requires brought { AreBrought source.now.spaces.now brought.now }
     requires within { at < length (entries_in source.now.spaces.now) + length brought.now.called.items }
-    ensures { SaysMeant source.now.spaces.now brought.now.called.items at result }
+    ensures { OnOk result ((p : Placed) → slice_get (placed_in source.now.spaces.now brought.now.called.items) at ≡ Some p
+        → IsScope (spaces_in source.now.spaces.now) p.standing.scope scope.new) }
+{
+    if at < source.spaces.entries().len() {
+        source.spaces.scope_into(alloc, at, scope)?;
+        return Ok(());
+    }
+    called_scope_at(alloc, source, brought, at, scope)?;
+    Ok(())
+}
+
+/// The same of a statement that a call brings: the scope of the place of its macro comes first, then those of the places of the
+/// macros round it, and last that of the call that stands.
+fn called_scope_at(
+    alloc: Global,
+    source: &Source,
+    brought: &Brought,
+    at: usize,
+    scope: &mut ScopeList,
+) -> Result<(), NoMemory>
+    requires source { IsSource source.now }
+    requires brought { AreBrought source.now.spaces.now brought.now }
+    requires within { at < length (entries_in source.now.spaces.now) + length brought.now.called.items }
+    requires behind { length (entries_in source.now.spaces.now) ≤ at }
+    ensures { OnOk result ((p : Placed) → slice_get (placed_in source.now.spaces.now brought.now.called.items) at ≡ Some p
+        → IsScope (spaces_in source.now.spaces.now) p.standing.scope scope.new) }
+{
+    let standing = source.spaces.entries().len();
+    scope.clear();
+    let mut place = at;
+    while let Some(body) = brought.body_at(standing, place) {
+        source.spaces.add_scope(alloc, body.called, scope)?;
+        place = body.call;
+    }
+    source.spaces.add_scope(alloc, place, scope)?;
+    scope.close()?;
+    Ok(())
+}
+
+/// The rank of the macro that the statement at a place calls: none if it is no call, or names no macro. The scope of a call is
+/// put in the list.
+pub fn macro_at(
+    alloc: Global,
+    source: &Source,
+    brought: &Brought,
+    at: usize,
+    scope: &mut ScopeList,
+) -> Result<Option<usize>, NoMemory>
+    requires source { IsSource source.now }
+    requires brought { AreBrought source.now.spaces.now brought.now }
+    requires within { at < length (entries_in source.now.spaces.now) + length brought.now.called.items }
+    ensures { IfOk result (SaysMeant source.now.spaces.now brought.now.called.items at) }
 {
     let number = statement_at(source.spaces.entries(), brought.called.as_slice(), at);
-    let place = place_at(source, brought, at);
-    let called = macro_called(source.spaces, source.macros, number, place.scope.as_slice())?;
-    Some(called)
+    if !is_call_at(source.spaces.statements(), number) {
+        return Ok(None);
+    }
+    scope_at(alloc, source, brought, at, scope)?;
+    let called = macro_called(source.spaces, source.macros, number, scope.as_slice());
+    Ok(called)
 }
 
 /// The rank of the macro that the statement at a place calls, where the call is unfolded: its arguments fit, and it did not
 /// come through this macro itself.
-pub fn unfolded_at(source: &Source, brought: &Brought, at: usize) -> Option<usize>
+pub fn unfolded_at(
+    alloc: Global,
+    source: &Source,
+    brought: &Brought,
+    at: usize,
+    scope: &mut ScopeList,
+) -> Result<Option<usize>, NoMemory>
     requires source { IsSource source.now }
     requires brought { AreBrought source.now.spaces.now brought.now }
     requires within { at < length (entries_in source.now.spaces.now) + length brought.now.called.items }
-    ensures { SaysUnfolded source.now.spaces.now brought.now.called.items at result }
+    ensures { IfOk result (SaysUnfolded source.now.spaces.now brought.now.called.items at) }
 {
-    let called = macro_at(source, brought, at)?;
+    let Some(called) = macro_at(alloc, source, brought, at, scope)? else {
+        return Ok(None);
+    };
     if comes_again(source, brought, at, called) {
-        return None;
+        return Ok(None);
     }
     if !has_arguments(source, brought, at, called) {
-        return None;
+        return Ok(None);
     }
-    Some(called)
+    Ok(Some(called))
 }
 
 /// Whether the statement at a place came through this macro already.

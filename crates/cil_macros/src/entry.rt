@@ -1,7 +1,5 @@
 //! What calls bring, as it is kept.
 
-use cil_blocks::Place;
-
 /// A statement that a call brings. Its namespace, its scope and the arguments follow from the call.
 #[derive(Clone, Copy, Debug, PartialEq, Eq)]
 pub struct Called {
@@ -14,12 +12,12 @@ pub struct Called {
 }
 
 /// The body of a macro at a call.
-#[derive(Debug, Drop)]
+#[derive(Clone, Copy, Debug)]
 pub struct Body {
     /// The place of the call among all that is placed.
     pub call: usize,
     /// The place of the macro among all that stands.
     pub called: usize,
-    /// Where the statements of the body are.
-    pub place: Place,
+    /// The number of the namespace in which its statements are. Their scope follows from the macro and the call.
+    pub space: usize,
 }

@@ -10,11 +10,11 @@ ghost use Rattle.cil_macros.specs.Macros.{all_standing};
 ghost use Rattle.cil_macros.specs.Placed.{Placed};
 ghost use Rattle.cil_macros.specs.Walks.{AreBrought, IsSource, placed_in, written_in};
 
-use crate::calls::{comes_again, has_arguments, macro_at, place_at};
+use crate::calls::{comes_again, has_arguments, macro_at, space_at};
 use crate::chain::{Brought, statement_at};
 use crate::source::Source;
-use cil_blocks::Namespaces;
 use cil_blocks::spelled::spelled;
+use cil_blocks::{Namespaces, ScopeList};
 use cil_modset::NoMemory;
 use cil_syntax::{Bytes, Fault, FaultCode, Word, word_and_terms};
 use std::alloc::Global;
@@ -47,8 +47,9 @@ pub fn call_faults(
     ensures { IfOk result (λ faults. faults.items ≡ flat_map (faults_of (written_in source.now.spaces.now) (all_standing source.now.spaces.now)) (placed_in source.now.spaces.now brought.now.called.items)) }
 {
     let mut faults = Vec::new(alloc);
+    let mut scope = ScopeList::new(alloc);
     for at in 0..source.spaces.entries().len() + brought.called.len() {
-        report(alloc, &mut faults, source, brought, at)?;
+        report(alloc, &mut faults, source, brought, at, &mut scope)?;
     }
     Ok(faults)
 }
@@ -60,6 +61,7 @@ fn report(
     source: &Source,
     brought: &Brought,
     at: usize,
+    scope: &mut ScopeList,
 ) -> Result<(), NoMemory>
     requires source { IsSource source.now }
     requires brought { AreBrought source.now.spaces.now brought.now }
@@ -67,7 +69,7 @@ fn report(
     ensures { OnOk result ((p : Placed) → slice_get (placed_in source.now.spaces.now brought.now.called.items) at ≡ Some p
         → faults.new.items ≡ faults.old.items ++ faults_of (written_in source.now.spaces.now) (all_standing source.now.spaces.now) p) }
 {
-    let wrong = wrong_at(source, brought, at);
+    let wrong = wrong_at(alloc, source, brought, at, scope)?;
     let number = statement_at(source.spaces.entries(), brought.called.as_slice(), at);
     let Some(statement) = source.spaces.statements().get(number) else {
         return Ok(());
@@ -77,7 +79,7 @@ fn report(
     };
     let site = Site {
         namespaces: source.spaces.namespaces(),
-        space: place_at(source, brought, at).space,
+        space: space_at(source, brought, at),
         word: &front.word,
     };
     report_if(alloc, faults, wrong.again, FaultCode::CallCycle, &site)?;
@@ -86,22 +88,28 @@ fn report(
 }
 
 /// What is wrong with the statement at a place.
-fn wrong_at(source: &Source, brought: &Brought, at: usize) -> Wrong
+fn wrong_at(
+    alloc: Global,
+    source: &Source,
+    brought: &Brought,
+    at: usize,
+    scope: &mut ScopeList,
+) -> Result<Wrong, NoMemory>
     requires source { IsSource source.now }
     requires brought { AreBrought source.now.spaces.now brought.now }
     requires within { at < length (entries_in source.now.spaces.now) + length brought.now.called.items }
-    ensures { SaysWrong source.now.spaces.now brought.now.called.items at result }
+    ensures { IfOk result (SaysWrong source.now.spaces.now brought.now.called.items at) }
 {
-    let Some(called) = macro_at(source, brought, at) else {
-        return Wrong {
+    let Some(called) = macro_at(alloc, source, brought, at, scope)? else {
+        return Ok(Wrong {
             again: false,
             unfit: false,
-        };
+        });
     };
-    Wrong {
+    Ok(Wrong {
         again: comes_again(source, brought, at, called),
         unfit: !has_arguments(source, brought, at, called),
-    }
+    })
 }
 
 /// Tells a fault, if there is one.

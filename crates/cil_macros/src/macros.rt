@@ -60,10 +60,10 @@ impl<'a> Macros<'a> {
         if !is_macro_at(spaces.statements(), number) {
             return Ok(());
         }
-        let Some(place) = spaces.places().get(rank) else {
+        let Some(space) = spaces.space(rank) else {
             return Ok(());
         };
-        let key = (place.space, name_at(spaces.statements(), number));
+        let key = (space, name_at(spaces.statements(), number));
         let meant = nearer(spaces, rank, self.table.get(&key).copied());
         self.table.insert(key, meant)?;
         Ok(())
@@ -126,6 +126,17 @@ pub fn macro_called(
     }
     let front = word_and_terms(statement.args.as_slice(), statement.at.module)?;
     macro_named(spaces, macros, &front.word, scope)
+}
+
+/// Whether the statement of a number calls a macro.
+pub fn is_call_at(statements: &[Statement], number: usize) -> bool
+    requires { IsNested statements.now }
+    ensures { result ≡ is_call (statement_at (program_of statements.now) number).statement.keyword }
+{
+    match statements.get(number) {
+        None => false,
+        Some(statement) => is_call(statement.keyword),
+    }
 }
 
 /// Whether a statement calls a macro.

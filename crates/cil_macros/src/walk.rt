@@ -5,20 +5,16 @@
 ghost use Rattle.std.specs.Prelude.{◌≡◌, ◌+◌, ◌<◌, ◌≤◌, ◌++◌, IfNone, IfOk, IfSome, OnOk, Some, length, map, slice_get};
 ghost use Rattle.cil_sexpr.specs.Lists.{Lists};
 ghost use Rattle.cil_sexpr.specs.Rising.{IsOver};
-ghost use Rattle.cil_syntax.specs.Scopes.{tidy};
-ghost use Rattle.cil_blocks.specs.Contents.{Standing};
-ghost use Rattle.cil_blocks.specs.Places.{IsPlace, entries_in, numbered, spaces_in};
+ghost use Rattle.cil_blocks.specs.Places.{entries_in};
 ghost use Rattle.cil_macros.specs.Calls.{IsPlaced, placed_cmp};
 ghost use Rattle.cil_macros.specs.Macros.{all_standing};
-ghost use Rattle.cil_macros.specs.Placed.{Placed};
 ghost use Rattle.cil_macros.specs.Walks.{AreBrought, IsSource, called_by, placed_in, written_in};
 
-use crate::calls::{place_at, standing_place, unfolded_at};
+use crate::calls::{space_at, unfolded_at};
 use crate::chain::{Brought, keep_first, spot_of, standing_statement};
 use crate::entry::{Body, Called};
 use crate::source::Source;
-use cil_blocks::Place;
-use cil_blocks::scopes::scope_joined;
+use cil_blocks::ScopeList;
 use cil_blocks::walker::parts_at;
 use cil_modset::NoMemory;
 use indexmap::IndexMap;
@@ -38,47 +34,16 @@ pub fn walk(alloc: Global, source: &Source, limit: usize) -> Result<Option<Broug
         bodies: Vec::new(alloc),
         firsts: IndexMap::new(alloc),
     };
+    let mut scope = ScopeList::new(alloc);
     let mut at = 0;
     while at < standing + brought.called.len() {
         if standing + brought.called.len() > limit {
             return Ok(None);
         }
-        brought.open(alloc, source, at)?;
+        brought.open(alloc, source, at, &mut scope)?;
         at += 1;
     }
     Ok(Some(brought))
-}
-
-/// Where the statements of a macro are put by the call at a place: in the namespace of the call, and they see the place of the macro
-/// first.
-fn body_place(
-    alloc: Global,
-    source: &Source,
-    brought: &Brought,
-    at: usize,
-    called: usize,
-) -> Result<Place, NoMemory>
-    requires source { IsSource source.now }
-    requires brought { AreBrought source.now.spaces.now brought.now }
-    requires within { at < length (entries_in source.now.spaces.now) + length brought.now.called.items }
-    requires standing { called < length (entries_in source.now.spaces.now) }
-    ensures { IfOk result (λ place. (p : Placed) (m : Standing) → slice_get (placed_in source.now.spaces.now brought.now.called.items) at ≡ Some p
-        → slice_get (all_standing source.now.spaces.now) called ≡ Some m
-        → IsPlace (spaces_in source.now.spaces.now) p.standing.space (tidy (m.scope ++ p.standing.scope)) (numbered place)) }
-{
-    let call = place_at(source, brought, at);
-    let own = standing_place(source, called);
-    let namespaces = source.spaces.namespaces();
-    let scope = scope_joined(
-        alloc,
-        namespaces,
-        own.scope.as_slice(),
-        call.scope.as_slice(),
-    )?;
-    Ok(Place {
-        space: call.space,
-        scope,
-    })
 }
 
 impl Brought {
@@ -90,7 +55,13 @@ impl Brought {
     ghost use Rattle.cil_macros.specs.Walks.{AreBrought, IsSource, called_by, placed_in, written_in};
 
     /// Adds what the statement at a place opens: where it is a call that is unfolded, the statements directly in its macro.
-    fn open(&mut self, alloc: Global, source: &Source, at: usize) -> Result<(), NoMemory>
+    fn open(
+        &mut self,
+        alloc: Global,
+        source: &Source,
+        at: usize,
+        scope: &mut ScopeList,
+    ) -> Result<(), NoMemory>
         requires source { IsSource source.now }
         requires brought { AreBrought source.now.spaces.now self.old }
         requires within { at < length (entries_in source.now.spaces.now) + length self.old.called.items }
@@ -98,10 +69,10 @@ impl Brought {
         ensures opened { OnOk result ((p : Placed) → slice_get (placed_in source.now.spaces.now self.old.called.items) at ≡ Some p
             → placed_in source.now.spaces.now self.new.called.items ≡ placed_in source.now.spaces.now self.old.called.items ++ opens_placed (written_in source.now.spaces.now) (all_standing source.now.spaces.now) p) }
     {
-        let Some(called) = unfolded_at(source, self, at) else {
+        let Some(called) = unfolded_at(alloc, source, self, at, scope)? else {
             return Ok(());
         };
-        let place = body_place(alloc, source, self, at, called)?;
+        let space = space_at(source, self, at);
         let entries = source.spaces.entries();
         let number = standing_statement(entries, called);
         let body = self.bodies.len();
@@ -110,7 +81,7 @@ impl Brought {
         self.bodies.push(Body {
             call: at,
             called,
-            place,
+            space,
         })?;
         push_called(&mut self.called, parts_at(source.parts, number), at, body)?;
         Ok(())

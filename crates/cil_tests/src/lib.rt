@@ -7,6 +7,8 @@
 #![tactic(auto)]
 
 #[cfg(test)]
+mod block_faults;
+#[cfg(test)]
 mod blocks;
 #[cfg(test)]
 mod bodies;
@@ -42,6 +44,8 @@ mod module_sets;
 mod permission_words;
 #[cfg(test)]
 mod placed_words;
+#[cfg(test)]
+mod places;
 #[cfg(test)]
 mod policies;
 #[cfg(test)]

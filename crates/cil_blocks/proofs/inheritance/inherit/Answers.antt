@@ -6,7 +6,7 @@ use Rattle.cil_syntax.specs.Refusal.{Fails}
 use Rattle.cil_blocks.specs.declared.entry.Entry.{Entry}
 use Rattle.cil_blocks.specs.Entries.{AreOpened}
 use Rattle.cil_blocks.specs.InheritFaults.{InheritStep}
-use Rattle.cil_blocks.specs.Places.{ArePlaces, AreStandings, Standings, statements_in}
+use Rattle.cil_blocks.specs.Places.{ArePlaces, AreStandings, Standings, all_numbered, statements_in}
 use Rattle.cil_blocks.proofs.InheritLemmas.{are_contents, fails_so, is_none, is_some, no_more, over_so, refused}
 use Rattle.cil_blocks.proofs.inheritance.inherit.Goals as goal
 
@@ -31,7 +31,7 @@ returns c = (
       contents = are_contents c.statements-statements.result.now c.in-Some.entries.items (subst Rattle.cil_syntax.specs.Program.IsNested (sym c.statements-statements.ensures.same) c.statements-statements.ensures.nested)
           c.in_ok-check_blocks.ensures.1 (is_some _ c.in_ok-entries.field-0 c.in-Some.entries c.in-Some.is c.in_ok-entries.ensures.all)
           (is_some _ c.in_ok-entries.field-0 c.in-Some.entries c.in-Some.is c.in_ok-entries.ensures.few);
-      places = subst (λ (es : List Entry). ArePlaces (program_of c.statements-statements.result.now) es c.in_ok-located.located.namespaces c.in_ok-located.located.places)
+      places = subst (λ (es : List Entry). ArePlaces (program_of c.statements-statements.result.now) es c.in_ok-located.located.namespaces (all_numbered c.in_ok-located.located.namespaces c.in_ok-located.located.places))
           c.as_slice-4.ensures.value c.in_ok-located.ensures;
     },
   ),
@@ -53,6 +53,6 @@ invariant_of-result c = record {
   contents = are_contents c.statements-statements.result.now c.in-Some.entries.items (subst Rattle.cil_syntax.specs.Program.IsNested (sym c.statements-statements.ensures.same) c.statements-statements.ensures.nested)
       c.in_ok-check_blocks.ensures.1 (is_some _ c.in_ok-entries.field-0 c.in-Some.entries c.in-Some.is c.in_ok-entries.ensures.all)
       (is_some _ c.in_ok-entries.field-0 c.in-Some.entries c.in-Some.is c.in_ok-entries.ensures.few);
-  places = subst (λ (es : List Entry). ArePlaces (program_of c.statements-statements.result.now) es c.in_ok-located.located.namespaces c.in_ok-located.located.places)
+  places = subst (λ (es : List Entry). ArePlaces (program_of c.statements-statements.result.now) es c.in_ok-located.located.namespaces (all_numbered c.in_ok-located.located.namespaces c.in_ok-located.located.places))
       c.as_slice-4.ensures.value c.in_ok-located.ensures;
 }

@@ -1,7 +1,7 @@
 use Rattle.std.proofs.Common.{take}
 use Rattle.cil_syntax.specs.Program.{program_of}
-use Rattle.cil_blocks.specs.Placing.{AreFirstPlaces}
+use Rattle.cil_blocks.specs.Placing.{AreFirstReached}
 use Rattle.cil_blocks.proofs.places.places_of.Given as goal
 
 abbrev pub invariant-loop-rank : goal.invariant-loop-rank
-invariant-loop-rank l = AreFirstPlaces (program_of l.statements) (take l.rank l.entries) l.namespaces l.places
+invariant-loop-rank l = AreFirstReached (program_of l.statements) (take l.rank l.entries) l.namespaces l.places

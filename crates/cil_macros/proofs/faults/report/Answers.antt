@@ -43,14 +43,14 @@ returns-in_default-word_and_terms c = λ p e.
 pub report_if-requires : goal.report_if-requires
 report_if-requires c =
     let p = placed_there c.args.source.now.spaces.now c.args.brought.now.called.items c.args.at c.requires.within in
-    let h = (c.place_at.ensures p.0 p.1).is_space.within in
+    let h = (c.space_at.ensures p.0 p.1).within in
     let l = ap length c.namespaces.ensures in
     omega (arith, h, l)
 
 pub report_if-requires-2 : goal.report_if-requires-2
 report_if-requires-2 c =
     let p = placed_there c.args.source.now.spaces.now c.args.brought.now.called.items c.args.at c.requires.within in
-    let h = (c.place_at.ensures p.0 p.1).is_space.within in
+    let h = (c.space_at.ensures p.0 p.1).within in
     let l = ap length c.namespaces.ensures in
     omega (arith, h, l)
 
@@ -61,10 +61,10 @@ returns c = λ p e.
     c.entries.ensures.same c.as_slice.ensures.value c.statement_at-number.ensures p e in
     let there = ap (λ (ss : List Statement). slice_get ss c.statement_at-number.result) (sym c.statements.ensures)
     ∙ there_as c.statements.result.now c.statement_at-number.result c.in-Some.statement.now c.in-Some.ensures.lookup.3.0 c.in-Some.ensures.lookup.1 in
-    both_told (written_in s) (all_standing s) p c.args.faults.now.items c.report_if.new.faults.items c.report_if-2.new.faults.items c.wrong_at-wrong.result
-    (space_at c.namespaces.result.now c.place_at.result.now.space) c.in-Some-word_and_terms.front.word
-    (c.wrong_at-wrong.ensures p e)
-    (ap (λ (ns : List Space). space_at ns c.place_at.result.now.space) c.namespaces.ensures ∙ (c.place_at.ensures p e).is_space.is)
+    both_told (written_in s) (all_standing s) p c.args.faults.now.items c.report_if.new.faults.items c.report_if-2.new.faults.items c.in_ok-wrong.wrong
+    (space_at c.namespaces.result.now c.space_at.result) c.in-Some-word_and_terms.front.word
+    (c.in_ok-wrong.ensures p e)
+    (ap (λ (ns : List Space). space_at ns c.space_at.result) c.namespaces.ensures ∙ (c.space_at.ensures p e).is)
     (ap (λ (w : Written). first_word w.statement.args) is
     ∙ ap first_word (args_some (statements_in s) c.requires.source.standings.contents.nested c.statement_at-number.result c.in-Some.statement.now there)
     ∙ ap (λ ts. first_word (all_said c.in-Some.statement.now.at.«module» ts)) (sym c.as_slice-2.ensures.value)

@@ -7,7 +7,7 @@ pub invariant_of-self : goal.invariant_of-self
 invariant_of-self c =
     let so = c.self.invariant in
     chosen_more c.self.inside.kept.items c.self.inside.which c.push.new.self c.in-Some.which so
-    (so.below c.in-Some.which (get_contains c.self.inside.which c.args.rank c.in-Some.which (sym c.in-Some.ensures))) c.in_ok-push.ensures.pushed
+    (so.upto c.in-Some.which (get_contains c.self.inside.which c.args.rank c.in-Some.which (sym c.in-Some.ensures))) c.in_ok-push.ensures.pushed
 
 pub returns-in_ok-push : goal.returns-in_ok-push
 returns-in_ok-push c = λ p e.

@@ -11,29 +11,23 @@ use Rattle.cil_blocks.specs.Places.{entries_in}
 use Rattle.cil_blocks.proofs.EntryLemmas.{standings_length}
 use Rattle.cil_macros.specs.Macros.{all_standing}
 use Rattle.cil_macros.specs.Walks.{called_by, placed_in, written_in}
-use Rattle.cil_macros.proofs.CallLemmas.{placed_there, unfolded_below}
+use Rattle.cil_macros.proofs.CallLemmas.{not_unfolded, placed_there, unfolded_below, unfolded_is}
 use Rattle.cil_macros.proofs.EntryLemmas.{opens_nothing}
 use Rattle.cil_macros.proofs.FirstLemmas.{firsts_opened}
-use Rattle.cil_macros.proofs.WalkLemmas.{bodies_opened, placed_opened, places_opened}
+use Rattle.cil_macros.proofs.WalkLemmas.{bodies_opened, placed_opened, spaces_opened}
 use Rattle.cil_macros.proofs.chain.Brought.open.Goals as goal
 
 pub returns-in_default-clause-opened : goal.returns-in_default-clause-opened
 returns-in_default-clause-opened c = λ p e.
     let s = c.args.source.now.spaces.now in
     let old = placed_in s c.args.self.now.called.items in
-    sym (append-nil old) ∙ ap (λ xs. old ++ xs) (sym (opens_nothing (written_in s) (all_standing s) p (c.in_default.ensures p e)))
-
-pub body_place-requires-clause-standing : goal.body_place-requires-clause-standing
-body_place-requires-clause-standing c =
-    let s = c.args.source.now.spaces.now in
-    let p = placed_there s c.args.self.now.called.items c.args.at c.requires.within in
-    unfolded_below s p.0 c.in-Some.called (c.in-Some.ensures p.0 p.1)
+    sym (append-nil old) ∙ ap (λ xs. old ++ xs) (sym (opens_nothing (written_in s) (all_standing s) p (not_unfolded s c.args.self.now.called.items c.args.at c.in_ok-called.field-0 c.in_default.is c.in_ok-called.ensures p e)))
 
 pub standing_statement-number-requires : goal.standing_statement-number-requires
 standing_statement-number-requires c =
     let s = c.args.source.now.spaces.now in
     let p = placed_there s c.args.self.now.called.items c.args.at c.requires.within in
-    let h = unfolded_below s p.0 c.in-Some.called (c.in-Some.ensures p.0 p.1) in
+    let h = unfolded_below s p.0 c.in-Some.called (unfolded_is s c.args.self.now.called.items c.args.at c.in_ok-called.field-0 c.in-Some.called c.in-Some.is c.in_ok-called.ensures p.0 p.1) in
     let l = ap length c.entries-entries.ensures.same in
     omega (arith, h, l)
 
@@ -41,7 +35,7 @@ pub spot_of-spot-requires-clause-within : goal.spot_of-spot-requires-clause-with
 spot_of-spot-requires-clause-within c =
     let s = c.args.source.now.spaces.now in
     let p = placed_there s c.args.self.now.called.items c.args.at c.requires.within in
-    let h = unfolded_below s p.0 c.in-Some.called (c.in-Some.ensures p.0 p.1) in
+    let h = unfolded_below s p.0 c.in-Some.called (unfolded_is s c.args.self.now.called.items c.args.at c.in_ok-called.field-0 c.in-Some.called c.in-Some.is c.in_ok-called.ensures p.0 p.1) in
     let l = ap length c.entries-entries.ensures.same in
     omega (arith, h, l)
 
@@ -51,21 +45,21 @@ returns-clause-brought c =
     let cs = c.args.self.now.called.items in
     let bs = c.args.self.now.bodies.items in
     let p = placed_there s cs c.args.at c.requires.within in
-    let u = c.in-Some.ensures p.0 p.1 in
+    let u = unfolded_is s c.args.self.now.called.items c.args.at c.in_ok-called.field-0 c.in-Some.called c.in-Some.is c.in_ok-called.ensures p.0 p.1 in
     let range = c.requires.within in
     let l = standings_length (written_in s) (entries_in s) in
     record {
-      bodies = bodies_opened s cs bs c.args.at c.in-Some.called p.0 p.1 u c.requires.within c.in_ok-place.place c.parts_at.result.now c.len-body.result _ _
+      bodies = bodies_opened s cs bs c.args.at c.in-Some.called p.0 p.1 u c.requires.within c.space_at-space.result c.parts_at.result.now c.len-body.result _ _
           c.requires.brought.bodies (c.len-body.ensures ∙ c.args.self.now.bodies.ok.0) c.in_ok-push_called.ensures c.in_ok-push.ensures.items;
       firsts = firsts_opened (written_in s) (all_standing s) c.args.self.now _ c.requires.brought.bodies c.requires.brought.firsts
-          (record { call = c.args.at; called = c.in-Some.called; place = c.in_ok-place.place }) u.opened.macro u.at (omega (arith, range, l))
+          (record { call = c.args.at; called = c.in-Some.called; space = c.space_at-space.result }) u.opened.macro u.at (omega (arith, range, l))
           (map (called_by c.args.at c.len-body.result) c.parts_at.result.now) c.in_ok-push_called.ensures c.in_ok-push.ensures.items
           c.spot_of-spot.result
           (c.spot_of-spot.ensures u.opened.macro (ap (λ (es : List Entry). slice_get (standings_of (program_of c.statements.result.now) es) c.in-Some.called) c.entries-entries.ensures.same
           ∙ ap (λ (xs : List Statement). slice_get (standings_of (program_of xs) (entries_in s)) c.in-Some.called) c.statements.ensures ∙ u.at))
           c.len-body.result (c.len-body.ensures ∙ c.args.self.now.bodies.ok.0) c.in_ok-keep_first.ensures;
-      places = places_opened s cs bs c.args.at c.in-Some.called p.0 p.1 u c.requires.within c.in_ok-place.place c.parts_at.result.now c.len-body.result _ _
-          c.requires.brought.bodies c.requires.brought.places c.in_ok-place.ensures (c.len-body.ensures ∙ c.args.self.now.bodies.ok.0) c.in_ok-push_called.ensures c.in_ok-push.ensures.items;
+      spaces = spaces_opened s cs bs c.args.at c.in-Some.called p.0 p.1 u c.requires.within c.space_at-space.result c.parts_at.result.now c.len-body.result _ _
+          c.requires.brought.bodies c.requires.brought.spaces c.space_at-space.ensures (c.len-body.ensures ∙ c.args.self.now.bodies.ok.0) c.in_ok-push_called.ensures c.in_ok-push.ensures.items;
     }
 
 pub returns-clause-opened : goal.returns-clause-opened
@@ -73,7 +67,7 @@ returns-clause-opened c = λ p e.
     let s = c.args.source.now.spaces.now in
     let cs = c.args.self.now.called.items in
     let bs = c.args.self.now.bodies.items in
-    placed_opened s cs bs c.args.at c.in-Some.called p e (c.in-Some.ensures p e) c.requires.within c.args.source.now.parts.now c.requires.source.parts
+    placed_opened s cs bs c.args.at c.in-Some.called p e (unfolded_is s c.args.self.now.called.items c.args.at c.in_ok-called.field-0 c.in-Some.called c.in-Some.is c.in_ok-called.ensures p e) c.requires.within c.args.source.now.parts.now c.requires.source.parts
     c.standing_statement-number.result c.len-body.result c.parts_at.result.now _
     (subst (λ (es : List Entry). (ws : List Written) (m : Standing) → slice_get (standings_of ws es) c.in-Some.called ≡ Some m → m.statement ≡ statement_at ws c.standing_statement-number.result)
     c.entries-entries.ensures.same c.standing_statement-number.ensures)

@@ -1,0 +1,113 @@
+-- The scope of what a call brings: those of the macros round it, the innermost first, and then that of the call that stands.
+use Rattle.std.proofs.Common.{◌≡◌, ◌⊎◌, ◌==◌, ℕ, ◌+◌, ◌<◌, ◌≤◌, false, List, [], ◌∷◌, ◌++◌, length, map, refl, sym, ◌∙◌, ap, subst, inl, inr, arith}
+use Rattle.std.specs.Prelude.{Some, slice_get}
+use Rattle.std.specs.List.{list_any}
+use Rattle.cil_sexpr.specs.Lists.{contains_none}
+use Rattle.cil_sexpr.specs.Places.{some_same}
+use Rattle.cil_syntax.specs.Scopes.{Scope, apart, tidy}
+use Rattle.cil_blocks.specs.declared.namespaces.Space.{Space}
+use Rattle.cil_blocks.specs.Contents.{Standing}
+use Rattle.cil_blocks.specs.Namespaces.{AreNamespaces, space_at}
+use Rattle.cil_blocks.specs.Numbers.{with_numbers}
+use Rattle.cil_blocks.specs.Places.{AreStandings, Numbered, Standings, entries_in, places_in, spaces_in}
+use Rattle.cil_blocks.proofs.NumberLemmas.{all_apart, all_pushed, all_within, closed, closed_within}
+use Rattle.cil_blocks.proofs.OnceLemmas.{more_numbers, no_global, scope_again}
+use Rattle.cil_macros.specs.declared.entry.Body.{Body}
+use Rattle.cil_macros.specs.declared.entry.Called.{Called}
+use Rattle.cil_macros.specs.Calls.{placed_called}
+use Rattle.cil_macros.specs.Entries.{IsBodyAt}
+use Rattle.cil_macros.specs.Macros.{all_standing}
+use Rattle.cil_macros.specs.Placed.{Placed}
+use Rattle.cil_macros.specs.Walks.{IsScope, placed_in, written_in}
+use Rattle.cil_macros.proofs.CallLemmas.{placed_there, stood_at}
+
+-- the numbers of one scope, and behind them those of another one
+joined_scope : (ss : List Space) → AreNamespaces ss → (k l : Scope) (ms ns : List ℕ) → IsScope ss k ms → IsScope ss l ns
+    → IsScope ss (tidy (k ++ l)) (with_numbers (with_numbers [] ms) ns ++ 0 ∷ [])
+joined_scope ss are k l ms ns one other =
+    let first = all_within ss ms [] one.within (λ m c. absurd (contains_none m c)) in
+    record {
+      within = closed_within ss (with_numbers (with_numbers [] ms) ns) (all_within ss ns (with_numbers [] ms) other.within first);
+      is = closed ss are (with_numbers (with_numbers [] ms) ns) (k ++ l)
+          (all_apart ss are ns (with_numbers [] ms) (map (space_at ss) ms) other.within first (all_pushed ss are ms [] (with_numbers [] ms) refl refl one.within)
+          ∙ ap (λ (s : Scope). apart (s ++ map (space_at ss) ns)) one.is ∙ ap (λ (s : Scope). apart (k ++ s)) other.is);
+    }
+
+-- the same where there are others in front of both
+joined_behind : (cur ms ns : List ℕ) → with_numbers cur (with_numbers (with_numbers [] ms) ns ++ 0 ∷ []) ≡ with_numbers (with_numbers cur ms) ns
+joined_behind cur ms ns =
+    ap (λ ks. with_numbers cur (ks ++ 0 ∷ [])) (sym (more_numbers [] ms ns)) ∙ scope_again cur (ms ++ ns) ∙ more_numbers cur ms ns
+
+module _ (s : Standings) (cs : List Called) (at : ℕ) where
+  -- what is left of the scope of what is placed there: that of another place comes behind what is there
+  abbrev IsBehind : ℕ → List ℕ → Type 0
+  IsBehind place cur =
+      (p q : Placed) (ns : List ℕ) → slice_get (placed_in s cs) at ≡ Some p → slice_get (placed_in s cs) place ≡ Some q → IsScope (spaces_in s) q.standing.scope ns
+      → IsScope (spaces_in s) p.standing.scope (with_numbers cur ns ++ 0 ∷ [])
+
+  pub record IsLeft (place : ℕ) (cur : List ℕ) : Type 0 where
+    pub within : place < length (entries_in s) + length cs
+    pub unclosed : list_any (λ k. 0 == k) cur ≡ false
+    pub so : ((place ≡ at) × (cur ≡ [])) ⊎ IsBehind place cur
+
+module _ (s : Standings) (are : AreStandings s) (spaces : AreNamespaces (spaces_in s)) (cs : List Called) where
+  -- the numbers of the scope of what stands
+  pub standing_scope : (k : ℕ) (m : Standing) → slice_get (all_standing s) k ≡ Some m → (p : Numbered) × (slice_get (places_in s) k ≡ Some p) × IsScope (spaces_in s) m.scope p.1
+  standing_scope k m e =
+      let x = are.places k m e in
+      (x.place, x.is, record { within = x.so.within; is = x.so.is_scope })
+
+  module _ (at : ℕ) where
+    pub begun_left : (none : List ℕ) → none ≡ [] → at < length (entries_in s) + length cs → IsLeft s cs at at none
+    begun_left none e h = record { within = h; unclosed = ap (list_any (λ k. 0 == k)) e; so = inl (refl, e) }
+
+    -- the scope of the macro of a body
+    module _ (place : ℕ) (b : Body) (x : IsBodyAt (written_in s) (all_standing s) cs place b) (cur new : List ℕ)
+        (added : (p : Numbered) → slice_get (places_in s) b.called ≡ Some p → new ≡ with_numbers cur p.1) where
+      added_at : (p q : Placed) (ns : List ℕ) → slice_get (placed_in s cs) place ≡ Some p → slice_get (placed_in s cs) b.call ≡ Some q → IsScope (spaces_in s) q.standing.scope ns
+          → (ms : List ℕ) × (new ≡ with_numbers cur ms) × IsScope (spaces_in s) p.standing.scope (with_numbers (with_numbers [] ms) ns ++ 0 ∷ [])
+      added_at p q ns e f is =
+          let (n, at_n, scope) = standing_scope b.called x.so.opened.macro x.so.is_macro in
+          let same = some_same p (placed_called x.so.call x.so.opened x.statement) (sym e ∙ x.placed) in
+          let call = some_same q x.so.call (sym f ∙ x.so.is_call) in (
+            n.1,
+            added n at_n,
+            subst (λ (r : Placed). IsScope (spaces_in s) r.standing.scope (with_numbers (with_numbers [] n.1) ns ++ 0 ∷ [])) (sym same)
+                (joined_scope (spaces_in s) spaces x.so.opened.macro.scope x.so.call.standing.scope n.1 ns scope
+                (subst (λ (r : Placed). IsScope (spaces_in s) r.standing.scope ns) call is)),
+          )
+
+      behind_by : place < length (entries_in s) + length cs → ((place ≡ at) × (cur ≡ [])) ⊎ IsBehind s cs at place cur → IsBehind s cs at b.call new
+      behind_by h (inl (here, none)) = λ p q ns e f is.
+          let (ms, e2, scope) = added_at p q ns (ap (slice_get (placed_in s cs)) here ∙ e) f is in
+          subst (λ (ks : List ℕ). IsScope (spaces_in s) p.standing.scope (with_numbers ks ns ++ 0 ∷ [])) (sym (e2 ∙ ap (λ ks. with_numbers ks ms) none)) scope
+      behind_by h (inr so) = λ p q ns e f is.
+          let (r, there) = placed_there s cs place h in
+          let (ms, e2, scope) = added_at r q ns there f is in
+          subst (λ (ks : List ℕ). IsScope (spaces_in s) p.standing.scope (ks ++ 0 ∷ [])) (joined_behind cur ms ns ∙ ap (λ ks. with_numbers ks ns) (sym e2))
+          (so p r (with_numbers (with_numbers [] ms) ns ++ 0 ∷ []) e there scope)
+
+      pub added_left : IsLeft s cs at place cur → IsLeft s cs at b.call new
+      added_left l =
+          let before = x.before in
+          let h = l.within in
+          let (n, at_n, scope) = standing_scope b.called x.so.opened.macro x.so.is_macro in
+          record {
+            within = omega (arith, before, h);
+            unclosed = ap (list_any (λ k. 0 == k)) (added n at_n) ∙ no_global n.1 cur ∙ l.unclosed;
+            so = inr (behind_by h l.so);
+          }
+
+    -- at last the scope of the call that stands
+    pub left_closed : (place : ℕ) (cur more new : List ℕ) → length (entries_in s) ≤ at → place < length (entries_in s) → IsLeft s cs at place cur
+        → ((p : Numbered) → slice_get (places_in s) place ≡ Some p → more ≡ with_numbers cur p.1) → (list_any (λ k. 0 == k) more ≡ false → new ≡ more ++ 0 ∷ [])
+        → (p : Placed) → slice_get (placed_in s cs) at ≡ Some p → IsScope (spaces_in s) p.standing.scope new
+    left_closed place cur more new behind stands l added close p e =
+        let (q, there) = placed_there s cs place l.within in
+        let (m, at_m, is) = stood_at s cs place stands q there in
+        let (n, at_n, scope) = standing_scope place m at_m in
+        let all = added n at_n in
+        let so : IsBehind s cs at place cur = elim l.so [ inl first ↦ absurd (let f = first.0 in omega (arith, f, behind, stands)) | inr so ↦ so ] in
+        subst (IsScope (spaces_in s) p.standing.scope)
+        (ap (λ (ks : List ℕ). ks ++ 0 ∷ []) (sym all) ∙ sym (close (ap (list_any (λ k. 0 == k)) all ∙ no_global n.1 cur ∙ l.unclosed)))
+        (so p q n.1 e there (subst (λ (r : Placed). IsScope (spaces_in s) r.standing.scope n.1) (sym is) scope))
