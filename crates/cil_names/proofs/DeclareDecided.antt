@@ -14,7 +14,7 @@ use Rattle.cil_syntax.specs.Terms.{Term, Leaf, Name, Form, Terms, nil, cons}
 use Rattle.cil_syntax.specs.Scopes.{Namespace}
 use Rattle.cil_names.specs.Declarations.{Bare, Declaration}
 use Rattle.cil_syntax.specs.Kinds.{kind_number}
-use Rattle.cil_names.proofs.KindLemmas.{one_kind, same_kind}
+use Rattle.cil_syntax.proofs.KindLemmas.{one_kind, same_kind}
 
 abbrev pub Decided : Type 0 → Type 0
 Decided A = A ⊎ (A → ⊥)

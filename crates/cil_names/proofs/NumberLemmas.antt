@@ -26,7 +26,7 @@ use Rattle.cil_names.specs.Numbers.{AreNumbers, IsNameAmong, has_section, is_of,
 use Rattle.cil_syntax.specs.Kinds.{kind_number}
 use Rattle.cil_names.proofs.AnswerLemmas.{none_where}
 use Rattle.cil_names.proofs.CandidateLemmas.{place_is, place_none, place_some}
-use Rattle.cil_names.proofs.KindLemmas.{one_kind, same_kind}
+use Rattle.cil_syntax.proofs.KindLemmas.{one_kind, same_kind}
 use Rattle.cil_names.proofs.ScopeLemmas.{cut, passed_on}
 use Rattle.cil_names.proofs.SearchLemmas.{member_of_number, number_of_member}
 
