@@ -56,6 +56,9 @@ module _ {X : Type 0} where
   pub there_as : (xs : List X) (k : ℕ) (x : X) → k < length xs → x ≡ get_or xs k x → slice_get xs k ≡ Some x
   there_as xs k x h e = is_there xs k x h ∙ ap Some (sym e)
 
+  pub contains_at : (xs : List X) (k : ℕ) (x d : X) → k < length xs → x ≡ get_or xs k d → Contains xs x
+  contains_at xs k x d h e = get_contains xs k x (is_there xs k d h ∙ ap Some (sym e))
+
   pub not_there : (xs : List X) (k : ℕ) → length xs ≤ k → slice_get xs k ≡ None
   not_there [] k h = refl
   not_there (x ∷ xs) zero h = absurd (omega (arith, h))

@@ -6,7 +6,7 @@ use Rattle.std.specs.List.Sorted.{IsStrictlySortedBy}
 use Rattle.std.proofs.lemmas.List.Elements.{Contains-append_cases}
 use Rattle.cil_sexpr.specs.Lists.{contains_here, contains_later, contains_cases, contains_none, all_at}
 use Rattle.cil_sexpr.specs.Paths.{below_by}
-use Rattle.cil_sexpr.specs.Rising.{rising_join}
+use Rattle.cil_sexpr.specs.Rising.{rising_in_front, rising_join, rising_nothing}
 use Rattle.cil_sexpr.specs.Tree.{span_of}
 use Rattle.cil_syntax.specs.declared.kind.Dialect.{Dialect}
 use Rattle.cil_syntax.specs.declared.term.Spot.{Spot}
@@ -14,7 +14,7 @@ use Rattle.cil_syntax.specs.Standpoints.{Standpoint, stated_by, all_stated}
 use Rattle.cil_syntax.specs.Written.{Written, Verdict, Refused, Shaped, verdict_in, written_cmp}
 use Rattle.cil_syntax.proofs.FoundList.{place_order}
 use Rattle.cil_syntax.proofs.PlacesApart.{start_of}
-use Rattle.cil_syntax.proofs.StatementOrder.{place_first, rising_in_front, rising_nothing, stands_at}
+use Rattle.cil_syntax.proofs.StatementOrder.{place_first, stands_at}
 
 module _ (d : Dialect) (m : ℕ) where
   -- a statement of some nodes stands where one of them begins
