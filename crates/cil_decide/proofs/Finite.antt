@@ -7,7 +7,7 @@ use Rattle.std.specs.declared.cmp.Ordering.{Ordering}
 use Rattle.std.specs.declared.cmp.Ordering.TheVariants.{Equal}
 use Rattle.std.specs.Cmp.{IsTotalOrder}
 use Rattle.cil_sexpr.specs.Lists.{contains_here, contains_later, contains_cases, contains_none}
-use Rattle.cil_sexpr.specs.Decided.{Decided, decided_both, decided_not, decided_same}
+use Rattle.cil_sexpr.specs.Decided.{Decided, decided_same}
 use Rattle.cil_syntax.specs.Listing.{Listing, listing_of}
 
 -- all members of a set

@@ -2,14 +2,14 @@
 use Rattle.std.specs.Prelude.{Contains, ◌&&◌}
 use Rattle.std.specs.Cmp.Lexicographic.{bytes_decides}
 use Rattle.std.specs.List.{list_any, flat_map}
-use Rattle.std.proofs.Common.{◌≡◌, ◌⊎◌, ℕ, zero, suc, ◌<◌, true, false, List, [], length, refl, sym, ◌∙◌, ap, subst, inl, inr, arith}
+use Rattle.std.proofs.Common.{◌≡◌, ◌⊎◌, ℕ, ◌<◌, true, false, List, [], length, refl, sym, ap, subst, inl, inr, arith}
 use Rattle.std.proofs.lemmas.Bool.{and_parts, cases_lt}
 use Rattle.std.proofs.lemmas.Cmp.{nat_list_cmp_total}
 use Rattle.std.proofs.lemmas.Map.Lookups.{exact_bytes}
 use Rattle.cil_sexpr.specs.Lists.{Lists, text_cmp, one_list}
 use Rattle.cil_sexpr.specs.MadeLists.{contains_flat}
 use Rattle.cil_sexpr.specs.Searches.{any_true}
-use Rattle.cil_sexpr.specs.Decided.{Decided, decided_both, decided_not, decided_same, same_bool, same_number, same_text}
+use Rattle.cil_sexpr.specs.Decided.{Decided, decided_both, decided_not, decided_same, same_bool, same_text}
 use Rattle.cil_syntax.specs.declared.code.FaultCode.TheVariants as causes
 use Rattle.cil_syntax.specs.declared.fault.Fault.{Fault}
 use Rattle.cil_syntax.specs.declared.kind.Keyword.TheVariants as keywords
@@ -22,7 +22,7 @@ use Rattle.cil_syntax.specs.Terms.{Name, cons}
 use Rattle.cil_syntax.specs.Reported.{fault_at}
 use Rattle.cil_syntax.proofs.DecidedEquality.{keyword_is, same_namespace}
 use Rattle.cil_names.proofs.DeclareDecided.{same_declaration, same_name_space}
-use Rattle.cil_names.specs.Declarations.{Declaration, declared_by, IsDeclaration, NameSpace, of_types, of_roles, of_users, of_classes, of_blocks, name_space, Clash, Symbol}
+use Rattle.cil_names.specs.Declarations.{Declaration, declared_by, IsDeclaration, name_space, Clash, Symbol}
 use Rattle.cil_decide.specs.Faults.{ClassFault, wide}
 use Rattle.cil_names.specs.Faults.{ClashFault, clash, ResolveFault, unresolved}
 use Rattle.cil_names.specs.Item.{Item, OptSet, everybody, nobody, is_enabled}

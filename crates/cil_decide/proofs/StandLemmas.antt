@@ -1,20 +1,15 @@
 -- What a word stands for, by the entry that it means.
-use Rattle.std.proofs.Common.{◌≡◌, ℕ, ◌&&◌, true, List, get_or, refl, sym, ◌∙◌, ap, subst}
+use Rattle.std.proofs.Common.{◌≡◌, ℕ, true, List, get_or, refl, sym, ◌∙◌, ap, subst}
 use Rattle.std.specs.Prelude.{Option, Some, None, slice_get}
-use Rattle.std.specs.Cmp.Lexicographic.{bytes_decides, pointwise_decides}
-use Rattle.std.proofs.lemmas.Bool.{and_from, and_parts}
 use Rattle.std.proofs.lemmas.Option.{none-some, same_Some}
 use Rattle.cil_syntax.specs.declared.kind.Kind.{Kind}
-use Rattle.cil_syntax.specs.declared.kind.Sign.{Sign}
-use Rattle.cil_syntax.specs.Spelling.{same_bytes}
-use Rattle.cil_syntax.specs.Scopes.{Namespace, asked, same_space, ScopedWord}
+use Rattle.cil_syntax.specs.Scopes.{asked, ScopedWord}
 use Rattle.cil_names.proofs.CandidateLemmas.{parts_of, they_are}
 use Rattle.cil_names.proofs.DeclareDecided.{symbol_by}
 use Rattle.cil_names.specs.declared.entry.Entry.{Entry}
 use Rattle.cil_names.specs.declared.instance.Instance.{Instance}
-use Rattle.cil_names.specs.declared.space.Space.{Space}
 use Rattle.cil_names.specs.Declarations.{Symbol, name_of}
-use Rattle.cil_names.specs.Entries.{IsAnswer, IsNamed, is_declared_in, is_entry_of}
+use Rattle.cil_names.specs.Entries.{IsAnswer, IsNamed, is_declared_in}
 use Rattle.cil_names.specs.Laws.{MeansWhatItNames}
 use Rattle.cil_names.specs.Numbers.{has_section, symbol_of}
 use Rattle.cil_names.specs.Resolves.{found_in}

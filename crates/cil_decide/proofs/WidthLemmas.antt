@@ -15,7 +15,6 @@ use Rattle.cil_sexpr.specs.Rising.{rising_nothing}
 use Rattle.cil_syntax.specs.declared.code.FaultCode.TheVariants as causes
 use Rattle.cil_syntax.specs.declared.fault.Bytes.{Bytes}
 use Rattle.cil_syntax.specs.declared.fault.Fault.{Fault}
-use Rattle.cil_syntax.specs.declared.kind.Keyword.TheVariants as keywords
 use Rattle.cil_syntax.specs.declared.kind.Kind.TheVariants as kinds
 use Rattle.cil_syntax.specs.declared.kind.Sign.TheVariants as signs
 use Rattle.cil_syntax.specs.declared.term.Spot.{Spot}
@@ -26,7 +25,6 @@ use Rattle.cil_syntax.specs.Table.{entry_of}
 use Rattle.cil_syntax.specs.Terms.{Leaf, Name, Form, Terms, nil, cons}
 use Rattle.cil_syntax.specs.Reported.{fault_at}
 use Rattle.cil_syntax.specs.Scopes.{same_space, ScopedWord}
-use Rattle.std.proofs.lemmas.Option.{same_Some}
 use Rattle.cil_syntax.specs.Forms.{DeclaresClass, DeclaresNoClass}
 use Rattle.cil_names.proofs.PermissionLemmas.{class_declared, class_declares}
 use Rattle.cil_names.proofs.CandidateLemmas.{they_are}
@@ -46,12 +44,10 @@ use Rattle.cil_decide.specs.Table.{most_permissions}
 use Rattle.cil_decide.specs.Widths.{IsWide}
 use Rattle.std.specs.Cmp.Lexicographic.{pointwise_decides}
 use Rattle.std.specs.List.Sorted.{IsStrictlySortedBy}
-use Rattle.std.specs.Option.{option_map_or, unwrap_or}
+use Rattle.std.specs.Option.{option_map_or}
 use Rattle.std.specs.Prelude.{Option}
 use Rattle.std.proofs.Common.{◌&&◌}
-use Rattle.std.proofs.lemmas.Bool.{and_from, and_parts}
-use Rattle.std.proofs.lemmas.List.Elements.{Contains-get_or}
-use Rattle.cil_names.specs.Placed.{ArePlaced, IsPlaced}
+use Rattle.std.proofs.lemmas.Bool.{and_parts}
 
 -- ---- the permissions that are listed for an entry
 

@@ -2,7 +2,7 @@
 use Rattle.std.specs.Prelude.{◌⊎◌, Contains, Some, slice_get, if◌then◌else◌}
 use Rattle.std.specs.List.{flat_map, list_all}
 use Rattle.std.specs.Option.{unwrap_or}
-use Rattle.std.proofs.Common.{◌≡◌, ℕ, zero, suc, Bool, true, false, List, [], ◌∷◌, refl, sym, ◌∙◌, ap, subst, inl, inr}
+use Rattle.std.proofs.Common.{◌≡◌, ℕ, Bool, true, false, List, [], ◌∷◌, refl, sym, ◌∙◌, ap, subst, inl, inr}
 use Rattle.std.proofs.lemmas.Bool.{true≢false}
 use Rattle.cil_sexpr.specs.Lists.{contains_here, contains_later, contains_cases, contains_none}
 use Rattle.cil_sexpr.specs.MadeLists.{contains_flat, contains_map, from_flat, from_map}
@@ -21,7 +21,7 @@ use Rattle.cil_names.specs.declared.instance.Instance.{Instance}
 use Rattle.cil_names.specs.declared.row.Row.{Row}
 use Rattle.cil_names.specs.declared.run.Run.{Run}
 use Rattle.cil_names.specs.declared.space.Space.{Space}
-use Rattle.cil_names.specs.Declarations.{Declaration, NameSpace, declared_by, name_space, of_classes, of_blocks, of_roles, of_types, of_users}
+use Rattle.cil_names.specs.Declarations.{Declaration, declared_by, name_space}
 use Rattle.cil_names.specs.DeclareRows.{TellsDiffering, all_rows, declaration_of, is_row_enabled, object_row, round_at, row_key, rows_by, rows_named}
 use Rattle.cil_names.specs.DeclareRuns.{faults_at, faults_named, row_faults, run_faults, run_key}
 use Rattle.cil_names.specs.Entries.{Key, item_of, items_of, key_cmp, rank}

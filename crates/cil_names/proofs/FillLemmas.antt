@@ -3,7 +3,6 @@ use Rattle.std.specs.Prelude.{Contains, if◌then◌else◌, not, ◌&&◌}
 use Rattle.std.specs.List.{flat_map}
 use Rattle.std.proofs.Common.{◌≡◌, ℕ, ◌+◌, ◌<◌, true, false, List, [], ◌∷◌, ◌++◌, length, drop, get_or, refl, sym, ◌∙◌, ap, subst, inl, inr}
 use Rattle.std.proofs.lemmas.Bool.{and_parts, and_from, cases_Bool, not-true}
-use Rattle.std.proofs.lemmas.List.Elements.{Contains-get_or}
 use Rattle.cil_sexpr.specs.Lists.{contains_cases, contains_here, contains_none}
 use Rattle.cil_sexpr.specs.MadeLists.{contains_flat, contains_map, from_flat, from_map}
 use Rattle.cil_sexpr.specs.Places.{contains_at}
