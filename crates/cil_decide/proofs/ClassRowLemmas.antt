@@ -1,11 +1,12 @@
 -- The rows of the classes, from the entries of their names.
 use Rattle.std.specs.Prelude.{Some, None, nat_eq, slice_get}
 use Rattle.std.specs.Global.{Vec}
-use Rattle.std.specs.Option.{option_map, unwrap_or}
-use Rattle.std.proofs.Common.{◌≡◌, ◌⊎◌, ℕ, zero, suc, ◌+◌, ◌<◌, ◌≤◌, true, false, List, [], ◌∷◌, ◌++◌, map, length, take, get_or, set, refl, sym, ◌∙◌, ap, subst, inl, inr, arith}
+use Rattle.std.specs.Option.{option_map}
+use Rattle.std.proofs.Common.{◌≡◌, ℕ, ◌+◌, ◌<◌, ◌≤◌, true, false, List, [], ◌∷◌, ◌++◌, map, length, take, get_or, set, refl, sym, ◌∙◌, ap, subst, inl, inr, arith}
 use Rattle.std.proofs.lemmas.Bool.{and_from, and_parts, cases_eq, true≢false}
-use Rattle.std.proofs.lemmas.List.{take_more, take_all, map-append, length-append, length-map, length-set, length-take-le, get_or-set_same, get_or-set_other}
-use Rattle.std.proofs.lemmas.Option.{slice_get-get_or, slice_get-map, slice_get_within, get_or_from_slice_get}
+use Rattle.std.proofs.lemmas.List.{take_more, take_all, map-append, length-append, length-map, length-take-le}
+use Rattle.std.proofs.lemmas.Option.{get_or_from_slice_get, same_Some, slice_get-map, slice_get_within}
+use Rattle.cil_sexpr.specs.Places.{at_or_last, get_at, get_contains, get_set_other, get_set_same}
 use Rattle.cil_syntax.specs.declared.fault.Bytes.{Bytes}
 use Rattle.cil_syntax.specs.declared.kind.Kind.{Kind}
 use Rattle.cil_syntax.specs.declared.kind.Kind.TheVariants as kinds
@@ -17,13 +18,9 @@ use Rattle.cil_names.specs.Item.{OptSet}
 use Rattle.cil_names.specs.Numbers.{AreApart, AreNumbers, has_section, is_of, names_of, spelled_of}
 use Rattle.cil_syntax.specs.Kinds.{kind_number}
 use Rattle.cil_names.specs.Unresolved.{listed_at}
-use Rattle.cil_names.proofs.SearchLemmas.{member_of_number, number_of_member}
 use Rattle.cil_decide.specs.ClassRows.{AreClassEntries, AreListed, AreRowsOf}
 use Rattle.cil_decide.specs.declared.tables.Class.{Class}
 use Rattle.cil_decide.proofs.SearchLemmas.{number_is}
-
-some_same : {X : Type 0} {a b : X} → Some a ≡ Some b → a ≡ b
-some_same {X} {a} {b} e = ap (λ o. unwrap_or o a) e
 
 -- ---- as many zeros as names
 
@@ -65,17 +62,6 @@ class_parts s e is =
 pub class_from : (s : OptSet) (e : Entry) → e.kind ≡ kinds.Class → is_declared_in s e ≡ true → is_of s kinds.Class e ≡ true
 class_from s e kind live = and_from (nat_eq (kind_number e.kind) 7) (is_declared_in s e) (ap (λ k. nat_eq (kind_number k) 7) kind) live
 
-set_same : (xs : List ℕ) (n a : ℕ) → n < length xs → slice_get (set xs n a) n ≡ Some a
-set_same xs n a within =
-    let len = length-set xs n a in
-    slice_get-get_or (set xs n a) n a (omega (arith, within, len)) ∙ ap Some (get_or-set_same xs n a a within)
-
-set_other : (xs : List ℕ) (n m a x : ℕ) → (m ≡ n → ⊥) → slice_get xs m ≡ Some x → slice_get (set xs n a) m ≡ Some x
-set_other xs n m a x differ e =
-    let len = length-set xs n a in
-    let within = slice_get_within xs m x e in
-    slice_get-get_or (set xs n a) m x (omega (arith, within, len)) ∙ ap Some (get_or-set_other xs n m a x differ ∙ get_or_from_slice_get xs m x x e)
-
 module _ (ss : List Space) (es : List Entry) (s : OptSet) (n : Sections) (numbers : List ℕ) (are : AreNumbers ss es s (names_of n) numbers) where
   -- the number of a class is that of its name
   pub class_named : (d : ℕ) (e : Entry) → slice_get es d ≡ Some e → is_of s kinds.Class e ≡ true → slice_get n.classes.items (get_or numbers d 0) ≡ Some (spelled_of ss e)
@@ -91,7 +77,7 @@ module _ (ss : List Space) (es : List Entry) (s : OptSet) (n : Sections) (number
     pub not_noted : (places : List ℕ) → is_of s kinds.Class e ≡ false → AreClassEntries es s numbers d places → AreClassEntries es s numbers (d + 1) places
     not_noted places isnt so k f below bt is =
         elim (cases_eq k d) [
-          | inl same ↦ absurd (true≢false (sym is ∙ ap (is_of s kinds.Class) (some_same (sym bt ∙ ap (slice_get es) same ∙ at)) ∙ isnt))
+          | inl same ↦ absurd (true≢false (sym is ∙ ap (is_of s kinds.Class) (same_Some _ _ (sym bt ∙ ap (slice_get es) same ∙ at)) ∙ isnt))
           | inr differ ↦ so k f (omega (arith, below, differ)) bt is
         ]
 
@@ -99,13 +85,13 @@ module _ (ss : List Space) (es : List Entry) (s : OptSet) (n : Sections) (number
         → AreClassEntries es s numbers (d + 1) (set places (get_or numbers d 0) d)
     noted places len is so k f below bt isf =
         elim (cases_eq k d) [
-          | inl same ↦ ap (λ j. slice_get (set places (get_or numbers d 0) d) (get_or numbers j 0)) same ∙ set_same places (get_or numbers d 0) d (class_within places d e at is len) ∙ ap Some (sym same)
+          | inl same ↦ ap (λ j. slice_get (set places (get_or numbers d 0) d) (get_or numbers j 0)) same ∙ get_set_same places (get_or numbers d 0) d (class_within places d e at is len) ∙ ap Some (sym same)
           | inr differ ↦
               let (kind, live) = class_parts s e is in
               let (kf, livef) = class_parts s f isf in
-              set_other places (get_or numbers d 0) (get_or numbers k 0) d k
+              get_set_other places (get_or numbers d 0) (get_or numbers k 0) d
               (λ one. differ (apart k d f e bt at (kf ∙ sym kind) (ap has_section kf) livef live one))
-              (so k f (omega (arith, below, differ)) bt isf)
+              ∙ (so k f (omega (arith, below, differ)) bt isf)
         ]
 
   -- ---- the rows
@@ -120,8 +106,8 @@ module _ (ss : List Space) (es : List Entry) (s : OptSet) (n : Sections) (number
     each = λ k row at.
         let name_here = name_at rows k row listed.named at in
         let sorted = are.lists kinds.Class refl in
-        let among = (sorted.members row.name).0 (member_of_number n.classes.items k row.name name_here) in
-        let (d, bt) = number_of_member es among.entry among.among in
+        let among = (sorted.members row.name).0 (get_contains n.classes.items k row.name name_here) in
+        let (d, below_d, bt) = get_at es among.entry among.among in
         let is = class_from s among.entry among.of_kind among.live in
         let number : get_or numbers d 0 ≡ k =
         (number_is n.classes.items row.name k name_here sorted.rising).only (get_or numbers d 0) (class_named d among.entry bt is ∙ ap Some among.spelled) in
@@ -139,12 +125,6 @@ module _ (ss : List Space) (es : List Entry) (s : OptSet) (n : Sections) (number
 
 -- ---- row by row
 
-get_push : (xs : List Class) (x y : Class) (n : ℕ) → slice_get (xs ++ x ∷ []) n ≡ Some y → (slice_get xs n ≡ Some y) ⊎ ((n ≡ length xs) × (x ≡ y))
-get_push [] x y zero e = inr (refl, some_same e)
-get_push [] x y (suc n) e = absurd (let f : None ≡ Some y = e in cc)
-get_push (z ∷ zs) x y zero e = inl e
-get_push (z ∷ zs) x y (suc n) e = elim (get_push zs x y n e) [ inl h ↦ inl h | inr h ↦ inr (ap suc h.0, h.1) ]
-
 pub listed_begun : (names : List (List ℕ)) (places : List ℕ) (lists : List (Vec Bytes)) (rows : List Class) → rows ≡ [] → AreListed (take 0 names) places lists rows
 listed_begun [] places lists rows e = record { named = ap (map (λ row. row.name)) e; each = λ n row got. absurd (let f : None ≡ Some row = ap (λ xs. slice_get xs n) (sym e) ∙ got in cc) }
 listed_begun (x ∷ xs) places lists rows e = record { named = ap (map (λ row. row.name)) e; each = λ n row got. absurd (let f : None ≡ Some row = ap (λ xs. slice_get xs n) (sym e) ∙ got in cc) }
@@ -159,7 +139,7 @@ listed_more names places lists i name row old new within at named permissions pu
       named =
           ap (map (λ r. r.name)) push ∙ map-append (λ r. r.name) old (row ∷ []) ∙ ap (λ z. z ++ row.name ∷ []) are.named
           ∙ ap (λ z. take i names ++ z ∷ []) (named ∙ at) ∙ sym (take_more names i name within);
-      each = λ n r got. elim (get_push old row r n (ap (λ xs. slice_get xs n) (sym push) ∙ got)) [
+      each = λ n r got. elim (at_or_last old row r n (ap (λ xs. slice_get xs n) (sym push) ∙ got)) [
         | inl h ↦ are.each n r h
         | inr h ↦ subst (λ (z : Class). z.permissions ≡ listed_at lists (get_or places n 0)) h.1 (permissions ∙ ap (λ k. listed_at lists (get_or places k 0)) (sym (h.0 ∙ count)))
       ];

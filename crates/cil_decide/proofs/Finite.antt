@@ -7,32 +7,14 @@ use Rattle.std.specs.declared.cmp.Ordering.{Ordering}
 use Rattle.std.specs.declared.cmp.Ordering.TheVariants.{Equal}
 use Rattle.std.specs.Cmp.{IsTotalOrder}
 use Rattle.cil_sexpr.specs.Lists.{contains_here, contains_later, contains_cases, contains_none}
+use Rattle.cil_sexpr.specs.Decided.{Decided, decided_same}
 use Rattle.cil_syntax.specs.Listing.{Listing, listing_of}
-
--- it holds or it does not
-abbrev pub Decided : Type 0 → Type 0
-Decided A = A ⊎ (A → ⊥)
 
 -- all members of a set
 pub record Finite {X : Type 0} (P : X → Type 0) : Type 0 where
   pub all : List X
   pub only : (x : X) → Contains all x → P x
   pub each : (x : X) → P x → Contains all x
-
--- ---- what is decided
-
-pub decided_both : {A B : Type 0} → Decided A → Decided B → Decided (A × B)
-decided_both (inl a) (inl b) = inl (a, b)
-decided_both (inl a) (inr none) = inr (λ h. none h.1)
-decided_both (inr none) d = inr (λ h. none h.0)
-
-pub decided_same : {A B : Type 0} → (A → B) → (B → A) → Decided A → Decided B
-decided_same there back (inl a) = inl (there a)
-decided_same there back (inr none) = inr (λ b. none (back b))
-
-pub decided_not : {A : Type 0} → Decided A → Decided (A → ⊥)
-decided_not (inl a) = inr (λ none. none a)
-decided_not (inr none) = inl none
 
 -- ---- finite sets
 

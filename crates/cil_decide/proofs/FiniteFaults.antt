@@ -2,13 +2,14 @@
 use Rattle.std.specs.Prelude.{Contains, ◌&&◌}
 use Rattle.std.specs.Cmp.Lexicographic.{bytes_decides}
 use Rattle.std.specs.List.{list_any, flat_map}
-use Rattle.std.proofs.Common.{◌≡◌, ◌⊎◌, ℕ, zero, suc, ◌<◌, true, false, List, [], length, refl, sym, ◌∙◌, ap, subst, inl, inr, arith}
+use Rattle.std.proofs.Common.{◌≡◌, ◌⊎◌, ℕ, ◌<◌, true, false, List, [], length, refl, sym, ap, subst, inl, inr, arith}
 use Rattle.std.proofs.lemmas.Bool.{and_parts, cases_lt}
 use Rattle.std.proofs.lemmas.Cmp.{nat_list_cmp_total}
 use Rattle.std.proofs.lemmas.Map.Lookups.{exact_bytes}
 use Rattle.cil_sexpr.specs.Lists.{Lists, text_cmp, one_list}
 use Rattle.cil_sexpr.specs.MadeLists.{contains_flat}
 use Rattle.cil_sexpr.specs.Searches.{any_true}
+use Rattle.cil_sexpr.specs.Decided.{Decided, decided_both, decided_not, decided_same, same_bool, same_text}
 use Rattle.cil_syntax.specs.declared.code.FaultCode.TheVariants as causes
 use Rattle.cil_syntax.specs.declared.fault.Fault.{Fault}
 use Rattle.cil_syntax.specs.declared.kind.Keyword.TheVariants as keywords
@@ -19,45 +20,18 @@ use Rattle.cil_syntax.specs.Listing.{Listing}
 use Rattle.cil_syntax.specs.Spelling.{same_bytes}
 use Rattle.cil_syntax.specs.Terms.{Name, cons}
 use Rattle.cil_syntax.specs.Reported.{fault_at}
-use Rattle.cil_names.specs.Declarations.{Declaration, declared_by, IsDeclaration, NameSpace, of_types, of_roles, of_users, of_classes, of_blocks, name_space, Clash, Symbol}
+use Rattle.cil_syntax.proofs.DecidedEquality.{keyword_is, same_namespace}
+use Rattle.cil_names.proofs.DeclareDecided.{same_declaration, same_name_space}
+use Rattle.cil_names.specs.Declarations.{Declaration, declared_by, IsDeclaration, name_space, Clash, Symbol}
 use Rattle.cil_decide.specs.Faults.{ClassFault, wide}
 use Rattle.cil_names.specs.Faults.{ClashFault, clash, ResolveFault, unresolved}
 use Rattle.cil_names.specs.Item.{Item, OptSet, everybody, nobody, is_enabled}
 use Rattle.cil_names.specs.Resolves.{fits, gives_permission, has_permission, is_judged, listed_permissions, resolves, told_word, Wanted, words_of}
 use Rattle.cil_decide.specs.Table.{most_permissions}
-use Rattle.cil_decide.proofs.DecidedEquality.{bool_is, keyword_is, same_declaration, same_namespace, same_number, same_text}
-use Rattle.cil_decide.proofs.Finite.{Decided, Finite, decided_both, decided_not, decided_same, decided_where, finite_all, finite_given, finite_if, finite_list, finite_listing, finite_same, finite_where}
+use Rattle.cil_decide.proofs.Finite.{Finite, decided_where, finite_all, finite_given, finite_if, finite_list, finite_listing, finite_same, finite_where}
 use Rattle.cil_decide.proofs.FinitePolicy.{Front, finite_declarations, finite_front}
 
 -- ---- clashes
-
-space_number : NameSpace → ℕ
-space_number of_types = 0
-space_number of_roles = 1
-space_number of_users = 2
-space_number of_classes = 3
-space_number of_blocks = 4
-
-space_at : ℕ → NameSpace
-space_at zero = of_types
-space_at (suc zero) = of_roles
-space_at (suc (suc zero)) = of_users
-space_at (suc (suc (suc zero))) = of_classes
-space_at (suc (suc (suc (suc n)))) = of_blocks
-
-space_back : (a : NameSpace) → space_at (space_number a) ≡ a
-unfolding space_number space_at
-space_back of_types = refl
-space_back of_roles = refl
-space_back of_users = refl
-space_back of_classes = refl
-space_back of_blocks = refl
-
-one_space : (a b : NameSpace) → space_number a ≡ space_number b → a ≡ b
-one_space a b e = sym (space_back a) ∙ ap space_at e ∙ space_back b
-
-same_name_space : (a b : NameSpace) → Decided (a ≡ b)
-same_name_space a b = decided_same (one_space a b) (ap space_number) (same_number (space_number a) (space_number b))
 
 decided_clash : (d e : Declaration) → Decided (Clash d e)
 decided_clash d e =
@@ -114,7 +88,7 @@ module _ (xs : List Item) where
         (no_round x.round)
         (finite_all (λ w f. (word_at x w ≡ f) × ((is_judged xs s w ≡ true) × (resolves xs s w ≡ false))) (Contains (words_of x)) (finite_list (words_of x))
         (λ w c. finite_if ((is_judged xs s w ≡ true) × (resolves xs s w ≡ false)) (word_at x w)
-        (decided_both (bool_is (is_judged xs s w) true) (bool_is (resolves xs s w) false))))
+        (decided_both (same_bool (is_judged xs s w) true) (same_bool (resolves xs s w) false))))
       where
         no_round : (ns : List ℕ) → Decided (ns ≡ [])
         no_round ns = same_text ns []
@@ -145,7 +119,7 @@ module _ (xs : List Item) where
   pub finite_permissions : (c : Symbol) → Finite (λ p. has_permission xs c p ≡ true)
   finite_permissions c =
       finite_same (λ p. Contains candidates p × (has_permission xs c p ≡ true)) (λ p. has_permission xs c p ≡ true) (λ p h. h.1) (λ p e. (candidate c p e, e))
-      (finite_where (Contains candidates) (λ p. has_permission xs c p ≡ true) (finite_list candidates) (λ p d. bool_is (has_permission xs c p) true))
+      (finite_where (Contains candidates) (λ p. has_permission xs c p ≡ true) (finite_list candidates) (λ p d. same_bool (has_permission xs c p) true))
 
   -- the permissions of a class, in order
   pub permissions_of : (c : Symbol) → Listing text_cmp (λ p. has_permission xs c p ≡ true)
@@ -172,7 +146,7 @@ module _ (xs : List Item) where
 
     finite_widens : (x : Item) → Finite (Widens x)
     finite_widens x =
-        finite_given ((is_enabled s x ≡ true) × (x.keyword ≡ keywords.Class)) _ (decided_both (bool_is (is_enabled s x) true) (keyword_is x.keyword keywords.Class))
+        finite_given ((is_enabled s x ≡ true) × (x.keyword ≡ keywords.Class)) _ (decided_both (same_bool (is_enabled s x) true) (keyword_is x.keyword keywords.Class))
         (finite_all (λ p f. (fault_at causes.ClassWide p.0 x.space p.1 ≡ f) × IsWide (record { space = x.space; name = p.1 }))
         (λ p. x.args ≡ cons (Name p.0 p.1) p.2) (finite_front x.args)
         (λ p e. finite_if (IsWide (record { space = x.space; name = p.1 })) (fault_at causes.ClassWide p.0 x.space p.1) (decided_wide (record { space = x.space; name = p.1 }))))

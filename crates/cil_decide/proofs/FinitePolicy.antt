@@ -2,6 +2,7 @@
 use Rattle.std.specs.Prelude.{Contains, Option, Some, None, slice_get}
 use Rattle.std.proofs.Common.{◌≡◌, ◌⊎◌, ℕ, ◌<◌, true, List, length, refl, sym, ap, subst, inl, inr}
 use Rattle.std.proofs.lemmas.Option.{none-some, same_Some, slice_get_within}
+use Rattle.cil_sexpr.specs.Decided.{Decided, decided_both, decided_same, same_bool, same_text}
 use Rattle.cil_syntax.specs.Forms.{rule_form, two_words}
 use Rattle.cil_syntax.specs.declared.kind.Kind.{Kind}
 use Rattle.cil_syntax.specs.declared.kind.Kind.TheVariants as kinds
@@ -10,14 +11,15 @@ use Rattle.cil_syntax.specs.declared.term.Spot.{Spot}
 use Rattle.cil_syntax.specs.Terms.{Term, Leaf, Name, Form, Terms, nil, cons}
 use Rattle.cil_decide.specs.Compiled.{HasNumber, IsNameOf, IsNumbered}
 use Rattle.cil_syntax.specs.Scopes.{asked, ScopedWord}
+use Rattle.cil_syntax.proofs.DecidedEquality.{kind_is, same_namespace}
+use Rattle.cil_names.proofs.DeclareDecided.{same_symbol}
 use Rattle.cil_names.specs.Declarations.{Declaration, declared_by, IsDeclaration, object, by, object_role, Declared, Symbol, name_of}
 use Rattle.cil_names.specs.Item.{Item, OptSet, is_enabled}
 use Rattle.cil_decide.specs.Members.{StandsFor}
 use Rattle.cil_decide.specs.Pairs.{HasPair, of_class, names_of}
 use Rattle.cil_names.specs.Resolves.{found_in, has_permission}
 use Rattle.cil_syntax.specs.Kinds.{is_wanted}
-use Rattle.cil_decide.proofs.DecidedEquality.{bool_is, kind_is, same_namespace, same_text}
-use Rattle.cil_decide.proofs.Finite.{Decided, Finite, decided_both, decided_same, decided_where, finite_all, finite_below, finite_either, finite_given, finite_image, finite_inverse, finite_list, finite_one, finite_same, finite_where, member}
+use Rattle.cil_decide.proofs.Finite.{Finite, decided_where, finite_all, finite_below, finite_either, finite_given, finite_image, finite_inverse, finite_list, finite_one, finite_same, finite_where, member}
 
 -- ---- options and numbers
 
@@ -164,7 +166,7 @@ module _ (xs : List Item) (s : OptSet) where
       (λ d h. elim h [ inl e ↦ subst (IsDeclaration xs s) e object | inr r ↦ by r.0 d r.1 r.2.0 r.2.1 ]) parts
       (finite_either (λ d. object_role ≡ d) (λ d. (x : Item) × Contains xs x × ((is_enabled s x ≡ true) × Contains (declared_by x) d)) (finite_one object_role)
       (finite_all (λ x d. (is_enabled s x ≡ true) × Contains (declared_by x) d) (Contains xs) (finite_list xs)
-      (λ x c. finite_given (is_enabled s x ≡ true) (Contains (declared_by x)) (bool_is (is_enabled s x) true) (finite_list (declared_by x)))))
+      (λ x c. finite_given (is_enabled s x ≡ true) (Contains (declared_by x)) (same_bool (is_enabled s x) true) (finite_list (declared_by x)))))
     where
       parts : (d : Declaration) → IsDeclaration xs s d → (object_role ≡ d) ⊎ ((x : Item) × Contains xs x × ((is_enabled s x ≡ true) × Contains (declared_by x) d))
       parts d object = inl refl
@@ -203,7 +205,7 @@ module _ (xs : List Item) (s : OptSet) where
       finite_same (λ t. Declared xs s kind t × ((is_wanted w.sign kind ≡ true) × ((found_in xs s w ≡ Some t.space) × (t.name ≡ (asked w.bytes).name)))) (StandsFor xs s kind w)
       (λ t h. record { wanted = h.1.0; found = h.1.1.0; named = h.1.1.1; declared = h.0 }) (λ t st. (st.declared, (st.wanted, (st.found, st.named))))
       (finite_where (Declared xs s kind) (λ t. (is_wanted w.sign kind ≡ true) × ((found_in xs s w ≡ Some t.space) × (t.name ≡ (asked w.bytes).name))) (finite_declared kind)
-      (λ t d. decided_both (bool_is (is_wanted w.sign kind) true)
+      (λ t d. decided_both (same_bool (is_wanted w.sign kind) true)
       (decided_both (is_this same_namespace (found_in xs s w) t.space) (same_text t.name (asked w.bytes).name))))
 
   -- the numbers of the symbols for which a word stands
@@ -245,7 +247,7 @@ module _ (xs : List Item) (s : OptSet) where
       (finite_all (λ g c. StandsFor xs s kinds.Class g.1 c × ((p : List ℕ) × Contains (names_of g.2) p × (has_permission xs c p ≡ true)))
       (λ g. t ≡ Form g.0 ops.ClassPermissions (cons (Leaf g.1) (cons g.2 nil))) (finite_parts t)
       (λ g is. finite_where (StandsFor xs s kinds.Class g.1) (λ c. (p : List ℕ) × Contains (names_of g.2) p × (has_permission xs c p ≡ true)) (finite_stands kinds.Class g.1)
-      (λ c st. decided_where (Contains (names_of g.2)) (λ p. has_permission xs c p ≡ true) (finite_list (names_of g.2)) (λ p n. bool_is (has_permission xs c p) true))))
+      (λ c st. decided_where (Contains (names_of g.2)) (λ p. has_permission xs c p ≡ true) (finite_list (names_of g.2)) (λ p n. same_bool (has_permission xs c p) true))))
 
   pub decided_pair : (t : Term ScopedWord) (c : Symbol) (p : List ℕ) → Decided (HasPair xs s t c p)
   decided_pair t c p =
@@ -255,9 +257,4 @@ module _ (xs : List Item) (s : OptSet) where
       (decided_where (λ g. t ≡ Form g.0 ops.ClassPermissions (cons (Leaf g.1) (cons g.2 nil)))
       (λ (g : Given). StandsFor xs s kinds.Class g.1 c × ((has_permission xs c p ≡ true) × Contains (names_of g.2) p)) (finite_parts t)
       (λ g is. decided_both (member (StandsFor xs s kinds.Class g.1) (finite_stands kinds.Class g.1) same_symbol c)
-      (decided_both (bool_is (has_permission xs c p) true) (member (Contains (names_of g.2)) (finite_list (names_of g.2)) same_text p))))
-    where
-      same_symbol : (a b : Symbol) → Decided (a ≡ b)
-      same_symbol a b =
-          decided_same (λ h i. record { space = h.0 i; name = h.1 i }) (λ e. (ap (λ (u : Symbol). u.space) e, ap (λ (u : Symbol). u.name) e))
-          (decided_both (same_namespace a.space b.space) (same_text a.name b.name))
+      (decided_both (same_bool (has_permission xs c p) true) (member (Contains (names_of g.2)) (finite_list (names_of g.2)) same_text p))))

@@ -1,6 +1,7 @@
 -- The records of tables are finite: links, and the cases of rules.
 use Rattle.std.specs.Prelude.{Contains}
 use Rattle.std.proofs.Common.{◌≡◌, ℕ, true, List, refl, ap, subst, inl, inr}
+use Rattle.cil_sexpr.specs.Decided.{Decided, decided_both, same_bool}
 use Rattle.cil_syntax.specs.declared.kind.Keyword.{Keyword}
 use Rattle.cil_syntax.specs.declared.kind.Kind.{Kind}
 use Rattle.cil_syntax.specs.declared.kind.Kind.TheVariants as kinds
@@ -8,13 +9,13 @@ use Rattle.cil_syntax.specs.declared.term.Op.TheVariants as ops
 use Rattle.cil_syntax.specs.Terms.{Term, Leaf, Name, Form, nil, cons}
 use Rattle.cil_decide.specs.declared.tables.Link.{Link}
 use Rattle.cil_decide.specs.Compiled.{Case, HasTarget, IsCase, IsLink, IsNumbered}
+use Rattle.cil_syntax.proofs.DecidedEquality.{keyword_is}
 use Rattle.cil_names.specs.Declarations.{Symbol, name_of}
 use Rattle.cil_names.specs.Item.{Item, OptSet, is_enabled}
 use Rattle.cil_syntax.specs.Scopes.{ScopedWord}
 use Rattle.cil_decide.specs.Members.{StandsFor}
 use Rattle.cil_decide.specs.Pairs.{HasPair}
-use Rattle.cil_decide.proofs.DecidedEquality.{bool_is, keyword_is}
-use Rattle.cil_decide.proofs.Finite.{Decided, Finite, decided_both, decided_some, finite_all, finite_given, finite_list, finite_one, finite_same}
+use Rattle.cil_decide.proofs.Finite.{Finite, decided_some, finite_all, finite_given, finite_list, finite_one, finite_same}
 use Rattle.cil_decide.proofs.FinitePolicy.{Three, finite_classes, finite_numbers, finite_stands, finite_three, finite_two}
 
 module _ (xs : List Item) (s : OptSet) (keyword : Keyword) where
@@ -23,7 +24,7 @@ module _ (xs : List Item) (s : OptSet) (keyword : Keyword) where
   IsOn x = (is_enabled s x ≡ true) × (x.keyword ≡ keyword)
 
   decided_on : (x : Item) → Decided (IsOn x)
-  decided_on x = decided_both (bool_is (is_enabled s x) true) (keyword_is x.keyword keyword)
+  decided_on x = decided_both (same_bool (is_enabled s x) true) (keyword_is x.keyword keyword)
 
   -- ---- links
 

@@ -12,6 +12,7 @@ use Rattle.cil_syntax.specs.Table.{entry_of}
 use Rattle.cil_syntax.specs.Terms.{Leaf, Name, Form, Terms, nil, cons}
 use Rattle.cil_syntax.specs.Written.{qualified}
 use Rattle.cil_syntax.specs.Scopes.{Namespace, ScopedWord}
+use Rattle.cil_names.proofs.DeclareDecided.{symbol_by}
 use Rattle.cil_names.specs.declared.instance.Instance.{Instance}
 use Rattle.cil_names.specs.Declarations.{Declaration, declarations, IsDeclaration, object, by, Declared, Symbol, name_of, content_of}
 use Rattle.cil_names.specs.Entries.{item_of, items_of, scoped}
@@ -45,15 +46,12 @@ module _ (xs : List Item) (flat : AreFlat xs) where
   pub name_of_global : (t : Symbol) → t.space ≡ [] → name_of t ≡ t.name
   name_of_global t e = ap (λ s. qualified (t.name ∷ s)) e
 
-  same_symbol : (t u : Symbol) → t.space ≡ u.space → t.name ≡ u.name → t ≡ u
-  same_symbol t u s n = λ i. record { space = s i; name = n i }
-
   -- symbols of one name are one
   pub one_symbol : (kind j : Kind) (t u : Symbol) → Declared xs nobody kind t → Declared xs nobody j u → name_of t ≡ name_of u → t ≡ u
   one_symbol kind j t u d e same =
       let ts = global_symbol_of kind t d in
       let us = global_symbol_of j u e in
-      same_symbol t u (ts ∙ sym us) (sym (name_of_global t ts) ∙ same ∙ name_of_global u us)
+      symbol_by t u (ts ∙ sym us) (sym (name_of_global t ts) ∙ same ∙ name_of_global u us)
 
   -- a declared name, as one of the global namespace
   pub declared_here : (kind : Kind) (name : List ℕ) → IsNameOf xs nobody kind name → Declared xs nobody kind (global_symbol name)

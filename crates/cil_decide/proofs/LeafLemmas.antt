@@ -1,7 +1,7 @@
 -- The words of the terms of a module, in order, and those behind some of them.
 use Rattle.std.specs.declared.alloc.Global.{Global}
 use Rattle.std.specs.declared.vec.Vec.{Vec}
-use Rattle.std.proofs.Common.{◌≡◌, ℕ, ◌+◌, ◌<◌, ◌≤◌, List, [], ◌∷◌, ◌++◌, length, take, drop, get_or, refl, sym, ◌∙◌, ap, rules, append_assoc}
+use Rattle.std.proofs.Common.{◌≡◌, ℕ, ◌+◌, ◌<◌, ◌≤◌, List, [], ◌∷◌, ◌++◌, length, take, drop, get_or, refl, sym, ◌∙◌, ap, append_assoc}
 use Rattle.std.proofs.lemmas.List.{append-nil, drop-drop, length-append, take_more, take_all}
 use Rattle.cil_syntax.specs.declared.fault.Bytes.{Bytes}
 use Rattle.cil_syntax.specs.declared.term.LookedUp.{LookedUp}
@@ -11,19 +11,10 @@ use Rattle.cil_syntax.specs.declared.term.Term.{the_lemmas}
 use Rattle.cil_syntax.specs.declared.term.Term.TheVariants as variants
 use Rattle.cil_syntax.specs.declared.term.Word.{Word}
 use Rattle.cil_syntax.specs.Said.{said_of, all_said, word_in}
-use Rattle.cil_syntax.specs.Terms.{Leaf, Name, Form, spot_at}
+use Rattle.cil_syntax.proofs.SaidLemmas.{form_said, leaf_said, name_said}
 use Rattle.cil_names.specs.Item.{words_in, all_words_in}
 
 module _ (m : ℕ) where
-  pub leaf_said : (w : LookedUp) → said_of m (variants.Leaf w) ≡ Leaf (word_in m w)
-  leaf_said w = search (rules, the_lemmas)
-
-  pub name_said : (at : ℕ) (bytes : Bytes) → said_of m (variants.Name at bytes) ≡ Name (spot_at m at) bytes
-  name_said at bytes = search (rules, the_lemmas)
-
-  pub form_said : (at : ℕ) (op : Op) (parts : Vec rust.Term Global) → said_of m (variants.Form op at parts) ≡ Form (spot_at m at) op (all_said m parts.items)
-  form_said at op parts = search (rules, the_lemmas)
-
   abbrev pub leaves_of : rust.Term → List Word
   leaves_of t = words_in (said_of m t)
 
@@ -32,15 +23,15 @@ module _ (m : ℕ) where
 
   pub leaves_leaf : (t : rust.Term) (w : LookedUp) → t ≡ variants.Leaf w → leaves_of t ≡ word_in m w ∷ []
   unfolding words_in
-  leaves_leaf t w is = ap words_in (ap (said_of m) is ∙ leaf_said w)
+  leaves_leaf t w is = ap words_in (ap (said_of m) is ∙ leaf_said m w)
 
   pub leaves_name : (t : rust.Term) (at : ℕ) (bytes : Bytes) → t ≡ variants.Name at bytes → leaves_of t ≡ []
   unfolding words_in
-  leaves_name t at bytes is = ap words_in (ap (said_of m) is ∙ name_said at bytes)
+  leaves_name t at bytes is = ap words_in (ap (said_of m) is ∙ name_said m at bytes)
 
   pub leaves_form : (t : rust.Term) (at : ℕ) (op : Op) (parts : Vec rust.Term Global) → t ≡ variants.Form op at parts → leaves_of t ≡ all_leaves parts.items
   unfolding words_in
-  leaves_form t at op parts is = ap words_in (ap (said_of m) is ∙ form_said at op parts)
+  leaves_form t at op parts is = ap words_in (ap (said_of m) is ∙ form_said m at op parts)
 
   pub leaves_none : all_leaves [] ≡ []
   unfolding words_in

@@ -8,6 +8,7 @@ use Rattle.std.proofs.lemmas.Option.{slice_get-map}
 use Rattle.cil_sexpr.specs.Gives.{Gives}
 use Rattle.cil_sexpr.specs.Lists.{Lists, text_cmp, contains_none}
 use Rattle.cil_sexpr.specs.MadeLists.{from_map}
+use Rattle.cil_sexpr.specs.Places.{get_at, get_contains}
 use Rattle.cil_syntax.specs.declared.fault.Bytes.{Bytes}
 use Rattle.cil_syntax.specs.declared.kind.Kind.{Kind}
 use Rattle.cil_syntax.specs.declared.kind.Kind.TheVariants as kinds
@@ -28,7 +29,6 @@ use Rattle.cil_names.specs.Numbers.{AreApart, AreNumbers, ArePlainNames, IsNameA
 use Rattle.cil_names.specs.Resolves.{has_permission}
 use Rattle.cil_syntax.specs.Kinds.{is_wanted}
 use Rattle.cil_names.specs.Unresolved.{ArePermissions, listed_at}
-use Rattle.cil_names.proofs.SearchLemmas.{member_of_number, number_of_member}
 use Rattle.cil_decide.specs.ClassRows.{AreRowsOf}
 use Rattle.cil_decide.specs.Compiled.{IsNameOf, IsRowOf}
 use Rattle.cil_decide.specs.declared.tables.Class.{Class}
@@ -46,7 +46,7 @@ module _ (ss : List Space) (is : List Instance) (es : List Entry) (entries : Are
   module _ (s : OptSet) (kind : Kind) where
     name_there : (name : List ℕ) → IsNameAmong ss es s kind name → IsNameOf (items_of ss is) s kind name
     name_there name among =
-        let (i, at) = number_of_member es among.entry among.among in
+        let (i, below_i, at) = get_at es among.entry among.among in
         let (d, declares, of_kind, in_space, of_name) = entries.only s i among.entry at among.live in
         record {
           symbol = symbol_of ss among.entry;
@@ -61,7 +61,7 @@ module _ (ss : List Space) (is : List Instance) (es : List Entry) (entries : Are
         let same : symbol_of ss e.entry ≡ of.symbol = λ j. record { space = (e.in_space ∙ d.in_space) j; name = (e.of_name ∙ d.of_name) j } in
         record {
           entry = e.entry;
-          among = member_of_number es i e.entry e.at;
+          among = get_contains es i e.entry e.at;
           of_kind = e.of_kind ∙ d.of_kind;
           live = e.live;
           spelled = ap name_of same ∙ of.named;
@@ -91,7 +91,7 @@ module _ (ss : List Space) (is : List Instance) (es : List Entry) (entries : Are
     classes_are = record {
       named = are.named;
       each = λ row c member d named.
-          let (k, at) = number_of_member rows row member in
+          let (k, below_k, at) = get_at rows row member in
           let row_is = are.each k row at in
           let (kind, live) = class_parts s row_is.entry row_is.is_class in
           let (i, e) = entries.each s d.declaration d.declares in
@@ -114,8 +114,8 @@ module _ (ss : List Space) (is : List Instance) (es : List Entry) (entries : Are
     -- each row is that of a declared class
     pub class_of_row : (row : Class) → Contains rows row → (c : Symbol) × Declared (items_of ss is) s kinds.Class c × IsRowOf (items_of ss is) c row
     class_of_row row member =
-        let (k, at) = number_of_member rows row member in
-        let of = (class_names.members row.name).0 (member_of_number n.classes.items k row.name (name_at k row at)) in
+        let (k, below_k, at) = get_at rows row member in
+        let of = (class_names.members row.name).0 (get_contains n.classes.items k row.name (name_at k row at)) in
         (of.symbol, of.declared, record { named = sym of.named; permissions = classes_are.each row of.symbol member of.declared (sym of.named) })
 
     -- each declared class has a row
@@ -139,7 +139,7 @@ pub plain_names : (ss : List Statement) (is : List Instance) (es : List Entry) �
 plain_names ss is es named among entries = record {
   spaces = λ s c. absurd (contains_none s c);
   entries = λ e c.
-      let (i, at) = number_of_member es e c in
+      let (i, below_i, at) = get_at es e c in
       let (d, declares, of_kind, in_space, of_name) = entries.only everybody i e at (entries.used i e at) in
       subst (λ n. is_name n ≡ true) of_name (plain d declares);
 }

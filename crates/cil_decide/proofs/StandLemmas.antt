@@ -1,18 +1,15 @@
 -- What a word stands for, by the entry that it means.
-use Rattle.std.proofs.Common.{◌≡◌, ℕ, ◌&&◌, true, List, get_or, refl, sym, ◌∙◌, ap, subst}
+use Rattle.std.proofs.Common.{◌≡◌, ℕ, true, List, get_or, refl, sym, ◌∙◌, ap, subst}
 use Rattle.std.specs.Prelude.{Option, Some, None, slice_get}
-use Rattle.std.specs.Cmp.Lexicographic.{bytes_decides, pointwise_decides}
-use Rattle.std.proofs.lemmas.Bool.{and_from, and_parts}
 use Rattle.std.proofs.lemmas.Option.{none-some, same_Some}
 use Rattle.cil_syntax.specs.declared.kind.Kind.{Kind}
-use Rattle.cil_syntax.specs.declared.kind.Sign.{Sign}
-use Rattle.cil_syntax.specs.Spelling.{same_bytes}
-use Rattle.cil_syntax.specs.Scopes.{Namespace, asked, same_space, ScopedWord}
+use Rattle.cil_syntax.specs.Scopes.{asked, ScopedWord}
+use Rattle.cil_names.proofs.CandidateLemmas.{parts_of, they_are}
+use Rattle.cil_names.proofs.DeclareDecided.{symbol_by}
 use Rattle.cil_names.specs.declared.entry.Entry.{Entry}
 use Rattle.cil_names.specs.declared.instance.Instance.{Instance}
-use Rattle.cil_names.specs.declared.space.Space.{Space}
 use Rattle.cil_names.specs.Declarations.{Symbol, name_of}
-use Rattle.cil_names.specs.Entries.{IsAnswer, IsNamed, is_declared_in, is_entry_of}
+use Rattle.cil_names.specs.Entries.{IsAnswer, IsNamed, is_declared_in}
 use Rattle.cil_names.specs.Laws.{MeansWhatItNames}
 use Rattle.cil_names.specs.Numbers.{has_section, symbol_of}
 use Rattle.cil_names.specs.Resolves.{found_in}
@@ -23,27 +20,6 @@ use Rattle.cil_decide.specs.Compiled.{IsNumbered}
 use Rattle.cil_decide.specs.Known.{IsKnown, IsNumberFor, StandsForNothing, enabled_in, items_in, meant_in}
 use Rattle.cil_decide.specs.Members.{StandsFor}
 use Rattle.cil_decide.proofs.SearchLemmas.{number_is}
-
--- ---- the parts of what an entry is asked for
-
-spaces_decide : (a b : Namespace) → (same_space a b ≡ true → a ≡ b) × (a ≡ b → same_space a b ≡ true)
-spaces_decide a b = pointwise_decides bytes_decides a b
-
-parts_of : (ss : List Space) (name : List ℕ) (sign : Sign) (n : Namespace) (e : Entry) → is_entry_of ss name sign n e ≡ true
-    → (space_at ss e.space ≡ n) × (e.name ≡ name) × (is_wanted sign e.kind ≡ true)
-parts_of ss name sign n e fits =
-    let (front, wanted) = and_parts (same_space (space_at ss e.space) n && same_bytes e.name name) (is_wanted sign e.kind) fits in
-    let (space, named) = and_parts (same_space (space_at ss e.space) n) (same_bytes e.name name) front in
-    ((spaces_decide (space_at ss e.space) n).0 space, (bytes_decides e.name name).0 named, wanted)
-
-they_are : (ss : List Space) (name : List ℕ) (sign : Sign) (n : Namespace) (e : Entry) → space_at ss e.space ≡ n → e.name ≡ name → is_wanted sign e.kind ≡ true
-    → is_entry_of ss name sign n e ≡ true
-they_are ss name sign n e p q r =
-    and_from (same_space (space_at ss e.space) n && same_bytes e.name name) (is_wanted sign e.kind)
-    (and_from (same_space (space_at ss e.space) n) (same_bytes e.name name) ((spaces_decide (space_at ss e.space) n).1 p) ((bytes_decides e.name name).1 q)) r
-
-same_symbol : (t u : Symbol) → t.space ≡ u.space → t.name ≡ u.name → t ≡ u
-same_symbol t u p q = λ i. record { space = p i; name = q i }
 
 -- ---- words
 
@@ -75,7 +51,7 @@ module _ (k : Known) (is : List Instance) (names : Kind → List (List ℕ)) (kn
     its_name : symbol_of k.lookup.spaces.now e ≡ its_symbol
     its_name =
         let (space, name, wanted) = parts_of k.lookup.spaces.now (asked w.bytes).name w.sign named.space named.entry named.fits in
-        same_symbol (symbol_of k.lookup.spaces.now e) its_symbol
+        symbol_by (symbol_of k.lookup.spaces.now e) its_symbol
         (ap (λ (x : Entry). space_at k.lookup.spaces.now x.space) (sym same) ∙ space) (ap (λ (x : Entry). x.name) (sym same) ∙ name)
 
     the_number : has_section kind ≡ true → e.kind ≡ kind → (n : ℕ) → n ≡ get_or k.numbers.now d 0 → IsNumberFor (items_in k is) (enabled_in k) kind (names kind) w n
@@ -102,7 +78,7 @@ module _ (k : Known) (is : List Instance) (names : Kind → List (List ℕ)) (kn
               of_name = of_name ∙ ap (λ (y : Symbol). y.name) its_name;
             };
           };
-          only_symbol = λ u st. same_symbol u its_symbol (same_Some u.space named.space (sym st.found ∙ named.found)) st.named;
+          only_symbol = λ u st. symbol_by u its_symbol (same_Some u.space named.space (sym st.found ∙ named.found)) st.named;
           numbered = numbered;
           only_number = (number_is (names kind) (name_of its_symbol) n numbered (known.numbered.lists kind section).rising).only;
         }

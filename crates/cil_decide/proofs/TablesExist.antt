@@ -2,16 +2,18 @@
 use Rattle.std.specs.Prelude.{Contains, IsBitSet, Option, Some, None, slice_get, bit_or, ◌↔◌}
 use Rattle.std.specs.List.Sorted.{IsStrictlySortedBy}
 use Rattle.std.specs.Ordering.{nat_cmp}
-use Rattle.std.specs.declared.cmp.Ordering.TheVariants.{Less, Equal, Greater}
 use Rattle.std.specs.Int.{bit_at}
 use Rattle.std.proofs.Common.{◌≡◌, ℕ, zero, suc, ◌<◌, ◌^◌, true, List, [], ◌∷◌, length, map, refl, sym, ◌∙◌, ap, subst, inl, inr, arith}
-use Rattle.std.proofs.lemmas.Cmp.{nat_cmp_total, nat_list_cmp_total, by_ranked, ranked}
+use Rattle.std.proofs.lemmas.Cmp.{nat_cmp_total, nat_list_cmp_total}
 use Rattle.std.proofs.lemmas.Map.Lookups.{exact_bytes}
 use Rattle.std.proofs.lemmas.Nat.Bits.{bit_at-pow_same, bit_at-pow_other}
 use Rattle.std.proofs.lemmas.Option.{none-some, same_Some, slice_get_within}
 use Rattle.cil_sexpr.specs.Gives.{Gives}
 use Rattle.cil_sexpr.specs.Lists.{Lists, text_cmp}
 use Rattle.cil_sexpr.specs.MadeLists.{contains_map, from_map}
+use Rattle.cil_sexpr.specs.Places.{get_at}
+use Rattle.cil_sexpr.specs.Decided.{Decided, decided_same, same_number}
+use Rattle.cil_sexpr.specs.Paths.{same_by}
 use Rattle.cil_syntax.specs.Listing.{Listing}
 use Rattle.cil_syntax.specs.declared.kind.Keyword.TheVariants as keywords
 use Rattle.cil_syntax.specs.declared.kind.Kind.TheVariants as kinds
@@ -28,23 +30,19 @@ use Rattle.cil_syntax.specs.Scopes.{ScopedWord}
 use Rattle.cil_decide.specs.Pairs.{HasPair}
 use Rattle.cil_decide.specs.Flat.{AreFlat, global_symbol}
 use Rattle.cil_names.specs.Resolves.{has_permission}
-use Rattle.cil_names.proofs.SearchLemmas.{number_of_member}
 use Rattle.cil_decide.specs.Table.{Table, class_cmp, link_cmp, link_total, one_link, rule_cmp, rule_total, one_rule}
 use Rattle.cil_decide.proofs.BitLemmas.{none_set, set_in_either, set_is_one}
 use Rattle.cil_decide.proofs.CompileLemmas.{rising_by}
-use Rattle.cil_decide.proofs.DecidedEquality.{same_number}
-use Rattle.cil_decide.proofs.Finite.{Decided, Finite, chosen, decided_same, finite_listing}
+use Rattle.cil_decide.proofs.Finite.{Finite, chosen, finite_listing}
 use Rattle.cil_decide.proofs.FiniteFaults.{permissions_of}
 use Rattle.cil_decide.proofs.FinitePolicy.{decided_pair, finite_has_number, finite_names, pair_class}
 use Rattle.cil_decide.proofs.FiniteRecords.{finite_cases, finite_links}
 use Rattle.cil_decide.proofs.FlatLemmas.{declared_here, global_symbol_of, name_declared, name_of_global}
 
-equal_numbers : (m n : ℕ) → nat_cmp m n ≡ Equal → m ≡ n
-equal_numbers m n e =
-    by_ranked _ _ _ (nat_cmp m n) (ranked m n (nat_cmp m n) refl)
-    (λ l h. absurd (let f : Less ≡ Equal = cc in cc)) (λ q h. h) (λ g h. absurd (let f : Greater ≡ Equal = cc in cc))
-
 -- ---- masks
+
+below_top : (n bit : ℕ) → bit < suc n → (bit ≡ n → ⊥) → bit < n
+below_top n bit below apart = grind (arith, below, apart)
 
 -- the mask of the bits below a number of which something holds
 record MaskOf (n : ℕ) (P : ℕ → Type 0) : Type 0 where
@@ -64,13 +62,10 @@ one_bit_more n P p m = record {
     ],
     λ h. (set_in_either (2 ^ n) m.mask bit).1 (elim (same_number bit n) [
       | inl e ↦ inl ((set_is_one (2 ^ n) bit).1 (ap (bit_at (2 ^ n)) e ∙ bit_at-pow_same n))
-      | inr apart ↦ inr ((m.bits bit).1 (at_or_below bit h.0 apart, h.1))
+      | inr apart ↦ inr ((m.bits bit).1 (below_top n bit h.0 apart, h.1))
     ]),
   );
 }
-  where
-    at_or_below : (bit : ℕ) → bit < suc n → (bit ≡ n → ⊥) → bit < n
-    at_or_below bit below apart = grind (arith, below, apart)
 
 no_bit_more : (n : ℕ) (P : ℕ → Type 0) → (P n → ⊥) → MaskOf n P → MaskOf (suc n) P
 no_bit_more n P none m = record {
@@ -79,13 +74,10 @@ no_bit_more n P none m = record {
     λ s. let h = (m.bits bit).0 s in let below = h.0 in (omega (arith, below), h.1),
     λ h. (m.bits bit).1 (elim (same_number bit n) [
       | inl e ↦ absurd (none (subst P e h.1))
-      | inr apart ↦ (at_or_below bit h.0 apart, h.1)
+      | inr apart ↦ (below_top n bit h.0 apart, h.1)
     ]),
   );
 }
-  where
-    at_or_below : (bit : ℕ) → bit < suc n → (bit ≡ n → ⊥) → bit < n
-    at_or_below bit below apart = grind (arith, below, apart)
 
 mask_of : (n : ℕ) (P : ℕ → Type 0) → ((bit : ℕ) → Decided (P bit)) → MaskOf n P
 mask_of zero P decide = record { mask = 0; bits = λ bit. (λ s. absurd (none_set bit s), λ h. let below = h.0 in absurd (omega (arith, below))) }
@@ -102,7 +94,7 @@ module _ (xs : List Item) where
 
   module _ (types : List (List ℕ)) where
     numbers_of : (w : ScopedWord) → Listing nat_cmp (HasNumber xs nobody types w)
-    numbers_of w = finite_listing nat_cmp nat_cmp_total equal_numbers (HasNumber xs nobody types w) (finite_has_number xs nobody types w)
+    numbers_of w = finite_listing nat_cmp nat_cmp_total same_by (HasNumber xs nobody types w) (finite_has_number xs nobody types w)
 
     target_of : (t : Term ScopedWord) → HasTarget xs nobody t → (target : Target) × IsTargetOf xs nobody types t target
     target_of (Leaf w) h = (Types (numbers_of w).list, (numbers_of w).lists)
@@ -130,7 +122,7 @@ module _ (xs : List Item) where
       rule_of : (k : Case) → IsCase xs nobody keywords.Allow k → (r : Rule) × IsRuleOf xs nobody types classes k r
       rule_of k is =
           let row = given.each k.class_ (pair_class xs nobody k.class_permission k.class_ is.permission.0 is.permission.1) in
-          let number = number_of_member classes row.0 row.2 in
+          let number = get_at classes row.0 row.2 in
           let target = target_of k.target is.target in
           let mask = mask_of_case k row.0 in (
             record { source = (numbers_of k.source).list; target = target.0; class = number.0; mask = mask.0 },
@@ -138,7 +130,7 @@ module _ (xs : List Item) where
               source = (numbers_of k.source).lists;
               target = target.1;
               row = row.0;
-              is_row = number.1;
+              is_row = number.2;
               named = row.1.named;
               mask = mask.1;
             },

@@ -16,6 +16,7 @@ use Rattle.cil_syntax.specs.declared.term.Term as rust
 use Rattle.cil_syntax.specs.declared.term.Term.TheVariants as variants
 use Rattle.cil_syntax.specs.Said.{all_said, said_of, word_in}
 use Rattle.cil_syntax.specs.Terms.{Term, Leaf, Form, Terms, spot_at}
+use Rattle.cil_syntax.proofs.SaidLemmas.{form_said, leaf_said, name_said}
 use Rattle.cil_names.specs.Item.{Item, OptSet}
 use Rattle.cil_syntax.specs.Scopes.{ScopedWord}
 use Rattle.cil_decide.specs.declared.known.Known.{Known}
@@ -25,7 +26,7 @@ use Rattle.cil_decide.specs.declared.tables.Target.TheVariants as targets
 use Rattle.cil_decide.specs.Compiled.{HasNumber, HasTarget, IsNumbered, IsTargetOf}
 use Rattle.cil_decide.specs.Known.{BeginWith, IsNumberFor, StandsForNothing, enabled_in, meant_in, term_in_scope, word_in_scope}
 use Rattle.cil_decide.proofs.FormLemmas.{across, all_across, form_across, leaf_across, name_across}
-use Rattle.cil_decide.proofs.LeafLemmas.{form_said, leaf_said, leaves_leaf, name_said}
+use Rattle.cil_decide.proofs.LeafLemmas.{leaves_leaf}
 
 one_rises : (m : ℕ) → IsStrictlySortedBy nat_cmp (m ∷ [])
 unfolding IsStrictlySortedBy

@@ -10,10 +10,11 @@ use Rattle.std.proofs.lemmas.List.Elements.{Contains-append_cases, Contains-appe
 use Rattle.cil_sexpr.specs.Lists.{Lists, text_cmp, contains_cases, contains_here, contains_none, one_list}
 use Rattle.cil_sexpr.specs.MadeLists.{contains_map, from_map}
 use Rattle.cil_sexpr.specs.Searches.{any_from, any_true}
+use Rattle.cil_sexpr.specs.Places.{get_contains}
+use Rattle.cil_sexpr.specs.Rising.{rising_nothing}
 use Rattle.cil_syntax.specs.declared.code.FaultCode.TheVariants as causes
 use Rattle.cil_syntax.specs.declared.fault.Bytes.{Bytes}
 use Rattle.cil_syntax.specs.declared.fault.Fault.{Fault}
-use Rattle.cil_syntax.specs.declared.kind.Keyword.TheVariants as keywords
 use Rattle.cil_syntax.specs.declared.kind.Kind.TheVariants as kinds
 use Rattle.cil_syntax.specs.declared.kind.Sign.TheVariants as signs
 use Rattle.cil_syntax.specs.declared.term.Spot.{Spot}
@@ -24,6 +25,9 @@ use Rattle.cil_syntax.specs.Table.{entry_of}
 use Rattle.cil_syntax.specs.Terms.{Leaf, Name, Form, Terms, nil, cons}
 use Rattle.cil_syntax.specs.Reported.{fault_at}
 use Rattle.cil_syntax.specs.Scopes.{same_space, ScopedWord}
+use Rattle.cil_syntax.specs.Forms.{DeclaresClass, DeclaresNoClass}
+use Rattle.cil_names.proofs.PermissionLemmas.{class_declared, class_declares}
+use Rattle.cil_names.proofs.CandidateLemmas.{they_are}
 use Rattle.cil_names.specs.declared.entry.Entry.{Entry}
 use Rattle.cil_names.specs.declared.instance.Instance.{Instance}
 use Rattle.cil_names.specs.declared.space.Space.{Space}
@@ -37,20 +41,13 @@ use Rattle.cil_names.specs.Spaces.{space_at}
 use Rattle.cil_names.specs.Unresolved.{ArePermissions, listed_at}
 use Rattle.cil_decide.specs.Faults.{ClassFault, wide}
 use Rattle.cil_decide.specs.Table.{most_permissions}
-use Rattle.cil_decide.specs.Widths.{DeclaresClass, DeclaresNoClass, IsWide}
+use Rattle.cil_decide.specs.Widths.{IsWide}
 use Rattle.std.specs.Cmp.Lexicographic.{pointwise_decides}
 use Rattle.std.specs.List.Sorted.{IsStrictlySortedBy}
-use Rattle.std.specs.Option.{option_map_or, unwrap_or}
+use Rattle.std.specs.Option.{option_map_or}
 use Rattle.std.specs.Prelude.{Option}
 use Rattle.std.proofs.Common.{◌&&◌}
-use Rattle.std.proofs.lemmas.Bool.{and_from, and_parts}
-use Rattle.cil_decide.proofs.StepLemmas.{nothing_rises}
-use Rattle.std.proofs.lemmas.List.Elements.{Contains-get_or}
-use Rattle.cil_names.specs.Placed.{ArePlaced, IsPlaced}
-use Rattle.cil_names.proofs.SearchLemmas.{member_of_number}
-
-some_same : {X : Type 0} {a b : X} → Some a ≡ Some b → a ≡ b
-some_same {X} {a} {b} e = ap (λ o. unwrap_or o a) e
+use Rattle.std.proofs.lemmas.Bool.{and_parts}
 
 -- ---- the permissions that are listed for an entry
 
@@ -59,8 +56,8 @@ module _ (lists : List (Vec Bytes)) (d : ℕ) where
   listed_rises up = at _ refl
     where
       at : (o : Option (Vec Bytes)) → slice_get lists d ≡ o → IsStrictlySortedBy text_cmp (listed_at lists d)
-      at None e = subst (IsStrictlySortedBy text_cmp) (sym (ap (λ o. option_map_or (λ (w : Vec Bytes). w.items) o []) e)) nothing_rises
-      at (Some v) e = subst (IsStrictlySortedBy text_cmp) (sym (ap (λ o. option_map_or (λ (w : Vec Bytes). w.items) o []) e)) (up v (member_of_number lists d v e))
+      at None e = subst (IsStrictlySortedBy text_cmp) (sym (ap (λ o. option_map_or (λ (w : Vec Bytes). w.items) o []) e)) (rising_nothing text_cmp)
+      at (Some v) e = subst (IsStrictlySortedBy text_cmp) (sym (ap (λ o. option_map_or (λ (w : Vec Bytes). w.items) o []) e)) (up v (get_contains lists d v e))
 
   -- they are those of its class
   pub listed_are : (ss : List Space) (es : List Entry) (xs : List Item) → ArePermissions ss es xs lists → (e : Entry) → slice_get es d ≡ Some e → is_wanted signs.Classes e.kind ≡ true
@@ -82,16 +79,7 @@ entry_parts ss name n e fits =
     let (space, named) = and_parts (same_space (space_at ss e.space) n) (same_bytes e.name name) front in
     ((pointwise_decides bytes_decides (space_at ss e.space) n).0 space, (bytes_decides e.name name).0 named, wanted)
 
-entry_fits : (ss : List Space) (name : List ℕ) (n : List (List ℕ)) (e : Entry) → space_at ss e.space ≡ n → e.name ≡ name → is_wanted signs.Classes e.kind ≡ true
-    → is_entry_of ss name signs.Classes n e ≡ true
-entry_fits ss name n e p q r =
-    and_from _ _ (and_from _ _ ((pointwise_decides bytes_decides (space_at ss e.space) n).1 p) ((bytes_decides e.name name).1 q)) r
-
 -- ---- class statements
-
-class_declares : (entry_of keywords.Class).declares ≡ kinds.Class ∷ []
-unfolding entry_of
-class_declares = refl
 
 module _ (f : Word → ScopedWord) where
   pub said_front : (args : Terms Word) (at : Spot) (name : List ℕ) (rest : Terms ScopedWord) → all_replaced (λ at. at) f args ≡ cons (Name at name) rest
@@ -102,12 +90,6 @@ module _ (f : Word → ScopedWord) where
   said_front (cons (Form bt op parts) ts) at name rest e = absurd cc
   said_front (cons (Name bt n) ts) at name rest e =
       let p : bt ≡ at = cc in let q : n ≡ name = cc in (ts, λ i. cons (Name (p i) (q i)) ts)
-
-  begun : (n : List (List ℕ)) (at : Spot) (name : List ℕ) (rest : Terms Word)
-      → declarations n (kinds.Class ∷ []) (all_replaced (λ bt. bt) f (cons (Name at name) rest))
-      ≡ record { kind = kinds.Class; space = n; name = name; content = content_of (all_replaced (λ bt. bt) f rest) } ∷ []
-  unfolding all_replaced
-  begun n at name rest = refl
 
   item_says : (at : Spot) (name : List ℕ) (rest : Terms Word) → all_replaced (λ bt. bt) f (cons (Name at name) rest) ≡ cons (Name at name) (all_replaced (λ bt. bt) f rest)
   unfolding all_replaced
@@ -146,7 +128,7 @@ module _ (ss : List Space) (is : List Instance) (es : List Entry) (s : OptSet) (
         (sym (ap (λ k. declarations (space_at ss i.place.now.space) (entry_of k).declares (all_replaced (λ bt. bt) (scoped ss i.place.now.scope.items) (args_of i.statement.now))) declares.keyword
         ∙ ap (λ ks. declarations (space_at ss i.place.now.space) ks (all_replaced (λ bt. bt) (scoped ss i.place.now.scope.items) (args_of i.statement.now))) class_declares
         ∙ ap (λ ts. declarations (space_at ss i.place.now.space) (kinds.Class ∷ []) (all_replaced (λ bt. bt) (scoped ss i.place.now.scope.items) ts)) declares.says
-        ∙ begun (scoped ss i.place.now.scope.items) (space_at ss i.place.now.space) at name declares.rest))
+        ∙ class_declared (scoped ss i.place.now.scope.items) (space_at ss i.place.now.space) at name declares.rest))
         (contains_here declaration [])
 
     module _ (entries : AreEntries ss is es) (member : Contains is i) where
@@ -154,7 +136,7 @@ module _ (ss : List Space) (is : List Instance) (es : List Entry) (s : OptSet) (
       pub no_entry : HasNoEntryIn ss es name signs.Classes (space_at ss i.place.now.space) → (f : Fault) → IsWide s xs x f → ⊥
       no_entry none f w =
           let (d, e) = entries.each s declaration (by x declaration (contains_map (item_of ss) is i member) w.enabled declared) in
-          none d e.entry e.at (entry_fits ss name (space_at ss i.place.now.space) e.entry e.in_space e.of_name (ap (is_wanted signs.Classes) e.of_kind))
+          none d e.entry e.at (they_are ss name signs.Classes (space_at ss i.place.now.space) e.entry e.in_space e.of_name (ap (is_wanted signs.Classes) e.of_kind))
 
       module _ (lists : List (Vec Bytes)) (permissions : ArePermissions ss es xs lists) (d : ℕ) (entry : IsEntryIn ss es name signs.Classes (space_at ss i.place.now.space) d) where
         symbol_is : symbol_of ss entry.entry ≡ record { space = space_at ss i.place.now.space; name = name }
@@ -261,9 +243,3 @@ module _ (ss : List Space) (is : List Instance) (s : OptSet) where
         )
 
 -- ---- the instances one by one
-
-pub member_at : (is : List Instance) (k : ℕ) (i : Instance) → k < length is → i ≡ get_or is k i → Contains is i
-member_at is k i within e = subst (Contains is) (sym e) (Contains-get_or is k i within)
-
-pub placed_at : (ss : List Space) (is : List Instance) → ArePlaced ss is → (k : ℕ) (i : Instance) → k < length is → i ≡ get_or is k i → IsPlaced ss i
-placed_at ss is placed k i within e = placed i (member_at is k i within e)

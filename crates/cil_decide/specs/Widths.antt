@@ -4,10 +4,7 @@ use Rattle.cil_sexpr.specs.Lists.{Lists, text_cmp}
 use Rattle.cil_syntax.specs.declared.code.FaultCode.TheVariants as causes
 use Rattle.cil_syntax.specs.declared.fault.Fault.{Fault}
 use Rattle.cil_syntax.specs.declared.kind.Keyword.TheVariants as keywords
-use Rattle.cil_syntax.specs.declared.program.Statement.{Statement}
 use Rattle.cil_syntax.specs.declared.term.Spot.{Spot}
-use Rattle.cil_syntax.specs.declared.term.Word.{Word}
-use Rattle.cil_syntax.specs.Said.{args_of}
 use Rattle.cil_syntax.specs.Terms.{Name, Terms, cons}
 use Rattle.cil_syntax.specs.Reported.{fault_at}
 use Rattle.cil_names.specs.Item.{Item, OptSet, is_enabled}
@@ -27,12 +24,3 @@ pub record IsWide (s : OptSet) (xs : List Item) (x : Item) (f : Fault) : Type 0 
   pub listed : Lists text_cmp (λ p. has_permission xs (record { space = x.space; name = name }) p ≡ true) permissions
   pub wide : most_permissions < length permissions
   pub told : f ≡ fault_at causes.ClassWide at x.space name
-
--- a statement declares a class of this name, which is written here
-pub record DeclaresClass (s : Statement) (at : Spot) (name : List ℕ) : Type 0 where
-  pub keyword : s.keyword ≡ keywords.Class
-  pub rest : Terms Word
-  pub says : args_of s ≡ cons (Name at name) rest
-
-abbrev pub DeclaresNoClass : Statement → Type 0
-DeclaresNoClass s = (at : Spot) (name : List ℕ) → DeclaresClass s at name → ⊥

@@ -2,7 +2,6 @@
 
 ghost use Rattle.std.specs.Prelude.{◌≡◌, ◌↔◌, ◌⊎◌, Contains, IsTrue, List, MatchOption, OnOk, length};
 ghost use Rattle.cil_syntax.specs.declared.fault.Fault.{Fault as AFault};
-ghost use Rattle.cil_syntax.specs.declared.kind.Keyword.TheVariants as keywords;
 ghost use Rattle.cil_syntax.specs.declared.code.FaultCode.TheVariants as causes;
 ghost use Rattle.cil_syntax.specs.Refusal.{Answers};
 ghost use Rattle.cil_syntax.specs.Reported.{fault_at};
@@ -12,13 +11,11 @@ ghost use Rattle.cil_names.specs.Placed.{ArePlaced, IsPlaced};
 ghost use Rattle.cil_names.specs.Spaces.{space_at};
 ghost use Rattle.cil_names.specs.Unresolved.{ArePermissions, listed_at};
 ghost use Rattle.cil_decide.specs.Faults.{ClassFault};
-ghost use Rattle.cil_decide.specs.Widths.{DeclaresClass, DeclaresNoClass, IsWide};
+ghost use Rattle.cil_decide.specs.Widths.{IsWide};
 
 use cil_modset::NoMemory;
 use cil_names::{Instance, Lookup};
-use cil_syntax::{
-    Bytes, DeclaredName, Failure, Fault, FaultCode, FaultList, Keyword, Sign, Statement,
-};
+use cil_syntax::{Bytes, DeclaredName, Failure, Fault, FaultCode, Sign, push_fault_in, refuse};
 use std::alloc::Global;
 
 /// How many permissions a class may have.
@@ -46,16 +43,6 @@ pub(crate) fn check_widths(
     refuse(faults)
 }
 
-/// Refuses with these faults, where there are some.
-fn refuse(faults: Vec<Fault>) -> Result<(), Failure>
-    ensures { Answers (λ done. Unit {0}) (Contains faults.items) result }
-{
-    match FaultList::of(faults) {
-        Some(list) => Err(Failure::Faults(list)),
-        None => Ok(()),
-    }
-}
-
 /// Reports an instance that declares a class with too many permissions.
 fn push_wide(
     alloc: Global,
@@ -74,14 +61,14 @@ fn push_wide(
         return Ok(());
     };
     let space = lookup.spaces.spelled(alloc, instance.place.space)?;
-    let word = Bytes::copy_of(alloc, name.bytes)?;
-    faults.push(Fault {
-        code: FaultCode::ClassWide,
-        module: name.at.module,
-        at: name.at.at,
+    push_fault_in(
+        alloc,
+        faults,
+        FaultCode::ClassWide,
+        name.at,
         space,
-        word,
-    })?;
+        name.bytes,
+    )?;
     Ok(())
 }
 
@@ -102,7 +89,7 @@ fn wide_class<'a>(
     if !lookup.enabled.has_all(instance.place.round.as_slice()) {
         return None;
     }
-    let Some(name) = class_declared(instance.statement) else {
+    let Some(name) = instance.statement.declared_class() else {
         return None;
     };
     let names = lookup.names;
@@ -118,23 +105,6 @@ fn wide_class<'a>(
         return None;
     }
     Some(name)
-}
-
-/// The name of the class that a statement declares.
-fn class_declared<'a>(statement: &Statement<'a>) -> Option<DeclaredName<'a>>
-    ensures { MatchOption result (DeclaresNoClass statement.now) (λ name. DeclaresClass statement.now name.at name.bytes.now) }
-{
-    if !is_class(statement.keyword) {
-        return None;
-    }
-    let name = statement.declared_name()?;
-    Some(name)
-}
-
-fn is_class(keyword: Keyword) -> bool
-    ensures { IsTrue result ↔ (keyword ≡ keywords.Class) }
-{
-    keyword == Keyword::Class
 }
 
 /// How many permissions are listed for an entry.

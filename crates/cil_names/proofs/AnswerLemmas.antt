@@ -4,11 +4,13 @@ use Rattle.std.specs.Prelude.{IfSome, ◌<◌, length, Option, Some, None, Match
 use Rattle.std.specs.List.{flat_map, list_any}
 use Rattle.std.specs.Option.{option_map, option_map_or}
 use Rattle.std.proofs.lemmas.Bool.{cases_Bool, true≢false}
+use Rattle.cil_sexpr.specs.Places.{get_contains}
 use Rattle.cil_syntax.specs.declared.kind.Kind.{Kind}
 use Rattle.cil_syntax.specs.declared.kind.Kind.TheVariants as kinds
 use Rattle.cil_syntax.specs.declared.kind.Sign.{Sign}
 use Rattle.cil_syntax.specs.declared.kind.Sign.TheVariants as signs
 use Rattle.cil_syntax.specs.Scopes.{Namespace, asked, spaces_asked, ScopedWord}
+use Rattle.std.proofs.Math.Bool.{or-false}
 use Rattle.cil_names.specs.declared.entry.Entry.{Entry}
 use Rattle.cil_names.specs.declared.instance.Instance.{Instance}
 use Rattle.cil_names.specs.declared.space.Space.{Space}
@@ -21,7 +23,7 @@ use Rattle.cil_names.proofs.DeclLemmas.{has_as}
 use Rattle.cil_names.proofs.CandidateLemmas.{parts_of, place_is}
 use Rattle.cil_names.proofs.OrderLemmas.{key_total, one_key}
 use Rattle.std.proofs.lemmas.Option.{slice_get_within}
-use Rattle.cil_names.proofs.SearchLemmas.{member_of_number, one_number}
+use Rattle.cil_names.proofs.SearchLemmas.{one_number}
 use Rattle.cil_names.proofs.SpaceLemmas.{same_number}
 
 -- ---- the kinds of one word are of one name space
@@ -132,7 +134,7 @@ module _ (ss : List Space) (are : AreSpaces ss) (es : List Entry) (ordered : Are
       let (fs, fn, fw) = parts_of ss name sign n e u in
       one_number key_of key_cmp key_total one_key es i j d e ordered.rising p q
       (same_key d e
-      (same_number ss are n d.space e.space (record { within = ordered.within d (member_of_number es i d p); is = ds }) (record { within = ordered.within e (member_of_number es j e q); is = fs }))
+      (same_number ss are n d.space e.space (record { within = ordered.within d (get_contains es i d p); is = ds }) (record { within = ordered.within e (get_contains es j e q); is = fs }))
       (dn ∙ sym fn) (rank_is sign d.kind dw ∙ sym (rank_is sign e.kind fw)))
 
 -- ---- one of a list, where one alone passes a first test
@@ -153,11 +155,7 @@ module _ {X : Type 0} (p q : X → Bool) where
       let same : y ≡ x = let s : y ≡ x = cc in s in
       ap (λ b. (b && q y) || list_any (λ z. p z && q z) ys) (ap p same ∙ t)
       ∙ ap (λ b. q y || b) (none_of ys (λ m z is u. let e : 0 ≡ suc m = one 0 (suc m) x z at is t u in cc))
-      ∙ or_false (q y) ∙ ap q same
-    where
-      or_false : (b : Bool) → (b || false) ≡ b
-      or_false true = refl
-      or_false false = refl
+      ∙ or-false (q y) ∙ ap q same
   both_at (y ∷ ys) one (suc d) x at t =
       elim (cases_Bool (p y)) [
         | inl u ↦ absurd (let e : 0 ≡ suc d = one 0 (suc d) y x refl at u t in cc)

@@ -2,18 +2,20 @@
 use Rattle.std.proofs.Common.{◌≡◌, ℕ, zero, suc, ◌≤◌, ◌&&◌, Bool, true, false, cond, List, [], ◌∷◌, ◌++◌, length, refl, sym, ◌∙◌, ap, inl, inr, arith}
 use Rattle.std.specs.Prelude.{Option, Some, None, MatchOption, slice_get}
 use Rattle.std.specs.Option.{option_map}
-use Rattle.std.specs.Cmp.Lexicographic.{bytes_decides, pointwise_decides}
-use Rattle.std.proofs.lemmas.Bool.{cases_Bool, true≢false}
+use Rattle.std.specs.Cmp.Lexicographic.{bytes_decides}
+use Rattle.std.proofs.lemmas.Bool.{and_parts, cases_Bool}
+use Rattle.cil_sexpr.specs.Places.{cons_head, cons_tail, get_contains}
 use Rattle.cil_syntax.specs.declared.kind.Sign.{Sign}
 use Rattle.cil_syntax.specs.Spelling.{same_bytes}
 use Rattle.cil_syntax.specs.Scopes.{Namespace, names_backwards, same_space}
+use Rattle.std.proofs.lemmas.Option.{same_Some}
+use Rattle.cil_syntax.proofs.DecidedEquality.{spaces_decide}
 use Rattle.cil_names.specs.declared.entry.Entry.{Entry}
 use Rattle.cil_names.specs.declared.space.Space.{Space}
 use Rattle.cil_names.specs.Entries.{AreOrdered, HasNoEntry, IsEntryAt, candidate, is_entry, is_entry_of, place_where, HasNoEntryIn, IsEntryIn}
 use Rattle.cil_syntax.specs.Kinds.{is_wanted}
 use Rattle.cil_names.specs.Spaces.{AreSpaces, HasNoNumber, IsAskedAt, IsAskedNowhere, IsNumber, space_at}
 use Rattle.cil_names.proofs.EntryLemmas.{parts_fit, they_fit}
-use Rattle.cil_names.proofs.SearchLemmas.{member_of_number}
 use Rattle.cil_names.proofs.SpaceLemmas.{same_number}
 
 module _ {X : Type 0} (p : X → Bool) where
@@ -44,14 +46,11 @@ module _ {X : Type 0} (p : X → Bool) where
         | inr f ↦ failed x xs f ∙ ap (option_map suc) (place_some xs d e at fits (λ m y is t. let z = only (suc m) y is t in omega (arith, z)))
       ]
 
-  one_number : (a b : ℕ) → Some a ≡ Some b → a ≡ b
-  one_number a b e = cc
-
   behind : (x : X) (xs : List X) (d : ℕ) (o : Option ℕ) → ((k : ℕ) → o ≡ Some k → (y : X) × (slice_get xs k ≡ Some y) × (p y ≡ true)) → option_map suc o ≡ Some d
       → (y : X) × (slice_get (x ∷ xs) d ≡ Some y) × (p y ≡ true)
   behind x xs d None more e = absurd (let g : None ≡ Some d = e in cc)
   behind x xs d (Some k) more e =
-      let z : suc k ≡ d = one_number (suc k) d e in
+      let z : suc k ≡ d = same_Some (suc k) d e in
       let (y, at, t) = more k refl in
       (y, ap (slice_get (x ∷ xs)) (sym z) ∙ at, t)
 
@@ -60,29 +59,16 @@ module _ {X : Type 0} (p : X → Bool) where
   place_is [] d e = absurd (let g : None ≡ Some d = e in cc)
   place_is (x ∷ xs) d e =
       elim (cases_Bool (p x)) [
-        | inl t ↦ let z : 0 ≡ d = one_number 0 d (sym (passed x xs t) ∙ e) in (x, ap (slice_get (x ∷ xs)) (sym z), t)
+        | inl t ↦ let z : 0 ≡ d = same_Some 0 d (sym (passed x xs t) ∙ e) in (x, ap (slice_get (x ∷ xs)) (sym z), t)
         | inr f ↦ behind x xs d (place_where p xs) (place_is xs) (sym (failed x xs f) ∙ e)
       ]
-
-pub spaces_decide : (a b : Namespace) → (same_space a b ≡ true → a ≡ b) × (a ≡ b → same_space a b ≡ true)
-spaces_decide a b = pointwise_decides bytes_decides a b
-
-both_true : (a b : Bool) → (a && b) ≡ true → (a ≡ true) × (b ≡ true)
-both_true true b e = (refl, e)
-both_true false b e = absurd (true≢false (sym e))
-
-heads : (x y : List ℕ) (m n : Namespace) → x ∷ m ≡ y ∷ n → x ≡ y
-heads x y m n e = cc
-
-tails : (x y : List ℕ) (m n : Namespace) → x ∷ m ≡ y ∷ n → m ≡ n
-tails x y m n e = cc
 
 -- what an entry of a namespace is
 pub parts_of : (ss : List Space) (name : List ℕ) (sign : Sign) (n : Namespace) (e : Entry) → is_entry_of ss name sign n e ≡ true
     → (space_at ss e.space ≡ n) × (e.name ≡ name) × (is_wanted sign e.kind ≡ true)
 parts_of ss name sign n e fits =
-    let (front, wanted) = both_true (same_space (space_at ss e.space) n && same_bytes e.name name) (is_wanted sign e.kind) fits in
-    let (space, named) = both_true (same_space (space_at ss e.space) n) (same_bytes e.name name) front in
+    let (front, wanted) = and_parts (same_space (space_at ss e.space) n && same_bytes e.name name) (is_wanted sign e.kind) fits in
+    let (space, named) = and_parts (same_space (space_at ss e.space) n) (same_bytes e.name name) front in
     ((spaces_decide (space_at ss e.space) n).0 space, (bytes_decides e.name name).0 named, wanted)
 
 pub they_are : (ss : List Space) (name : List ℕ) (sign : Sign) (n : Namespace) (e : Entry) → space_at ss e.space ≡ n → e.name ≡ name → is_wanted sign e.kind ≡ true
@@ -94,7 +80,7 @@ they_are ss name sign n e p q r =
 
 module _ (ss : List Space) (are : AreSpaces ss) (es : List Entry) (ordered : AreOrdered ss es) (name : List ℕ) (sign : Sign) (n : Namespace) where
   within_at : (m : ℕ) (e : Entry) → slice_get es m ≡ Some e → e.space ≤ length ss
-  within_at m e at = ordered.within e (member_of_number es m e at)
+  within_at m e at = ordered.within e (get_contains es m e at)
 
   pub no_space : HasNoNumber ss n → None ≡ candidate ss es name sign n
   no_space none =
@@ -131,5 +117,5 @@ module _ (ss : List Space) (are : AreSpaces ss) (es : List Entry) (ordered : Are
   somewhere k given at r found name inner e =
       let both : given ∷ at.inner ≡ name ∷ inner = sym at.taken ∙ e in
       answer ss are es ordered given sign (at.inner ++ space_at ss from) k at.numbered r found
-      ∙ ap (λ x. candidate ss es x sign (at.inner ++ space_at ss from)) (heads given name at.inner inner both)
-      ∙ ap (λ m. candidate ss es name sign (m ++ space_at ss from)) (tails given name at.inner inner both)
+      ∙ ap (λ x. candidate ss es x sign (at.inner ++ space_at ss from)) (cons_head given name at.inner inner both)
+      ∙ ap (λ m. candidate ss es name sign (m ++ space_at ss from)) (cons_tail given name at.inner inner both)

@@ -10,8 +10,8 @@ use Rattle.cil_syntax.specs.declared.term.Op.{Op}
 use Rattle.cil_syntax.specs.declared.term.Term as rust
 use Rattle.cil_syntax.specs.declared.term.Word.{Word}
 use Rattle.cil_syntax.specs.Said.{all_said, said_of}
+use Rattle.cil_syntax.proofs.SaidLemmas.{form_said, leaf_said, name_said}
 use Rattle.cil_names.specs.Item.{all_words_in, words_in}
-use Rattle.cil_names.proofs.TableLemmas.{form_said, leaf_said, name_said}
 
 -- ---- part by part
 

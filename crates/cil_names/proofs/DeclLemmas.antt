@@ -1,12 +1,14 @@
 -- A namespace has a name exactly where an entry of it is declared.
-use Rattle.std.proofs.Common.{◌≡◌, ℕ, ◌&&◌, ◌||◌, Bool, true, false, List, refl, sym, ◌∙◌, ap, inl, inr}
+use Rattle.std.proofs.Common.{◌≡◌, ℕ, ◌&&◌, ◌||◌, Bool, true, List, ◌∙◌, ap, inl, inr}
 use Rattle.std.specs.List.{list_any}
 use Rattle.std.specs.Cmp.Lexicographic.{bytes_decides}
-use Rattle.std.proofs.lemmas.Bool.{or_cases, or_right, and_parts, and_from, true≢false}
-use Rattle.cil_sexpr.specs.Searches.{any_from, any_true}
+use Rattle.std.proofs.lemmas.Bool.{or_cases, or_right, and_parts, and_from}
+use Rattle.cil_sexpr.specs.Searches.{any_from, any_true, same_truth}
+use Rattle.cil_sexpr.specs.Places.{get_at, get_contains}
 use Rattle.cil_syntax.specs.declared.kind.Sign.{Sign}
 use Rattle.cil_syntax.specs.Spelling.{same_bytes}
 use Rattle.cil_syntax.specs.Scopes.{Namespace, same_space}
+use Rattle.cil_syntax.proofs.DecidedEquality.{spaces_decide}
 use Rattle.cil_names.specs.declared.entry.Entry.{Entry}
 use Rattle.cil_names.specs.declared.instance.Instance.{Instance}
 use Rattle.cil_names.specs.declared.space.Space.{Space}
@@ -15,8 +17,7 @@ use Rattle.cil_names.specs.Entries.{AreEntries, is_declared_in, is_entry_of, ite
 use Rattle.cil_names.specs.Item.{Item, OptSet, is_enabled}
 use Rattle.cil_names.specs.Resolves.{fits, has}
 use Rattle.cil_syntax.specs.Kinds.{is_wanted}
-use Rattle.cil_names.proofs.CandidateLemmas.{parts_of, spaces_decide, they_are}
-use Rattle.cil_names.proofs.SearchLemmas.{member_of_number, number_of_member}
+use Rattle.cil_names.proofs.CandidateLemmas.{parts_of, they_are}
 
 module _ (xs : List Item) (s : OptSet) (name : List ℕ) (sign : Sign) (n : Namespace) where
   pub has_true : has xs s name sign n ≡ true → (d : Declaration) × IsDeclaration xs s d × (fits name sign n d ≡ true)
@@ -39,11 +40,6 @@ module _ (xs : List Item) (s : OptSet) (name : List ℕ) (sign : Sign) (n : Name
       (any_from (λ y. is_enabled s y && list_any (fits name sign n) (declared_by y)) xs x c
       (and_from (is_enabled s x) (list_any (fits name sign n) (declared_by x)) is_on (any_from (fits name sign n) (declared_by x) d by_it h)))
 
-same_truth : (a b : Bool) → (a ≡ true → b ≡ true) → (b ≡ true → a ≡ true) → a ≡ b
-same_truth true b f g = sym (f refl)
-same_truth false true f g = absurd (true≢false (sym (g refl)))
-same_truth false false f g = refl
-
 module _ (ss : List Space) (is : List Instance) (es : List Entry) (entries : AreEntries ss is es) (s : OptSet) (name : List ℕ) (sign : Sign) (n : Namespace) where
   abbrev both : Entry → Bool
   both e = is_entry_of ss name sign n e && is_declared_in s e
@@ -54,7 +50,7 @@ module _ (ss : List Space) (is : List Instance) (es : List Entry) (entries : Are
       let (front, spaced) = and_parts (same_bytes d.name name && is_wanted sign d.kind) (same_space d.space n) f in
       let (named, wanted) = and_parts (same_bytes d.name name) (is_wanted sign d.kind) front in
       let (i, e) = entries.each s d is_d in
-      any_from both es e.entry (member_of_number es i e.entry e.at)
+      any_from both es e.entry (get_contains es i e.entry e.at)
       (and_from (is_entry_of ss name sign n e.entry) (is_declared_in s e.entry)
       (they_are ss name sign n e.entry (e.in_space ∙ (spaces_decide d.space n).0 spaced) (e.of_name ∙ (bytes_decides d.name name).0 named) (ap (is_wanted sign) e.of_kind ∙ wanted))
       e.live)
@@ -64,7 +60,7 @@ module _ (ss : List Space) (is : List Instance) (es : List Entry) (entries : Are
       let (e, c, f) = any_true both es h in
       let (fits_it, live) = and_parts (is_entry_of ss name sign n e) (is_declared_in s e) f in
       let (space, named, wanted) = parts_of ss name sign n e fits_it in
-      let (i, at) = number_of_member es e c in
+      let (i, below_i, at) = get_at es e c in
       let (d, is_d, k, m, l) = entries.only s i e at live in
       has_from (items_of ss is) s name sign n d is_d
       (and_from (same_bytes d.name name && is_wanted sign d.kind) (same_space d.space n)

@@ -1,6 +1,6 @@
 -- Contents of declarations are equal where their terms are, one after another.
 use Rattle.std.specs.Prelude.{IsTrue}
-use Rattle.std.proofs.Common.{rules, ◌≡◌, ℕ, ◌<◌, ◌≤◌, suc, Bool, true, false, List, [], ◌∷◌, length, drop, get_or, refl, sym, ◌∙◌, ap, subst}
+use Rattle.std.proofs.Common.{◌≡◌, ℕ, ◌<◌, ◌≤◌, suc, Bool, true, false, List, [], ◌∷◌, length, drop, get_or, refl, sym, ◌∙◌, ap, subst}
 use Rattle.std.proofs.Math.Seq.{drop-cons}
 use Rattle.std.proofs.lemmas.List.{drop_all}
 use Rattle.std.specs.Global.{Vec}
@@ -9,23 +9,14 @@ use Rattle.cil_syntax.specs.declared.term.LookedUp.{LookedUp}
 use Rattle.cil_syntax.specs.declared.term.Op.{Op}
 use Rattle.cil_syntax.specs.declared.term.Term as rust
 use Rattle.cil_syntax.specs.declared.term.Term.{the_lemmas}
-use Rattle.cil_syntax.specs.Said.{all_said, said_of, word_in}
-use Rattle.cil_syntax.specs.Terms.{Leaf, Name, Form, Term, Terms, nil, cons, spot_at}
+use Rattle.cil_syntax.specs.Terms.{Leaf, Name, Form, Term, Terms, nil, cons}
 use Rattle.cil_syntax.specs.Scopes.{Scope}
+use Rattle.cil_syntax.proofs.SaidLemmas.{form_said, leaf_said, name_said}
 use Rattle.cil_names.specs.DeclareRows.{bare_term, bare_terms, in_scope}
 use Rattle.cil_names.specs.Declarations.{Bare, bare, nowhere}
 use Rattle.cil_names.specs.Item.{all_replaced, replaced}
 
 -- ---- one term
-
-leaf_said : (m : ℕ) (w : LookedUp) → said_of m (rust.Leaf w) ≡ Leaf (word_in m w)
-leaf_said m w = search (rules, the_lemmas)
-
-name_said : (m : ℕ) (at : ℕ) (bytes : List ℕ) → said_of m (rust.Name at bytes) ≡ Name (spot_at m at) bytes
-name_said m at bytes = search (rules, the_lemmas)
-
-form_said : (m : ℕ) (at : ℕ) (op : Op) (parts : Vec rust.Term) → said_of m (rust.Form op at parts) ≡ Form (spot_at m at) op (all_said m parts.items)
-form_said m at op parts = search (rules, the_lemmas)
 
 abbrev pub bare_word : Scope → List ℕ → Sign → Bare
 bare_word s bytes sign = record { bytes = bytes; sign = sign; scope = s }

@@ -1,18 +1,14 @@
 -- The faults of runs are those of declarations that differ.
-use Rattle.std.specs.Prelude.{◌⊎◌, Contains, IsErrAnd, Some, Result, Ok, Err, slice_get, if◌then◌else◌}
+use Rattle.std.specs.Prelude.{◌⊎◌, Contains, Some, slice_get, if◌then◌else◌}
 use Rattle.std.specs.List.{flat_map, list_all}
 use Rattle.std.specs.Option.{unwrap_or}
-use Rattle.std.proofs.Common.{◌≡◌, ℕ, zero, suc, Bool, true, false, List, [], ◌∷◌, refl, sym, ◌∙◌, ap, subst, inl, inr}
+use Rattle.std.proofs.Common.{◌≡◌, ℕ, Bool, true, false, List, [], ◌∷◌, refl, sym, ◌∙◌, ap, subst, inl, inr}
 use Rattle.std.proofs.lemmas.Bool.{true≢false}
 use Rattle.cil_sexpr.specs.Lists.{contains_here, contains_later, contains_cases, contains_none}
 use Rattle.cil_sexpr.specs.MadeLists.{contains_flat, contains_map, from_flat, from_map}
+use Rattle.cil_sexpr.specs.Places.{get_at}
 use Rattle.cil_syntax.specs.declared.code.FaultCode.TheVariants as causes
-use Rattle.cil_syntax.specs.declared.failure.Failure.{Failure}
-use Rattle.cil_syntax.specs.declared.failure.Failure.TheVariants.{Faults, NoMemory}
 use Rattle.cil_syntax.specs.declared.fault.Fault.{Fault}
-use Rattle.cil_syntax.specs.FaultOrder.{fault_cmp}
-use Rattle.cil_syntax.specs.Refusal.{Answers, Fails}
-use Rattle.cil_syntax.specs.Sorted.{lists_of}
 use Rattle.cil_syntax.specs.declared.kind.Kind.{Kind}
 use Rattle.cil_syntax.specs.declared.kind.Kind.TheVariants as kinds
 use Rattle.cil_syntax.specs.declared.term.Spot.{Spot}
@@ -25,7 +21,7 @@ use Rattle.cil_names.specs.declared.instance.Instance.{Instance}
 use Rattle.cil_names.specs.declared.row.Row.{Row}
 use Rattle.cil_names.specs.declared.run.Run.{Run}
 use Rattle.cil_names.specs.declared.space.Space.{Space}
-use Rattle.cil_names.specs.Declarations.{Declaration, NameSpace, declared_by, name_space, of_classes, of_blocks, of_roles, of_types, of_users}
+use Rattle.cil_names.specs.Declarations.{Declaration, declared_by, name_space}
 use Rattle.cil_names.specs.DeclareRows.{TellsDiffering, all_rows, declaration_of, is_row_enabled, object_row, round_at, row_key, rows_by, rows_named}
 use Rattle.cil_names.specs.DeclareRuns.{faults_at, faults_named, row_faults, run_faults, run_key}
 use Rattle.cil_names.specs.Entries.{Key, item_of, items_of, key_cmp, rank}
@@ -33,20 +29,13 @@ use Rattle.cil_names.specs.Faults.{ClashFault, clash}
 use Rattle.cil_names.specs.Item.{Item, all_replaced, everybody}
 use Rattle.cil_syntax.specs.Scopes.{ScopedWord}
 use Rattle.cil_names.specs.Spaces.{space_at}
-use Rattle.cil_names.proofs.DeclareDecided.{same_declaration}
+use Rattle.cil_names.proofs.DeclareDecided.{name_space_at, rank_from, ranked_back, same_declaration}
 use Rattle.cil_names.proofs.DeclareDone.{AreRunsOf, declared_row, in_rows, of_row, placed_in, row_declared, row_is, row_of, run_of, said, space_within}
 use Rattle.cil_names.proofs.OrderLemmas.{key_total, one_key}
-use Rattle.cil_names.proofs.SearchLemmas.{number_of_member, one_number}
+use Rattle.cil_names.proofs.SearchLemmas.{one_number}
 use Rattle.cil_names.proofs.SpaceLemmas.{same_number}
 
 -- ---- name spaces and their numbers
-
-rank_from : NameSpace → ℕ
-rank_from of_types = 0
-rank_from of_roles = 1
-rank_from of_users = 2
-rank_from of_classes = 3
-rank_from of_blocks = 4
 
 ranked : (k : Kind) → rank k ≡ rank_from (name_space k)
 unfolding rank_from
@@ -61,21 +50,6 @@ ranked kinds.Class = refl
 ranked kinds.ClassMap = refl
 ranked kinds.Block = refl
 ranked kinds.Macro = refl
-
-name_space_at : ℕ → NameSpace
-name_space_at zero = of_types
-name_space_at (suc zero) = of_roles
-name_space_at (suc (suc zero)) = of_users
-name_space_at (suc (suc (suc zero))) = of_classes
-name_space_at (suc (suc (suc (suc n)))) = of_blocks
-
-ranked_back : (n : NameSpace) → name_space_at (rank_from n) ≡ n
-unfolding rank_from name_space_at
-ranked_back of_types = refl
-ranked_back of_roles = refl
-ranked_back of_users = refl
-ranked_back of_classes = refl
-ranked_back of_blocks = refl
 
 same_name_space : (j k : Kind) → rank j ≡ rank k → name_space j ≡ name_space k
 same_name_space j k e =
@@ -194,8 +168,8 @@ module _ (ss : List Space) (is : List Instance) (rows : List Row) (runs : List R
   -- rows with one key are of one run
   one_run : (a b : Row) (m n : Run) → row_key a ≡ row_key b → Contains runs m → Contains m.rows.now a → Contains runs n → Contains n.rows.now b → m ≡ n
   one_run a b m n key in_m a_in in_n b_in =
-      let (i, at_i) = number_of_member runs m in_m in
-      let (j, at_j) = number_of_member runs n in_n in
+      let (i, below_i, at_i) = get_at runs m in_m in
+      let (j, below_j, at_j) = get_at runs n in_n in
       let same = sym ((of.are.each m in_m).same a a_in) ∙ key ∙ (of.are.each n in_n).same b b_in in
       let numbers = one_number run_key key_cmp key_total one_key runs i j m n of.are.rising at_i at_j same in
       ap (λ o. unwrap_or o m) (sym at_i ∙ ap (slice_get runs) numbers ∙ at_j)
@@ -270,14 +244,3 @@ module _ (ss : List Space) (is : List Instance) (rows : List Row) (runs : List R
           let is_run = of.are.each run c in
           let (x, in_x, apart) = differing_of ss run.first.now run.rows.now run.differing e is_run.tells in
           absurd (apart (ap (declaration_of ss) (is_object run.first.now is_run.first e ∙ sym (is_object x in_x e))))
-
--- ---- a refusal that is handed on
-
-pub handed_on : {X : Type 0} (P : X → Type 0) (step : Fault → Type 0) (r : Result X Failure) (failure : Failure) → IsErrAnd r (λ e. e ≡ failure) → Fails step failure → Answers P step r
-handed_on P step (Ok x) failure is fails = absurd is
-handed_on P step (Err e) failure is fails = subst (Fails step) (sym is) fails
-
--- a refusal with the faults of one set is one with those of an equal set
-pub fails_of : (A B : Fault → Type 0) → ((f : Fault) → A f → B f) → ((f : Fault) → B f → A f) → (failure : Failure) → Fails A failure → Fails B failure
-fails_of A B there back (Faults fs) a = record { listed = lists_of fault_cmp A B fs there back a.listed; some = a.some }
-fails_of A B there back NoMemory a = a

@@ -9,7 +9,8 @@ use Rattle.std.specs.Ordering.{on}
 use Rattle.std.specs.Global.{Vec}
 use Rattle.std.proofs.Common.{◌≡◌, ℕ, Bool, true, false, ◌||◌, List, [], ◌∷◌, ◌++◌, map, length, refl, sym, ◌∙◌, ap, subst}
 use Rattle.std.proofs.lemmas.Option.{slice_get-map}
-use Rattle.cil_sexpr.specs.Searches.{any_from, any_true}
+use Rattle.cil_sexpr.specs.Searches.{any_from, any_map, any_true}
+use Rattle.cil_sexpr.specs.Places.{get_at, get_contains}
 use Rattle.cil_names.specs.declared.entry.Entry.{Entry}
 use Rattle.cil_names.specs.declared.instance.Instance.{Instance}
 use Rattle.cil_names.specs.declared.row.Row.{Row}
@@ -23,7 +24,6 @@ use Rattle.cil_names.specs.Item.{OptSet, everybody}
 use Rattle.cil_names.specs.Spaces.{space_at}
 use Rattle.cil_names.proofs.DeclareFaults.{all_enabled}
 use Rattle.cil_names.proofs.DeclareDone.{AreRunsOf, declared_row, in_rows, placed_in, row_declared, run_of, space_within}
-use Rattle.cil_names.proofs.SearchLemmas.{member_of_number, number_of_member}
 
 -- ---- where an entry is declared
 
@@ -31,10 +31,6 @@ or_moved : (a x b : Bool) → (a || (x || b)) ≡ (x || (a || b))
 or_moved true true b = refl
 or_moved true false b = refl
 or_moved false x b = refl
-
-any_map : {X Y : Type 0} (f : X → Y) (p : Y → Bool) (xs : List X) → list_any p (map f xs) ≡ list_any (λ x. p (f x)) xs
-any_map f p [] = refl
-any_map f p (x ∷ xs) = ap (λ b. p (f x) || b) (any_map f p xs)
 
 module _ (s : OptSet) where
   abbrev lives : List Row → Bool
@@ -70,14 +66,14 @@ module _ (es : List Entry) (runs : List Run) (says : map said_by es ≡ map entr
 
   pub entry_for : (run : Run) → Contains runs run → (n : ℕ) × (e : Entry) × (slice_get es n ≡ Some e) × (said_by e ≡ entry_of_run run)
   entry_for run c =
-      let (n, at) = number_of_member runs run c in
+      let (n, below_n, at) = get_at runs run c in
       let (e, is, same) = some_of said_by (slice_get es n) (entry_of_run run) (same_at n ∙ ap (option_map entry_of_run) at) in
       (n, e, is, same)
 
   pub run_for : (n : ℕ) (e : Entry) → slice_get es n ≡ Some e → (run : Run) × Contains runs run × (said_by e ≡ entry_of_run run)
   run_for n e at =
       let (run, is, same) = some_of entry_of_run (slice_get runs n) (said_by e) (sym (same_at n) ∙ ap (option_map said_by) at) in
-      (run, member_of_number runs n run is, sym same)
+      (run, get_contains runs n run is, sym same)
 
 -- ---- the order of entries
 
@@ -166,7 +162,7 @@ module _ (ss : List Space) (is : List Instance) (rows : List Row) (runs : List R
 
   stands_within : (e : Entry) → Contains es e → e.space ≤ length ss
   stands_within e c =
-      let (n, at) = number_of_member es e c in
+      let (n, below_n, at) = get_at es e c in
       let (run, in_runs, said) = run_for es runs says n e at in
       let within = space_within ss run.first.now (placed_in ss is rows runs of run run.first.now in_runs (of.are.each run in_runs).first) in
       subst (λ k. k ≤ length ss) (sym (ap (λ (z : Said). z.space) said)) within

@@ -5,6 +5,7 @@ use Rattle.std.proofs.lemmas.Bool.{true≢false}
 use Rattle.std.proofs.lemmas.List.{append-nil, take_all, take_more}
 use Rattle.std.proofs.lemmas.List.Elements.{Contains-append_cases}
 use Rattle.cil_sexpr.specs.Lists.{contains_cases, contains_none}
+use Rattle.cil_sexpr.specs.Places.{cons_head, cons_tail}
 use Rattle.cil_syntax.specs.declared.kind.Kind.{Kind}
 use Rattle.cil_syntax.specs.declared.term.Spot.{Spot}
 use Rattle.cil_syntax.specs.declared.term.Term as rust
@@ -13,7 +14,7 @@ use Rattle.cil_syntax.specs.Forms.{name_in_front}
 use Rattle.cil_syntax.specs.Said.{all_said, args_of}
 use Rattle.cil_syntax.specs.Table.{entry_of}
 use Rattle.cil_syntax.specs.Terms.{Leaf, Name, Form, Terms, nil, cons}
-use Rattle.cil_syntax.specs.Scopes.{Namespace, Scope}
+use Rattle.cil_syntax.specs.Scopes.{Scope}
 use Rattle.cil_names.specs.declared.instance.Instance.{Instance}
 use Rattle.cil_names.specs.declared.row.Row.{Row}
 use Rattle.cil_names.specs.declared.space.Space.{Space}
@@ -101,15 +102,9 @@ module _ (ss : List Space) (spaces : AreSpaces ss) where
   one_scope [] (y ∷ ys) p q e = absurd cc
   one_scope (x ∷ xs) [] p q e = absurd cc
   one_scope (x ∷ xs) (y ∷ ys) p q e =
-      let one = same_number ss spaces (space_at ss y) x y (record { within = p 0 0 (omega arith); is = first_space _ _ _ _ e }) (record { within = q 0 0 (omega arith); is = refl }) in
-      let others = one_scope xs ys (λ k d h. p (suc k) d (omega (arith, h))) (λ k d h. q (suc k) d (omega (arith, h))) (other_spaces _ _ _ _ e) in
+      let one = same_number ss spaces (space_at ss y) x y (record { within = p 0 0 (omega arith); is = cons_head _ _ _ _ e }) (record { within = q 0 0 (omega arith); is = refl }) in
+      let others = one_scope xs ys (λ k d h. p (suc k) d (omega (arith, h))) (λ k d h. q (suc k) d (omega (arith, h))) (cons_tail _ _ _ _ e) in
       λ i. one i ∷ others i
-    where
-      first_space : (a b : Namespace) (ms ns : Scope) → a ∷ ms ≡ b ∷ ns → a ≡ b
-      first_space a b ms ns f = cc
-
-      other_spaces : (a b : Namespace) (ms ns : Scope) → a ∷ ms ≡ b ∷ ns → ms ≡ ns
-      other_spaces a b ms ns f = cc
 
   module _ (a b : Row) (placed_a : IsPlacedRow ss a) (placed_b : IsPlacedRow ss b) where
     pub scopes_told : (same : Bool) → (IsTrue same → scope_numbers a.instance ≡ scope_numbers b.instance) × (scope_numbers a.instance ≡ scope_numbers b.instance → IsTrue same)

@@ -14,6 +14,7 @@ use Rattle.std.proofs.lemmas.List.Elements.{Contains-append_left, Contains-appen
 use Rattle.std.proofs.lemmas.List.Sorted.{ranks_by, sorted_far}
 use Rattle.std.proofs.Common.{append_assoc}
 use Rattle.cil_sexpr.specs.Lists.{contains_here, contains_later, contains_cases, contains_none}
+use Rattle.cil_sexpr.specs.Places.{in_drop, in_take}
 use Rattle.cil_names.specs.declared.row.Row.{Row}
 use Rattle.cil_names.specs.declared.run.Run.{Run}
 use Rattle.cil_names.specs.declared.space.Space.{Space}
@@ -24,29 +25,6 @@ use Rattle.cil_names.specs.Spaces.{AreSpaces}
 use Rattle.cil_names.proofs.OrderLemmas.{key_total, one_key}
 
 -- ---- the first items of a list, and the others
-
-module _ {X : Type 0} (P : X → Type 0) where
-  pub in_take : (n : ℕ) (xs : List X) → ((k : ℕ) (d : X) → k < n → k < length xs → P (get_or xs k d)) → (x : X) → Contains (take n xs) x → P x
-  in_take zero xs all x c = absurd (contains_none x c)
-  in_take (suc n) [] all x c = absurd (contains_none x c)
-  in_take (suc n) (y ∷ ys) all x c =
-      elim (contains_cases x y (take n ys) c) [
-        | inl e ↦ subst P e (all 0 y (omega arith) (omega arith))
-        | inr d ↦ in_take n ys (λ k e a b. all (suc k) e (omega (arith, a)) (omega (arith, b))) x d
-      ]
-
-  pub in_drop : (n : ℕ) (xs : List X) → ((k : ℕ) (d : X) → n ≤ k → k < length xs → P (get_or xs k d)) → (x : X) → Contains (drop n xs) x → P x
-  in_drop n [] all x c = absurd (contains_none x (none n c))
-    where
-      none : (m : ℕ) → Contains (drop m []) x → Contains [] x
-      none zero d = d
-      none (suc m) d = d
-  in_drop zero (y ∷ ys) all x c =
-      elim (contains_cases x y ys c) [
-        | inl e ↦ subst P e (all 0 y (omega arith) (omega arith))
-        | inr d ↦ in_drop zero ys (λ k e a b. all (suc k) e (omega arith) (omega (arith, b))) x d
-      ]
-  in_drop (suc n) (y ∷ ys) all x c = in_drop n ys (λ k e a b. all (suc k) e (omega (arith, a)) (omega (arith, b))) x c
 
 first_of_take : {X : Type 0} (n : ℕ) (xs : List X) (x : X) → 0 < n → 0 < length xs → x ≡ get_or xs 0 x → Contains (take n xs) x
 first_of_take zero xs x some within is = absurd (omega (arith, some))
@@ -125,12 +103,9 @@ module _ (first : Row) (rest : List Row) (sorted : IsSortedByKey row_key key_cmp
 pub sorted_left : (n : ℕ) (xs : List Row) → IsSortedByKey row_key key_cmp xs → IsSortedByKey row_key key_cmp (drop n xs)
 sorted_left n xs sorted k d low within =
     let len = length-drop n xs in
-    ap is_lt (λ i. key_cmp (row_key (shifted (k + 1) i)) (row_key (shifted k i)))
+    ap is_lt (λ i. key_cmp (row_key (get_or-drop n xs (k + 1) d i)) (row_key (get_or-drop n xs k d i)))
     ∙ subst (λ m. is_lt (key_cmp (row_key (get_or xs m d)) (row_key (get_or xs (n + k) d))) ≡ false) (let e : (n + k) + 1 ≡ n + (k + 1) = omega arith in e)
     (sorted (n + k) d (omega arith) (omega (arith, within, len)))
-  where
-    shifted : (j : ℕ) → get_or (drop n xs) j d ≡ get_or xs (n + j) d
-    shifted j = get_or-drop n xs j d
 
 -- ---- the run at a place
 
@@ -155,9 +130,6 @@ module _ (rows : List Row) (start n : ℕ) (rest : List Row) (is_rest : rest ≡
 
 pub some_within : {X : Type 0} (xs : List X) (x : X) → Contains xs x → 0 < length xs
 some_within xs x (k, h, e) = omega (arith, h)
-
-pub row_at : (rows : List Row) (start : ℕ) (r : Row) → start < length rows → r ≡ get_or rows start r → Contains rows r
-row_at rows start r within is = (start, within, sym is)
 
 -- ---- runs, one after another
 

@@ -1,9 +1,9 @@
 -- Entries, by their keys and by what words want.
-use Rattle.std.proofs.Common.{◌≡◌, ℕ, ◌&&◌, ◌==◌, Bool, true, false, List, get_or, refl, sym, ◌∙◌, ap, arith}
+use Rattle.std.proofs.Common.{◌≡◌, ℕ, ◌&&◌, ◌==◌, true, false, List, get_or, sym, ◌∙◌, ap, arith}
 use Rattle.std.specs.Prelude.{Some, slice_get}
 use Rattle.std.specs.Cmp.Lexicographic.{bytes_decides}
-use Rattle.std.proofs.lemmas.Bool.{true≢false}
-use Rattle.std.proofs.lemmas.Option.{slice_get_within, slice_get-get_or}
+use Rattle.std.proofs.lemmas.Bool.{and_parts, true≢false}
+use Rattle.std.proofs.lemmas.Option.{same_Some, slice_get-get_or, slice_get_within}
 use Rattle.std.proofs.lemmas.Bool.Decides.{nat_tests}
 use Rattle.cil_syntax.specs.declared.kind.Kind.{Kind}
 use Rattle.cil_syntax.specs.declared.kind.Sign.{Sign}
@@ -12,13 +12,6 @@ use Rattle.cil_names.specs.declared.entry.Entry.{Entry}
 use Rattle.cil_names.specs.Entries.{HasNoEntry, IsEntryAt, Key, is_entry, key_of, rank}
 use Rattle.cil_names.specs.Found.{IsFound, IsMissing}
 use Rattle.cil_syntax.specs.Kinds.{is_wanted}
-
-pub one_some : (x y : Entry) → Some x ≡ Some y → x ≡ y
-one_some x y e = cc
-
-both_true : (a b : Bool) → (a && b) ≡ true → (a ≡ true) × (b ≡ true)
-both_true true b e = (refl, e)
-both_true false b e = absurd (true≢false (sym e))
 
 same_number : (a b : ℕ) → (a == b) ≡ true → a ≡ b
 same_number a b e = grind (arith, nat_tests)
@@ -29,8 +22,8 @@ is_itself a = grind (arith, nat_tests)
 -- what an entry that fits is
 pub parts_fit : (name : List ℕ) (sign : Sign) (k : ℕ) (e : Entry) → is_entry name sign k e ≡ true → (e.space ≡ k) × (e.name ≡ name) × (is_wanted sign e.kind ≡ true)
 parts_fit name sign k e fits =
-    let (front, wanted) = both_true ((e.space == k) && same_bytes e.name name) (is_wanted sign e.kind) fits in
-    let (space, named) = both_true (e.space == k) (same_bytes e.name name) front in
+    let (front, wanted) = and_parts ((e.space == k) && same_bytes e.name name) (is_wanted sign e.kind) fits in
+    let (space, named) = and_parts (e.space == k) (same_bytes e.name name) front in
     (same_number e.space k space, (bytes_decides e.name name).0 named, wanted)
 
 pub they_fit : (name : List ℕ) (sign : Sign) (k : ℕ) (e : Entry) → e.space ≡ k → e.name ≡ name → is_wanted sign e.kind ≡ true → is_entry name sign k e ≡ true
@@ -52,7 +45,7 @@ module _ (es : List Entry) (name : List ℕ) (sign : Sign) (k r : ℕ) (of_rank 
   module _ (d : ℕ) (found : IsFound key_of es (record { space = k; name = name; rank = r }) d) where
     pub entry_found : (e : Entry) → slice_get es d ≡ Some e → is_wanted sign e.kind ≡ true → IsEntryAt es name sign k d
     entry_found e at wanted =
-        let same : found.item ≡ e = one_some found.item e (sym found.at ∙ at) in
+        let same : found.item ≡ e = same_Some found.item e (sym found.at ∙ at) in
         record {
           entry = e;
           at = at;
@@ -62,7 +55,7 @@ module _ (es : List Entry) (name : List ℕ) (sign : Sign) (k r : ℕ) (of_rank 
 
     pub entry_other : (e : Entry) → slice_get es d ≡ Some e → is_wanted sign e.kind ≡ false → HasNoEntry es name sign k
     entry_other e at unwanted m x is fits =
-        let same : x ≡ e = one_some x e (sym is ∙ ap (slice_get es) (found.only m x is (has_key x fits)) ∙ at) in
+        let same : x ≡ e = same_Some x e (sym is ∙ ap (slice_get es) (found.only m x is (has_key x fits)) ∙ at) in
         let (space, named, wanted) = parts_fit name sign k x fits in
         true≢false (sym wanted ∙ ap (λ (e : Entry). is_wanted sign e.kind) same ∙ unwanted)
 

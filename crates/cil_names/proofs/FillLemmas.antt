@@ -3,14 +3,11 @@ use Rattle.std.specs.Prelude.{Contains, if◌then◌else◌, not, ◌&&◌}
 use Rattle.std.specs.List.{flat_map}
 use Rattle.std.proofs.Common.{◌≡◌, ℕ, ◌+◌, ◌<◌, true, false, List, [], ◌∷◌, ◌++◌, length, drop, get_or, refl, sym, ◌∙◌, ap, subst, inl, inr}
 use Rattle.std.proofs.lemmas.Bool.{and_parts, and_from, cases_Bool, not-true}
-use Rattle.std.proofs.lemmas.List.Elements.{Contains-get_or}
 use Rattle.cil_sexpr.specs.Lists.{contains_cases, contains_here, contains_none}
 use Rattle.cil_sexpr.specs.MadeLists.{contains_flat, contains_map, from_flat, from_map}
+use Rattle.cil_sexpr.specs.Places.{contains_at}
 use Rattle.cil_syntax.specs.declared.code.FaultCode.TheVariants as causes
 use Rattle.cil_syntax.specs.declared.fault.Fault.{Fault}
-use Rattle.cil_syntax.specs.Fails.{AreFaults}
-use Rattle.cil_syntax.specs.FaultOrder.{fault_cmp}
-use Rattle.cil_syntax.specs.Sorted.{lists_of}
 use Rattle.cil_syntax.specs.Reported.{fault_at}
 use Rattle.cil_syntax.specs.Scopes.{Namespace}
 use Rattle.cil_names.specs.declared.instance.Instance.{Instance}
@@ -23,10 +20,6 @@ use Rattle.cil_names.specs.Resolves.{Wanted, is_judged, resolves, told_word, wor
 use Rattle.cil_names.specs.Spaces.{space_at}
 use Rattle.cil_names.specs.Unresolved.{fault_of_word, faults_in, faults_of_all, faults_of_wanted, is_outside}
 use Rattle.cil_names.proofs.ScopeLemmas.{passed_on}
-
--- one set of faults has the list of an equal one
-pub faults_of_same : (A B : Fault → Type 0) (fs : List Fault) → ((f : Fault) → A f → B f) → ((f : Fault) → B f → A f) → AreFaults A fs → AreFaults B fs
-faults_of_same A B fs there back a = record { listed = lists_of fault_cmp A B fs there back a.listed; some = a.some }
 
 outside_is : (round : List ℕ) → is_outside round ≡ true → round ≡ []
 outside_is [] e = refl
@@ -84,11 +77,8 @@ module _ (ss : List Space) (is : List Instance) (s : OptSet) where
       (subst (λ (y : Item). Contains (faults_of_wanted (items_of ss is) s (space_at ss i.place.now.space) w) (fault_at causes.Unresolved (told_word w).at y.space (told_word w).bytes)) same
       (told_to (items_of ss is) s (space_at ss i.place.now.space) w judged missing))))
 
-  pub none_left : [] ≡ flat_map told is → (f : Fault) → ResolveFault s (items_of ss is) f → ⊥
-  none_left e f r = contains_none f (subst (λ l. Contains l f) (sym e) (all_back f r))
-
 pub placed_at : (ss : List Space) (is : List Instance) → ((i : Instance) → Contains is i → IsPlaced ss i) → (k : ℕ) (i : Instance) → k < length is → i ≡ get_or is k i → IsPlaced ss i
-placed_at ss is placed k i within e = placed i (subst (Contains is) (sym e) (Contains-get_or is k i within))
+placed_at ss is placed k i within e = placed i (contains_at is k i i within e)
 
 -- one more instance was checked
 pub told_on : {X Y : Type 0} (f : X → List Y) (xs : List X) (i : ℕ) (x : X) → i < length xs → x ≡ get_or xs i x → (before new all : List Y) → before ++ flat_map f (drop i xs) ≡ all

@@ -13,7 +13,6 @@ pub mod DeclareRowLemmas
 pub mod DeclareRunLemmas
 pub mod EntryLemmas
 pub mod FillLemmas
-pub mod KindLemmas
 pub mod ListedLemmas
 pub mod MeaningLemmas
 pub mod NumberLemmas

@@ -7,10 +7,13 @@ use Rattle.std.specs.Option.{is_some, option_map_or}
 use Rattle.std.specs.Cmp.Lexicographic.{bytes_decides}
 use Rattle.std.proofs.lemmas.Bool.{and_parts, cases_Bool}
 use Rattle.cil_sexpr.specs.Searches.{any_true}
+use Rattle.cil_sexpr.specs.Places.{get_contains}
 use Rattle.cil_syntax.specs.declared.fault.Bytes.{Bytes}
 use Rattle.cil_syntax.specs.declared.kind.Sign.TheVariants as signs
 use Rattle.cil_syntax.specs.Spelling.{same_bytes}
 use Rattle.cil_syntax.specs.Scopes.{asked, same_space, ScopedWord}
+use Rattle.cil_syntax.proofs.DecidedEquality.{spaces_decide}
+use Rattle.cil_names.proofs.DeclareDecided.{symbol_by}
 use Rattle.cil_names.specs.declared.entry.Entry.{Entry}
 use Rattle.cil_names.specs.declared.instance.Instance.{Instance}
 use Rattle.cil_names.specs.declared.space.Space.{Space}
@@ -23,9 +26,8 @@ use Rattle.cil_names.specs.Resolves.{Permission as APermission, fits, found_in, 
 use Rattle.cil_syntax.specs.Kinds.{is_wanted}
 use Rattle.cil_names.specs.Spaces.{AreSpaces, space_at}
 use Rattle.cil_names.specs.Unresolved.{ArePermissions, listed_at}
-use Rattle.cil_names.proofs.CandidateLemmas.{parts_of, spaces_decide}
+use Rattle.cil_names.proofs.CandidateLemmas.{parts_of}
 use Rattle.cil_names.proofs.EntryLemmas.{parts_fit, they_fit}
-use Rattle.cil_names.proofs.SearchLemmas.{member_of_number}
 use Rattle.cil_names.proofs.SpaceLemmas.{same_number}
 
 -- an answer tells whether the word is found
@@ -33,9 +35,6 @@ pub answered_found : (ss : List Space) (is : List Instance) (es : List Entry) (s
     → is_some r ≡ is_some (found_in (items_of ss is) s w)
 answered_found ss is es s w None none = ap is_some (sym none)
 answered_found ss is es s w (Some d) named = ap is_some (sym named.found)
-
-alike : (t u : Symbol) → t.space ≡ u.space → t.name ≡ u.name → t ≡ u
-alike t u p q = λ i. record { space = p i; name = q i }
 
 module _ (ss : List Space) (are : AreSpaces ss) (is : List Instance) (es : List Entry) (entries : AreEntries ss is es) where
   -- a permission is given to a class that is declared
@@ -54,7 +53,7 @@ module _ (ss : List Space) (are : AreSpaces ss) (is : List Instance) (es : List 
             absurd (none i e.entry e.at
             (they_fit name signs.Classes k e.entry
             (same_number ss are (space_at ss k) e.entry.space k
-            (record { within = entries.ordered.within e.entry (member_of_number es i e.entry e.at); is = e.in_space ∙ (spaces_decide d.space (space_at ss k)).0 spaced })
+            (record { within = entries.ordered.within e.entry (get_contains es i e.entry e.at); is = e.in_space ∙ (spaces_decide d.space (space_at ss k)).0 spaced })
             (record { within = within; is = refl }))
             (e.of_name ∙ (bytes_decides d.name name).0 same) (ap (is_wanted signs.Classes) e.of_kind ∙ wanted)))
         | inr f ↦ f
@@ -67,7 +66,7 @@ module _ (ss : List Space) (are : AreSpaces ss) (is : List Instance) (es : List 
 
     -- no class has this name
     pub listed_of_none : HasNoEntry es e.name signs.Classes e.space → false ≡ has_permission_at ss es (items_of ss is) p d
-    listed_of_none none = sym (has_of ∙ no_class e.space e.name (entries.ordered.within e (member_of_number es d e at)) none p)
+    listed_of_none none = sym (has_of ∙ no_class e.space e.name (entries.ordered.within e (get_contains es d e at)) none p)
 
     -- one has it
     pub listed_of_class : (lists : List (Vec Bytes)) → ArePermissions ss es (items_of ss is) lists → (c : ℕ) → IsEntryAt es e.name signs.Classes e.space c → (l : List (List ℕ))
@@ -75,7 +74,7 @@ module _ (ss : List Space) (are : AreSpaces ss) (is : List Instance) (es : List 
     listed_of_class lists permissions c class_ l same =
         let (space, name, wanted) = parts_fit e.name signs.Classes e.space class_.entry class_.fits in
         ap (list_any (same_bytes p)) same ∙ permissions.each c class_.entry class_.at wanted p
-        ∙ ap (λ (t : Symbol). has_permission (items_of ss is) t p) (alike (symbol_of ss class_.entry) (symbol_of ss e) (ap (space_at ss) space) name)
+        ∙ ap (λ (t : Symbol). has_permission (items_of ss is) t p) (symbol_by (symbol_of ss class_.entry) (symbol_of ss e) (ap (space_at ss) space) name)
         ∙ sym has_of
 
   -- the class that a class word names
@@ -86,7 +85,7 @@ module _ (ss : List Space) (are : AreSpaces ss) (is : List Instance) (es : List 
     one_symbol : symbol_of ss named.entry ≡ found_symbol
     one_symbol =
         let (space, name, wanted) = parts_of ss (asked c.bytes).name c.sign named.space named.entry named.fits in
-        alike (symbol_of ss named.entry) found_symbol space name
+        symbol_by (symbol_of ss named.entry) found_symbol space name
 
     -- a permission resolves where this class has it
     pub asked_of_class : (s : OptSet) (q : ScopedWord) → resolves (items_of ss is) s (APermission c q) ≡ has_permission_at ss es (items_of ss is) q.bytes d

@@ -12,6 +12,8 @@ use Rattle.std.proofs.lemmas.Option.{get_or_from_slice_get, slice_get-map}
 use Rattle.cil_sexpr.specs.Lists.{Lists, text_cmp, contains_cases, contains_here, contains_none}
 use Rattle.cil_sexpr.specs.MadeLists.{contains_flat, from_flat}
 use Rattle.cil_sexpr.specs.Searches.{any_from, any_true}
+use Rattle.cil_sexpr.specs.Places.{drop_at, get_at, get_contains}
+use Rattle.cil_sexpr.specs.Rising.{rising_nothing}
 use Rattle.cil_syntax.specs.declared.kind.Kind.{Kind}
 use Rattle.cil_syntax.specs.declared.kind.Kind.TheVariants as kinds
 use Rattle.cil_syntax.specs.Sorted.{lists_of}
@@ -26,9 +28,8 @@ use Rattle.cil_names.specs.Numbers.{AreNumbers, IsNameAmong, has_section, is_of,
 use Rattle.cil_syntax.specs.Kinds.{kind_number}
 use Rattle.cil_names.proofs.AnswerLemmas.{none_where}
 use Rattle.cil_names.proofs.CandidateLemmas.{place_is, place_none, place_some}
-use Rattle.cil_names.proofs.KindLemmas.{one_kind, same_kind}
-use Rattle.cil_names.proofs.ScopeLemmas.{cut, passed_on}
-use Rattle.cil_names.proofs.SearchLemmas.{member_of_number, number_of_member}
+use Rattle.cil_syntax.proofs.KindLemmas.{one_kind, same_kind}
+use Rattle.cil_names.proofs.ScopeLemmas.{passed_on}
 
 pub place_found : (names : List (List ℕ)) (name : List ℕ) (r : Option ℕ) → MatchOption r (IsMissing (λ x. x) names name) (IsFound (λ x. x) names name)
     → r ≡ place_where (λ x. same_bytes x name) names
@@ -40,12 +41,12 @@ place_found names name None none = sym (place_none (λ x. same_bytes x name) nam
 some_listed : (names : List (List ℕ)) (name : List ℕ) (r : Option ℕ) → place_where (λ x. same_bytes x name) names ≡ r → is_some r ≡ list_any (same_bytes name) names
 some_listed names name (Some n) e =
     let (x, at, t) = place_is (λ x. same_bytes x name) names n e in
-    sym (any_from (same_bytes name) names x (member_of_number names n x at) ((bytes_decides name x).1 (sym ((bytes_decides x name).0 t))))
+    sym (any_from (same_bytes name) names x (get_contains names n x at) ((bytes_decides name x).1 (sym ((bytes_decides x name).0 t))))
 some_listed names name None e =
     elim (cases_Bool (list_any (same_bytes name) names)) [
       | inl t ↦
           let (x, c, u) = any_true (same_bytes name) names t in
-          let (m, at) = number_of_member names x c in
+          let (m, below_m, at) = get_at names x c in
           absurd (none_where (λ x. same_bytes x name) names e m x at ((bytes_decides x name).1 (sym ((bytes_decides name x).0 u))))
       | inr f ↦ sym f
     ]
@@ -59,7 +60,7 @@ there_at : (names : List (List ℕ)) (name : List ℕ) (o : Option ℕ) → plac
 there_at names name (Some n) e c =
     let (x, at, t) = place_is (λ x. same_bytes x name) names n e in at ∙ ap Some ((bytes_decides x name).0 t)
 there_at names name None e c =
-    let (m, at) = number_of_member names name c in absurd (none_where (λ x. same_bytes x name) names e m name at ((bytes_decides name name).1 refl))
+    let (m, below_m, at) = get_at names name c in absurd (none_where (λ x. same_bytes x name) names e m name at ((bytes_decides name name).1 refl))
 
 pub place_there : (names : List (List ℕ)) (name : List ℕ) → Contains names name → slice_get names (place_in names name) ≡ Some name
 place_there names name c = there_at names name (place_where (λ x. same_bytes x name) names) refl c
@@ -82,7 +83,7 @@ pub mapped_on : {X Y : Type 0} (g : X → Y) (xs : List X) (i : ℕ) (x d : X) �
 mapped_on g xs i x d within is before new all y so push same =
     ap (λ l. l ++ map g (drop (i + 1) xs)) (push ∙ ap (λ z. before ++ z ∷ []) same)
     ∙ append_assoc before (g x ∷ []) (map g (drop (i + 1) xs))
-    ∙ ap (λ l. before ++ map g l) (sym (cut (λ y. y ∷ []) xs i x d within is))
+    ∙ ap (λ l. before ++ map g l) (sym (drop_at xs i x d within is))
     ∙ so
 
 pub all_mapped : {X Y : Type 0} (g : X → Y) (xs : List X) (i : ℕ) (new all : List Y) → length xs ≤ i → new ++ map g (drop i xs) ≡ all → new ≡ all
@@ -131,22 +132,18 @@ all_sections P n u r t c kinds.ClassMap e = absurd (true≢false (sym e))
 all_sections P n u r t c kinds.Block e = absurd (true≢false (sym e))
 all_sections P n u r t c kinds.Macro e = absurd (true≢false (sym e))
 
-pub nothing_rises : IsStrictlySortedBy text_cmp []
-unfolding IsStrictlySortedBy
-nothing_rises = tt
-
 pub all_rise : (n : Sections) → ((kind : Kind) → has_section kind ≡ true → IsStrictlySortedBy text_cmp (names_of n kind)) → (kind : Kind) → IsStrictlySortedBy text_cmp (names_of n kind)
 all_rise n rise kinds.User = rise kinds.User refl
 all_rise n rise kinds.Role = rise kinds.Role refl
 all_rise n rise kinds.Type_ = rise kinds.Type_ refl
 all_rise n rise kinds.Class = rise kinds.Class refl
-all_rise n rise kinds.TypeAlias = nothing_rises
-all_rise n rise kinds.TypeAttribute = nothing_rises
-all_rise n rise kinds.RoleAttribute = nothing_rises
-all_rise n rise kinds.UserAttribute = nothing_rises
-all_rise n rise kinds.ClassMap = nothing_rises
-all_rise n rise kinds.Block = nothing_rises
-all_rise n rise kinds.Macro = nothing_rises
+all_rise n rise kinds.TypeAlias = rising_nothing text_cmp
+all_rise n rise kinds.TypeAttribute = rising_nothing text_cmp
+all_rise n rise kinds.RoleAttribute = rising_nothing text_cmp
+all_rise n rise kinds.UserAttribute = rising_nothing text_cmp
+all_rise n rise kinds.ClassMap = rising_nothing text_cmp
+all_rise n rise kinds.Block = rising_nothing text_cmp
+all_rise n rise kinds.Macro = rising_nothing text_cmp
 
 -- ---- all numbers
 
@@ -163,7 +160,7 @@ module _ (ss : List Space) (es : List Entry) (s : OptSet) (names : Kind → List
         get_or_from_slice_get numbers d (number_for e) 0 (ap (λ l. slice_get l d) is ∙ slice_get-map number_for es d ∙ ap (option_map number_for) at) in
         ap (slice_get (names e.kind)) same
         ∙ place_there (names e.kind) (spelled_of ss e)
-        (((lists e.kind has).members (spelled_of ss e)).1 (record { entry = e; among = member_of_number es d e at; of_kind = refl; live = live; spelled = refl }));
+        (((lists e.kind has).members (spelled_of ss e)).1 (record { entry = e; among = get_contains es d e at; of_kind = refl; live = live; spelled = refl }));
   }
 
 -- ---- the names that are given

@@ -1,23 +1,12 @@
 -- Orders by several fields: two values that tie are one.
-use Rattle.std.proofs.Common.{◌≡◌, ℕ, refl}
-use Rattle.std.specs.Ordering.{nat_cmp, ordering_then}
+use Rattle.std.proofs.Common.{◌≡◌}
 use Rattle.std.specs.Cmp.{IsTotalOrder}
-use Rattle.std.specs.declared.cmp.Ordering.{Ordering}
-use Rattle.std.specs.declared.cmp.Ordering.TheVariants.{Less, Equal, Greater}
-use Rattle.std.proofs.lemmas.Cmp.{then_total, on_total, nat_cmp_total, nat_list_cmp_total, by_ranked, ranked}
+use Rattle.std.specs.declared.cmp.Ordering.TheVariants.{Equal}
+use Rattle.std.proofs.lemmas.Cmp.{then_total, on_total, nat_cmp_total, nat_list_cmp_total}
 use Rattle.std.proofs.lemmas.Map.Lookups.{exact_bytes}
+use Rattle.cil_sexpr.specs.Paths.{both_equal, same_by}
 use Rattle.cil_names.specs.Entries.{Key, key_cmp}
 use Rattle.cil_names.specs.Spaces.{Place, place_cmp}
-
-pub both_equal : (a b : Ordering) → ordering_then a b ≡ Equal → (a ≡ Equal) × (b ≡ Equal)
-both_equal Less b e = absurd (let f : Less ≡ Equal = e in cc)
-both_equal Equal b e = (refl, e)
-both_equal Greater b e = absurd (let f : Greater ≡ Equal = e in cc)
-
-pub equal_numbers : (m n : ℕ) → nat_cmp m n ≡ Equal → m ≡ n
-equal_numbers m n e =
-    by_ranked _ _ _ (nat_cmp m n) (ranked m n (nat_cmp m n) refl)
-    (λ l h. absurd (let f : Less ≡ Equal = cc in cc)) (λ q h. h) (λ g h. absurd (let f : Greater ≡ Equal = cc in cc))
 
 pub place_total : IsTotalOrder place_cmp
 place_total = then_total (on_total (λ (p : Place). p.outer) nat_cmp_total) (on_total (λ (p : Place). p.name) nat_list_cmp_total)
@@ -26,7 +15,7 @@ same_place : (a b : Place) → a.outer ≡ b.outer → a.name ≡ b.name → a �
 same_place a b p q = λ i. record { outer = p i; name = q i }
 
 pub one_place : (a b : Place) → place_cmp a b ≡ Equal → a ≡ b
-one_place a b e = let both = both_equal _ _ e in same_place a b (equal_numbers _ _ both.0) (exact_bytes _ _ both.1)
+one_place a b e = let both = both_equal _ _ e in same_place a b (same_by _ _ both.0) (exact_bytes _ _ both.1)
 
 pub key_total : IsTotalOrder key_cmp
 key_total =
@@ -39,4 +28,4 @@ pub one_key : (a b : Key) → key_cmp a b ≡ Equal → a ≡ b
 one_key a b e =
     let (front, last) = both_equal _ _ e in
     let (first, second) = both_equal _ _ front in
-    same_key a b (equal_numbers _ _ first) (exact_bytes _ _ second) (equal_numbers _ _ last)
+    same_key a b (same_by _ _ first) (exact_bytes _ _ second) (same_by _ _ last)

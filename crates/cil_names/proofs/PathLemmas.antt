@@ -1,10 +1,9 @@
 -- What a path asks, name by name.
-use Rattle.std.proofs.Common.{◌≡◌, ℕ, Bool, ◌==◌, ◌≤◌, ◌<◌, List, [], ◌∷◌, ◌++◌, length, refl, sym, ◌∙◌, ap, subst, arith, append_assoc, append-nil}
-use Rattle.std.specs.Prelude.{reverse}
-use Rattle.std.specs.List.{slice_split}
-use Rattle.std.proofs.lemmas.List.Splits.{length-slice_split, slice_split_at, slice_split_none}
-use Rattle.std.proofs.lemmas.List.{length-append, length-reverse, reverse-append}
+use Rattle.std.proofs.Common.{◌≡◌, ℕ, ◌≤◌, ◌<◌, List, [], ◌∷◌, ◌++◌, length, refl, sym, ◌∙◌, ap, subst, arith, append_assoc, append-nil}
+use Rattle.std.proofs.lemmas.List.{length-append}
+use Rattle.cil_sexpr.specs.Places.{cons_tail}
 use Rattle.cil_syntax.specs.Scopes.{IsDotless, IsParted, Namespace, names_backwards}
+use Rattle.cil_syntax.proofs.AskedLemmas.{last_name, one_name, parted_backwards}
 use Rattle.cil_names.specs.declared.space.Space.{Space}
 use Rattle.cil_names.specs.Spaces.{AreSpaces, HasNoNumber, IsAskedAt, IsAskedNowhere, IsNumber, space_at}
 use Rattle.cil_names.proofs.SpaceLemmas.{outers_of}
@@ -18,38 +17,12 @@ pub record IsAskedUpTo (ss : List Space) (from : ℕ) (path : List ℕ) (space :
 pub at_start : (ss : List Space) (from : ℕ) (path : List ℕ) → from ≤ length ss → IsAskedUpTo ss from path from path
 at_start ss from path within = record { inner = []; backwards = sym (append-nil (names_backwards path)); numbered = record { within = within; is = refl } }
 
--- ---- the list of names
-
-abbrev is_dot : ℕ → Bool
-is_dot b = b == 46
-
-parts_of : (path first rest : List ℕ) → IsParted path first rest → names_backwards path ≡ names_backwards rest ++ first ∷ []
-parts_of path first rest p =
-    ap names_backwards p.whole ∙ ap reverse (slice_split_at is_dot first 46 rest p.dotless refl) ∙ reverse-append (first ∷ []) (slice_split is_dot rest)
-
-one_name : (path : List ℕ) → IsDotless path → names_backwards path ≡ path ∷ []
-one_name path plain = ap reverse (slice_split_none is_dot path plain)
-
-some_last : (xs : List (List ℕ)) → (xs ≡ [] → ⊥) → (y : List ℕ) × (ys : Namespace) × (xs ≡ y ∷ ys)
-some_last [] none = absurd (none refl)
-some_last (x ∷ xs) none = (x, xs, refl)
-
--- a split has a part
-pub never_none : (path : List ℕ) → names_backwards path ≡ [] → ⊥
-never_none path e =
-    let l = length-slice_split is_dot path in
-    let r = length-reverse (slice_split is_dot path) in
-    let f = ap length e in omega (arith, l, r, f)
-
-tails : (x y : List ℕ) (m n : Namespace) → x ∷ m ≡ y ∷ n → m ≡ n
-tails x y m n e = cc
-
 -- ---- the steps
 
 module _ (ss : List Space) (are : AreSpaces ss) (from : ℕ) (path : List ℕ) (space : ℕ) (rest : List ℕ) (so : IsAskedUpTo ss from path space rest) where
   module _ (first behind : List ℕ) (p : IsParted rest first behind) where
     deeper : names_backwards path ≡ names_backwards behind ++ first ∷ so.inner
-    deeper = so.backwards ∙ ap (λ l. l ++ so.inner) (parts_of rest first behind p) ∙ append_assoc (names_backwards behind) (first ∷ []) so.inner
+    deeper = so.backwards ∙ ap (λ l. l ++ so.inner) (parted_backwards rest first behind p) ∙ append_assoc (names_backwards behind) (first ∷ []) so.inner
 
     pub one_more : (k : ℕ) → IsNumber ss (first ∷ space_at ss space) k → IsAskedUpTo ss from path k behind
     one_more k is = record {
@@ -61,10 +34,10 @@ module _ (ss : List Space) (are : AreSpaces ss) (from : ℕ) (path : List ℕ) (
     -- a namespace that is not there has none in it
     pub none_there : HasNoNumber ss (first ∷ space_at ss space) → IsAskedNowhere ss from path
     none_there none name inner backwards k is =
-        let (y, ys, e) = some_last (names_backwards behind) (never_none behind) in
+        let (y, ys, e) = last_name behind in
         let whole : name ∷ inner ≡ y ∷ (ys ++ first ∷ so.inner) = sym backwards ∙ deeper ∙ ap (λ l. l ++ first ∷ so.inner) e in
         let there : IsNumber ss (ys ++ first ∷ (so.inner ++ space_at ss from)) k =
-        subst (λ n. IsNumber ss n k) (ap (λ n. n ++ space_at ss from) (tails name y inner (ys ++ first ∷ so.inner) whole) ∙ append_assoc ys (first ∷ so.inner) (space_at ss from)) is in
+        subst (λ n. IsNumber ss n k) (ap (λ n. n ++ space_at ss from) (cons_tail name y inner (ys ++ first ∷ so.inner) whole) ∙ append_assoc ys (first ∷ so.inner) (space_at ss from)) is in
         let (j, lower) = outers_of ss are ys (first ∷ (so.inner ++ space_at ss from)) k there in
         none j (subst (λ n. IsNumber ss (first ∷ n) j) (sym so.numbered.is) lower)
 

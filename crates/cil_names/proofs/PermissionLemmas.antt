@@ -7,13 +7,15 @@ use Rattle.std.specs.List.Sorted.{IsStrictlySortedBy}
 use Rattle.std.specs.Option.{option_map_or, unwrap_or}
 use Rattle.std.proofs.Common.{◌≡◌, ℕ, ◌+◌, ◌<◌, ◌≤◌, ◌&&◌, ◌||◌, Bool, true, false, List, [], ◌∷◌, ◌++◌, length, take, get_or, set, refl, sym, ◌∙◌, ap, subst, inl, inr, arith, append_assoc}
 use Rattle.std.proofs.lemmas.Bool.{and_from, and_parts, cases_Bool, cases_eq, true≢false}
-use Rattle.std.proofs.lemmas.List.{append-nil, take_more, take_all, length-set, get_or-set_same, get_or-set_other}
+use Rattle.std.proofs.lemmas.List.{append-nil, take_more, take_all, length-set}
 use Rattle.std.proofs.lemmas.List.Elements.{Contains-append_cases}
 use Rattle.std.proofs.lemmas.List.Folds.{list_any-append}
-use Rattle.std.proofs.lemmas.Option.{slice_get-get_or, slice_get_within, get_or_from_slice_get}
-use Rattle.cil_sexpr.specs.Lists.{Lists, text_cmp, contains_cases, contains_here, contains_none}
+use Rattle.std.proofs.lemmas.Option.{same_Some, slice_get_within}
+use Rattle.cil_sexpr.specs.Lists.{Lists, contains_cases, contains_here, contains_none, text_cmp}
 use Rattle.cil_sexpr.specs.MadeLists.{from_map}
-use Rattle.cil_sexpr.specs.Searches.{any_from, any_true}
+use Rattle.cil_sexpr.specs.Searches.{any_from, any_true, same_truth}
+use Rattle.cil_sexpr.specs.Places.{get_at, get_contains, get_set_other, get_set_same, longer}
+use Rattle.cil_sexpr.specs.Rising.{rising_nothing}
 use Rattle.cil_syntax.specs.declared.fault.Bytes.{Bytes}
 use Rattle.cil_syntax.specs.declared.kind.Keyword.{Keyword}
 use Rattle.cil_syntax.specs.declared.kind.Keyword.TheVariants as keywords
@@ -29,7 +31,9 @@ use Rattle.cil_syntax.specs.Said.{all_said, args_of, said_of}
 use Rattle.cil_syntax.specs.Spelling.{same_bytes}
 use Rattle.cil_syntax.specs.Table.{entry_of}
 use Rattle.cil_syntax.specs.Terms.{Leaf, Name, Form, Term, Terms, nil, cons}
-use Rattle.cil_syntax.specs.Scopes.{same_space, ScopedWord}
+use Rattle.cil_syntax.specs.Scopes.{Namespace, ScopedWord, same_space}
+use Rattle.cil_syntax.proofs.DecidedEquality.{spaces_decide}
+use Rattle.std.proofs.Math.Bool.{or-false}
 use Rattle.cil_names.specs.declared.entry.Entry.{Entry}
 use Rattle.cil_names.specs.declared.instance.Instance.{Instance}
 use Rattle.cil_names.specs.declared.space.Space.{Space}
@@ -43,16 +47,8 @@ use Rattle.cil_names.specs.Resolves.{fits, gives_permission, has_permission, lis
 use Rattle.cil_syntax.specs.Kinds.{is_wanted}
 use Rattle.cil_names.specs.Spaces.{AreSpaces, space_at}
 use Rattle.cil_names.specs.Unresolved.{ArePermissions, listed_at}
-use Rattle.cil_names.proofs.CandidateLemmas.{spaces_decide}
-use Rattle.cil_names.proofs.EntryLemmas.{one_some, parts_fit, they_fit}
-use Rattle.cil_names.proofs.NumberLemmas.{nothing_rises}
-use Rattle.cil_names.proofs.SearchLemmas.{member_of_number, number_of_member}
+use Rattle.cil_names.proofs.EntryLemmas.{parts_fit, they_fit}
 use Rattle.cil_names.proofs.SpaceLemmas.{same_number}
-
-same_bools : (a b : Bool) → (a ≡ true → b ≡ true) → (b ≡ true → a ≡ true) → a ≡ b
-same_bools true b there back = sym (there refl)
-same_bools false true there back = back refl
-same_bools false false there back = refl
 
 -- ---- the names among terms
 
@@ -136,9 +132,15 @@ class_keyword keywords.Macro kind c wanted = absurd (contains_none kind c)
 class_keyword keywords.Call kind c wanted = absurd (contains_none kind c)
 class_keyword keywords.SetAside kind c wanted = absurd (contains_none kind c)
 
-class_declares : (entry_of keywords.Class).declares ≡ kinds.Class ∷ []
+pub class_declares : (entry_of keywords.Class).declares ≡ kinds.Class ∷ []
 unfolding entry_of
 class_declares = refl
+
+pub class_declared : (f : Word → ScopedWord) (n : Namespace) (at : Spot) (name : List ℕ) (rest : Terms Word)
+    → declarations n (kinds.Class ∷ []) (all_replaced (λ bt. bt) f (cons (Name at name) rest))
+    ≡ record { kind = kinds.Class; space = n; name = name; content = content_of (all_replaced (λ bt. bt) f rest) } ∷ []
+unfolding all_replaced
+class_declared f n at name rest = refl
 
 -- ---- what an instance gives
 
@@ -204,12 +206,6 @@ module _ (ss : List Space) (i : Instance) where
         lists = ap (list_any (same_bytes p)) (sym (listed_said f (args_of i.statement.now))) ∙ lists;
       }
 
-  begun : (at : Spot) (name : List ℕ) (rest : Terms Word)
-      → declarations (space_at ss i.place.now.space) (kinds.Class ∷ []) (all_replaced (λ bt. bt) f (cons (Name at name) rest))
-      ≡ record { kind = kinds.Class; space = space_at ss i.place.now.space; name = name; content = content_of (all_replaced (λ bt. bt) f rest) } ∷ []
-  unfolding all_replaced
-  begun at name rest = refl
-
   gives_from : (c : Symbol) (p : List ℕ) → Gives c p → gives_permission c p (item_of ss i) ≡ true
   gives_from c p g =
       and_from _ _
@@ -226,37 +222,9 @@ module _ (ss : List Space) (i : Instance) where
           ap (λ k. declarations (space_at ss i.place.now.space) (entry_of k).declares (all_replaced (λ bt. bt) f (args_of i.statement.now))) g.declares.keyword
           ∙ ap (λ ks. declarations (space_at ss i.place.now.space) ks (all_replaced (λ bt. bt) f (args_of i.statement.now))) class_declares
           ∙ ap (λ ts. declarations (space_at ss i.place.now.space) (kinds.Class ∷ []) (all_replaced (λ bt. bt) f ts)) g.declares.says
-          ∙ begun g.declares.at c.name g.declares.rest
+          ∙ class_declared f (space_at ss i.place.now.space) g.declares.at c.name g.declares.rest
 
 -- ---- the lists of all entries
-
-get_set_same : {X : Type 0} (xs : List X) (n : ℕ) (a : X) → n < length xs → slice_get (set xs n a) n ≡ Some a
-get_set_same xs n a within =
-    let len = length-set xs n a in
-    slice_get-get_or (set xs n a) n a (omega (arith, within, len)) ∙ ap Some (get_or-set_same xs n a a within)
-
-get_set_other : {X : Type 0} (xs : List X) (n m : ℕ) (a : X) → (m ≡ n → ⊥) → slice_get (set xs n a) m ≡ slice_get xs m
-get_set_other {X} xs n m a differ = at _ refl
-  where
-    back : (x : X) → slice_get xs m ≡ Some x → slice_get (set xs n a) m ≡ Some x
-    back x e =
-        let len = length-set xs n a in
-        let within = slice_get_within xs m x e in
-        slice_get-get_or (set xs n a) m x (omega (arith, within, len)) ∙ ap Some (get_or-set_other xs n m a x differ ∙ get_or_from_slice_get xs m x x e)
-
-    there : (x : X) → slice_get (set xs n a) m ≡ Some x → slice_get xs m ≡ Some x
-    there x e =
-        let len = length-set xs n a in
-        let within = slice_get_within (set xs n a) m x e in
-        slice_get-get_or xs m x (omega (arith, within, len)) ∙ ap Some (sym (get_or-set_other xs n m a x differ) ∙ get_or_from_slice_get (set xs n a) m x x e)
-
-    at : (o : Option X) → slice_get xs m ≡ o → slice_get (set xs n a) m ≡ slice_get xs m
-    at (Some x) e = back x e ∙ sym e
-    at None e = missing _ refl ∙ sym e
-      where
-        missing : (o : Option X) → slice_get (set xs n a) m ≡ o → slice_get (set xs n a) m ≡ None
-        missing None g = g
-        missing (Some y) g = absurd (let h : None ≡ Some y = sym e ∙ there y g in cc)
 
 listed_some : (lists : List (Vec Bytes)) (d : ℕ) (v : Vec Bytes) → slice_get lists d ≡ Some v → listed_at lists d ≡ v.items
 listed_some lists d v e = ap (λ o. option_map_or (λ (w : Vec Bytes). w.items) o []) e
@@ -271,13 +239,13 @@ module _ (ss : List Space) (es : List Entry) where
     where
       at : (o : Option (Vec Bytes)) → slice_get lists d ≡ o → listed_at lists d ≡ []
       at None e = ap (λ o. option_map_or (λ (w : Vec Bytes). w.items) o []) e
-      at (Some v) e = listed_some lists d v e ∙ empty.each v (member_of_number lists d v e)
+      at (Some v) e = listed_some lists d v e ∙ empty.each v (get_contains lists d v e)
 
   -- no instance lists nothing
   pub nothing_listed : (lists : List (Vec Bytes)) → AreEmpty es lists → ArePermissions ss es (items_of ss (take 0 [])) lists
   unfolding has_permission
   nothing_listed lists empty = record {
-    rising = λ v c. subst (IsStrictlySortedBy text_cmp) (sym (empty.each v c)) nothing_rises;
+    rising = λ v c. subst (IsStrictlySortedBy text_cmp) (sym (empty.each v c)) (rising_nothing text_cmp);
     each = λ d e at wanted p. ap (list_any (same_bytes p)) (empty_at lists empty d);
   }
 
@@ -290,11 +258,7 @@ module _ (ss : List Space) (es : List Entry) where
     has_more c p = list_any-append (gives_permission c p) xs (item_of ss i ∷ [])
 
     has_same : (c : Symbol) (p : List ℕ) → gives_permission c p (item_of ss i) ≡ false → has_permission more c p ≡ has_permission xs c p
-    has_same c p e = has_more c p ∙ ap (λ b. has_permission xs c p || (b || false)) e ∙ or_false (has_permission xs c p)
-      where
-        or_false : (b : Bool) → (b || false) ≡ b
-        or_false true = refl
-        or_false false = refl
+    has_same c p e = has_more c p ∙ ap (λ b. has_permission xs c p || (b || false)) e ∙ or-false (has_permission xs c p)
 
     no_gift : (c : Symbol) (p : List ℕ) → (Gives ss i c p → ⊥) → gives_permission c p (item_of ss i) ≡ false
     no_gift c p none = elim (cases_Bool (gives_permission c p (item_of ss i))) [ inl t ↦ absurd (none (gives_only ss i c p t)) | inr e ↦ e ]
@@ -321,7 +285,7 @@ module _ (ss : List Space) (es : List Entry) where
       module _ (name : List ℕ) (declares : DeclaresClass i name) where
         fits_here : (d : ℕ) (e : Entry) (p : List ℕ) → slice_get es d ≡ Some e → is_wanted signs.Classes e.kind ≡ true → Gives ss i (symbol_of ss e) p
             → (e.space ≡ i.place.now.space) × (e.name ≡ name)
-        fits_here d e p at wanted g = (one_space e (member_of_number es d e at) g.spaced, one_name e.name name g.declares declares)
+        fits_here d e p at wanted g = (one_space e (get_contains es d e at) g.spaced, one_name e.name name g.declares declares)
 
         -- the class has no entry
         pub kept_unknown : (lists : List (Vec Bytes)) → HasNoEntry es name signs.Classes i.place.now.space → ArePermissions ss es xs lists → ArePermissions ss es more lists
@@ -356,10 +320,10 @@ module _ (ss : List Space) (es : List Entry) where
 
           rises : ((v : Vec Bytes) → Contains old v → IsStrictlySortedBy text_cmp v.items) → (v : Vec Bytes) → Contains new v → IsStrictlySortedBy text_cmp v.items
           rises up v c =
-              let (d, at) = number_of_member new v c in
+              let (d, below_d, at) = get_at new v c in
               elim (cases_eq d class_) [
                 | inl e ↦ subst (λ (w : Vec Bytes). IsStrictlySortedBy text_cmp w.items) (some_vec (sym here ∙ ap (slice_get new) (sym e) ∙ at)) all.rising
-                | inr differ ↦ up v (member_of_number old d v (sym (elsewhere d differ) ∙ at))
+                | inr differ ↦ up v (get_contains old d v (sym (elsewhere d differ) ∙ at))
               ]
             where
               some_vec : {a b : Vec Bytes} → Some a ≡ Some b → a ≡ b
@@ -371,7 +335,7 @@ module _ (ss : List Space) (es : List Entry) where
           -- a name is among the new ones where it was among the old ones or is listed
           any_all : (p : List ℕ) → list_any (same_bytes p) after.items ≡ (list_any (same_bytes p) before.items || list_any (same_bytes p) (listed_permissions (args_of i.statement.now)))
           any_all p =
-              same_bools (list_any (same_bytes p) after.items) (list_any (same_bytes p) (before.items ++ names_in (all_said m items)))
+              same_truth (list_any (same_bytes p) after.items) (list_any (same_bytes p) (before.items ++ names_in (all_said m items)))
               (λ t. let (x, c, same) = any_true (same_bytes p) after.items t in any_from (same_bytes p) _ x ((all.members x).0 c) same)
               (λ t. let (x, c, same) = any_true (same_bytes p) (before.items ++ names_in (all_said m items)) t in any_from (same_bytes p) after.items x ((all.members x).1 c) same)
               ∙ list_any-append (same_bytes p) before.items (names_in (all_said m items))
@@ -381,8 +345,8 @@ module _ (ss : List Space) (es : List Entry) where
               → gives_permission (symbol_of ss e) p (item_of ss i) ≡ list_any (same_bytes p) (listed_permissions (args_of i.statement.now))
           gives_all e at p =
               let (space, same, wanted) = parts_fit name signs.Classes i.place.now.space is.entry is.fits in
-              let one : is.entry ≡ e = one_some is.entry e (sym is.at ∙ at) in
-              same_bools _ _
+              let one : is.entry ≡ e = same_Some is.entry e (sym is.at ∙ at) in
+              same_truth _ _
               (λ t. (gives_only ss i (symbol_of ss e) p t).lists)
               (λ t. gives_from ss i (symbol_of ss e) p (record {
                 declares = subst (DeclaresClass i) (sym same ∙ ap (λ (x : Entry). x.name) one) declares;
@@ -441,16 +405,12 @@ listed_none ss es (i ∷ is) lists empty = nothing_listed ss es lists empty
 pub empty_more : {X : Type 0} (es : List X) (k : ℕ) (x : X) (lists new : List (Vec Bytes)) (v : Vec Bytes) → k < length es → x ≡ get_or es k x → AreEmpty (take k es) lists → v.items ≡ []
     → new ≡ lists ++ v ∷ [] → AreEmpty (take (k + 1) es) new
 empty_more es k x lists new v within e empty none push = subst (AreEmpty (take (k + 1) es)) (sym push) (record {
-  len = len lists v ∙ ap (λ n. n + 1) empty.len ∙ sym (ap length (take_more es k x within ∙ ap (λ z. take k es ++ z ∷ []) (sym e)) ∙ len (take k es) x);
+  len = longer lists v ∙ ap (λ n. n + 1) empty.len ∙ sym (ap length (take_more es k x within ∙ ap (λ z. take k es ++ z ∷ []) (sym e)) ∙ longer (take k es) x);
   each = λ w c. elim (Contains-append_cases lists (v ∷ []) w c) [
     | inl old ↦ empty.each w old
     | inr last ↦ elim (contains_cases w v [] last) [ inl same ↦ ap (λ (z : Vec Bytes). z.items) (sym same) ∙ none | inr n ↦ absurd (contains_none w n) ]
   ];
 })
-  where
-    len : {Y : Type 0} (ys : List Y) (y : Y) → length (ys ++ y ∷ []) ≡ length ys + 1
-    len [] y = refl
-    len (z ∷ ys) y = let r = len ys y in omega (arith, r)
 
 pub empty_all : {X : Type 0} (es : List X) (k : ℕ) (lists : List (Vec Bytes)) → length es ≤ k → AreEmpty (take k es) lists → AreEmpty es lists
 empty_all es k lists over empty = subst (λ xs. AreEmpty xs lists) (take_all k es over) empty

@@ -10,6 +10,7 @@ use Rattle.cil_names.specs.declared.instance.Instance.{Instance}
 use Rattle.cil_names.specs.declared.space.Space.{Space}
 use Rattle.cil_names.specs.Entries.{AreEntries, IsAnswer, IsNamed, is_declared_at, is_declared_in, items_of, listed}
 use Rattle.cil_names.specs.Item.{OptSet, nobody}
+use Rattle.cil_sexpr.specs.Searches.{or_second}
 use Rattle.cil_syntax.specs.Scopes.{ScopedWord}
 use Rattle.cil_names.specs.Laws.{WantedMeansWhatItNames}
 use Rattle.cil_names.specs.Meanings.{meant}
@@ -42,12 +43,8 @@ none_rounds s [] e = absurd (true≢false (sym e))
 none_rounds s (r ∷ rs) e =
     elim (cases_Bool (list_all nobody r.items)) [
       | inl t ↦ ap (λ b. b || list_any (λ r. list_all s r.items) rs) (none_round s r.items t)
-      | inr f ↦ either (list_all s r.items) (none_rounds s rs (sym (ap (λ b. b || list_any (λ r. list_all nobody r.items) rs) f) ∙ e))
+      | inr f ↦ or_second (list_all s r.items) _ (none_rounds s rs (sym (ap (λ b. b || list_any (λ r. list_all nobody r.items) rs) f) ∙ e))
     ]
-  where
-    either : (a : Bool) {b : Bool} → b ≡ true → (a || b) ≡ true
-    either true e = refl
-    either false e = e
 
 always_declared : (s : OptSet) (always : Bool) (rs : List (Vec ℕ)) → (always || list_any (λ r. list_all nobody r.items) rs) ≡ true
     → (always || list_any (λ r. list_all s r.items) rs) ≡ true

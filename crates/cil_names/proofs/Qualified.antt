@@ -4,6 +4,7 @@ use Rattle.std.specs.Prelude.{◌&&◌, nat_le}
 use Rattle.std.proofs.lemmas.List.Elements.{All-cons}
 use Rattle.std.proofs.lemmas.Bool.{and_parts, true≢false}
 use Rattle.std.proofs.lemmas.Bool.Decides.{eqb_tells}
+use Rattle.cil_sexpr.specs.Places.{get_contains, some_at as number_there}
 use Rattle.cil_syntax.specs.Spelling.{begins_name, goes_on_name, is_name, longest_name}
 use Rattle.std.proofs.Common.{rules, ◌≡◌, ℕ, zero, suc, length, get_or, ◌==◌, Bool, true, false, List, [], ◌∷◌, ◌++◌, refl, sym, ◌∙◌, ap, subst, inl, inr, arith}
 use Rattle.std.specs.Prelude.{Contains, reverse}
@@ -18,6 +19,7 @@ use Rattle.std.proofs.lemmas.List.Elements.{Contains-append_cases}
 use Rattle.std.specs.Prelude.{Some, slice_get}
 use Rattle.cil_sexpr.specs.Lists.{contains_cases, contains_none}
 use Rattle.cil_syntax.specs.declared.kind.Kind.{Kind}
+use Rattle.std.proofs.lemmas.Option.{same_Some}
 use Rattle.cil_names.specs.declared.entry.Entry.{Entry}
 use Rattle.cil_names.specs.declared.space.Space.{Space}
 use Rattle.cil_names.specs.Entries.{AreOrdered, key_cmp, key_of, rank}
@@ -25,8 +27,8 @@ use Rattle.cil_names.specs.Item.{OptSet}
 use Rattle.cil_names.specs.Numbers.{AreApart, AreNumbers, ArePlain, ArePlainNames, IsPlain, has_section, spelled_of}
 use Rattle.cil_names.specs.Spaces.{AreSpaces, space_at}
 use Rattle.cil_names.proofs.OrderLemmas.{key_total, one_key}
-use Rattle.cil_names.proofs.SearchLemmas.{member_of_number, one_number}
-use Rattle.cil_names.proofs.SpaceLemmas.{global_at, member_at as number_there, next_at, same_number}
+use Rattle.cil_names.proofs.SearchLemmas.{one_number}
+use Rattle.cil_names.proofs.SpaceLemmas.{global_at, next_at, same_number}
 
 abbrev pub is_dot : ℕ → Bool
 is_dot b = b == 46
@@ -88,7 +90,7 @@ module _ (ss : List Space) (are : AreSpaces ss) (es : List Entry) (ordered : Are
       let b = are.behind i s at in
       subst ArePlain (sym (next_at ss are i s at))
       (λ x c. elim (contains_cases x s.name (space_at ss s.outer) c) [
-        | inl e ↦ subst IsPlain e (plain_name s.name (plain.spaces s (member_of_number ss i s at)))
+        | inl e ↦ subst IsPlain e (plain_name s.name (plain.spaces s (get_contains ss i s at)))
         | inr d ↦ plain_space n s.outer (omega (arith, b, few)) (omega (arith, b, within)) x d
       ])
 
@@ -124,8 +126,8 @@ module _ (ss : List Space) (are : AreSpaces ss) (es : List Entry) (ordered : Are
   one_spelled : (d k : ℕ) (e f : Entry) → slice_get es d ≡ Some e → slice_get es k ≡ Some f → e.kind ≡ f.kind → spelled_of ss e ≡ spelled_of ss f → d ≡ k
   unfolding names_behind name_first
   one_spelled d k e f p q kinds same =
-      let ce = member_of_number es d e p in
-      let cf = member_of_number es k f q in
+      let ce = get_contains es d e p in
+      let cf = get_contains es k f q in
       let whole : e.name ∷ space_at ss e.space ≡ f.name ∷ space_at ss f.space =
       spelled_one (e.name ∷ space_at ss e.space) (f.name ∷ space_at ss f.space) (plain_symbol e ce) (plain_symbol f cf) same in
       one_number key_of key_cmp key_total one_key es d k e f ordered.rising p q
@@ -138,7 +140,4 @@ module _ (ss : List Space) (are : AreSpaces ss) (es : List Entry) (ordered : Are
       let here = are_numbers.at d e p has le in
       let there = are_numbers.at k f q (ap has_section (sym kinds) ∙ has) lf in
       one_spelled d k e f p q kinds
-      (one_text (spelled_of ss e) (spelled_of ss f) (sym here ∙ ap (slice_get (names e.kind)) same ∙ ap (λ kind. slice_get (names kind) (get_or numbers k 0)) kinds ∙ there))
-    where
-      one_text : (a b : List ℕ) → Some a ≡ Some b → a ≡ b
-      one_text a b e = cc
+      (same_Some (spelled_of ss e) (spelled_of ss f) (sym here ∙ ap (slice_get (names e.kind)) same ∙ ap (λ kind. slice_get (names kind) (get_or numbers k 0)) kinds ∙ there))

@@ -1,40 +1,24 @@
 -- What a word could name, namespace by namespace.
-use Rattle.std.proofs.Common.{◌≡◌, ℕ, suc, ◌+◌, ◌<◌, ◌≤◌, Bool, true, false, cond, List, [], ◌∷◌, ◌++◌, length, get_or, drop, map, refl, sym, ◌∙◌, ap, arith, append_assoc, append-nil, drop-cons}
+use Rattle.std.proofs.Common.{◌≡◌, ℕ, ◌+◌, ◌<◌, ◌≤◌, Bool, true, false, cond, List, [], ◌∷◌, ◌++◌, length, get_or, drop, map, refl, sym, ◌∙◌, ap, append_assoc, append-nil}
 use Rattle.std.specs.Prelude.{Option, Some, None, find}
 use Rattle.std.specs.List.{flat_map}
 use Rattle.std.specs.Option.{is_some, option_or}
 use Rattle.std.proofs.lemmas.Bool.{true≢false}
 use Rattle.std.proofs.lemmas.List.Folds.{find-append}
 use Rattle.std.proofs.lemmas.List.{drop_all}
+use Rattle.cil_sexpr.specs.Places.{drop_at}
 use Rattle.cil_syntax.specs.declared.term.Word.{Word}
-use Rattle.cil_syntax.specs.Scopes.{IsTaken, asked, asked_by, names_backwards}
+use Rattle.cil_syntax.specs.Scopes.{IsTaken, asked, names_backwards}
+use Rattle.cil_syntax.proofs.AskedLemmas.{is_parted}
 use Rattle.cil_names.specs.declared.entry.Entry.{Entry}
 use Rattle.cil_names.specs.declared.space.Space.{Space}
 use Rattle.cil_names.specs.Entries.{candidate, candidates_of, listed, numbers_asked, scope_of, scoped}
 use Rattle.cil_names.specs.Spaces.{AreSpaces, space_at}
-use Rattle.cil_names.proofs.PathLemmas.{never_none}
 use Rattle.cil_names.proofs.SpaceLemmas.{global_at}
 
 -- the entry that a word could name in one namespace
 abbrev pub could_name : List Space → List Entry → Word → ℕ → List ℕ
 could_name ss es w k = listed (candidate ss es (asked w.bytes).name w.sign ((asked w.bytes).inner ++ space_at ss k))
-
--- ---- the word taken apart
-
-by_parts : (global : Bool) (backwards : List (List ℕ)) → (backwards ≡ [] → ⊥) → backwards ≡ (asked_by global backwards).name ∷ (asked_by global backwards).inner
-by_parts global [] none = absurd (none refl)
-by_parts global (x ∷ xs) none = refl
-
-global_by : (global : Bool) (backwards : List (List ℕ)) → (asked_by global backwards).global ≡ global
-global_by global [] = refl
-global_by global (x ∷ xs) = refl
-
-module _ (word : List ℕ) (global : Bool) (path : List ℕ) (taken : IsTaken word global path) where
-  pub is_parted : names_backwards path ≡ (asked word).name ∷ (asked word).inner
-  is_parted = by_parts global (names_backwards path) (never_none path) ∙ ap (λ a. a.name ∷ a.inner) (sym taken.asks)
-
-  pub is_global : (asked word).global ≡ global
-  is_global = ap (λ a. a.global) taken.asks ∙ global_by global (names_backwards path)
 
 -- what was asked in one namespace is what the word could name there
 pub asked_there : (ss : List Space) (es : List Entry) (w : Word) (global : Bool) (path : List ℕ) → IsTaken w.bytes global path → (k : ℕ) (r : Option ℕ)
@@ -63,11 +47,8 @@ module _ (ss : List Space) (are : AreSpaces ss) (es : List Entry) (w : Word) whe
 -- ---- steps over a list
 
 module _ {X Y : Type 0} (f : X → List Y) (xs : List X) (i : ℕ) (x d : X) (within : i < length xs) (is : x ≡ get_or xs i d) where
-  pub cut : drop i xs ≡ x ∷ drop (i + 1) xs
-  cut = drop-cons xs i d within ∙ ap (λ y. y ∷ drop (suc i) xs) (sym is) ∙ ap (λ k. x ∷ drop k xs) (let e : suc i ≡ i + 1 = omega arith in e)
-
   pub next : flat_map f (drop i xs) ≡ f x ++ flat_map f (drop (i + 1) xs)
-  next = ap (flat_map f) cut
+  next = ap (flat_map f) (drop_at xs i x d within is)
 
   pub passed_on : (before all : List Y) → before ++ flat_map f (drop i xs) ≡ all → (before ++ f x) ++ flat_map f (drop (i + 1) xs) ≡ all
   passed_on before all so = append_assoc before (f x) (flat_map f (drop (i + 1) xs)) ∙ ap (λ l. before ++ l) (sym next) ∙ so

@@ -1,30 +1,21 @@
 -- Search by halving in a rising list: what std's search answers, for any key of the items and any total order of the
 -- keys.
 use Rattle.std.proofs.Common.{◌≡◌, ℕ, zero, suc, ◌<◌, ◌≤◌, List, [], ◌∷◌, length, get_or, refl, sym, ◌∙◌, ap, subst, inl, inr, arith}
-use Rattle.std.specs.Prelude.{Contains, Option, Some, IfSome, IfNone, Result, Ok, Err, MatchOption, MatchResult, slice_get}
+use Rattle.std.specs.Prelude.{Option, Some, IfSome, IfNone, Result, Ok, Err, MatchOption, MatchResult, slice_get}
 use Rattle.std.specs.Result.{result_ok}
 use Rattle.std.specs.declared.cmp.Ordering.{Ordering}
 use Rattle.std.specs.declared.cmp.Ordering.TheVariants.{Less, Equal, Greater}
-use Rattle.std.specs.Ordering.{on, ordering_index, ordering_reverse}
+use Rattle.std.specs.Ordering.{on, ordering_index}
 use Rattle.std.specs.Cmp.{IsTotalOrder}
 use Rattle.std.specs.List.Sorted.{IsBinarySearchResult, IsNonDecreasingBy, IsPartitionPoint, IsSearchInRange, IsStrictlySortedBy}
 use Rattle.std.proofs.lemmas.Bool.{cases_lt}
 use Rattle.std.proofs.lemmas.List.Elements.{Contains-get_or}
 use Rattle.std.proofs.lemmas.Option.{slice_get_within, slice_get-get_or, get_or_from_slice_get}
-use Rattle.cil_sexpr.specs.Lists.{all_at}
+use Rattle.cil_sexpr.specs.Lists.{all_at, not_below_itself}
+use Rattle.cil_sexpr.specs.Paths.{its_own}
 use Rattle.cil_names.specs.Found.{IsFound, IsMissing}
 
 module _ {X : Type 0} where
-  -- a member has a number, and what has a number is a member
-  pub number_of_member : (xs : List X) (x : X) → Contains xs x → (n : ℕ) × (slice_get xs n ≡ Some x)
-  number_of_member [] x c = absurd (omega (arith, c.1))
-  number_of_member (y ∷ ys) x (zero, h, e) = (zero, ap Some e)
-  number_of_member (y ∷ ys) x (suc k, h, e) = let (n, is) = number_of_member ys x (k, omega arith, e) in (suc n, is)
-
-  pub member_of_number : (xs : List X) (n : ℕ) (x : X) → slice_get xs n ≡ Some x → Contains xs x
-  member_of_number xs n x e =
-      subst (Contains xs) (get_or_from_slice_get xs n x x e) (Contains-get_or xs n x (slice_get_within xs n x e))
-
   -- one item comes before each of those with greater numbers
   pub rising_at : (order : X → X → Ordering) (xs : List X) (i j : ℕ) (d : X) → IsStrictlySortedBy order xs → i < j → j < length xs
       → order (get_or xs i d) (get_or xs j d) ≡ Less
@@ -36,15 +27,6 @@ module _ {X : Type 0} where
   rising_at order (x ∷ xs) (suc i) (suc j) d up less within = rising_at order xs i j d up.1 (omega arith) (omega arith)
 
 module _ {X K : Type 0} (key : X → K) (order : K → K → Ordering) (total : IsTotalOrder order) (exact : (a b : K) → order a b ≡ Equal → a ≡ b) where
-  never_below_itself : (k : K) → order k k ≡ Less → ⊥
-  never_below_itself k e =
-      let turned : Less ≡ ordering_reverse Less = sym e ∙ total.antisymm k k ∙ ap ordering_reverse e in cc
-
-  equal_itself : (o : Ordering) → o ≡ ordering_reverse o → o ≡ Equal
-  equal_itself Less e = absurd cc
-  equal_itself Equal e = refl
-  equal_itself Greater e = absurd cc
-
   -- the item of an earlier number is not above where the later one is not
   pair_rises : (a b k : K) (o p : Ordering) → order a k ≡ o → order b k ≡ p → order a b ≡ Less → ordering_index o ≤ ordering_index p
   pair_rises a b k Less p e f less = omega arith
@@ -70,10 +52,10 @@ module _ {X K : Type 0} (key : X → K) (order : K → K → Ordering) (total : 
       let at_n : get_or xs n x ≡ y = get_or_from_slice_get xs n y x f in
       elim (cases_lt m n) [
         | inl less ↦ let below = rising_at (on key order) xs m n x up less (slice_get_within xs n y f) in
-            absurd (never_below_itself (key y) (ap (λ w. order w (key y)) (sym same ∙ ap key (sym at_m)) ∙ ap (order (key (get_or xs m x))) (ap key (sym at_n)) ∙ below))
+            absurd (not_below_itself order total (key y) (ap (λ w. order w (key y)) (sym same ∙ ap key (sym at_m)) ∙ ap (order (key (get_or xs m x))) (ap key (sym at_n)) ∙ below))
         | inr ge ↦ elim (cases_lt n m) [
           | inl less ↦ let below = rising_at (on key order) xs n m x up less (slice_get_within xs m x e) in
-              absurd (never_below_itself (key x) (ap (λ w. order w (key x)) (same ∙ ap key (sym at_n)) ∙ ap (order (key (get_or xs n x))) (ap key (sym at_m)) ∙ below))
+              absurd (not_below_itself order total (key x) (ap (λ w. order w (key x)) (same ∙ ap key (sym at_n)) ∙ ap (order (key (get_or xs n x))) (ap key (sym at_m)) ∙ below))
           | inr le ↦ omega arith
         ]
       ]
@@ -91,7 +73,7 @@ module _ {X K : Type 0} (key : X → K) (order : K → K → Ordering) (total : 
   missing xs k n point m x at has =
       let within : m < length xs = slice_get_within xs m x at in
       let is : get_or xs m x ≡ x = get_or_from_slice_get xs m x x at in
-      let tie : order (key x) k ≡ Equal = ap (λ w. order w k) has ∙ equal_itself (order k k) (total.antisymm k k) in
+      let tie : order (key x) k ≡ Equal = ap (λ w. order w k) has ∙ its_own (order k k) (total.antisymm k k) in
       elim (cases_lt m n) [
         | inl less ↦ let below = point.0 m x (omega arith) less in absurd (cc (below, is, tie))
         | inr ge ↦ let above = point.1 m x ge within in absurd (cc (above, is, tie))

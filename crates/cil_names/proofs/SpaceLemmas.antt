@@ -1,11 +1,12 @@
 -- Namespaces and their numbers: each number has one namespace, and each namespace at most one number.
 use Rattle.std.proofs.Common.{◌≡◌, ℕ, zero, suc, ◌+◌, ◌<◌, ◌≤◌, List, [], ◌∷◌, ◌++◌, length, get_or, refl, sym, ◌∙◌, ap, subst, arith}
 use Rattle.std.specs.Prelude.{Some, None, slice_get}
-use Rattle.std.specs.List.Sorted.{IsStrictlySortedBy}
 use Rattle.std.specs.Ordering.{on}
-use Rattle.std.proofs.lemmas.List.{get_or_append_left, length-append}
+use Rattle.std.proofs.lemmas.List.{get_or_append_left}
 use Rattle.std.proofs.Math.Seq.{get_or-append_seam}
-use Rattle.std.proofs.lemmas.Option.{slice_get_within}
+use Rattle.std.proofs.lemmas.Option.{same_Some, slice_get_within}
+use Rattle.cil_sexpr.specs.Places.{cons_head, cons_tail, longer, some_at}
+use Rattle.cil_sexpr.specs.Rising.{rising_nothing}
 use Rattle.cil_syntax.specs.Scopes.{Namespace}
 use Rattle.cil_names.specs.declared.space.Space.{Space}
 use Rattle.cil_names.specs.Spaces.{AreSpaces, HasNoNumber, IsNumber, Place, place_cmp, place_of, space_at, spaces_from}
@@ -17,9 +18,6 @@ use Rattle.cil_names.specs.Found.{IsFound, IsMissing}
 
 abbrev in_next : List Namespace → Space → Namespace
 in_next done s = s.name ∷ get_or done s.outer []
-
-longer : (done : List Namespace) (n : Namespace) → length (done ++ n ∷ []) ≡ suc (length done)
-longer done n = length-append done (n ∷ []) ∙ (let e : length done + 1 ≡ suc (length done) = omega arith in e)
 
 -- what stands in front stays
 front : (ss : List Space) (done : List Namespace) (k : ℕ) → k < length done → get_or (spaces_from done ss) k [] ≡ get_or done k []
@@ -35,33 +33,17 @@ step : (ss : List Space) (done : List Namespace) (i m : ℕ) (s : Space) → sli
 unfolding spaces_from
 step [] done i m s at e h all = absurd (let w = slice_get_within [] i s at in omega (arith, w))
 step (t ∷ ss) done zero m s at e h all =
-    let same : t ≡ s = some_one t s at in
+    let same : t ≡ s = same_Some t s at in
     let x = in_next done t in
     ap (λ k. get_or (spaces_from (done ++ x ∷ []) ss) k []) (let f : m ≡ length done = omega (arith, e) in f)
     ∙ front ss (done ++ x ∷ []) (length done) (let f = longer done x in omega (arith, f))
     ∙ get_or-append_seam done x [] []
     ∙ ap (in_next done) same
     ∙ ap (λ n. s.name ∷ n) (sym (front (t ∷ ss) done s.outer (omega (arith, e, h))))
-  where
-    some_one : (t s : Space) → Some t ≡ Some s → t ≡ s
-    some_one t s e = cc
 step (t ∷ ss) done (suc i) m s at e h all =
     let x = in_next done t in
     let l = longer done x in
     step ss (done ++ x ∷ []) i m s at (omega (arith, e, l)) h (λ j u is. let b = all (suc j) u is in omega (arith, b, l))
-
--- ---- lists
-
-heads : (x y : List ℕ) (m n : Namespace) → x ∷ m ≡ y ∷ n → x ≡ y
-heads x y m n e = cc
-
-tails : (x y : List ℕ) (m n : Namespace) → x ∷ m ≡ y ∷ n → m ≡ n
-tails x y m n e = cc
-
-pub member_at : (ss : List Space) (i : ℕ) → i < length ss → (s : Space) × (slice_get ss i ≡ Some s)
-member_at [] i h = absurd (omega (arith, h))
-member_at (s ∷ ss) zero h = (s, refl)
-member_at (s ∷ ss) (suc i) h = member_at ss i (omega (arith, h))
 
 add_one : (i : ℕ) → i + 1 ≡ suc i
 add_one i = omega arith
@@ -86,7 +68,7 @@ module _ (ss : List Space) (are : AreSpaces ss) where
   -- a number that is not 0 is that of an inner namespace
   inner_of : (n : Namespace) (i : ℕ) → IsNumber ss n (suc i) → (s : Space) × (slice_get ss i ≡ Some s) × (s.name ∷ space_at ss s.outer ≡ n) × (s.outer ≤ i)
   inner_of n i is =
-      let (s, at) = member_at ss i (omega (arith, is.within)) in
+      let (s, at) = some_at ss i (omega (arith, is.within)) in
       (s, at, sym (next_at i s at) ∙ is.is, are.behind i s at)
 
   -- two numbers of one namespace are one
@@ -100,17 +82,17 @@ module _ (ss : List Space) (are : AreSpaces ss) where
       let (s, at, e, b) = inner_of (x ∷ n) i p in
       let (t, bt, f, d) = inner_of (x ∷ n) j q in
       let outer = same_number n s.outer t.outer
-      (record { within = omega (arith, b, p.within); is = tails _ _ _ _ e })
-      (record { within = omega (arith, d, q.within); is = tails _ _ _ _ f }) in
+      (record { within = omega (arith, b, p.within); is = cons_tail _ _ _ _ e })
+      (record { within = omega (arith, d, q.within); is = cons_tail _ _ _ _ f }) in
       ap suc (one_number place_of place_cmp place_total one_place ss i j s t are.rising at bt
-      (one_place_of s t outer (heads _ _ _ _ e ∙ sym (heads _ _ _ _ f))))
+      (one_place_of s t outer (cons_head _ _ _ _ e ∙ sym (cons_head _ _ _ _ f))))
 
   -- a namespace with a number lies in one with a number
   pub outer_of : (x : List ℕ) (n : Namespace) (k : ℕ) → IsNumber ss (x ∷ n) k → (j : ℕ) × IsNumber ss n j
   outer_of x n zero p = let e = sym global_at ∙ p.is in absurd cc
   outer_of x n (suc i) p =
       let (s, at, e, b) = inner_of (x ∷ n) i p in
-      (s.outer, record { within = omega (arith, b, p.within); is = tails _ _ _ _ e })
+      (s.outer, record { within = omega (arith, b, p.within); is = cons_tail _ _ _ _ e })
 
   pub outers_of : (m n : Namespace) (k : ℕ) → IsNumber ss (m ++ n) k → (j : ℕ) × IsNumber ss n j
   outers_of [] n k p = (k, p)
@@ -132,13 +114,9 @@ module _ (ss : List Space) (are : AreSpaces ss) where
       let (s, at, e, b) = inner_of (name ∷ space_at ss outer) i p in
       none i s at (one_place_of_parts s outer name
       (same_number (space_at ss outer) s.outer outer
-      (record { within = omega (arith, b, p.within); is = tails _ _ _ _ e }) (record { within = within; is = refl }))
-      (heads _ _ _ _ e))
+      (record { within = omega (arith, b, p.within); is = cons_tail _ _ _ _ e }) (record { within = within; is = refl }))
+      (cons_head _ _ _ _ e))
 
 -- no namespace but the global one
-nothing_rises : IsStrictlySortedBy (on place_of place_cmp) []
-unfolding IsStrictlySortedBy
-nothing_rises = tt
-
 pub no_spaces : (ss : List Space) → ss ≡ [] → AreSpaces ss
-no_spaces ss e = subst AreSpaces (sym e) (record { rising = nothing_rises; behind = λ i s at. absurd (let f : None ≡ Some s = at in cc) })
+no_spaces ss e = subst AreSpaces (sym e) (record { rising = rising_nothing (on place_of place_cmp); behind = λ i s at. absurd (let f : None ≡ Some s = at in cc) })

@@ -1,24 +1,16 @@
 -- The words of terms, one after another, each with what it means.
-use Rattle.std.proofs.Common.{◌≡◌, ℕ, suc, ◌+◌, ◌<◌, ◌≤◌, List, [], ◌∷◌, ◌++◌, length, get_or, drop, map, rules, sym, ◌∙◌, ap, arith, append_assoc, append-nil, drop-cons}
+use Rattle.std.proofs.Common.{◌≡◌, ℕ, ◌+◌, ◌<◌, ◌≤◌, List, [], ◌∷◌, ◌++◌, length, get_or, drop, map, sym, ◌∙◌, ap, append_assoc, append-nil}
 use Rattle.std.specs.Global.{Vec}
 use Rattle.std.proofs.lemmas.List.{drop_all, map-append}
+use Rattle.cil_sexpr.specs.Places.{drop_at}
 use Rattle.cil_syntax.specs.declared.term.LookedUp.{LookedUp}
 use Rattle.cil_syntax.specs.declared.term.Op.{Op}
 use Rattle.cil_syntax.specs.declared.term.Term as rust
 use Rattle.cil_syntax.specs.declared.term.Term.{the_lemmas}
 use Rattle.cil_syntax.specs.declared.term.Word.{Word}
 use Rattle.cil_syntax.specs.Said.{all_said, said_of, word_in}
-use Rattle.cil_syntax.specs.Terms.{Leaf, Name, Form, spot_at}
+use Rattle.cil_syntax.proofs.SaidLemmas.{form_said, leaf_said, name_said}
 use Rattle.cil_names.specs.Item.{all_words_in, words_in}
-
-pub leaf_said : (m : ℕ) (w : LookedUp) → said_of m (rust.Leaf w) ≡ Leaf (word_in m w)
-leaf_said m w = search (rules, the_lemmas)
-
-pub name_said : (m at : ℕ) (bytes : List ℕ) → said_of m (rust.Name at bytes) ≡ Name (spot_at m at) bytes
-name_said m at bytes = search (rules, the_lemmas)
-
-pub form_said : (m at : ℕ) (op : Op) (parts : Vec rust.Term) → said_of m (rust.Form op at parts) ≡ Form (spot_at m at) op (all_said m parts.items)
-form_said m at op parts = search (rules, the_lemmas)
 
 module _ {Y : Type 0} (m : ℕ) (f : Word → Y) where
   -- what the words of some terms mean
@@ -50,7 +42,7 @@ module _ {Y : Type 0} (m : ℕ) (f : Word → Y) where
       ap (λ l. l ++ all_meant (drop (i + 1) ts)) push
       ∙ append_assoc mid (map f (words_in (said_of m t))) (all_meant (drop (i + 1) ts))
       ∙ ap (λ l. mid ++ l) (sym (next t (drop (i + 1) ts)))
-      ∙ ap (λ l. mid ++ all_meant l) (sym (drop-cons ts i d within ∙ ap (λ y. y ∷ drop (suc i) ts) (sym is) ∙ ap (λ k. t ∷ drop k ts) (let e : suc i ≡ i + 1 = omega arith in e)))
+      ∙ ap (λ l. mid ++ all_meant l) (sym (drop_at ts i t d within is))
       ∙ so
 
   pub no_more : (ts : List rust.Term) (i : ℕ) (new total : List Y) → length ts ≤ i → new ++ all_meant (drop i ts) ≡ total → new ≡ total

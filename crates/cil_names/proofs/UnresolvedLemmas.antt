@@ -19,12 +19,12 @@ use Rattle.cil_syntax.specs.Spelling.{same_bytes}
 use Rattle.cil_syntax.specs.Terms.{Terms, Leaf, Name, Form, cons, nil, spot_at}
 use Rattle.cil_syntax.specs.Reported.{fault_at}
 use Rattle.cil_syntax.specs.Scopes.{Namespace, ScopedWord}
+use Rattle.cil_syntax.proofs.SaidLemmas.{form_said, leaf_said, name_said}
 use Rattle.cil_names.specs.declared.space.Space.{Space}
 use Rattle.cil_names.specs.Entries.{scoped}
 use Rattle.cil_names.specs.Item.{OptSet, Item, all_replaced, replaced, words_in, all_words_in}
 use Rattle.cil_names.specs.Resolves.{Wanted, Word as AWord, Permission as APermission, found_in, resolves, wanted_in, all_wanted_in, words_of_class}
 use Rattle.cil_names.specs.Unresolved.{fault_of_word, faults_of_all, faults_of_wanted, faults_unless_listed, fault_unless_listed, scoped_term, scoped_terms}
-use Rattle.cil_names.proofs.TableLemmas.{form_said, leaf_said, name_said}
 
 -- a walk over terms: what each gives, one after the other
 module _ {A : Type 0} (one : rust.Term → List A) (all : List rust.Term → List A) (none : all [] ≡ []) (more : (t : rust.Term) (ts : List rust.Term) → all (t ∷ ts) ≡ one t ++ all ts) where

@@ -2,7 +2,6 @@
 
 ghost use Rattle.std.specs.Prelude.{◌≡◌, ◌≤◌, ◌++◌, Contains, IfOk, OnOk, length};
 ghost use Rattle.std.specs.List.{flat_map};
-ghost use Rattle.cil_syntax.specs.Refusal.{Answers};
 ghost use Rattle.cil_names.specs.declared.row.Row.{Row};
 ghost use Rattle.cil_names.specs.declared.run.Run.{Run};
 ghost use Rattle.cil_names.specs.DeclareRows.{IsPlacedRow};
@@ -15,18 +14,8 @@ use crate::run::Run;
 use crate::space::Space;
 use crate::spelled::spelled_space;
 use cil_modset::NoMemory;
-use cil_syntax::{Bytes, Failure, Fault, FaultCode, FaultList};
+use cil_syntax::{Fault, FaultCode, push_fault_in};
 use std::alloc::Global;
-
-/// Refuses with these faults, where there are some.
-pub fn refuse(faults: Vec<Fault>) -> Result<(), Failure>
-    ensures { Answers (λ done. Unit {0}) (Contains faults.items) result }
-{
-    match FaultList::of(faults) {
-        Some(list) => Err(Failure::Faults(list)),
-        None => Ok(()),
-    }
-}
 
 /// The faults of runs whose rows differ: one for each declaring statement.
 pub fn clashes(alloc: Global, spaces: &[Space], runs: &[Run]) -> Result<Vec<Fault>, NoMemory>
@@ -103,13 +92,6 @@ fn push_clash(
         return Ok(());
     };
     let space = spelled_space(alloc, spaces, instance.place.space)?;
-    let word = Bytes::copy_of(alloc, name.bytes)?;
-    faults.push(Fault {
-        code: FaultCode::Clash,
-        module: name.at.module,
-        at: name.at.at,
-        space,
-        word,
-    })?;
+    push_fault_in(alloc, faults, FaultCode::Clash, name.at, space, name.bytes)?;
     Ok(())
 }

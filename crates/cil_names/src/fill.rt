@@ -20,7 +20,7 @@ use crate::judge::Judge;
 use crate::meaning::Meaning;
 use crate::table::{Filling, Lookup, Words};
 use cil_modset::NoMemory;
-use cil_syntax::{Bytes, Failure, Fault, FaultList};
+use cil_syntax::{Bytes, Failure, Fault, refuse};
 use std::alloc::Global;
 
 /// The table of the words of all instances; or, where words of instances outside all optionals name nothing, their
@@ -53,10 +53,8 @@ pub fn words_of(
         check.instance(&mut words, &mut faults, instance)?;
     }
     starts.push(words.len())?;
-    match FaultList::of(faults) {
-        Some(list) => Err(Failure::Faults(list)),
-        None => Ok(Words::of(starts, words)),
-    }
+    refuse(faults)?;
+    Ok(Words::of(starts, words))
 }
 
 /// What all instances are checked by.

@@ -8,7 +8,7 @@ ghost use Rattle.cil_names.specs.Entries.{AreEntries, items_of};
 ghost use Rattle.cil_names.specs.Faults.{ClashFault};
 ghost use Rattle.cil_names.specs.Placed.{ArePlaced};
 
-use crate::clash::{clashes, refuse};
+use crate::clash::clashes;
 use crate::entry::Entry;
 use crate::instance::Instance;
 use crate::names::Names;
@@ -16,7 +16,7 @@ use crate::row::{Row, rows_of};
 use crate::run::{Run, runs_of, sorted_rows};
 use crate::space::Spaces;
 use cil_modset::NoMemory;
-use cil_syntax::{Excerpt, Failure};
+use cil_syntax::{Excerpt, Failure, refuse};
 use std::alloc::Global;
 
 /// The declared names of some instances, whatever is enabled. A sort is its cost, and a comparison of what the

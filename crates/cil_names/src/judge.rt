@@ -21,7 +21,7 @@ use crate::permission_word::{class_named, is_listed, permissions_at};
 use crate::spelled::spelled_space;
 use crate::table::Filling;
 use cil_modset::NoMemory;
-use cil_syntax::{Bytes, Fault, FaultCode, Spot, Term, Word, word_and_terms};
+use cil_syntax::{Bytes, Fault, FaultCode, Spot, Term, Word, push_fault_in, word_and_terms};
 use std::alloc::Global;
 
 /// A check of the words of an instance, while their meanings are noted.
@@ -108,14 +108,7 @@ impl<'s, 'a> Judge<'s, 'a> {
         ensures { OnOk result (faults.new.items ≡ faults.old.items ++ fault_at causes.Unresolved at (space_in self.now) word.now ∷ []) }
     {
         let space = spelled_space(self.alloc, self.filling.spaces.as_slice(), self.space)?;
-        let word = Bytes::copy_of(self.alloc, word)?;
-        faults.push(Fault {
-            code: FaultCode::Unresolved,
-            module: at.module,
-            at: at.at,
-            space,
-            word,
-        })?;
+        push_fault_in(self.alloc, faults, FaultCode::Unresolved, at, space, word)?;
         Ok(())
     }
 

@@ -4,7 +4,6 @@ ghost use Rattle.std.specs.Prelude.{◌≡◌, ◌↔◌, ◌∷◌, ◌++◌, [
 ghost use Rattle.std.specs.List.Sorted.{IsStrictlySortedBy};
 ghost use Rattle.std.specs.Ordering.{on};
 ghost use Rattle.cil_sexpr.specs.Lists.{Lists, text_cmp};
-ghost use Rattle.cil_syntax.specs.declared.kind.Keyword.TheVariants as keywords;
 ghost use Rattle.cil_syntax.specs.Said.{all_said};
 ghost use Rattle.cil_names.specs.declared.space.Space.{Space};
 ghost use Rattle.cil_names.specs.Entries.{AreOrdered, item_of, items_of, key_cmp, key_of};
@@ -20,7 +19,7 @@ use crate::look::entry_in;
 use crate::names::Names;
 use crate::space::Spaces;
 use cil_modset::NoMemory;
-use cil_syntax::{Bytes, DeclaredName, Keyword, Sign, Term};
+use cil_syntax::{Bytes, DeclaredName, Sign, Term};
 use std::alloc::Global;
 use std::mem;
 
@@ -93,10 +92,9 @@ fn class_declared<'a>(instance: &Instance<'_, 'a>) -> Option<DeclaredName<'a>>
     if !is_outside(instance.place.round.as_slice()) {
         return None;
     }
-    if !is_class(instance.statement.keyword) {
+    let Some(name) = instance.statement.declared_class() else {
         return None;
-    }
-    let name = instance.statement.declared_name()?;
+    };
     Some(name)
 }
 
@@ -108,12 +106,6 @@ fn is_outside(round: &[usize]) -> bool
         [] => true,
         [_, ..] => false,
     }
-}
-
-fn is_class(keyword: Keyword) -> bool
-    ensures { IsTrue result ↔ (keyword ≡ keywords.Class) }
-{
-    keyword == Keyword::Class
 }
 
 /// Some names and those among terms, in byte order, each once.

@@ -1,4 +1,5 @@
 pub mod Bytes
+pub mod Decided
 pub mod Faults
 pub mod Gives
 pub mod Laws

@@ -1,12 +1,12 @@
 -- The order of paths: shorter first, then the first place that differs. One place more on each keeps it.
-use Rattle.std.proofs.Common.{◌≡◌, ℕ, ◌+◌, ◌<◌, ◌≤◌, List, [], ◌∷◌, ◌++◌, length, refl, sym, ◌∙◌, ap, arith}
+use Rattle.std.proofs.Common.{◌≡◌, ℕ, ◌<◌, ◌≤◌, List, [], ◌∷◌, ◌++◌, length, refl, sym, ◌∙◌, ap, arith}
 use Rattle.std.specs.declared.cmp.Ordering.{Ordering}
 use Rattle.std.specs.declared.cmp.Ordering.TheVariants.{Less, Equal, Greater}
 use Rattle.std.specs.Ordering.{nat_cmp, on, then_cmp, ordering_then, ordering_reverse}
 use Rattle.std.specs.Cmp.{nat_cmp_is, IsTotalOrder}
 use Rattle.std.specs.Cmp.Lexicographic.{slice_cmp}
-use Rattle.std.proofs.lemmas.List.{length-append}
 use Rattle.std.proofs.lemmas.Cmp.{by_ranked, ranked}
+use Rattle.cil_sexpr.specs.Places.{longer}
 
 pub less_from : (a b : ℕ) → a < b → nat_cmp a b ≡ Less
 less_from a b h = sym (nat_cmp_is a b Less h)
@@ -24,6 +24,18 @@ same_by a b e =
     by_ranked _ _ _ (nat_cmp a b) (ranked a b (nat_cmp a b) refl) (λ l h. absurd (let f : Equal ≡ Less = sym e ∙ l in cc))
     (λ q h. h) (λ g h. absurd (let f : Equal ≡ Greater = sym e ∙ g in cc))
 
+-- two orders, one after the other, tie where both do
+pub both_equal : (a b : Ordering) → ordering_then a b ≡ Equal → (a ≡ Equal) × (b ≡ Equal)
+both_equal Less b e = absurd (let f : Less ≡ Equal = e in cc)
+both_equal Equal b e = (refl, e)
+both_equal Greater b e = absurd (let f : Greater ≡ Equal = e in cc)
+
+-- what is its own reverse is a tie
+pub its_own : (o : Ordering) → o ≡ ordering_reverse o → o ≡ Equal
+its_own Less e = absurd (let f : Less ≡ Greater = e in cc)
+its_own Equal e = refl
+its_own Greater e = absurd (let f : Greater ≡ Less = e in cc)
+
 -- the first that differs decides, whatever follows
 then_less : (o : Ordering) (p q : Ordering) → (p ≡ Less → q ≡ Less) → ordering_then o p ≡ Less → ordering_then o q ≡ Less
 then_less Less p q f e = refl
@@ -33,11 +45,6 @@ then_less Greater p q f e = e
 module _ {K : Type 0} (c : K → K → Ordering) (total : IsTotalOrder c) where
   abbrev path_order : List K → List K → Ordering
   path_order = then_cmp (on length nat_cmp) (slice_cmp c)
-
-  its_own : (o : Ordering) → o ≡ ordering_reverse o → o ≡ Equal
-  its_own Less e = absurd (let f : Less ≡ Greater = e in cc)
-  its_own Equal e = refl
-  its_own Greater e = absurd (let f : Greater ≡ Less = e in cc)
 
   tied : (x : K) → c x x ≡ Equal
   tied x = its_own (c x x) (total.antisymm x x)
@@ -58,9 +65,6 @@ module _ {K : Type 0} (c : K → K → Ordering) (total : IsTotalOrder c) where
   last_decides : (s : List K) (a b : K) → c a b ≡ Less → slice_cmp c (s ++ a ∷ []) (s ++ b ∷ []) ≡ Less
   last_decides [] a b h = ap (λ o. ordering_then o Equal) h
   last_decides (x ∷ xs) a b h = ap (λ o. ordering_then o (slice_cmp c (xs ++ a ∷ []) (xs ++ b ∷ []))) (tied x) ∙ last_decides xs a b h
-
-  longer : (s : List K) (a : K) → length (s ++ a ∷ []) ≡ length s + 1
-  longer s a = length-append s (a ∷ [])
 
   by_first : (o : Ordering) (s t : List K) (a b : K) → nat_cmp (length s) (length t) ≡ o → ordering_then o (slice_cmp c s t) ≡ Less
       → path_order (s ++ a ∷ []) (t ++ b ∷ []) ≡ Less

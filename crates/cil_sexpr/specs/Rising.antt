@@ -25,6 +25,14 @@ module _ {X : Type 0} where
   all_from P (x ∷ xs) h = (h x (contains_here x xs), all_from P xs (λ y c. h y (contains_later y x xs c)))
 
   module _ (order : X → X → Ordering) where
+    pub rising_nothing : IsStrictlySortedBy order []
+    unfolding IsStrictlySortedBy
+    rising_nothing = tt
+
+    pub rising_in_front : (x : X) (xs : List X) → ((y : X) → Contains xs y → order x y ≡ Less) → IsStrictlySortedBy order xs → IsStrictlySortedBy order (x ∷ xs)
+    unfolding IsStrictlySortedBy
+    rising_in_front x xs h r = (all_from (λ y. order x y ≡ Less) xs h, r)
+
     pub rising_join : (xs ys : List X) → IsStrictlySortedBy order xs → IsStrictlySortedBy order ys
         → ((x y : X) → Contains xs x → Contains ys y → order x y ≡ Less) → IsStrictlySortedBy order (xs ++ ys)
     unfolding IsStrictlySortedBy

@@ -6,6 +6,8 @@ use Rattle.std.specs.declared.cmp.Ordering.TheVariants.{Less}
 use Rattle.std.specs.Ordering.{nat_cmp, on}
 use Rattle.std.specs.List.Sorted.{IsStrictlySortedBy}
 use Rattle.std.proofs.lemmas.List.Elements.{Contains-append_cases}
+use Rattle.cil_sexpr.specs.Paths.{less_from}
+use Rattle.cil_sexpr.specs.Rising.{rising_join}
 use Rattle.cil_sexpr.specs.Lists.{contains_cases, contains_none}
 use Rattle.cil_sexpr.specs.Text.{IsText}
 use Rattle.cil_sexpr.specs.Tree.{Node, Word as TextWord, Quoted, Branch, Nodes, none, next, span_of, inner_of, IsBetween, AreInOrder}
@@ -15,7 +17,6 @@ use Rattle.cil_syntax.specs.Table.{Body, plain, behind, entry_of}
 use Rattle.cil_syntax.specs.Standpoints.{Standpoint, Opening, closed, opened, opening_by, opening_of, found_from, found_behind}
 use Rattle.cil_syntax.specs.Written.{Context, at_top, Verdict, Refused, Shaped, verdict_in, IsItem, first, later, skipped, within, inside_of, FoundIn, top, inside}
 use Rattle.cil_syntax.proofs.PlacesApart.{start_of, apart_from, apart_behind, strictly, behind_verdict}
-use Rattle.cil_syntax.proofs.StatementOrder.{rising_join, less_from}
 
 abbrev pub place_order : Standpoint → Standpoint → Ordering
 place_order = on start_of nat_cmp

@@ -1,10 +1,11 @@
 -- Reading items one after another: whatever is read behind some items completes the whole.
-use Rattle.std.proofs.Common.{◌≡◌, ◌≢◌, ℕ, suc, ◌+◌, ◌<◌, ◌≤◌, List, [], ◌∷◌, ◌++◌, length, get_or, map, drop, refl, sym, ◌∙◌, ap, subst, arith, append_assoc, drop-cons}
+use Rattle.std.proofs.Common.{◌≡◌, ◌≢◌, ℕ, suc, ◌+◌, ◌<◌, ◌≤◌, List, [], ◌∷◌, ◌++◌, length, get_or, map, drop, refl, sym, ◌∙◌, ap, subst, arith, append_assoc}
 use Rattle.std.specs.Prelude.{Option, Some, None, Result, Ok, Err, IsErrAnd}
 use Rattle.std.specs.Global.{Vec}
 use Rattle.std.proofs.lemmas.List.{append-nil, drop_all, map-append, length-map}
 use Rattle.cil_sexpr.specs.declared.node.Node as nodes
 use Rattle.cil_sexpr.specs.View.{node_of, nodes_of}
+use Rattle.cil_sexpr.specs.Places.{drop_at}
 use Rattle.cil_syntax.specs.declared.fault.Fault.{Fault}
 use Rattle.cil_syntax.specs.declared.stop.Stop.{Stop}
 use Rattle.cil_syntax.specs.declared.stop.Stop.TheVariants.{OtherShape, NoMemory}
@@ -85,10 +86,6 @@ all_read m space whole rest old new terms r end =
 
 -- ---- what is left of a row
 
-cut_at : {X : Type 0} (xs : List X) (i : ℕ) (x : X) → i < length xs → x ≡ get_or xs i x → drop i xs ≡ x ∷ drop (i + 1) xs
-cut_at xs i x within is =
-    drop-cons xs i x within ∙ ap (λ y. y ∷ drop (suc i) xs) (sym is) ∙ ap (λ k. x ∷ drop k xs) (let e : suc i ≡ i + 1 = omega arith in e)
-
 module _ (m : ℕ) (text : List ℕ) (ns : List nodes.Node) where
   -- the cells from a node on
   abbrev from_node : ℕ → List Cell
@@ -96,7 +93,7 @@ module _ (m : ℕ) (text : List ℕ) (ns : List nodes.Node) where
 
   cells_more : (i : ℕ) (n : nodes.Node) → i < length ns → n ≡ get_or ns i n → from_node i ≡ cell_of m (node_of text n) ∷ from_node (i + 1)
   unfolding cells_of
-  cells_more i n within is = ap (λ ks. cells_of m (nodes_of text ks)) (cut_at ns i n within is)
+  cells_more i n within is = ap (λ ks. cells_of m (nodes_of text ks)) (drop_at ns i n n within is)
 
   no_cells : (i : ℕ) → length ns ≤ i → from_node i ≡ []
   unfolding cells_of
@@ -118,7 +115,7 @@ module _ (m : ℕ) (text : List ℕ) (ns : List nodes.Node) where
         ≡ joined ((cell_of m (node_of text n)).read (shape_of s)) (read_row (items_of (map shape_of (drop (i + 1) ss))) (from_node (i + 1)))
     unfolding read_row
     items_more n s within is shaped =
-        ap (λ x. read_row (items_of (map shape_of x)) (from_node i)) (cut_at ss i s (omega (arith, within, long)) shaped)
+        ap (λ x. read_row (items_of (map shape_of x)) (from_node i)) (drop_at ss i s s (omega (arith, within, long)) shaped)
         ∙ ap (read_row (items_of (map shape_of (s ∷ drop (i + 1) ss)))) (cells_more i n within is)
 
     pub items_end : length ns ≤ i → read_row (items_of (map shape_of (drop i ss))) (from_node i) ≡ reads nil []

@@ -1,10 +1,12 @@
 -- What was read without fault is in order as a program: each statement stands where it may, and begins as it should.
-use Rattle.std.proofs.Common.{◌≡◌, ℕ, zero, suc, Bool, true, false, ◌&&◌, not, if◌then◌else◌, List, [], ◌∷◌, map, refl, sym, ◌∙◌, ap, subst, inl, inr}
-use Rattle.std.specs.Prelude.{Contains, Some, None, find, slice_get}
+use Rattle.std.proofs.Common.{◌≡◌, ℕ, true, ◌&&◌, not, List, [], ◌∷◌, map, refl, sym, ◌∙◌, ap, subst, inl, inr}
+use Rattle.std.specs.Prelude.{Contains, Some, None}
 use Rattle.std.specs.List.Sorted.{IsStrictlySortedBy}
 use Rattle.std.proofs.lemmas.List.Elements.{Contains-append_cases}
-use Rattle.cil_sexpr.specs.Lists.{contains_here, contains_later, contains_cases, contains_none}
+use Rattle.cil_sexpr.specs.Lists.{contains_here, contains_cases, contains_none}
 use Rattle.cil_sexpr.specs.Tree.{Nodes}
+use Rattle.cil_sexpr.specs.Places.{get_at}
+use Rattle.cil_sexpr.specs.Searches.{found_is}
 use Rattle.cil_syntax.specs.declared.fault.Fault.{Fault}
 use Rattle.cil_syntax.specs.declared.kind.Dialect.{Dialect}
 use Rattle.cil_syntax.specs.declared.kind.Dialect.TheVariants as dialects
@@ -104,20 +106,7 @@ own_in : (d : Dialect) (entry : Entry) → Contains (table_of d) entry → IsOwn
 own_in dialects.Flat entry c = own_flat entry c
 own_in dialects.Nested entry c = elim (Contains-append_cases table nested_only entry c) [ inl d ↦ own_flat entry d | inr d ↦ own_nested entry d ]
 
-module _ {X : Type 0} (p : X → Bool) where
-  found_by : (x y : X) (xs : List X) (b : Bool) → (find p xs ≡ Some y → Contains xs y) → (if b then Some x else find p xs) ≡ Some y → Contains (x ∷ xs) y
-  found_by x y xs true later e = let same : x ≡ y = cc in subst (Contains (x ∷ xs)) same (contains_here x xs)
-  found_by x y xs false later e = contains_later y x xs (later e)
-
-  found_in : (xs : List X) (y : X) → find p xs ≡ Some y → Contains xs y
-  found_in [] y e = absurd cc
-  found_in (x ∷ xs) y e = found_by x y xs (p x) (found_in xs y) e
-
 -- ---- a program that was read
-
-index_of : {X : Type 0} (xs : List X) (x : X) → Contains xs x → (i : ℕ) × (slice_get xs i ≡ Some x)
-index_of [] x c = absurd (contains_none x c)
-index_of (y ∷ ys) x c = elim (contains_cases x y ys c) [ inl e ↦ (zero, ap (λ z. Some z) e) | inr d ↦ let i = index_of ys x d in (suc i.0, i.1) ]
 
 module _ (d : Dialect) (modules : List (List ℕ)) (clean : (f : Fault) → ShapeFaultIn d modules f → ⊥) where
   -- what is asked of a statement where it stands
@@ -129,7 +118,7 @@ module _ (d : Dialect) (modules : List (List ℕ)) (clean : (f : Fault) → Shap
   in_place : (w : Written) → IsWrittenIn d modules w → IsInPlace w
   in_place w (written m context n s [] found verdict) =
       let spelled = (read_as_spelled d m context n s).0 verdict in
-      let own = own_in d spelled.entry (found_in (λ (e : Entry). same_bytes spelled.word e.word) (table_of d) spelled.entry spelled.named) in
+      let own = own_in d spelled.entry (found_is (λ (e : Entry). same_bytes spelled.word e.word) (table_of d) spelled.entry spelled.named).0 in
       let nesting = ap (λ k. (entry_of k).nesting) spelled.keyword ∙ own.nesting in
       let row = ap (λ k. (entry_of k).row) spelled.keyword ∙ own.row in
       record {
@@ -145,7 +134,7 @@ module _ (d : Dialect) (modules : List (List ℕ)) (clean : (f : Fault) → Shap
   nested ss under rising all = record {
     rising = rising;
     earlier = under.earlier;
-    opened = λ s p k c e at. let i = index_of ss s c in under.opened i.0 k s p i.1 e at;
+    opened = λ s p k c e at. let i = get_at ss s c in under.opened i.0 k s p i.2 e at;
     allowed = λ w c. (in_place w (all w c)).allowed;
     abstraction = λ w c. (in_place w (all w c)).abstraction;
     begun = λ w c. (in_place w (all w c)).begun_so;

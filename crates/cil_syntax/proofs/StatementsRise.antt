@@ -1,12 +1,12 @@
 -- The statements of a tree stand where its nodes begin, so they rise as these do.
-use Rattle.std.proofs.Common.{◌≡◌, ℕ, ◌<◌, List, [], ◌∷◌, refl, sym, ◌∙◌, ap, inl, inr, arith}
+use Rattle.std.proofs.Common.{◌≡◌, ℕ, List, [], ◌∷◌, refl, sym, ◌∙◌, ap, inl, inr, arith}
 use Rattle.std.specs.Prelude.{Contains}
-use Rattle.std.specs.declared.cmp.Ordering.TheVariants.{Less, Equal, Greater}
-use Rattle.std.specs.Ordering.{nat_cmp}
+use Rattle.std.specs.declared.cmp.Ordering.TheVariants.{Less}
 use Rattle.std.specs.List.Sorted.{IsStrictlySortedBy}
-use Rattle.std.proofs.lemmas.Cmp.{by_ranked, ranked}
 use Rattle.std.proofs.lemmas.List.Elements.{Contains-append_cases}
 use Rattle.cil_sexpr.specs.Lists.{contains_here, contains_later, contains_cases, contains_none, all_at}
+use Rattle.cil_sexpr.specs.Paths.{below_by}
+use Rattle.cil_sexpr.specs.Rising.{rising_in_front, rising_join, rising_nothing}
 use Rattle.cil_sexpr.specs.Tree.{span_of}
 use Rattle.cil_syntax.specs.declared.kind.Dialect.{Dialect}
 use Rattle.cil_syntax.specs.declared.term.Spot.{Spot}
@@ -14,12 +14,7 @@ use Rattle.cil_syntax.specs.Standpoints.{Standpoint, stated_by, all_stated}
 use Rattle.cil_syntax.specs.Written.{Written, Verdict, Refused, Shaped, verdict_in, written_cmp}
 use Rattle.cil_syntax.proofs.FoundList.{place_order}
 use Rattle.cil_syntax.proofs.PlacesApart.{start_of}
-use Rattle.cil_syntax.proofs.StatementOrder.{place_first, rising_in_front, rising_join, rising_nothing, stands_at}
-
-below_by : (a b : ℕ) → nat_cmp a b ≡ Less → a < b
-below_by a b e =
-    by_ranked _ _ _ (nat_cmp a b) (ranked a b (nat_cmp a b) refl) (λ l h. h)
-    (λ q h. absurd (let f : Less ≡ Equal = sym e ∙ q in cc)) (λ g h. absurd (let f : Less ≡ Greater = sym e ∙ g in cc))
+use Rattle.cil_syntax.proofs.StatementOrder.{place_first, stands_at}
 
 module _ (d : Dialect) (m : ℕ) where
   -- a statement of some nodes stands where one of them begins

@@ -33,8 +33,8 @@ mod verdict;
 mod words;
 
 pub use code::FaultCode;
-pub use failure::Failure;
-pub use fault::{Bytes, Fault, push_fault};
+pub use failure::{Failure, refuse};
+pub use fault::{Bytes, Fault, push_fault, push_fault_in};
 pub use fault_list::FaultList;
 pub use forms::{
     ClassParts, DeclaredName, Parameter, RuleParts, WordAndTerms, WordPair, word_and_terms,

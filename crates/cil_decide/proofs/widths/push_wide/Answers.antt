@@ -15,9 +15,9 @@ returns-in_default c = λ is entries member permissions.
 
 pub returns : goal.returns
 returns c =
-    let told : c.push.new.self.items ≡ c.args.faults.now.items ++ fault_at causes.ClassWide c.in-Some.name.at (space_at c.args.lookup.now.spaces.now c.args.instance.now.place.now.space) c.in-Some.name.bytes.now ∷ [] =
+    let told : c.push_fault_in.new.faults.items ≡ c.args.faults.now.items ++ fault_at causes.ClassWide c.in-Some.name.at (space_at c.args.lookup.now.spaces.now c.args.instance.now.place.now.space) c.in-Some.name.bytes.now ∷ [] =
     search rules in
     λ is entries member permissions.
-    one_more c.args.faults.now.items c.push.new.self.items _
+    one_more c.args.faults.now.items c.push_fault_in.new.faults.items _
     (IsWide (is_in c.args.lookup.now.enabled.now) (items_of c.args.lookup.now.spaces.now is) (item_of c.args.lookup.now.spaces.now c.args.instance.now)) told
     (c.in-Some.ensures is entries member permissions)

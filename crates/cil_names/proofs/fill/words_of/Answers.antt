@@ -1,10 +1,12 @@
-use Rattle.std.proofs.Common.{rules, ◌≡◌, sym, ◌∙◌, ◌++◌, ◌∷◌, [], subst, length, ◌+◌}
+use Rattle.std.proofs.Common.{map, rules, ◌≡◌, sym, ◌∙◌, ◌++◌, ◌∷◌, [], subst, length, ◌+◌}
 use Rattle.std.specs.Prelude.{Contains}
+use Rattle.cil_syntax.proofs.RefusalLemmas.{fails_alike, refused}
+use Rattle.cil_names.specs.Rows.{IsTableOf}
 use Rattle.cil_names.specs.Entries.{is_in, items_of}
 use Rattle.cil_names.specs.Faults.{ResolveFault}
 use Rattle.cil_names.specs.Meanings.{meanings}
 use Rattle.cil_names.specs.Unresolved.{faults_in}
-use Rattle.cil_names.proofs.FillLemmas.{all_back, all_there, faults_of_same, none_left, placed_at, told_on}
+use Rattle.cil_names.proofs.FillLemmas.{all_back, all_there, placed_at, told_on}
 use Rattle.cil_names.proofs.RowLemmas.{AreFilled, one_row, starts_are, words_are}
 use Rattle.cil_names.proofs.ScopeLemmas.{all_passed}
 use Rattle.cil_names.proofs.fill.words_of.Goals as goal
@@ -25,16 +27,17 @@ loop-instance-preserved c =
           (c.in_ok-instance.ensures.faults c.args.instances.now c.requires.entries c.requires.permissions),
     )
 
-pub returns-in-Some : goal.returns-in-Some
-returns-in-Some c =
+pub returns-in_err-refuse : goal.returns-in_err-refuse
+returns-in_err-refuse c =
     let all = all_passed (faults_in (items_of c.args.lookup.now.spaces.now c.args.instances.now) (is_in c.args.lookup.now.enabled.now) c.args.lookup.now.spaces.now) c.args.instances.now c.loop-instance.instance-index c.loop-instance-test.false c.loop-instance.faults.items _ c.loop-instance.invariant.1 in
-    faults_of_same (Contains c.loop-instance.faults.items) (ResolveFault (is_in c.args.lookup.now.enabled.now) (items_of c.args.lookup.now.spaces.now c.args.instances.now)) c.in-Some.list
+    refused (IsTableOf (map (meanings c.args.lookup.now.spaces.now c.args.lookup.now.names.now (is_in c.args.lookup.now.enabled.now)) c.args.instances.now)) (ResolveFault (is_in c.args.lookup.now.enabled.now) (items_of c.args.lookup.now.spaces.now c.args.instances.now)) _ _ c.from_residual-in_err-refuse.ensures.1
+    (fails_alike (Contains c.loop-instance.faults.items) (ResolveFault (is_in c.args.lookup.now.enabled.now) (items_of c.args.lookup.now.spaces.now c.args.instances.now))
     (λ f told. all_there c.args.lookup.now.spaces.now c.args.instances.now (is_in c.args.lookup.now.enabled.now) f (subst (λ l. Contains l f) all told))
     (λ f fault. subst (λ l. Contains l f) (sym all) (all_back c.args.lookup.now.spaces.now c.args.instances.now (is_in c.args.lookup.now.enabled.now) f fault))
-    c.in-Some.ensures.faults
+    _ c.in_err-refuse.ensures)
 
-pub returns-in-None : goal.returns-in-None
-returns-in-None c =
+pub returns : goal.returns
+returns c =
     let all = all_passed (faults_in (items_of c.args.lookup.now.spaces.now c.args.instances.now) (is_in c.args.lookup.now.enabled.now) c.args.lookup.now.spaces.now) c.args.instances.now c.loop-instance.instance-index c.loop-instance-test.false c.loop-instance.faults.items _ c.loop-instance.invariant.1 in
     let ended : c.push-2.new.self.items ≡ c.loop-instance.starts.items ++ length c.loop-instance.words.items ∷ [] = let h = c.in_ok-push-2.ensures.items in let n = c.len-2.ensures in search (rules, h, n) in (
       record {
@@ -43,5 +46,5 @@ returns-in-None c =
         words = search rules ∙ words_are (meanings c.args.lookup.now.spaces.now c.args.lookup.now.names.now (is_in c.args.lookup.now.enabled.now)) c.args.instances.now c.loop-instance.instance-index
             c.loop-instance.starts.items c.loop-instance.words.items c.loop-instance.invariant.0 c.loop-instance-test.false;
       },
-      none_left c.args.lookup.now.spaces.now c.args.instances.now (is_in c.args.lookup.now.enabled.now) (search rules ∙ all),
+      λ f fault. c.in_ok-refuse.ensures.1 f (subst (λ l. Contains l f) (sym all) (all_back c.args.lookup.now.spaces.now c.args.instances.now (is_in c.args.lookup.now.enabled.now) f fault)),
     )

@@ -2,13 +2,14 @@ use Rattle.std.specs.Prelude.{Contains}
 use Rattle.std.specs.List.{flat_map}
 use Rattle.std.proofs.Common.{map, sym, ◌∙◌, ap, subst}
 use Rattle.cil_syntax.specs.declared.fault.Fault.{Fault}
+use Rattle.cil_syntax.proofs.RefusalLemmas.{fails_alike, refused}
 use Rattle.cil_names.specs.DeclareRows.{IsPlacedRow}
 use Rattle.cil_names.specs.DeclareRuns.{entry_of_run, run_faults}
 use Rattle.cil_names.specs.Entries.{AreEntries, items_of}
 use Rattle.cil_names.specs.Faults.{ClashFault}
 use Rattle.cil_names.specs.Spaces.{AreSpaces}
 use Rattle.cil_names.proofs.DeclareDone.{gathered, placed_in}
-use Rattle.cil_names.proofs.DeclareFaults.{clash_back, clash_there, fails_of, handed_on, none_differ}
+use Rattle.cil_names.proofs.DeclareFaults.{clash_back, clash_there, none_differ}
 use Rattle.cil_names.proofs.DeclareNamed.{are_named, entries_rise}
 use Rattle.cil_names.proofs.gather.declare.Goals as goal
 
@@ -31,8 +32,8 @@ returns-in_err-refuse c =
     let of = gathered ss is _ _ rows runs (subst AreSpaces c.as_slice-2.ensures.value c.as_slice-2.ensures.numbered) c.requires c.in_ok-rows_of.ensures
     c.sorted_rows-rows.ensures.same c.as_slice.ensures.value c.in_ok-runs.ensures in
     let told = c.in_ok-faults.ensures ∙ (λ j. flat_map (run_faults (c.as_slice-2.ensures.value j)) (c.as_slice-3.ensures.value j)) in
-    handed_on (AreEntries ss is) (ClashFault (items_of ss is)) _ _ c.from_residual-in_err-refuse.ensures.1
-    (fails_of (Contains c.in_ok-faults.faults.items) (ClashFault (items_of ss is))
+    refused (AreEntries ss is) (ClashFault (items_of ss is)) _ _ c.from_residual-in_err-refuse.ensures.1
+    (fails_alike (Contains c.in_ok-faults.faults.items) (ClashFault (items_of ss is))
     (λ f d. clash_there ss is rows runs of f (subst (λ fs. Contains fs f) told d))
     (λ f d. subst (λ fs. Contains fs f) (sym told) (clash_back ss is rows runs of f d)) _ c.in_err-refuse.ensures)
 

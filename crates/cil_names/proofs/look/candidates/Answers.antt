@@ -1,5 +1,6 @@
 use Rattle.std.proofs.Common.{rules, ◌≡◌, ◌∙◌, ◌++◌, ℕ, get_or, refl, sym, ap, arith}
-use Rattle.cil_names.proofs.ScopeLemmas.{all_passed, asked_there, could_name, is_global, passed_on, whole}
+use Rattle.cil_syntax.proofs.AskedLemmas.{is_global}
+use Rattle.cil_names.proofs.ScopeLemmas.{all_passed, asked_there, could_name, passed_on, whole}
 use Rattle.cil_names.proofs.look.candidates.Goals as goal
 
 pub loop-from-preserved : goal.loop-from-preserved

@@ -1,7 +1,8 @@
 use Rattle.std.proofs.Common.{rules, ◌≡◌, ◌∙◌, ℕ, get_or, refl, sym, ap, arith}
 use Rattle.std.specs.Prelude.{find}
+use Rattle.cil_syntax.proofs.AskedLemmas.{is_global}
 use Rattle.cil_names.specs.Entries.{is_declared_at, is_in}
-use Rattle.cil_names.proofs.ScopeLemmas.{asked_there, could_name, found_by, is_global, never, passed_by, whole}
+use Rattle.cil_names.proofs.ScopeLemmas.{asked_there, could_name, found_by, never, passed_by, whole}
 use Rattle.cil_names.proofs.look.resolve.Goals as goal
 
 pub returns-then-is_some : goal.returns-then-is_some

@@ -1,12 +1,13 @@
 use Rattle.std.proofs.Common.{rules, ◌≡◌, ◌∙◌, ap, sym}
 use Rattle.std.specs.Prelude.{Some, slice_get}
 use Rattle.std.proofs.lemmas.Option.{slice_get-get_or}
+use Rattle.cil_sexpr.specs.Rising.{rising_nothing}
+use Rattle.cil_sexpr.specs.Lists.{text_cmp}
 use Rattle.cil_names.proofs.ListedLemmas.{listed_of_class, listed_of_none}
-use Rattle.cil_names.proofs.NumberLemmas.{nothing_rises}
 use Rattle.cil_names.proofs.permission_word.permissions_at.Goals as goal
 
 pub returns-in_default-clause-sorted : goal.returns-in_default-clause-sorted
-returns-in_default-clause-sorted c = nothing_rises
+returns-in_default-clause-sorted c = rising_nothing text_cmp
 
 pub returns-in_default-clause-listed : goal.returns-in_default-clause-listed
 returns-in_default-clause-listed c =

@@ -1,4 +1,5 @@
-use Rattle.cil_names.proofs.DeclareRunLemmas.{next_parted, next_above, row_at, row_within, some_within}
+use Rattle.cil_sexpr.specs.Places.{contains_at}
+use Rattle.cil_names.proofs.DeclareRunLemmas.{next_parted, next_above, row_within, some_within}
 use Rattle.cil_names.proofs.run.run_at.Goals as goal
 
 pub returns : goal.returns
@@ -12,7 +13,7 @@ returns c =
       is_run = λ ss spaces placed. record {
         first = c.run_length.ensures.first;
         same = c.run_length.ensures.same;
-        tells = c.is_differing.ensures ss spaces (placed _ (row_at c.args.rows.now c.args.start _ c.requires.within c.index-rows-start.is))
+        tells = c.is_differing.ensures ss spaces (placed _ (contains_at c.args.rows.now c.args.start _ _ c.requires.within c.index-rows-start.is))
             (λ r d. placed r (row_within c.args.rows.now c.args.start c.run_length.result _ rest r d));
       };
     }

@@ -1,11 +1,12 @@
 use Rattle.std.proofs.Common.{sym, ◌∙◌}
+use Rattle.cil_sexpr.specs.Rising.{rising_nothing}
+use Rattle.cil_sexpr.specs.Lists.{text_cmp}
 use Rattle.cil_names.specs.Judging.{enabled_in, word_in_scope}
-use Rattle.cil_names.proofs.NumberLemmas.{nothing_rises}
 use Rattle.cil_names.proofs.PermissionWordLemmas.{asked_named, asked_unnamed}
 use Rattle.cil_names.proofs.judge.Judge.listed.Goals as goal
 
 pub returns-in_default-clause-sorted : goal.returns-in_default-clause-sorted
-returns-in_default-clause-sorted c = nothing_rises
+returns-in_default-clause-sorted c = rising_nothing text_cmp
 
 pub returns-in_default-clause-listed : goal.returns-in_default-clause-listed
 returns-in_default-clause-listed c =

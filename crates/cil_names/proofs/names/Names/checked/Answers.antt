@@ -1,8 +1,8 @@
 use Rattle.std.proofs.Common.{◌≡◌, ◌∙◌, sym, refl, subst, true, false}
 use Rattle.std.specs.List.Sorted.{IsStrictlySortedBy}
 use Rattle.std.specs.Ordering.{on}
+use Rattle.cil_sexpr.specs.Places.{get_at, get_contains}
 use Rattle.cil_names.specs.Entries.{key_cmp, key_of}
-use Rattle.cil_names.proofs.SearchLemmas.{number_of_member, member_of_number}
 use Rattle.cil_names.proofs.names.Names.checked.Goals as goal
 
 pub returns-then-not-rise : goal.returns-then-not-rise
@@ -13,7 +13,7 @@ returns-then-not-rise c = λ ordered.
 
 pub returns-then-not-are_within : goal.returns-then-not-are_within
 returns-then-not-are_within c = λ ordered.
-    let within = c.are_within.ensures.1 (λ i e at. ordered.within e (member_of_number _ i e (rw c.as_slice-2.ensures.value at at))) in
+    let within = c.are_within.ensures.1 (λ i e at. ordered.within e (get_contains _ i e (rw c.as_slice-2.ensures.value at at))) in
     let f : false ≡ true = sym c.if-not-are_within.true ∙ within in
     cc
 
@@ -23,7 +23,7 @@ returns c = (
   record {
     rising = rw c.as_slice.ensures.value at (c.rise.ensures.0 c.if-not-rise.false);
     within = λ e member.
-        let (i, at) = number_of_member _ e member in
+        let (i, below_i, at) = get_at _ e member in
         c.are_within.ensures.0 c.if-not-are_within.false i e (rw c.as_slice-2.ensures.value at);
   },
 )

@@ -1,8 +1,9 @@
--- Whether two values are equal: numbers, texts, words, terms, declarations.
-use Rattle.std.specs.Cmp.Lexicographic.{bytes_decides}
-use Rattle.std.proofs.Common.{◌≡◌, ℕ, Bool, true, false, List, [], ◌∷◌, refl, sym, ◌∙◌, ap, inl, inr, arith}
+-- Whether two values are equal: kinds, signs, statements' keywords, positions, namespaces, terms.
+use Rattle.std.specs.Cmp.Lexicographic.{bytes_decides, pointwise_decides}
+use Rattle.std.proofs.Common.{◌≡◌, ℕ, true, false, List, refl, sym, ◌∙◌, ap, inl, inr, arith}
 use Rattle.std.specs.Prelude.{◌==◌, if◌then◌else◌, nat_eq}
-use Rattle.std.proofs.lemmas.Bool.{cases_Bool, cases_lt}
+use Rattle.std.proofs.lemmas.Bool.{cases_Bool}
+use Rattle.cil_sexpr.specs.Decided.{Decided, by_number, decided_both, decided_same, same_list, same_number, same_text}
 use Rattle.cil_syntax.specs.declared.kind.Keyword.{Keyword}
 use Rattle.cil_syntax.specs.declared.kind.Keyword.TheVariants as keywords
 use Rattle.cil_syntax.specs.declared.kind.Kind.{Kind}
@@ -11,73 +12,21 @@ use Rattle.cil_syntax.specs.declared.kind.Sign.TheVariants as signs
 use Rattle.cil_syntax.specs.declared.term.Op.{Op}
 use Rattle.cil_syntax.specs.declared.term.Op.TheVariants as ops
 use Rattle.cil_syntax.specs.declared.term.Spot.{Spot}
-use Rattle.cil_syntax.specs.Spelling.{same_bytes}
-use Rattle.cil_syntax.specs.Terms.{Term, Leaf, Name, Form, Terms, nil, cons}
-use Rattle.cil_syntax.specs.Scopes.{Namespace}
-use Rattle.cil_names.specs.Declarations.{Bare, Declaration}
 use Rattle.cil_syntax.specs.Kinds.{kind_number}
-use Rattle.cil_names.proofs.KindLemmas.{one_kind, same_kind}
-use Rattle.cil_decide.proofs.Finite.{Decided, decided_both, decided_same}
+use Rattle.cil_syntax.specs.Scopes.{Namespace, same_space}
+use Rattle.cil_syntax.specs.Terms.{Term, Leaf, Name, Form, Terms, nil, cons}
+use Rattle.cil_syntax.proofs.KindLemmas.{one_kind, same_kind}
 
-pub bool_is : (b c : Bool) → Decided (b ≡ c)
-bool_is true true = inl refl
-bool_is true false = inr (λ e. let f : true ≡ false = e in cc)
-bool_is false true = inr (λ e. let f : false ≡ true = e in cc)
-bool_is false false = inl refl
-
-pub same_number : (m n : ℕ) → Decided (m ≡ n)
-same_number m n = elim (cases_lt m n) [
-  | inl less ↦ inr (λ e. omega (arith, e, less))
-  | inr ge ↦ elim (cases_lt n m) [
-    | inl more ↦ inr (λ e. omega (arith, e, more))
-    | inr le ↦ inl (omega (arith, ge, le))
-  ]
-]
-
-pub same_text : (a b : List ℕ) → Decided (a ≡ b)
-same_text a b = elim (cases_Bool (same_bytes a b)) [
-  | inl t ↦ inl ((bytes_decides a b).0 t)
-  | inr f ↦ inr (λ e. let t = (bytes_decides a b).1 e in let g : true ≡ false = sym t ∙ f in cc)
-]
-
--- ---- lists
-
-head_or : {X : Type 0} → X → List X → X
-head_or d [] = d
-head_or d (x ∷ xs) = x
-
-tail_of : {X : Type 0} → List X → List X
-tail_of [] = []
-tail_of (x ∷ xs) = xs
-
-is_some_item : {X : Type 0} → List X → Bool
-is_some_item [] = false
-is_some_item (x ∷ xs) = true
-
-module _ {X : Type 0} (same : (x y : X) → Decided (x ≡ y)) where
-  pub same_list : (xs ys : List X) → Decided (xs ≡ ys)
-  unfolding head_or tail_of is_some_item
-  same_list [] [] = inl refl
-  same_list [] (y ∷ ys) = inr (λ e. let f : false ≡ true = ap is_some_item e in cc)
-  same_list (x ∷ xs) [] = inr (λ e. let f : true ≡ false = ap is_some_item e in cc)
-  same_list (x ∷ xs) (y ∷ ys) = elim (same x y) [
-    | inr apart ↦ inr (λ e. apart (ap (head_or x) e))
-    | inl h ↦ elim (same_list xs ys) [
-      | inl t ↦ inl (λ i. h i ∷ t i)
-      | inr apart ↦ inr (λ e. apart (ap tail_of e))
-    ]
-  ]
+-- ---- namespaces
 
 pub same_namespace : (a b : Namespace) → Decided (a ≡ b)
 same_namespace = same_list same_text
 
--- ---- enums, by a number for each variant
+-- the test of the definitions tells it
+pub spaces_decide : (a b : Namespace) → (same_space a b ≡ true → a ≡ b) × (a ≡ b → same_space a b ≡ true)
+spaces_decide a b = pointwise_decides bytes_decides a b
 
-by_number : {X : Type 0} (number : X → ℕ) (back : ℕ → X) → ((x : X) → back (number x) ≡ x) → (x y : X) → Decided (x ≡ y)
-by_number number back is x y = elim (same_number (number x) (number y)) [
-  | inl e ↦ inl (sym (is x) ∙ ap back e ∙ is y)
-  | inr apart ↦ inr (λ e. apart (ap number e))
-]
+-- ---- enums, by a number for each variant
 
 pub kind_is : (a b : Kind) → Decided (a ≡ b)
 kind_is a b = elim (cases_Bool (nat_eq (kind_number a) (kind_number b))) [
@@ -173,7 +122,7 @@ sign_back signs.Macros = refl
 sign_back signs.Text = refl
 sign_back signs.Unread = refl
 
-sign_is : (a b : Sign) → Decided (a ≡ b)
+pub sign_is : (a b : Sign) → Decided (a ≡ b)
 sign_is = by_number sign_number sign_at sign_back
 
 op_number : Op → ℕ
@@ -250,17 +199,12 @@ op_back ops.UnreadText = refl
 pub op_is : (a b : Op) → Decided (a ≡ b)
 op_is = by_number op_number op_at op_back
 
--- ---- terms without places
+-- ---- terms
 
-same_spot : (a b : Spot) → Decided (a ≡ b)
+pub same_spot : (a b : Spot) → Decided (a ≡ b)
 same_spot a b =
     decided_same (λ h i. record { «module» = h.0 i; at = h.1 i }) (λ e. (ap (λ (s : Spot). s.«module») e, ap (λ (s : Spot). s.at) e))
     (decided_both (same_number a.«module» b.«module») (same_number a.at b.at))
-
-same_bare : (a b : Bare) → Decided (a ≡ b)
-same_bare a b =
-    decided_same (λ h i. record { bytes = h.0 i; sign = h.1.0 i; scope = h.1.1 i }) (λ e. (ap (λ (w : Bare). w.bytes) e, (ap (λ (w : Bare). w.sign) e, ap (λ (w : Bare). w.scope) e)))
-    (decided_both (same_text a.bytes b.bytes) (decided_both (sign_is a.sign b.sign) (same_list same_namespace a.scope b.scope)))
 
 -- which constructor a term has
 abbrev variant : {L : Type 0} → Term L → ℕ
@@ -292,35 +236,28 @@ abbrev rest_or : {L : Type 0} → Terms L → Terms L → Terms L
 rest_or d nil = d
 rest_or d (cons t ts) = ts
 
-apart_by : {X : Type 0} (f : X → ℕ) (x y : X) → (f x ≡ f y → ⊥) → x ≡ y → ⊥
-apart_by f x y apart e = apart (ap f e)
+-- for leaves that are decided
+module _ {L : Type 0} (same_leaf : (v w : L) → Decided (v ≡ w)) where
+  mutual
+    pub same_term : (a b : Term L) → Decided (a ≡ b)
+    same_term (Leaf v) (Leaf w) = decided_same (ap Leaf) (ap (word_or v)) (same_leaf v w)
+    same_term (Leaf v) (Name at bytes) = inr (λ e. let f : 0 ≡ 1 = ap variant e in omega (arith, f))
+    same_term (Leaf v) (Form at op parts) = inr (λ e. let f : 0 ≡ 2 = ap variant e in omega (arith, f))
+    same_term (Name at bytes) (Leaf w) = inr (λ e. let f : 1 ≡ 0 = ap variant e in omega (arith, f))
+    same_term (Name at a) (Name bt b) =
+        decided_same (λ h i. Name (h.0 i) (h.1 i)) (λ e. (ap (λ t. (name_or (at, a) t).0) e, ap (λ t. (name_or (at, a) t).1) e))
+        (decided_both (same_spot at bt) (same_text a b))
+    same_term (Name at bytes) (Form bt op parts) = inr (λ e. let f : 1 ≡ 2 = ap variant e in omega (arith, f))
+    same_term (Form at op parts) (Leaf w) = inr (λ e. let f : 2 ≡ 0 = ap variant e in omega (arith, f))
+    same_term (Form at op parts) (Name bt bytes) = inr (λ e. let f : 2 ≡ 1 = ap variant e in omega (arith, f))
+    same_term (Form at p ts) (Form bt q us) =
+        decided_same (λ h i. Form (h.0 i) (h.1.0 i) (h.1.1 i))
+        (λ e. (ap (λ t. (form_or (at, p, ts) t).0) e, (ap (λ t. (form_or (at, p, ts) t).1) e, ap (λ t. (form_or (at, p, ts) t).2) e)))
+        (decided_both (same_spot at bt) (decided_both (op_is p q) (same_terms ts us)))
 
-mutual
-  same_term : (a b : Term Bare) → Decided (a ≡ b)
-  same_term (Leaf v) (Leaf w) = decided_same (ap Leaf) (ap (word_or v)) (same_bare v w)
-  same_term (Leaf v) (Name at bytes) = inr (λ e. let f : 0 ≡ 1 = ap variant e in omega (arith, f))
-  same_term (Leaf v) (Form at op parts) = inr (λ e. let f : 0 ≡ 2 = ap variant e in omega (arith, f))
-  same_term (Name at bytes) (Leaf w) = inr (λ e. let f : 1 ≡ 0 = ap variant e in omega (arith, f))
-  same_term (Name at a) (Name bt b) =
-      decided_same (λ h i. Name (h.0 i) (h.1 i)) (λ e. (ap (λ t. (name_or (at, a) t).0) e, ap (λ t. (name_or (at, a) t).1) e))
-      (decided_both (same_spot at bt) (same_text a b))
-  same_term (Name at bytes) (Form bt op parts) = inr (λ e. let f : 1 ≡ 2 = ap variant e in omega (arith, f))
-  same_term (Form at op parts) (Leaf w) = inr (λ e. let f : 2 ≡ 0 = ap variant e in omega (arith, f))
-  same_term (Form at op parts) (Name bt bytes) = inr (λ e. let f : 2 ≡ 1 = ap variant e in omega (arith, f))
-  same_term (Form at p ts) (Form bt q us) =
-      decided_same (λ h i. Form (h.0 i) (h.1.0 i) (h.1.1 i))
-      (λ e. (ap (λ t. (form_or (at, p, ts) t).0) e, (ap (λ t. (form_or (at, p, ts) t).1) e, ap (λ t. (form_or (at, p, ts) t).2) e)))
-      (decided_both (same_spot at bt) (decided_both (op_is p q) (same_terms ts us)))
-
-  same_terms : (a b : Terms Bare) → Decided (a ≡ b)
-  same_terms nil nil = inl refl
-  same_terms nil (cons u us) = inr (λ e. let f : 0 ≡ 1 = ap is_cons e in omega (arith, f))
-  same_terms (cons t ts) nil = inr (λ e. let f : 1 ≡ 0 = ap is_cons e in omega (arith, f))
-  same_terms (cons t ts) (cons u us) =
-      decided_same (λ h i. cons (h.0 i) (h.1 i)) (λ e. (ap (first_or t) e, ap (rest_or ts) e)) (decided_both (same_term t u) (same_terms ts us))
-
-pub same_declaration : (a b : Declaration) → Decided (a ≡ b)
-same_declaration a b =
-    decided_same (λ h i. record { kind = h.0 i; space = h.1.0 i; name = h.1.1.0 i; content = h.1.1.1 i })
-    (λ e. (ap (λ (d : Declaration). d.kind) e, (ap (λ (d : Declaration). d.space) e, (ap (λ (d : Declaration). d.name) e, ap (λ (d : Declaration). d.content) e))))
-    (decided_both (kind_is a.kind b.kind) (decided_both (same_namespace a.space b.space) (decided_both (same_text a.name b.name) (same_terms a.content b.content))))
+    pub same_terms : (a b : Terms L) → Decided (a ≡ b)
+    same_terms nil nil = inl refl
+    same_terms nil (cons u us) = inr (λ e. let f : 0 ≡ 1 = ap is_cons e in omega (arith, f))
+    same_terms (cons t ts) nil = inr (λ e. let f : 1 ≡ 0 = ap is_cons e in omega (arith, f))
+    same_terms (cons t ts) (cons u us) =
+        decided_same (λ h i. cons (h.0 i) (h.1 i)) (λ e. (ap (first_or t) e, ap (rest_or ts) e)) (decided_both (same_term t u) (same_terms ts us))
