@@ -1,7 +1,7 @@
 use Rattle.std.proofs.Common.{◌≡◌, ◌+◌, ◌∙◌, [], ◌∷◌, ap, arith, length, sym}
 use Rattle.std.specs.Prelude.{Some, slice_get}
 use Rattle.std.proofs.lemmas.List.{length-append}
-use Rattle.cil_sexpr.specs.Places.{there_as}
+use Rattle.cil_sexpr.specs.Places.{is_there}
 use Rattle.cil_macros.proofs.CallOpening.{one_opening}
 use Rattle.cil_macros.proofs.openings.openings_of.Goals as goal
 
@@ -9,7 +9,7 @@ pub opening_of-requires-clause-next : goal.opening_of-requires-clause-next
 opening_of-requires-clause-next c =
     ap (λ k. slice_get c.args.scene.now.brought.now.bodies.items k) (ap length c.as_slice.ensures.value ∙ c.loop-body.invariant.0)
     ∙ ap (λ xs. slice_get xs c.loop-body.body-index) (sym c.as_slice-body-items.ensures.value)
-    ∙ there_as c.as_slice-body-items.result.now c.loop-body.body-index c.body-item.result c.loop-body-test.true c.body-item.is
+    ∙ is_there c.as_slice-body-items.result.now c.loop-body.body-index _ c.loop-body-test.true
 
 pub loop-body-preserved : goal.loop-body-preserved
 loop-body-preserved c =
@@ -20,7 +20,7 @@ loop-body-preserved c =
     let k = c.loop-body.invariant.0 in
     let next = ap (λ k. slice_get s.brought.now.bodies.items k) c.loop-body.invariant.0
     ∙ ap (λ xs. slice_get xs c.loop-body.body-index) (sym c.as_slice-body-items.ensures.value)
-    ∙ there_as c.as_slice-body-items.result.now c.loop-body.body-index c.body-item.result c.loop-body-test.true c.body-item.is in (
+    ∙ is_there c.as_slice-body-items.result.now c.loop-body.body-index _ c.loop-body-test.true in (
       omega (arith, l, n, k),
-      one_opening s c.requires os c.loop-body.invariant.1 c.body-item.result c.in_ok-opening.opening c.push.new.self.items next c.in_ok-opening.ensures c.in_ok-push.ensures.items,
+      one_opening s c.requires os c.loop-body.invariant.1 _ c.in_ok-opening.opening c.push.new.self.items next c.in_ok-opening.ensures c.in_ok-push.ensures.items,
     )
