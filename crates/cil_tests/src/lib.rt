@@ -37,6 +37,8 @@ mod look_ups;
 #[cfg(test)]
 mod macros;
 #[cfg(test)]
+mod meanings;
+#[cfg(test)]
 mod merged_hosts;
 #[cfg(test)]
 mod module_sets;
