@@ -18,6 +18,7 @@ use Rattle.cil_macros.specs.declared.entry.Body as code
 use Rattle.cil_macros.specs.declared.openings.Opening.{Opening}
 use Rattle.cil_macros.specs.declared.scene.Scene.{Scene}
 use Rattle.cil_macros.specs.Calls.{Unfolded, bound, bounds_of_call, called_macro, is_repeated, unfolded, unfolded_by, unfolded_with}
+use Rattle.cil_macros.specs.Instances.{AreInstances, AreMeant}
 use Rattle.cil_macros.specs.Macros.{all_standing}
 use Rattle.cil_macros.specs.Openings.{AreOpenings, IsOpening}
 use Rattle.cil_macros.specs.Parameters.{call_arguments, macro_parameters}
@@ -122,3 +123,20 @@ module _ (s : Scene) (are : IsScene s) (os : List Opening)
           let same : b ≡ x = some_same b x (sym e ∙ ap (slice_get s.brought.now.bodies.items) (let z : length os ≡ i = omega (arith, at, first) in z) ∙ g) in
           subst (λ (z : code.Body). IsOpening (written_in s.spaces.now) (all_standing s.spaces.now) (placed_of_scene s) z y) same
           (subst (IsOpening (written_in s.spaces.now) (all_standing s.spaces.now) (placed_of_scene s) b) last.1 is)
+
+-- ---- all bodies
+
+-- where all bodies are known, all that is placed is
+pub all_known : (s : Scene) (os : List Opening) (at : ℕ) → AreInstances s.spaces.now s.brought.now → AreMeant s.spaces.now s.brought.now s.declared.now os
+    → at < length (entries_in s.spaces.now) + length s.brought.now.called.items → IsKnown s os at
+all_known s os at are meant within = record {
+  scene = record { standings = are.standings; brought = are.brought; declared = meant.declared };
+  within = within;
+  opened = meant.openings;
+  first = λ j c behind there.
+      let m = standings_length (written_in s.spaces.now) (entries_in s.spaces.now) in
+      let x = are.brought.bodies.brought j c there in
+      let h = in_range s.brought.now.bodies.items c.body x.body x.is_body in
+      let many = meant.many in
+      omega (arith, h, many);
+}
