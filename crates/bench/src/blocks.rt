@@ -1,4 +1,4 @@
-//! What it costs to find all that stands, beside reading the statements: over templates that are inherited in four ways.
+//! What it costs to find all that stands, beside reading the statements: over templates that are inherited in five ways.
 
 use crate::error::BenchError;
 use crate::figures::{RUNS, median, micros, print, print_ratio};
@@ -19,6 +19,8 @@ pub enum Form {
     Templates,
     /// Each block inherits the one before twice.
     Doubling,
+    /// As in a chain, but each template is in a block of its own: so many namespaces are in the scope of the last type.
+    LongScopes,
 }
 
 /// A text of this form, with so many templates or blocks.
@@ -28,6 +30,7 @@ fn text_of(alloc: Global, form: Form, count: usize) -> Result<String, AllocError
         Form::Heirs => heirs(alloc, count),
         Form::Templates => templates(alloc, count),
         Form::Doubling => doubling(alloc, count),
+        Form::LongScopes => long_scopes(alloc, count),
     }
 }
 
@@ -78,6 +81,21 @@ fn doubling(alloc: Global, count: usize) -> Result<String, AllocError> {
             "(block b{n} (blockinherit b{before})(blockinherit b{before}))"
         )?;
     }
+    Ok(text)
+}
+
+fn long_scopes(alloc: Global, count: usize) -> Result<String, AllocError> {
+    let mut text = String::new(alloc);
+    writeln!(text, "(block b0 (block t (blockabstract t)(type x)))")?;
+    for n in 1..count {
+        let before = n - 1;
+        writeln!(
+            text,
+            "(block b{n} (block t (blockabstract t)(blockinherit b{before}.t)))"
+        )?;
+    }
+    let last = count.saturating_sub(1);
+    writeln!(text, "(block heir (blockinherit b{last}.t))")?;
     Ok(text)
 }
 

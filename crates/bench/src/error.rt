@@ -38,7 +38,7 @@ impl fmt::Display for BenchError {
         match self {
             BenchError::Usage => write!(
                 f,
-                "expected `read BYTES`, `write BYTES`, `import MODULES`, `compile RULES`, `look-up NAMESPACES`, one of `chain`, `heirs`, `templates`, `doubling` and BLOCKS, or one of `macro-chain`, `macro-calls`, `macro-doubling` and MACROS; without arguments it prints help"
+                "expected `read BYTES`, `write BYTES`, `import MODULES`, `compile RULES`, `look-up NAMESPACES`, one of `chain`, `heirs`, `templates`, `doubling`, `long-scopes` and BLOCKS, or one of `macro-chain`, `macro-calls`, `macro-doubling` and MACROS; without arguments it prints help"
             ),
             BenchError::Read(error) => write!(f, "a text cannot be read: {error}"),
             BenchError::Import(error) => write!(f, "a bundle cannot be imported: {error}"),

@@ -76,6 +76,7 @@ fn task_of(words: &[String]) -> Option<Task> {
         "heirs" if number <= MOST_BLOCKS => Some(Task::Blocks(Form::Heirs, number)),
         "templates" if number <= MOST_BLOCKS => Some(Task::Blocks(Form::Templates, number)),
         "doubling" if number <= MOST_BLOCKS => Some(Task::Blocks(Form::Doubling, number)),
+        "long-scopes" if number <= MOST_BLOCKS => Some(Task::Blocks(Form::LongScopes, number)),
         "macro-chain" if number <= MOST_BLOCKS => Some(Task::Macros(Way::Chain, number)),
         "macro-calls" if number <= MOST_BLOCKS => Some(Task::Macros(Way::Calls, number)),
         "macro-doubling" if number <= MOST_BLOCKS => Some(Task::Macros(Way::Doubling, number)),
@@ -102,7 +103,7 @@ fn run<R: Print + Env + CpuClock + AllocGlobal>(rt: &R, alloc: Global) -> Result
                 bench import MODULES, a number of at most {MOST}\n       \
                 bench compile RULES, a number of at most {MOST_RULES}\n       \
                 bench look-up NAMESPACES, a number from 1 to {MOST_SCOPE}\n       \
-                bench chain|heirs|templates|doubling BLOCKS, a number of at most {MOST_BLOCKS}\n       \
+                bench chain|heirs|templates|doubling|long-scopes BLOCKS, a number of at most {MOST_BLOCKS}\n       \
                 bench macro-chain|macro-calls|macro-doubling MACROS, a number of at most {MOST_BLOCKS}"
             )?;
             Ok(())
