@@ -121,7 +121,10 @@ impl<'c, 's, 'p, 'a> Call<'c, 's, 'p, 'a> {
         else {
             return Ok(Vec::new(alloc));
         };
-        let Some(call) = spaces.statements().get(statement_at(entries, brought, self.at)) else {
+        let Some(call) = spaces
+            .statements()
+            .get(statement_at(entries, brought, self.at))
+        else {
             return Ok(Vec::new(alloc));
         };
         let meanings = self.meanings(alloc, macro_statement, call)?;

@@ -45,9 +45,7 @@ const MEANINGS: &[(&[&str], &str)] = &[
     ),
     // A parameter that is passed on, and a word of the body that is an argument.
     (
-        &[
-            "(macro a ((type y)) (roletype r y))(macro b ((type x)) (call a (x)))(call b (t))",
-        ],
+        &["(macro a ((type y)) (roletype r y))(macro b ((type x)) (call a (x)))(call b (t))"],
         "4: r@4 t@2\n",
     ),
     (
@@ -87,7 +85,9 @@ fn show_word(out: &mut String, instances: &Instances, at: usize, word: &Word) ->
         return Err(Fail::from("no place"));
     }
     let meant = instances.meaning(at, word);
-    let bytes = str::from_utf8(meant.bytes.as_slice()).ok().ok_or("no text")?;
+    let bytes = str::from_utf8(meant.bytes.as_slice())
+        .ok()
+        .ok_or("no text")?;
     write!(out, " {bytes}")?;
     if let Some(scope) = meant.scope {
         write!(out, "@{scope}")?;
