@@ -27,7 +27,7 @@ use Rattle.cil_macros.proofs.PlacedWalk.{queue_order}
 never : true ≡ false → ⊥
 never e = cc
 
-stands_written : (ws : List Written) (s : Standing) → Stands ws s → Contains ws s.statement
+pub stands_written : (ws : List Written) (s : Standing) → Stands ws s → Contains ws s.statement
 stands_written ws s (top w c u) = c
 stands_written ws s (in_block p w sp b a c u) = c
 stands_written ws s (optional_stands p w sp o c u) = c

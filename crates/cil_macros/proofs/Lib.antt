@@ -26,3 +26,4 @@ pub mod ScopeLemmas
 pub mod ServingLemmas
 pub mod ValueLemmas
 pub mod WalkLemmas
+pub mod WordsOfTexts

@@ -4,19 +4,22 @@ use Rattle.std.specs.List.Sorted.{IsStrictlySortedBy}
 use Rattle.cil_sexpr.specs.Lists.{Lists}
 use Rattle.cil_sexpr.specs.Tree.{Node}
 use Rattle.cil_syntax.specs.declared.program.Statement.{Statement}
+use Rattle.cil_syntax.specs.declared.kind.Dialect.{Dialect}
 use Rattle.cil_syntax.specs.declared.kind.Sign.TheVariants as signs
 use Rattle.cil_syntax.specs.declared.term.Word.{Word}
 use Rattle.cil_syntax.specs.Program.{IsNested, program_of}
+use Rattle.cil_syntax.specs.Scopes.{ScopedWord}
 use Rattle.cil_syntax.specs.Shapes.{Inner, cell_of, unread}
+use Rattle.cil_syntax.specs.Slices.{AreWritten, EachText, EachTextIn}
 use Rattle.cil_syntax.specs.Terms.{Term, Terms}
 use Rattle.cil_syntax.specs.Laws.{Outcome}
-use Rattle.cil_syntax.specs.Written.{Written, is_macro, parameters_of, written_cmp}
+use Rattle.cil_syntax.specs.Written.{IsWrittenIn, Written, is_macro, parameters_of, written_cmp}
 use Rattle.cil_blocks.specs.Contents.{Standing, Stands, path_of, standing_cmp}
 use Rattle.cil_blocks.specs.Laws.{HasNoFault}
 use Rattle.cil_macros.specs.Calls.{IsPlaced, placed_cmp}
 use Rattle.cil_macros.specs.ExpandFaults.{ExpandStep}
 use Rattle.cil_macros.specs.Parameters.{cell_in, macro_parameters}
-use Rattle.cil_macros.specs.Placed.{Placed, scope_of}
+use Rattle.cil_macros.specs.Placed.{Placed, meaning, scope_of}
 
 -- a law: a statement is placed once through each chain of blockinherits and calls
 abbrev pub HaveOneInstance : Type 0
@@ -44,3 +47,12 @@ abbrev pub HaveFlatInstances : Type 0
 HaveFlatInstances =
     (ws : List Written) (ss : List Standing) → IsStrictlySortedBy written_cmp ws → Lists standing_cmp (Stands ws) ss
     → ((w : Written) → Contains ws w → is_macro w.statement.keyword ≡ false) → Outcome (Lists placed_cmp (IsPlaced ws ss)) (ExpandStep ws ss)
+
+-- a law: what a word of a placed statement means is made of words, names and strings that are written so in the modules
+abbrev pub HaveWordsOfTexts : Type 0
+HaveWordsOfTexts =
+    (dialect : Dialect) (modules : List (List ℕ)) (ws : List Written) (ss : List Standing)
+    → ((w : Written) → Contains ws w → IsWrittenIn dialect modules w) → ((s : Standing) → Contains ss s → Stands ws s)
+    → (p : Placed) → IsPlaced ws ss p
+    → EachTextIn (λ (w : Word). EachText (λ (v : ScopedWord). AreWritten modules v.at v.bytes) (AreWritten modules) (meaning ws p w)) (AreWritten modules)
+    p.standing.statement.statement.args

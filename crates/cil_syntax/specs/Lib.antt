@@ -17,6 +17,7 @@ pub mod Reported
 pub mod Said
 pub mod Scopes
 pub mod Shapes
+pub mod Slices
 pub mod Sorted
 pub mod Spelling
 pub mod Standpoints
