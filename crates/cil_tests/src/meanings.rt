@@ -80,7 +80,12 @@ const MEANINGS: &[(&[&str], &str)] = &[
 ];
 
 /// Adds what a word means at a place.
-fn show_word(out: &mut String, instances: &Instances, at: usize, word: &Word) -> Result<(), Fail> {
+fn show_word<'a>(
+    out: &mut String,
+    instances: &Instances<'_, '_, 'a>,
+    at: usize,
+    word: &Word<'a>,
+) -> Result<(), Fail> {
     if at >= instances.len() {
         return Err(Fail::from("no place"));
     }
@@ -96,12 +101,12 @@ fn show_word(out: &mut String, instances: &Instances, at: usize, word: &Word) ->
 }
 
 /// Adds a line for what two words mean at a place.
-fn show_words(
+fn show_words<'a>(
     out: &mut String,
-    instances: &Instances,
+    instances: &Instances<'_, '_, 'a>,
     at: usize,
-    first: &Word,
-    second: &Word,
+    first: &Word<'a>,
+    second: &Word<'a>,
 ) -> Result<(), Fail> {
     write!(out, "{at}:")?;
     show_word(out, instances, at, first)?;
@@ -111,11 +116,11 @@ fn show_words(
 }
 
 /// Adds a line for the statement at a place, if it has two words, or a source and a target.
-fn show_statement(
+fn show_statement<'a>(
     out: &mut String,
-    instances: &Instances,
+    instances: &Instances<'_, '_, 'a>,
     at: usize,
-    statement: &Statement,
+    statement: &Statement<'a>,
 ) -> Result<(), Fail> {
     if let Some(words) = statement.two_words() {
         return show_words(out, instances, at, &words.first, &words.second);
@@ -128,7 +133,11 @@ fn show_statement(
 }
 
 /// What the words of all placed statements mean.
-fn shown(alloc: Global, spaces: &Spaces, instances: &Instances) -> Result<String, Fail> {
+fn shown<'a>(
+    alloc: Global,
+    spaces: &Spaces<'_, 'a>,
+    instances: &Instances<'_, '_, 'a>,
+) -> Result<String, Fail> {
     let mut out = String::new(alloc);
     for at in 0..instances.len() {
         let number = instances.statement(at);
