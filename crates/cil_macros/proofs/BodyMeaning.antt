@@ -1,5 +1,5 @@
 -- What a word of a placed statement means: where the statement stands, and in a body.
-use Rattle.std.proofs.Common.{◌≡◌, ℕ, ◌+◌, ◌<◌, Bool, true, false, if◌then◌else◌, List, [], length, refl, sym, ◌∙◌, ap, subst, arith}
+use Rattle.std.proofs.Common.{◌≡◌, ℕ, ◌+◌, ◌<◌, Bool, true, false, if◌then◌else◌, List, length, sym, ◌∙◌, ap, subst, arith}
 use Rattle.std.specs.Prelude.{Option, Some, None, find, slice_get}
 use Rattle.cil_sexpr.specs.Places.{in_range, some_same}
 use Rattle.cil_syntax.specs.declared.term.Word.{Word}
@@ -14,14 +14,13 @@ use Rattle.cil_macros.specs.declared.entry.Body as code
 use Rattle.cil_macros.specs.declared.meant.Meant.{Meant}
 use Rattle.cil_macros.specs.declared.openings.Opening.{Opening}
 use Rattle.cil_macros.specs.declared.scene.Scene.{Scene}
-use Rattle.cil_macros.specs.Calls.{Unfolded, home_of, placed_called, unfolded}
-use Rattle.cil_macros.specs.Entries.{IsBody}
+use Rattle.cil_macros.specs.Calls.{home_of, placed_called}
 use Rattle.cil_macros.specs.Macros.{all_standing}
 use Rattle.cil_macros.specs.Meant.{AreArguments, meant_term, scope_there}
 use Rattle.cil_macros.specs.Openings.{IsNumbered, IsOpening}
 use Rattle.cil_macros.specs.Parameters.{macro_parameters}
-use Rattle.cil_macros.specs.Placed.{Body, Bound, Placed, declares, is_served, meaning, meant_by, placed_standing, scope_in, scope_of, scoped}
-use Rattle.cil_macros.specs.Scene.{IsArgument, IsKnown, SaysArgument, placed_of_scene}
+use Rattle.cil_macros.specs.Placed.{Body, Bound, Placed, declares, is_served, meaning, meant_by, scope_in, scope_of}
+use Rattle.cil_macros.specs.Scene.{IsArgument, IsKnown, placed_of_scene}
 use Rattle.cil_macros.specs.Walks.{written_in}
 use Rattle.cil_macros.proofs.BodyLemmas.{IsBrought, is_brought}
 use Rattle.cil_macros.proofs.CallLemmas.{stood_at}

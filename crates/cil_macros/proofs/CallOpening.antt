@@ -1,13 +1,10 @@
 -- What a body has from its call: the statements of both, and the arguments with which the call is unfolded.
 use Rattle.std.proofs.Common.{◌≡◌, ◌⊎◌, inl, inr, ℕ, zero, suc, ◌+◌, ◌<◌, Bool, true, false, if◌then◌else◌, List, [], ◌∷◌, ◌++◌, length, refl, sym, ◌∙◌, ap, subst, arith}
 use Rattle.std.specs.Prelude.{Option, Some, None, slice_get}
-use Rattle.std.proofs.lemmas.List.{length-append}
-use Rattle.cil_sexpr.specs.Places.{get_in_front, in_range, none_some, some_same}
+use Rattle.cil_sexpr.specs.Places.{in_range, none_some, some_same}
 use Rattle.cil_syntax.specs.declared.program.Statement.{Statement}
-use Rattle.cil_syntax.specs.declared.term.Word.{Word}
 use Rattle.cil_syntax.specs.Program.{IsNested, program_of}
 use Rattle.cil_syntax.specs.Said.{args_of}
-use Rattle.cil_syntax.specs.Terms.{Terms}
 use Rattle.cil_syntax.specs.Written.{Written}
 use Rattle.cil_blocks.specs.Contents.{Standing}
 use Rattle.cil_blocks.specs.Entries.{statement_at}

@@ -1,13 +1,11 @@
 -- What a word means in a body: its argument, or itself in the scope of the outermost call, or in that of its place.
-use Rattle.std.proofs.Common.{◌≡◌, ℕ, zero, suc, ◌+◌, ◌<◌, Bool, true, false, if◌then◌else◌, List, [], ◌∷◌, length, refl, sym, ◌∙◌, ap, subst, arith}
+use Rattle.std.proofs.Common.{◌≡◌, ℕ, zero, suc, ◌<◌, Bool, true, false, if◌then◌else◌, List, [], ◌∷◌, length, refl, sym, ◌∙◌, ap, arith}
 use Rattle.std.specs.Prelude.{Option, Some, None, find, slice_get}
 use Rattle.std.specs.Option.{option_map}
-use Rattle.cil_sexpr.specs.Places.{in_range, none_some, some_same}
+use Rattle.cil_sexpr.specs.Places.{none_some, some_same}
 use Rattle.cil_syntax.specs.declared.kind.Sign.{Sign}
 use Rattle.cil_syntax.specs.declared.term.Spot.{Spot}
 use Rattle.cil_syntax.specs.declared.term.Word.{Word}
-use Rattle.cil_syntax.specs.Scopes.{ScopedWord}
-use Rattle.cil_syntax.specs.Terms.{Term}
 use Rattle.cil_macros.specs.declared.meant.Meant.{Meant}
 use Rattle.cil_macros.specs.Meant.{AreArguments, bounds_by, first_for, is_for, kind_sign, meant_in, meant_term}
 use Rattle.cil_macros.specs.Parameters.{Parameter}

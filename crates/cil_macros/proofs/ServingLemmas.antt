@@ -1,5 +1,5 @@
 -- The parameter for which a word stands, term by term.
-use Rattle.std.proofs.Common.{◌≡◌, ℕ, suc, ◌+◌, ◌<◌, ◌≤◌, Bool, true, false, if◌then◌else◌, List, [], ◌∷◌, ◌++◌, length, get_or, drop, refl, sym, ◌∙◌, ap, arith}
+use Rattle.std.proofs.Common.{◌≡◌, ℕ, suc, ◌+◌, ◌<◌, ◌≤◌, true, false, if◌then◌else◌, List, [], ◌∷◌, ◌++◌, length, get_or, drop, refl, sym, ◌∙◌, ap, arith}
 use Rattle.std.specs.Prelude.{Option, Some, None}
 use Rattle.std.specs.Option.{option_map}
 use Rattle.std.proofs.lemmas.List.{drop_all}
@@ -11,7 +11,7 @@ use Rattle.cil_syntax.specs.Said.{all_said, said_of}
 use Rattle.cil_syntax.specs.Terms.{Term, Leaf, Name, Form, Terms, nil, cons}
 use Rattle.cil_syntax.specs.Written.{Named}
 use Rattle.cil_macros.specs.Meant.{first_for, is_for}
-use Rattle.cil_macros.specs.Parameters.{Parameter, parameter_in, parameters_in}
+use Rattle.cil_macros.specs.Parameters.{parameter_in, parameters_in}
 use Rattle.cil_macros.proofs.ArgumentLemmas.{first_left, one_parameter}
 
 -- a number counted on

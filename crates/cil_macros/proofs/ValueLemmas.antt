@@ -1,10 +1,9 @@
 -- What an argument is where it is read as its parameter asks: a word of the kind's sign, or a string.
 use Rattle.std.proofs.Common.{◌≡◌, ℕ, Bool, true, false, if◌then◌else◌, List, [], ◌∷◌, refl, sym, ◌∙◌, ap, rules}
-use Rattle.std.specs.Prelude.{Option, Some, None}
+use Rattle.std.specs.Prelude.{Some, None}
 use Rattle.std.specs.declared.alloc.Global.{Global}
 use Rattle.std.specs.declared.vec.Vec.{Vec}
 use Rattle.cil_sexpr.specs.Places.{some_same}
-use Rattle.cil_syntax.specs.declared.kind.Sign.{Sign}
 use Rattle.cil_syntax.specs.declared.kind.Sign.TheVariants as signs
 use Rattle.cil_syntax.specs.declared.term.LookedUp.{LookedUp}
 use Rattle.cil_syntax.specs.declared.term.Op.{Op}
@@ -15,14 +14,13 @@ use Rattle.cil_syntax.specs.declared.term.Term.{the_lemmas}
 use Rattle.cil_syntax.specs.declared.term.Term.TheVariants as variants
 use Rattle.cil_syntax.specs.declared.term.Word.{Word}
 use Rattle.cil_syntax.specs.Said.{all_said, said_of, word_in}
-use Rattle.cil_syntax.specs.Scopes.{ScopedWord}
-use Rattle.cil_syntax.specs.Shapes.{Cell, Inner, Shape, a_list, a_string, is_spelled, looked_up, read_list, read_string, read_word, word_faults}
+use Rattle.cil_syntax.specs.Shapes.{Cell, Inner, a_list, a_string, is_spelled, read_list, read_string, read_word, word_faults}
 use Rattle.cil_syntax.specs.Terms.{Term, Leaf, Name, Form, Terms, nil, cons, spot_at}
 use Rattle.cil_syntax.specs.Written.{Written}
 use Rattle.cil_macros.specs.declared.meant.Meant.{Meant}
 use Rattle.cil_macros.specs.Meant.{kind_sign, meant_term}
 use Rattle.cil_macros.specs.Parameters.{Parameter, argument_kind, argument_of, cell_in, cells_in, faultless, is_text, read_argument, string_in, text_cell}
-use Rattle.cil_macros.specs.Placed.{Placed, all_filled, filled, meaning}
+use Rattle.cil_macros.specs.Placed.{Placed, filled, meaning}
 
 -- ---- words
 

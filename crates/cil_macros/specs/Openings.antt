@@ -1,5 +1,5 @@
 -- What each body of a macro has from its call: the place of the outermost call, and what the arguments mean.
-use Rattle.std.specs.Prelude.{◌≡◌, ℕ, ◌+◌, ◌<◌, List, length, Some, slice_get}
+use Rattle.std.specs.Prelude.{◌≡◌, ℕ, ◌+◌, List, Some, slice_get}
 use Rattle.cil_syntax.specs.Written.{Written}
 use Rattle.cil_blocks.specs.Contents.{Standing}
 use Rattle.cil_macros.specs.declared.entry.Body.{Body}

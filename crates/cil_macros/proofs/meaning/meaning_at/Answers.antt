@@ -1,7 +1,5 @@
-use Rattle.std.proofs.Common.{◌≡◌, ◌∙◌, ap, arith, length, subst, sym}
-use Rattle.std.specs.Prelude.{Some, slice_get}
+use Rattle.std.proofs.Common.{◌∙◌, ap, arith, length, subst}
 use Rattle.cil_sexpr.specs.Places.{in_range, there_as}
-use Rattle.cil_blocks.specs.Contents.{Standing}
 use Rattle.cil_blocks.specs.Entries.{statement_at}
 use Rattle.cil_blocks.specs.Places.{entries_in}
 use Rattle.cil_blocks.proofs.EntryLemmas.{standings_length}

@@ -1,5 +1,5 @@
-use Rattle.std.proofs.Common.{◌≡◌, ◌+◌, ◌∙◌, [], ◌∷◌, ap, arith, length, sym}
-use Rattle.std.specs.Prelude.{Some, slice_get}
+use Rattle.std.proofs.Common.{◌∙◌, [], ◌∷◌, ap, arith, length, sym}
+use Rattle.std.specs.Prelude.{slice_get}
 use Rattle.std.proofs.lemmas.List.{length-append}
 use Rattle.cil_sexpr.specs.Places.{is_there}
 use Rattle.cil_macros.proofs.CallOpening.{one_opening}

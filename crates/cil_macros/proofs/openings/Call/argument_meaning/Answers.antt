@@ -1,5 +1,4 @@
-use Rattle.std.proofs.Common.{◌∙◌, ap, sym}
-use Rattle.std.specs.Prelude.{None}
+use Rattle.std.proofs.Common.{◌∙◌, ap}
 use Rattle.cil_syntax.specs.Said.{all_said}
 use Rattle.cil_macros.specs.declared.meant.Meant.{Meant}
 use Rattle.cil_macros.specs.Parameters.{string_in}

@@ -1,7 +1,6 @@
-use Rattle.std.proofs.Common.{◌≡◌, ◌∙◌, ap, subst, sym}
-use Rattle.std.specs.Prelude.{None, Some, slice_get}
+use Rattle.std.proofs.Common.{◌∙◌, ap, subst, sym}
+use Rattle.std.specs.Prelude.{slice_get}
 use Rattle.cil_sexpr.specs.Places.{not_there, there_as}
-use Rattle.cil_syntax.specs.declared.program.Statement.{Statement}
 use Rattle.cil_blocks.specs.Places.{statements_in}
 use Rattle.cil_macros.specs.Meant.{AreArguments}
 use Rattle.cil_macros.specs.Parameters.{macro_parameters}

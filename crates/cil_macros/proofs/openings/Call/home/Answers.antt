@@ -5,7 +5,7 @@ use Rattle.cil_macros.specs.declared.openings.Opening.{Opening}
 use Rattle.cil_macros.specs.Meant.{scope_there}
 use Rattle.cil_macros.specs.Openings.{IsNumbered}
 use Rattle.cil_macros.specs.Scene.{placed_of_scene}
-use Rattle.cil_macros.proofs.BodyMeaning.{body_home, brought, numbered_body, standing_home}
+use Rattle.cil_macros.proofs.BodyMeaning.{body_home, numbered_body, standing_home}
 use Rattle.cil_macros.proofs.openings.Call.home.Goals as goal
 
 pub returns-in-None : goal.returns-in-None

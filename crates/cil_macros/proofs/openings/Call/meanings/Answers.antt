@@ -2,12 +2,11 @@ use Rattle.std.proofs.Common.{◌≡◌, ◌+◌, ◌∙◌, ap, arith, get_or, 
 use Rattle.std.specs.declared.alloc.Global.{Global}
 use Rattle.std.specs.declared.vec.Vec.{Vec}
 use Rattle.std.proofs.lemmas.List.{drop_all}
-use Rattle.std.specs.Prelude.{Some}
-use Rattle.cil_syntax.specs.Said.{all_said, args_of}
+use Rattle.cil_syntax.specs.Said.{args_of}
 use Rattle.cil_macros.specs.declared.meant.Meant.{Meant}
 use Rattle.cil_macros.specs.Calls.{bound}
 use Rattle.cil_macros.specs.Meant.{AreArguments}
-use Rattle.cil_macros.specs.Parameters.{macro_parameters, parameters_in}
+use Rattle.cil_macros.specs.Parameters.{parameters_in}
 use Rattle.cil_macros.specs.Scene.{placed_of_scene}
 use Rattle.cil_macros.specs.Walks.{written_in}
 use Rattle.cil_macros.proofs.ArgumentLemmas.{parameters_listed}
