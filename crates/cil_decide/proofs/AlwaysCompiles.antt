@@ -19,7 +19,7 @@ use Rattle.cil_decide.specs.Compiled.{IsTable}
 use Rattle.cil_decide.specs.Faults.{ClassFault}
 use Rattle.cil_names.specs.Faults.{ClashFault, ResolveFault}
 use Rattle.cil_decide.specs.Flat.{AreFlat, AreItems, item_of}
-use Rattle.cil_names.specs.Item.{Item, nobody}
+use Rattle.cil_macros.specs.Item.{Item, nobody}
 use Rattle.cil_decide.specs.Laws.{AlwaysCompilesOrFails, Outcome, compiles, fails}
 use Rattle.cil_decide.specs.Table.{Table, IsOrderly}
 use Rattle.cil_decide.proofs.AgreesLemmas.{table_agrees}

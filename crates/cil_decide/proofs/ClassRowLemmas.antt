@@ -14,7 +14,7 @@ use Rattle.cil_names.specs.declared.entry.Entry.{Entry}
 use Rattle.cil_names.specs.declared.numbers.Sections.{Sections}
 use Rattle.cil_names.specs.declared.space.Space.{Space}
 use Rattle.cil_names.specs.Entries.{is_declared_in}
-use Rattle.cil_names.specs.Item.{OptSet}
+use Rattle.cil_macros.specs.Item.{OptSet}
 use Rattle.cil_names.specs.Numbers.{AreApart, AreNumbers, has_section, is_of, names_of, spelled_of}
 use Rattle.cil_syntax.specs.Kinds.{kind_number}
 use Rattle.cil_names.specs.Unresolved.{listed_at}

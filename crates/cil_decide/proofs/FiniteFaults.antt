@@ -25,7 +25,7 @@ use Rattle.cil_names.proofs.DeclareDecided.{same_declaration, same_name_space}
 use Rattle.cil_names.specs.Declarations.{Declaration, declared_by, IsDeclaration, name_space, Clash, Symbol}
 use Rattle.cil_decide.specs.Faults.{ClassFault, wide}
 use Rattle.cil_names.specs.Faults.{ClashFault, clash, ResolveFault, unresolved}
-use Rattle.cil_names.specs.Item.{Item, OptSet, everybody, nobody, is_enabled}
+use Rattle.cil_macros.specs.Item.{Item, OptSet, everybody, nobody, is_enabled}
 use Rattle.cil_names.specs.Resolves.{fits, gives_permission, has_permission, is_judged, listed_permissions, resolves, told_word, Wanted, words_of}
 use Rattle.cil_decide.specs.Table.{most_permissions}
 use Rattle.cil_decide.proofs.Finite.{Finite, decided_where, finite_all, finite_given, finite_if, finite_list, finite_listing, finite_same, finite_where}

@@ -14,7 +14,7 @@ use Rattle.cil_syntax.specs.Scopes.{asked, ScopedWord}
 use Rattle.cil_syntax.proofs.DecidedEquality.{kind_is, same_namespace}
 use Rattle.cil_names.proofs.DeclareDecided.{same_symbol}
 use Rattle.cil_names.specs.Declarations.{Declaration, declared_by, IsDeclaration, object, by, object_role, Declared, Symbol, name_of}
-use Rattle.cil_names.specs.Item.{Item, OptSet, is_enabled}
+use Rattle.cil_macros.specs.Item.{Item, OptSet, is_enabled}
 use Rattle.cil_decide.specs.Members.{StandsFor}
 use Rattle.cil_decide.specs.Pairs.{HasPair, of_class, names_of}
 use Rattle.cil_names.specs.Resolves.{found_in, has_permission}

@@ -16,7 +16,7 @@ use Rattle.cil_names.proofs.DeclareDecided.{symbol_by}
 use Rattle.cil_names.specs.declared.instance.Instance.{Instance}
 use Rattle.cil_names.specs.Declarations.{Declaration, declarations, IsDeclaration, object, by, Declared, Symbol, name_of, content_of}
 use Rattle.cil_names.specs.Entries.{item_of, items_of, scoped}
-use Rattle.cil_names.specs.Item.{Item, all_replaced, nobody}
+use Rattle.cil_macros.specs.Item.{Item, all_replaced, nobody}
 use Rattle.cil_names.specs.Placed.{ArePlaced, IsPlaced}
 use Rattle.cil_names.specs.Spaces.{space_at, spaces_from}
 use Rattle.cil_decide.specs.Compiled.{IsNameOf}

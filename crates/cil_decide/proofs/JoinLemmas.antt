@@ -13,7 +13,7 @@ use Rattle.cil_names.specs.declared.instance.Instance.{Instance}
 use Rattle.cil_names.specs.declared.space.Space.{Space}
 use Rattle.cil_names.specs.Declarations.{Declared}
 use Rattle.cil_names.specs.Entries.{is_in, items_of}
-use Rattle.cil_names.specs.Item.{Item, OptSet, nobody}
+use Rattle.cil_macros.specs.Item.{Item, OptSet, nobody}
 use Rattle.cil_names.specs.Placed.{ArePlaced}
 use Rattle.cil_decide.specs.declared.tables.Class.{Class}
 use Rattle.cil_decide.specs.declared.tables.Link.{Link}

@@ -24,7 +24,7 @@ use Rattle.cil_names.specs.declared.numbers.Sections.{Sections}
 use Rattle.cil_names.specs.declared.space.Space.{Space}
 use Rattle.cil_names.specs.Declarations.{Declaration, IsDeclaration, object, by, declared_by, Declared, Symbol, name_of}
 use Rattle.cil_names.specs.Entries.{AreEntries, is_declared_in, item_of, items_of, scoped}
-use Rattle.cil_names.specs.Item.{Item, OptSet, everybody}
+use Rattle.cil_macros.specs.Item.{Item, OptSet, everybody}
 use Rattle.cil_names.specs.Numbers.{AreApart, AreNumbers, ArePlainNames, IsNameAmong, has_section, names_of, spelled_of, symbol_of}
 use Rattle.cil_names.specs.Resolves.{has_permission}
 use Rattle.cil_syntax.specs.Kinds.{is_wanted}

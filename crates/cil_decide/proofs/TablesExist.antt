@@ -25,7 +25,7 @@ use Rattle.cil_decide.specs.declared.tables.Target.{Target}
 use Rattle.cil_decide.specs.declared.tables.Target.TheVariants.{Types, Itself}
 use Rattle.cil_decide.specs.Compiled.{Case, HasBit, HasNumber, HasTarget, IsCase, IsLink, IsNameOf, IsRowOf, IsRuleOf, IsTable, IsTargetOf}
 use Rattle.cil_names.specs.Declarations.{Declared, Symbol}
-use Rattle.cil_names.specs.Item.{Item, nobody}
+use Rattle.cil_macros.specs.Item.{Item, nobody}
 use Rattle.cil_syntax.specs.Scopes.{ScopedWord}
 use Rattle.cil_decide.specs.Pairs.{HasPair}
 use Rattle.cil_decide.specs.Flat.{AreFlat, global_symbol}

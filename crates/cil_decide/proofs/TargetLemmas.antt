@@ -17,7 +17,7 @@ use Rattle.cil_syntax.specs.declared.term.Term.TheVariants as variants
 use Rattle.cil_syntax.specs.Said.{all_said, said_of, word_in}
 use Rattle.cil_syntax.specs.Terms.{Term, Leaf, Form, Terms, spot_at}
 use Rattle.cil_syntax.proofs.SaidLemmas.{form_said, leaf_said, name_said}
-use Rattle.cil_names.specs.Item.{Item, OptSet}
+use Rattle.cil_macros.specs.Item.{Item, OptSet}
 use Rattle.cil_syntax.specs.Scopes.{ScopedWord}
 use Rattle.cil_decide.specs.declared.known.Known.{Known}
 use Rattle.cil_decide.specs.declared.tables.Numbers.{Numbers}

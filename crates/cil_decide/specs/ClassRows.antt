@@ -5,7 +5,7 @@ use Rattle.cil_syntax.specs.declared.fault.Bytes.{Bytes}
 use Rattle.cil_syntax.specs.declared.kind.Kind.TheVariants as kinds
 use Rattle.cil_names.specs.declared.entry.Entry.{Entry}
 use Rattle.cil_names.specs.declared.space.Space.{Space}
-use Rattle.cil_names.specs.Item.{OptSet}
+use Rattle.cil_macros.specs.Item.{OptSet}
 use Rattle.cil_names.specs.Numbers.{is_of, spelled_of}
 use Rattle.cil_names.specs.Unresolved.{listed_at}
 use Rattle.cil_decide.specs.declared.tables.Class.{Class}

@@ -12,7 +12,7 @@ use Rattle.cil_names.specs.declared.instance.Instance.{Instance}
 use Rattle.cil_names.specs.declared.space.Space.{Space}
 use Rattle.cil_names.specs.Declarations.{Declared, Symbol, name_of}
 use Rattle.cil_names.specs.Entries.{AreEntries, is_in, item_of, items_of, scoped}
-use Rattle.cil_names.specs.Item.{Item, OptSet, words_in}
+use Rattle.cil_macros.specs.Item.{Item, OptSet, words_in}
 use Rattle.cil_syntax.specs.Scopes.{ScopedWord}
 use Rattle.cil_names.specs.Meanings.{meanings, meant}
 use Rattle.cil_names.specs.Numbers.{AreNumbers}

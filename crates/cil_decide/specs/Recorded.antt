@@ -9,7 +9,7 @@ use Rattle.cil_decide.specs.declared.tables.Class.{Class}
 use Rattle.cil_decide.specs.declared.tables.Link.{Link}
 use Rattle.cil_decide.specs.Compiled.{Case, HasTarget, IsNumbered}
 use Rattle.cil_names.specs.Declarations.{Symbol, name_of}
-use Rattle.cil_names.specs.Item.{Item, OptSet, is_enabled}
+use Rattle.cil_macros.specs.Item.{Item, OptSet, is_enabled}
 use Rattle.cil_syntax.specs.Scopes.{ScopedWord}
 use Rattle.cil_decide.specs.Members.{StandsFor}
 use Rattle.cil_decide.specs.Pairs.{HasPair}

@@ -7,7 +7,7 @@ use Rattle.cil_syntax.specs.declared.kind.Keyword.TheVariants as keywords
 use Rattle.cil_syntax.specs.declared.term.Spot.{Spot}
 use Rattle.cil_syntax.specs.Terms.{Name, Terms, cons}
 use Rattle.cil_syntax.specs.Reported.{fault_at}
-use Rattle.cil_names.specs.Item.{Item, OptSet, is_enabled}
+use Rattle.cil_macros.specs.Item.{Item, OptSet, is_enabled}
 use Rattle.cil_syntax.specs.Scopes.{ScopedWord}
 use Rattle.cil_names.specs.Resolves.{has_permission}
 use Rattle.cil_decide.specs.Table.{most_permissions}

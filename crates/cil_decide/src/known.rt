@@ -4,7 +4,7 @@
 ghost use Rattle.std.specs.Prelude.{◌≡◌, ◌↔◌, ℕ, IsTrue, List, MatchOption, None, get_or, true};
 ghost use Rattle.cil_syntax.specs.declared.kind.Kind as kinds;
 ghost use Rattle.cil_names.specs.declared.instance.Instance.{Instance as AnInstance};
-ghost use Rattle.cil_names.specs.Item.{is_enabled};
+ghost use Rattle.cil_macros.specs.Item.{is_enabled};
 ghost use Rattle.cil_syntax.specs.Scopes.{ScopedWord};
 ghost use Rattle.cil_names.specs.Numbers.{has_section};
 ghost use Rattle.cil_decide.specs.Known.{IsKnown, IsNumberFor, StandsForNothing, enabled_in, item_in, items_in, meant_in};

@@ -17,7 +17,7 @@ use Rattle.cil_decide.specs.declared.tables.Class.{Class}
 use Rattle.cil_decide.specs.Agrees.{Compiles}
 use Rattle.cil_names.specs.Declarations.{Declared}
 use Rattle.cil_decide.specs.Flat.{AreItems, item_of}
-use Rattle.cil_names.specs.Item.{Item, nobody}
+use Rattle.cil_macros.specs.Item.{Item, nobody}
 use Rattle.cil_decide.specs.Meaning.{IsClassAt, IsPermissionAt}
 use Rattle.cil_names.specs.Resolves.{has_permission}
 use Rattle.cil_decide.specs.Table.{Table, class_cmp}

@@ -7,6 +7,7 @@ pub mod ExpandFaults
 pub mod Firsts
 pub mod Fits
 pub mod Instances
+pub mod Item
 pub mod Laws
 pub mod Macros
 pub mod Meant

@@ -15,7 +15,7 @@ use Rattle.cil_names.specs.declared.entry.Entry.{Entry}
 use Rattle.cil_names.specs.declared.instance.Instance.{Instance}
 use Rattle.cil_names.specs.declared.space.Space.{Space}
 use Rattle.cil_names.specs.Entries.{AreEntries, AreOrdered, IsAnswer, IsNamed, candidate, candidates_of, is_declared_at, is_declared_in, is_entry_of, items_of, key_cmp, key_of, listed, place_where, rank}
-use Rattle.cil_names.specs.Item.{OptSet}
+use Rattle.cil_macros.specs.Item.{OptSet}
 use Rattle.cil_names.specs.Resolves.{found_in, has}
 use Rattle.cil_syntax.specs.Kinds.{is_wanted}
 use Rattle.cil_names.specs.Spaces.{AreSpaces}

@@ -11,7 +11,7 @@ use Rattle.cil_syntax.specs.declared.term.Term as rust
 use Rattle.cil_syntax.specs.declared.term.Word.{Word}
 use Rattle.cil_syntax.specs.Said.{all_said, said_of}
 use Rattle.cil_syntax.proofs.SaidLemmas.{form_said, leaf_said, name_said}
-use Rattle.cil_names.specs.Item.{all_words_in, words_in}
+use Rattle.cil_macros.specs.Item.{all_words_in, words_in}
 
 -- ---- part by part
 

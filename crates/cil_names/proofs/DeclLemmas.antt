@@ -14,7 +14,7 @@ use Rattle.cil_names.specs.declared.instance.Instance.{Instance}
 use Rattle.cil_names.specs.declared.space.Space.{Space}
 use Rattle.cil_names.specs.Declarations.{Declaration, IsDeclaration, by, declared_by, object, object_role}
 use Rattle.cil_names.specs.Entries.{AreEntries, is_declared_in, is_entry_of, items_of}
-use Rattle.cil_names.specs.Item.{Item, OptSet, is_enabled}
+use Rattle.cil_macros.specs.Item.{Item, OptSet, is_enabled}
 use Rattle.cil_names.specs.Resolves.{fits, has}
 use Rattle.cil_syntax.specs.Kinds.{is_wanted}
 use Rattle.cil_names.proofs.CandidateLemmas.{parts_of, they_are}

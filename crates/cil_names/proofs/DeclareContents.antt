@@ -14,7 +14,7 @@ use Rattle.cil_syntax.specs.Scopes.{Scope}
 use Rattle.cil_syntax.proofs.SaidLemmas.{form_said, leaf_said, name_said}
 use Rattle.cil_names.specs.DeclareRows.{bare_term, bare_terms, in_scope}
 use Rattle.cil_names.specs.Declarations.{Bare, bare, nowhere}
-use Rattle.cil_names.specs.Item.{all_replaced, replaced}
+use Rattle.cil_macros.specs.Item.{all_replaced, replaced}
 
 -- ---- one term
 

@@ -23,7 +23,7 @@ use Rattle.cil_names.specs.DeclareRuns.{AreRuns, rows_in}
 use Rattle.cil_names.specs.Declarations.{Declaration, IsDeclaration, by, content_of, declarations, declared_by, object, object_role}
 use Rattle.cil_names.specs.DeclareRows.{IsPlacedRow, all_rows, behind, content_at, declaration_of, is_row_enabled, object_row, round_at, rows_by, rows_named}
 use Rattle.cil_names.specs.Entries.{item_of, items_of, scoped}
-use Rattle.cil_names.specs.Item.{OptSet, all_replaced, is_enabled}
+use Rattle.cil_macros.specs.Item.{OptSet, all_replaced, is_enabled}
 use Rattle.cil_syntax.specs.Scopes.{ScopedWord}
 use Rattle.cil_names.specs.Placed.{ArePlaced, IsPlaced}
 use Rattle.cil_names.specs.Spaces.{AreSpaces, space_at}

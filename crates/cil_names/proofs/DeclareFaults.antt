@@ -26,7 +26,7 @@ use Rattle.cil_names.specs.DeclareRows.{TellsDiffering, all_rows, declaration_of
 use Rattle.cil_names.specs.DeclareRuns.{faults_at, faults_named, row_faults, run_faults, run_key}
 use Rattle.cil_names.specs.Entries.{Key, item_of, items_of, key_cmp, rank}
 use Rattle.cil_names.specs.Faults.{ClashFault, clash}
-use Rattle.cil_names.specs.Item.{Item, all_replaced, everybody}
+use Rattle.cil_macros.specs.Item.{Item, all_replaced, everybody}
 use Rattle.cil_syntax.specs.Scopes.{ScopedWord}
 use Rattle.cil_names.specs.Spaces.{space_at}
 use Rattle.cil_names.proofs.DeclareDecided.{name_space_at, rank_from, ranked_back, same_declaration}

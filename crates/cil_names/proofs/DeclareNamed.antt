@@ -20,7 +20,7 @@ use Rattle.cil_names.specs.Declarations.{Declaration, IsDeclaration}
 use Rattle.cil_names.specs.DeclareRows.{TellsDiffering, declaration_of, is_row_enabled, round_at}
 use Rattle.cil_names.specs.DeclareRuns.{Said, entry_of_run, is_always, has_none, listed_unless, rounds_by, run_key, said_by}
 use Rattle.cil_names.specs.Entries.{AreEntries, IsEntryFor, Key, is_declared_in, items_of, key_cmp, key_of, rank}
-use Rattle.cil_names.specs.Item.{OptSet, everybody}
+use Rattle.cil_macros.specs.Item.{OptSet, everybody}
 use Rattle.cil_names.specs.Spaces.{space_at}
 use Rattle.cil_names.proofs.DeclareFaults.{all_enabled}
 use Rattle.cil_names.proofs.DeclareDone.{AreRunsOf, declared_row, in_rows, placed_in, row_declared, run_of, space_within}

@@ -21,7 +21,7 @@ use Rattle.cil_names.specs.declared.space.Space.{Space}
 use Rattle.cil_names.specs.Declarations.{Declaration, content_of}
 use Rattle.cil_names.specs.DeclareRows.{IsPlacedRow, bare_terms, behind, content_at, declaration_of, row_key, rows_by, rows_named, scope_numbers, terms_behind}
 use Rattle.cil_names.specs.Entries.{Key, scope_of, scoped}
-use Rattle.cil_names.specs.Item.{all_replaced}
+use Rattle.cil_macros.specs.Item.{all_replaced}
 use Rattle.cil_names.specs.Spaces.{AreSpaces, space_at}
 use Rattle.cil_names.proofs.DeclareContents.{Tells}
 use Rattle.cil_names.proofs.SpaceLemmas.{same_number}

@@ -14,7 +14,7 @@ use Rattle.cil_names.specs.declared.instance.Instance.{Instance}
 use Rattle.cil_names.specs.declared.space.Space.{Space}
 use Rattle.cil_names.specs.Entries.{item_of, items_of}
 use Rattle.cil_names.specs.Faults.{ResolveFault, unresolved}
-use Rattle.cil_names.specs.Item.{Item, OptSet}
+use Rattle.cil_macros.specs.Item.{Item, OptSet}
 use Rattle.cil_names.specs.Placed.{IsPlaced}
 use Rattle.cil_names.specs.Resolves.{Wanted, is_judged, resolves, told_word, words_of}
 use Rattle.cil_names.specs.Spaces.{space_at}

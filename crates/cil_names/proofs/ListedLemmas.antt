@@ -19,7 +19,7 @@ use Rattle.cil_names.specs.declared.instance.Instance.{Instance}
 use Rattle.cil_names.specs.declared.space.Space.{Space}
 use Rattle.cil_names.specs.Declarations.{Symbol, by, declared_by}
 use Rattle.cil_names.specs.Entries.{AreEntries, HasNoEntry, IsAnswer, IsEntryAt, IsNamed, items_of}
-use Rattle.cil_names.specs.Item.{OptSet, is_enabled, nobody}
+use Rattle.cil_macros.specs.Item.{OptSet, is_enabled, nobody}
 use Rattle.cil_names.specs.Numbers.{symbol_of}
 use Rattle.cil_names.specs.PermissionWords.{has_permission_at}
 use Rattle.cil_names.specs.Resolves.{Permission as APermission, fits, found_in, gives_permission, has_permission, listed_permissions, resolves}

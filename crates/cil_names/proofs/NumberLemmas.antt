@@ -23,7 +23,7 @@ use Rattle.cil_names.specs.declared.numbers.Sections.{Sections}
 use Rattle.cil_names.specs.declared.space.Space.{Space}
 use Rattle.cil_names.specs.Entries.{AreOrdered, is_declared_in, place_where}
 use Rattle.cil_names.specs.Found.{IsFound, IsMissing}
-use Rattle.cil_names.specs.Item.{OptSet}
+use Rattle.cil_macros.specs.Item.{OptSet}
 use Rattle.cil_names.specs.Numbers.{AreNumbers, IsNameAmong, has_section, is_of, name_given, names_of, place_in, spelled_of}
 use Rattle.cil_syntax.specs.Kinds.{kind_number}
 use Rattle.cil_names.proofs.AnswerLemmas.{none_where}

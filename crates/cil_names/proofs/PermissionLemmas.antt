@@ -39,7 +39,7 @@ use Rattle.cil_names.specs.declared.instance.Instance.{Instance}
 use Rattle.cil_names.specs.declared.space.Space.{Space}
 use Rattle.cil_names.specs.Declarations.{Declaration, Symbol, content_of, declarations, declared_by}
 use Rattle.cil_names.specs.Entries.{AreOrdered, HasNoEntry, IsEntryAt, item_of, items_of, scoped}
-use Rattle.cil_names.specs.Item.{Item, all_replaced, is_enabled, names_in, nobody}
+use Rattle.cil_macros.specs.Item.{Item, all_replaced, is_enabled, names_in, nobody}
 use Rattle.cil_names.specs.Numbers.{symbol_of}
 use Rattle.cil_names.specs.Permissions.{AreEmpty, DeclaresClass, DeclaresNoClass}
 use Rattle.cil_names.specs.Placed.{IsPlaced}

@@ -9,7 +9,7 @@ use Rattle.cil_names.specs.declared.entry.Entry.{Entry}
 use Rattle.cil_names.specs.declared.instance.Instance.{Instance}
 use Rattle.cil_names.specs.declared.space.Space.{Space}
 use Rattle.cil_names.specs.Entries.{AreEntries, IsAnswer, IsNamed, is_declared_at, is_declared_in, items_of, listed}
-use Rattle.cil_names.specs.Item.{OptSet, nobody}
+use Rattle.cil_macros.specs.Item.{OptSet, nobody}
 use Rattle.cil_sexpr.specs.Searches.{or_second}
 use Rattle.cil_syntax.specs.Scopes.{ScopedWord}
 use Rattle.cil_names.specs.Laws.{WantedMeansWhatItNames}

@@ -23,7 +23,7 @@ use Rattle.std.proofs.lemmas.Option.{same_Some}
 use Rattle.cil_names.specs.declared.entry.Entry.{Entry}
 use Rattle.cil_names.specs.declared.space.Space.{Space}
 use Rattle.cil_names.specs.Entries.{AreOrdered, key_cmp, key_of, rank}
-use Rattle.cil_names.specs.Item.{OptSet}
+use Rattle.cil_macros.specs.Item.{OptSet}
 use Rattle.cil_names.specs.Numbers.{AreApart, AreNumbers, ArePlain, ArePlainNames, IsPlain, has_section, spelled_of}
 use Rattle.cil_names.specs.Spaces.{AreSpaces, space_at}
 use Rattle.cil_names.proofs.OrderLemmas.{key_total, one_key}

@@ -10,7 +10,7 @@ use Rattle.cil_syntax.specs.declared.term.Term.{the_lemmas}
 use Rattle.cil_syntax.specs.declared.term.Word.{Word}
 use Rattle.cil_syntax.specs.Said.{all_said, said_of, word_in}
 use Rattle.cil_syntax.proofs.SaidLemmas.{form_said, leaf_said, name_said}
-use Rattle.cil_names.specs.Item.{all_words_in, words_in}
+use Rattle.cil_macros.specs.Item.{all_words_in, words_in}
 
 module _ {Y : Type 0} (m : ℕ) (f : Word → Y) where
   -- what the words of some terms mean

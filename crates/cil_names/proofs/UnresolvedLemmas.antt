@@ -22,7 +22,7 @@ use Rattle.cil_syntax.specs.Scopes.{Namespace, ScopedWord}
 use Rattle.cil_syntax.proofs.SaidLemmas.{form_said, leaf_said, name_said}
 use Rattle.cil_names.specs.declared.space.Space.{Space}
 use Rattle.cil_names.specs.Entries.{scoped}
-use Rattle.cil_names.specs.Item.{OptSet, Item, all_replaced, replaced, words_in, all_words_in}
+use Rattle.cil_macros.specs.Item.{OptSet, Item, all_replaced, replaced, words_in, all_words_in}
 use Rattle.cil_names.specs.Resolves.{Wanted, Word as AWord, Permission as APermission, found_in, resolves, wanted_in, all_wanted_in, words_of_class}
 use Rattle.cil_names.specs.Unresolved.{fault_of_word, faults_of_all, faults_of_wanted, faults_unless_listed, fault_unless_listed, scoped_term, scoped_terms}
 

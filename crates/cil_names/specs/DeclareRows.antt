@@ -15,7 +15,7 @@ use Rattle.cil_names.specs.declared.row.Row.{Row}
 use Rattle.cil_names.specs.declared.space.Space.{Space}
 use Rattle.cil_names.specs.Declarations.{Bare, Declaration, bare, content_of, nowhere}
 use Rattle.cil_names.specs.Entries.{Key, item_of, rank}
-use Rattle.cil_names.specs.Item.{OptSet, all_replaced, replaced}
+use Rattle.cil_macros.specs.Item.{OptSet, all_replaced, replaced}
 use Rattle.cil_names.specs.Placed.{IsPlaced}
 use Rattle.cil_names.specs.Spaces.{space_at}
 

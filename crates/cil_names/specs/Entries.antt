@@ -17,7 +17,7 @@ use Rattle.cil_names.specs.declared.entry.Entry.{Entry}
 use Rattle.cil_names.specs.declared.instance.Instance.{Instance}
 use Rattle.cil_names.specs.declared.space.Space.{Space}
 use Rattle.cil_names.specs.Declarations.{Declaration, IsDeclaration, NameSpace, of_types, of_roles, of_users, of_classes, of_blocks, name_space}
-use Rattle.cil_names.specs.Item.{Item, OptSet, all_replaced, everybody}
+use Rattle.cil_macros.specs.Item.{Item, OptSet, all_replaced, everybody}
 use Rattle.cil_names.specs.Resolves.{found_in}
 use Rattle.cil_syntax.specs.Kinds.{is_wanted}
 use Rattle.cil_names.specs.Spaces.{space_at}

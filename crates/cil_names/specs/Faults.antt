@@ -7,7 +7,7 @@ use Rattle.cil_syntax.specs.declared.term.Spot.{Spot}
 use Rattle.cil_syntax.specs.Terms.{Name, Terms, cons}
 use Rattle.cil_syntax.specs.Reported.{fault_at}
 use Rattle.cil_names.specs.Declarations.{Declaration, declared_by, IsDeclaration, Clash}
-use Rattle.cil_names.specs.Item.{Item, OptSet, everybody}
+use Rattle.cil_macros.specs.Item.{Item, OptSet, everybody}
 use Rattle.cil_syntax.specs.Scopes.{ScopedWord}
 use Rattle.cil_names.specs.Resolves.{Wanted, words_of, told_word, resolves, is_judged}
 

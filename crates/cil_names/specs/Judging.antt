@@ -12,7 +12,7 @@ use Rattle.cil_syntax.specs.Scopes.{Namespace, ScopedWord}
 use Rattle.cil_names.specs.declared.instance.Instance.{Instance}
 use Rattle.cil_names.specs.declared.judge.Judge.{Judge}
 use Rattle.cil_names.specs.Entries.{AreEntries, AreOrdered, IsAnswer, is_in, items_of, scoped}
-use Rattle.cil_names.specs.Item.{OptSet}
+use Rattle.cil_macros.specs.Item.{OptSet}
 use Rattle.cil_names.specs.Meanings.{meant}
 use Rattle.cil_names.specs.Resolves.{Wanted}
 use Rattle.cil_names.specs.Spaces.{AreSpaces, space_at}

@@ -4,7 +4,7 @@ use Rattle.cil_names.specs.declared.entry.Entry.{Entry}
 use Rattle.cil_names.specs.declared.instance.Instance.{Instance}
 use Rattle.cil_names.specs.declared.space.Space.{Space}
 use Rattle.cil_names.specs.Entries.{AreEntries, IsAnswer, items_of}
-use Rattle.cil_names.specs.Item.{OptSet}
+use Rattle.cil_macros.specs.Item.{OptSet}
 use Rattle.cil_syntax.specs.Scopes.{ScopedWord}
 use Rattle.cil_names.specs.Meanings.{meant}
 use Rattle.cil_names.specs.PermissionWords.{IsAnswerFor, wanted_meaning}

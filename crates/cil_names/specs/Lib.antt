@@ -4,7 +4,6 @@ pub mod Declarations
 pub mod Entries
 pub mod Faults
 pub mod Found
-pub mod Item
 pub mod Judging
 pub mod Laws
 pub mod Meanings

@@ -6,7 +6,7 @@ use Rattle.cil_names.specs.declared.entry.Entry.{Entry}
 use Rattle.cil_names.specs.declared.instance.Instance.{Instance}
 use Rattle.cil_names.specs.declared.space.Space.{Space}
 use Rattle.cil_names.specs.Entries.{candidates_of, is_declared_at, scoped}
-use Rattle.cil_names.specs.Item.{OptSet, all_words_in}
+use Rattle.cil_macros.specs.Item.{OptSet, all_words_in}
 use Rattle.cil_syntax.specs.Scopes.{ScopedWord}
 
 -- the number that is kept as the next one, so that 0 is nothing

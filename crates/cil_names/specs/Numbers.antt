@@ -13,7 +13,7 @@ use Rattle.cil_names.specs.declared.numbers.Sections.{Sections}
 use Rattle.cil_names.specs.declared.space.Space.{Space}
 use Rattle.cil_names.specs.Declarations.{Symbol, name_of}
 use Rattle.cil_names.specs.Entries.{is_declared_in, place_where}
-use Rattle.cil_names.specs.Item.{OptSet}
+use Rattle.cil_macros.specs.Item.{OptSet}
 use Rattle.cil_syntax.specs.Kinds.{kind_number}
 use Rattle.cil_names.specs.Spaces.{space_at}
 

@@ -6,7 +6,7 @@ use Rattle.cil_names.specs.declared.entry.Entry.{Entry}
 use Rattle.cil_names.specs.declared.instance.Instance.{Instance}
 use Rattle.cil_names.specs.declared.space.Space.{Space}
 use Rattle.cil_names.specs.Entries.{IsNamed, candidates_of, is_declared_at, items_of, listed}
-use Rattle.cil_names.specs.Item.{Item, OptSet, nobody}
+use Rattle.cil_macros.specs.Item.{Item, OptSet, nobody}
 use Rattle.cil_syntax.specs.Scopes.{ScopedWord}
 use Rattle.cil_names.specs.Meanings.{meant}
 use Rattle.cil_names.specs.Numbers.{symbol_of}

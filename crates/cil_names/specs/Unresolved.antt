@@ -19,7 +19,7 @@ use Rattle.cil_names.specs.declared.entry.Entry.{Entry}
 use Rattle.cil_names.specs.declared.instance.Instance.{Instance}
 use Rattle.cil_names.specs.declared.space.Space.{Space}
 use Rattle.cil_names.specs.Entries.{item_of, scoped}
-use Rattle.cil_names.specs.Item.{Item, OptSet, all_replaced, replaced}
+use Rattle.cil_macros.specs.Item.{Item, OptSet, all_replaced, replaced}
 use Rattle.cil_names.specs.Numbers.{symbol_of}
 use Rattle.cil_names.specs.Resolves.{Wanted, has_permission, is_judged, resolves, told_word, words_of}
 use Rattle.cil_syntax.specs.Kinds.{is_wanted}

@@ -3,7 +3,7 @@
 ghost use Rattle.std.specs.Prelude.{◌≡◌, ◌-◌, ◌^◌, length, min, ℕ};
 ghost use Rattle.std.specs.List.{flat_map};
 ghost use Rattle.cil_syntax.specs.Said.{all_said, args_of, said_of};
-ghost use Rattle.cil_names.specs.Item.{all_words_in, words_in};
+ghost use Rattle.cil_macros.specs.Item.{all_words_in, words_in};
 
 use crate::instance::Instance;
 use cil_syntax::Term;

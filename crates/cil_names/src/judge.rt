@@ -10,7 +10,7 @@ ghost use Rattle.cil_syntax.specs.Spelling.{same_bytes};
 ghost use Rattle.cil_syntax.specs.Reported.{fault_at};
 ghost use Rattle.cil_names.specs.declared.instance.Instance.{Instance};
 ghost use Rattle.cil_names.specs.Entries.{items_of};
-ghost use Rattle.cil_names.specs.Item.{all_words_in, words_in};
+ghost use Rattle.cil_macros.specs.Item.{all_words_in, words_in};
 ghost use Rattle.cil_syntax.specs.Scopes.{ScopedWord};
 ghost use Rattle.cil_names.specs.Judging.{IsReady, Knows, Named, Tells, enabled_in, meant_in, space_in, term_in_scope, terms_in_scope, word_in_scope};
 ghost use Rattle.cil_names.specs.Resolves.{Permission as APermission, Word as AWord, all_wanted_in, resolves, wanted_in, words_of_class};

@@ -2,7 +2,7 @@
 //!
 //! Start at `gather.rt` (`declare`) and `names.rt` (`Names::resolve`, `Names::candidates`). `fill.rt` looks up each word of
 //! each statement once, and reports those that name nothing; `numbers.rt` numbers the declared symbols by their names.
-//! `specs/Resolves.antt` says what a word names, over statements as `specs/Item.antt` has them; `specs/Declarations.antt`
+//! `specs/Resolves.antt` says what a word names, over statements as `Item.antt` of cil_macros has them; `specs/Declarations.antt`
 //! what is declared; `specs/Entries.antt` how entries and numbers of namespaces stand for that; `laws.rt` says that what a
 //! word means is the entry that it names. `permission_word.rt` has what permission words name
 //! (`Names::resolve_permission`); the permissions of classes are given, by `permissions.rt`.

@@ -9,7 +9,7 @@ ghost use Rattle.cil_syntax.specs.declared.fault.Bytes.{Bytes as Text};
 ghost use Rattle.cil_names.specs.declared.instance.Instance.{Instance};
 ghost use Rattle.cil_names.specs.declared.entry.Entry.{Entry};
 ghost use Rattle.cil_names.specs.Entries.{AreEntries, AreOrdered, HasNoEntryIn, IsAnswer, IsEntryIn, candidates_of, is_declared_at, is_in, items_of, key_cmp, key_of, listed, scoped};
-ghost use Rattle.cil_names.specs.Item.{OptSet as OptionalSet};
+ghost use Rattle.cil_macros.specs.Item.{OptSet as OptionalSet};
 ghost use Rattle.cil_names.specs.PermissionWords.{IsAnswerFor, wanted_candidates};
 ghost use Rattle.cil_names.specs.Resolves.{Permission};
 ghost use Rattle.cil_names.specs.Spaces.{space_at};

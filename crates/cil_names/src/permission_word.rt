@@ -11,7 +11,7 @@ ghost use Rattle.cil_syntax.specs.Spelling.{same_bytes};
 ghost use Rattle.cil_names.specs.declared.instance.Instance.{Instance};
 ghost use Rattle.cil_names.specs.declared.space.Space.{Space as ASpace};
 ghost use Rattle.cil_names.specs.Entries.{AreEntries, AreOrdered, items_of, key_cmp, key_of, scoped};
-ghost use Rattle.cil_names.specs.Item.{nobody};
+ghost use Rattle.cil_macros.specs.Item.{nobody};
 ghost use Rattle.cil_names.specs.Meanings.{meant};
 ghost use Rattle.cil_names.specs.PermissionWords.{class_with as the_class_with, has_permission_at};
 ghost use Rattle.cil_names.specs.Spaces.{AreSpaces};

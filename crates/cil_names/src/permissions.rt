@@ -7,7 +7,7 @@ ghost use Rattle.cil_sexpr.specs.Lists.{Lists, text_cmp};
 ghost use Rattle.cil_syntax.specs.Said.{all_said};
 ghost use Rattle.cil_names.specs.declared.space.Space.{Space};
 ghost use Rattle.cil_names.specs.Entries.{AreOrdered, item_of, items_of, key_cmp, key_of};
-ghost use Rattle.cil_names.specs.Item.{Item, names_in};
+ghost use Rattle.cil_macros.specs.Item.{Item, names_in};
 ghost use Rattle.cil_names.specs.Permissions.{AreEmpty, DeclaresClass, DeclaresNoClass};
 ghost use Rattle.cil_names.specs.Placed.{ArePlaced, IsPlaced};
 ghost use Rattle.cil_names.specs.Spaces.{AreSpaces};
@@ -128,7 +128,7 @@ fn push_names(alloc: Global, names: &mut Vec<Bytes>, terms: &[Term]) -> Result<(
     Ok(())
 }
 
-#[tactic(auto, unfolding(crate::specs::Item::names_in))]
+#[tactic(auto, unfolding(cil_macros::specs::Item::names_in))]
 fn push_name(alloc: Global, names: &mut Vec<Bytes>, term: &Term) -> Result<(), NoMemory>
     ensures { OnOk result ((m : ℕ) → names.new.items ≡ names.old.items ++ names_in (all_said m (term.now ∷ []))) }
 {

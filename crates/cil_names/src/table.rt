@@ -4,7 +4,7 @@ ghost use Rattle.std.specs.Prelude.{◌≡◌, ◌≤◌, ◌++◌, [], ◌∷�
 ghost use Rattle.cil_syntax.specs.Said.{all_said, said_of};
 ghost use Rattle.cil_names.specs.declared.instance.Instance.{Instance};
 ghost use Rattle.cil_names.specs.Entries.{AreEntries, AreOrdered, IsAnswer, is_in, scoped};
-ghost use Rattle.cil_names.specs.Item.{all_words_in, words_in};
+ghost use Rattle.cil_macros.specs.Item.{all_words_in, words_in};
 ghost use Rattle.cil_names.specs.Meanings.{meanings, meant};
 ghost use Rattle.cil_names.specs.Rows.{IsTableOf};
 

@@ -1,7 +1,7 @@
 use Rattle.std.proofs.Common.{◌∙◌, sym, ap, length}
 use Rattle.std.specs.Prelude.{◌-◌, ◌^◌, min}
 use Rattle.cil_syntax.specs.Said.{all_said}
-use Rattle.cil_names.specs.Item.{all_words_in}
+use Rattle.cil_macros.specs.Item.{all_words_in}
 use Rattle.cil_names.proofs.CountLemmas.{all_counted, form_has, leaf_has, name_has, one_counted, words_by_term, words_said}
 use Rattle.cil_names.proofs.count.+words.Goals as goal
 

@@ -2,7 +2,7 @@ use Rattle.std.proofs.Common.{◌∙◌, ap, length}
 use Rattle.std.specs.Prelude.{◌-◌, ◌^◌, min}
 use Rattle.cil_syntax.specs.Said.{all_said, args_of}
 use Rattle.cil_names.specs.declared.instance.Instance.{Instance}
-use Rattle.cil_names.specs.Item.{all_words_in}
+use Rattle.cil_macros.specs.Item.{all_words_in}
 use Rattle.cil_names.proofs.CountLemmas.{all_counted, one_counted}
 use Rattle.cil_names.proofs.count.count_words.Goals as goal
 

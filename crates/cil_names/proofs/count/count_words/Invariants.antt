@@ -3,7 +3,7 @@ use Rattle.std.specs.Prelude.{◌-◌, ◌^◌, min}
 use Rattle.std.specs.List.{flat_map}
 use Rattle.cil_syntax.specs.Said.{args_of}
 use Rattle.cil_names.specs.declared.instance.Instance.{Instance}
-use Rattle.cil_names.specs.Item.{all_words_in}
+use Rattle.cil_macros.specs.Item.{all_words_in}
 use Rattle.cil_names.proofs.count.count_words.Given as goal
 
 abbrev pub invariant-loop-instance : goal.invariant-loop-instance

@@ -1,6 +1,6 @@
 use Rattle.std.proofs.Common.{rules, sym, ◌∙◌}
 use Rattle.cil_names.specs.Entries.{items_of, scoped}
-use Rattle.cil_names.specs.Item.{nobody}
+use Rattle.cil_macros.specs.Item.{nobody}
 use Rattle.cil_names.specs.Meanings.{meant}
 use Rattle.cil_names.specs.PermissionWords.{has_permission_at}
 use Rattle.cil_names.proofs.PermissionWordLemmas.{class_has, class_lacks}

@@ -1,7 +1,7 @@
 use Rattle.std.proofs.Common.{rules, sym, ◌∙◌}
 use Rattle.cil_names.specs.Entries.{is_in, items_of, scoped}
 use Rattle.cil_names.specs.Judging.{terms_in_scope}
-use Rattle.cil_names.specs.Item.{all_words_in}
+use Rattle.cil_macros.specs.Item.{all_words_in}
 use Rattle.cil_names.specs.Spaces.{space_at}
 use Rattle.cil_names.proofs.ListedLemmas.{answered_found}
 use Rattle.cil_names.proofs.UnresolvedLemmas.{permissions_not_told, permissions_told}
