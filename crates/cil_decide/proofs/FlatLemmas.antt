@@ -18,7 +18,7 @@ use Rattle.cil_names.specs.Declarations.{Declaration, declarations, IsDeclaratio
 use Rattle.cil_names.specs.Entries.{item_of, items_of, scoped}
 use Rattle.cil_macros.specs.Item.{Item, all_replaced, nobody}
 use Rattle.cil_names.specs.Placed.{ArePlaced, IsPlaced}
-use Rattle.cil_names.specs.Spaces.{space_at, spaces_from}
+use Rattle.cil_blocks.specs.Namespaces.{space_at, spaces_from}
 use Rattle.cil_decide.specs.Compiled.{IsNameOf}
 use Rattle.cil_decide.specs.Flat.{AreFlat, AreInstances, IsGlobal, flat_item, globally, flat_items, global_symbol}
 
@@ -70,7 +70,7 @@ module _ (xs : List Item) (flat : AreFlat xs) where
 
 -- ---- statements as instances
 
-pub none_yet : (ss : List Statement) (is : List Instance) → is ≡ [] → AreInstances (take 0 ss) is
+pub none_yet : (ss : List Statement) (xs : List Item) → is ≡ [] → AreInstances (take 0 ss) is
 none_yet [] is e = subst (AreInstances []) (sym e) (record { statements = refl; each = λ i c. absurd (contains_none i c) })
 none_yet (s ∷ ss) is e = subst (AreInstances []) (sym e) (record { statements = refl; each = λ i c. absurd (contains_none i c) })
 
@@ -88,7 +88,7 @@ one_more ss k s i old new within at is global push are = record {
   ];
 }
 
-pub all_yet : (ss : List Statement) (k : ℕ) (is : List Instance) → length ss ≤ k → AreInstances (take k ss) is → AreInstances ss is
+pub all_yet : (ss : List Statement) (k : ℕ) (xs : List Item) → length ss ≤ k → AreInstances (take k ss) is → AreInstances ss is
 all_yet ss k is over are = subst (λ z. AreInstances z is) (take_all k ss over) are
 
 module _ (i : Instance) (global : IsGlobal i.place.now) where
@@ -119,7 +119,7 @@ module _ (i : Instance) (global : IsGlobal i.place.now) where
       only zero d h = omega arith
       only (suc k) d h = absurd (omega (arith, h))
 
-module _ (ss : List Statement) (is : List Instance) (are : AreInstances ss is) where
+module _ (ss : List Statement) (xs : List Item) (are : AreInstances ss is) where
   pub flat_all : items_of [] is ≡ flat_items ss
   flat_all = each is are.each ∙ ap (map flat_item) are.statements
     where

@@ -10,7 +10,7 @@ use Rattle.cil_syntax.specs.declared.program.Statement.{Statement}
 use Rattle.cil_syntax.specs.Program.{program_of}
 use Rattle.cil_syntax.specs.Written.{IsWritten, written_cmp}
 use Rattle.cil_names.specs.declared.instance.Instance.{Instance}
-use Rattle.cil_names.specs.declared.space.Space.{Space}
+use Rattle.cil_blocks.specs.declared.namespaces.Space.{Space}
 use Rattle.cil_names.specs.Declarations.{Declared}
 use Rattle.cil_names.specs.Entries.{is_in, items_of}
 use Rattle.cil_macros.specs.Item.{Item, OptSet, nobody}
@@ -29,7 +29,7 @@ pub none_enabled : (flags : List Bool) → flags ≡ [] → is_in flags ≡ nobo
 none_enabled flags off = ap is_in off
 
 -- the instances of flat programs, in namespaces of which there are none
-module _ (ss : List Statement) (is : List Instance) (are : AreInstances ss is) (spaces : List Space) (global : spaces ≡ []) (js : List Instance) (sliced : js ≡ is) where
+module _ (ss : List Statement) (xs : List Item) (are : AreInstances ss is) (spaces : List Space) (global : spaces ≡ []) (js : List Instance) (sliced : js ≡ is) where
   items_path : items_of spaces js ≡ flat_items ss
   items_path = (λ k. items_of (global k) (sliced k)) ∙ flat_all ss is are
 

@@ -21,7 +21,7 @@ use Rattle.cil_syntax.specs.Table.{entry_of}
 use Rattle.cil_names.specs.declared.entry.Entry.{Entry}
 use Rattle.cil_names.specs.declared.instance.Instance.{Instance}
 use Rattle.cil_names.specs.declared.numbers.Sections.{Sections}
-use Rattle.cil_names.specs.declared.space.Space.{Space}
+use Rattle.cil_blocks.specs.declared.namespaces.Space.{Space}
 use Rattle.cil_names.specs.Declarations.{Declaration, IsDeclaration, object, by, declared_by, Declared, Symbol, name_of}
 use Rattle.cil_names.specs.Entries.{AreEntries, is_declared_in, item_of, items_of, scoped}
 use Rattle.cil_macros.specs.Item.{Item, OptSet, everybody}
@@ -40,11 +40,11 @@ use Rattle.cil_decide.proofs.SearchLemmas.{number_is}
 use Rattle.cil_decide.proofs.WideClasses.{in_front, of_own_kind}
 use Rattle.cil_decide.proofs.WidthLemmas.{listed_are, said_front}
 
-module _ (ss : List Space) (is : List Instance) (es : List Entry) (entries : AreEntries ss is es) where
+module _ (ss : List Space) (xs : List Item) (es : List Entry) (entries : AreEntries ss xs es) where
   -- ---- names of entries, as names of items
 
   module _ (s : OptSet) (kind : Kind) where
-    name_there : (name : List ℕ) → IsNameAmong ss es s kind name → IsNameOf (items_of ss is) s kind name
+    name_there : (name : List ℕ) → IsNameAmong ss es s kind name → IsNameOf xs s kind name
     name_there name among =
         let (i, below_i, at) = get_at es among.entry among.among in
         let (d, declares, of_kind, in_space, of_name) = entries.only s i among.entry at among.live in
@@ -54,7 +54,7 @@ module _ (ss : List Space) (is : List Instance) (es : List Entry) (entries : Are
           named = among.spelled;
         }
 
-    name_back : (name : List ℕ) → IsNameOf (items_of ss is) s kind name → IsNameAmong ss es s kind name
+    name_back : (name : List ℕ) → IsNameOf xs s kind name → IsNameAmong ss es s kind name
     name_back name of =
         let d = of.declared in
         let (i, e) = entries.each s d.declaration d.declares in
@@ -67,13 +67,13 @@ module _ (ss : List Space) (is : List Instance) (es : List Entry) (entries : Are
           spelled = ap name_of same ∙ of.named;
         }
 
-    pub names_are : (names : List (List ℕ)) → Lists text_cmp (IsNameAmong ss es s kind) names → Lists text_cmp (IsNameOf (items_of ss is) s kind) names
-    names_are names = lists_of text_cmp (IsNameAmong ss es s kind) (IsNameOf (items_of ss is) s kind) names name_there name_back
+    pub names_are : (names : List (List ℕ)) → Lists text_cmp (IsNameAmong ss es s kind) names → Lists text_cmp (IsNameOf xs s kind) names
+    names_are names = lists_of text_cmp (IsNameAmong ss es s kind) (IsNameOf xs s kind) names name_there name_back
 
   -- ---- the rows of the classes
 
   module _ (s : OptSet) (n : Sections) (numbers : List ℕ) (numbered : AreNumbers ss es s (names_of n) numbers) (apart : AreApart es s numbers)
-      (lists : List (Vec Bytes)) (permissions : ArePermissions ss es (items_of ss is) lists) (rows : List Class) (are : AreRowsOf ss es s lists n.classes.items rows) where
+      (lists : List (Vec Bytes)) (permissions : ArePermissions ss es xs lists) (rows : List Class) (are : AreRowsOf ss es s lists n.classes.items rows) where
     sorted : IsStrictlySortedBy text_cmp n.classes.items
     sorted = (numbered.lists kinds.Class refl).rising
 
@@ -87,7 +87,7 @@ module _ (ss : List Space) (is : List Instance) (es : List Entry) (entries : Are
         let number = apart d k e f at bt (ke ∙ sym kf) (ap has_section ke) le lf one in
         ap (λ o. unwrap_or o e) (sym at ∙ ap (slice_get es) number ∙ bt)
 
-    pub classes_are : AreClasses (items_of ss is) s n.classes.items rows
+    pub classes_are : AreClasses xs s n.classes.items rows
     classes_are = record {
       named = are.named;
       each = λ row c member d named.
@@ -97,35 +97,35 @@ module _ (ss : List Space) (is : List Instance) (es : List Entry) (entries : Are
           let (i, e) = entries.each s d.declaration d.declares in
           let symbol : symbol_of ss e.entry ≡ c = λ j. record { space = (e.in_space ∙ d.in_space) j; name = (e.of_name ∙ d.of_name) j } in
           let same = one_entry row_is.number i row_is.entry e.entry row_is.at e.at kind (e.of_kind ∙ d.of_kind) live e.live (row_is.spelled ∙ named ∙ sym (ap name_of symbol)) in
-          subst (Lists text_cmp (λ p. has_permission (items_of ss is) c p ≡ true)) (sym row_is.listed)
-          (subst (λ (t : Symbol). Lists text_cmp (λ p. has_permission (items_of ss is) t p ≡ true) (listed_at lists row_is.number)) (ap (symbol_of ss) same ∙ symbol)
-          (listed_are lists row_is.number ss es (items_of ss is) permissions row_is.entry row_is.at (ap (is_wanted signs.Classes) kind)));
+          subst (Lists text_cmp (λ p. has_permission xs c p ≡ true)) (sym row_is.listed)
+          (subst (λ (t : Symbol). Lists text_cmp (λ p. has_permission xs t p ≡ true) (listed_at lists row_is.number)) (ap (symbol_of ss) same ∙ symbol)
+          (listed_are lists row_is.number ss es xs permissions row_is.entry row_is.at (ap (is_wanted signs.Classes) kind)));
     }
 
     name_at : (k : ℕ) (row : Class) → slice_get rows k ≡ Some row → slice_get n.classes.items k ≡ Some row.name
     name_at k row at = ap (λ l. slice_get l k) (sym are.named) ∙ slice_get-map (λ (r : Class). r.name) rows k ∙ ap (option_map (λ r. r.name)) at
 
-    class_names : Lists text_cmp (IsNameOf (items_of ss is) s kinds.Class) n.classes.items
+    class_names : Lists text_cmp (IsNameOf xs s kinds.Class) n.classes.items
     class_names = names_are s kinds.Class n.classes.items (numbered.lists kinds.Class refl)
 
     pub classes_rise : IsStrictlySortedBy class_cmp rows
     classes_rise = rising_by (λ (c : Class). c.name) rows (subst (IsStrictlySortedBy text_cmp) (sym are.named) sorted)
 
     -- each row is that of a declared class
-    pub class_of_row : (row : Class) → Contains rows row → (c : Symbol) × Declared (items_of ss is) s kinds.Class c × IsRowOf (items_of ss is) c row
+    pub class_of_row : (row : Class) → Contains rows row → (c : Symbol) × Declared xs s kinds.Class c × IsRowOf xs c row
     class_of_row row member =
         let (k, below_k, at) = get_at rows row member in
         let of = (class_names.members row.name).0 (get_contains n.classes.items k row.name (name_at k row at)) in
         (of.symbol, of.declared, record { named = sym of.named; permissions = classes_are.each row of.symbol member of.declared (sym of.named) })
 
     -- each declared class has a row
-    row_of_class : (c : Symbol) → Declared (items_of ss is) s kinds.Class c → (row : Class) × IsRowOf (items_of ss is) c row × Contains rows row
+    row_of_class : (c : Symbol) → Declared xs s kinds.Class c → (row : Class) × IsRowOf xs c row × Contains rows row
     row_of_class c d =
         let member = (class_names.members (name_of c)).1 (record { symbol = c; declared = d; named = refl }) in
         let (row, c_row, named) = from_map (λ (r : Class). r.name) rows (name_of c) (subst (λ l. Contains l (name_of c)) (sym are.named) member) in
         (row, record { named = named; permissions = classes_are.each row c c_row d named }, c_row)
 
-    pub classes_given : Gives class_cmp (Declared (items_of ss is) s kinds.Class) (IsRowOf (items_of ss is)) rows
+    pub classes_given : Gives class_cmp (Declared xs s kinds.Class) (IsRowOf xs) rows
     classes_given = record { rising = classes_rise; each = row_of_class; only = class_of_row }
 
     pub rows_rise : (row : Class) → Contains rows row → IsStrictlySortedBy text_cmp row.permissions
@@ -134,7 +134,7 @@ module _ (ss : List Space) (is : List Instance) (es : List Entry) (entries : Are
 -- ---- names as the language has them
 
 -- where no namespace is inside another one, all names are those that statements declare
-pub plain_names : (ss : List Statement) (is : List Instance) (es : List Entry) → AreNamed ss → ((i : Instance) → Contains is i → Contains ss i.statement.now)
+pub plain_names : (ss : List Statement) (xs : List Item) (es : List Entry) → AreNamed ss → ((i : Instance) → Contains is i → Contains ss i.statement.now)
     → AreEntries [] is es → ArePlainNames [] es
 plain_names ss is es named among entries = record {
   spaces = λ s c. absurd (contains_none s c);

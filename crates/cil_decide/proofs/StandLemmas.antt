@@ -14,7 +14,7 @@ use Rattle.cil_names.specs.Laws.{MeansWhatItNames}
 use Rattle.cil_names.specs.Numbers.{has_section, symbol_of}
 use Rattle.cil_names.specs.Resolves.{found_in}
 use Rattle.cil_syntax.specs.Kinds.{is_wanted}
-use Rattle.cil_names.specs.Spaces.{space_at}
+use Rattle.cil_blocks.specs.Namespaces.{space_at}
 use Rattle.cil_decide.specs.declared.known.Known.{Known}
 use Rattle.cil_decide.specs.Compiled.{IsNumbered}
 use Rattle.cil_decide.specs.Known.{IsKnown, IsNumberFor, StandsForNothing, enabled_in, items_in, meant_in}
@@ -23,17 +23,17 @@ use Rattle.cil_decide.proofs.SearchLemmas.{number_is}
 
 -- ---- words
 
-module _ (k : Known) (is : List Instance) (names : Kind → List (List ℕ)) (known : IsKnown k is names) (kind : Kind) (w : ScopedWord) where
+module _ (k : Known) (xs : List Item) (names : Kind → List (List ℕ)) (known : IsKnown k xs names) (kind : Kind) (w : ScopedWord) where
   -- a word that means nothing
-  not_found : found_in (items_in k is) (enabled_in k) w ≡ None → StandsForNothing (items_in k is) (enabled_in k) kind w
+  not_found : found_in xs (enabled_in k) w ≡ None → StandsForNothing xs (enabled_in k) kind w
   not_found none t stands = none-some t.space (sym none ∙ stands.found)
 
-  module _ (d : ℕ) (named : IsNamed k.lookup.spaces.now is k.lookup.names.now (enabled_in k) w d) (e : Entry) (at : slice_get k.lookup.names.now d ≡ Some e) where
+  module _ (d : ℕ) (named : IsNamed k.lookup.spaces.now xs k.lookup.names.now (enabled_in k) w d) (e : Entry) (at : slice_get k.lookup.names.now d ≡ Some e) where
     same : named.entry ≡ e
     same = same_Some named.entry e (sym named.at ∙ at)
 
     -- a symbol for which the word stands is that of the entry
-    kind_is : (t : Symbol) → StandsFor (items_in k is) (enabled_in k) kind w t → e.kind ≡ kind
+    kind_is : (t : Symbol) → StandsFor xs (enabled_in k) kind w t → e.kind ≡ kind
     kind_is t st =
         let (i, f) = known.entries.each (enabled_in k) st.declared.declaration st.declared.declares in
         let there : t.space ≡ named.space = same_Some t.space named.space (sym st.found ∙ named.found) in
@@ -42,7 +42,7 @@ module _ (k : Known) (is : List Instance) (names : Kind → List (List ℕ)) (kn
         let one : e ≡ f.entry = same_Some e f.entry (sym at ∙ ap (slice_get k.lookup.names.now) (sym (named.only i f.entry f.at fits)) ∙ f.at) in
         ap (λ (x : Entry). x.kind) one ∙ f.of_kind ∙ st.declared.of_kind
 
-    other_kind : (e.kind ≡ kind → ⊥) → StandsForNothing (items_in k is) (enabled_in k) kind w
+    other_kind : (e.kind ≡ kind → ⊥) → StandsForNothing xs (enabled_in k) kind w
     other_kind differs t st = differs (kind_is t st)
 
     abbrev its_symbol : Symbol
@@ -54,7 +54,7 @@ module _ (k : Known) (is : List Instance) (names : Kind → List (List ℕ)) (kn
         symbol_by (symbol_of k.lookup.spaces.now e) its_symbol
         (ap (λ (x : Entry). space_at k.lookup.spaces.now x.space) (sym same) ∙ space) (ap (λ (x : Entry). x.name) (sym same) ∙ name)
 
-    the_number : has_section kind ≡ true → e.kind ≡ kind → (n : ℕ) → n ≡ get_or k.numbers.now d 0 → IsNumberFor (items_in k is) (enabled_in k) kind (names kind) w n
+    the_number : has_section kind ≡ true → e.kind ≡ kind → (n : ℕ) → n ≡ get_or k.numbers.now d 0 → IsNumberFor xs (enabled_in k) kind (names kind) w n
     the_number section of_kind n is_n =
         let live : is_declared_in (enabled_in k) e ≡ true = ap (is_declared_in (enabled_in k)) (sym same) ∙ named.live in
         let (x, is_x, has_kind, in_space, of_name) = known.entries.only (enabled_in k) d e at live in
@@ -86,21 +86,21 @@ module _ (k : Known) (is : List Instance) (names : Kind → List (List ℕ)) (kn
   -- ---- by what the word means
 
   module _ (law : MeansWhatItNames) where
-    its_answer : (r : Option ℕ) → r ≡ meant_in k w → IsAnswer k.lookup.spaces.now is k.lookup.names.now (enabled_in k) w r
+    its_answer : (r : Option ℕ) → r ≡ meant_in k w → IsAnswer k.lookup.spaces.now xs k.lookup.names.now (enabled_in k) w r
     its_answer r means =
-        subst (IsAnswer k.lookup.spaces.now is k.lookup.names.now (enabled_in k) w) (sym means)
+        subst (IsAnswer k.lookup.spaces.now xs k.lookup.names.now (enabled_in k) w) (sym means)
         (law k.lookup.spaces.now is k.lookup.names.now (enabled_in k) w known.spaces known.entries)
 
-    pub of_nothing : None ≡ meant_in k w → StandsForNothing (items_in k is) (enabled_in k) kind w
+    pub of_nothing : None ≡ meant_in k w → StandsForNothing xs (enabled_in k) kind w
     of_nothing means = not_found (its_answer None means)
 
-    pub of_no_entry : (d : ℕ) → Some d ≡ meant_in k w → slice_get k.lookup.names.now d ≡ None → StandsForNothing (items_in k is) (enabled_in k) kind w
+    pub of_no_entry : (d : ℕ) → Some d ≡ meant_in k w → slice_get k.lookup.names.now d ≡ None → StandsForNothing xs (enabled_in k) kind w
     of_no_entry d means none = let named = its_answer (Some d) means in absurd (none-some named.entry (sym none ∙ named.at))
 
     pub of_other_kind : (d : ℕ) (e : Entry) → Some d ≡ meant_in k w → slice_get k.lookup.names.now d ≡ Some e → (e.kind ≡ kind → ⊥)
-        → StandsForNothing (items_in k is) (enabled_in k) kind w
+        → StandsForNothing xs (enabled_in k) kind w
     of_other_kind d e means at = other_kind d (its_answer (Some d) means) e at
 
     pub of_entry : (d : ℕ) (e : Entry) → Some d ≡ meant_in k w → slice_get k.lookup.names.now d ≡ Some e → has_section kind ≡ true → e.kind ≡ kind
-        → (n : ℕ) → n ≡ get_or k.numbers.now d 0 → IsNumberFor (items_in k is) (enabled_in k) kind (names kind) w n
+        → (n : ℕ) → n ≡ get_or k.numbers.now d 0 → IsNumberFor xs (enabled_in k) kind (names kind) w n
     of_entry d e means at = the_number d (its_answer (Some d) means) e at

@@ -30,14 +30,14 @@ use Rattle.cil_names.proofs.PermissionLemmas.{class_declared, class_declares}
 use Rattle.cil_names.proofs.CandidateLemmas.{they_are}
 use Rattle.cil_names.specs.declared.entry.Entry.{Entry}
 use Rattle.cil_names.specs.declared.instance.Instance.{Instance}
-use Rattle.cil_names.specs.declared.space.Space.{Space}
+use Rattle.cil_blocks.specs.declared.namespaces.Space.{Space}
 use Rattle.cil_names.specs.Declarations.{Declaration, Symbol, by, content_of, declarations, declared_by}
 use Rattle.cil_names.specs.Entries.{AreEntries, HasNoEntryIn, IsEntryIn, is_entry_of, item_of, items_of, scoped}
 use Rattle.cil_macros.specs.Item.{Item, OptSet, all_replaced, is_enabled}
 use Rattle.cil_names.specs.Numbers.{symbol_of}
 use Rattle.cil_names.specs.Resolves.{has_permission}
 use Rattle.cil_syntax.specs.Kinds.{is_wanted}
-use Rattle.cil_names.specs.Spaces.{space_at}
+use Rattle.cil_blocks.specs.Namespaces.{space_at}
 use Rattle.cil_names.specs.Unresolved.{ArePermissions, listed_at}
 use Rattle.cil_decide.specs.Faults.{ClassFault, wide}
 use Rattle.cil_decide.specs.Table.{most_permissions}
@@ -95,12 +95,12 @@ module _ (f : Word → ScopedWord) where
   unfolding all_replaced
   item_says at name rest = refl
 
-module _ (ss : List Space) (is : List Instance) (es : List Entry) (s : OptSet) (i : Instance) where
+module _ (ss : List Space) (xs : List Item) (es : List Entry) (s : OptSet) (i : Instance) where
   abbrev x : Item
   x = item_of ss i
 
   abbrev xs : List Item
-  xs = items_of ss is
+  xs = xs
 
   -- the instance is not enabled
   pub not_enabled : is_enabled s x ≡ false → (f : Fault) → IsWide s xs x f → ⊥
@@ -131,7 +131,7 @@ module _ (ss : List Space) (is : List Instance) (es : List Entry) (s : OptSet) (
         ∙ class_declared (scoped ss i.place.now.scope.items) (space_at ss i.place.now.space) at name declares.rest))
         (contains_here declaration [])
 
-    module _ (entries : AreEntries ss is es) (member : Contains is i) where
+    module _ (entries : AreEntries ss xs es) (member : Contains is i) where
       -- an enabled class has an entry
       pub no_entry : HasNoEntryIn ss es name signs.Classes (space_at ss i.place.now.space) → (f : Fault) → IsWide s xs x f → ⊥
       no_entry none f w =
@@ -193,12 +193,12 @@ one_more old new g P push told f = (
   ])),
 )
 
-module _ (ss : List Space) (is : List Instance) (s : OptSet) where
+module _ (ss : List Space) (xs : List Item) (s : OptSet) where
   -- the faults are those of these instances
   abbrev pub AreToldOf : List Instance → List Fault → Type 0
   AreToldOf some faults =
-      (f : Fault) → (Contains faults f → (i : Instance) × Contains some i × IsWide s (items_of ss is) (item_of ss i) f)
-      × ((i : Instance) × Contains some i × IsWide s (items_of ss is) (item_of ss i) f → Contains faults f)
+      (f : Fault) → (Contains faults f → (i : Instance) × Contains some i × IsWide s xs (item_of ss i) f)
+      × ((i : Instance) × Contains some i × IsWide s xs (item_of ss i) f → Contains faults f)
 
   pub told_none : (faults : List Fault) → faults ≡ [] → AreToldOf (take 0 is) faults
   told_none faults e f = ((λ c. absurd (contains_none f (subst (λ z. Contains z f) e c))), (λ t. absurd (nobody is t.0 t.1)))
@@ -208,7 +208,7 @@ module _ (ss : List Space) (is : List Instance) (s : OptSet) where
       nobody (j ∷ js) i c = contains_none i c
 
   pub told_more : (k : ℕ) (i : Instance) (old new : List Fault) → k < length is → i ≡ get_or is k i
-      → ((f : Fault) → (Contains new f → Contains old f ⊎ IsWide s (items_of ss is) (item_of ss i) f) × (Contains old f ⊎ IsWide s (items_of ss is) (item_of ss i) f → Contains new f))
+      → ((f : Fault) → (Contains new f → Contains old f ⊎ IsWide s xs (item_of ss i) f) × (Contains old f ⊎ IsWide s xs (item_of ss i) f → Contains new f))
       → AreToldOf (take k is) old → AreToldOf (take (k + 1) is) new
   told_more k i old new within at step are f =
       let taken = take_more is k i within ∙ ap (λ z. take k is ++ z ∷ []) (sym at) in (
@@ -219,26 +219,26 @@ module _ (ss : List Space) (is : List Instance) (s : OptSet) where
         (λ t. (step f).1 (elim (Contains-append_cases (take k is) (i ∷ []) t.0 (subst (λ z. Contains z t.0) taken t.1)) [
           | inl d ↦ inl ((are f).1 (t.0, d, t.2))
           | inr d ↦ elim (contains_cases t.0 i [] d) [
-            | inl e ↦ inr (subst (λ (j : Instance). IsWide s (items_of ss is) (item_of ss j) f) (sym e) t.2)
+            | inl e ↦ inr (subst (λ (j : Instance). IsWide s xs (item_of ss j) f) (sym e) t.2)
             | inr n ↦ absurd (contains_none t.0 n)
           ]
         ])),
       )
 
   module _ (k : ℕ) (faults : List Fault) (over : length is ≤ k) (are : AreToldOf (take k is) faults) where
-    pub wide_there : (f : Fault) → Contains faults f → ClassFault s (items_of ss is) f
+    pub wide_there : (f : Fault) → Contains faults f → ClassFault s xs f
     wide_there f c =
         let (i, ci, w) = (are f).0 c in
-        subst (ClassFault s (items_of ss is)) (sym w.told)
+        subst (ClassFault s xs) (sym w.told)
         (wide (item_of ss i) w.at w.name w.rest w.permissions (contains_map (item_of ss) is i (subst (λ z. Contains z i) (take_all k is over) ci)) w.enabled w.keyword w.says w.listed w.wide)
 
-    pub wide_back : (f : Fault) → ClassFault s (items_of ss is) f → Contains faults f
+    pub wide_back : (f : Fault) → ClassFault s xs f → Contains faults f
     wide_back f (wide y at name rest permissions c on keyword says listed big) =
         let (i, ci, e) = from_map (item_of ss) is y c in
         (are (fault_at causes.ClassWide at y.space name)).1 (
           i,
           subst (λ z. Contains z i) (sym (take_all k is over)) ci,
-          subst (λ (z : Item). IsWide s (items_of ss is) z (fault_at causes.ClassWide at y.space name)) (sym e)
+          subst (λ (z : Item). IsWide s xs z (fault_at causes.ClassWide at y.space name)) (sym e)
               (record { at = at; name = name; rest = rest; permissions = permissions; enabled = on; keyword = keyword; says = says; listed = listed; wide = big; told = refl }),
         )
 

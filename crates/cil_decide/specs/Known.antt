@@ -9,7 +9,7 @@ use Rattle.cil_syntax.specs.declared.term.Word.{Word}
 use Rattle.cil_syntax.specs.Terms.{Term}
 use Rattle.cil_names.specs.declared.entry.Entry.{Entry}
 use Rattle.cil_names.specs.declared.instance.Instance.{Instance}
-use Rattle.cil_names.specs.declared.space.Space.{Space}
+use Rattle.cil_blocks.specs.declared.namespaces.Space.{Space}
 use Rattle.cil_names.specs.Declarations.{Declared, Symbol, name_of}
 use Rattle.cil_names.specs.Entries.{AreEntries, is_in, item_of, items_of, scoped}
 use Rattle.cil_macros.specs.Item.{Item, OptSet, words_in}
@@ -17,7 +17,7 @@ use Rattle.cil_syntax.specs.Scopes.{ScopedWord}
 use Rattle.cil_names.specs.Meanings.{meanings, meant}
 use Rattle.cil_names.specs.Numbers.{AreNumbers}
 use Rattle.cil_names.specs.Resolves.{has_permission}
-use Rattle.cil_names.specs.Spaces.{AreSpaces}
+use Rattle.cil_blocks.specs.Namespaces.{AreNamespaces}
 use Rattle.cil_names.specs.Unresolved.{scoped_term}
 use Rattle.cil_decide.specs.declared.known.Known.{Known}
 use Rattle.cil_decide.specs.declared.tables.Class.{Class}
@@ -27,9 +27,9 @@ use Rattle.cil_decide.specs.Members.{StandsFor}
 -- ---- names
 
 -- what is known of the names of instances: their namespaces, their declared names, and the sections that number these
-pub record AreKnown (ss : List Space) (is : List Instance) (es : List Entry) (s : OptSet) (names : Kind → List (List ℕ)) (numbers : List ℕ) : Type 0 where
-  pub spaces : AreSpaces ss
-  pub entries : AreEntries ss is es
+pub record AreKnown (ss : List Space) (xs : List Item) (es : List Entry) (s : OptSet) (names : Kind → List (List ℕ)) (numbers : List ℕ) : Type 0 where
+  pub spaces : AreNamespaces ss
+  pub entries : AreEntries ss xs es
   pub numbered : AreNumbers ss es s names numbers
 
 -- the rows of the classes stand at the numbers of their names, and list the permissions of the classes of these names
@@ -64,7 +64,7 @@ items_in k = items_of k.lookup.spaces.now
 
 -- the instances are those of which this is known, and these are the sections of their names
 abbrev pub IsKnown : Known → List Instance → (Kind → List (List ℕ)) → Type 0
-IsKnown k is names = AreKnown k.lookup.spaces.now is k.lookup.names.now (enabled_in k) names k.numbers.now
+IsKnown k xs names = AreKnown k.lookup.spaces.now xs k.lookup.names.now (enabled_in k) names k.numbers.now
 
 -- a word in the namespaces of these numbers
 abbrev pub word_in_scope : Known → List ℕ → Word → ScopedWord

@@ -27,8 +27,8 @@ impl<'s, 'a> Known<'s, 'a> {
     /// The number of the symbol of this kind for which a word of this meaning stands.
     pub fn number(&self, kind: Kind, meaning: Option<usize>) -> Option<usize>
         requires { has_section kind ≡ true }
-        ensures { (is : List AnInstance) (names : kinds.Kind → List (List ℕ)) (w : ScopedWord) → IsKnown self.now is names → meaning ≡ meant_in self.now w
-            → MatchOption result (StandsForNothing (items_in self.now is) (enabled_in self.now) kind w) (IsNumberFor (items_in self.now is) (enabled_in self.now) kind (names kind) w) }
+        ensures { (xs : List Item) (names : kinds.Kind → List (List ℕ)) (w : ScopedWord) → IsKnown self.now xs names → meaning ≡ meant_in self.now w
+            → MatchOption result (StandsForNothing xs (enabled_in self.now) kind w) (IsNumberFor xs (enabled_in self.now) kind (names kind) w) }
     {
         laws::means_what_it_names();
         let d = meaning?;

@@ -8,7 +8,7 @@ ghost use Rattle.cil_syntax.specs.Reported.{fault_at};
 ghost use Rattle.cil_names.specs.declared.instance.Instance.{Instance as AnInstance};
 ghost use Rattle.cil_names.specs.Entries.{AreEntries, AreOrdered, is_in, item_of, items_of};
 ghost use Rattle.cil_names.specs.Placed.{ArePlaced, IsPlaced};
-ghost use Rattle.cil_names.specs.Spaces.{space_at};
+ghost use Rattle.cil_blocks.specs.Namespaces.{space_at};
 ghost use Rattle.cil_names.specs.Unresolved.{ArePermissions, listed_at};
 ghost use Rattle.cil_decide.specs.Faults.{ClassFault};
 ghost use Rattle.cil_decide.specs.Widths.{IsWide};
@@ -53,9 +53,9 @@ fn push_wide(
 ) -> Result<(), NoMemory>
     requires ordered { AreOrdered lookup.now.spaces.now lookup.now.names.now }
     requires placed { IsPlaced lookup.now.spaces.now instance.now }
-    ensures { OnOk result ((is : List AnInstance) → AreEntries lookup.now.spaces.now is lookup.now.names.now → Contains is instance.now
-        → ArePermissions lookup.now.spaces.now lookup.now.names.now (items_of lookup.now.spaces.now is) permissions.now
-        → (f : AFault) → Contains faults.new.items f ↔ (Contains faults.old.items f ⊎ IsWide (is_in lookup.now.enabled.now) (items_of lookup.now.spaces.now is) (item_of lookup.now.spaces.now instance.now) f)) }
+    ensures { OnOk result ((xs : List Item) → AreEntries lookup.now.spaces.now xs lookup.now.names.now → Contains is instance.now
+        → ArePermissions lookup.now.spaces.now lookup.now.names.now xs permissions.now
+        → (f : AFault) → Contains faults.new.items f ↔ (Contains faults.old.items f ⊎ IsWide (is_in lookup.now.enabled.now) xs (item_of lookup.now.spaces.now instance.now) f)) }
 {
     let Some(name) = wide_class(lookup, permissions, instance) else {
         return Ok(());
@@ -80,10 +80,10 @@ fn wide_class<'a>(
 ) -> Option<DeclaredName<'a>>
     requires ordered { AreOrdered lookup.now.spaces.now lookup.now.names.now }
     requires placed { IsPlaced lookup.now.spaces.now instance.now }
-    ensures { (is : List AnInstance) → AreEntries lookup.now.spaces.now is lookup.now.names.now → Contains is instance.now
-        → ArePermissions lookup.now.spaces.now lookup.now.names.now (items_of lookup.now.spaces.now is) permissions.now
-        → MatchOption result ((f : AFault) → IsWide (is_in lookup.now.enabled.now) (items_of lookup.now.spaces.now is) (item_of lookup.now.spaces.now instance.now) f → ⊥)
-        (λ name. (f : AFault) → IsWide (is_in lookup.now.enabled.now) (items_of lookup.now.spaces.now is) (item_of lookup.now.spaces.now instance.now) f
+    ensures { (xs : List Item) → AreEntries lookup.now.spaces.now xs lookup.now.names.now → Contains is instance.now
+        → ArePermissions lookup.now.spaces.now lookup.now.names.now xs permissions.now
+        → MatchOption result ((f : AFault) → IsWide (is_in lookup.now.enabled.now) xs (item_of lookup.now.spaces.now instance.now) f → ⊥)
+        (λ name. (f : AFault) → IsWide (is_in lookup.now.enabled.now) xs (item_of lookup.now.spaces.now instance.now) f
         ↔ (f ≡ fault_at causes.ClassWide name.at (space_at lookup.now.spaces.now instance.now.place.now.space) name.bytes.now)) }
 {
     if !lookup.enabled.has_all(instance.place.round.as_slice()) {

@@ -8,6 +8,7 @@ pub mod Firsts
 pub mod Fits
 pub mod Instances
 pub mod Item
+pub mod Items
 pub mod Laws
 pub mod Macros
 pub mod Meant

@@ -2,15 +2,19 @@
 
 ghost use Rattle.std.specs.Prelude.{◌≡◌};
 
+use crate::calls::{scope_at, space_at};
 use crate::chain::{Brought, statement_at};
 use crate::declared_names::Declared;
 use crate::entry::Called;
 use crate::meaning::meaning_at;
 use crate::meant::Meant;
 use crate::openings::Opening;
+use crate::placed_word::PlacedWord;
 use crate::scene::Scene;
-use cil_blocks::Spaces;
-use cil_syntax::Word;
+use cil_blocks::{Namespaces, ScopeList, Spaces};
+use cil_modset::NoMemory;
+use cil_syntax::{Statement, Word};
+use std::alloc::Global;
 use std::marker::Model;
 
 /// All that is placed in a program in which nothing is wrong with the blocks and the calls: what stands, and then what each call
@@ -42,16 +46,20 @@ impl<'s, 'p, 'a> Model for Instances<'s, 'p, 'a> {
 }
 
 impl<'s, 'p, 'a> Instances<'s, 'p, 'a> {
-    ghost use Rattle.std.specs.Prelude.{◌≡◌, ◌+◌, ◌<◌, ◌≤◌, Some, length, slice_get};
+    ghost use Rattle.std.specs.Prelude.{◌≡◌, ◌+◌, ◌<◌, ◌≤◌, IfOk, MatchOption, OnOk, Some, length, map, slice_get, true};
     ghost use Rattle.cil_sexpr.specs.Lists.{Lists};
+    ghost use Rattle.cil_syntax.specs.Program.{statement_of};
+    ghost use Rattle.cil_blocks.specs.Entries.{nothing};
+    ghost use Rattle.cil_blocks.specs.Namespaces.{AreNamespaces, IsNumber};
+    ghost use Rattle.cil_macros.specs.Items.{all_placed, item_at, items_in, leaves, namespaces_in, placed_at, scope_by, scoped_by, word_at};
     ghost use Rattle.cil_blocks.specs.InheritFaults.{most_instances};
     ghost use Rattle.cil_blocks.specs.Places.{entries_in};
-    ghost use Rattle.cil_macros.specs.Calls.{IsPlaced, placed_cmp};
+    ghost use Rattle.cil_macros.specs.Calls.{IsPlaced, is_call, placed_cmp};
     ghost use Rattle.cil_macros.specs.Macros.{all_standing};
     ghost use Rattle.cil_blocks.specs.Entries.{statement_at};
     ghost use Rattle.cil_macros.specs.Meant.{meant_term};
     ghost use Rattle.cil_macros.specs.Placed.{Placed, meaning};
-    ghost use Rattle.cil_macros.specs.Walks.{placed_in, written_in};
+    ghost use Rattle.cil_macros.specs.Walks.{IsScope, placed_in, written_in};
 
     /// All that stands, with the statements of the program.
     pub fn spaces(&self) -> &'s Spaces<'p, 'a>
@@ -71,9 +79,86 @@ impl<'s, 'p, 'a> Instances<'s, 'p, 'a> {
 
     /// How many instances there are: at most 1,000,000. Their places count from 0: first what stands, and then what calls bring.
     pub fn len(&self) -> usize
-        ensures { result ≡ length (entries_in self.now.0) + length self.now.1 }
+        ensures places { result ≡ length (entries_in self.now.0) + length self.now.1 }
+        ensures items { result ≡ length (items_in self.now) }
     {
         self.spaces.entries().len() + self.brought.called.len()
+    }
+
+    /// The namespaces in which statements are placed and words are looked up.
+    pub fn namespaces(&self) -> &'s Namespaces<'a>
+        ensures value { result.now ≡ namespaces_in self.now }
+        ensures once { AreNamespaces result.now }
+    {
+        self.spaces.namespaces()
+    }
+
+    /// The statement at a place; none beyond the last place.
+    pub fn statement_there(&self, at: usize) -> Option<&'p Statement<'a>>
+        ensures { MatchOption result ((placed_at self.now at).standing.statement ≡ nothing) (λ s. statement_of s.now ≡ (placed_at self.now at).standing.statement.statement) }
+    {
+        if at >= self.len() {
+            return None;
+        }
+        self.spaces.statements().get(self.statement(at))
+    }
+
+    /// The number of the namespace in which the statement at a place is.
+    pub fn space(&self, at: usize) -> usize
+        ensures { IsNumber (namespaces_in self.now) (item_at self.now at).space result }
+    {
+        if at >= self.len() {
+            return 0;
+        }
+        space_at(self.spaces, &self.brought, at)
+    }
+
+    /// The numbers of the optionals round the statement at a place, the innermost first. Until there are optionals it is in
+    /// none.
+    pub fn round(&self, at: usize) -> &[usize]
+        ensures { result.now ≡ (item_at self.now at).round }
+    {
+        &[]
+    }
+
+    /// Fills a list with the scope of a place: the namespaces in which its words are looked up, by their numbers. It is empty
+    /// where there is no such place.
+    pub fn scope_into(
+        &self,
+        alloc: Global,
+        at: Option<usize>,
+        scope: &mut ScopeList,
+    ) -> Result<(), NoMemory>
+        ensures { OnOk result (IsScope (namespaces_in self.now) (scope_by (all_placed self.now) at) scope.new) }
+    {
+        let Some(place) = at else {
+            scope.clear();
+            return Ok(());
+        };
+        if place >= self.len() {
+            scope.clear();
+            return Ok(());
+        }
+        scope_at(alloc, self.spaces, &self.brought, place, scope)?;
+        Ok(())
+    }
+
+    /// What a word of the statement at a place says there, and where it is looked up.
+    pub fn word(&self, at: usize, word: &Word<'a>) -> PlacedWord<'a>
+        requires { at < length (items_in self.now) }
+        ensures { scoped_by (all_placed self.now) result ≡ word_at self.now at word.now }
+    {
+        let meant = self.meaning(at, word);
+        placed_word(word, &meant)
+    }
+
+    /// The words of the call at a place: that of its macro and, where it is unfolded, its arguments that are looked up. A
+    /// look-up of its body costs a search by halving.
+    pub fn call_words(&self, alloc: Global, at: usize) -> Result<Vec<PlacedWord<'a>>, NoMemory>
+        requires { at < length (items_in self.now) }
+        ensures { IfOk result (λ ws. is_call (item_at self.now at).keyword ≡ true → (item_at self.now at).args ≡ leaves (map (scoped_by (all_placed self.now)) ws.items)) }
+    {
+        call_words_at(alloc, self, at)
     }
 
     /// The number of the statement at a place.

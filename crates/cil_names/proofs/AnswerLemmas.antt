@@ -13,12 +13,12 @@ use Rattle.cil_syntax.specs.Scopes.{Namespace, asked, spaces_asked, ScopedWord}
 use Rattle.std.proofs.Math.Bool.{or-false}
 use Rattle.cil_names.specs.declared.entry.Entry.{Entry}
 use Rattle.cil_names.specs.declared.instance.Instance.{Instance}
-use Rattle.cil_names.specs.declared.space.Space.{Space}
+use Rattle.cil_blocks.specs.declared.namespaces.Space.{Space}
 use Rattle.cil_names.specs.Entries.{AreEntries, AreOrdered, IsAnswer, IsNamed, candidate, candidates_of, is_declared_at, is_declared_in, is_entry_of, items_of, key_cmp, key_of, listed, place_where, rank}
 use Rattle.cil_macros.specs.Item.{OptSet}
 use Rattle.cil_names.specs.Resolves.{found_in, has}
 use Rattle.cil_syntax.specs.Kinds.{is_wanted}
-use Rattle.cil_names.specs.Spaces.{AreSpaces}
+use Rattle.cil_blocks.specs.Namespaces.{AreNamespaces}
 use Rattle.cil_names.proofs.DeclLemmas.{has_as}
 use Rattle.cil_names.proofs.CandidateLemmas.{parts_of, place_is}
 use Rattle.cil_names.proofs.OrderLemmas.{key_total, one_key}
@@ -124,7 +124,7 @@ rank_is signs.Unread kind e = absurd (true≢false (sym e))
 
 -- ---- a name of a namespace is that of one entry
 
-module _ (ss : List Space) (are : AreSpaces ss) (es : List Entry) (ordered : AreOrdered ss es) (name : List ℕ) (sign : Sign) (n : Namespace) where
+module _ (ss : List Space) (are : AreNamespaces ss) (es : List Entry) (ordered : AreOrdered ss es) (name : List ℕ) (sign : Sign) (n : Namespace) where
   same_key : (d e : Entry) → d.space ≡ e.space → d.name ≡ e.name → rank d.kind ≡ rank e.kind → key_of d ≡ key_of e
   same_key d e p q r = λ i. record { space = p i; name = q i; rank = r i }
 
@@ -183,12 +183,12 @@ module _ {X : Type 0} (p : X → Bool) where
 
 -- ---- the answer
 
-module _ (ss : List Space) (are : AreSpaces ss) (is : List Instance) (es : List Entry) (entries : AreEntries ss is es) (s : OptSet) (name : List ℕ) (sign : Sign) where
+module _ (ss : List Space) (are : AreNamespaces ss) (xs : List Item) (es : List Entry) (entries : AreEntries ss xs es) (s : OptSet) (name : List ℕ) (sign : Sign) where
   abbrev known : Namespace → Option ℕ
   known n = candidate ss es name sign n
 
   abbrev there : Namespace → Bool
-  there n = has (items_of ss is) s name sign n
+  there n = has xs s name sign n
 
   abbrev live : ℕ → Bool
   live d = is_declared_at s es d
@@ -224,9 +224,9 @@ module _ (ss : List Space) (are : AreSpaces ss) (is : List Instance) (es : List 
   first_found [] = refl
   first_found (n ∷ ns) = by_known n ns (known n) refl (first_found ns)
 
-module _ (ss : List Space) (are : AreSpaces ss) (is : List Instance) (es : List Entry) (entries : AreEntries ss is es) (s : OptSet) (w : ScopedWord) where
-  name_there : (n : Namespace) (d : ℕ) → found_in (items_of ss is) s w ≡ Some n → candidate ss es (asked w.bytes).name w.sign n ≡ Some d → is_declared_at s es d ≡ true
-      → IsNamed ss is es s w d
+module _ (ss : List Space) (are : AreNamespaces ss) (xs : List Item) (es : List Entry) (entries : AreEntries ss xs es) (s : OptSet) (w : ScopedWord) where
+  name_there : (n : Namespace) (d : ℕ) → found_in xs s w ≡ Some n → candidate ss es (asked w.bytes).name w.sign n ≡ Some d → is_declared_at s es d ≡ true
+      → IsNamed ss xs es s w d
   name_there n d found k l =
       let (x, at, t) = place_is (is_entry_of ss (asked w.bytes).name w.sign n) es d k in
       record {
@@ -240,12 +240,12 @@ module _ (ss : List Space) (are : AreSpaces ss) (is : List Instance) (es : List 
       }
 
   from_found : (r : Option ℕ)
-      → Found ss are is es entries s (asked w.bytes).name w.sign (spaces_asked (asked w.bytes) w.scope) r → IsAnswer ss is es s w r
+      → Found ss are is es entries s (asked w.bytes).name w.sign (spaces_asked (asked w.bytes) w.scope) r → IsAnswer ss xs es s w r
   unfolding found_in
   from_found None none = none
   from_found (Some d) (n, found, k, l) = name_there n d found k l
 
-  pub answer_is : IsAnswer ss is es s w (find (is_declared_at s es) (candidates_of ss es w))
+  pub answer_is : IsAnswer ss xs es s w (find (is_declared_at s es) (candidates_of ss es w))
   unfolding candidates_of
   answer_is = from_found _ (first_found ss are is es entries s (asked w.bytes).name w.sign (spaces_asked (asked w.bytes) w.scope))
 

@@ -11,10 +11,11 @@ use Rattle.cil_syntax.specs.Scopes.{Namespace, names_backwards, same_space}
 use Rattle.std.proofs.lemmas.Option.{same_Some}
 use Rattle.cil_syntax.proofs.DecidedEquality.{spaces_decide}
 use Rattle.cil_names.specs.declared.entry.Entry.{Entry}
-use Rattle.cil_names.specs.declared.space.Space.{Space}
+use Rattle.cil_blocks.specs.declared.namespaces.Space.{Space}
 use Rattle.cil_names.specs.Entries.{AreOrdered, HasNoEntry, IsEntryAt, candidate, is_entry, is_entry_of, place_where, HasNoEntryIn, IsEntryIn}
 use Rattle.cil_syntax.specs.Kinds.{is_wanted}
-use Rattle.cil_names.specs.Spaces.{AreSpaces, HasNoNumber, IsAskedAt, IsAskedNowhere, IsNumber, space_at}
+use Rattle.cil_blocks.specs.Namespaces.{AreNamespaces, HasNoNumber, IsNumber, space_at}
+use Rattle.cil_names.specs.Spaces.{IsAskedAt, IsAskedNowhere}
 use Rattle.cil_names.proofs.EntryLemmas.{parts_fit, they_fit}
 use Rattle.cil_names.proofs.SpaceLemmas.{same_number}
 
@@ -78,7 +79,7 @@ they_are ss name sign n e p q r =
     ∙ ap (λ b. b && is_wanted sign e.kind) ((bytes_decides e.name name).1 q)
     ∙ r
 
-module _ (ss : List Space) (are : AreSpaces ss) (es : List Entry) (ordered : AreOrdered ss es) (name : List ℕ) (sign : Sign) (n : Namespace) where
+module _ (ss : List Space) (are : AreNamespaces ss) (es : List Entry) (ordered : AreOrdered ss es) (name : List ℕ) (sign : Sign) (n : Namespace) where
   within_at : (m : ℕ) (e : Entry) → slice_get es m ≡ Some e → e.space ≤ length ss
   within_at m e at = ordered.within e (get_contains es m e at)
 
@@ -107,7 +108,7 @@ module _ (ss : List Space) (are : AreSpaces ss) (es : List Entry) (ordered : Are
     entry_in_space None none = λ m e at t. none m e at (by_number m e at t)
     entry_in_space (Some d) some = record { entry = some.entry; at = some.at; fits = by_space some.entry some.fits; only = λ m e at t. some.only m e at (by_number m e at t) }
 
-module _ (ss : List Space) (are : AreSpaces ss) (es : List Entry) (ordered : AreOrdered ss es) (sign : Sign) (from : ℕ) (path : List ℕ) where
+module _ (ss : List Space) (are : AreNamespaces ss) (es : List Entry) (ordered : AreOrdered ss es) (sign : Sign) (from : ℕ) (path : List ℕ) where
   pub nowhere : IsAskedNowhere ss from path → (name : List ℕ) (inner : List (List ℕ)) → names_backwards path ≡ name ∷ inner
       → None ≡ candidate ss es name sign (inner ++ space_at ss from)
   nowhere none name inner e = no_space ss are es ordered name sign (inner ++ space_at ss from) (none name inner e)

@@ -11,7 +11,7 @@ use Rattle.cil_syntax.specs.Scopes.{Namespace, same_space}
 use Rattle.cil_syntax.proofs.DecidedEquality.{spaces_decide}
 use Rattle.cil_names.specs.declared.entry.Entry.{Entry}
 use Rattle.cil_names.specs.declared.instance.Instance.{Instance}
-use Rattle.cil_names.specs.declared.space.Space.{Space}
+use Rattle.cil_blocks.specs.declared.namespaces.Space.{Space}
 use Rattle.cil_names.specs.Declarations.{Declaration, IsDeclaration, by, declared_by, object, object_role}
 use Rattle.cil_names.specs.Entries.{AreEntries, is_declared_in, is_entry_of, items_of}
 use Rattle.cil_macros.specs.Item.{Item, OptSet, is_enabled}
@@ -40,13 +40,13 @@ module _ (xs : List Item) (s : OptSet) (name : List ℕ) (sign : Sign) (n : Name
       (any_from (λ y. is_enabled s y && list_any (fits name sign n) (declared_by y)) xs x c
       (and_from (is_enabled s x) (list_any (fits name sign n) (declared_by x)) is_on (any_from (fits name sign n) (declared_by x) d by_it h)))
 
-module _ (ss : List Space) (is : List Instance) (es : List Entry) (entries : AreEntries ss is es) (s : OptSet) (name : List ℕ) (sign : Sign) (n : Namespace) where
+module _ (ss : List Space) (xs : List Item) (es : List Entry) (entries : AreEntries ss xs es) (s : OptSet) (name : List ℕ) (sign : Sign) (n : Namespace) where
   abbrev both : Entry → Bool
   both e = is_entry_of ss name sign n e && is_declared_in s e
 
-  there : has (items_of ss is) s name sign n ≡ true → list_any both es ≡ true
+  there : has xs s name sign n ≡ true → list_any both es ≡ true
   there h =
-      let (d, is_d, f) = has_true (items_of ss is) s name sign n h in
+      let (d, is_d, f) = has_true xs s name sign n h in
       let (front, spaced) = and_parts (same_bytes d.name name && is_wanted sign d.kind) (same_space d.space n) f in
       let (named, wanted) = and_parts (same_bytes d.name name) (is_wanted sign d.kind) front in
       let (i, e) = entries.each s d is_d in
@@ -55,17 +55,17 @@ module _ (ss : List Space) (is : List Instance) (es : List Entry) (entries : Are
       (they_are ss name sign n e.entry (e.in_space ∙ (spaces_decide d.space n).0 spaced) (e.of_name ∙ (bytes_decides d.name name).0 named) (ap (is_wanted sign) e.of_kind ∙ wanted))
       e.live)
 
-  back : list_any both es ≡ true → has (items_of ss is) s name sign n ≡ true
+  back : list_any both es ≡ true → has xs s name sign n ≡ true
   back h =
       let (e, c, f) = any_true both es h in
       let (fits_it, live) = and_parts (is_entry_of ss name sign n e) (is_declared_in s e) f in
       let (space, named, wanted) = parts_of ss name sign n e fits_it in
       let (i, below_i, at) = get_at es e c in
       let (d, is_d, k, m, l) = entries.only s i e at live in
-      has_from (items_of ss is) s name sign n d is_d
+      has_from xs s name sign n d is_d
       (and_from (same_bytes d.name name && is_wanted sign d.kind) (same_space d.space n)
       (and_from (same_bytes d.name name) (is_wanted sign d.kind) ((bytes_decides d.name name).1 (l ∙ named)) (ap (is_wanted sign) k ∙ wanted))
       ((spaces_decide d.space n).1 (m ∙ space)))
 
-  pub has_as : has (items_of ss is) s name sign n ≡ list_any both es
+  pub has_as : has xs s name sign n ≡ list_any both es
   has_as = same_truth _ _ there back

@@ -18,7 +18,7 @@ use Rattle.cil_syntax.specs.Terms.{Leaf, Name, Form, Terms, nil, cons}
 use Rattle.cil_names.specs.declared.instance.Instance.{Instance}
 use Rattle.cil_names.specs.declared.row.Row.{Row}
 use Rattle.cil_names.specs.declared.run.Run.{Run}
-use Rattle.cil_names.specs.declared.space.Space.{Space}
+use Rattle.cil_blocks.specs.declared.namespaces.Space.{Space}
 use Rattle.cil_names.specs.DeclareRuns.{AreRuns, rows_in}
 use Rattle.cil_names.specs.Declarations.{Declaration, IsDeclaration, by, content_of, declarations, declared_by, object, object_role}
 use Rattle.cil_names.specs.DeclareRows.{IsPlacedRow, all_rows, behind, content_at, declaration_of, is_row_enabled, object_row, round_at, rows_by, rows_named}
@@ -26,7 +26,7 @@ use Rattle.cil_names.specs.Entries.{item_of, items_of, scoped}
 use Rattle.cil_macros.specs.Item.{OptSet, all_replaced, is_enabled}
 use Rattle.cil_syntax.specs.Scopes.{ScopedWord}
 use Rattle.cil_names.specs.Placed.{ArePlaced, IsPlaced}
-use Rattle.cil_names.specs.Spaces.{AreSpaces, space_at}
+use Rattle.cil_blocks.specs.Namespaces.{AreNamespaces, space_at}
 use Rattle.cil_names.proofs.SpaceLemmas.{global_at}
 
 -- ---- the rows of one instance are its declarations
@@ -94,7 +94,7 @@ module _ (ss : List Space) (i : Instance) where
 pub row_enabled : (s : OptSet) (i : Instance) (ss : List Space) (r : Row) → r.instance ≡ Some i → is_row_enabled s r ≡ is_enabled s (item_of ss i)
 row_enabled s i ss r e = ap (λ o. list_all s (round_at o)) e
 
-module _ (ss : List Space) (spaces : AreSpaces ss) (is : List Instance) where
+module _ (ss : List Space) (spaces : AreNamespaces ss) (xs : List Item) where
   pub object_declares : declaration_of ss object_row ≡ object_role
   object_declares = λ j. record { kind = kinds.Role; space = global_at ss spaces j; name = codes "object_r"; content = nil }
 
@@ -118,7 +118,7 @@ module _ (ss : List Space) (spaces : AreSpaces ss) (is : List Instance) where
       in_place : (r : Row) (i : Instance) → r.instance ≡ Some i → r.space ≡ i.place.now.space → IsPlaced ss i → IsPlacedRow ss r
       in_place r i e f p = at_instance r.space r.name r.kind r.instance i e f p
 
-  pub declared_row : (s : OptSet) (d : Declaration) → IsDeclaration (items_of ss is) s d
+  pub declared_row : (s : OptSet) (d : Declaration) → IsDeclaration xs s d
       → (r : Row) × Contains (all_rows is) r × (declaration_of ss r ≡ d) × (is_row_enabled s r ≡ true)
   declared_row s d object = (object_row, contains_here object_row (flat_map rows_by is), object_declares, refl)
   declared_row s d (by x e c on f) =
@@ -131,9 +131,9 @@ module _ (ss : List Space) (spaces : AreSpaces ss) (is : List Instance) where
         row_enabled s i ss r of.instance ∙ ap (is_enabled s) same ∙ on,
       )
 
-  pub row_declared : (s : OptSet) (r : Row) → Contains (all_rows is) r → is_row_enabled s r ≡ true → IsDeclaration (items_of ss is) s (declaration_of ss r)
+  pub row_declared : (s : OptSet) (r : Row) → Contains (all_rows is) r → is_row_enabled s r ≡ true → IsDeclaration xs s (declaration_of ss r)
   row_declared s r c on = elim (row_is r c) [
-    | inl e ↦ subst (IsDeclaration (items_of ss is) s) (sym (ap (declaration_of ss) e ∙ object_declares)) object
+    | inl e ↦ subst (IsDeclaration xs s) (sym (ap (declaration_of ss) e ∙ object_declares)) object
     | inr from ↦
         let (i, in_is, in_i) = from in
         let of = row_of ss i r in_i in
@@ -143,13 +143,13 @@ module _ (ss : List Space) (spaces : AreSpaces ss) (is : List Instance) where
 -- ---- the rows of runs
 
 -- the runs are those of the rows of all instances
-pub record AreRunsOf (ss : List Space) (is : List Instance) (rows : List Row) (runs : List Run) : Type 0 where
-  pub spaces : AreSpaces ss
+pub record AreRunsOf (ss : List Space) (xs : List Item) (rows : List Row) (runs : List Run) : Type 0 where
+  pub spaces : AreNamespaces ss
   pub placed : ArePlaced ss is
   pub all : IsPermutation (all_rows is) rows
   pub are : AreRuns ss rows runs
 
-module _ (ss : List Space) (is : List Instance) (rows : List Row) (runs : List Run) (of : AreRunsOf ss is rows runs) where
+module _ (ss : List Space) (xs : List Item) (rows : List Row) (runs : List Run) (of : AreRunsOf ss is rows runs) where
   pub in_rows : (run : Run) (r : Row) → Contains runs run → Contains run.rows.now r → Contains (all_rows is) r
   in_rows run r c d =
       Contains-permutation rows (all_rows is) r (IsPermutation-sym (all_rows is) rows of.all)
@@ -168,9 +168,9 @@ space_within ss r = at r.instance
     at None p = p
     at (Some i) p = let stands = p.0.stands in let same = p.1 in omega (arith, stands, same)
 
-pub gathered : (ss : List Space) (is : List Instance) (given sorted rows : List Row) (runs : List Run) → AreSpaces ss → ArePlaced ss is → given ≡ all_rows is
+pub gathered : (ss : List Space) (xs : List Item) (given sorted rows : List Row) (runs : List Run) → AreNamespaces ss → ArePlaced ss is → given ≡ all_rows is
     → IsPermutation given sorted → rows ≡ sorted
-    → ((zs : List Space) → AreSpaces zs → ((r : Row) → Contains rows r → IsPlacedRow zs r) → AreRuns zs rows runs) → AreRunsOf ss is rows runs
+    → ((zs : List Space) → AreNamespaces zs → ((r : Row) → Contains rows r → IsPlacedRow zs r) → AreRuns zs rows runs) → AreRunsOf ss is rows runs
 gathered ss is given sorted rows runs spaces placed e moved same are =
     let all : IsPermutation (all_rows is) rows = subst (IsPermutation (all_rows is)) (sym same) (subst (λ z. IsPermutation z sorted) e moved) in
     record {

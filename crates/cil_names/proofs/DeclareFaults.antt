@@ -20,7 +20,7 @@ use Rattle.cil_syntax.specs.Reported.{fault_at}
 use Rattle.cil_names.specs.declared.instance.Instance.{Instance}
 use Rattle.cil_names.specs.declared.row.Row.{Row}
 use Rattle.cil_names.specs.declared.run.Run.{Run}
-use Rattle.cil_names.specs.declared.space.Space.{Space}
+use Rattle.cil_blocks.specs.declared.namespaces.Space.{Space}
 use Rattle.cil_names.specs.Declarations.{Declaration, declared_by, name_space}
 use Rattle.cil_names.specs.DeclareRows.{TellsDiffering, all_rows, declaration_of, is_row_enabled, object_row, round_at, row_key, rows_by, rows_named}
 use Rattle.cil_names.specs.DeclareRuns.{faults_at, faults_named, row_faults, run_faults, run_key}
@@ -28,7 +28,7 @@ use Rattle.cil_names.specs.Entries.{Key, item_of, items_of, key_cmp, rank}
 use Rattle.cil_names.specs.Faults.{ClashFault, clash}
 use Rattle.cil_macros.specs.Item.{Item, all_replaced, everybody}
 use Rattle.cil_syntax.specs.Scopes.{ScopedWord}
-use Rattle.cil_names.specs.Spaces.{space_at}
+use Rattle.cil_blocks.specs.Namespaces.{space_at}
 use Rattle.cil_names.proofs.DeclareDecided.{name_space_at, rank_from, ranked_back, same_declaration}
 use Rattle.cil_names.proofs.DeclareDone.{AreRunsOf, declared_row, in_rows, of_row, placed_in, row_declared, row_is, row_of, run_of, said, space_within}
 use Rattle.cil_names.proofs.OrderLemmas.{key_total, one_key}
@@ -115,7 +115,7 @@ alike_of : (ss : List Space) (first : Row) (rows : List Row) (b : Bool) → b �
     → declaration_of ss first ≡ declaration_of ss r
 alike_of ss first rows b e tells = subst (TellsDiffering ss first rows) e tells
 
-module _ (ss : List Space) (is : List Instance) (rows : List Row) (runs : List Run) (of : AreRunsOf ss is rows runs) where
+module _ (ss : List Space) (xs : List Item) (rows : List Row) (runs : List Run) (of : AreRunsOf ss is rows runs) where
   -- what differs from one row of a run with rows that differ
   other_of : (run : Run) → Contains runs run → run.differing ≡ true → (r : Row) → Contains run.rows.now r
       → (x : Row) × Contains run.rows.now x × (declaration_of ss r ≡ declaration_of ss x → ⊥)
@@ -128,7 +128,7 @@ module _ (ss : List Space) (is : List Instance) (rows : List Row) (runs : List R
       ]
 
   clash_of : (run : Run) → Contains runs run → run.differing ≡ true → (r : Row) → Contains run.rows.now r → (i : Instance) → Contains is i
-      → (c : Contains (rows_by i) r) → (by_name : IsNamedBy i r) → ClashFault (items_of ss is) (fault_of ss i r c by_name)
+      → (c : Contains (rows_by i) r) → (by_name : IsNamedBy i r) → ClashFault xs (fault_of ss i r c by_name)
   clash_of run in_runs d r in_run i in_is c by_name =
       let (x, in_x, apart) = other_of run in_runs d r in_run in
       let same_as = (of.are.each run in_runs).same in
@@ -144,7 +144,7 @@ module _ (ss : List Space) (is : List Instance) (rows : List Row) (runs : List R
       })
 
   told_in : (run : Run) → Contains runs run → (b : Bool) → run.differing ≡ b → (f : Fault) → Contains (if b then flat_map (row_faults ss) run.rows.now else []) f
-      → ClashFault (items_of ss is) f
+      → ClashFault xs f
   told_in run c false e f d = absurd (contains_none f d)
   told_in run c true e f d =
       let (r, in_run, told) = from_flat (row_faults ss) run.rows.now f d in
@@ -154,12 +154,12 @@ module _ (ss : List Space) (is : List Instance) (rows : List Row) (runs : List R
             let (i, in_is, by_i) = from in
             let named = named_by i r by_i in
             elim (contains_cases f (fault_of ss i r by_i named) [] (subst (λ fs. Contains fs f) (faults_are ss i r by_i named) told)) [
-              | inl same ↦ subst (ClashFault (items_of ss is)) same (clash_of run c e r in_run i in_is by_i named)
+              | inl same ↦ subst (ClashFault xs) same (clash_of run c e r in_run i in_is by_i named)
               | inr none ↦ absurd (contains_none f none)
             ]
       ]
 
-  pub clash_there : (f : Fault) → Contains (flat_map (run_faults ss) runs) f → ClashFault (items_of ss is) f
+  pub clash_there : (f : Fault) → Contains (flat_map (run_faults ss) runs) f → ClashFault xs f
   unfolding run_faults
   clash_there f c = let (run, in_runs, told) = from_flat (run_faults ss) runs f c in told_in run in_runs run.differing refl f told
 
@@ -202,7 +202,7 @@ module _ (ss : List Space) (is : List Instance) (rows : List Row) (runs : List R
   same_front : (at bt : Spot) (m n : List ℕ) (ts us : Terms ScopedWord) → cons (Name at m) ts ≡ cons (Name bt n) us → (at ≡ bt) × (m ≡ n)
   same_front at bt m n ts us e = (ap (λ t. (front_or (at, m) t).0) e, ap (λ t. (front_or (at, m) t).1) e)
 
-  pub clash_back : (f : Fault) → ClashFault (items_of ss is) f → Contains (flat_map (run_faults ss) runs) f
+  pub clash_back : (f : Fault) → ClashFault xs f → Contains (flat_map (run_faults ss) runs) f
   clash_back f (clash x at name rest d e in_items says by_x declared apart) =
       let (i, in_is, same) = from_map (item_of ss) is x in_items in
       let (r, by_i, is_d) = of_row ss i d (subst (λ y. Contains (declared_by y) d) (sym same) by_x) in

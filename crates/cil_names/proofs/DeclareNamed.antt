@@ -15,13 +15,13 @@ use Rattle.cil_names.specs.declared.entry.Entry.{Entry}
 use Rattle.cil_names.specs.declared.instance.Instance.{Instance}
 use Rattle.cil_names.specs.declared.row.Row.{Row}
 use Rattle.cil_names.specs.declared.run.Run.{Run}
-use Rattle.cil_names.specs.declared.space.Space.{Space}
+use Rattle.cil_blocks.specs.declared.namespaces.Space.{Space}
 use Rattle.cil_names.specs.Declarations.{Declaration, IsDeclaration}
 use Rattle.cil_names.specs.DeclareRows.{TellsDiffering, declaration_of, is_row_enabled, round_at}
 use Rattle.cil_names.specs.DeclareRuns.{Said, entry_of_run, is_always, has_none, listed_unless, rounds_by, run_key, said_by}
 use Rattle.cil_names.specs.Entries.{AreEntries, IsEntryFor, Key, is_declared_in, items_of, key_cmp, key_of, rank}
 use Rattle.cil_macros.specs.Item.{OptSet, everybody}
-use Rattle.cil_names.specs.Spaces.{space_at}
+use Rattle.cil_blocks.specs.Namespaces.{space_at}
 use Rattle.cil_names.proofs.DeclareFaults.{all_enabled}
 use Rattle.cil_names.proofs.DeclareDone.{AreRunsOf, declared_row, in_rows, placed_in, row_declared, run_of, space_within}
 
@@ -119,12 +119,12 @@ all_one : (ss : List Space) (first : Row) (rows : List Row) (b : Bool) → b ≡
     → declaration_of ss first ≡ declaration_of ss r
 all_one ss first rows b is tells = subst (TellsDiffering ss first rows) is tells
 
-module _ (ss : List Space) (is : List Instance) (rows : List Row) (runs : List Run) (of : AreRunsOf ss is rows runs)
+module _ (ss : List Space) (xs : List Item) (rows : List Row) (runs : List Run) (of : AreRunsOf ss is rows runs)
     (clean : (run : Run) → Contains runs run → run.differing ≡ false) (es : List Entry) (says : map said_by es ≡ map entry_of_run runs) where
   one : (run : Run) → Contains runs run → (r : Row) → Contains run.rows.now r → declaration_of ss run.first.now ≡ declaration_of ss r
   one run c = all_one ss run.first.now run.rows.now run.differing (clean run c) (of.are.each run c).tells
 
-  named_each : (s : OptSet) (d : Declaration) → IsDeclaration (items_of ss is) s d → (i : ℕ) × IsEntryFor ss es s d.kind d.space d.name i
+  named_each : (s : OptSet) (d : Declaration) → IsDeclaration xs s d → (i : ℕ) × IsEntryFor ss es s d.kind d.space d.name i
   named_each s d declared =
       let (r, in_all, same, enabled) = declared_row ss of.spaces is s d declared in
       let (run, in_runs, in_run) = run_of ss is rows runs of r in_all in
@@ -142,7 +142,7 @@ module _ (ss : List Space) (is : List Instance) (rows : List Row) (runs : List R
       )
 
   named_only : (s : OptSet) (i : ℕ) (e : Entry) → slice_get es i ≡ Some e → is_declared_in s e ≡ true
-      → (d : Declaration) × IsDeclaration (items_of ss is) s d × (d.kind ≡ e.kind) × (d.space ≡ space_at ss e.space) × (d.name ≡ e.name)
+      → (d : Declaration) × IsDeclaration xs s d × (d.kind ≡ e.kind) × (d.space ≡ space_at ss e.space) × (d.name ≡ e.name)
   named_only s i e at live =
       let (run, in_runs, said) = run_for es runs says i e at in
       let (r, in_run, enabled) = any_true (is_row_enabled s) run.rows.now (sym (lives_in s e run said) ∙ live) in
@@ -167,5 +167,5 @@ module _ (ss : List Space) (is : List Instance) (rows : List Row) (runs : List R
       let within = space_within ss run.first.now (placed_in ss is rows runs of run run.first.now in_runs (of.are.each run in_runs).first) in
       subst (λ k. k ≤ length ss) (sym (ap (λ (z : Said). z.space) said)) within
 
-  pub are_named : AreEntries ss is es
+  pub are_named : AreEntries ss xs es
   are_named = record { ordered = record { rising = entries_rise es runs says of.are.rising; within = stands_within }; each = named_each; only = named_only; used = named_used }

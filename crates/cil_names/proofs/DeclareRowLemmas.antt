@@ -17,12 +17,12 @@ use Rattle.cil_syntax.specs.Terms.{Leaf, Name, Form, Terms, nil, cons}
 use Rattle.cil_syntax.specs.Scopes.{Scope}
 use Rattle.cil_names.specs.declared.instance.Instance.{Instance}
 use Rattle.cil_names.specs.declared.row.Row.{Row}
-use Rattle.cil_names.specs.declared.space.Space.{Space}
+use Rattle.cil_blocks.specs.declared.namespaces.Space.{Space}
 use Rattle.cil_names.specs.Declarations.{Declaration, content_of}
 use Rattle.cil_names.specs.DeclareRows.{IsPlacedRow, bare_terms, behind, content_at, declaration_of, row_key, rows_by, rows_named, scope_numbers, terms_behind}
 use Rattle.cil_names.specs.Entries.{Key, scope_of, scoped}
 use Rattle.cil_macros.specs.Item.{all_replaced}
-use Rattle.cil_names.specs.Spaces.{AreSpaces, space_at}
+use Rattle.cil_blocks.specs.Namespaces.{AreNamespaces, space_at}
 use Rattle.cil_names.proofs.DeclareContents.{Tells}
 use Rattle.cil_names.proofs.SpaceLemmas.{same_number}
 
@@ -95,7 +95,7 @@ numbers_within ss r = by r.instance
     by None placed = λ k d h. absurd (omega (arith, h))
     by (Some i) placed = placed.0.asks
 
-module _ (ss : List Space) (spaces : AreSpaces ss) where
+module _ (ss : List Space) (spaces : AreNamespaces ss) where
   -- the namespaces of numbers are the same where the numbers are
   one_scope : (m n : List ℕ) → All (λ k. k ≤ length ss) m → All (λ k. k ≤ length ss) n → scope_of ss m ≡ scope_of ss n → m ≡ n
   one_scope [] [] p q e = refl

@@ -17,11 +17,11 @@ use Rattle.cil_sexpr.specs.Lists.{contains_here, contains_later, contains_cases,
 use Rattle.cil_sexpr.specs.Places.{in_drop, in_take}
 use Rattle.cil_names.specs.declared.row.Row.{Row}
 use Rattle.cil_names.specs.declared.run.Run.{Run}
-use Rattle.cil_names.specs.declared.space.Space.{Space}
+use Rattle.cil_blocks.specs.declared.namespaces.Space.{Space}
 use Rattle.cil_names.specs.DeclareRows.{IsPlacedRow, row_key}
 use Rattle.cil_names.specs.DeclareRuns.{AreRuns, IsNextRun, IsRun, rows_in, run_key}
 use Rattle.cil_names.specs.Entries.{Key, key_cmp}
-use Rattle.cil_names.specs.Spaces.{AreSpaces}
+use Rattle.cil_blocks.specs.Namespaces.{AreNamespaces}
 use Rattle.cil_names.proofs.OrderLemmas.{key_total, one_key}
 
 -- ---- the first items of a list, and the others
@@ -155,7 +155,7 @@ pub no_runs : (ss : List Space) (rows : List Row) → AreRunsUpTo ss rows [] 0
 unfolding IsStrictlySortedBy
 no_runs ss rows = record { whole = refl; rising = tt; below = λ run c r d. absurd (contains_none run c); each = λ run c. absurd (contains_none run c) }
 
-module _ (ss : List Space) (spaces : AreSpaces ss) (rows : List Row) (placed : (r : Row) → Contains rows r → IsPlacedRow ss r) where
+module _ (ss : List Space) (spaces : AreNamespaces ss) (rows : List Row) (placed : (r : Row) → Contains rows r → IsPlacedRow ss r) where
   pub next_run : (runs more : List Run) (run : Run) (start : ℕ) → IsNextRun rows start run → AreRunsUpTo ss rows runs start → more ≡ runs ++ run ∷ []
       → AreRunsUpTo ss rows more (start + length run.rows.now)
   next_run runs more run start next up e =

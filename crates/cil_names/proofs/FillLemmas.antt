@@ -11,13 +11,13 @@ use Rattle.cil_syntax.specs.declared.fault.Fault.{Fault}
 use Rattle.cil_syntax.specs.Reported.{fault_at}
 use Rattle.cil_syntax.specs.Scopes.{Namespace}
 use Rattle.cil_names.specs.declared.instance.Instance.{Instance}
-use Rattle.cil_names.specs.declared.space.Space.{Space}
+use Rattle.cil_blocks.specs.declared.namespaces.Space.{Space}
 use Rattle.cil_names.specs.Entries.{item_of, items_of}
 use Rattle.cil_names.specs.Faults.{ResolveFault, unresolved}
 use Rattle.cil_macros.specs.Item.{Item, OptSet}
 use Rattle.cil_names.specs.Placed.{IsPlaced}
 use Rattle.cil_names.specs.Resolves.{Wanted, is_judged, resolves, told_word, words_of}
-use Rattle.cil_names.specs.Spaces.{space_at}
+use Rattle.cil_blocks.specs.Namespaces.{space_at}
 use Rattle.cil_names.specs.Unresolved.{fault_of_word, faults_in, faults_of_all, faults_of_wanted, is_outside}
 use Rattle.cil_names.proofs.ScopeLemmas.{passed_on}
 
@@ -48,36 +48,36 @@ module _ (xs : List Item) (s : OptSet) (n : Namespace) (w : Wanted) where
       subst (λ b. Contains (if b then fault_of_word n (told_word w) ∷ [] else []) (fault_of_word n (told_word w)))
       (sym (and_from (is_judged xs s w) (not (resolves xs s w)) judged (ap not missing))) (contains_here (fault_of_word n (told_word w)) [])
 
-module _ (ss : List Space) (is : List Instance) (s : OptSet) where
+module _ (ss : List Space) (xs : List Item) (s : OptSet) where
   abbrev of_words : Instance → List Fault
-  of_words i = faults_of_all (items_of ss is) s (space_at ss i.place.now.space) (words_of (item_of ss i))
+  of_words i = faults_of_all xs s (space_at ss i.place.now.space) (words_of (item_of ss i))
 
   abbrev told : Instance → List Fault
-  told i = faults_in (items_of ss is) s ss i
+  told i = faults_in xs s ss i
 
-  pub all_there : (f : Fault) → Contains (flat_map told is) f → ResolveFault s (items_of ss is) f
+  pub all_there : (f : Fault) → Contains (flat_map told is) f → ResolveFault s xs f
   all_there f c =
       let (i, ci, ti) = from_flat told is f c in
       elim (cases_Bool (is_outside i.place.now.round.items)) [
         | inl t ↦
-            let (w, cw, tw) = from_flat (faults_of_wanted (items_of ss is) s (space_at ss i.place.now.space)) (words_of (item_of ss i)) f (subst (λ b. Contains (if b then of_words i else []) f) t ti) in
-            let (judged, missing, same) = told_from (items_of ss is) s (space_at ss i.place.now.space) w f tw in
-            subst (ResolveFault s (items_of ss is)) (sym same)
+            let (w, cw, tw) = from_flat (faults_of_wanted xs s (space_at ss i.place.now.space)) (words_of (item_of ss i)) f (subst (λ b. Contains (if b then of_words i else []) f) t ti) in
+            let (judged, missing, same) = told_from xs s (space_at ss i.place.now.space) w f tw in
+            subst (ResolveFault s xs) (sym same)
             (unresolved (item_of ss i) w (contains_map (item_of ss) is i ci) (outside_is i.place.now.round.items t) cw judged missing)
         | inr e ↦ absurd (contains_none f (subst (λ b. Contains (if b then of_words i else []) f) e ti))
       ]
 
-  pub all_back : (f : Fault) → ResolveFault s (items_of ss is) f → Contains (flat_map told is) f
+  pub all_back : (f : Fault) → ResolveFault s xs f → Contains (flat_map told is) f
   all_back f (unresolved x w c round asks judged missing) =
       let (i, ci, same) = from_map (item_of ss) is x c in
       contains_flat told is i _ ci
       (subst (λ b. Contains (if b then of_words i else []) (fault_at causes.Unresolved (told_word w).at x.space (told_word w).bytes))
       (sym (ap is_outside (ap (λ (y : Item). y.round) same ∙ round)))
-      (contains_flat (faults_of_wanted (items_of ss is) s (space_at ss i.place.now.space)) (words_of (item_of ss i)) w _ (subst (λ y. Contains (words_of y) w) (sym same) asks)
-      (subst (λ (y : Item). Contains (faults_of_wanted (items_of ss is) s (space_at ss i.place.now.space) w) (fault_at causes.Unresolved (told_word w).at y.space (told_word w).bytes)) same
-      (told_to (items_of ss is) s (space_at ss i.place.now.space) w judged missing))))
+      (contains_flat (faults_of_wanted xs s (space_at ss i.place.now.space)) (words_of (item_of ss i)) w _ (subst (λ y. Contains (words_of y) w) (sym same) asks)
+      (subst (λ (y : Item). Contains (faults_of_wanted xs s (space_at ss i.place.now.space) w) (fault_at causes.Unresolved (told_word w).at y.space (told_word w).bytes)) same
+      (told_to xs s (space_at ss i.place.now.space) w judged missing))))
 
-pub placed_at : (ss : List Space) (is : List Instance) → ((i : Instance) → Contains is i → IsPlaced ss i) → (k : ℕ) (i : Instance) → k < length is → i ≡ get_or is k i → IsPlaced ss i
+pub placed_at : (ss : List Space) (xs : List Item) → ((i : Instance) → Contains is i → IsPlaced ss i) → (k : ℕ) (i : Instance) → k < length is → i ≡ get_or is k i → IsPlaced ss i
 placed_at ss is placed k i within e = placed i (contains_at is k i i within e)
 
 -- one more instance was checked

@@ -16,7 +16,7 @@ use Rattle.cil_syntax.proofs.DecidedEquality.{spaces_decide}
 use Rattle.cil_names.proofs.DeclareDecided.{symbol_by}
 use Rattle.cil_names.specs.declared.entry.Entry.{Entry}
 use Rattle.cil_names.specs.declared.instance.Instance.{Instance}
-use Rattle.cil_names.specs.declared.space.Space.{Space}
+use Rattle.cil_blocks.specs.declared.namespaces.Space.{Space}
 use Rattle.cil_names.specs.Declarations.{Symbol, by, declared_by}
 use Rattle.cil_names.specs.Entries.{AreEntries, HasNoEntry, IsAnswer, IsEntryAt, IsNamed, items_of}
 use Rattle.cil_macros.specs.Item.{OptSet, is_enabled, nobody}
@@ -24,26 +24,26 @@ use Rattle.cil_names.specs.Numbers.{symbol_of}
 use Rattle.cil_names.specs.PermissionWords.{has_permission_at}
 use Rattle.cil_names.specs.Resolves.{Permission as APermission, fits, found_in, gives_permission, has_permission, listed_permissions, resolves}
 use Rattle.cil_syntax.specs.Kinds.{is_wanted}
-use Rattle.cil_names.specs.Spaces.{AreSpaces, space_at}
+use Rattle.cil_blocks.specs.Namespaces.{AreNamespaces, space_at}
 use Rattle.cil_names.specs.Unresolved.{ArePermissions, listed_at}
 use Rattle.cil_names.proofs.CandidateLemmas.{parts_of}
 use Rattle.cil_names.proofs.EntryLemmas.{parts_fit, they_fit}
 use Rattle.cil_names.proofs.SpaceLemmas.{same_number}
 
 -- an answer tells whether the word is found
-pub answered_found : (ss : List Space) (is : List Instance) (es : List Entry) (s : OptSet) (w : ScopedWord) (r : Option ℕ) → IsAnswer ss is es s w r
-    → is_some r ≡ is_some (found_in (items_of ss is) s w)
+pub answered_found : (ss : List Space) (xs : List Item) (es : List Entry) (s : OptSet) (w : ScopedWord) (r : Option ℕ) → IsAnswer ss xs es s w r
+    → is_some r ≡ is_some (found_in xs s w)
 answered_found ss is es s w None none = ap is_some (sym none)
 answered_found ss is es s w (Some d) named = ap is_some (sym named.found)
 
-module _ (ss : List Space) (are : AreSpaces ss) (is : List Instance) (es : List Entry) (entries : AreEntries ss is es) where
+module _ (ss : List Space) (are : AreNamespaces ss) (xs : List Item) (es : List Entry) (entries : AreEntries ss xs es) where
   -- a permission is given to a class that is declared
-  no_class : (k : ℕ) (name : List ℕ) → k ≤ length ss → HasNoEntry es name signs.Classes k → (p : List ℕ) → has_permission (items_of ss is) (record { space = space_at ss k; name = name }) p ≡ false
+  no_class : (k : ℕ) (name : List ℕ) → k ≤ length ss → HasNoEntry es name signs.Classes k → (p : List ℕ) → has_permission xs (record { space = space_at ss k; name = name }) p ≡ false
   unfolding has_permission
   no_class k name within none p =
-      elim (cases_Bool (list_any (gives_permission (record { space = space_at ss k; name = name }) p) (items_of ss is))) [
+      elim (cases_Bool (list_any (gives_permission (record { space = space_at ss k; name = name }) p) xs)) [
         | inl t ↦
-            let (x, cx, gives) = any_true (gives_permission (record { space = space_at ss k; name = name }) p) (items_of ss is) t in
+            let (x, cx, gives) = any_true (gives_permission (record { space = space_at ss k; name = name }) p) xs t in
             let (front, lists) = and_parts (is_enabled nobody x && list_any (fits name signs.Classes (space_at ss k)) (declared_by x)) (list_any (same_bytes p) (listed_permissions x.args)) gives in
             let (on, some) = and_parts (is_enabled nobody x) (list_any (fits name signs.Classes (space_at ss k)) (declared_by x)) front in
             let (d, cd, fit) = any_true (fits name signs.Classes (space_at ss k)) (declared_by x) some in
@@ -61,24 +61,24 @@ module _ (ss : List Space) (are : AreSpaces ss) (is : List Instance) (es : List 
 
   -- the class of the name of an entry
   module _ (d : ℕ) (e : Entry) (at : slice_get es d ≡ Some e) (p : List ℕ) where
-    has_of : has_permission_at ss es (items_of ss is) p d ≡ has_permission (items_of ss is) (symbol_of ss e) p
-    has_of = ap (λ o. option_map_or (λ (x : Entry). has_permission (items_of ss is) (symbol_of ss x) p) o false) at
+    has_of : has_permission_at ss es xs p d ≡ has_permission xs (symbol_of ss e) p
+    has_of = ap (λ o. option_map_or (λ (x : Entry). has_permission xs (symbol_of ss x) p) o false) at
 
     -- no class has this name
-    pub listed_of_none : HasNoEntry es e.name signs.Classes e.space → false ≡ has_permission_at ss es (items_of ss is) p d
+    pub listed_of_none : HasNoEntry es e.name signs.Classes e.space → false ≡ has_permission_at ss es xs p d
     listed_of_none none = sym (has_of ∙ no_class e.space e.name (entries.ordered.within e (get_contains es d e at)) none p)
 
     -- one has it
-    pub listed_of_class : (lists : List (Vec Bytes)) → ArePermissions ss es (items_of ss is) lists → (c : ℕ) → IsEntryAt es e.name signs.Classes e.space c → (l : List (List ℕ))
-        → l ≡ listed_at lists c → list_any (same_bytes p) l ≡ has_permission_at ss es (items_of ss is) p d
+    pub listed_of_class : (lists : List (Vec Bytes)) → ArePermissions ss es xs lists → (c : ℕ) → IsEntryAt es e.name signs.Classes e.space c → (l : List (List ℕ))
+        → l ≡ listed_at lists c → list_any (same_bytes p) l ≡ has_permission_at ss es xs p d
     listed_of_class lists permissions c class_ l same =
         let (space, name, wanted) = parts_fit e.name signs.Classes e.space class_.entry class_.fits in
         ap (list_any (same_bytes p)) same ∙ permissions.each c class_.entry class_.at wanted p
-        ∙ ap (λ (t : Symbol). has_permission (items_of ss is) t p) (symbol_by (symbol_of ss class_.entry) (symbol_of ss e) (ap (space_at ss) space) name)
+        ∙ ap (λ (t : Symbol). has_permission xs t p) (symbol_by (symbol_of ss class_.entry) (symbol_of ss e) (ap (space_at ss) space) name)
         ∙ sym has_of
 
   -- the class that a class word names
-  module _ (c : ScopedWord) (d : ℕ) (named : IsNamed ss is es nobody c d) where
+  module _ (c : ScopedWord) (d : ℕ) (named : IsNamed ss xs es nobody c d) where
     abbrev found_symbol : Symbol
     found_symbol = record { space = named.space; name = (asked c.bytes).name }
 
@@ -88,14 +88,14 @@ module _ (ss : List Space) (are : AreSpaces ss) (is : List Instance) (es : List 
         symbol_by (symbol_of ss named.entry) found_symbol space name
 
     -- a permission resolves where this class has it
-    pub asked_of_class : (s : OptSet) (q : ScopedWord) → resolves (items_of ss is) s (APermission c q) ≡ has_permission_at ss es (items_of ss is) q.bytes d
+    pub asked_of_class : (s : OptSet) (q : ScopedWord) → resolves xs s (APermission c q) ≡ has_permission_at ss es xs q.bytes d
     asked_of_class s q =
-        ap (λ o. option_map_or (λ n. has_permission (items_of ss is) (record { space = n; name = (asked c.bytes).name }) q.bytes) o false) named.found
-        ∙ ap (λ (t : Symbol). has_permission (items_of ss is) t q.bytes) (sym one_symbol)
+        ap (λ o. option_map_or (λ n. has_permission xs (record { space = n; name = (asked c.bytes).name }) q.bytes) o false) named.found
+        ∙ ap (λ (t : Symbol). has_permission xs t q.bytes) (sym one_symbol)
         ∙ sym (has_of d named.entry named.at q.bytes)
 
 -- a permission of a class that is missing does not resolve
-pub asked_of_none : (ss : List Space) (is : List Instance) (es : List Entry) (c : ScopedWord) → IsAnswer ss is es nobody c None → (s : OptSet) (q : ScopedWord)
-    → resolves (items_of ss is) s (APermission c q) ≡ false
+pub asked_of_none : (ss : List Space) (xs : List Item) (es : List Entry) (c : ScopedWord) → IsAnswer ss xs es nobody c None → (s : OptSet) (q : ScopedWord)
+    → resolves xs s (APermission c q) ≡ false
 asked_of_none ss is es c none s q =
-    ap (λ o. option_map_or (λ n. has_permission (items_of ss is) (record { space = n; name = (asked c.bytes).name }) q.bytes) o false) none
+    ap (λ o. option_map_or (λ n. has_permission xs (record { space = n; name = (asked c.bytes).name }) q.bytes) o false) none

@@ -20,7 +20,7 @@ use Rattle.cil_syntax.specs.Sorted.{lists_of}
 use Rattle.cil_syntax.specs.Spelling.{same_bytes}
 use Rattle.cil_names.specs.declared.entry.Entry.{Entry}
 use Rattle.cil_names.specs.declared.numbers.Sections.{Sections}
-use Rattle.cil_names.specs.declared.space.Space.{Space}
+use Rattle.cil_blocks.specs.declared.namespaces.Space.{Space}
 use Rattle.cil_names.specs.Entries.{AreOrdered, is_declared_in, place_where}
 use Rattle.cil_names.specs.Found.{IsFound, IsMissing}
 use Rattle.cil_macros.specs.Item.{OptSet}

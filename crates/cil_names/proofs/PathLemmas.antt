@@ -4,8 +4,9 @@ use Rattle.std.proofs.lemmas.List.{length-append}
 use Rattle.cil_sexpr.specs.Places.{cons_tail}
 use Rattle.cil_syntax.specs.Scopes.{IsDotless, IsParted, Namespace, names_backwards}
 use Rattle.cil_syntax.proofs.AskedLemmas.{last_name, one_name, parted_backwards}
-use Rattle.cil_names.specs.declared.space.Space.{Space}
-use Rattle.cil_names.specs.Spaces.{AreSpaces, HasNoNumber, IsAskedAt, IsAskedNowhere, IsNumber, space_at}
+use Rattle.cil_blocks.specs.declared.namespaces.Space.{Space}
+use Rattle.cil_blocks.specs.Namespaces.{AreNamespaces, HasNoNumber, IsNumber, space_at}
+use Rattle.cil_names.specs.Spaces.{IsAskedAt, IsAskedNowhere}
 use Rattle.cil_names.proofs.SpaceLemmas.{outers_of}
 
 -- the names before the rest of a path lead to the namespace of this number
@@ -19,7 +20,7 @@ at_start ss from path within = record { inner = []; backwards = sym (append-nil 
 
 -- ---- the steps
 
-module _ (ss : List Space) (are : AreSpaces ss) (from : ℕ) (path : List ℕ) (space : ℕ) (rest : List ℕ) (so : IsAskedUpTo ss from path space rest) where
+module _ (ss : List Space) (are : AreNamespaces ss) (from : ℕ) (path : List ℕ) (space : ℕ) (rest : List ℕ) (so : IsAskedUpTo ss from path space rest) where
   module _ (first behind : List ℕ) (p : IsParted rest first behind) where
     deeper : names_backwards path ≡ names_backwards behind ++ first ∷ so.inner
     deeper = so.backwards ∙ ap (λ l. l ++ so.inner) (parted_backwards rest first behind p) ∙ append_assoc (names_backwards behind) (first ∷ []) so.inner

@@ -36,7 +36,7 @@ use Rattle.cil_syntax.proofs.DecidedEquality.{spaces_decide}
 use Rattle.std.proofs.Math.Bool.{or-false}
 use Rattle.cil_names.specs.declared.entry.Entry.{Entry}
 use Rattle.cil_names.specs.declared.instance.Instance.{Instance}
-use Rattle.cil_names.specs.declared.space.Space.{Space}
+use Rattle.cil_blocks.specs.declared.namespaces.Space.{Space}
 use Rattle.cil_names.specs.Declarations.{Declaration, Symbol, content_of, declarations, declared_by}
 use Rattle.cil_names.specs.Entries.{AreOrdered, HasNoEntry, IsEntryAt, item_of, items_of, scoped}
 use Rattle.cil_macros.specs.Item.{Item, all_replaced, is_enabled, names_in, nobody}
@@ -45,7 +45,7 @@ use Rattle.cil_names.specs.Permissions.{AreEmpty, DeclaresClass, DeclaresNoClass
 use Rattle.cil_names.specs.Placed.{IsPlaced}
 use Rattle.cil_names.specs.Resolves.{fits, gives_permission, has_permission, listed_permissions}
 use Rattle.cil_syntax.specs.Kinds.{is_wanted}
-use Rattle.cil_names.specs.Spaces.{AreSpaces, space_at}
+use Rattle.cil_blocks.specs.Namespaces.{AreNamespaces, space_at}
 use Rattle.cil_names.specs.Unresolved.{ArePermissions, listed_at}
 use Rattle.cil_names.proofs.EntryLemmas.{parts_fit, they_fit}
 use Rattle.cil_names.proofs.SpaceLemmas.{same_number}
@@ -274,7 +274,7 @@ module _ (ss : List Space) (es : List Entry) where
     pub kept_without : (lists : List (Vec Bytes)) → DeclaresNoClass i → ArePermissions ss es xs lists → ArePermissions ss es more lists
     kept_without lists without = kept lists (λ d e p at wanted g. without e.name g.declares)
 
-    module _ (spaces : AreSpaces ss) (ordered : AreOrdered ss es) (placed : IsPlaced ss i) where
+    module _ (spaces : AreNamespaces ss) (ordered : AreOrdered ss es) (placed : IsPlaced ss i) where
       one_space : (e : Entry) → Contains es e → space_at ss i.place.now.space ≡ space_at ss e.space → e.space ≡ i.place.now.space
       one_space e c same =
           same_number ss spaces (space_at ss e.space) e.space i.place.now.space (record { within = ordered.within e c; is = refl }) (record { within = placed.stands; is = same })
@@ -380,7 +380,7 @@ module _ (ss : List Space) (es : List Entry) where
 
 -- ---- instance by instance
 
-taken_more : (ss : List Space) (is : List Instance) (n : ℕ) (i : Instance) → n < length is → i ≡ get_or is n i → items_of ss (take n is) ++ item_of ss i ∷ [] ≡ items_of ss (take (n + 1) is)
+taken_more : (ss : List Space) (xs : List Item) (n : ℕ) (i : Instance) → n < length is → i ≡ get_or is n i → items_of ss (take n is) ++ item_of ss i ∷ [] ≡ items_of ss (take (n + 1) is)
 taken_more ss is n i within e =
     sym (ap (items_of ss) (take_more is n i within ∙ ap (λ z. take n is ++ z ∷ []) (sym e)) ∙ mapped (take n is))
   where
@@ -388,15 +388,15 @@ taken_more ss is n i within e =
     mapped [] = refl
     mapped (y ∷ ys) = ap (λ z. item_of ss y ∷ z) (mapped ys)
 
-pub listed_more : (ss : List Space) (es : List Entry) (is : List Instance) (n : ℕ) (i : Instance) (lists : List (Vec Bytes)) → n < length is → i ≡ get_or is n i
+pub listed_more : (ss : List Space) (es : List Entry) (xs : List Item) (n : ℕ) (i : Instance) (lists : List (Vec Bytes)) → n < length is → i ≡ get_or is n i
     → ArePermissions ss es (items_of ss (take n is) ++ item_of ss i ∷ []) lists → ArePermissions ss es (items_of ss (take (n + 1) is)) lists
 listed_more ss es is n i lists within e are = subst (λ xs. ArePermissions ss es xs lists) (taken_more ss is n i within e) are
 
-pub listed_all : (ss : List Space) (es : List Entry) (is : List Instance) (n : ℕ) (lists : List (Vec Bytes)) → length is ≤ n
-    → ArePermissions ss es (items_of ss (take n is)) lists → ArePermissions ss es (items_of ss is) lists
+pub listed_all : (ss : List Space) (es : List Entry) (xs : List Item) (n : ℕ) (lists : List (Vec Bytes)) → length is ≤ n
+    → ArePermissions ss es (items_of ss (take n is)) lists → ArePermissions ss es xs lists
 listed_all ss es is n lists over are = subst (λ js. ArePermissions ss es (items_of ss js) lists) (take_all n is over) are
 
-pub listed_none : (ss : List Space) (es : List Entry) (is : List Instance) (lists : List (Vec Bytes)) → AreEmpty es lists → ArePermissions ss es (items_of ss (take 0 is)) lists
+pub listed_none : (ss : List Space) (es : List Entry) (xs : List Item) (lists : List (Vec Bytes)) → AreEmpty es lists → ArePermissions ss es (items_of ss (take 0 is)) lists
 listed_none ss es [] lists empty = nothing_listed ss es lists empty
 listed_none ss es (i ∷ is) lists empty = nothing_listed ss es lists empty
 

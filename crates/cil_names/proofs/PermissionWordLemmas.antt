@@ -7,7 +7,7 @@ use Rattle.std.specs.Option.{is_some, option_map_or}
 use Rattle.std.proofs.lemmas.Bool.{cases_Bool, true≢false}
 use Rattle.cil_names.specs.declared.entry.Entry.{Entry}
 use Rattle.cil_names.specs.declared.instance.Instance.{Instance}
-use Rattle.cil_names.specs.declared.space.Space.{Space}
+use Rattle.cil_blocks.specs.declared.namespaces.Space.{Space}
 use Rattle.cil_names.specs.Entries.{AreEntries, IsAnswer, IsNamed, is_declared_at, is_declared_in, items_of, listed}
 use Rattle.cil_macros.specs.Item.{OptSet, nobody}
 use Rattle.cil_sexpr.specs.Searches.{or_second}
@@ -16,7 +16,7 @@ use Rattle.cil_names.specs.Laws.{WantedMeansWhatItNames}
 use Rattle.cil_names.specs.Meanings.{meant}
 use Rattle.cil_names.specs.PermissionWords.{IsAnswerFor, class_with, has_permission_at, wanted_meaning}
 use Rattle.cil_names.specs.Resolves.{Wanted, Word as AWord, Permission as APermission, resolves}
-use Rattle.cil_names.specs.Spaces.{AreSpaces}
+use Rattle.cil_blocks.specs.Namespaces.{AreNamespaces}
 use Rattle.cil_names.proofs.AnswerLemmas.{answer_is}
 use Rattle.cil_names.proofs.ListedLemmas.{asked_of_class, asked_of_none}
 
@@ -53,44 +53,44 @@ always_declared s false rs e = none_rounds s rs e
 
 -- ---- what is wanted
 
-module _ (ss : List Space) (are : AreSpaces ss) (is : List Instance) (es : List Entry) (entries : AreEntries ss is es) (s : OptSet) where
+module _ (ss : List Space) (are : AreNamespaces ss) (xs : List Item) (es : List Entry) (entries : AreEntries ss xs es) (s : OptSet) where
   -- a permission resolves where the class that its class word names has it
   module _ (c : ScopedWord) (q : ScopedWord) where
-    pub asked_unnamed : None ≡ meant ss es nobody c → false ≡ resolves (items_of ss is) s (APermission c q)
-    asked_unnamed none = sym (asked_of_none ss is es c (subst (IsAnswer ss is es nobody c) (sym none) (answer_is ss are is es entries nobody c)) s q)
+    pub asked_unnamed : None ≡ meant ss es nobody c → false ≡ resolves xs s (APermission c q)
+    asked_unnamed none = sym (asked_of_none ss is es c (subst (IsAnswer ss xs es nobody c) (sym none) (answer_is ss are is es entries nobody c)) s q)
 
-    pub asked_named : (d : ℕ) → Some d ≡ meant ss es nobody c → resolves (items_of ss is) s (APermission c q) ≡ has_permission_at ss es (items_of ss is) q.bytes d
-    asked_named d some = asked_of_class ss are is es entries c d (subst (IsAnswer ss is es nobody c) (sym some) (answer_is ss are is es entries nobody c)) s q
+    pub asked_named : (d : ℕ) → Some d ≡ meant ss es nobody c → resolves xs s (APermission c q) ≡ has_permission_at ss es xs q.bytes d
+    asked_named d some = asked_of_class ss are is es entries c d (subst (IsAnswer ss xs es nobody c) (sym some) (answer_is ss are is es entries nobody c)) s q
 
-  word_answer : (w : ScopedWord) (r : Option ℕ) → IsAnswer ss is es s w r → IsAnswerFor ss is es s (AWord w) r
+  word_answer : (w : ScopedWord) (r : Option ℕ) → IsAnswer ss xs es s w r → IsAnswerFor ss xs es s (AWord w) r
   word_answer w None none = ap is_some none
   word_answer w (Some d) named = named
 
   module _ (c p : ScopedWord) where
     abbrev has : ℕ → Bool
-    has d = has_permission_at ss es (items_of ss is) p.bytes d
+    has d = has_permission_at ss es xs p.bytes d
 
-    by_has : (d : ℕ) → IsNamed ss is es nobody c d → (b : Bool) → has d ≡ b → IsAnswerFor ss is es s (APermission c p) (cond b (Some d) None)
+    by_has : (d : ℕ) → IsNamed ss xs es nobody c d → (b : Bool) → has d ≡ b → IsAnswerFor ss xs es s (APermission c p) (cond b (Some d) None)
     by_has d named true t = (named, t)
     by_has d named false f = asked_of_class ss are is es entries c d named s p ∙ f
 
-    by_class : (m : Option ℕ) → IsAnswer ss is es nobody c m → IsAnswerFor ss is es s (APermission c p) (find has (listed m))
+    by_class : (m : Option ℕ) → IsAnswer ss xs es nobody c m → IsAnswerFor ss xs es s (APermission c p) (find has (listed m))
     by_class None none = asked_of_none ss is es c none s p
     by_class (Some d) named = by_has d named (has d) refl
 
-    pub permission_answer : IsAnswerFor ss is es s (APermission c p) (class_with ss es (items_of ss is) c p)
+    pub permission_answer : IsAnswerFor ss xs es s (APermission c p) (class_with ss es xs c p)
     permission_answer = by_class (meant ss es nobody c) (answer_is ss are is es entries nobody c)
 
-    declared_too : (r : Option ℕ) → IsAnswerFor ss is es s (APermission c p) r → r ≡ find (is_declared_at s es) (listed r)
+    declared_too : (r : Option ℕ) → IsAnswerFor ss xs es s (APermission c p) r → r ≡ find (is_declared_at s es) (listed r)
     declared_too None none = refl
     declared_too (Some d) (named, t) =
         sym (ap (λ b. cond b (Some d) None)
         (ap (λ o. option_map_or (is_declared_in s) o false) named.at ∙ always_declared s named.entry.always named.entry.rounds.items named.live))
 
-  wanted_answer : (w : Wanted) → IsAnswerFor ss is es s w (wanted_meaning ss es (items_of ss is) s w)
+  wanted_answer : (w : Wanted) → IsAnswerFor ss xs es s w (wanted_meaning ss es xs s w)
   wanted_answer (AWord w) = word_answer w (meant ss es s w) (answer_is ss are is es entries s w)
   wanted_answer (APermission c p) =
-      subst (IsAnswerFor ss is es s (APermission c p)) (declared_too c p (class_with ss es (items_of ss is) c p) (permission_answer c p)) (permission_answer c p)
+      subst (IsAnswerFor ss xs es s (APermission c p)) (declared_too c p (class_with ss es xs c p) (permission_answer c p)) (permission_answer c p)
 
 pub wanted_means : WantedMeansWhatItNames
 wanted_means = λ ss is es s w are entries. wanted_answer ss are is es entries s w

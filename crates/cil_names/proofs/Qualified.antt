@@ -21,11 +21,11 @@ use Rattle.cil_sexpr.specs.Lists.{contains_cases, contains_none}
 use Rattle.cil_syntax.specs.declared.kind.Kind.{Kind}
 use Rattle.std.proofs.lemmas.Option.{same_Some}
 use Rattle.cil_names.specs.declared.entry.Entry.{Entry}
-use Rattle.cil_names.specs.declared.space.Space.{Space}
+use Rattle.cil_blocks.specs.declared.namespaces.Space.{Space}
 use Rattle.cil_names.specs.Entries.{AreOrdered, key_cmp, key_of, rank}
 use Rattle.cil_macros.specs.Item.{OptSet}
 use Rattle.cil_names.specs.Numbers.{AreApart, AreNumbers, ArePlain, ArePlainNames, IsPlain, has_section, spelled_of}
-use Rattle.cil_names.specs.Spaces.{AreSpaces, space_at}
+use Rattle.cil_blocks.specs.Namespaces.{AreNamespaces, space_at}
 use Rattle.cil_names.proofs.OrderLemmas.{key_total, one_key}
 use Rattle.cil_names.proofs.SearchLemmas.{one_number}
 use Rattle.cil_names.proofs.SpaceLemmas.{global_at, next_at, same_number}
@@ -80,7 +80,7 @@ plain_name (b ∷ bs) e =
 
 -- ---- the names of entries and namespaces
 
-module _ (ss : List Space) (are : AreSpaces ss) (es : List Entry) (ordered : AreOrdered ss es) (plain : ArePlainNames ss es) where
+module _ (ss : List Space) (are : AreNamespaces ss) (es : List Entry) (ordered : AreOrdered ss es) (plain : ArePlainNames ss es) where
   -- all names of a namespace are plain
   plain_space : (n k : ℕ) → k ≤ n → k ≤ length ss → ArePlain (space_at ss k)
   plain_space n zero few within = subst ArePlain (sym (global_at ss are)) (λ x c. absurd (contains_none x c))

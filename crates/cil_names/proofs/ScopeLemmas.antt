@@ -11,9 +11,9 @@ use Rattle.cil_syntax.specs.declared.term.Word.{Word}
 use Rattle.cil_syntax.specs.Scopes.{IsTaken, asked, names_backwards}
 use Rattle.cil_syntax.proofs.AskedLemmas.{is_parted}
 use Rattle.cil_names.specs.declared.entry.Entry.{Entry}
-use Rattle.cil_names.specs.declared.space.Space.{Space}
+use Rattle.cil_blocks.specs.declared.namespaces.Space.{Space}
 use Rattle.cil_names.specs.Entries.{candidate, candidates_of, listed, numbers_asked, scope_of, scoped}
-use Rattle.cil_names.specs.Spaces.{AreSpaces, space_at}
+use Rattle.cil_blocks.specs.Namespaces.{AreNamespaces, space_at}
 use Rattle.cil_names.proofs.SpaceLemmas.{global_at}
 
 -- the entry that a word could name in one namespace
@@ -28,7 +28,7 @@ asked_there ss es w global path taken k r is = ap listed (is (asked w.bytes).nam
 
 -- ---- all namespaces
 
-module _ (ss : List Space) (are : AreSpaces ss) (es : List Entry) (w : Word) where
+module _ (ss : List Space) (are : AreNamespaces ss) (es : List Entry) (w : Word) where
   each_name : (ks : List ℕ) → flat_map (λ n. listed (candidate ss es (asked w.bytes).name w.sign n)) (map (λ n. (asked w.bytes).inner ++ n) (scope_of ss ks))
       ≡ flat_map (could_name ss es w) ks
   each_name [] = refl

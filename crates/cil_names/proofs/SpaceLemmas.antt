@@ -8,8 +8,9 @@ use Rattle.std.proofs.lemmas.Option.{same_Some, slice_get_within}
 use Rattle.cil_sexpr.specs.Places.{cons_head, cons_tail, longer, some_at}
 use Rattle.cil_sexpr.specs.Rising.{rising_nothing}
 use Rattle.cil_syntax.specs.Scopes.{Namespace}
-use Rattle.cil_names.specs.declared.space.Space.{Space}
-use Rattle.cil_names.specs.Spaces.{AreSpaces, HasNoNumber, IsNumber, Place, place_cmp, place_of, space_at, spaces_from}
+use Rattle.cil_blocks.specs.declared.namespaces.Space.{Space}
+use Rattle.cil_blocks.specs.Namespaces.{AreNamespaces, HasNoNumber, IsNumber, space_at, spaces_from}
+use Rattle.cil_names.specs.Spaces.{Place, place_cmp, place_of}
 use Rattle.cil_names.proofs.OrderLemmas.{one_place, place_total}
 use Rattle.cil_names.proofs.SearchLemmas.{one_number}
 use Rattle.cil_names.specs.Found.{IsFound, IsMissing}
@@ -54,7 +55,7 @@ one_place_of_parts s outer name p q = λ i. record { outer = p i; name = q i }
 one_place_of : (s t : Space) → s.outer ≡ t.outer → s.name ≡ t.name → place_of s ≡ place_of t
 one_place_of s t p q = λ i. record { outer = p i; name = q i }
 
-module _ (ss : List Space) (are : AreSpaces ss) where
+module _ (ss : List Space) (are : AreNamespaces ss) where
   -- the namespace of the next number
   pub next_at : (i : ℕ) (s : Space) → slice_get ss i ≡ Some s → space_at ss (suc i) ≡ s.name ∷ space_at ss s.outer
   unfolding space_at
@@ -118,5 +119,5 @@ module _ (ss : List Space) (are : AreSpaces ss) where
       (cons_head _ _ _ _ e))
 
 -- no namespace but the global one
-pub no_spaces : (ss : List Space) → ss ≡ [] → AreSpaces ss
-no_spaces ss e = subst AreSpaces (sym e) (record { rising = rising_nothing (on place_of place_cmp); behind = λ i s at. absurd (let f : None ≡ Some s = at in cc) })
+pub no_spaces : (ss : List Space) → ss ≡ [] → AreNamespaces ss
+no_spaces ss e = subst AreNamespaces (sym e) (record { rising = rising_nothing (on place_of place_cmp); behind = λ i s at. absurd (let f : None ≡ Some s = at in cc) })

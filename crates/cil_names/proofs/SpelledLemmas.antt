@@ -7,9 +7,9 @@ use Rattle.std.proofs.lemmas.List.Concat.{flat_map-append}
 use Rattle.std.proofs.lemmas.Option.{slice_get-get_or}
 use Rattle.cil_syntax.specs.Written.{qualified}
 use Rattle.cil_syntax.specs.Scopes.{Namespace}
-use Rattle.cil_names.specs.declared.space.Space.{Space}
+use Rattle.cil_blocks.specs.declared.namespaces.Space.{Space}
 use Rattle.cil_names.specs.Numbers.{dotted}
-use Rattle.cil_names.specs.Spaces.{AreSpaces, space_at}
+use Rattle.cil_blocks.specs.Namespaces.{AreNamespaces, space_at}
 use Rattle.cil_names.proofs.SpaceLemmas.{global_at, next_at}
 
 abbrev with_dot : List ℕ → List ℕ
@@ -33,7 +33,7 @@ joined_last (y ∷ z ∷ zs) x =
 pub qualified_last : (name : List ℕ) (n : Namespace) → qualified (name ∷ n) ≡ dotted n ++ name
 qualified_last name n = ap (join_with_byte 46) (turned name n) ∙ joined_last (reverse n) name
 
-module _ (ss : List Space) (are : AreSpaces ss) where
+module _ (ss : List Space) (are : AreNamespaces ss) where
   -- the global namespace adds nothing
   pub none_pushed : (k : ℕ) (old : List ℕ) → k ≤ 0 → old ≡ old ++ dotted (space_at ss k)
   none_pushed k old none = sym (ap (λ j. old ++ dotted (space_at ss j)) (let e : k ≡ 0 = omega arith in e) ∙ ap (λ n. old ++ dotted n) (global_at ss are) ∙ append-nil old)

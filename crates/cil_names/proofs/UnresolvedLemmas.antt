@@ -20,7 +20,7 @@ use Rattle.cil_syntax.specs.Terms.{Terms, Leaf, Name, Form, cons, nil, spot_at}
 use Rattle.cil_syntax.specs.Reported.{fault_at}
 use Rattle.cil_syntax.specs.Scopes.{Namespace, ScopedWord}
 use Rattle.cil_syntax.proofs.SaidLemmas.{form_said, leaf_said, name_said}
-use Rattle.cil_names.specs.declared.space.Space.{Space}
+use Rattle.cil_blocks.specs.declared.namespaces.Space.{Space}
 use Rattle.cil_names.specs.Entries.{scoped}
 use Rattle.cil_macros.specs.Item.{OptSet, Item, all_replaced, replaced, words_in, all_words_in}
 use Rattle.cil_names.specs.Resolves.{Wanted, Word as AWord, Permission as APermission, found_in, resolves, wanted_in, all_wanted_in, words_of_class}

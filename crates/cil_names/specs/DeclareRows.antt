@@ -12,12 +12,12 @@ use Rattle.cil_syntax.specs.Terms.{Leaf, Name, Form, Term, Terms, nil, cons}
 use Rattle.cil_syntax.specs.Scopes.{Scope, ScopedWord}
 use Rattle.cil_names.specs.declared.instance.Instance.{Instance}
 use Rattle.cil_names.specs.declared.row.Row.{Row}
-use Rattle.cil_names.specs.declared.space.Space.{Space}
+use Rattle.cil_blocks.specs.declared.namespaces.Space.{Space}
 use Rattle.cil_names.specs.Declarations.{Bare, Declaration, bare, content_of, nowhere}
 use Rattle.cil_names.specs.Entries.{Key, item_of, rank}
 use Rattle.cil_macros.specs.Item.{OptSet, all_replaced, replaced}
 use Rattle.cil_names.specs.Placed.{IsPlaced}
-use Rattle.cil_names.specs.Spaces.{space_at}
+use Rattle.cil_blocks.specs.Namespaces.{space_at}
 
 -- ---- rows
 

@@ -16,10 +16,10 @@ use Rattle.cil_names.specs.declared.entry.Entry.{Entry}
 use Rattle.cil_names.specs.declared.instance.Instance.{Instance}
 use Rattle.cil_names.specs.declared.row.Row.{Row}
 use Rattle.cil_names.specs.declared.run.Run.{Run}
-use Rattle.cil_names.specs.declared.space.Space.{Space}
+use Rattle.cil_blocks.specs.declared.namespaces.Space.{Space}
 use Rattle.cil_names.specs.DeclareRows.{IsPlacedRow, TellsDiffering, round_at, row_key}
 use Rattle.cil_names.specs.Entries.{Key, key_cmp}
-use Rattle.cil_names.specs.Spaces.{AreSpaces, space_at}
+use Rattle.cil_blocks.specs.Namespaces.{AreNamespaces, space_at}
 
 abbrev pub run_key : Run → Key
 run_key run = row_key run.first.now
@@ -38,7 +38,7 @@ pub record IsNextRun (rows : List Row) (start : ℕ) (run : Run) : Type 0 where
   pub some : 0 < length run.rows.now
   pub parted : drop start rows ≡ run.rows.now ++ drop (start + length run.rows.now) rows
   pub above : (r : Row) → Contains (drop (start + length run.rows.now) rows) r → key_cmp (row_key run.first.now) (row_key r) ≡ Less
-  pub is_run : (ss : List Space) → AreSpaces ss → ((r : Row) → Contains rows r → IsPlacedRow ss r) → IsRun ss run
+  pub is_run : (ss : List Space) → AreNamespaces ss → ((r : Row) → Contains rows r → IsPlacedRow ss r) → IsRun ss run
 
 -- the runs are these rows, parted by their keys
 pub record AreRuns (ss : List Space) (rows : List Row) (runs : List Run) : Type 0 where

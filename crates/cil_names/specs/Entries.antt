@@ -10,37 +10,23 @@ use Rattle.cil_sexpr.specs.Lists.{text_cmp}
 use Rattle.cil_syntax.specs.declared.kind.Kind.{Kind}
 use Rattle.cil_syntax.specs.declared.kind.Sign.{Sign}
 use Rattle.cil_syntax.specs.declared.term.Word.{Word}
-use Rattle.cil_syntax.specs.Said.{args_of}
 use Rattle.cil_syntax.specs.Spelling.{same_bytes}
 use Rattle.cil_syntax.specs.Scopes.{Namespace, Scope, asked, same_space, spaces_asked, ScopedWord}
 use Rattle.cil_names.specs.declared.entry.Entry.{Entry}
-use Rattle.cil_names.specs.declared.instance.Instance.{Instance}
-use Rattle.cil_names.specs.declared.space.Space.{Space}
+use Rattle.cil_blocks.specs.declared.namespaces.Space.{Space}
 use Rattle.cil_names.specs.Declarations.{Declaration, IsDeclaration, NameSpace, of_types, of_roles, of_users, of_classes, of_blocks, name_space}
-use Rattle.cil_macros.specs.Item.{Item, OptSet, all_replaced, everybody}
+use Rattle.cil_macros.specs.Item.{Item, OptSet, everybody}
 use Rattle.cil_names.specs.Resolves.{found_in}
 use Rattle.cil_syntax.specs.Kinds.{is_wanted}
-use Rattle.cil_names.specs.Spaces.{space_at}
+use Rattle.cil_blocks.specs.Namespaces.{space_at}
 
--- ---- items, where namespaces are numbers
+-- ---- words, where namespaces are numbers
 
 abbrev pub scope_of : List Space → List ℕ → Scope
 scope_of ss numbers = map (space_at ss) numbers
 
 abbrev pub scoped : List Space → List ℕ → Word → ScopedWord
 scoped ss scope w = record { at = w.at; bytes = w.bytes; sign = w.sign; scope = scope_of ss scope }
-
-abbrev pub item_of : List Space → Instance → Item
-item_of ss i = record {
-  keyword = i.statement.now.keyword;
-  at = i.statement.now.at;
-  space = space_at ss i.place.now.space;
-  args = all_replaced (λ at. at) (scoped ss i.place.now.scope.items) (args_of i.statement.now);
-  round = i.place.now.round.items;
-}
-
-abbrev pub items_of : List Space → List Instance → List Item
-items_of ss = map (item_of ss)
 
 -- ---- entries
 
@@ -148,18 +134,18 @@ pub record IsEntryFor (ss : List Space) (es : List Entry) (s : OptSet) (kind : K
 
 -- the entries are the declarations of the items, whatever is enabled: each declaration has one, each that is declared
 -- has a declaration, and each is declared where all optionals are enabled
-pub record AreEntries (ss : List Space) (is : List Instance) (es : List Entry) : Type 0 where
+pub record AreEntries (ss : List Space) (xs : List Item) (es : List Entry) : Type 0 where
   pub ordered : AreOrdered ss es
-  pub each : (s : OptSet) (d : Declaration) → IsDeclaration (items_of ss is) s d → (i : ℕ) × IsEntryFor ss es s d.kind d.space d.name i
+  pub each : (s : OptSet) (d : Declaration) → IsDeclaration xs s d → (i : ℕ) × IsEntryFor ss es s d.kind d.space d.name i
   pub only : (s : OptSet) (i : ℕ) (e : Entry) → slice_get es i ≡ Some e → is_declared_in s e ≡ true
-      → (d : Declaration) × IsDeclaration (items_of ss is) s d × (d.kind ≡ e.kind) × (d.space ≡ space_at ss e.space) × (d.name ≡ e.name)
+      → (d : Declaration) × IsDeclaration xs s d × (d.kind ≡ e.kind) × (d.space ≡ space_at ss e.space) × (d.name ≡ e.name)
   pub used : (i : ℕ) (e : Entry) → slice_get es i ≡ Some e → is_declared_in everybody e ≡ true
 
 -- the word names this entry: it is declared, of a wanted kind, and has the name of the word in the namespace in which
 -- the word is found
-pub record IsNamed (ss : List Space) (is : List Instance) (es : List Entry) (s : OptSet) (w : ScopedWord) (d : ℕ) : Type 0 where
+pub record IsNamed (ss : List Space) (xs : List Item) (es : List Entry) (s : OptSet) (w : ScopedWord) (d : ℕ) : Type 0 where
   pub space : Namespace
-  pub found : found_in (items_of ss is) s w ≡ Some space
+  pub found : found_in xs s w ≡ Some space
   pub entry : Entry
   pub at : slice_get es d ≡ Some entry
   pub fits : is_entry_of ss (asked w.bytes).name w.sign space entry ≡ true
@@ -167,5 +153,5 @@ pub record IsNamed (ss : List Space) (is : List Instance) (es : List Entry) (s :
   pub only : (m : ℕ) (e : Entry) → slice_get es m ≡ Some e → is_entry_of ss (asked w.bytes).name w.sign space e ≡ true → m ≡ d
 
 -- what look-up answers: nothing where the word is not found, and else the one entry that it names
-abbrev pub IsAnswer : List Space → List Instance → List Entry → OptSet → ScopedWord → Option ℕ → Type 0
-IsAnswer ss is es s w r = MatchOption r (found_in (items_of ss is) s w ≡ None) (IsNamed ss is es s w)
+abbrev pub IsAnswer : List Space → List Item → List Entry → OptSet → ScopedWord → Option ℕ → Type 0
+IsAnswer ss xs es s w r = MatchOption r (found_in xs s w ≡ None) (IsNamed ss xs es s w)

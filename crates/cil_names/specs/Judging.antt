@@ -15,13 +15,13 @@ use Rattle.cil_names.specs.Entries.{AreEntries, AreOrdered, IsAnswer, is_in, ite
 use Rattle.cil_macros.specs.Item.{OptSet}
 use Rattle.cil_names.specs.Meanings.{meant}
 use Rattle.cil_names.specs.Resolves.{Wanted}
-use Rattle.cil_names.specs.Spaces.{AreSpaces, space_at}
+use Rattle.cil_blocks.specs.Namespaces.{AreNamespaces, space_at}
 use Rattle.cil_names.specs.Unresolved.{ArePermissions, faults_of_all, scoped_term, scoped_terms}
 use Rattle.std.specs.Prelude.{Option}
 
 -- what a check goes by
 pub record IsReady (j : Judge) : Type 0 where
-  pub spaces : AreSpaces j.filling.spaces.now
+  pub spaces : AreNamespaces j.filling.spaces.now
   pub ordered : AreOrdered j.filling.spaces.now j.filling.names.now
   pub within : All (λ k. k ≤ length j.filling.spaces.now) j.filling.scope.now
   pub space : j.space ≤ length j.filling.spaces.now
@@ -47,14 +47,14 @@ abbrev pub meant_in : Judge → Word → Option ℕ
 meant_in j w = meant j.filling.spaces.now j.filling.names.now (enabled_in j) (word_in_scope j w)
 
 -- the entries are the declared names of these instances, and the lists the permissions of their classes
-pub record Knows (j : Judge) (is : List Instance) : Type 0 where
-  pub entries : AreEntries j.filling.spaces.now is j.filling.names.now
-  pub permissions : ArePermissions j.filling.spaces.now j.filling.names.now (items_of j.filling.spaces.now is) j.permissions.now
+pub record Knows (j : Judge) (xs : List Item) : Type 0 where
+  pub entries : AreEntries j.filling.spaces.now xs j.filling.names.now
+  pub permissions : ArePermissions j.filling.spaces.now j.filling.names.now xs j.permissions.now
 
 -- the faults of what was asked are behind those that were there
 abbrev pub Tells : Judge → List Wanted → List Fault → List Fault → Type 0
-Tells j ws old new = (is : List Instance) → Knows j is → new ≡ old ++ faults_of_all (items_of j.filling.spaces.now is) (enabled_in j) (space_in j) ws
+Tells j ws old new = (xs : List Item) → Knows j xs → new ≡ old ++ faults_of_all xs (enabled_in j) (space_in j) ws
 
 -- what look-up answers for a word
 abbrev pub Named : Judge → Word → Option ℕ → Type 0
-Named j w r = (is : List Instance) → Knows j is → IsAnswer j.filling.spaces.now is j.filling.names.now (enabled_in j) (word_in_scope j w) r
+Named j w r = (xs : List Item) → Knows j xs → IsAnswer j.filling.spaces.now xs j.filling.names.now (enabled_in j) (word_in_scope j w) r

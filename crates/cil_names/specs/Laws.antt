@@ -1,23 +1,22 @@
--- Laws of look-up: what it answers, said of all instances and sets of optionals at once.
+-- Laws of look-up: what it answers, said of all items and sets of optionals at once.
 use Rattle.std.specs.Prelude.{List}
 use Rattle.cil_names.specs.declared.entry.Entry.{Entry}
-use Rattle.cil_names.specs.declared.instance.Instance.{Instance}
-use Rattle.cil_names.specs.declared.space.Space.{Space}
-use Rattle.cil_names.specs.Entries.{AreEntries, IsAnswer, items_of}
-use Rattle.cil_macros.specs.Item.{OptSet}
+use Rattle.cil_blocks.specs.declared.namespaces.Space.{Space}
+use Rattle.cil_names.specs.Entries.{AreEntries, IsAnswer}
+use Rattle.cil_macros.specs.Item.{Item, OptSet}
 use Rattle.cil_syntax.specs.Scopes.{ScopedWord}
 use Rattle.cil_names.specs.Meanings.{meant}
 use Rattle.cil_names.specs.PermissionWords.{IsAnswerFor, wanted_meaning}
 use Rattle.cil_names.specs.Resolves.{Wanted}
-use Rattle.cil_names.specs.Spaces.{AreSpaces}
+use Rattle.cil_blocks.specs.Namespaces.{AreNamespaces}
 
 -- what a word means is the entry that it names, and nothing where it names nothing
 abbrev pub MeansWhatItNames : Type 0
 MeansWhatItNames =
-    (ss : List Space) (is : List Instance) (es : List Entry) (s : OptSet) (w : ScopedWord) → AreSpaces ss → AreEntries ss is es → IsAnswer ss is es s w (meant ss es s w)
+    (ss : List Space) (xs : List Item) (es : List Entry) (s : OptSet) (w : ScopedWord) → AreNamespaces ss → AreEntries ss xs es → IsAnswer ss xs es s w (meant ss es s w)
 
 -- the same of all that statements ask for: a word, or a permission with its class word
 abbrev pub WantedMeansWhatItNames : Type 0
 WantedMeansWhatItNames =
-    (ss : List Space) (is : List Instance) (es : List Entry) (s : OptSet) (w : Wanted) → AreSpaces ss → AreEntries ss is es
-    → IsAnswerFor ss is es s w (wanted_meaning ss es (items_of ss is) s w)
+    (ss : List Space) (xs : List Item) (es : List Entry) (s : OptSet) (w : Wanted) → AreNamespaces ss → AreEntries ss xs es
+    → IsAnswerFor ss xs es s w (wanted_meaning ss es xs s w)

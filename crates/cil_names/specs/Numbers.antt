@@ -10,12 +10,12 @@ use Rattle.cil_syntax.specs.Spelling.{is_name, same_bytes}
 use Rattle.cil_syntax.specs.Scopes.{IsDotless, Namespace}
 use Rattle.cil_names.specs.declared.entry.Entry.{Entry}
 use Rattle.cil_names.specs.declared.numbers.Sections.{Sections}
-use Rattle.cil_names.specs.declared.space.Space.{Space}
+use Rattle.cil_blocks.specs.declared.namespaces.Space.{Space}
 use Rattle.cil_names.specs.Declarations.{Symbol, name_of}
 use Rattle.cil_names.specs.Entries.{is_declared_in, place_where}
 use Rattle.cil_macros.specs.Item.{OptSet}
 use Rattle.cil_syntax.specs.Kinds.{kind_number}
-use Rattle.cil_names.specs.Spaces.{space_at}
+use Rattle.cil_blocks.specs.Namespaces.{space_at}
 
 -- the names of a namespace from the outermost on, each with a dot behind it
 abbrev pub dotted : Namespace → List ℕ
@@ -82,9 +82,9 @@ pub record IsPlain (name : List ℕ) : Type 0 where
 abbrev pub ArePlain : List (List ℕ) → Type 0
 ArePlain names = (x : List ℕ) → Contains names x → IsPlain x
 
--- all names are names as the language has them
+-- the names of the entries, and of the namespaces in which they are, are names as the language has them
 pub record ArePlainNames (ss : List Space) (es : List Entry) : Type 0 where
-  pub spaces : (s : Space) → Contains ss s → is_name s.name ≡ true
+  pub spaces : (e : Entry) (name : List ℕ) → Contains es e → Contains (space_at ss e.space) name → is_name name ≡ true
   pub entries : (e : Entry) → Contains es e → is_name e.name ≡ true
 
 -- two declared symbols of one kind have two numbers

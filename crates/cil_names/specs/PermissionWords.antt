@@ -3,9 +3,8 @@
 use Rattle.std.specs.Prelude.{◌≡◌, ℕ, Bool, true, false, List, find, Option, MatchOption, slice_get}
 use Rattle.std.specs.Option.{option_map_or}
 use Rattle.cil_names.specs.declared.entry.Entry.{Entry}
-use Rattle.cil_names.specs.declared.instance.Instance.{Instance}
-use Rattle.cil_names.specs.declared.space.Space.{Space}
-use Rattle.cil_names.specs.Entries.{IsNamed, candidates_of, is_declared_at, items_of, listed}
+use Rattle.cil_blocks.specs.declared.namespaces.Space.{Space}
+use Rattle.cil_names.specs.Entries.{IsNamed, candidates_of, is_declared_at, listed}
 use Rattle.cil_macros.specs.Item.{Item, OptSet, nobody}
 use Rattle.cil_syntax.specs.Scopes.{ScopedWord}
 use Rattle.cil_names.specs.Meanings.{meant}
@@ -30,10 +29,10 @@ abbrev pub wanted_meaning : List Space → List Entry → List Item → OptSet �
 wanted_meaning ss es xs s w = find (is_declared_at s es) (wanted_candidates ss es xs w)
 
 -- a word names its entry; a permission word the class that its class word names, where that has the permission
-abbrev pub IsNamedBy : List Space → List Instance → List Entry → OptSet → Wanted → ℕ → Type 0
-IsNamedBy ss is es s (Word w) d = IsNamed ss is es s w d
-IsNamedBy ss is es s (Permission c p) d = IsNamed ss is es nobody c d × (has_permission_at ss es (items_of ss is) p.bytes d ≡ true)
+abbrev pub IsNamedBy : List Space → List Item → List Entry → OptSet → Wanted → ℕ → Type 0
+IsNamedBy ss xs es s (Word w) d = IsNamed ss xs es s w d
+IsNamedBy ss xs es s (Permission c p) d = IsNamed ss xs es nobody c d × (has_permission_at ss es xs p.bytes d ≡ true)
 
 -- what look-up answers for something wanted: nothing where it does not resolve, and else the one entry that it names
-abbrev pub IsAnswerFor : List Space → List Instance → List Entry → OptSet → Wanted → Option ℕ → Type 0
-IsAnswerFor ss is es s w r = MatchOption r (resolves (items_of ss is) s w ≡ false) (IsNamedBy ss is es s w)
+abbrev pub IsAnswerFor : List Space → List Item → List Entry → OptSet → Wanted → Option ℕ → Type 0
+IsAnswerFor ss xs es s w r = MatchOption r (resolves xs s w ≡ false) (IsNamedBy ss xs es s w)

@@ -1,7 +1,7 @@
 -- Instances whose namespaces have numbers. This project's profile.
 use Rattle.std.specs.Prelude.{◌≤◌, All, List, length, Contains}
 use Rattle.cil_names.specs.declared.instance.Instance.{Instance}
-use Rattle.cil_names.specs.declared.space.Space.{Space}
+use Rattle.cil_blocks.specs.declared.namespaces.Space.{Space}
 
 -- the namespace in which an instance is, and those of its scope, have numbers
 pub record IsPlaced (ss : List Space) (i : Instance) : Type 0 where

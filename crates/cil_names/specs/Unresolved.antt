@@ -10,27 +10,26 @@ use Rattle.cil_syntax.specs.declared.fault.Bytes.{Bytes}
 use Rattle.cil_syntax.specs.declared.fault.Fault.{Fault}
 use Rattle.cil_syntax.specs.declared.kind.Sign.TheVariants as signs
 use Rattle.cil_syntax.specs.declared.term.Term as rust
+use Rattle.cil_syntax.specs.declared.term.Word.{Word}
 use Rattle.cil_syntax.specs.Said.{all_said, said_of}
 use Rattle.cil_syntax.specs.Spelling.{same_bytes}
 use Rattle.cil_syntax.specs.Terms.{Term, Terms}
 use Rattle.cil_syntax.specs.Reported.{fault_at}
 use Rattle.cil_syntax.specs.Scopes.{Namespace, ScopedWord}
 use Rattle.cil_names.specs.declared.entry.Entry.{Entry}
-use Rattle.cil_names.specs.declared.instance.Instance.{Instance}
-use Rattle.cil_names.specs.declared.space.Space.{Space}
-use Rattle.cil_names.specs.Entries.{item_of, scoped}
+use Rattle.cil_blocks.specs.declared.namespaces.Space.{Space}
 use Rattle.cil_macros.specs.Item.{Item, OptSet, all_replaced, replaced}
 use Rattle.cil_names.specs.Numbers.{symbol_of}
 use Rattle.cil_names.specs.Resolves.{Wanted, has_permission, is_judged, resolves, told_word, words_of}
 use Rattle.cil_syntax.specs.Kinds.{is_wanted}
-use Rattle.cil_names.specs.Spaces.{space_at}
+use Rattle.cil_blocks.specs.Namespaces.{space_at}
 
--- the terms of an instance, each word with the namespaces that it asks
-abbrev pub scoped_term : List Space → List ℕ → ℕ → rust.Term → Term ScopedWord
-scoped_term ss scope m t = replaced (λ at. at) (scoped ss scope) (said_of m t)
+-- the terms of a statement of a module, each word as it takes part in a policy
+abbrev pub term_with : (Word → ScopedWord) → ℕ → rust.Term → Term ScopedWord
+term_with f m t = replaced (λ at. at) f (said_of m t)
 
-abbrev pub scoped_terms : List Space → List ℕ → ℕ → List rust.Term → Terms ScopedWord
-scoped_terms ss scope m ts = all_replaced (λ at. at) (scoped ss scope) (all_said m ts)
+abbrev pub terms_with : (Word → ScopedWord) → ℕ → List rust.Term → Terms ScopedWord
+terms_with f m ts = all_replaced (λ at. at) f (all_said m ts)
 
 -- the fault of a word of a statement in a namespace
 abbrev pub fault_of_word : Namespace → ScopedWord → Fault
@@ -50,13 +49,13 @@ fault_unless_listed permissions n w = if list_any (same_bytes w.bytes) permissio
 abbrev pub faults_unless_listed : List (List ℕ) → Namespace → List ScopedWord → List Fault
 faults_unless_listed permissions n ws = flat_map (fault_unless_listed permissions n) ws
 
--- the faults of the words of an instance, where it is in no optional
+-- the faults of the words of an item, where it is in no optional
 abbrev pub is_outside : List ℕ → Bool
 is_outside [] = true
 is_outside (o ∷ os) = false
 
-abbrev pub faults_in : List Item → OptSet → List Space → Instance → List Fault
-faults_in xs s ss i = if is_outside i.place.now.round.items then faults_of_all xs s (space_at ss i.place.now.space) (words_of (item_of ss i)) else []
+abbrev pub faults_in : List Item → OptSet → Item → List Fault
+faults_in xs s x = if is_outside x.round then faults_of_all xs s x.space (words_of x) else []
 
 -- ---- permissions, by the entries of their classes
 

@@ -6,7 +6,7 @@ ghost use Rattle.cil_names.specs.declared.row.Row.{Row};
 ghost use Rattle.cil_names.specs.declared.run.Run.{Run};
 ghost use Rattle.cil_names.specs.DeclareRows.{IsPlacedRow};
 ghost use Rattle.cil_names.specs.DeclareRuns.{faults_at, row_faults, run_faults};
-ghost use Rattle.cil_names.specs.Spaces.{AreSpaces};
+ghost use Rattle.cil_blocks.specs.Namespaces.{AreNamespaces};
 
 use crate::instance::Instance;
 use crate::row::Row;
@@ -19,7 +19,7 @@ use std::alloc::Global;
 
 /// The faults of runs whose rows differ: one for each declaring statement.
 pub fn clashes(alloc: Global, spaces: &[Space], runs: &[Run]) -> Result<Vec<Fault>, NoMemory>
-    requires spaces { AreSpaces spaces.now }
+    requires spaces { AreNamespaces spaces.now }
     requires placed { (run : Run) (r : Row) → Contains runs.now run → Contains run.rows.now r → IsPlacedRow spaces.now r }
     ensures { IfOk result (λ faults. faults.items ≡ flat_map (run_faults spaces.now) runs.now) }
 {
@@ -36,7 +36,7 @@ fn push_run(
     spaces: &[Space],
     run: &Run,
 ) -> Result<(), NoMemory>
-    requires spaces { AreSpaces spaces.now }
+    requires spaces { AreNamespaces spaces.now }
     requires placed { (r : Row) → Contains run.now.rows.now r → IsPlacedRow spaces.now r }
     ensures { OnOk result (faults.new.items ≡ faults.old.items ++ run_faults spaces.now run.now) }
 {
@@ -52,7 +52,7 @@ fn push_rows(
     spaces: &[Space],
     rows: &[Row],
 ) -> Result<(), NoMemory>
-    requires spaces { AreSpaces spaces.now }
+    requires spaces { AreNamespaces spaces.now }
     requires placed { (r : Row) → Contains rows.now r → IsPlacedRow spaces.now r }
     ensures { OnOk result (faults.new.items ≡ faults.old.items ++ flat_map (row_faults spaces.now) rows.now) }
 {
@@ -68,7 +68,7 @@ fn push_row(
     spaces: &[Space],
     row: &Row,
 ) -> Result<(), NoMemory>
-    requires spaces { AreSpaces spaces.now }
+    requires spaces { AreNamespaces spaces.now }
     requires placed { IsPlacedRow spaces.now row.now }
     ensures { OnOk result (faults.new.items ≡ faults.old.items ++ row_faults spaces.now row.now) }
 {
@@ -84,7 +84,7 @@ fn push_clash(
     spaces: &[Space],
     instance: &Instance,
 ) -> Result<(), NoMemory>
-    requires spaces { AreSpaces spaces.now }
+    requires spaces { AreNamespaces spaces.now }
     requires within { instance.now.place.now.space ≤ length spaces.now }
     ensures { OnOk result (faults.new.items ≡ faults.old.items ++ faults_at spaces.now (Some instance.now)) }
 {

@@ -77,9 +77,9 @@ impl<'s, 'a> Check<'s, 'a> {
         requires rising { (v : Vector Text) → Contains self.now.permissions.now v → IsStrictlySortedBy text_cmp v.items }
         requires placed { IsPlaced self.now.lookup.spaces.now instance.now }
         ensures words { OnOk result (words.new.items ≡ words.old.items ++ meanings self.now.lookup.spaces.now self.now.lookup.names.now (is_in self.now.lookup.enabled.now) instance.now) }
-        ensures faults { OnOk result ((is : List Instance) → AreEntries self.now.lookup.spaces.now is self.now.lookup.names.now
-            → ArePermissions self.now.lookup.spaces.now self.now.lookup.names.now (items_of self.now.lookup.spaces.now is) self.now.permissions.now
-            → faults.new.items ≡ faults.old.items ++ faults_in (items_of self.now.lookup.spaces.now is) (is_in self.now.lookup.enabled.now) self.now.lookup.spaces.now instance.now) }
+        ensures faults { OnOk result ((xs : List Item) → AreEntries self.now.lookup.spaces.now xs self.now.lookup.names.now
+            → ArePermissions self.now.lookup.spaces.now self.now.lookup.names.now xs self.now.permissions.now
+            → faults.new.items ≡ faults.old.items ++ faults_in xs (is_in self.now.lookup.enabled.now) self.now.lookup.spaces.now instance.now) }
     {
         // What is known of the numbers of namespaces.
         let _ = self.lookup.spaces.as_slice();

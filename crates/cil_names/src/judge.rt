@@ -157,8 +157,8 @@ impl<'s, 'a> Judge<'s, 'a> {
     fn listed(&self, class: &Word) -> &'s [Bytes]
         requires { IsReady self.now }
         ensures sorted { IsStrictlySortedBy text_cmp result.now }
-        ensures listed { (is : List Instance) → Knows self.now is
-            → (w : ScopedWord) → list_any (same_bytes w.bytes) result.now ≡ resolves (items_of self.now.filling.spaces.now is) (enabled_in self.now) (APermission (word_in_scope self.now class.now) w) }
+        ensures listed { (xs : List Item) → Knows self.now xs
+            → (w : ScopedWord) → list_any (same_bytes w.bytes) result.now ≡ resolves xs (enabled_in self.now) (APermission (word_in_scope self.now class.now) w) }
     {
         let spaces = self.filling.spaces.as_slice();
         let entries = self.filling.names.entries();

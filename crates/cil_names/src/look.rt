@@ -7,7 +7,7 @@ ghost use Rattle.std.specs.Ordering.{on};
 ghost use Rattle.cil_syntax.specs.Scopes.{IsDotless, names_backwards};
 ghost use Rattle.cil_names.specs.Entries.{AreOrdered, HasNoEntry, IsEntryAt, candidate, candidates_of, is_declared_at, is_declared_in, is_in, key_cmp, key_of, listed, scoped};
 ghost use Rattle.cil_names.specs.Found.{IsFound, IsMissing};
-ghost use Rattle.cil_names.specs.Spaces.{AreSpaces, space_at};
+ghost use Rattle.cil_blocks.specs.Namespaces.{AreNamespaces, space_at};
 
 use crate::entry::Entry;
 use crate::kinds::{rank_of, rank_wanted, wants};
@@ -54,7 +54,7 @@ fn named_in(
     path: &Path,
     sign: Sign,
 ) -> Option<usize>
-    requires spaces { AreSpaces spaces.now }
+    requires spaces { AreNamespaces spaces.now }
     requires entries { AreOrdered spaces.now entries.now }
     requires within { from ≤ length spaces.now }
     requires dotless { IsTrue path.now.dotless → IsDotless path.now.names.now }
@@ -75,7 +75,7 @@ pub fn candidates(
     word: &Word,
     scope: &[usize],
 ) -> Result<Vec<usize>, NoMemory>
-    requires spaces { AreSpaces spaces.now }
+    requires spaces { AreNamespaces spaces.now }
     requires entries { AreOrdered spaces.now entries.now }
     requires within { All (λ k. k ≤ length spaces.now) scope.now }
     ensures { IfOk result (λ ds. ds.items ≡ candidates_of spaces.now entries.now (scoped spaces.now scope.now word.now)) }
@@ -109,7 +109,7 @@ pub fn resolve(
     word: &Word,
     scope: &[usize],
 ) -> Option<usize>
-    requires spaces { AreSpaces spaces.now }
+    requires spaces { AreNamespaces spaces.now }
     requires entries { AreOrdered spaces.now entries.now }
     requires within { All (λ k. k ≤ length spaces.now) scope.now }
     ensures { result ≡ find (is_declared_at (is_in enabled.now) entries.now) (candidates_of spaces.now entries.now (scoped spaces.now scope.now word.now)) }

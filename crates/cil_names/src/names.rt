@@ -12,7 +12,7 @@ ghost use Rattle.cil_names.specs.Entries.{AreEntries, AreOrdered, HasNoEntryIn, 
 ghost use Rattle.cil_macros.specs.Item.{OptSet as OptionalSet};
 ghost use Rattle.cil_names.specs.PermissionWords.{IsAnswerFor, wanted_candidates};
 ghost use Rattle.cil_names.specs.Resolves.{Permission};
-ghost use Rattle.cil_names.specs.Spaces.{space_at};
+ghost use Rattle.cil_blocks.specs.Namespaces.{space_at};
 ghost use Rattle.cil_names.specs.Unresolved.{ArePermissions};
 
 use crate::entry::Entry;
@@ -132,7 +132,7 @@ impl<'a> Names<'a> {
         ensures first { result ≡ find (is_declared_at (is_in enabled.now) self.now) (candidates_of spaces.now self.now (scoped spaces.now scope.now word.now)) }
         ensures within { IfSome result (λ d. d < length self.now) }
         // Where these are the declared names of some instances, it is what the word names among them.
-        ensures names { (is : List Instance) → AreEntries spaces.now is self.now → IsAnswer spaces.now is self.now (is_in enabled.now) (scoped spaces.now scope.now word.now) result }
+        ensures names { (xs : List Item) → AreEntries spaces.now xs self.now → IsAnswer spaces.now xs self.now (is_in enabled.now) (scoped spaces.now scope.now word.now) result }
     {
         look::resolve(
             spaces.as_slice(),
@@ -161,10 +161,10 @@ impl<'a> Names<'a> {
         ensures within { IfSome result (λ d. d < length self.now) }
         // Where these are the declared names of some instances, and the permissions of their classes, it is what the
         // permission could name and what it names.
-        ensures candidate { (is : List Instance) → AreEntries spaces.now is self.now → ArePermissions spaces.now self.now (items_of spaces.now is) permissions.now
-            → listed result ≡ wanted_candidates spaces.now self.now (items_of spaces.now is) (Permission (scoped spaces.now scope.now class.now) (scoped spaces.now scope.now permission.now)) }
-        ensures names { (is : List Instance) (s : OptionalSet) → AreEntries spaces.now is self.now → ArePermissions spaces.now self.now (items_of spaces.now is) permissions.now
-            → IsAnswerFor spaces.now is self.now s (Permission (scoped spaces.now scope.now class.now) (scoped spaces.now scope.now permission.now)) result }
+        ensures candidate { (xs : List Item) → AreEntries spaces.now xs self.now → ArePermissions spaces.now self.now xs permissions.now
+            → listed result ≡ wanted_candidates spaces.now self.now xs (Permission (scoped spaces.now scope.now class.now) (scoped spaces.now scope.now permission.now)) }
+        ensures names { (xs : List Item) (s : OptionalSet) → AreEntries spaces.now xs self.now → ArePermissions spaces.now self.now xs permissions.now
+            → IsAnswerFor spaces.now xs self.now s (Permission (scoped spaces.now scope.now class.now) (scoped spaces.now scope.now permission.now)) result }
     {
         class_with(
             spaces.as_slice(),

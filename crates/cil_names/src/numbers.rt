@@ -8,7 +8,7 @@ ghost use Rattle.cil_syntax.specs.declared.kind.Kind as kinds;
 ghost use Rattle.cil_syntax.specs.Spelling.{same_bytes};
 ghost use Rattle.cil_names.specs.Entries.{AreOrdered, is_in, place_where};
 ghost use Rattle.cil_names.specs.Numbers.{AreApart, AreNumbers, ArePlainNames, IsNameAmong, has_section, name_given, names_of, place_in, spelled_of};
-ghost use Rattle.cil_names.specs.Spaces.{AreSpaces};
+ghost use Rattle.cil_blocks.specs.Namespaces.{AreNamespaces};
 
 use crate::entry::Entry;
 use crate::opt_set::OptSet;
@@ -62,7 +62,7 @@ fn sections_of(
     entries: &[Entry],
     enabled: &OptSet,
 ) -> Result<Sections, NoMemory>
-    requires spaces { AreSpaces spaces.now }
+    requires spaces { AreNamespaces spaces.now }
     requires ordered { AreOrdered spaces.now entries.now }
     ensures { IfOk result (λ n. (kind : kinds.Kind) → has_section kind ≡ true → Lists text_cmp (IsNameAmong spaces.now entries.now (is_in enabled.now) kind) (names_of n kind)) }
 {
@@ -86,7 +86,7 @@ fn section_of(
     enabled: &OptSet,
     kind: Kind,
 ) -> Result<Vec<Bytes>, NoMemory>
-    requires spaces { AreSpaces spaces.now }
+    requires spaces { AreNamespaces spaces.now }
     requires ordered { AreOrdered spaces.now entries.now }
     ensures { IfOk result (λ names. Lists text_cmp (IsNameAmong spaces.now entries.now (is_in enabled.now) kind) names.items) }
 {
@@ -104,7 +104,7 @@ fn given(
     enabled: &OptSet,
     kind: Kind,
 ) -> Result<Vec<Bytes>, NoMemory>
-    requires spaces { AreSpaces spaces.now }
+    requires spaces { AreNamespaces spaces.now }
     requires ordered { AreOrdered spaces.now entries.now }
     ensures { IfOk result (λ names. names.items ≡ flat_map (name_given spaces.now (is_in enabled.now) kind) entries.now) }
 {
@@ -124,7 +124,7 @@ fn push_name(
     spaces: &[Space],
     entry: &Entry,
 ) -> Result<(), NoMemory>
-    requires spaces { AreSpaces spaces.now }
+    requires spaces { AreNamespaces spaces.now }
     requires within { entry.now.space ≤ length spaces.now }
     ensures { OnOk result (names.new.items ≡ names.old.items ++ spelled_of spaces.now entry.now ∷ []) }
 {
@@ -139,7 +139,7 @@ fn numbers_of(
     entries: &[Entry],
     sections: &Sections,
 ) -> Result<Vec<usize>, NoMemory>
-    requires spaces { AreSpaces spaces.now }
+    requires spaces { AreNamespaces spaces.now }
     requires ordered { AreOrdered spaces.now entries.now }
     requires rising { (kind : kinds.Kind) → IsStrictlySortedBy text_cmp (names_of sections.now kind) }
     ensures { IfOk result (λ numbers. numbers.items ≡ map (λ e. place_in (names_of sections.now e.kind) (spelled_of spaces.now e)) entries.now) }

@@ -9,12 +9,12 @@ ghost use Rattle.cil_sexpr.specs.Lists.{text_cmp};
 ghost use Rattle.cil_syntax.specs.declared.fault.Bytes.{Bytes as Text};
 ghost use Rattle.cil_syntax.specs.Spelling.{same_bytes};
 ghost use Rattle.cil_names.specs.declared.instance.Instance.{Instance};
-ghost use Rattle.cil_names.specs.declared.space.Space.{Space as ASpace};
+ghost use Rattle.cil_blocks.specs.declared.namespaces.Space.{Space as ASpace};
 ghost use Rattle.cil_names.specs.Entries.{AreEntries, AreOrdered, items_of, key_cmp, key_of, scoped};
 ghost use Rattle.cil_macros.specs.Item.{nobody};
 ghost use Rattle.cil_names.specs.Meanings.{meant};
 ghost use Rattle.cil_names.specs.PermissionWords.{class_with as the_class_with, has_permission_at};
-ghost use Rattle.cil_names.specs.Spaces.{AreSpaces};
+ghost use Rattle.cil_blocks.specs.Namespaces.{AreNamespaces};
 ghost use Rattle.cil_names.specs.Unresolved.{ArePermissions, listed_at as listed_for};
 
 use crate::entry::Entry;
@@ -31,7 +31,7 @@ pub fn class_named(
     class: &Word,
     scope: &[usize],
 ) -> Option<usize>
-    requires spaces { AreSpaces spaces.now }
+    requires spaces { AreNamespaces spaces.now }
     requires entries { AreOrdered spaces.now entries.now }
     requires within { All (λ k. k ≤ length spaces.now) scope.now }
     ensures value { result ≡ meant spaces.now entries.now nobody (scoped spaces.now scope.now class.now) }
@@ -47,8 +47,8 @@ pub fn permissions_at<'s>(entries: &[Entry], permissions: &'s [Vec<Bytes>], d: u
     requires sorted { (v : Vector Text) → Contains permissions.now v → IsStrictlySortedBy text_cmp v.items }
     requires within { d < length entries.now }
     ensures sorted { IsStrictlySortedBy text_cmp result.now }
-    ensures listed { (ss : List ASpace) (is : List Instance) → AreSpaces ss → AreEntries ss is entries.now → ArePermissions ss entries.now (items_of ss is) permissions.now
-        → (p : List ℕ) → list_any (same_bytes p) result.now ≡ has_permission_at ss entries.now (items_of ss is) p d }
+    ensures listed { (ss : List ASpace) (xs : List Item) → AreNamespaces ss → AreEntries ss xs entries.now → ArePermissions ss entries.now xs permissions.now
+        → (p : List ℕ) → list_any (same_bytes p) result.now ≡ has_permission_at ss entries.now xs p d }
 {
     let entry = &entries[d];
     let Some(class) = entry_in(entries, entry.space, entry.name.as_slice(), Sign::Classes) else {
@@ -86,12 +86,12 @@ pub fn class_with(
     permission: &Word,
     scope: &[usize],
 ) -> Option<usize>
-    requires spaces { AreSpaces spaces.now }
+    requires spaces { AreNamespaces spaces.now }
     requires entries { AreOrdered spaces.now entries.now }
     requires sorted { (v : Vector Text) → Contains permissions.now v → IsStrictlySortedBy text_cmp v.items }
     requires within { All (λ k. k ≤ length spaces.now) scope.now }
-    ensures value { (is : List Instance) → AreEntries spaces.now is entries.now → ArePermissions spaces.now entries.now (items_of spaces.now is) permissions.now
-        → result ≡ the_class_with spaces.now entries.now (items_of spaces.now is) (scoped spaces.now scope.now class.now) (scoped spaces.now scope.now permission.now) }
+    ensures value { (xs : List Item) → AreEntries spaces.now xs entries.now → ArePermissions spaces.now entries.now xs permissions.now
+        → result ≡ the_class_with spaces.now entries.now xs (scoped spaces.now scope.now class.now) (scoped spaces.now scope.now permission.now) }
     ensures within { IfSome result (λ d. d < length entries.now) }
 {
     let d = class_named(spaces, entries, class, scope)?;

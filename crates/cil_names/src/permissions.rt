@@ -5,12 +5,12 @@ ghost use Rattle.std.specs.List.Sorted.{IsStrictlySortedBy};
 ghost use Rattle.std.specs.Ordering.{on};
 ghost use Rattle.cil_sexpr.specs.Lists.{Lists, text_cmp};
 ghost use Rattle.cil_syntax.specs.Said.{all_said};
-ghost use Rattle.cil_names.specs.declared.space.Space.{Space};
+ghost use Rattle.cil_blocks.specs.declared.namespaces.Space.{Space};
 ghost use Rattle.cil_names.specs.Entries.{AreOrdered, item_of, items_of, key_cmp, key_of};
 ghost use Rattle.cil_macros.specs.Item.{Item, names_in};
 ghost use Rattle.cil_names.specs.Permissions.{AreEmpty, DeclaresClass, DeclaresNoClass};
 ghost use Rattle.cil_names.specs.Placed.{ArePlaced, IsPlaced};
-ghost use Rattle.cil_names.specs.Spaces.{AreSpaces};
+ghost use Rattle.cil_blocks.specs.Namespaces.{AreNamespaces};
 ghost use Rattle.cil_names.specs.Unresolved.{ArePermissions};
 
 use crate::entry::Entry;
@@ -68,7 +68,7 @@ fn add_listed(
     requires rising { IsStrictlySortedBy (on key_of key_cmp) entries.now }
     requires len { length lists.old.items ≡ length entries.now }
     ensures len { OnOk result (length lists.new.items ≡ length entries.now) }
-    ensures listed { OnOk result ((ss : List Space) (xs : List Item) → AreSpaces ss → AreOrdered ss entries.now → IsPlaced ss instance.now
+    ensures listed { OnOk result ((ss : List Space) (xs : List Item) → AreNamespaces ss → AreOrdered ss entries.now → IsPlaced ss instance.now
         → ArePermissions ss entries.now xs lists.old.items → ArePermissions ss entries.now (xs ++ item_of ss instance.now ∷ []) lists.new.items) }
 {
     let Some(name) = class_declared(instance) else {

@@ -4,11 +4,11 @@ ghost use Rattle.std.specs.Prelude.{◌≡◌, ◌↔◌, ◌<◌, ◌≤◌, Co
 ghost use Rattle.std.specs.declared.cmp.Ordering.TheVariants.{Less};
 ghost use Rattle.std.specs.List.Sorted.{IsPermutation, IsSortedByKey};
 ghost use Rattle.cil_names.specs.declared.row.Row.{Row};
-ghost use Rattle.cil_names.specs.declared.space.Space.{Space};
+ghost use Rattle.cil_blocks.specs.declared.namespaces.Space.{Space};
 ghost use Rattle.cil_names.specs.DeclareRows.{IsPlacedRow, TellsDiffering, declaration_of, row_key};
 ghost use Rattle.cil_names.specs.DeclareRuns.{AreRuns, IsNextRun};
 ghost use Rattle.cil_names.specs.Entries.{key_cmp};
-ghost use Rattle.cil_names.specs.Spaces.{AreSpaces};
+ghost use Rattle.cil_blocks.specs.Namespaces.{AreNamespaces};
 
 use crate::content::is_same_content;
 use crate::row::Row;
@@ -42,7 +42,7 @@ pub fn runs_of<'r, 's, 'a>(
     rows: &'r [Row<'s, 'a>],
 ) -> Result<Vec<Run<'r, 's, 'a>>, NoMemory>
     requires { IsSortedByKey row_key key_cmp rows.now }
-    ensures { IfOk result (λ runs. (ss : List Space) → AreSpaces ss → ((r : Row) → Contains rows.now r → IsPlacedRow ss r) → AreRuns ss rows.now runs.items) }
+    ensures { IfOk result (λ runs. (ss : List Space) → AreNamespaces ss → ((r : Row) → Contains rows.now r → IsPlacedRow ss r) → AreRuns ss rows.now runs.items) }
 {
     let mut runs = Vec::new(alloc);
     let mut start = 0;
@@ -93,7 +93,7 @@ fn run_length(rest: &[Row], first: &Row) -> usize
 /// Whether one of some rows with one key declares another symbol than the first.
 fn is_differing(first: &Row, rows: &[Row]) -> bool
     requires { (r : Row) → Contains rows.now r → row_key r ≡ row_key first.now }
-    ensures { (ss : List Space) → AreSpaces ss → IsPlacedRow ss first.now → ((r : Row) → Contains rows.now r → IsPlacedRow ss r)
+    ensures { (ss : List Space) → AreNamespaces ss → IsPlacedRow ss first.now → ((r : Row) → Contains rows.now r → IsPlacedRow ss r)
         → TellsDiffering ss first.now rows.now result }
 {
     for row in rows {
@@ -107,7 +107,7 @@ fn is_differing(first: &Row, rows: &[Row]) -> bool
 /// Whether two rows with one key declare the same.
 fn is_same(a: &Row, b: &Row) -> bool
     requires { row_key b.now ≡ row_key a.now }
-    ensures { (ss : List Space) → AreSpaces ss → IsPlacedRow ss a.now → IsPlacedRow ss b.now → (IsTrue result ↔ (declaration_of ss a.now ≡ declaration_of ss b.now)) }
+    ensures { (ss : List Space) → AreNamespaces ss → IsPlacedRow ss a.now → IsPlacedRow ss b.now → (IsTrue result ↔ (declaration_of ss a.now ≡ declaration_of ss b.now)) }
 {
     is_same_kind(a.kind, b.kind)
         && is_same_content(

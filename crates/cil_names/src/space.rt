@@ -3,7 +3,8 @@
 ghost use Rattle.std.specs.Prelude.{◌≡◌, ◌↔◌, ◌≤◌, ◌∷◌, ℕ, IsTrue, Some, length, MatchOption, slice_get};
 ghost use Rattle.std.specs.List.Sorted.{IsStrictlySortedBy};
 ghost use Rattle.std.specs.Ordering.{on};
-ghost use Rattle.cil_names.specs.Spaces.{AreSpaces, HasNoNumber, IsAskedAt, IsAskedNowhere, IsNumber, place_cmp, place_of, space_at};
+ghost use Rattle.cil_blocks.specs.Namespaces.{AreNamespaces, HasNoNumber, IsNumber, space_at};
+ghost use Rattle.cil_names.specs.Spaces.{IsAskedAt, IsAskedNowhere, place_cmp, place_of};
 
 use cil_syntax::{Excerpt, parted};
 use std::alloc::Global;
@@ -28,19 +29,19 @@ pub struct Spaces<'a> {
 
 impl<'a> Model for Spaces<'a> {
     ghost use Rattle.std.specs.Prelude.{List};
-    ghost use Rattle.cil_names.specs.declared.space.Space.{Space};
-    ghost use Rattle.cil_names.specs.Spaces.{AreSpaces};
+    ghost use Rattle.cil_blocks.specs.declared.namespaces.Space.{Space};
+    ghost use Rattle.cil_blocks.specs.Namespaces.{AreNamespaces};
 
     ghost Value = { List Space };
 
     ghost view = { λ a. a.spaces.items };
 
-    ghost invariant = { λ a. AreSpaces a.spaces.items };
+    ghost invariant = { λ a. AreNamespaces a.spaces.items };
 }
 
 impl<'a> Spaces<'a> {
     ghost use Rattle.std.specs.Prelude.{◌≡◌, ◌↔◌, ◌≤◌, [], All, IsTrue, MatchOption, length};
-    ghost use Rattle.cil_names.specs.Spaces.{AreSpaces};
+    ghost use Rattle.cil_blocks.specs.Namespaces.{AreNamespaces};
 
     /// No namespace but the global one.
     pub fn global(alloc: Global) -> Spaces<'a>
@@ -53,7 +54,7 @@ impl<'a> Spaces<'a> {
 
     /// These namespaces.
     pub fn of(spaces: Vec<Space<'a>>) -> Spaces<'a>
-        requires { AreSpaces spaces.items }
+        requires { AreNamespaces spaces.items }
         ensures { result ≡ spaces.entry.items }
     {
         Spaces { spaces }
@@ -61,7 +62,7 @@ impl<'a> Spaces<'a> {
 
     /// These namespaces; none where they do not rise, or one does not come after the one round it.
     pub fn checked(spaces: Vec<Space<'a>>) -> Option<Spaces<'a>>
-        ensures { MatchOption result (AreSpaces spaces.entry.items → ⊥) (λ s. s ≡ spaces.entry.items) }
+        ensures { MatchOption result (AreNamespaces spaces.entry.items → ⊥) (λ s. s ≡ spaces.entry.items) }
     {
         if !rise(spaces.as_slice()) {
             return None;
@@ -88,7 +89,7 @@ impl<'a> Spaces<'a> {
     /// The namespaces, in order.
     pub fn as_slice(&self) -> &[Space<'a>]
         ensures value { result.now ≡ self.now }
-        ensures numbered { AreSpaces result.now }
+        ensures numbered { AreNamespaces result.now }
     {
         self.spaces.as_slice()
     }
@@ -120,7 +121,7 @@ fn come_after(spaces: &[Space]) -> bool
 
 /// The number of the namespace of this name in another one.
 fn child(spaces: &[Space], outer: usize, name: &[u8]) -> Option<usize>
-    requires spaces { AreSpaces spaces.now }
+    requires spaces { AreNamespaces spaces.now }
     requires within { outer ≤ length spaces.now }
     ensures { MatchOption result (HasNoNumber spaces.now (name.now ∷ space_at spaces.now outer)) (IsNumber spaces.now (name.now ∷ space_at spaces.now outer)) }
 {
@@ -142,7 +143,7 @@ pub struct Place<'a> {
 /// Where names ask in a namespace; none where that namespace is not there. Each name before a dot costs one search by
 /// halving.
 pub fn asked_in<'a>(spaces: &[Space], from: usize, path: &'a [u8]) -> Option<Place<'a>>
-    requires spaces { AreSpaces spaces.now }
+    requires spaces { AreNamespaces spaces.now }
     requires within { from ≤ length spaces.now }
     ensures { MatchOption result (IsAskedNowhere spaces.now from path.now) (λ p. IsAskedAt spaces.now from path.now p.space p.name.now) }
 {

@@ -3,7 +3,7 @@
 ghost use Rattle.std.specs.Prelude.{◌≡◌, ◌≤◌, ◌∷◌, ◌++◌, IfOk, OnOk, length};
 ghost use Rattle.cil_syntax.specs.Written.{qualified};
 ghost use Rattle.cil_names.specs.Numbers.{dotted};
-ghost use Rattle.cil_names.specs.Spaces.{AreSpaces, space_at};
+ghost use Rattle.cil_blocks.specs.Namespaces.{AreNamespaces, space_at};
 
 use crate::space::{Space, Spaces};
 use cil_modset::NoMemory;
@@ -17,7 +17,7 @@ pub fn spelled(
     space: usize,
     name: &[u8],
 ) -> Result<Bytes, NoMemory>
-    requires spaces { AreSpaces spaces.now }
+    requires spaces { AreNamespaces spaces.now }
     requires within { space ≤ length spaces.now }
     ensures { IfOk result (λ bytes. bytes ≡ qualified (name.now ∷ space_at spaces.now space)) }
 {
@@ -30,7 +30,7 @@ pub fn spelled(
 impl Spaces<'_> {
     ghost use Rattle.std.specs.Prelude.{◌≡◌, ◌≤◌, IfOk, length};
     ghost use Rattle.cil_syntax.specs.Written.{qualified};
-    ghost use Rattle.cil_names.specs.Spaces.{space_at};
+    ghost use Rattle.cil_blocks.specs.Namespaces.{space_at};
 
     /// The qualified name of the namespace of this number; empty for the global one.
     pub fn spelled(&self, alloc: Global, number: usize) -> Result<Bytes, NoMemory>
@@ -43,7 +43,7 @@ impl Spaces<'_> {
 
 /// The qualified name of the namespace of this number; empty for the global one.
 pub fn spelled_space(alloc: Global, spaces: &[Space], number: usize) -> Result<Bytes, NoMemory>
-    requires spaces { AreSpaces spaces.now }
+    requires spaces { AreNamespaces spaces.now }
     requires within { number ≤ length spaces.now }
     ensures { IfOk result (λ bytes. bytes ≡ qualified (space_at spaces.now number)) }
 {
@@ -57,7 +57,7 @@ pub fn spelled_space(alloc: Global, spaces: &[Space], number: usize) -> Result<B
 
 /// Adds the names of the namespace of a number from the outermost on, each with a dot behind it.
 fn push_dotted(bytes: &mut Vec<u8>, spaces: &[Space], number: usize) -> Result<(), NoMemory>
-    requires spaces { AreSpaces spaces.now }
+    requires spaces { AreNamespaces spaces.now }
     requires within { number ≤ length spaces.now }
     ensures { OnOk result (bytes.new.items ≡ bytes.old.items ++ dotted (space_at spaces.now number)) }
 {

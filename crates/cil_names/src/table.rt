@@ -89,8 +89,8 @@ impl<'s, 'a> Filling<'s, 'a> {
         requires within { All (λ k. k ≤ length self.now.spaces.now) self.now.scope.now }
         ensures first { result ≡ meant self.now.spaces.now self.now.names.now (is_in self.now.enabled.now) (scoped self.now.spaces.now self.now.scope.now word.now) }
         ensures within { IfSome result (λ d. d < length self.now.names.now) }
-        ensures names { (is : List Instance) → AreEntries self.now.spaces.now is self.now.names.now
-            → IsAnswer self.now.spaces.now is self.now.names.now (is_in self.now.enabled.now) (scoped self.now.spaces.now self.now.scope.now word.now) result }
+        ensures names { (xs : List Item) → AreEntries self.now.spaces.now xs self.now.names.now
+            → IsAnswer self.now.spaces.now xs self.now.names.now (is_in self.now.enabled.now) (scoped self.now.spaces.now self.now.scope.now word.now) result }
     {
         self.names
             .resolve(self.spaces, word, self.scope, self.enabled)

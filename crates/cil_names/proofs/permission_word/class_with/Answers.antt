@@ -9,7 +9,7 @@ use Rattle.cil_names.proofs.permission_word.class_with.Goals as goal
 pub returns-then-not-is_listed-clause-value : goal.returns-then-not-is_listed-clause-value
 returns-then-not-is_listed-clause-value c =
     λ is entries permissions.
-    class_lacks (has_permission_at c.args.spaces.now c.args.entries.now (items_of c.args.spaces.now is) c.args.permission.now.bytes)
+    class_lacks (has_permission_at c.args.spaces.now c.args.entries.now xs c.args.permission.now.bytes)
     (meant c.args.spaces.now c.args.entries.now nobody (scoped c.args.spaces.now c.args.scope.now c.args.class.now))
     c.in_ok-d.d c.in_ok-d.ensures.value
     (sym (c.permissions_at-listed.ensures.listed c.args.spaces.now is c.requires.spaces entries permissions c.args.permission.now.bytes) ∙ search rules)
@@ -17,7 +17,7 @@ returns-then-not-is_listed-clause-value c =
 pub returns-clause-value : goal.returns-clause-value
 returns-clause-value c =
     λ is entries permissions.
-    class_has (has_permission_at c.args.spaces.now c.args.entries.now (items_of c.args.spaces.now is) c.args.permission.now.bytes)
+    class_has (has_permission_at c.args.spaces.now c.args.entries.now xs c.args.permission.now.bytes)
     (meant c.args.spaces.now c.args.entries.now nobody (scoped c.args.spaces.now c.args.scope.now c.args.class.now))
     c.in_ok-d.d c.in_ok-d.ensures.value
     (sym (c.permissions_at-listed.ensures.listed c.args.spaces.now is c.requires.spaces entries permissions c.args.permission.now.bytes) ∙ search rules)

@@ -2,7 +2,7 @@ use Rattle.std.specs.Prelude.{List}
 use Rattle.std.proofs.Common.{ap, length, subst, sym, ◌∙◌}
 use Rattle.cil_names.specs.declared.entry.Entry.{Entry}
 use Rattle.cil_names.specs.Entries.{AreOrdered, items_of}
-use Rattle.cil_names.specs.Spaces.{AreSpaces}
+use Rattle.cil_blocks.specs.Namespaces.{AreNamespaces}
 use Rattle.cil_names.specs.Unresolved.{ArePermissions}
 use Rattle.cil_names.proofs.FillLemmas.{placed_at}
 use Rattle.cil_names.proofs.PermissionLemmas.{listed_all, listed_more, listed_none}
@@ -13,7 +13,7 @@ loop-instance-init c = (c.in_ok-lists.ensures.len, listed_none c.args.spaces.now
 
 pub loop-instance-preserved : goal.loop-instance-preserved
 loop-instance-preserved c =
-    let spaces : AreSpaces c.args.spaces.now = subst AreSpaces c.as_slice.ensures.value c.as_slice.ensures.numbered in
+    let spaces : AreNamespaces c.args.spaces.now = subst AreNamespaces c.as_slice.ensures.value c.as_slice.ensures.numbered in
     let ordered : AreOrdered c.args.spaces.now c.entries-entries.result.now = subst (AreOrdered c.args.spaces.now) (sym c.entries-entries.ensures.value) c.requires.ordered in (
       c.in_ok-add_listed.ensures.len,
       listed_more c.args.spaces.now c.entries-entries.result.now c.args.instances.now c.loop-instance.instance-index c.instance-item.result _ c.loop-instance-test.true c.instance-item.is

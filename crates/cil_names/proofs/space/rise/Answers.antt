@@ -2,7 +2,7 @@ use Rattle.std.proofs.Common.{rules}
 use Rattle.std.specs.Ordering.{is_lt, on}
 use Rattle.std.proofs.lemmas.Cmp.{on_total}
 use Rattle.std.proofs.lemmas.Fn.{always_returns_same}
-use Rattle.cil_names.specs.declared.space.Space.{Space}
+use Rattle.cil_blocks.specs.declared.namespaces.Space.{Space}
 use Rattle.cil_names.specs.Spaces.{place_cmp, place_of}
 use Rattle.cil_names.proofs.OrderLemmas.{place_total}
 use Rattle.cil_names.proofs.RisingLemmas.{rises_where_sorted, sorted_where_rises}

@@ -1,6 +1,6 @@
 use Rattle.std.proofs.Common.{rules, ◌≡◌, ◌++◌, ◌∙◌, sym}
 use Rattle.cil_names.specs.Numbers.{dotted}
-use Rattle.cil_names.specs.Spaces.{space_at}
+use Rattle.cil_blocks.specs.Namespaces.{space_at}
 use Rattle.cil_names.proofs.SpelledLemmas.{qualified_last}
 use Rattle.cil_names.proofs.spelled.spelled.Goals as goal
 

@@ -1,6 +1,6 @@
 use Rattle.std.proofs.Common.{rules, arith, ◌∷◌, ◌∙◌, ap}
 use Rattle.cil_syntax.specs.Written.{qualified}
-use Rattle.cil_names.specs.Spaces.{space_at}
+use Rattle.cil_blocks.specs.Namespaces.{space_at}
 use Rattle.cil_names.proofs.SpelledLemmas.{global_spelled, inner_spelled, outer_within}
 use Rattle.cil_names.proofs.spelled.spelled_space.Goals as goal
 

@@ -1,5 +1,5 @@
 use Rattle.std.proofs.Common.{sym, ◌∙◌}
-use Rattle.cil_names.specs.Spaces.{space_at}
+use Rattle.cil_blocks.specs.Namespaces.{space_at}
 use Rattle.cil_names.proofs.UnresolvedLemmas.{leaf_listed, leaf_unlisted, name_unlisted, form_unlisted, more_unlisted, none_unlisted, unlisted, unlisted_one, walked_all, walked_on}
 use Rattle.cil_names.proofs.judge.Judge.+permissions.Goals as goal
 

@@ -1,5 +1,5 @@
 use Rattle.std.proofs.Common.{◌≡◌, ◌++◌, drop}
-use Rattle.cil_names.specs.Spaces.{space_at}
+use Rattle.cil_blocks.specs.Namespaces.{space_at}
 use Rattle.cil_names.proofs.UnresolvedLemmas.{unlisted}
 use Rattle.cil_names.proofs.judge.Judge.+permissions.Given as goal
 

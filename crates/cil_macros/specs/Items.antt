@@ -1,0 +1,146 @@
+-- The statements that take part in a policy: each that is placed, its words with the namespaces that they ask and the
+-- arguments put in. CIL Reference Guide, "Call / Macro Statements"; which words a call has is this project's profile.
+use Rattle.std.specs.Prelude.{◌≡◌, ℕ, Bool, true, false, List, [], ◌∷◌, ◌++◌, map, get_or, Option, Some, None, slice_get}
+use Rattle.std.specs.List.{flat_map}
+use Rattle.cil_sexpr.specs.Lists.{Lists}
+use Rattle.cil_syntax.specs.declared.kind.Keyword.{Keyword}
+use Rattle.cil_syntax.specs.declared.kind.Keyword.TheVariants as keywords
+use Rattle.cil_syntax.specs.declared.kind.Sign.{Sign}
+use Rattle.cil_syntax.specs.declared.kind.Sign.TheVariants as signs
+use Rattle.cil_syntax.specs.declared.term.Word.{Word}
+use Rattle.cil_syntax.specs.Scopes.{ScopedWord}
+use Rattle.cil_syntax.specs.Terms.{Term, Leaf, Name, Form, Terms, nil, cons}
+use Rattle.cil_syntax.specs.Written.{IsWritten, Written, written_cmp}
+use Rattle.cil_blocks.specs.declared.namespaces.Space.{Space}
+use Rattle.cil_blocks.specs.Contents.{Standing, Stands, first_word, standing_cmp, standing_top}
+use Rattle.cil_blocks.specs.Entries.{nothing}
+use Rattle.cil_blocks.specs.Places.{Standings, spaces_in}
+use Rattle.cil_macros.specs.declared.entry.Called.{Called}
+use Rattle.cil_macros.specs.declared.placed_word.PlacedWord.{PlacedWord}
+use Rattle.cil_macros.specs.Calls.{IsPlaced, Unfolded, placed_cmp, unfolded}
+use Rattle.cil_macros.specs.Item.{Item, all_replaced, replaced}
+use Rattle.cil_macros.specs.Macros.{all_standing}
+use Rattle.cil_macros.specs.Meant.{scope_there}
+use Rattle.cil_macros.specs.Placed.{Bound, Placed, meaning, placed_standing}
+use Rattle.cil_macros.specs.Walks.{placed_in, written_in}
+
+-- ---- words
+
+-- a word that no namespace is asked for
+abbrev pub unasked : Word → ScopedWord
+unasked w = record { at = w.at; bytes = w.bytes; sign = w.sign; scope = [] }
+
+-- what is meant, as a word. A string serves no place of a word that is looked up
+abbrev pub as_word : Word → Term ScopedWord → ScopedWord
+as_word w (Leaf v) = v
+as_word w (Name at name) = unasked w
+as_word w (Form at op parts) = unasked w
+
+-- what a word of a placed statement says there: the argument for which it stands, or itself in its scope
+unfoldable pub word_of : List Written → Placed → Word → ScopedWord
+word_of ws p w = as_word w (meaning ws p w)
+
+-- ---- what statements say
+
+-- words, one after another
+unfoldable pub leaves : List ScopedWord → Terms ScopedWord
+leaves [] = nil
+leaves (w ∷ ws) = cons (Leaf w) (leaves ws)
+
+-- names and strings are not looked up
+abbrev pub is_text : Sign → Bool
+is_text signs.Text = true
+is_text sign = false
+
+abbrev pub listed_unless : {X : Type 0} → Bool → X → List X
+listed_unless true x = []
+listed_unless false x = x ∷ []
+
+-- the word that an argument is
+abbrev pub word_in_argument : Term ScopedWord → List ScopedWord
+word_in_argument (Leaf w) = listed_unless (is_text w.sign) w
+word_in_argument (Name at name) = []
+word_in_argument (Form at op parts) = []
+
+abbrev pub argument_words : List Bound → List ScopedWord
+argument_words bs = flat_map (λ (b : Bound). word_in_argument b.value) bs
+
+abbrev pub unfolded_words : Option Unfolded → List ScopedWord
+unfolded_words None = []
+unfolded_words (Some u) = argument_words u.bounds
+
+-- the word of the macro: it is looked up where the call stands
+abbrev pub macro_words : Placed → Option Word → List ScopedWord
+macro_words p None = []
+macro_words p (Some w) = record { at = w.at; bytes = w.bytes; sign = w.sign; scope = p.standing.scope } ∷ []
+
+-- the words of a call: that of its macro and, where it is unfolded, its arguments
+abbrev pub call_words : List Written → List Standing → Placed → Terms Word → List ScopedWord
+call_words ws ss p args = macro_words p (first_word args) ++ unfolded_words (unfolded ws ss p)
+
+-- the words of blockinherit and blockabstract are no words of a policy: they are judged with the blocks
+unfoldable pub says : List Written → List Standing → Placed → Keyword → Terms Word → Terms ScopedWord
+says ws ss p keywords.BlockInherit args = nil
+says ws ss p keywords.BlockAbstract args = nil
+says ws ss p keywords.Call args = leaves (call_words ws ss p args)
+says ws ss p keyword args = all_replaced (λ at. at) (word_of ws p) args
+
+-- the other statements say what is written
+abbrev pub says_as_written : Keyword → Bool
+says_as_written keywords.BlockInherit = false
+says_as_written keywords.BlockAbstract = false
+says_as_written keywords.Call = false
+says_as_written keyword = true
+
+-- a placed statement as it takes part in a policy. Until there are optionals it stands in none
+abbrev pub item_of : List Written → List Standing → Placed → Item
+item_of ws ss p = record {
+  keyword = p.standing.statement.statement.keyword;
+  at = p.standing.statement.statement.at;
+  space = p.standing.space;
+  args = says ws ss p p.standing.statement.statement.keyword p.standing.statement.statement.args;
+  round = [];
+}
+
+-- the items of modules: those of all that is placed, in order
+pub record AreItems (modules : List (List ℕ)) (xs : List Item) : Type 0 where
+  pub program : List Written
+  pub is_program : Lists written_cmp (IsWritten modules) program
+  pub standings : List Standing
+  pub are_standings : Lists standing_cmp (Stands program) standings
+  pub placed : List Placed
+  pub are_placed : Lists placed_cmp (IsPlaced program standings) placed
+  pub items : xs ≡ map (item_of program standings) placed
+
+-- ---- the same of what is kept: all that stands, and what calls bring
+
+abbrev pub Kept : Type 0
+Kept = Standings × List Called
+
+abbrev pub namespaces_in : Kept → List Space
+namespaces_in i = spaces_in i.0
+
+abbrev pub all_placed : Kept → List Placed
+all_placed i = placed_in i.0 i.1
+
+-- what is placed at a place
+abbrev pub placed_at : Kept → ℕ → Placed
+placed_at i k = get_or (all_placed i) k (placed_standing (standing_top nothing))
+
+abbrev pub items_in : Kept → List Item
+items_in i = map (item_of (written_in i.0) (all_standing i.0)) (all_placed i)
+
+abbrev pub item_at : Kept → ℕ → Item
+item_at i k = item_of (written_in i.0) (all_standing i.0) (placed_at i k)
+
+-- what a word of the statement at a place says there
+abbrev pub word_at : Kept → ℕ → Word → ScopedWord
+word_at i k = word_of (written_in i.0) (placed_at i k)
+
+-- a word in the scope of what is placed somewhere
+abbrev pub scope_by : List Placed → Option ℕ → List (List (List ℕ))
+scope_by ps None = []
+scope_by ps (Some k) = scope_there (slice_get ps k)
+
+abbrev pub scoped_by : List Placed → PlacedWord → ScopedWord
+scoped_by ps w = record { at = w.word.at; bytes = w.word.bytes; sign = w.word.sign; scope = scope_by ps w.scope }
