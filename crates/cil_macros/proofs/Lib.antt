@@ -20,6 +20,7 @@ pub mod MeaningLemmas
 pub mod NearestLemmas
 pub mod OneInstance
 pub mod OpeningLemmas
+pub mod PlacedLemmas
 pub mod PlacedWalk
 pub mod SameParameters
 pub mod ScopeLemmas

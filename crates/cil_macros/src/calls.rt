@@ -2,8 +2,8 @@
 
 ghost use Rattle.std.specs.Prelude.{◌≡◌, ◌+◌, ◌<◌, ◌≤◌, IfOk, MatchOption, OnOk, Some, is_some, length, slice_get};
 ghost use Rattle.cil_blocks.specs.Contents.{Standing};
-ghost use Rattle.cil_blocks.specs.Namespaces.{IsNumber};
-ghost use Rattle.cil_blocks.specs.Places.{entries_in, spaces_in};
+ghost use Rattle.cil_blocks.specs.Namespaces.{AreNamespaces, IsNumber};
+ghost use Rattle.cil_blocks.specs.Places.{AreStandings, entries_in, spaces_in};
 ghost use Rattle.cil_macros.specs.Calls.{bounds_of_call, called_macro, is_repeated};
 ghost use Rattle.cil_macros.specs.Macros.{all_standing};
 ghost use Rattle.cil_macros.specs.Placed.{Placed};
@@ -13,32 +13,32 @@ use crate::arguments::arguments_fit;
 use crate::chain::{Brought, is_repeated, spot_of, standing_statement, statement_at};
 use crate::macros::{is_call_at, macro_called};
 use crate::source::Source;
-use cil_blocks::ScopeList;
+use cil_blocks::{ScopeList, Spaces};
 use cil_modset::NoMemory;
 use std::alloc::Global;
 
 /// The number of the namespace in which the statement of a rank stands.
-fn standing_space(source: &Source, rank: usize) -> usize
-    requires source { IsSource source.now }
-    requires standing { rank < length (entries_in source.now.spaces.now) }
-    ensures { (m : Standing) → slice_get (all_standing source.now.spaces.now) rank ≡ Some m → IsNumber (spaces_in source.now.spaces.now) m.space result }
+fn standing_space(spaces: &Spaces, rank: usize) -> usize
+    requires standings { AreStandings spaces.now }
+    requires standing { rank < length (entries_in spaces.now) }
+    ensures { (m : Standing) → slice_get (all_standing spaces.now) rank ≡ Some m → IsNumber (spaces_in spaces.now) m.space result }
 {
-    let Some(space) = source.spaces.space(rank) else {
+    let Some(space) = spaces.space(rank) else {
         unreachable!()
     };
     space
 }
 
 /// The number of the namespace in which the statement at a place is put.
-pub fn space_at(source: &Source, brought: &Brought, at: usize) -> usize
-    requires source { IsSource source.now }
-    requires brought { AreBrought source.now.spaces.now brought.now }
-    requires within { at < length (entries_in source.now.spaces.now) + length brought.now.called.items }
-    ensures { (p : Placed) → slice_get (placed_in source.now.spaces.now brought.now.called.items) at ≡ Some p → IsNumber (spaces_in source.now.spaces.now) p.standing.space result }
+pub fn space_at(spaces: &Spaces, brought: &Brought, at: usize) -> usize
+    requires standings { AreStandings spaces.now }
+    requires brought { AreBrought spaces.now brought.now }
+    requires within { at < length (entries_in spaces.now) + length brought.now.called.items }
+    ensures { (p : Placed) → slice_get (placed_in spaces.now brought.now.called.items) at ≡ Some p → IsNumber (spaces_in spaces.now) p.standing.space result }
 {
-    let standing = source.spaces.entries().len();
+    let standing = spaces.entries().len();
     if at < standing {
-        return standing_space(source, at);
+        return standing_space(spaces, at);
     }
     let Some(body) = brought.body_at(standing, at) else {
         unreachable!()
@@ -49,22 +49,23 @@ pub fn space_at(source: &Source, brought: &Brought, at: usize) -> usize
 /// Fills a list with the scope of the statement at a place.
 pub fn scope_at(
     alloc: Global,
-    source: &Source,
+    spaces: &Spaces,
     brought: &Brought,
     at: usize,
     scope: &mut ScopeList,
 ) -> Result<(), NoMemory>
-    requires source { IsSource source.now }
-    requires brought { AreBrought source.now.spaces.now brought.now }
-    requires within { at < length (entries_in source.now.spaces.now) + length brought.now.called.items }
-    ensures { OnOk result ((p : Placed) → slice_get (placed_in source.now.spaces.now brought.now.called.items) at ≡ Some p
-        → IsScope (spaces_in source.now.spaces.now) p.standing.scope scope.new) }
+    requires standings { AreStandings spaces.now }
+    requires namespaces { AreNamespaces (spaces_in spaces.now) }
+    requires brought { AreBrought spaces.now brought.now }
+    requires within { at < length (entries_in spaces.now) + length brought.now.called.items }
+    ensures { OnOk result ((p : Placed) → slice_get (placed_in spaces.now brought.now.called.items) at ≡ Some p
+        → IsScope (spaces_in spaces.now) p.standing.scope scope.new) }
 {
-    if at < source.spaces.entries().len() {
-        source.spaces.scope_into(alloc, at, scope)?;
+    if at < spaces.entries().len() {
+        spaces.scope_into(alloc, at, scope)?;
         return Ok(());
     }
-    called_scope_at(alloc, source, brought, at, scope)?;
+    called_scope_at(alloc, spaces, brought, at, scope)?;
     Ok(())
 }
 
@@ -72,26 +73,27 @@ pub fn scope_at(
 /// macros round it, and last that of the call that stands.
 fn called_scope_at(
     alloc: Global,
-    source: &Source,
+    spaces: &Spaces,
     brought: &Brought,
     at: usize,
     scope: &mut ScopeList,
 ) -> Result<(), NoMemory>
-    requires source { IsSource source.now }
-    requires brought { AreBrought source.now.spaces.now brought.now }
-    requires within { at < length (entries_in source.now.spaces.now) + length brought.now.called.items }
-    requires behind { length (entries_in source.now.spaces.now) ≤ at }
-    ensures { OnOk result ((p : Placed) → slice_get (placed_in source.now.spaces.now brought.now.called.items) at ≡ Some p
-        → IsScope (spaces_in source.now.spaces.now) p.standing.scope scope.new) }
+    requires standings { AreStandings spaces.now }
+    requires namespaces { AreNamespaces (spaces_in spaces.now) }
+    requires brought { AreBrought spaces.now brought.now }
+    requires within { at < length (entries_in spaces.now) + length brought.now.called.items }
+    requires behind { length (entries_in spaces.now) ≤ at }
+    ensures { OnOk result ((p : Placed) → slice_get (placed_in spaces.now brought.now.called.items) at ≡ Some p
+        → IsScope (spaces_in spaces.now) p.standing.scope scope.new) }
 {
-    let standing = source.spaces.entries().len();
+    let standing = spaces.entries().len();
     scope.clear();
     let mut place = at;
     while let Some(body) = brought.body_at(standing, place) {
-        source.spaces.add_scope(alloc, body.called, scope)?;
+        spaces.add_scope(alloc, body.called, scope)?;
         place = body.call;
     }
-    source.spaces.add_scope(alloc, place, scope)?;
+    spaces.add_scope(alloc, place, scope)?;
     scope.close()?;
     Ok(())
 }
@@ -114,7 +116,7 @@ pub fn macro_at(
     if !is_call_at(source.spaces.statements(), number) {
         return Ok(None);
     }
-    scope_at(alloc, source, brought, at, scope)?;
+    scope_at(alloc, source.spaces, brought, at, scope)?;
     let called = macro_called(source.spaces, source.macros, number, scope.as_slice());
     Ok(called)
 }

@@ -79,7 +79,7 @@ fn report(
     };
     let site = Site {
         namespaces: source.spaces.namespaces(),
-        space: space_at(source, brought, at),
+        space: space_at(source.spaces, brought, at),
         word: &front.word,
     };
     report_if(alloc, faults, wrong.again, FaultCode::CallCycle, &site)?;

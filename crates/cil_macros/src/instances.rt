@@ -2,6 +2,7 @@
 
 ghost use Rattle.std.specs.Prelude.{◌≡◌};
 
+use crate::call_words::call_words_at;
 use crate::calls::{scope_at, space_at};
 use crate::chain::{Brought, statement_at};
 use crate::declared_names::Declared;
@@ -9,7 +10,7 @@ use crate::entry::Called;
 use crate::meaning::meaning_at;
 use crate::meant::Meant;
 use crate::openings::Opening;
-use crate::placed_word::PlacedWord;
+use crate::placed_word::{PlacedWord, placed_word};
 use crate::scene::Scene;
 use cil_blocks::{Namespaces, ScopeList, Spaces};
 use cil_modset::NoMemory;
@@ -90,7 +91,10 @@ impl<'s, 'p, 'a> Instances<'s, 'p, 'a> {
         ensures value { result.now ≡ namespaces_in self.now }
         ensures once { AreNamespaces result.now }
     {
-        self.spaces.namespaces()
+        let namespaces = self.spaces.namespaces();
+        // Each namespace is there once.
+        namespaces.are_namespaces();
+        namespaces
     }
 
     /// The statement at a place; none beyond the last place.
@@ -100,7 +104,8 @@ impl<'s, 'p, 'a> Instances<'s, 'p, 'a> {
         if at >= self.len() {
             return None;
         }
-        self.spaces.statements().get(self.statement(at))
+        let statement = self.spaces.statements().get(self.statement(at))?;
+        Some(statement)
     }
 
     /// The number of the namespace in which the statement at a place is.
@@ -139,6 +144,8 @@ impl<'s, 'p, 'a> Instances<'s, 'p, 'a> {
             scope.clear();
             return Ok(());
         }
+        // Each namespace is there once.
+        self.namespaces();
         scope_at(alloc, self.spaces, &self.brought, place, scope)?;
         Ok(())
     }
@@ -158,7 +165,12 @@ impl<'s, 'p, 'a> Instances<'s, 'p, 'a> {
         requires { at < length (items_in self.now) }
         ensures { IfOk result (λ ws. is_call (item_at self.now at).keyword ≡ true → (item_at self.now at).args ≡ leaves (map (scoped_by (all_placed self.now)) ws.items)) }
     {
-        call_words_at(alloc, self, at)
+        let scene = Scene {
+            spaces: self.spaces,
+            brought: &self.brought,
+            declared: &self.declared,
+        };
+        call_words_at(alloc, &scene, self.openings.as_slice(), at)
     }
 
     /// The number of the statement at a place.

@@ -5,8 +5,10 @@
 //! `laws.rt` has laws of these.
 #![tactic(auto)]
 
+
 mod arguments;
 mod asked;
+mod call_words;
 pub mod calls;
 pub mod chain;
 pub mod declared_names;

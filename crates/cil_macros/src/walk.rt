@@ -72,7 +72,7 @@ impl Brought {
         let Some(called) = unfolded_at(alloc, source, self, at, scope)? else {
             return Ok(());
         };
-        let space = space_at(source, self, at);
+        let space = space_at(source.spaces, self, at);
         let entries = source.spaces.entries();
         let number = standing_statement(entries, called);
         let body = self.bodies.len();

@@ -8,11 +8,11 @@ use Rattle.cil_macros.proofs.calls.scope_at.Goals as goal
 
 pub returns-then-at-entries : goal.returns-then-at-entries
 returns-then-at-entries c = λ p e.
-    let s = c.args.source.now.spaces.now in
+    let s = c.args.spaces.now in
     let h = c.if-at-entries.true in
     let l = ap length c.entries.ensures.same in
     let x = stood_at s c.args.brought.now.called.items c.args.at (omega (arith, h, l)) p e in
-    let (n, at, is) = standing_scope s c.requires.source.standings c.requires.source.macros.namespaces c.args.brought.now.called.items c.args.at x.0 x.1 in
+    let (n, at, is) = standing_scope s c.requires.standings c.requires.namespaces c.args.brought.now.called.items c.args.at x.0 x.1 in
     subst (λ (q : Placed). IsScope (spaces_in s) q.standing.scope c.scope_into.new.scope) (sym x.2)
     (subst (IsScope (spaces_in s) x.0.scope) (sym (c.in_ok-scope_into.ensures n at)) is)
 

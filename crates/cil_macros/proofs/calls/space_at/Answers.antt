@@ -16,7 +16,7 @@ standing_space-requires-clause-standing c =
 
 pub returns-then-at-standing : goal.returns-then-at-standing
 returns-then-at-standing c = λ p e.
-    let s = c.args.source.now.spaces.now in
+    let s = c.args.spaces.now in
     let h = c.if-at-standing.true in
     let l = ap length c.entries-standing.ensures.same in
     let x = stood_at s c.args.brought.now.called.items c.args.at (omega (arith, h, l)) p e in
@@ -24,7 +24,7 @@ returns-then-at-standing c = λ p e.
 
 pub unreachable-requires : goal.unreachable-requires
 unreachable-requires c =
-    let s = c.args.source.now.spaces.now in
+    let s = c.args.spaces.now in
     let behind = c.if-at-standing.false in
     let l = ap length c.entries-standing.ensures.same in
     let m = standings_length (written_in s) (entries_in s) in
@@ -33,7 +33,7 @@ unreachable-requires c =
 
 pub returns : goal.returns
 returns c = λ p e.
-    let s = c.args.source.now.spaces.now in
+    let s = c.args.spaces.now in
     let l = ap length c.entries-standing.ensures.same in
     let m = standings_length (written_in s) (entries_in s) in
     brought_to s c.args.brought.now.called.items c.args.brought.now.bodies.items c.requires.brought.spaces c.args.at c.in-Some.body.now c.in-Some.ensures.kept

@@ -7,14 +7,14 @@ use Rattle.cil_macros.proofs.calls.standing_space.Goals as goal
 
 pub unreachable-requires : goal.unreachable-requires
 unreachable-requires c =
-    let s = c.args.source.now.spaces.now in
+    let s = c.args.spaces.now in
     let m = rank_there s c.args.rank c.requires.standing in
-    let x = c.requires.source.standings.places c.args.rank m.0 m.1 in
+    let x = c.requires.standings.places c.args.rank m.0 m.1 in
     none_some x.place (sym c.in_default.ensures ∙ x.is)
 
 pub returns : goal.returns
 returns c = λ m e.
-    let s = c.args.source.now.spaces.now in
-    let x = c.requires.source.standings.places c.args.rank m e in
+    let s = c.args.spaces.now in
+    let x = c.requires.standings.places c.args.rank m e in
     let (p, at, is) = c.in-Some.ensures in
     subst (IsNumber (spaces_in s) m.space) (ap (λ (n : Numbered). n.0) (some_same x.place p (sym x.is ∙ at)) ∙ sym is) x.so.is_space

@@ -1,0 +1,14 @@
+use Rattle.std.proofs.Common.{◌∙◌, ap}
+use Rattle.cil_syntax.specs.Scopes.{ScopedWord}
+use Rattle.cil_macros.specs.Items.{all_placed}
+use Rattle.cil_macros.proofs.PlacedLemmas.{is_place, placed_so, word_so}
+use Rattle.cil_macros.specs.Items.{placed_at}
+use Rattle.cil_macros.proofs.instances.Instances.word.Goals as goal
+
+pub meaning-meant-requires : goal.meaning-meant-requires
+meaning-meant-requires c = is_place c.args.self.now c.args.at c.requires
+
+pub returns : goal.returns
+returns c =
+    c.placed_word.ensures (all_placed c.args.self.now)
+    ∙ word_so c.args.self.now c.args.at c.args.word.now _ (c.meaning-meant.ensures (placed_at c.args.self.now c.args.at) (placed_so c.args.self.now c.args.at (is_place c.args.self.now c.args.at c.requires)))
