@@ -4,7 +4,7 @@ use crate::error::BenchError;
 use crate::figures::{RUNS, median, micros, print, print_ratio};
 use cil_blocks::{Spaces, inherit};
 use cil_modset::ModuleSet;
-use cil_syntax::{Dialect, Failure, written_in};
+use cil_syntax::{Failure, written};
 use std::alloc::{AllocError, Global};
 use std::time::CpuClock;
 
@@ -123,7 +123,7 @@ pub fn run<R: Print + CpuClock>(
     let mut standing = 0;
     for i in 0..RUNS {
         let start = rt.thread_cpu_time()?;
-        let program = written_in(alloc, &set, Dialect::Nested)?;
+        let program = written(alloc, &set)?;
         let middle = rt.thread_cpu_time()?;
         standing = standing_in(inherit(alloc, &program))?;
         let end = rt.thread_cpu_time()?;

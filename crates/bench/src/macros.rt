@@ -5,7 +5,7 @@ use crate::figures::{RUNS, median, micros, print, print_ratio};
 use cil_blocks::{Spaces, inherit};
 use cil_macros::expand;
 use cil_modset::ModuleSet;
-use cil_syntax::{Dialect, Failure, FaultCode, FaultList, Program, written_in};
+use cil_syntax::{Failure, FaultCode, FaultList, Program, written};
 use std::alloc::{AllocError, Global};
 use std::time::CpuClock;
 
@@ -119,7 +119,7 @@ pub fn run<R: Print + CpuClock>(
     let mut expanding = [0; RUNS];
     let mut instances = 0;
     for i in 0..RUNS {
-        let program = written_in(alloc, &set, Dialect::Nested)?;
+        let program = written(alloc, &set)?;
         let start = rt.thread_cpu_time()?;
         let spaces = spaces_of(alloc, &program)?;
         let middle = rt.thread_cpu_time()?;

@@ -261,5 +261,5 @@ nothing_written modules at =
     sym part
 
 pub words_of_texts : HaveWordsOfTexts
-words_of_texts dialect modules ws ss wrote stand p placed =
-    placed_mean (AreWritten modules) (nothing_written modules) ws ss stand (λ w c. written_whole dialect modules w (wrote w c)) p placed
+words_of_texts modules ws ss wrote stand p placed =
+    placed_mean (AreWritten modules) (nothing_written modules) ws ss stand (λ w c. written_whole modules w (wrote w c)) p placed

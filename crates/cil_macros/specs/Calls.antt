@@ -45,7 +45,7 @@ abbrev pub macro_in : List Standing → List ℕ → Option Namespace → Option
 macro_in ss name None = None
 macro_in ss name (Some n) = nearest (filter (is_macro_named name n) ss)
 
--- the macro that a word names in a scope. A body declares no macro, so the home scope serves no word of a macro
+-- the macro that a word names in a scope. No macro is in a body, so the home scope serves no word of a macro
 unfoldable pub macro_in_scope : List Standing → Word → Scope → Option Standing
 macro_in_scope ss w scope = macro_in ss (asked w.bytes).name (find (has_macro ss (asked w.bytes).name) (spaces_asked (asked w.bytes) scope))
 

@@ -4,7 +4,6 @@ use Rattle.std.specs.List.Sorted.{IsStrictlySortedBy}
 use Rattle.cil_sexpr.specs.Lists.{Lists}
 use Rattle.cil_sexpr.specs.Tree.{Node}
 use Rattle.cil_syntax.specs.declared.program.Statement.{Statement}
-use Rattle.cil_syntax.specs.declared.kind.Dialect.{Dialect}
 use Rattle.cil_syntax.specs.declared.kind.Sign.TheVariants as signs
 use Rattle.cil_syntax.specs.declared.term.Word.{Word}
 use Rattle.cil_syntax.specs.Program.{IsNested, program_of}
@@ -13,7 +12,7 @@ use Rattle.cil_syntax.specs.Shapes.{Inner, cell_of, unread}
 use Rattle.cil_syntax.specs.Slices.{AreWritten, EachText, EachTextIn}
 use Rattle.cil_syntax.specs.Terms.{Term, Terms}
 use Rattle.cil_syntax.specs.Laws.{Outcome}
-use Rattle.cil_syntax.specs.Written.{IsWrittenIn, Written, is_macro, parameters_of, written_cmp}
+use Rattle.cil_syntax.specs.Written.{IsWritten, Written, is_macro, parameters_of, written_cmp}
 use Rattle.cil_blocks.specs.Contents.{Standing, Stands, path_of, standing_cmp}
 use Rattle.cil_blocks.specs.Laws.{HasNoFault}
 use Rattle.cil_macros.specs.Calls.{IsPlaced, placed_cmp}
@@ -38,9 +37,10 @@ AreKept =
 abbrev pub HaveTheirNames : Type 0
 HaveTheirNames = (args : Terms Word) → map (λ p. p.name) (macro_parameters args) ≡ parameters_of args
 
--- a law: a word that names a macro is looked up in the scope of its place, in a body too
+-- a law: a word that names a macro is looked up in the scope of its place, in a body too, since no macro is in a body
 abbrev pub HaveMacrosOfTheirPlace : Type 0
-HaveMacrosOfTheirPlace = (ws : List Written) (p : Placed) (w : Word) → w.sign ≡ signs.Macros → scope_of ws p w ≡ p.standing.scope
+HaveMacrosOfTheirPlace =
+    (ss : List Statement) (p : Placed) (w : Word) → IsNested ss → w.sign ≡ signs.Macros → scope_of (program_of ss) p w ≡ p.standing.scope
 
 -- a law: in a policy without macros what stands is all that is placed, or there are too many statements
 abbrev pub HaveFlatInstances : Type 0
@@ -51,8 +51,8 @@ HaveFlatInstances =
 -- a law: what a word of a placed statement means is made of words, names and strings that are written so in the modules
 abbrev pub HaveWordsOfTexts : Type 0
 HaveWordsOfTexts =
-    (dialect : Dialect) (modules : List (List ℕ)) (ws : List Written) (ss : List Standing)
-    → ((w : Written) → Contains ws w → IsWrittenIn dialect modules w) → ((s : Standing) → Contains ss s → Stands ws s)
+    (modules : List (List ℕ)) (ws : List Written) (ss : List Standing)
+    → ((w : Written) → Contains ws w → IsWritten modules w) → ((s : Standing) → Contains ss s → Stands ws s)
     → (p : Placed) → IsPlaced ws ss p
     → EachTextIn (λ (w : Word). EachText (λ (v : ScopedWord). AreWritten modules v.at v.bytes) (AreWritten modules) (meaning ws p w)) (AreWritten modules)
     p.standing.statement.statement.args

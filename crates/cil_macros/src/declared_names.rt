@@ -2,10 +2,9 @@
 //! costs a hash for each declaration in a body, and for each declaration a step for each statement round it, 128 at
 //! most. A look-up costs a hash for each kind that a word may name, three at most.
 
-ghost use Rattle.std.specs.Prelude.{◌≡◌, ◌<◌, ◌≤◌, IfOk, MatchOption, [], ◌∷◌, length, map};
+ghost use Rattle.std.specs.Prelude.{◌≡◌, ◌<◌, ◌≤◌, IfOk, MatchOption, length, map};
 ghost use Rattle.cil_syntax.specs.Kinds.{kind_number, kinds_of};
 ghost use Rattle.cil_syntax.specs.Program.{IsNested, program_of};
-ghost use Rattle.cil_syntax.specs.Table.{entry_of};
 ghost use Rattle.cil_blocks.specs.Entries.{statement_at};
 ghost use Rattle.cil_blocks.specs.Named.{rank};
 ghost use Rattle.cil_macros.specs.DeclaredInBodies.{AreDeclared, IsRound, macro_in};
@@ -13,7 +12,7 @@ ghost use Rattle.cil_macros.specs.DeclaredInBodies.{AreDeclared, IsRound, macro_
 use crate::macros::is_macro_at;
 use cil_blocks::names::name_at;
 use cil_modset::NoMemory;
-use cil_syntax::{Keyword, Kind, Sign, Statement};
+use cil_syntax::{Kind, Sign, Statement};
 use indexmap::IndexSet;
 use std::alloc::Global;
 
@@ -65,7 +64,7 @@ impl<'a> Declared<'a> {
         requires before { AreDeclaredUpTo (program_of statements.now) number self.old }
         ensures { OnOk result (AreDeclaredUpTo (program_of statements.now) (number + 1) self.new) }
     {
-        let Some(kind) = kind_declared(statements[number].keyword) else {
+        let Some(kind) = statements[number].keyword.declares() else {
             return Ok(());
         };
         let Some(round) = macro_round(statements, number) else {
@@ -101,22 +100,6 @@ fn opener_of(statements: &[Statement], number: usize) -> Option<usize>
     match statements.get(number) {
         None => None,
         Some(statement) => statement.under,
-    }
-}
-
-/// The kind of what a statement declares.
-#[tactic(auto, unfolding(cil_syntax::specs::Table::entry_of))]
-fn kind_declared(keyword: Keyword) -> Option<Kind>
-    ensures { MatchOption result ((entry_of keyword).declares ≡ []) (λ kind. (entry_of keyword).declares ≡ kind ∷ []) }
-{
-    match keyword {
-        Keyword::Type_ => Some(Kind::Type_),
-        Keyword::Class => Some(Kind::Class),
-        Keyword::Role => Some(Kind::Role),
-        Keyword::User => Some(Kind::User),
-        Keyword::RoleType | Keyword::UserRole | Keyword::Allow => None,
-        Keyword::Block | Keyword::BlockAbstract | Keyword::BlockInherit => None,
-        Keyword::Macro | Keyword::Call | Keyword::SetAside => None,
     }
 }
 

@@ -18,7 +18,7 @@ pub fn same_parameters()
     ensures { HaveTheirNames }
 {}
 
-/// A word that names a macro is looked up in the scope of its place, in a body too: nothing that a body has declares a macro.
+/// A word that names a macro is looked up in the scope of its place, in a body too: no macro is in a body.
 pub fn macros_of_their_place()
     ensures { HaveMacrosOfTheirPlace }
 {}

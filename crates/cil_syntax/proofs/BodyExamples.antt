@@ -12,9 +12,9 @@ use Rattle.cil_syntax.specs.declared.term.Spot.{Spot}
 use Rattle.cil_syntax.specs.declared.term.Word.{Word}
 use Rattle.cil_syntax.specs.Shapes.{Inner, Reading, reads, read_word, read_string, read_row, read_list, cell_of, cells_of}
 use Rattle.cil_syntax.specs.declared.kind.Nesting.TheVariants as nestings
-use Rattle.cil_syntax.specs.Table.{entry_of, table}
+use Rattle.cil_syntax.specs.Table.{entry_of, effective, set_aside_words, later_words, left_out_words}
 use Rattle.cil_syntax.specs.Terms.{Term, Leaf, Name, Form, Terms, nil, cons}
-use Rattle.cil_syntax.specs.Written.{Context, at_top, Verdict, Refused, Shaped, by_entry, verdict_in, verdict_of}
+use Rattle.cil_syntax.specs.Written.{Context, at_top, Verdict, Refused, Shaped, by_entry, verdict_of}
 
 -- a word at a place, a list that begins at one, and the string "a"
 abbrev word : ℕ → List ℕ → Node
@@ -164,5 +164,20 @@ a_type name = list 0 (next (word 1 (codes "type")) (next (word 6 name) none))
 declared_in_macro : (faults_by (verdict_of 7 in_macro (a_type (codes "x"))) ≡ fault causes.ParameterClash 6 (codes "x") ∷ [])
     × (faults_by (verdict_of 7 in_macro (a_type (codes "y"))) ≡ [])
     × (faults_by (verdict_of 7 at_top (a_type (codes "x"))) ≡ [])
-unfolding verdict_in cells_of cell_of read_row read_word read_string read_list table entry_of
+unfolding verdict_of cells_of cell_of read_row read_word read_string read_list effective entry_of
 declared_in_macro = (refl, refl, refl)
+
+-- ---- the first word
+
+-- a statement that has only a string behind its word
+abbrev of_word : List ℕ → Node
+of_word first = list 0 (next (word 1 first) (next (string 30) none))
+
+-- `(filecon "a")` on top and in a macro, `(block "a")` on top, `(macro "a")` in a macro, and `(optional "a")`, which is not taken yet
+by_first_word : (verdict_of 7 at_top (of_word (codes "filecon")) ≡ Shaped (record { keyword = keywords.SetAside; at = spot 0; args = nil }) [])
+    × (verdict_of 7 in_macro (of_word (codes "filecon")) ≡ Refused (fault causes.BadPlace 0 (codes "filecon")))
+    × (verdict_of 7 at_top (of_word (codes "block")) ≡ Refused (fault causes.BadShape 0 (codes "block")))
+    × (verdict_of 7 in_macro (of_word (codes "macro")) ≡ Refused (fault causes.BadPlace 0 (codes "macro")))
+    × (verdict_of 7 at_top (of_word (codes "optional")) ≡ Refused (fault causes.Unsupported 0 (codes "optional")))
+unfolding verdict_of cells_of cell_of read_row read_word read_string read_list effective entry_of set_aside_words later_words left_out_words
+by_first_word = (refl, refl, refl, refl, refl)

@@ -12,10 +12,9 @@ use Rattle.cil_sexpr.specs.Lists.{contains_cases, contains_none}
 use Rattle.cil_sexpr.specs.Text.{IsText}
 use Rattle.cil_sexpr.specs.Tree.{Node, Word as TextWord, Quoted, Branch, Nodes, none, next, span_of, inner_of, IsBetween, AreInOrder}
 use Rattle.cil_modset.specs.Modules.{module_of}
-use Rattle.cil_syntax.specs.declared.kind.Dialect.{Dialect}
 use Rattle.cil_syntax.specs.Table.{Body, plain, behind, entry_of}
 use Rattle.cil_syntax.specs.Standpoints.{Standpoint, Opening, closed, opened, opening_by, opening_of, found_from, found_behind}
-use Rattle.cil_syntax.specs.Written.{Context, at_top, Verdict, Refused, Shaped, verdict_in, IsItem, first, later, skipped, within, inside_of, FoundIn, top, inside}
+use Rattle.cil_syntax.specs.Written.{Context, at_top, Verdict, Refused, Shaped, verdict_of, IsItem, first, later, skipped, within, inside_of, FoundIn, top, inside}
 use Rattle.cil_syntax.proofs.PlacesApart.{start_of, apart_from, apart_behind, strictly, behind_verdict}
 
 abbrev pub place_order : Standpoint → Standpoint → Ordering
@@ -29,29 +28,29 @@ rises_one : (f : Standpoint) → IsStrictlySortedBy place_order (f ∷ [])
 unfolding IsStrictlySortedBy
 rises_one f = (tt, tt)
 
-module _ (dialect : Dialect) (m : ℕ) where
+module _ (m : ℕ) where
   mutual
     unfolding found_from found_behind
 
-    rises_from : (c : Context) (n : Node) (from to : ℕ) → IsBetween from to n → IsStrictlySortedBy place_order (found_from dialect m c n)
+    rises_from : (c : Context) (n : Node) (from to : ℕ) → IsBetween from to n → IsStrictlySortedBy place_order (found_from m c n)
     rises_from c (TextWord place bytes) from to b = rises_one (record { context = c; node = TextWord place bytes })
     rises_from c (Quoted place bytes) from to b = rises_one (record { context = c; node = Quoted place bytes })
     rises_from c (Branch place inner) from to b =
         let here : Standpoint = record { context = c; node = Branch place inner } in
-        let o = opening_of c (verdict_in dialect m c (Branch place inner)) in
-        rising_join place_order (here ∷ []) (found_behind dialect m o inner) (rises_one here) (rises_behind o inner place.start place.end b.3)
+        let o = opening_of c (verdict_of m c (Branch place inner)) in
+        rising_join place_order (here ∷ []) (found_behind m o inner) (rises_one here) (rises_behind o inner place.start place.end b.3)
         (λ x y d e. elim (contains_cases x here [] d) [
           | inl s ↦ subst (λ z. place_order z y ≡ Less) s
-              (less_from place.start (start_of y) (strictly dialect m o inner place.start place.end b.3 (behind_verdict c (verdict_in dialect m c (Branch place inner))) y e))
+              (less_from place.start (start_of y) (strictly m o inner place.start place.end b.3 (behind_verdict c (verdict_of m c (Branch place inner))) y e))
           | inr s ↦ absurd (contains_none x s)
         ])
 
-    pub rises_behind : (o : Opening) (ns : Nodes) (from to : ℕ) → AreInOrder from to ns → IsStrictlySortedBy place_order (found_behind dialect m o ns)
+    pub rises_behind : (o : Opening) (ns : Nodes) (from to : ℕ) → AreInOrder from to ns → IsStrictlySortedBy place_order (found_behind m o ns)
     rises_behind o none from to b = rises_none
     rises_behind closed (next n ns) from to b = rises_none
     rises_behind (opened c zero) (next n ns) from to b =
-        rising_join place_order (found_from dialect m c n) (found_behind dialect m (opened c zero) ns) (rises_from c n from to b.0) (rises_behind (opened c zero) ns (span_of n).end to b.1)
-        (λ x y d e. let p = (apart_from dialect m c n from to b.0).0 x d in let q = (apart_behind dialect m (opened c zero) ns (span_of n).end to b.1).0 y e in
+        rising_join place_order (found_from m c n) (found_behind m (opened c zero) ns) (rises_from c n from to b.0) (rises_behind (opened c zero) ns (span_of n).end to b.1)
+        (λ x y d e. let p = (apart_from m c n from to b.0).0 x d in let q = (apart_behind m (opened c zero) ns (span_of n).end to b.1).0 y e in
         less_from (start_of x) (start_of y) (omega (arith, p.1, q.0)))
     rises_behind (opened c (suc k)) (next n ns) from to b = rises_behind (opened c k) ns (span_of n).end to b.1
 
@@ -59,20 +58,20 @@ module _ (dialect : Dialect) (m : ℕ) where
 
   module _ (modules : List (List ℕ)) where
     abbrev AreFound : List Standpoint → Type 0
-    AreFound fs = (f : Standpoint) → Contains fs f → FoundIn dialect modules m f.context f.node
+    AreFound fs = (f : Standpoint) → Contains fs f → FoundIn modules m f.context f.node
 
     found_join : (fs gs : List Standpoint) → AreFound fs → AreFound gs → AreFound (fs ++ gs)
     found_join fs gs a b f c = elim (Contains-append_cases fs gs f c) [ inl d ↦ a f d | inr d ↦ b f d ]
 
-    found_one : (h : Standpoint) → FoundIn dialect modules m h.context h.node → AreFound (h ∷ [])
-    found_one h g f c = elim (contains_cases f h [] c) [ inl s ↦ subst (λ (x : Standpoint). FoundIn dialect modules m x.context x.node) s g | inr d ↦ absurd (contains_none f d) ]
+    found_one : (h : Standpoint) → FoundIn modules m h.context h.node → AreFound (h ∷ [])
+    found_one h g f c = elim (contains_cases f h [] c) [ inl s ↦ subst (λ (x : Standpoint). FoundIn modules m x.context x.node) s g | inr d ↦ absurd (contains_none f d) ]
 
     -- what stands in an opening is found, where the items behind those that are skipped are
     abbrev IsOpen : Opening → Nodes → Type 0
     IsOpen closed ns = Unit {0}
-    IsOpen (opened d k) ns = (q : Node) → IsItem q (skipped k ns) → FoundIn dialect modules m d q
+    IsOpen (opened d k) ns = (q : Node) → IsItem q (skipped k ns) → FoundIn modules m d q
 
-    open_by : (c : Context) (n : Node) (v : Verdict) → verdict_in dialect m c n ≡ v → FoundIn dialect modules m c n → IsOpen (opening_of c v) (inner_of n)
+    open_by : (c : Context) (n : Node) (v : Verdict) → verdict_of m c n ≡ v → FoundIn modules m c n → IsOpen (opening_of c v) (inner_of n)
     open_by c n (Refused i) e f = tt
     open_by c n (Shaped s faults) e f = open_body (entry_of s.keyword).body refl where
       open_body : (b : Body) → (entry_of s.keyword).body ≡ b → IsOpen (opening_by (inside_of c s) b) (inner_of n)
@@ -82,24 +81,24 @@ module _ (dialect : Dialect) (m : ℕ) where
     mutual
       unfolding found_from found_behind skipped
 
-      found_of : (c : Context) (n : Node) → FoundIn dialect modules m c n → AreFound (found_from dialect m c n)
+      found_of : (c : Context) (n : Node) → FoundIn modules m c n → AreFound (found_from m c n)
       found_of c (TextWord place bytes) f = found_one (record { context = c; node = TextWord place bytes }) f
       found_of c (Quoted place bytes) f = found_one (record { context = c; node = Quoted place bytes }) f
       found_of c (Branch place inner) f =
           let here : Standpoint = record { context = c; node = Branch place inner } in
-          found_join (here ∷ []) (found_behind dialect m (opening_of c (verdict_in dialect m c (Branch place inner))) inner) (found_one here f)
-          (found_in (opening_of c (verdict_in dialect m c (Branch place inner))) inner (open_by c (Branch place inner) (verdict_in dialect m c (Branch place inner)) refl f))
+          found_join (here ∷ []) (found_behind m (opening_of c (verdict_of m c (Branch place inner))) inner) (found_one here f)
+          (found_in (opening_of c (verdict_of m c (Branch place inner))) inner (open_by c (Branch place inner) (verdict_of m c (Branch place inner)) refl f))
 
-      found_in : (o : Opening) (ns : Nodes) → IsOpen o ns → AreFound (found_behind dialect m o ns)
+      found_in : (o : Opening) (ns : Nodes) → IsOpen o ns → AreFound (found_behind m o ns)
       found_in o none h = λ f c. absurd (contains_none f c)
       found_in closed (next n ns) h = λ f c. absurd (contains_none f c)
       found_in (opened d zero) (next n ns) h =
-          found_join (found_from dialect m d n) (found_behind dialect m (opened d zero) ns) (found_of d n (h n first)) (found_in (opened d zero) ns (λ q i. h q (later (unskipped ns q i))))
+          found_join (found_from m d n) (found_behind m (opened d zero) ns) (found_of d n (h n first)) (found_in (opened d zero) ns (λ q i. h q (later (unskipped ns q i))))
       found_in (opened d (suc k)) (next n ns) h = found_in (opened d k) ns h
 
       unskipped : (ns : Nodes) (q : Node) → IsItem q (skipped zero ns) → IsItem q ns
       unskipped none q i = i
       unskipped (next n ns) q i = i
 
-    pub points_are_found : (tree : Nodes) → m < length modules → IsText (module_of modules m) tree → AreFound (found_behind dialect m (opened at_top zero) tree)
+    pub points_are_found : (tree : Nodes) → m < length modules → IsText (module_of modules m) tree → AreFound (found_behind m (opened at_top zero) tree)
     points_are_found tree h t = found_in (opened at_top zero) tree (λ q i. top tree q h t (unskipped tree q i))

@@ -8,8 +8,6 @@ use Rattle.cil_sexpr.specs.Tree.{Nodes}
 use Rattle.cil_sexpr.specs.Places.{get_at}
 use Rattle.cil_sexpr.specs.Searches.{found_is}
 use Rattle.cil_syntax.specs.declared.fault.Fault.{Fault}
-use Rattle.cil_syntax.specs.declared.kind.Dialect.{Dialect}
-use Rattle.cil_syntax.specs.declared.kind.Dialect.TheVariants as dialects
 use Rattle.cil_syntax.specs.declared.kind.Keyword.{Keyword}
 use Rattle.cil_syntax.specs.declared.kind.Keyword.TheVariants as keywords
 use Rattle.cil_syntax.specs.declared.program.Statement as program
@@ -18,10 +16,10 @@ use Rattle.cil_syntax.specs.Grammar.{FitsRow, name, word, one, as_many, not_as_m
 use Rattle.cil_syntax.specs.Program.{IsNested, begins_with_name, begins_with_word, is_begun, program_of}
 use Rattle.cil_syntax.specs.Shapes.{Row, item, declared_name, looked_up}
 use Rattle.cil_syntax.specs.Spelling.{same_bytes}
-use Rattle.cil_syntax.specs.Table.{Entry, entry_of, nested_entries, nested_only, set_aside, set_aside_words, table, table_of}
+use Rattle.cil_syntax.specs.Table.{Entry, effective, entry_of, set_aside, set_aside_words, table}
 use Rattle.cil_syntax.specs.Terms.{Terms}
 use Rattle.cil_syntax.specs.Told.{AreUnder}
-use Rattle.cil_syntax.specs.Written.{Written, allows, is_abstraction, is_outside, may_stand, names_its_block, IsWrittenIn, written, ShapeFaultIn, inner, fault_of, written_cmp}
+use Rattle.cil_syntax.specs.Written.{Written, allows, is_abstraction, is_outside, may_stand, names_its_block, IsWritten, written, ShapeFault, inner, fault_of, written_cmp}
 use Rattle.cil_syntax.proofs.SpelledSo.{read_as_spelled}
 
 -- ---- how statements begin
@@ -87,38 +85,29 @@ module _ {X Y : Type 0} (f : X → Y) (P : Y → Type 0) where
   of_mapped h [] y c = absurd (contains_none y c)
   of_mapped h (x ∷ xs) y c = elim (contains_cases y (f x) (map f xs) c) [ inl e ↦ subst P e (h x) | inr d ↦ of_mapped h xs y d ]
 
-own_flat : (entry : Entry) → Contains table entry → IsOwn entry
-unfolding table
-own_flat entry c =
-    of_mapped entry_of IsOwn own_entry
-    (keywords.Type_ ∷ keywords.Role ∷ keywords.User ∷ keywords.Class ∷ keywords.RoleType ∷ keywords.UserRole ∷ keywords.Allow ∷ []) entry c
-
-own_nested : (entry : Entry) → Contains nested_only entry → IsOwn entry
-unfolding nested_entries
-own_nested entry c =
-    elim (Contains-append_cases nested_entries (map set_aside set_aside_words) entry c) [
+own_in : (entry : Entry) → Contains table entry → IsOwn entry
+unfolding effective
+own_in entry c =
+    elim (Contains-append_cases effective (map set_aside set_aside_words) entry c) [
       | inl d ↦ of_mapped entry_of IsOwn own_entry
-          (keywords.Block ∷ keywords.BlockAbstract ∷ keywords.BlockInherit ∷ keywords.Macro ∷ keywords.Call ∷ []) entry d
+          (keywords.Type_ ∷ keywords.Role ∷ keywords.User ∷ keywords.Class ∷ keywords.RoleType ∷ keywords.UserRole ∷ keywords.Allow
+          ∷ keywords.Block ∷ keywords.BlockAbstract ∷ keywords.BlockInherit ∷ keywords.Macro ∷ keywords.Call ∷ []) entry d
       | inr d ↦ of_mapped set_aside IsOwn own_aside set_aside_words entry d
     ]
 
-own_in : (d : Dialect) (entry : Entry) → Contains (table_of d) entry → IsOwn entry
-own_in dialects.Flat entry c = own_flat entry c
-own_in dialects.Nested entry c = elim (Contains-append_cases table nested_only entry c) [ inl d ↦ own_flat entry d | inr d ↦ own_nested entry d ]
-
 -- ---- a program that was read
 
-module _ (d : Dialect) (modules : List (List ℕ)) (clean : (f : Fault) → ShapeFaultIn d modules f → ⊥) where
+module _ (modules : List (List ℕ)) (clean : (f : Fault) → ShapeFault modules f → ⊥) where
   -- what is asked of a statement where it stands
   record IsInPlace (w : Written) : Type 0 where
     allowed : may_stand w.context (entry_of w.statement.keyword) ≡ true
     abstraction : names_its_block w.context w.statement.keyword w.statement.args ≡ true
     begun_so : is_begun w.statement.keyword w.statement.args ≡ true
 
-  in_place : (w : Written) → IsWrittenIn d modules w → IsInPlace w
+  in_place : (w : Written) → IsWritten modules w → IsInPlace w
   in_place w (written m context n s [] found verdict) =
-      let spelled = (read_as_spelled d m context n s).0 verdict in
-      let own = own_in d spelled.entry (found_is (λ (e : Entry). same_bytes spelled.word e.word) (table_of d) spelled.entry spelled.named).0 in
+      let spelled = (read_as_spelled m context n s).0 verdict in
+      let own = own_in spelled.entry (found_is (λ (e : Entry). same_bytes spelled.word e.word) table spelled.entry spelled.named).0 in
       let nesting = ap (λ k. (entry_of k).nesting) spelled.keyword ∙ own.nesting in
       let row = ap (λ k. (entry_of k).row) spelled.keyword ∙ own.row in
       record {
@@ -130,7 +119,7 @@ module _ (d : Dialect) (modules : List (List ℕ)) (clean : (f : Fault) → Shap
   in_place w (written m context n s (i ∷ is) found verdict) =
       absurd (clean (fault_of m context i) (inner m context n s (i ∷ is) i found verdict (contains_here i is)))
 
-  pub nested : (ss : List program.Statement) → AreUnder ss → IsStrictlySortedBy written_cmp (program_of ss) → ((w : Written) → Contains (program_of ss) w → IsWrittenIn d modules w) → IsNested ss
+  pub nested : (ss : List program.Statement) → AreUnder ss → IsStrictlySortedBy written_cmp (program_of ss) → ((w : Written) → Contains (program_of ss) w → IsWritten modules w) → IsNested ss
   nested ss under rising all = record {
     rising = rising;
     earlier = under.earlier;

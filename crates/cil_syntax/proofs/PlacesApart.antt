@@ -9,11 +9,10 @@ use Rattle.cil_sexpr.specs.Tree.{Node, Word as TextWord, Quoted, Branch, Nodes, 
 use Rattle.cil_modset.specs.Modules.{module_of}
 use Rattle.cil_syntax.specs.declared.kind.Keyword.{Keyword}
 use Rattle.cil_syntax.specs.declared.kind.Keyword.TheVariants as keywords
-use Rattle.cil_syntax.specs.declared.kind.Dialect.{Dialect}
 use Rattle.cil_syntax.specs.Shapes.{Inner}
 use Rattle.cil_syntax.specs.Table.{Body, plain, behind, entry_of}
 use Rattle.cil_syntax.specs.Standpoints.{Standpoint, Opening, closed, opened, opening_by, opening_of, found_from, found_behind}
-use Rattle.cil_syntax.specs.Written.{Statement, Context, at_top, Verdict, Refused, Shaped, verdict_in, IsItem, first, later, skipped, within, inside_of, body_of, FoundIn, top, inside}
+use Rattle.cil_syntax.specs.Written.{Statement, Context, at_top, Verdict, Refused, Shaped, verdict_of, IsItem, first, later, skipped, within, inside_of, body_of, FoundIn, top, inside}
 
 abbrev pub start_of : Standpoint → ℕ
 start_of f = (span_of f.node).start
@@ -102,35 +101,35 @@ pub not_empty : (from to : ℕ) (ns : Nodes) → AreInOrder from to ns → from 
 not_empty from to none o = o
 not_empty from to (next n ns) o = let p = placed from to n o.0 in let q = not_empty (span_of n).end to ns o.1 in omega (arith, p.0, p.1, q)
 
-module _ (dialect : Dialect) (m : ℕ) where
+module _ (m : ℕ) where
   mutual
     unfolding found_from found_behind
 
-    pub apart_from : (c : Context) (n : Node) (from to : ℕ) → IsBetween from to n → AllFrom (span_of n).start (span_of n).end (found_from dialect m c n) × AreApart (found_from dialect m c n)
+    pub apart_from : (c : Context) (n : Node) (from to : ℕ) → IsBetween from to n → AllFrom (span_of n).start (span_of n).end (found_from m c n) × AreApart (found_from m c n)
     apart_from c (TextWord place bytes) from to b = one_point (record { context = c; node = TextWord place bytes }) place.start place.end (omega arith) b.1
     apart_from c (Quoted place bytes) from to b = one_point (record { context = c; node = Quoted place bytes }) place.start place.end (omega arith) b.1
     apart_from c (Branch place inner) from to b =
         let here : Standpoint = record { context = c; node = Branch place inner } in
-        let rest = apart_behind (opening_of c (verdict_in dialect m c (Branch place inner))) inner place.start place.end b.3 in
-        let deep = strictly (opening_of c (verdict_in dialect m c (Branch place inner))) inner place.start place.end b.3 (behind_verdict c (verdict_in dialect m c (Branch place inner))) in
-        joined_points place.start (place.start + 1) place.end (here ∷ []) (found_behind dialect m (opening_of c (verdict_in dialect m c (Branch place inner))) inner)
+        let rest = apart_behind (opening_of c (verdict_of m c (Branch place inner))) inner place.start place.end b.3 in
+        let deep = strictly (opening_of c (verdict_of m c (Branch place inner))) inner place.start place.end b.3 (behind_verdict c (verdict_of m c (Branch place inner))) in
+        joined_points place.start (place.start + 1) place.end (here ∷ []) (found_behind m (opening_of c (verdict_of m c (Branch place inner))) inner)
         (omega arith) (omega (arith, b.1)) (one_point here place.start (place.start + 1) (omega arith) (omega arith))
         ((λ f d. let x = rest.0 f d in let y = deep f d in (omega (arith, y), x.1)), rest.1)
 
-    pub apart_behind : (o : Opening) (ns : Nodes) (from to : ℕ) → AreInOrder from to ns → AllFrom from to (found_behind dialect m o ns) × AreApart (found_behind dialect m o ns)
+    pub apart_behind : (o : Opening) (ns : Nodes) (from to : ℕ) → AreInOrder from to ns → AllFrom from to (found_behind m o ns) × AreApart (found_behind m o ns)
     apart_behind o none from to b = no_points from to
     apart_behind closed (next n ns) from to b = no_points from to
     apart_behind (opened c zero) (next n ns) from to b =
         let p = placed from to n b.0 in
         let q = not_empty (span_of n).end to ns b.1 in
-        joined_points from (span_of n).end to (found_from dialect m c n) (found_behind dialect m (opened c zero) ns) (omega (arith, p.0, p.1)) q
-        (widened (span_of n).start (span_of n).end from (span_of n).end (found_from dialect m c n) p.0 (omega arith) (apart_from c n from to b.0))
+        joined_points from (span_of n).end to (found_from m c n) (found_behind m (opened c zero) ns) (omega (arith, p.0, p.1)) q
+        (widened (span_of n).start (span_of n).end from (span_of n).end (found_from m c n) p.0 (omega arith) (apart_from c n from to b.0))
         (apart_behind (opened c zero) ns (span_of n).end to b.1)
     apart_behind (opened c (suc k)) (next n ns) from to b =
         let p = placed from to n b.0 in
-        widened (span_of n).end to from to (found_behind dialect m (opened c k) ns) (omega (arith, p.0, p.1)) (omega arith) (apart_behind (opened c k) ns (span_of n).end to b.1)
+        widened (span_of n).end to from to (found_behind m (opened c k) ns) (omega (arith, p.0, p.1)) (omega arith) (apart_behind (opened c k) ns (span_of n).end to b.1)
 
-    pub strictly : (o : Opening) (ns : Nodes) (from to : ℕ) → AreInOrder from to ns → IsBehind o → (f : Standpoint) → Contains (found_behind dialect m o ns) f → from < start_of f
+    pub strictly : (o : Opening) (ns : Nodes) (from to : ℕ) → AreInOrder from to ns → IsBehind o → (f : Standpoint) → Contains (found_behind m o ns) f → from < start_of f
     strictly o none from to b i f c = absurd (contains_none f c)
     strictly closed (next n ns) from to b i f c = absurd (contains_none f c)
     strictly (opened d zero) (next n ns) from to b i f c = absurd (omega (arith, i))
@@ -140,9 +139,9 @@ module _ (dialect : Dialect) (m : ℕ) where
   -- ---- the list has what is found, and nothing else
 
   abbrev pub points : Context → Nodes → List Standpoint
-  points c tree = found_behind dialect m (opened c zero) tree
+  points c tree = found_behind m (opened c zero) tree
 
-  head_in : (c : Context) (n : Node) → Contains (found_from dialect m c n) (record { context = c; node = n })
+  head_in : (c : Context) (n : Node) → Contains (found_from m c n) (record { context = c; node = n })
   unfolding found_from
   head_in c (TextWord place bytes) = contains_here (record { context = c; node = TextWord place bytes }) []
   head_in c (Quoted place bytes) = contains_here (record { context = c; node = Quoted place bytes }) []
@@ -153,15 +152,15 @@ module _ (dialect : Dialect) (m : ℕ) where
   all_items none n i = i
   all_items (next q ns) n i = i
 
-  item_behind : (c : Context) (k : ℕ) (ns : Nodes) (n : Node) → IsItem n (skipped k ns) → Contains (found_behind dialect m (opened c k) ns) (record { context = c; node = n })
+  item_behind : (c : Context) (k : ℕ) (ns : Nodes) (n : Node) → IsItem n (skipped k ns) → Contains (found_behind m (opened c k) ns) (record { context = c; node = n })
   unfolding found_behind skipped
   item_behind c k none n i = elim i [ ]
-  item_behind c zero (next q ns) n first = Contains-append_left (found_from dialect m c q) (found_behind dialect m (opened c zero) ns) _ (head_in c q)
+  item_behind c zero (next q ns) n first = Contains-append_left (found_from m c q) (found_behind m (opened c zero) ns) _ (head_in c q)
   item_behind c zero (next q ns) n (later i) =
-      Contains-append_right (found_from dialect m c q) (found_behind dialect m (opened c zero) ns) _ (item_behind c zero ns n (all_items ns n i))
+      Contains-append_right (found_from m c q) (found_behind m (opened c zero) ns) _ (item_behind c zero ns n (all_items ns n i))
   item_behind c (suc k) (next q ns) n i = item_behind c k ns n i
 
-  item_opened : (c : Context) (body : Body) (ns : Nodes) (n : Node) → IsItem n (within body ns) → Contains (found_behind dialect m (opening_by c body) ns) (record { context = c; node = n })
+  item_opened : (c : Context) (body : Body) (ns : Nodes) (n : Node) → IsItem n (within body ns) → Contains (found_behind m (opening_by c body) ns) (record { context = c; node = n })
   item_opened c plain ns n i = elim i [ ]
   item_opened c (behind k place) ns n i = item_behind c k ns n i
 
@@ -172,7 +171,7 @@ module _ (dialect : Dialect) (m : ℕ) where
 
   -- what stands in a node of the list is in the list
   abbrev IsClosed : List Standpoint → Type 0
-  IsClosed fs = (f : Standpoint) (s : Statement) (faults : List Inner) (n : Node) → Contains fs f → verdict_in dialect m f.context f.node ≡ Shaped s faults
+  IsClosed fs = (f : Standpoint) (s : Statement) (faults : List Inner) (n : Node) → Contains fs f → verdict_of m f.context f.node ≡ Shaped s faults
       → IsItem n (body_of s f.node) → Contains fs (record { context = inside_of f.context s; node = n })
 
   closed_leaf : (h : Standpoint) → inner_of h.node ≡ none → IsClosed (h ∷ [])
@@ -193,14 +192,14 @@ module _ (dialect : Dialect) (m : ℕ) where
   closed_none : IsClosed []
   closed_none f s faults n c v i = absurd (contains_none f c)
 
-  closed_branch : (h : Standpoint) → IsClosed (found_behind dialect m (opening_of h.context (verdict_in dialect m h.context h.node)) (inner_of h.node))
-      → IsClosed (h ∷ found_behind dialect m (opening_of h.context (verdict_in dialect m h.context h.node)) (inner_of h.node))
+  closed_branch : (h : Standpoint) → IsClosed (found_behind m (opening_of h.context (verdict_of m h.context h.node)) (inner_of h.node))
+      → IsClosed (h ∷ found_behind m (opening_of h.context (verdict_of m h.context h.node)) (inner_of h.node))
   closed_branch h rest f s faults n c v i =
-      let below = found_behind dialect m (opening_of h.context (verdict_in dialect m h.context h.node)) (inner_of h.node) in
+      let below = found_behind m (opening_of h.context (verdict_of m h.context h.node)) (inner_of h.node) in
       elim (contains_cases f h below c) [
         | inl same ↦ contains_later _ h below (subst (λ (x : Standpoint). Contains below (record { context = inside_of x.context s; node = n })) same
-            (subst (λ o. Contains (found_behind dialect m (opening_of h.context o) (inner_of h.node)) (record { context = inside_of h.context s; node = n }))
-            (sym (subst (λ (x : Standpoint). verdict_in dialect m x.context x.node ≡ Shaped s faults) (sym same) v))
+            (subst (λ o. Contains (found_behind m (opening_of h.context o) (inner_of h.node)) (record { context = inside_of h.context s; node = n }))
+            (sym (subst (λ (x : Standpoint). verdict_of m x.context x.node ≡ Shaped s faults) (sym same) v))
             (item_opened (inside_of h.context s) (entry_of s.keyword).body (inner_of h.node) n
             (subst (λ (x : Standpoint). IsItem n (body_of s x.node)) (sym same) i))))
         | inr d ↦ contains_later _ h below (rest f s faults n d v i)
@@ -209,17 +208,17 @@ module _ (dialect : Dialect) (m : ℕ) where
   mutual
     unfolding found_from found_behind
 
-    closed_from : (c : Context) (n : Node) → IsClosed (found_from dialect m c n)
+    closed_from : (c : Context) (n : Node) → IsClosed (found_from m c n)
     closed_from c (TextWord place bytes) = closed_leaf (record { context = c; node = TextWord place bytes }) refl
     closed_from c (Quoted place bytes) = closed_leaf (record { context = c; node = Quoted place bytes }) refl
     closed_from c (Branch place inner) =
-        closed_branch (record { context = c; node = Branch place inner }) (closed_behind (opening_of c (verdict_in dialect m c (Branch place inner))) inner)
+        closed_branch (record { context = c; node = Branch place inner }) (closed_behind (opening_of c (verdict_of m c (Branch place inner))) inner)
 
-    closed_behind : (o : Opening) (ns : Nodes) → IsClosed (found_behind dialect m o ns)
+    closed_behind : (o : Opening) (ns : Nodes) → IsClosed (found_behind m o ns)
     closed_behind o none = closed_none
     closed_behind closed (next n ns) = closed_none
     closed_behind (opened c zero) (next n ns) =
-        closed_join (found_from dialect m c n) (found_behind dialect m (opened c zero) ns) (closed_from c n) (closed_behind (opened c zero) ns)
+        closed_join (found_from m c n) (found_behind m (opened c zero) ns) (closed_from c n) (closed_behind (opened c zero) ns)
     closed_behind (opened c (suc k)) (next n ns) = closed_behind (opened c k) ns
 
   -- what is found is in the list of its tree
@@ -228,7 +227,7 @@ module _ (dialect : Dialect) (m : ℕ) where
     pub is_text : IsText (module_of modules m) tree
     pub listed : Contains (points at_top tree) (record { context = c; node = n })
 
-  listed : (modules : List (List ℕ)) (c : Context) (n : Node) → FoundIn dialect modules m c n → IsListed modules c n
+  listed : (modules : List (List ℕ)) (c : Context) (n : Node) → FoundIn modules m c n → IsListed modules c n
   listed modules c n (top tree k below text i) =
       record { tree = tree; is_text = text; listed = item_behind at_top zero tree n (all_items tree n i) }
   listed modules c n (inside d p k s faults f v i) =
@@ -237,7 +236,7 @@ module _ (dialect : Dialect) (m : ℕ) where
 
   -- the law: a place is that of one node
   pub places_are_apart : HasOneTree → (modules : List (List ℕ)) → ((tree : Nodes) → IsText (module_of modules m) tree → (to : ℕ) × AreInOrder 0 to tree)
-      → (c d : Context) (n k : Node) → FoundIn dialect modules m c n → FoundIn dialect modules m d k → (span_of n).start ≡ (span_of k).start → (c ≡ d) × (n ≡ k)
+      → (c d : Context) (n k : Node) → FoundIn modules m c n → FoundIn modules m d k → (span_of n).start ≡ (span_of k).start → (c ≡ d) × (n ≡ k)
   places_are_apart one_tree modules in_order c d n k f g e =
       let a = listed modules c n f in
       let b = listed modules d k g in
@@ -248,8 +247,8 @@ module _ (dialect : Dialect) (m : ℕ) where
       (ap (λ (x : Standpoint). x.context) one, ap (λ (x : Standpoint). x.node) one)
 
   -- what is found is in the list of the tree of its module
-  pub listed_in : HasOneTree → (modules : List (List ℕ)) (c : Context) (n : Node) → FoundIn dialect modules m c n → (tree : Nodes) → IsText (module_of modules m) tree
-      → Contains (found_behind dialect m (opened at_top 0) tree) (record { context = c; node = n })
+  pub listed_in : HasOneTree → (modules : List (List ℕ)) (c : Context) (n : Node) → FoundIn modules m c n → (tree : Nodes) → IsText (module_of modules m) tree
+      → Contains (found_behind m (opened at_top 0) tree) (record { context = c; node = n })
   listed_in one_tree modules c n f tree is =
       let l = listed modules c n f in
       subst (λ t. Contains (points at_top t) (record { context = c; node = n })) (one_tree (module_of modules m) l.tree tree l.is_text is) l.listed

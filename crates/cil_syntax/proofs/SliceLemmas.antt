@@ -7,8 +7,6 @@ use Rattle.cil_sexpr.specs.Text.{IsText, IsNode, AreNodes}
 use Rattle.cil_sexpr.specs.Tree.{Node, Word as TextWord, Quoted, Branch, Nodes, none, next, span_of, inner_of}
 use Rattle.cil_modset.specs.Modules.{module_of}
 use Rattle.cil_syntax.specs.declared.code.FaultCode.TheVariants as causes
-use Rattle.cil_syntax.specs.declared.kind.Dialect.{Dialect}
-use Rattle.cil_syntax.specs.declared.kind.Dialect.TheVariants as dialects
 use Rattle.cil_syntax.specs.declared.kind.Sign.{Sign}
 use Rattle.cil_syntax.specs.declared.term.Op.{Op}
 use Rattle.cil_syntax.specs.declared.term.Op.TheVariants as ops
@@ -17,9 +15,9 @@ use Rattle.cil_syntax.specs.declared.term.Word.{Word}
 use Rattle.cil_syntax.specs.Shapes.{Inner, inner_at, word_of, Reading, Shape, declared_name, looked_up, set_of, fixed, left_out, any_left_out, either, list_of, unread, any_text, Row, close, item, many, counted, statements, anything, Face, a_word, a_string, a_list, Cell, all_lists, is_meant, joined, formed, operands, operator_of, is_negation, read_operator, read_set, read_word, read_string, read_list, read_row, cell_of, cells_of}
 use Rattle.cil_syntax.specs.Slices.{AreWritten, EachText, EachTextIn, WordsAreSlices}
 use Rattle.cil_syntax.specs.Spelling.{same_bytes}
-use Rattle.cil_syntax.specs.Table.{Body, plain, behind, Entry, entry_of, entry_in, named_in, nested_entries, nested_only, set_aside, set_aside_words, table, table_of}
+use Rattle.cil_syntax.specs.Table.{Body, plain, behind, Entry, entry_of, effective, entry_named, named_in, set_aside, set_aside_words, table}
 use Rattle.cil_syntax.specs.Terms.{Term, Leaf, Name, Form, Terms, nil, cons, spot_of}
-use Rattle.cil_syntax.specs.Written.{Context, Verdict, Refused, Shaped, by_reading, by_entry, by_head, by_items, may_stand, names_its_block, verdict_in, IsItem, first, later, skipped, within, body_of, FoundIn, top, inside, Written, IsWrittenIn, written}
+use Rattle.cil_syntax.specs.Written.{Context, Verdict, Refused, Shaped, by_reading, by_entry, by_head, by_items, may_stand, names_its_block, verdict_of, IsItem, first, later, skipped, within, body_of, FoundIn, top, inside, Written, IsWritten, written}
 
 -- ---- rows in which no list is a kept string
 
@@ -68,17 +66,33 @@ both_plain : (xs ys : List Entry) → ArePlain xs → ArePlain ys → ArePlain (
 both_plain [] ys h k = k
 both_plain (x ∷ xs) ys h k = (h.0, both_plain xs ys h.1 k)
 
-flat_plain : ArePlain table
-unfolding table entry_of
-flat_plain = ((tt, tt), ((tt, tt), ((tt, tt), ((tt, (((λ e. cc), tt), tt)), ((tt, (tt, tt)), ((tt, (tt, tt)), ((tt, ((tt, (tt, (tt, tt))), ((tt, ((λ e. cc), (tt, (tt, tt)))), tt))), tt)))))))
+effective_plain : ArePlain effective
+unfolding effective entry_of
+effective_plain = (
+  (tt, tt),
+  (
+    (tt, tt),
+    (
+      (tt, tt),
+      (
+        (tt, (((λ e. cc), tt), tt)),
+        (
+          (tt, (tt, tt)),
+          (
+            (tt, (tt, tt)),
+            (
+              (tt, ((tt, (tt, (tt, tt))), ((tt, ((λ e. cc), (tt, (tt, tt)))), tt))),
+              ((tt, tt), ((tt, tt), ((tt, tt), ((tt, (((λ e. cc), ((λ e. cc), ((tt, (tt, (tt, (tt, (tt, (tt, tt)))))), (tt, tt)))), tt)), (((tt, tt), (tt, (((λ e. cc), tt), tt))), tt))))),
+            ),
+          ),
+        ),
+      ),
+    ),
+  ),
+)
 
-nested_plain : ArePlain nested_entries
-unfolding nested_entries entry_of
-nested_plain = ((tt, tt), ((tt, tt), ((tt, tt), ((tt, (((λ e. cc), ((λ e. cc), ((tt, (tt, (tt, (tt, (tt, (tt, tt)))))), (tt, tt)))), tt)), (((tt, tt), (tt, (((λ e. cc), tt), tt))), tt)))))
-
-plain_in : (dialect : Dialect) → ArePlain (table_of dialect)
-plain_in dialects.Flat = flat_plain
-plain_in dialects.Nested = both_plain table nested_only flat_plain (both_plain nested_entries (map set_aside set_aside_words) nested_plain (aside_plain set_aside_words))
+table_plain : ArePlain table
+table_plain = both_plain effective (map set_aside set_aside_words) effective_plain (aside_plain set_aside_words)
 
 -- ---- operators
 
@@ -277,25 +291,25 @@ module _ (P : Spot → List ℕ → Type 0) where
     entry_has context at word cs e (Some entry) p =
         one_verdict (may_stand context entry) _ _ (reading_has context at entry (read_row entry.row cs) (row_has entry.row cs p e)) tt
 
-    head_has : (dialect : Dialect) (context : Context) (at : Spot) (face : Face) (cs : List Cell) → EachCell cs → VerdictHas (by_head dialect context at face cs)
-    head_has dialect context at (a_word word) cs e =
-        entry_has context at word cs e (entry_in dialect word) (found_plain (table_of dialect) word (plain_in dialect))
-    head_has dialect context at a_string cs e = tt
-    head_has dialect context at a_list cs e = tt
+    head_has : (context : Context) (at : Spot) (face : Face) (cs : List Cell) → EachCell cs → VerdictHas (by_head context at face cs)
+    head_has context at (a_word word) cs e =
+        entry_has context at word cs e (entry_named word) (found_plain table word table_plain)
+    head_has context at a_string cs e = tt
+    head_has context at a_list cs e = tt
 
-    items_have : (dialect : Dialect) (context : Context) (at : Spot) (cs : List Cell) → EachCell cs → VerdictHas (by_items dialect context at cs)
-    items_have dialect context at [] e = tt
-    items_have dialect context at (c ∷ cs) e = head_has dialect context at c.face cs e.1
+    items_have : (context : Context) (at : Spot) (cs : List Cell) → EachCell cs → VerdictHas (by_items context at cs)
+    items_have context at [] e = tt
+    items_have context at (c ∷ cs) e = head_has context at c.face cs e.1
 
     inner_has : (n : Node) → NodeHas n → NodesHave (inner_of n)
     inner_has (TextWord place bytes) h = tt
     inner_has (Quoted place bytes) h = tt
     inner_has (Branch place inner) h = h
 
-    verdict_has : (dialect : Dialect) (context : Context) (n : Node) → NodeHas n → VerdictHas (verdict_in dialect m context n)
-    unfolding verdict_in
-    verdict_has dialect context n h =
-        items_have dialect context (spot_of m (span_of n)) (cells_of m (inner_of n)) (cells_have (inner_of n) (inner_has n h))
+    verdict_has : (context : Context) (n : Node) → NodeHas n → VerdictHas (verdict_of m context n)
+    unfolding verdict_of
+    verdict_has context n h =
+        items_have context (spot_of m (span_of n)) (cells_of m (inner_of n)) (cells_have (inner_of n) (inner_has n h))
 
     -- ---- where statements stand
 
@@ -314,11 +328,11 @@ module _ (P : Spot → List ℕ → Type 0) where
     within_have plain ns h = tt
     within_have (behind k nesting) ns h = skipped_have k ns h
 
-    found_has : (dialect : Dialect) (modules : List (List ℕ)) → ((tree : Nodes) → IsText (module_of modules m) tree → NodesHave tree)
-        → (context : Context) (n : Node) → FoundIn dialect modules m context n → NodeHas n
-    found_has dialect modules have context n (top tree k below text i) = item_has n tree i (have tree text)
-    found_has dialect modules have context n (inside d p k s faults f v i) =
-        item_has n (body_of s p) i (within_have (entry_of s.keyword).body (inner_of p) (inner_has p (found_has dialect modules have d p f)))
+    found_has : (modules : List (List ℕ)) → ((tree : Nodes) → IsText (module_of modules m) tree → NodesHave tree)
+        → (context : Context) (n : Node) → FoundIn modules m context n → NodeHas n
+    found_has modules have context n (top tree k below text i) = item_has n tree i (have tree text)
+    found_has modules have context n (inside d p k s faults f v i) =
+        item_has n (body_of s p) i (within_have (entry_of s.keyword).body (inner_of p) (inner_has p (found_has modules have d p f)))
 
 -- ---- the texts
 
@@ -355,10 +369,10 @@ module _ (modules : List (List ℕ)) (m : ℕ) where
   text_written tree is = nodes_written 0 0 (length (module_of modules m)) tree is.whole
 
 -- what a written statement says is written so in the modules, and a kept string where its form begins
-pub written_whole : (dialect : Dialect) (modules : List (List ℕ)) (w : Written) → IsWrittenIn dialect modules w → WholeIn (AreWritten modules) w.statement.args
-written_whole dialect modules w (written m context n s faults f v) =
-    let node = found_has (AreWritten modules) m dialect modules (text_written modules m) context n f in
-    subst (VerdictHas (AreWritten modules) m) v (verdict_has (AreWritten modules) m dialect context n node)
+pub written_whole : (modules : List (List ℕ)) (w : Written) → IsWritten modules w → WholeIn (AreWritten modules) w.statement.args
+written_whole modules w (written m context n s faults f v) =
+    let node = found_has (AreWritten modules) m modules (text_written modules m) context n f in
+    subst (VerdictHas (AreWritten modules) m) v (verdict_has (AreWritten modules) m context n node)
 
 pub words_are_slices : WordsAreSlices
-words_are_slices dialect modules w is = each_text_in (AreWritten modules) w.statement.args (written_whole dialect modules w is)
+words_are_slices modules w is = each_text_in (AreWritten modules) w.statement.args (written_whole modules w is)

@@ -4,9 +4,8 @@ use Rattle.std.specs.Prelude.{ℕ, zero, suc, List, [], ◌∷◌, ◌++◌, map
 use Rattle.std.specs.List.{flat_map}
 use Rattle.cil_sexpr.specs.Tree.{Node, Word as TextWord, Quoted, Branch, Nodes, none, next}
 use Rattle.cil_syntax.specs.declared.fault.Fault.{Fault}
-use Rattle.cil_syntax.specs.declared.kind.Dialect.{Dialect}
 use Rattle.cil_syntax.specs.Table.{Body, plain, behind, entry_of}
-use Rattle.cil_syntax.specs.Written.{Context, Written, Verdict, Refused, Shaped, fault_of, verdict_in, inside_of}
+use Rattle.cil_syntax.specs.Written.{Context, Written, Verdict, Refused, Shaped, fault_of, verdict_of, inside_of}
 
 -- a node, and where it stands
 pub record Standpoint : Type 0 where
@@ -29,18 +28,18 @@ opening_of context (Shaped s faults) = opening_by (inside_of context s) (entry_o
 
 unfoldable mutual
   -- a node, and those inside
-  pub found_from : Dialect → ℕ → Context → Node → List Standpoint
-  found_from d m c (TextWord place bytes) = record { context = c; node = TextWord place bytes } ∷ []
-  found_from d m c (Quoted place bytes) = record { context = c; node = Quoted place bytes } ∷ []
-  found_from d m c (Branch place inner) =
-      record { context = c; node = Branch place inner } ∷ found_behind d m (opening_of c (verdict_in d m c (Branch place inner))) inner
+  pub found_from : ℕ → Context → Node → List Standpoint
+  found_from m c (TextWord place bytes) = record { context = c; node = TextWord place bytes } ∷ []
+  found_from m c (Quoted place bytes) = record { context = c; node = Quoted place bytes } ∷ []
+  found_from m c (Branch place inner) =
+      record { context = c; node = Branch place inner } ∷ found_behind m (opening_of c (verdict_of m c (Branch place inner))) inner
 
   -- those of some nodes that an opening shows
-  pub found_behind : Dialect → ℕ → Opening → Nodes → List Standpoint
-  found_behind d m o none = []
-  found_behind d m closed (next n ns) = []
-  found_behind d m (opened c zero) (next n ns) = found_from d m c n ++ found_behind d m (opened c zero) ns
-  found_behind d m (opened c (suc k)) (next n ns) = found_behind d m (opened c k) ns
+  pub found_behind : ℕ → Opening → Nodes → List Standpoint
+  found_behind m o none = []
+  found_behind m closed (next n ns) = []
+  found_behind m (opened c zero) (next n ns) = found_from m c n ++ found_behind m (opened c zero) ns
+  found_behind m (opened c (suc k)) (next n ns) = found_behind m (opened c k) ns
 
 -- the faults of a node, and the statement that it is, by what is said of it
 abbrev pub faults_by : ℕ → Context → Verdict → List Fault
@@ -52,8 +51,8 @@ stated_by c (Refused i) = []
 stated_by c (Shaped s faults) = record { context = c; statement = s } ∷ []
 
 -- the faults of some nodes, and the statements that they are
-abbrev pub all_faults : Dialect → ℕ → List Standpoint → List Fault
-all_faults d m fs = flat_map (λ f. faults_by m f.context (verdict_in d m f.context f.node)) fs
+abbrev pub all_faults : ℕ → List Standpoint → List Fault
+all_faults m fs = flat_map (λ f. faults_by m f.context (verdict_of m f.context f.node)) fs
 
-abbrev pub all_stated : Dialect → ℕ → List Standpoint → List Written
-all_stated d m fs = flat_map (λ f. stated_by f.context (verdict_in d m f.context f.node)) fs
+abbrev pub all_stated : ℕ → List Standpoint → List Written
+all_stated m fs = flat_map (λ f. stated_by f.context (verdict_of m f.context f.node)) fs

@@ -22,6 +22,7 @@ mod printed;
 mod program;
 mod reader;
 mod rows;
+mod set_aside;
 mod sets;
 mod shape;
 mod spelling;
@@ -39,11 +40,11 @@ pub use fault_list::FaultList;
 pub use forms::{
     ClassParts, DeclaredName, Parameter, RuleParts, WordAndTerms, WordPair, word_and_terms,
 };
-pub use kind::{Dialect, Keyword, Kind, Nesting, Sign};
+pub use kind::{Keyword, Kind, Nesting, Sign};
 pub use path::{Path, PathParts, parted, path_of};
 pub use place::joined;
 pub use printed::render;
-pub use program::{Program, Statement, written, written_in};
+pub use program::{Program, Statement, written};
 pub use spelling::is_reserved;
 pub use term::{Excerpt, LookedUp, Op, Spot, Term, Word};
 pub use words::is_spelled_for;

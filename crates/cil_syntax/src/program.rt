@@ -8,12 +8,12 @@ ghost use Rattle.cil_syntax.specs.Program.{program_of};
 ghost use Rattle.cil_syntax.specs.Refusal.{Answers};
 ghost use Rattle.cil_syntax.specs.Standpoints.{found_behind, found_from, opened};
 ghost use Rattle.cil_syntax.specs.Told.{AreJudgedHere, IsModuleRead, StandsIn};
-ghost use Rattle.cil_syntax.specs.Written.{IsWritten, IsWrittenIn, ShapeFault, ShapeFaultIn, at_top, written_cmp};
+ghost use Rattle.cil_syntax.specs.Written.{IsWritten, ShapeFault, at_top, written_cmp};
 
 use crate::failure::Failure;
 use crate::fault::Fault;
 use crate::fault_list::FaultList;
-use crate::kind::{Dialect, Keyword};
+use crate::kind::Keyword;
 use crate::place::Place;
 use crate::reader::Reader;
 use crate::term::{Spot, Term};
@@ -76,17 +76,6 @@ impl<'a> Program<'a> {
 pub fn written(alloc: Global, modules: &ModuleSet) -> Result<Program<'_>, Failure>
     ensures { Answers (λ p. Lists written_cmp (IsWritten modules.now) (program_of p)) (ShapeFault modules.now) result }
 {
-    written_in(alloc, modules, Dialect::Flat)
-}
-
-/// The same, with the statements of a dialect.
-pub fn written_in(
-    alloc: Global,
-    modules: &ModuleSet,
-    dialect: Dialect,
-) -> Result<Program<'_>, Failure>
-    ensures { Answers (λ p. Lists written_cmp (IsWrittenIn dialect modules.now) (program_of p)) (ShapeFaultIn dialect modules.now) result }
-{
     // That a text has one tree makes what was read what is written.
     texts::one_tree();
     let mut statements = Vec::new(alloc);
@@ -97,7 +86,6 @@ pub fn written_in(
             alloc,
             text: modules.get(i),
             number: i as u64,
-            dialect,
             place: &top,
         };
         reader.read_module(&mut statements, &mut faults)?;
@@ -117,7 +105,7 @@ impl<'r, 'a> Reader<'r, 'a> {
     ) -> Result<(), NoMemory>
         requires readable { IsReadable self.now.text.now }
         requires top { StandsIn at_top self.now.place.now statements.old.items }
-        ensures { OnOk result (IsModuleRead self.now.dialect self.now.number self.now.text.now statements.old.items statements.new.items faults.old.items faults.new.items) }
+        ensures { OnOk result (IsModuleRead self.now.number self.now.text.now statements.old.items statements.new.items faults.old.items faults.new.items) }
     {
         texts::never_both();
         match read(self.alloc, self.text) {
@@ -136,7 +124,7 @@ impl<'r, 'a> Reader<'r, 'a> {
         statements: &mut Vec<Statement<'a>>,
         faults: &mut Vec<Fault>,
     ) -> Result<(), NoMemory>
-        ensures { OnOk result (AreJudgedHere self.now (λ context. found_behind self.now.dialect self.now.number (opened context skipped) (nodes_of self.now.text.now nodes.now)) statements.old.items statements.new.items faults.old.items faults.new.items) }
+        ensures { OnOk result (AreJudgedHere self.now (λ context. found_behind self.now.number (opened context skipped) (nodes_of self.now.text.now nodes.now)) statements.old.items statements.new.items faults.old.items faults.new.items) }
     {
         for index in skipped..nodes.len() {
             self.judge_in(&nodes[index], statements, faults)?;
@@ -152,7 +140,7 @@ impl<'r, 'a> Reader<'r, 'a> {
         statements: &mut Vec<Statement<'a>>,
         faults: &mut Vec<Fault>,
     ) -> Result<(), NoMemory>
-        ensures { OnOk result (AreJudgedHere self.now (λ context. found_from self.now.dialect self.now.number context (node_of self.now.text.now node.now)) statements.old.items statements.new.items faults.old.items faults.new.items) }
+        ensures { OnOk result (AreJudgedHere self.now (λ context. found_from self.now.number context (node_of self.now.text.now node.now)) statements.old.items statements.new.items faults.old.items faults.new.items) }
     {
         let Some(statement) = self.judge(node, faults)? else {
             return Ok(());
@@ -169,7 +157,6 @@ impl<'r, 'a> Reader<'r, 'a> {
             alloc: self.alloc,
             text: self.text,
             number: self.number,
-            dialect: self.dialect,
             place: &place,
         };
         match node {

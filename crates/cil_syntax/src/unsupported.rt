@@ -2,17 +2,12 @@
 
 ghost use Rattle.std.specs.Prelude.{◌≡◌};
 ghost use Rattle.cil_syntax.specs.Spelling.{is_one_of};
-ghost use Rattle.cil_syntax.specs.Table.{is_unsupported, later_words, left_out_words, set_aside_words};
+ghost use Rattle.cil_syntax.specs.Table.{is_unsupported, later_words, left_out_words};
 
 use crate::spelling;
 
 /// The statements that are to be supported, and are not yet.
-const LATER_WORDS: [&[u8]; 50] = [
-    b"block",
-    b"blockabstract",
-    b"blockinherit",
-    b"macro",
-    b"call",
+const LATER_WORDS: [&[u8]; 45] = [
     b"common",
     b"classcommon",
     b"classmap",
@@ -60,39 +55,6 @@ const LATER_WORDS: [&[u8]; 50] = [
     b"typemember",
 ];
 
-/// The statements that are to be accepted without effect, and are not yet.
-const SET_ASIDE_WORDS: [&[u8]; 29] = [
-    b"filecon",
-    b"fsuse",
-    b"genfscon",
-    b"netifcon",
-    b"nodecon",
-    b"portcon",
-    b"ibpkeycon",
-    b"ibendportcon",
-    b"sid",
-    b"sidorder",
-    b"sidcontext",
-    b"context",
-    b"ipaddr",
-    b"iomemcon",
-    b"ioportcon",
-    b"pcidevicecon",
-    b"pirqcon",
-    b"devicetreecon",
-    b"policycap",
-    b"handleunknown",
-    b"defaultuser",
-    b"defaultrole",
-    b"defaulttype",
-    b"defaultrange",
-    b"selinuxuser",
-    b"selinuxuserdefault",
-    b"userprefix",
-    b"validatetrans",
-    b"mlsvalidatetrans",
-];
-
 /// The statements that this product does not support.
 const LEFT_OUT_WORDS: [&[u8]; 13] = [
     b"allowx",
@@ -114,7 +76,7 @@ const LEFT_OUT_WORDS: [&[u8]; 13] = [
 pub(crate) fn is_known(word: &[u8]) -> bool
     ensures { result ≡ is_unsupported word.now }
 {
-    comes_later(word) || is_set_aside(word) || is_left_out(word)
+    comes_later(word) || is_left_out(word)
 }
 
 /// Whether the statement is to be supported.
@@ -123,14 +85,6 @@ fn comes_later(word: &[u8]) -> bool
     ensures { result ≡ is_one_of later_words word.now }
 {
     spelling::is_one_of(&LATER_WORDS, word)
-}
-
-/// Whether the statement is to be accepted without effect.
-#[tactic(auto, unfolding(crate::specs::Table::set_aside_words))]
-pub(crate) fn is_set_aside(word: &[u8]) -> bool
-    ensures { result ≡ is_one_of set_aside_words word.now }
-{
-    spelling::is_one_of(&SET_ASIDE_WORDS, word)
 }
 
 /// Whether the product does not support the statement.

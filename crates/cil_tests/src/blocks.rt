@@ -4,7 +4,7 @@ use crate::growths::{are_printed, set_at_last};
 use crate::policies::{lines_of, set_of};
 use cil_blocks::{Entry, inherit};
 use cil_modset::ModuleSet;
-use cil_syntax::{Dialect, Failure, FaultList, Program, render, written_in};
+use cil_syntax::{Failure, FaultList, Program, render, written};
 use std::alloc::Global;
 use std::test::Fail;
 
@@ -132,7 +132,7 @@ fn inherited(alloc: Global, program: &Program) -> Result<String, Fail> {
 
 /// The same of modules whose statements have the right shape.
 fn answer(alloc: Global, modules: &ModuleSet) -> Result<String, Fail> {
-    match written_in(alloc, modules, Dialect::Nested) {
+    match written(alloc, modules) {
         Ok(program) => inherited(alloc, &program),
         Err(_) => Err(Fail::from("not written")),
     }
@@ -222,8 +222,8 @@ const IN_DISORDER: &str =
 
 /// The statements of a set, read once more where a growth is refused.
 pub(crate) fn read_at_last<'m>(alloc: Global, modules: &'m ModuleSet) -> Option<Program<'m>> {
-    match written_in(alloc, modules, Dialect::Nested) {
-        Err(Failure::NoMemory) => written_in(alloc, modules, Dialect::Nested).ok(),
+    match written(alloc, modules) {
+        Err(Failure::NoMemory) => written(alloc, modules).ok(),
         answer => answer.ok(),
     }
 }

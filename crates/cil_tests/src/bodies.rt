@@ -1,8 +1,7 @@
 //! How statements inside statements are judged, a line for each reading of the rules; and in which statement each stands.
 
-use crate::policies::{lines_of, set_of};
-use cil_syntax::{Dialect, Failure, render, written_in};
-use std::alloc::Global;
+use crate::policies::{judged, set_of};
+use cil_syntax::written;
 use std::test::Fail;
 
 /// A text, and the lines of its faults.
@@ -21,6 +20,11 @@ const BODIES: &[(&str, &str)] = &[
     ("(macro m () (block))", "24 0 12 . block\n"),
     ("(macro m () (block b (type 1x)))", "24 0 12 . block\n"),
     ("(macro m () (macro n ()))", "24 0 12 . macro\n"),
+    ("(macro m ((type n)) (macro n ()))", "24 0 20 . macro\n"),
+    (
+        "(macro m () (macro n () (macro p ())))",
+        "24 0 12 . macro\n",
+    ),
     ("(macro m () (filecon))", "24 0 12 . filecon\n"),
     (
         "(macro m ((type p)) (type q) (class c ()))",
@@ -54,21 +58,11 @@ const BODIES: &[(&str, &str)] = &[
     ("(call m a)", "23 0 0 . call\n"),
 ];
 
-/// What the statements of a text are judged as: the lines of their faults, or the line `written`.
-fn judged_nested(alloc: Global, text: &str) -> Result<String, Fail> {
-    let modules = set_of(alloc, &[text])?;
-    match written_in(alloc, &modules, Dialect::Nested) {
-        Ok(_) => Ok(format!(in alloc; "written\n")?),
-        Err(Failure::Faults(list)) => lines_of(render(alloc, &list)?),
-        Err(Failure::NoMemory) => Err(Fail::from("no memory")),
-    }
-}
-
 #[test]
 fn bodies_are_judged(rt: HostRuntime) -> Result<(), Fail> {
     let alloc = rt.alloc();
     for &(text, want) in BODIES {
-        let got = judged_nested(alloc, text)?;
+        let got = judged(alloc, &[text])?;
         assert_eq!(rt; got.as_str(), want, "{text}");
     }
     Ok(())
@@ -84,7 +78,7 @@ fn statements_stand_in_statements(rt: HostRuntime) -> Result<(), Fail> {
         alloc,
         &["(block a (type b)(block c (type d)))(macro m () (type e))"],
     )?;
-    let Ok(program) = written_in(alloc, &modules, Dialect::Nested) else {
+    let Ok(program) = written(alloc, &modules) else {
         return Err(Fail::from("not written"));
     };
     assert_eq!(rt; program.statements().len(), UNDER.len());

@@ -2,7 +2,7 @@
 
 use crate::policies::set_of;
 use cil_macros::declared_in_bodies;
-use cil_syntax::{Dialect, Program, Sign, written_in};
+use cil_syntax::{Program, Sign, written};
 use std::alloc::Global;
 use std::test::Fail;
 
@@ -75,7 +75,7 @@ fn is_declared_in(
     sign: Sign,
 ) -> Result<bool, Fail> {
     let modules = set_of(alloc, texts)?;
-    match written_in(alloc, &modules, Dialect::Nested) {
+    match written(alloc, &modules) {
         Ok(program) => is_declared(alloc, &program, number, word, sign),
         Err(_) => Err(Fail::from("not written")),
     }

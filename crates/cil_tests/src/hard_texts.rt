@@ -51,6 +51,11 @@ const PLACES: &[(&str, &str)] = &[
     ("(allow s t (", " (p)))"),
     ("(allow s t (c (p ", ")))"),
     ("(allow s ", " (c (p)))"),
+    ("(block ", ")"),
+    ("(blockinherit ", ")"),
+    ("(macro ", " ())"),
+    ("(macro m ((type ", ")))"),
+    ("(call ", ")"),
 ];
 
 /// How a reserved word is judged behind some bytes: it is a fault; or it is accepted, or not supported, where it has a meaning.

@@ -5,7 +5,7 @@ use cil_blocks::{Entry, Spaces, inherit};
 use cil_macros::entry::Called;
 use cil_macros::expand;
 use cil_modset::ModuleSet;
-use cil_syntax::{Dialect, Failure, Program, render, written_in};
+use cil_syntax::{Failure, Program, render, written};
 use std::alloc::Global;
 use std::test::Fail;
 
@@ -171,7 +171,7 @@ fn answer_of(alloc: Global, program: &Program) -> Result<String, Fail> {
 
 /// The same of modules whose statements have the right shape.
 fn answer(alloc: Global, modules: &ModuleSet) -> Result<String, Fail> {
-    match written_in(alloc, modules, Dialect::Nested) {
+    match written(alloc, modules) {
         Ok(program) => answer_of(alloc, &program),
         Err(_) => Err(Fail::from("not written")),
     }

@@ -4,7 +4,7 @@ use crate::policies::set_of;
 use cil_blocks::{Spaces, inherit};
 use cil_macros::{Instances, expand};
 use cil_modset::ModuleSet;
-use cil_syntax::{Dialect, Program, Statement, Word, written_in};
+use cil_syntax::{Program, Statement, Word, written};
 use std::alloc::Global;
 use std::test::Fail;
 
@@ -165,7 +165,7 @@ fn inherited(alloc: Global, program: &Program) -> Result<String, Fail> {
 
 /// The same of modules.
 fn meant(alloc: Global, modules: &ModuleSet) -> Result<String, Fail> {
-    match written_in(alloc, modules, Dialect::Nested) {
+    match written(alloc, modules) {
         Ok(program) => inherited(alloc, &program),
         Err(_) => Err(Fail::from("not written")),
     }

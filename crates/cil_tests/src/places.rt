@@ -4,7 +4,7 @@ use crate::policies::set_of;
 use cil_blocks::spelled::spelled;
 use cil_blocks::{Namespaces, ScopeList, Spaces, inherit};
 use cil_modset::ModuleSet;
-use cil_syntax::{Dialect, Program, written_in};
+use cil_syntax::{Program, written};
 use std::alloc::Global;
 use std::test::Fail;
 
@@ -160,7 +160,7 @@ fn inherited(alloc: Global, program: &Program) -> Result<String, Fail> {
 
 /// The same of modules.
 fn placed(alloc: Global, modules: &ModuleSet) -> Result<String, Fail> {
-    match written_in(alloc, modules, Dialect::Nested) {
+    match written(alloc, modules) {
         Ok(program) => inherited(alloc, &program),
         Err(_) => Err(Fail::from("not written")),
     }

@@ -84,9 +84,10 @@ const SHAPES: &[(&str, &str)] = &[
     ("(typepermissive)", "22 0 0 . typepermissive\n"),
     ("(foo 1x (not))", "21 0 0 . foo\n"),
     ("(foo)", "21 0 0 . foo\n"),
-    // Statements that have not come yet, and those that will be kept without effect.
-    ("(block 1x (foo))", "22 0 0 . block\n"),
-    ("(filecon \"/x\" file ())", "22 0 0 . filecon\n"),
+    // Statements that have not come yet are not looked into; those of a block are, and those without effect have any contents.
+    ("(optional 1x (foo))", "22 0 0 . optional\n"),
+    ("(block 1x (foo))", "21 0 10 1x foo\n25 0 7 . 1x\n"),
+    ("(filecon \"/x\" file ())", "written\n"),
     // Where the first item is no word, none is told.
     ("()", "23 0 0 . -\n"),
     ("(type a)(\"x\")", "23 0 8 . -\n"),
@@ -103,7 +104,8 @@ const SHAPES: &[(&str, &str)] = &[
     ("(allowx)", "22 0 0 . allowx\n"),
     ("(in)", "22 0 0 . in\n"),
     ("(typemember)", "22 0 0 . typemember\n"),
-    ("(mlsvalidatetrans)", "22 0 0 . mlsvalidatetrans\n"),
+    ("(mlsvalidatetrans)", "written\n"),
+    ("(mlsvalidatetran)", "21 0 0 . mlsvalidatetran\n"),
     ("(allo)", "21 0 0 . allo\n"),
     // A list of names ends at what is none.
     ("(class c (a (b)))", "23 0 0 . class\n"),

@@ -66,6 +66,12 @@ const SAID: &[(&[&str], &str)] = &[
         &["(user u)(type c)", "(type b) (type a)", "(type a)"],
         "Type_:0:0 Name:6:a\nType_:1:0 Name:6:b\nType_:1:9 Name:15:a\nUser:2:0 Name:6:u\nType_:2:8 Name:14:c\n",
     ),
+    (
+        &[
+            "(block b (type a)(blockinherit c))(macro m ((type p)))(call m (a (b) \"s\"))(filecon x)",
+        ],
+        "Block:0:0 Name:7:b\nType_:0:9 Name:15:a\nBlockInherit:0:17 Blocks:31:c\nMacro:0:34 Name:41:m Parameters:43[ Parameter:44[ TypeKind:45[ ] Name:50:p ] ]\nCall:0:54 Macros:60:m Arguments:62[ Unread:63:a UnreadList:65[ Unread:66:b ] UnreadText:69[ Name:69:\"s\" ] ]\nSetAside:0:74\n",
+    ),
 ];
 
 #[test]

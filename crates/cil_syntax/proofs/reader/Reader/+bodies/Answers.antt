@@ -13,63 +13,59 @@ use Rattle.cil_syntax.proofs.reader.Reader.+bodies.Goals as goal
 
 pub judge_all-loop-index-init : goal.judge_all-loop-index-init
 judge_all-loop-index-init t c context stands =
-    none_judged c.args.self.now.dialect c.args.self.now.number context c.args.self.now.text.now c.args.nodes.now c.args.statements.now.items c.args.faults.now.items _ c.args.skipped refl
+    none_judged c.args.self.now.number context c.args.self.now.text.now c.args.nodes.now c.args.statements.now.items c.args.faults.now.items _ c.args.skipped refl
 
 pub judge_all-loop-index-preserved : goal.judge_all-loop-index-preserved
 judge_all-loop-index-preserved t c context stands =
-    one_more_judged c.args.self.now.dialect c.args.self.now.number context c.args.self.now.text.now c.args.nodes.now c.args.statements.now.items c.args.faults.now.items _
+    one_more_judged c.args.self.now.number context c.args.self.now.text.now c.args.nodes.now c.args.statements.now.items c.args.faults.now.items _
     c.loop-index.index _ _ _ _ c.args.self.now.place.now c.index-nodes-index.result stands (c.loop-index.invariant context stands) c.loop-index-test.true c.index-nodes-index.is
     (c.in_ok-judge_in.ensures context)
 
 pub judge_all-returns : goal.judge_all-returns
 judge_all-returns t c context stands =
-    all_judged c.args.self.now.dialect c.args.self.now.number context c.args.self.now.text.now c.args.nodes.now c.args.statements.now.items c.args.faults.now.items _
+    all_judged c.args.self.now.number context c.args.self.now.text.now c.args.nodes.now c.args.statements.now.items c.args.faults.now.items _
     c.loop-index.index _ _ (c.loop-index.invariant context stands) c.loop-index-test.false
 
 pub judge_in-returns-in_default : goal.judge_in-returns-in_default
 judge_in-returns-in_default t c context stands =
-    judged_none c.args.self.now.dialect c.args.self.now.number context (node_of c.args.self.now.text.now c.args.node.now) c.args.self.now.place.now c.args.statements.now.items
+    judged_none c.args.self.now.number context (node_of c.args.self.now.text.now c.args.node.now) c.args.self.now.place.now c.args.statements.now.items
     c.args.faults.now.items _ stands c.in_ok-statement.field-0 c.in_default.is (c.in_ok-statement.ensures context stands.around)
 
 pub judge_in-returns-in_default-body : goal.judge_in-returns-in_default-body
 judge_in-returns-in_default-body t c context stands =
-    let d = c.args.self.now.dialect in
     let m = c.args.self.now.number in
     let n = node_of c.args.self.now.text.now c.args.node.now in
     let place = c.args.self.now.place.now in
     let start = c.args.statements.now.items in
     let judged = c.in_ok-statement.ensures context stands.around in
     rw c.in_ok-push.ensures.items
-    (judged_plain d m context n place start c.args.faults.now.items _ stands c.in-Some.statement (judged.under c.in-Some.statement c.in-Some.is) c.in_ok-statement.field-0 c.in-Some.is judged
+    (judged_plain m context n place start c.args.faults.now.items _ stands c.in-Some.statement (judged.under c.in-Some.statement c.in-Some.is) c.in_ok-statement.field-0 c.in-Some.is judged
     c.in_default-body.ensures)
 
 pub judge_in-returns-in-Word : goal.judge_in-returns-in-Word
 judge_in-returns-in-Word t c context stands =
-    let d = c.args.self.now.dialect in
     let m = c.args.self.now.number in
     let n = node_of c.args.self.now.text.now c.args.node.now in
     let place = c.args.self.now.place.now in
     let start = c.args.statements.now.items in
     let judged = c.in_ok-statement.ensures context stands.around in
     rw c.in_ok-push-2.ensures.items
-    (judged_leaf d m context n place start c.args.faults.now.items _ stands c.in-Some.statement (judged.under c.in-Some.statement c.in-Some.is) c.in_ok-statement.field-0 c.in-Some.is judged
+    (judged_leaf m context n place start c.args.faults.now.items _ stands c.in-Some.statement (judged.under c.in-Some.statement c.in-Some.is) c.in_ok-statement.field-0 c.in-Some.is judged
     (ap (λ x. inner_of (node_of c.args.self.now.text.now x)) c.in-Word.is ∙ ap inner_of (word_view c.args.self.now.text.now c.in-Word.field-0)))
 
 pub judge_in-returns-in-Quoted : goal.judge_in-returns-in-Quoted
 judge_in-returns-in-Quoted t c context stands =
-    let d = c.args.self.now.dialect in
     let m = c.args.self.now.number in
     let n = node_of c.args.self.now.text.now c.args.node.now in
     let place = c.args.self.now.place.now in
     let start = c.args.statements.now.items in
     let judged = c.in_ok-statement.ensures context stands.around in
     rw c.in_ok-push-2.ensures.items
-    (judged_leaf d m context n place start c.args.faults.now.items _ stands c.in-Some.statement (judged.under c.in-Some.statement c.in-Some.is) c.in_ok-statement.field-0 c.in-Some.is judged
+    (judged_leaf m context n place start c.args.faults.now.items _ stands c.in-Some.statement (judged.under c.in-Some.statement c.in-Some.is) c.in_ok-statement.field-0 c.in-Some.is judged
     (ap (λ x. inner_of (node_of c.args.self.now.text.now x)) c.in-Quoted.is ∙ ap inner_of (quoted_view c.args.self.now.text.now c.in-Quoted.field-0)))
 
 pub judge_in-returns : goal.judge_in-returns
 judge_in-returns t c =
-    let d = c.args.self.now.dialect in
     let m = c.args.self.now.number in
     let text = c.args.self.now.text.now in
     let n = node_of text c.args.node.now in
@@ -84,10 +80,10 @@ judge_in-returns t c =
     let under = judged.under s c.in-Some.is in
     let body = c.in-Some-body.ensures in
     let inner = inside_stands context outer start stands s under c.in_ok-place.place (c.in_ok-place.ensures.under ∙ ap (λ k. Some k) kept) (c.in_ok-place.ensures.round context stands.around _ body) (ap has_body body) in
-    judged_inside d m context n outer start c.args.faults.now.items _ stands s under c.in_ok-statement.field-0 c.in-Some.is judged c.judge_all.new.statements.items c.judge_all.new.faults.items c.in-Some-body.body.skipped _
+    judged_inside m context n outer start c.args.faults.now.items _ stands s under c.in_ok-statement.field-0 c.in-Some.is judged c.judge_all.new.statements.items c.judge_all.new.faults.items c.in-Some-body.body.skipped _
     (nodes_of text c.as_slice.result.now) body
     (ap (λ x. inner_of (node_of text x)) c.in-List.is ∙ ap inner_of (list_view text c.in-List.field-0 c.in-List.items) ∙ ap (nodes_of text) (sym c.as_slice.ensures.value))
-    (subst (λ ss. AreJudged d m (found_behind d m (opened (inside_of context (statement_of s)) c.in-Some-body.body.skipped) (nodes_of text c.as_slice.result.now)) ss c.judge_all.new.statements.items
+    (subst (λ ss. AreJudged m (found_behind m (opened (inside_of context (statement_of s)) c.in-Some-body.body.skipped) (nodes_of text c.as_slice.result.now)) ss c.judge_all.new.statements.items
     c.judge.new.faults.items c.judge_all.new.faults.items)
     c.in_ok-push-2.ensures.items
     (all (inside_of context (statement_of s)) (subst (StandsIn (inside_of context (statement_of s)) c.in_ok-place.place) (sym c.in_ok-push-2.ensures.items) inner))))
