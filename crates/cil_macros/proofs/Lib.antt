@@ -25,6 +25,7 @@ pub mod PlacedWalk
 pub mod SameParameters
 pub mod ScopeLemmas
 pub mod ServingLemmas
+pub mod TurnLemmas
 pub mod ValueLemmas
 pub mod WalkLemmas
 pub mod WordsOfTexts
