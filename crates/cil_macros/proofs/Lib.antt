@@ -4,6 +4,7 @@ pub mod BodyLemmas
 pub mod BodyMeaning
 pub mod CallLemmas
 pub mod CallOpening
+pub mod CallWordLemmas
 pub mod CalledMacros
 pub mod ChainLemmas
 pub mod DeclaredLemmas
