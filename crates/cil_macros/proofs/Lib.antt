@@ -14,6 +14,7 @@ pub mod FaultLemmas
 pub mod FirstLemmas
 pub mod FlatInstances
 pub mod Kept
+pub mod ItemLemmas
 pub mod LawLemmas
 pub mod MacroLemmas
 pub mod MacroScope
