@@ -21,6 +21,7 @@ pub mod PathLemmas
 pub mod PermissionLemmas
 pub mod PermissionWordLemmas
 pub mod Qualified
+pub mod ReadingLemmas
 pub mod RisingLemmas
 pub mod RowLemmas
 pub mod ScopeLemmas

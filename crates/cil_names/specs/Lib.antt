@@ -11,6 +11,7 @@ pub mod Numbers
 pub mod PermissionWords
 pub mod Permissions
 pub mod Placed
+pub mod Readings
 pub mod Resolves
 pub mod Rows
 pub mod Spaces

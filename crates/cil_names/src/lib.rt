@@ -26,6 +26,7 @@ mod opt_set;
 mod path;
 mod permission_word;
 mod permissions;
+mod reading;
 mod row;
 mod run;
 mod spelled;
