@@ -11,6 +11,8 @@ pub mod DeclareLists
 pub mod DeclareNamed
 pub mod DeclareRowLemmas
 pub mod DeclareRunLemmas
+pub mod DeclareScopes
+pub mod DeclareStatements
 pub mod EntryLemmas
 pub mod FillLemmas
 pub mod ListedLemmas

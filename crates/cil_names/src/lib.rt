@@ -14,7 +14,6 @@ mod count;
 mod entry;
 mod fill;
 mod gather;
-mod instance;
 mod judge;
 mod kinds;
 pub mod laws;
