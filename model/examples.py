@@ -1,7 +1,8 @@
 #!/usr/bin/env python3
 """Runs the worked examples of the rules on the model. Status: 0 all are answered as the rules say, 1 one is not.
 
-Each example is its modules, and the requests with the replies that the rules give for them.
+Each example is its modules, and the requests with the replies that the rules give for them. With --long there are also
+examples of nearly a million instances, which take minutes.
 """
 import sys
 
@@ -81,10 +82,14 @@ EXAMPLES = [
     ("a parameter of another macro", [
         FIRST + b"(macro in () (allow e .a (file (open))))(macro out ((type e)) (call in))(type c)(call out (c))"
     ], faults(b"41 0 143 . e")),
-    ("doubling blocks", [doubling(18)], accepted()),
     ("doubling blocks, one too many", [doubling(18), b"(block b18 (blockinherit b17)(blockinherit b17))"], TOO_MANY),
-    ("doubling calls", [doubling_calls(18)], accepted()),
     ("doubling calls, one too many", [doubling_calls(19)], TOO_MANY),
+]
+
+# Examples of nearly a million instances.
+LONG = [
+    ("doubling blocks", [doubling(18)], accepted()),
+    ("doubling calls", [doubling_calls(18)], accepted()),
     ("many statements", [b"(type a)" * 500_000, b"(type b)" * 500_000], accepted()),
     ("many statements, one too many", [b"(type a)" * 500_000, b"(type b)" * 500_000, b"(type c)"], TOO_MANY),
 ]
@@ -98,14 +103,15 @@ def answered(modules, asked):
 
 
 def main():
+    examples = EXAMPLES + (LONG if sys.argv[1:] == ["--long"] else [])
     wrong = 0
-    for shown, modules, asked in EXAMPLES:
+    for shown, modules, asked in examples:
         wanted = b"".join(reply + b"\n" for _, reply in asked)
         replies = answered(modules, asked)
         if replies != wanted:
             wrong += 1
             print(f"{shown}: the rules have {wanted!r}, the model has {replies!r}")
-    print(f"{len(EXAMPLES)} examples, {wrong} wrong")
+    print(f"{len(examples)} examples, {wrong} wrong")
     sys.exit(1 if wrong else 0)
 
 

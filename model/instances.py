@@ -50,11 +50,13 @@ class Instances:
     """All instances of a policy; or the faults of its calls."""
 
     def __init__(self, contents):
-        self.all, self.faults, self.macros = [], [], {}
+        self.all, self.faults, self.macros, self.sizes = [], [], {}, {}
         standing = contents.standing()
         for each in standing:
             if each.statement.keyword == b"macro":
                 self.enter_macro(each)
+        if sum(self.size(each.statement, Frame(each.scope, each.scope)) for each in standing) > MOST_INSTANCES:
+            raise Refused([TOO_MANY])
         for statement, space, scope, _ in standing:
             self.unfold(statement, space, Frame(scope, scope))
         stop_at(self.faults)
@@ -70,30 +72,46 @@ class Instances:
         found = (self.macros.get(path) for path in paths(word.text, word.scope))
         return next((each for each in found if each), None)
 
-    def unfold(self, statement, space, frame):
-        """Enters an instance of a statement, and all that it calls."""
-        words = [frame.word(statement.module, node, kind) for kind, node in statement.words]
-        self.all.append(Instance(statement, space, words))
-        if len(self.all) > MOST_INSTANCES:
-            raise Refused([TOO_MANY])
-        if statement.keyword == b"call":
-            self.call(statement, space, frame, words)
-
-    def call(self, statement, space, frame, words):
-        called = frame.word(statement.module, statement.macro_word, b"macro")
-        words.append(called)
-        macro = self.macro(called)
+    def called(self, statement, frame):
+        """The macro of a call where there is one, and the codes of the faults that keep the call from being unfolded."""
+        macro = self.macro(frame.word(statement.module, statement.macro_word, b"macro"))
         if not macro:
-            return
+            return None, []
         given, parameters = statement.arguments, macro.statement.parameters
         codes = [34] if macro.statement in frame.macros else []
         if len(given) != len(parameters) or not all(fits(kind, node) for (kind, _), node in zip(parameters, given)):
             codes.append(35)
-        self.faults += [fault(code, called.module, called.at, space, called.text) for code in codes]
-        if codes:
+        return macro, codes
+
+    def size(self, statement, frame):
+        """How many instances a statement brings, its calls unfolded. Which arguments it has does not matter."""
+        if statement.keyword != b"call":
+            return 1
+        macro, codes = self.called(statement, frame)
+        if not macro or codes:
+            return 1
+        inside = frame.within(macro, {})
+        key = macro.statement, inside.scope, inside.macros
+        if key not in self.sizes:
+            self.sizes[key] = sum(self.size(each, inside) for each in macro.statement.body)
+        return 1 + self.sizes[key]
+
+    def unfold(self, statement, space, frame):
+        """Enters an instance of a statement, and all that it calls."""
+        words = [frame.word(statement.module, node, kind) for kind, node in statement.words]
+        self.all.append(Instance(statement, space, words))
+        if statement.keyword == b"call":
+            self.call(statement, space, frame, words)
+
+    def call(self, statement, space, frame, words):
+        word = frame.word(statement.module, statement.macro_word, b"macro")
+        words.append(word)
+        macro, codes = self.called(statement, frame)
+        self.faults += [fault(code, word.module, word.at, space, word.text) for code in codes]
+        if not macro or codes:
             return
         arguments = {}
-        for (kind, name), node in zip(parameters, given):
+        for (kind, name), node in zip(macro.statement.parameters, statement.arguments):
             if kind not in PLAIN_KINDS:
                 arguments[name.value] = frame.word(statement.module, node, kind)
         words += arguments.values()
