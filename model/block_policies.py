@@ -18,14 +18,25 @@ NAMES = {
     b"class": [b"file", b"dir", b"a"],
 }
 PERMISSIONS = [b"read", b"open", b"write", b"a"]
+
+# Each rule has one of these permissions, so that an answer tells which rules led to it.
+MARKS = [b"p%d" % i for i in range(20)]
 KINDS = [b"type", b"type", b"type", b"role", b"user", b"class", b"class", b"name", b"string"]
 WRONG_ARGUMENTS = [Quoted(b"a"), Quoted(b""), b"all", b"self", b"1x", b"a..b", b".", [], [b"a"], [[b"a"], Quoted(b"b")]]
 RULES = {b"roletype": (b"role", b"type"), b"userrole": (b"user", b"role")}
 WORDS = [*FLAT, *sorted(shapes.IN_BLOCKS), b"call", b"filecon", *LATER, *UNKNOWN]
 
-# No policy has more instances, so that the model is done with it soon.
-MOST = 1500
 MOST_MENDINGS = 12
+
+# What can be wrong on purpose, with the codes of the step that tells it.
+WRONG = {
+    "shapes": {21, 22, 23, 24, 25, 26, 27},
+    "blocks": {31, 32, 33, 38},
+    "calls": {34, 35, 38},
+    "classes": {36},
+    "words": {41},
+    "widths": {55},
+}
 
 
 class Spot:
@@ -77,16 +88,18 @@ def statements_of(body, first=0):
 
 
 class Draft:
-    """A policy that is being made up. What is wild is the chance that a thing is not as it should be."""
+    """A policy that is being made up. What is wrong is one of WRONG, or nothing."""
 
-    def __init__(self, rng, wild):
-        self.rng, self.wild = rng, wild
+    def __init__(self, rng):
+        self.rng, self.wrong = rng, None
         self.modules, self.spots, self.macros = [], [], []
-        self.permissions = {}
+        self.standing = []
+        self.permissions, self.rules = {}, 0
         self.declared = {kind: [] for kind in NAMES}
 
-    def is_wild(self):
-        return often(self.rng, self.wild)
+    def goes_wrong(self, what, chance=0.25):
+        """Whether the next thing is to be wrong in this way."""
+        return self.wrong == what and often(self.rng, chance)
 
     def open_module(self):
         """Begins a module. Those that are there stay as they are."""
@@ -99,16 +112,18 @@ class Draft:
         self.spots.append(Spot((), self.modules[-1].statements))
 
     def spot(self, may_be_macro=False, deepest=4):
-        """A body in a module that is open, of late ones more often."""
+        """A body in a module that is open."""
+        fitting = [
+            each for each in self.open_spots() if (may_be_macro or not each.is_macro) and len(each.space) <= deepest
+        ]
+        return self.rng.choice(fitting)
+
+    def open_spots(self):
         bodies = {id(module.statements) for module in self.modules if module.is_open}
         for module in self.modules:
             if module.is_open:
                 bodies |= {id(each) for _, each in statements_of(module.statements)}
-        fitting = [
-            each for each in self.spots
-            if (may_be_macro or not each.is_macro) and len(each.space) <= deepest and id(each.body) in bodies
-        ]
-        return self.rng.choice(fitting)
+        return [each for each in self.spots if id(each.body) in bodies]
 
     # ---- words
 
@@ -129,7 +144,7 @@ class Draft:
 
     def word(self, spot, kind):
         """A word of a kind for a body: a parameter, a name of the body, a full name, or any name."""
-        if self.is_wild():
+        if self.goes_wrong("words", 0.1) or self.goes_wrong("shapes", 0.03):
             return self.odd_word()
         fitting = [name for of, name in spot.parameters if of == kind]
         if fitting and often(self.rng, 0.7):
@@ -145,18 +160,18 @@ class Draft:
 
     def add_block(self):
         around = self.spot(deepest=2)
-        name = self.odd_word() if often(self.rng, self.wild / 4) else self.rng.choice(BLOCKS)
+        name = self.odd_word() if self.goes_wrong("shapes", 0.05) else self.rng.choice(BLOCKS)
         space = (*around.space, name)
         if self.is_taken(space):
             return
         body = [b"block", name]
         if often(self.rng, 0.3):
-            body.append([b"blockabstract", name if not often(self.rng, self.wild / 2) else self.rng.choice(BLOCKS)])
+            body.append([b"blockabstract", self.rng.choice(BLOCKS) if self.goes_wrong("shapes", 0.1) else name])
         around.body.append(body)
         self.spots.append(Spot(space, body))
 
     def add_macro(self):
-        around = self.spot(may_be_macro=often(self.rng, self.wild / 2))
+        around = self.spot(may_be_macro=self.goes_wrong("shapes", 0.1))
         path = (*around.space, self.rng.choice(MACROS))
         if self.is_taken(path):
             return
@@ -164,8 +179,8 @@ class Draft:
         for _ in range(self.rng.choice([0, 1, 1, 2, 2, 3])):
             kind = self.rng.choice(KINDS)
             name = self.rng.choice([b"x", b"y", b"z", *NAMES.get(kind, [b"a"])])
-            if name not in [of for _, of in parameters] or self.is_wild():
-                wrong = often(self.rng, self.wild / 4)
+            if name not in [of for _, of in parameters] or self.goes_wrong("shapes"):
+                wrong = self.goes_wrong("shapes", 0.05)
                 parameters.append((self.rng.choice([b"bool", b"level", b"1x", b"self"]) if wrong else kind, name))
         body = [b"macro", path[-1], [[kind, name] for kind, name in parameters]]
         around.body.append(body)
@@ -175,20 +190,20 @@ class Draft:
 
     def is_taken(self, path):
         taken = [each.space for each in self.spots] + [of for of, _ in self.macros]
-        return path in taken and not often(self.rng, self.wild / 2)
+        return path in taken and not self.goes_wrong("blocks", 0.5)
 
     def add_declaration(self):
         kind = self.rng.choice([b"type", b"type", b"type", b"role", b"user", b"class"])
-        spot = self.spot(may_be_macro=kind != b"class" or often(self.rng, self.wild / 2))
+        spot = self.spot(may_be_macro=kind != b"class" or self.goes_wrong("shapes", 0.1))
         self.declare(spot, kind, self.rng.choice(NAMES[kind]))
 
     def declare(self, spot, kind, name):
-        if spot.is_macro and name in [of for _, of in spot.parameters] and not self.is_wild():
+        if spot.is_macro and name in [of for _, of in spot.parameters] and not self.goes_wrong("shapes"):
             return
         path = (*spot.space, name)
         if kind == b"class":
             listed = self.permissions.get(path)
-            if listed is None or self.is_wild():
+            if listed is None or self.goes_wrong("classes", 0.5):
                 listed = self.listed()
             self.permissions[path] = listed
             spot.body.append([kind, name, list(listed)])
@@ -198,37 +213,42 @@ class Draft:
         self.declared[kind].append(path)
 
     def listed(self):
-        if often(self.rng, 0.01 + self.wild / 20):
-            return [b"p%d" % i for i in range(self.rng.choice([32, 33]))]
-        return [b"read", *self.rng.sample(PERMISSIONS, self.rng.randrange(0, 4))]
+        if often(self.rng, 0.01) or self.goes_wrong("widths", 0.5):
+            many = [b"p%d" % i for i in range(33 if self.wrong == "widths" else 32)]
+            self.rng.shuffle(many)
+            return many + self.rng.sample(many, self.rng.randrange(3))
+        return [*MARKS, b"read", *self.rng.sample(PERMISSIONS, self.rng.randrange(0, 4))]
 
     # ---- what goes by words
 
     def add_inherit(self):
-        around = self.spot(may_be_macro=often(self.rng, self.wild / 4))
+        around = self.spot(may_be_macro=self.goes_wrong("shapes", 0.1))
         targets = [each.space for each in self.spots if each.space and not each.is_macro]
         if not targets:
             return
         target = self.rng.choice(targets)
-        if target == around.space[:len(target)] and not self.is_wild():
+        if target == around.space[:len(target)] and not self.goes_wrong("blocks", 0.5):
             return
-        around.body.append([b"blockinherit", self.odd_word() if self.is_wild() else self.path(around.space, target)])
+        is_odd = self.goes_wrong("blocks", 0.1) or self.goes_wrong("shapes", 0.05)
+        around.body.append([b"blockinherit", self.odd_word() if is_odd else self.path(around.space, target)])
 
     def add_call(self):
-        spot = self.spot(may_be_macro=often(self.rng, 0.4))
-        if not self.macros:
+        spot = self.spot(may_be_macro=often(self.rng, 0.5))
+        known = self.standing if self.standing and often(self.rng, 0.9) else self.macros
+        if not known:
             return
-        path, macro = self.rng.choice(self.macros)
-        if spot is macro and not self.is_wild():
+        path, macro = self.rng.choice(known)
+        if spot is macro and not self.goes_wrong("calls", 0.5):
             return
         given = [self.argument(spot, kind) for kind, _ in macro.parameters]
-        if self.is_wild():
+        if self.goes_wrong("calls", 0.1):
             given = given[1:] if often(self.rng, 0.5) else [*given, b"a"]
-        called = self.odd_word() if often(self.rng, self.wild / 2) else self.path(spot.space, path)
+        is_odd = self.goes_wrong("words", 0.1) or self.goes_wrong("shapes", 0.05)
+        called = self.odd_word() if is_odd else self.path(spot.space, path)
         spot.body.append([b"call", called, given] if given or often(self.rng, 0.5) else [b"call", called])
 
     def argument(self, spot, kind):
-        if often(self.rng, self.wild / 2):
+        if self.goes_wrong("calls", 0.05):
             return self.rng.choice(WRONG_ARGUMENTS)
         if kind in NAMES:
             return self.word(spot, kind)
@@ -236,7 +256,7 @@ class Draft:
         return self.rng.choice([b"a", b"all", b"1x", b".", Quoted(b"a b"), *names, *names])
 
     def add_rule(self):
-        spot = self.spot(may_be_macro=often(self.rng, 0.4))
+        spot = self.spot(may_be_macro=often(self.rng, 0.55))
         keyword = self.rng.choice([b"roletype", b"userrole", b"allow", b"allow", b"allow", b"allow"])
         if keyword != b"allow":
             spot.body.append([keyword, *(self.word(spot, kind) for kind in RULES[keyword])])
@@ -245,13 +265,69 @@ class Draft:
         class_word = self.word(spot, b"class")
         full_names = [path for path in self.permissions if path[-1] == class_word.split(b".")[-1]]
         listed = self.permissions[self.rng.choice(full_names)] if full_names else [b"read"]
-        permissions = [self.rng.choice(listed) for _ in range(self.rng.choice([0, 1, 1, 1, 2, 3]))]
-        if self.is_wild():
+        permissions = [self.rng.choice(listed) for _ in range(self.rng.choice([0, 0, 0, 0, 1, 2]))]
+        if b"p0" in listed and often(self.rng, 0.95):
+            self.rules += 1
+            permissions.append(MARKS[self.rules % len(MARKS)])
+        if self.goes_wrong("words", 0.1):
             permissions.append(self.rng.choice([b"nope", b"write", [b"open", [b"a"]]]))
         spot.body.append([b"allow", self.word(spot, b"type"), target, [class_word, permissions]])
 
+    def add_diamond(self):
+        """A block with a macro, two blocks elsewhere that inherit it, and one that inherits these."""
+        first, second = self.below(self.spot(deepest=1)), self.below(self.spot(deepest=1))
+        home, last = self.below(self.spot(deepest=1)), self.below(self.spot(deepest=1))
+        path = (*home.space, self.rng.choice(MACROS))
+        if self.is_taken(path):
+            return
+        spot = Spot(home.space, [b"macro", path[-1], []], [])
+        home.body.append(spot.body)
+        self.spots.append(spot)
+        self.macros.append((path, spot))
+        inner = [self.below(each) if often(self.rng, 0.6) else each for each in (first, second)]
+        ways = [(each, home) for each in inner] + [(last, each) for each in inner]
+        for around, target in ways + [(last, home)] * often(self.rng, 0.2):
+            if target.space != around.space[:len(target.space)]:
+                around.body.append([b"blockinherit", b"." + b".".join(target.space)])
+        names = self.rng.sample(NAMES[b"type"], 2)
+        for each in (first, second, home, last):
+            for name in names:
+                if often(self.rng, 0.5):
+                    self.declare(each, b"type", name)
+        for name in names:
+            self.mark(spot, name, b"self", b".file")
+        last.body.append([b"call", path[-1]])
+
+    def below(self, around):
+        """A block in a body: one that is there, or a new one."""
+        space = (*around.space, self.rng.choice(BLOCKS))
+        found = next((each for each in self.spots if each.space == space and not each.is_macro), None)
+        if not found:
+            found = Spot(space, [b"block", space[-1]])
+            around.body.append(found.body)
+            self.spots.append(found)
+        return found
+
+    def mark(self, spot, source, target, class_word):
+        self.rules += 1
+        spot.body.append([b"allow", source, target, [class_word, [MARKS[self.rules % len(MARKS)]]]])
+
+    def add_ring(self):
+        """Macros each of which calls the next, and the last the first; and a call of one of them."""
+        ring = self.rng.sample(self.macros, min(len(self.macros), self.rng.choice([1, 2, 2, 3])))
+        bodies = {id(each.body) for each in self.open_spots()}
+        for (_, macro), (path, called) in zip(ring, [*ring[1:], *ring[:1]]):
+            if id(macro.body) in bodies:
+                macro.body.append(self.call_of(macro, path, called))
+        if ring:
+            spot = self.spot()
+            spot.body.append(self.call_of(spot, *self.rng.choice(ring)))
+
+    def call_of(self, spot, path, macro):
+        return [b"call", self.path(spot.space, path), [self.argument(spot, kind) for kind, _ in macro.parameters]]
+
     def add_set_aside(self):
-        spot = self.spot(may_be_macro=often(self.rng, self.wild))
+        spot = self.spot(may_be_macro=self.goes_wrong("shapes"))
         contents = [self.rng.choice([b"a", b"self", b"1x", Quoted(b"/x(.*)?"), [], [b"type", b"a"], [[b"block"]]]) for _ in range(2)]
         spot.body.append([self.rng.choice(sorted(shapes.SET_ASIDE)), *contents[:self.rng.randrange(3)]])
 
@@ -267,19 +343,26 @@ class Draft:
         for _ in range(self.rng.randrange(most + 1)):
             add()
 
-    def add_all(self, size):
+    def add_all(self, size, wrong):
         """What a policy has, in an order in which words have something to name."""
+        self.wrong = wrong
+        if often(self.rng, 0.15):
+            self.add_diamond()
         for add, most in (
-            (self.add_block, 4), (self.add_macro, 3), (self.add_declaration, 8), (self.add_inherit, 3), (self.add_call, 4)
+            (self.add_block, 5), (self.add_macro, 4), (self.add_declaration, 12), (self.add_inherit, 3)
         ):
             self.add_several(add, int(most * size))
         self.learn()
-        self.add_several(self.add_rule, int(14 * size))
+        self.add_several(self.add_call, int(7 * size))
+        self.learn()
+        self.add_several(self.add_rule, int(16 * size))
         self.add_several(self.add_set_aside, 2)
         if often(self.rng, 0.1):
             self.double()
-        while self.is_wild():
-            self.bend()
+        if self.goes_wrong("calls", 0.7):
+            self.add_ring()
+        while self.goes_wrong("shapes", 0.7):
+            self.rng.choice([self.bend, self.add_odd_statement])()
         for module in self.modules:
             if module.is_open:
                 self.rng.shuffle(module.statements)
@@ -289,6 +372,11 @@ class Draft:
         some = [each for module in self.modules if module.is_open for _, each in statements_of(module.statements)]
         if some:
             self.spot().body.append(copy.deepcopy(self.rng.choice(some)))
+
+    def add_odd_statement(self):
+        spot = self.spot(may_be_macro=often(self.rng, 0.3))
+        names = [*spot.space, b"k"]
+        spot.body.append(odd_statement(self.rng, self.rng.choice(names[-3:])))
 
     def bend(self):
         some = [each for module in self.modules if module.is_open for _, each in statements_of(module.statements)]
@@ -310,19 +398,31 @@ class Draft:
             names = Names(Instances(Contents(shapes.written(self.trees()))))
         except Refused:
             return
+        spots = {id(spot.body): spot for _, spot in self.macros}
+        self.standing = []
+        for path, macro in sorted(names.instances.macros.items(), key=lambda each: each[0]):
+            found = self.spot_at(macro.statement.module, macro.statement.at, spots)
+            if found:
+                self.standing.append((path, found))
         for kind, declared in names.declared.items():
             self.declared[kind] = sorted(declared)
         self.permissions.update(names.declared[b"class"])
 
-    def mend(self):
-        """Takes out statements with faults until there are none, or none that can be taken out."""
+    def spot_at(self, number, at, spots):
+        """The spot of the macro that is written at a place."""
+        text = sorted({module.text for module in self.modules})[number]
+        module = next(module for module in self.modules if module.text == text)
+        return next((spots[of] for of, start in module.starts.items() if start == at and of in spots), None)
+
+    def mend(self, but=frozenset()):
+        """Takes out statements with faults until there are none but these, or none that can be taken out."""
         for _ in range(MOST_MENDINGS):
             self.write()
             try:
                 Policy(self.trees())
                 return
             except Refused as refused:
-                if not self.take_out(refused.faults):
+                if refused.faults[0][0] in but or not self.take_out(refused.faults):
                     return
 
     def take_out(self, faults):
@@ -351,3 +451,28 @@ def take_out_at(module, at):
     _, body, chosen = max(before, key=lambda found: found[0])
     body[:] = [each for each in body if each is not chosen]
     return True
+
+
+def odd_statement(rng, name):
+    """A statement whose shape, place or words are wrong, or nearly so. A name of a block round it may be of use."""
+    if often(rng, 0.25):
+        form = rng.choice([[], [name], [name], [b"." + name], [Quoted(name)], [[name]], [name, name], [b"1x"], [b"all"]])
+        return [rng.choice([b"blockabstract", b"blockabstract", b"blockinherit"]), *form]
+    if often(rng, 0.25):
+        forms = [[], [Quoted(b"m")], [b"m", b"x"], [b"m", [], []], [[b"m"]], [b"all"], [b"1m"], [b"m", Quoted(b"")]]
+        return [b"call", *rng.choice(forms)]
+    inside = [rng.choice([
+        b"x", Quoted(b"x"), [], [Quoted(b"x")], [[b"type"]], [b"type", b"p"], [b"role", b"p"], [b"user", b"p"], [b"user", b"q"],
+        [b"type", b"1p"], [b"type", b"all"], [b"foo", b"p"], [b"class", b"p", []], [b"blockabstract", name], [b"sid", b"1x"],
+        [b"macro", b"o", []], [b"block", b"p"], [b"blockabstract", b"all"], [b"blockabstract", b"1k"], [b"optional", b"p"],
+    ]) for _ in range(rng.choice([0, 1, 1, 2]))]
+    if often(rng, 0.4):
+        return [b"block", *rng.choice([[], [[]], [b"all"], [b"1k"], [b".k"], [b"k.k"], [Quoted(b"k")], [b"j"]]), *inside]
+    some = rng.choice([b"p", b"p", b"q", b"1p", b"all"])
+    kinds = [rng.choice([b"type", b"role", b"string", b"name", b"class", b"bool", b"self"]) for _ in range(rng.randrange(4))]
+    parameters = rng.choice([
+        [[kind, some] for kind in kinds], [[kind, some] for kind in kinds], [[kind, some] for kind in kinds],
+        b"x", Quoted(b"x"), [b"type", b"p"], [[b"type"]], [[b"type", b"p", b"p"]], [[Quoted(b"type"), b"p"]],
+        [[b"type", Quoted(b"p")]], [[[b"type"], b"p"]], [[]],
+    ])
+    return [b"macro", *rng.choice([[b"p"], [b"w"], [b"w"], [b"all"], [Quoted(b"w")], []]), parameters, *inside]

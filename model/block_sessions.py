@@ -1,27 +1,28 @@
 """Random sessions over policies with blocks and macros, as parts that can be left out."""
 import model
-from block_policies import NAMES, Draft
+from block_policies import NAMES, WRONG, Draft
 from pieces import bundle_of, import_bundle, install, often
 
 OBJECT_ROLE = b"object_r"
+MOST_ASKED = 12
 
 
 def blocks(rng):
     """Policies with blocks, inheritance, macros and calls, right and wrong, and queries with qualified names."""
     if often(rng, 0.01):
         return too_many(rng)
-    draft = Draft(rng, rng.choice([0, 0, 0.02, 0.05, 0.15]))
+    draft = Draft(rng)
     for _ in range(rng.choice([1, 1, 2, 2, 3])):
         draft.add_module()
     draft.add_base()
-    draft.add_all(rng.choice([0.5, 1, 1, 1.5]))
     parts, host = [], model.Host()
-    for turn in range(2):
-        if turn:
+    for size in (rng.choice([0.5, 1, 1, 1.5]), 0.4):
+        wrong = rng.choice(list(WRONG)) if often(rng, 0.4) else None
+        if parts:
             draft.open_module()
-            draft.add_all(0.4)
-        if often(rng, 0.75):
-            draft.mend()
+        draft.add_all(size, wrong)
+        if often(rng, 0.9):
+            draft.mend(but=WRONG.get(wrong, frozenset()))
         draft.write()
         placed = placing(rng, [module.text for module in draft.modules if module.is_open])
         model.run(b"".join([*placed, b"LOAD\n"]), host)
@@ -39,17 +40,24 @@ def placing(rng, texts):
 def queries(rng, policy):
     if not policy:
         return [b"AV u:r:a u:r:b file\n"] if often(rng, 0.1) else []
-    rules = [rule for rule in policy.rules if rule[3]]
-    return [query(rng, policy, rules) for _ in range(rng.randrange(2, 8))]
+    asked = sorted({(source, target or source, name) for source, target, name, _ in policy.rules})
+    if len(asked) > MOST_ASKED:
+        asked = rng.sample(asked, MOST_ASKED)
+    of_rules = [b"AV %s %s %s\n" % (*(any_context(rng, policy, each) for each in ends), name) for *ends, name in asked]
+    return of_rules + [query(rng, policy, asked) for _ in range(rng.randrange(2, 6))]
 
 
-def query(rng, policy, rules):
+def any_context(rng, policy, type_name):
+    """A context of a type that is valid where there is a user."""
+    return rng.choice(sorted(policy.names[b"user"]) or [b"u"]) + b":object_r:" + type_name
+
+
+def query(rng, policy, asked):
     types = sorted(policy.names[b"type"]) or NAMES[b"type"]
     classes = sorted(policy.names[b"class"]) or NAMES[b"class"]
     source, target, class_name = rng.choice(types), rng.choice(types), rng.choice(classes)
-    if rules and often(rng, 0.7):
-        source, target, class_name, _ = rng.choice(rules)
-        target = target or source
+    if asked and often(rng, 0.7):
+        source, target, class_name = rng.choice(asked)
     if often(rng, 0.03):
         class_name = rng.choice([b"." + class_name, b"k.file", class_name.split(b".")[-1]])
     return b"AV %s %s %s\n" % (context(rng, policy, source), context(rng, policy, target), class_name)
