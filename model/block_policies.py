@@ -19,6 +19,9 @@ NAMES = {
 }
 PERMISSIONS = [b"read", b"open", b"write", b"a"]
 
+# Types that are there in most policies.
+BASE_TYPES = [b"a", b"b"]
+
 # Each rule has one of these permissions, so that an answer tells which rules led to it.
 MARKS = [b"p%d" % i for i in range(20)]
 KINDS = [b"type", b"type", b"type", b"role", b"user", b"class", b"class", b"name", b"string"]
@@ -182,11 +185,14 @@ class Draft:
             if name not in [of for _, of in parameters] or self.goes_wrong("shapes"):
                 wrong = self.goes_wrong("shapes", 0.05)
                 parameters.append((self.rng.choice([b"bool", b"level", b"1x", b"self"]) if wrong else kind, name))
-        body = [b"macro", path[-1], [[kind, name] for kind, name in parameters]]
-        around.body.append(body)
-        spot = Spot(around.space, body, parameters)
+        self.place_macro(around, path[-1], parameters)
+
+    def place_macro(self, around, name, parameters):
+        spot = Spot(around.space, [b"macro", name, [[kind, of] for kind, of in parameters]], parameters)
+        around.body.append(spot.body)
         self.spots.append(spot)
-        self.macros.append((path, spot))
+        self.macros.append(((*around.space, name), spot))
+        return spot
 
     def is_taken(self, path):
         taken = [each.space for each in self.spots] + [of for of, _ in self.macros]
@@ -274,29 +280,52 @@ class Draft:
         spot.body.append([b"allow", self.word(spot, b"type"), target, [class_word, permissions]])
 
     def add_diamond(self):
-        """A block with a macro, two blocks elsewhere that inherit it, and one that inherits these."""
-        first, second = self.below(self.spot(deepest=1)), self.below(self.spot(deepest=1))
-        home, last = self.below(self.spot(deepest=1)), self.below(self.spot(deepest=1))
-        path = (*home.space, self.rng.choice(MACROS))
-        if self.is_taken(path):
+        """A block with a macro, two blocks elsewhere that inherit it, and a body that inherits these and calls the macro."""
+        home, *outer = (self.below(self.spot(deepest=1)) for _ in range(3))
+        inner = [self.below(each) if often(self.rng, 0.85) else each for each in outer]
+        macro = self.macro_in(home, [])
+        if not macro:
             return
-        spot = Spot(home.space, [b"macro", path[-1], []], [])
-        home.body.append(spot.body)
-        self.spots.append(spot)
-        self.macros.append((path, spot))
-        inner = [self.below(each) if often(self.rng, 0.6) else each for each in (first, second)]
+        path = self.macros[-1][0]
+        is_global = often(self.rng, 0.4)
+        last = self.spot(deepest=0) if is_global else self.below(self.spot(deepest=1))
         ways = [(each, home) for each in inner] + [(last, each) for each in inner]
-        for around, target in ways + [(last, home)] * often(self.rng, 0.2):
+        for around, target in ways + [(last, home)] * often(self.rng, 0.3):
+            around = self.spot(deepest=0) if is_global and around is last else around
             if target.space != around.space[:len(target.space)]:
                 around.body.append([b"blockinherit", b"." + b".".join(target.space)])
-        names = self.rng.sample(NAMES[b"type"], 2)
-        for each in (first, second, home, last):
-            for name in names:
-                if often(self.rng, 0.5):
-                    self.declare(each, b"type", name)
-        for name in names:
-            self.mark(spot, name, b"self", b".file")
+        for each, chance in ((outer[0], 0.75), (outer[1], 0.75), (home, 0.3), (last, 0.15)):
+            self.declare_some(each, chance)
+        for name in BASE_TYPES:
+            self.mark(macro, name)
         last.body.append([b"call", path[-1]])
+
+    def add_nest(self):
+        """A macro that calls a macro elsewhere, and a call of it; the same names everywhere."""
+        places = [self.below(self.spot(deepest=1)) for _ in range(3)]
+        places = [self.below(each) if often(self.rng, 0.3) else each for each in places]
+        parameters = [[(b"type", self.rng.choice([b"x", b"a", b"b"]))] if often(self.rng, 0.5) else [] for _ in range(2)]
+        macros = [self.macro_in(each, given) for each, given in zip(places, parameters)]
+        if not all(macros):
+            return
+        for each, chance in ((places[0], 0.3), (places[1], 0.5), (places[2], 0.3), (macros[0], 0.4), (macros[1], 0.4)):
+            self.declare_some(each, chance)
+        for each in macros:
+            for name in [*BASE_TYPES, *(name for _, name in each.parameters)]:
+                self.mark(each, name)
+        (inner, outer), caller = macros, places[2]
+        outer.body.append(self.call_of(outer, self.macros[-2][0], inner))
+        caller.body.append(self.call_of(caller, self.macros[-1][0], outer))
+
+    def macro_in(self, around, parameters):
+        """A new macro in a body, or nothing."""
+        path = (*around.space, self.rng.choice(MACROS))
+        return None if self.is_taken(path) else self.place_macro(around, path[-1], parameters)
+
+    def declare_some(self, spot, chance):
+        for name in BASE_TYPES:
+            if often(self.rng, chance):
+                self.declare(spot, b"type", name)
 
     def below(self, around):
         """A block in a body: one that is there, or a new one."""
@@ -308,9 +337,10 @@ class Draft:
             self.spots.append(found)
         return found
 
-    def mark(self, spot, source, target, class_word):
+    def mark(self, spot, source):
+        """A rule that tells what a type word means."""
         self.rules += 1
-        spot.body.append([b"allow", source, target, [class_word, [MARKS[self.rules % len(MARKS)]]]])
+        spot.body.append([b"allow", source, b"self", [b".file", [MARKS[self.rules % len(MARKS)]]]])
 
     def add_ring(self):
         """Macros each of which calls the next, and the last the first; and a call of one of them."""
@@ -335,7 +365,8 @@ class Draft:
 
     def add_base(self):
         spot = self.spots[-1]
-        for kind, name in ((b"type", b"a"), (b"type", b"b"), (b"role", b"r"), (b"user", b"u"), (b"class", b"file")):
+        types = [(b"type", name) for name in BASE_TYPES]
+        for kind, name in (*types, (b"role", b"r"), (b"user", b"u"), (b"class", b"file")):
             if often(self.rng, 0.95):
                 self.declare(spot, kind, name)
 
@@ -346,8 +377,9 @@ class Draft:
     def add_all(self, size, wrong):
         """What a policy has, in an order in which words have something to name."""
         self.wrong = wrong
-        if often(self.rng, 0.15):
-            self.add_diamond()
+        for add, chance in ((self.add_diamond, 0.2), (self.add_nest, 0.25)):
+            if often(self.rng, chance):
+                add()
         for add, most in (
             (self.add_block, 5), (self.add_macro, 4), (self.add_declaration, 12), (self.add_inherit, 3)
         ):
