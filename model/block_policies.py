@@ -26,6 +26,7 @@ BASE_TYPES = [b"a", b"b"]
 MARKS = [b"p%d" % i for i in range(20)]
 KINDS = [b"type", b"type", b"type", b"role", b"user", b"class", b"class", b"name", b"string"]
 WRONG_ARGUMENTS = [Quoted(b"a"), Quoted(b""), b"all", b"self", b"1x", b"a..b", b".", [], [b"a"], [[b"a"], Quoted(b"b")]]
+NOWHERE = [b"nobody", b"k.a", b".k", b"l.l.a", b"a.k"]
 RULES = {b"roletype": (b"role", b"type"), b"userrole": (b"user", b"role")}
 WORDS = [*FLAT, *sorted(shapes.IN_BLOCKS), b"call", b"filecon", *LATER, *UNKNOWN]
 
@@ -143,7 +144,7 @@ class Draft:
         return b".".join(path[common:])
 
     def odd_word(self):
-        return self.rng.choice(self.rng.choice([ODD, ODD, sorted(RESERVED), [b"nobody", b"k.a", b".k", b"l.l.a", b"a.k"]]))
+        return self.rng.choice(self.rng.choice([ODD, ODD, sorted(RESERVED), NOWHERE]))
 
     def word(self, spot, kind):
         """A word of a kind for a body: a parameter, a name of the body, a full name, or any name."""
@@ -255,7 +256,7 @@ class Draft:
 
     def argument(self, spot, kind):
         if self.goes_wrong("calls", 0.05):
-            return self.rng.choice(WRONG_ARGUMENTS)
+            return copy.deepcopy(self.rng.choice(WRONG_ARGUMENTS))
         if kind in NAMES:
             return self.word(spot, kind)
         names = [name for _, name in spot.parameters]
@@ -280,7 +281,7 @@ class Draft:
         spot.body.append([b"allow", self.word(spot, b"type"), target, [class_word, permissions]])
 
     def add_diamond(self):
-        """A block with a macro, two blocks elsewhere that inherit it, and a body that inherits these and calls the macro."""
+        """A block with a macro, two blocks that inherit it, and a body that inherits these and calls the macro."""
         home, *outer = (self.below(self.spot(deepest=1)) for _ in range(3))
         inner = [self.below(each) if often(self.rng, 0.85) else each for each in outer]
         macro = self.macro_in(home, [])
@@ -304,7 +305,8 @@ class Draft:
         """A macro that calls a macro elsewhere, and a call of it; the same names everywhere."""
         places = [self.below(self.spot(deepest=1)) for _ in range(3)]
         places = [self.below(each) if often(self.rng, 0.3) else each for each in places]
-        parameters = [[(b"type", self.rng.choice([b"x", b"a", b"b"]))] if often(self.rng, 0.5) else [] for _ in range(2)]
+        names = self.rng.choices([None, b"x", b"a", b"b"], k=2)
+        parameters = [[(b"type", name)] if name else [] for name in names]
         macros = [self.macro_in(each, given) for each, given in zip(places, parameters)]
         if not all(macros):
             return
@@ -358,8 +360,9 @@ class Draft:
 
     def add_set_aside(self):
         spot = self.spot(may_be_macro=self.goes_wrong("shapes"))
-        contents = [self.rng.choice([b"a", b"self", b"1x", Quoted(b"/x(.*)?"), [], [b"type", b"a"], [[b"block"]]]) for _ in range(2)]
-        spot.body.append([self.rng.choice(sorted(shapes.SET_ASIDE)), *contents[:self.rng.randrange(3)]])
+        items = [b"a", b"self", b"1x", Quoted(b"/x(.*)?"), [], [b"type", b"a"], [[b"block"]]]
+        keyword = self.rng.choice(sorted(shapes.SET_ASIDE))
+        spot.body.append([keyword, *self.rng.sample(items, self.rng.randrange(3))])
 
     # ---- whole policies
 
@@ -486,25 +489,45 @@ def take_out_at(module, at):
 
 
 def odd_statement(rng, name):
-    """A statement whose shape, place or words are wrong, or nearly so. A name of a block round it may be of use."""
-    if often(rng, 0.25):
-        form = rng.choice([[], [name], [name], [b"." + name], [Quoted(name)], [[name]], [name, name], [b"1x"], [b"all"]])
-        return [rng.choice([b"blockabstract", b"blockabstract", b"blockinherit"]), *form]
-    if often(rng, 0.25):
-        forms = [[], [Quoted(b"m")], [b"m", b"x"], [b"m", [], []], [[b"m"]], [b"all"], [b"1m"], [b"m", Quoted(b"")]]
-        return [b"call", *rng.choice(forms)]
-    inside = [rng.choice([
-        b"x", Quoted(b"x"), [], [Quoted(b"x")], [[b"type"]], [b"type", b"p"], [b"role", b"p"], [b"user", b"p"], [b"user", b"q"],
-        [b"type", b"1p"], [b"type", b"all"], [b"foo", b"p"], [b"class", b"p", []], [b"blockabstract", name], [b"sid", b"1x"],
-        [b"macro", b"o", []], [b"block", b"p"], [b"blockabstract", b"all"], [b"blockabstract", b"1k"], [b"optional", b"p"],
-    ]) for _ in range(rng.choice([0, 1, 1, 2]))]
-    if often(rng, 0.4):
-        return [b"block", *rng.choice([[], [[]], [b"all"], [b"1k"], [b".k"], [b"k.k"], [Quoted(b"k")], [b"j"]]), *inside]
-    some = rng.choice([b"p", b"p", b"q", b"1p", b"all"])
-    kinds = [rng.choice([b"type", b"role", b"string", b"name", b"class", b"bool", b"self"]) for _ in range(rng.randrange(4))]
-    parameters = rng.choice([
-        [[kind, some] for kind in kinds], [[kind, some] for kind in kinds], [[kind, some] for kind in kinds],
+    """A statement whose shape, place or words are wrong, or nearly so. The name of a block round it may be of use."""
+    return rng.choice([odd_inherit, odd_call, odd_block, odd_macro, odd_macro])(rng, name)
+
+
+def odd_inherit(rng, name):
+    keyword = rng.choice([b"blockabstract", b"blockabstract", b"blockinherit"])
+    forms = [[], [name], [name], [b"." + name], [Quoted(name)], [[name]], [name, name], [b"1x"], [b"all"]]
+    return [keyword, *rng.choice(forms)]
+
+
+def odd_call(rng, _):
+    forms = [[], [Quoted(b"m")], [b"m", b"x"], [b"m", [], []], [[b"m"]], [b"all"], [b"1m"], [b"m", Quoted(b"")]]
+    return [b"call", *rng.choice(forms)]
+
+
+def odd_block(rng, name):
+    heads = [[], [[]], [b"all"], [b"1k"], [b".k"], [b"k.k"], [Quoted(b"k")], [b"j"]]
+    return [b"block", *rng.choice(heads), *odd_contents(rng, name)]
+
+
+def odd_macro(rng, name):
+    heads = [[b"p"], [b"w"], [b"w"], [b"all"], [Quoted(b"w")], []]
+    same = rng.choice([b"p", b"p", b"q", b"1p", b"all"])
+    kinds = rng.choices([b"type", b"role", b"string", b"name", b"class", b"bool", b"self"], k=rng.randrange(4))
+    odd_parameters = [
         b"x", Quoted(b"x"), [b"type", b"p"], [[b"type"]], [[b"type", b"p", b"p"]], [[Quoted(b"type"), b"p"]],
         [[b"type", Quoted(b"p")]], [[[b"type"], b"p"]], [[]],
-    ])
-    return [b"macro", *rng.choice([[b"p"], [b"w"], [b"w"], [b"all"], [Quoted(b"w")], []]), parameters, *inside]
+    ]
+    parameters = rng.choice(odd_parameters) if often(rng, 0.6) else [[kind, same] for kind in kinds]
+    return [b"macro", *rng.choice(heads), parameters, *odd_contents(rng, name)]
+
+
+def odd_contents(rng, name):
+    """Up to two items of a body."""
+    items = [
+        b"x", Quoted(b"x"), [], [Quoted(b"x")], [[b"type"]],
+        [b"type", b"p"], [b"role", b"p"], [b"user", b"p"], [b"user", b"q"], [b"type", b"1p"], [b"type", b"all"],
+        [b"foo", b"p"], [b"optional", b"p"], [b"class", b"p", []], [b"sid", b"1x"],
+        [b"macro", b"o", []], [b"block", b"p"],
+        [b"blockabstract", name], [b"blockabstract", b"all"], [b"blockabstract", b"1k"],
+    ]
+    return rng.sample(items, rng.choice([0, 1, 1, 2]))

@@ -82,7 +82,10 @@ def context(rng, policy, type_name):
 # ---- over a million instances
 
 MOST = 1_000_000
-FAULTY = [b"", b"(macro loop () (call loop))(call loop)", b"(call m0 (a))", b"(type)", b"(blockinherit nobody)", b"(block b0)"]
+FAULTY = [
+    b"", b"(macro loop () (call loop))(call loop)", b"(call m0 (a))",
+    b"(type)", b"(blockinherit nobody)", b"(block b0)",
+]
 
 
 def too_many(rng):

@@ -95,7 +95,7 @@ def replies_counted(replies):
 
 
 def run_all(program, kind, numbers, jobs):
-    """Runs sessions of a kind, up to the first that differs: the counts of all, and that session's number or nothing."""
+    """Runs sessions of a kind up to the first that differs: the counts, and that session's number or nothing."""
     some = [(program, kind, numbers[at:at + AT_A_TIME]) for at in range(0, len(numbers), AT_A_TIME)]
     counts = collections.Counter()
     with multiprocessing.Pool(jobs) as pool:
@@ -127,7 +127,7 @@ def print_census(kind, numbers, jobs):
 def arguments():
     parser = argparse.ArgumentParser(
         usage="%(prog)s [--jobs JOBS] {PROGRAM | --census} [KIND [COUNT [FIRST]]]",
-        description="Runs random sessions through the program and through the model, and compares all that they answer.",
+        description="Runs random sessions through the program and through the model, and compares their answers.",
         epilog="Kinds of sessions: " + "; ".join(f"{kind}: {made.__doc__}" for kind, made in KINDS.items()),
     )
     parser.add_argument("words", nargs="*", help="PROGRAM is the built cilhost. KIND is a kind of sessions, or all, as"

@@ -8,8 +8,8 @@ from faults import TOO_MANY, fault, stop_at
 
 MOST_INSTANCES = 1_000_000
 
-# A statement that stands in a namespace, the scope of that place, and the blockinherits through which it came there, each
-# as module and place, the outermost first.
+# A statement that stands in a namespace, the scope of that place, and the blockinherits through which it came there,
+# each as module and place, the outermost first.
 Standing = collections.namedtuple("Standing", "statement space scope chain")
 
 

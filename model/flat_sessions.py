@@ -1,4 +1,6 @@
 """Random sessions without blocks and macros, as parts that can be left out."""
+import itertools
+
 import model
 from pieces import (
     PERMISSIONS, SMALL, PIECES, NAMES, bundle_of, import_bundle, install, module_of, often, statements_of_any_kind
@@ -38,18 +40,22 @@ def rule(rng, names):
     return [b"allow", dotted(rng, rng.choice(names.types)), target, [dotted(rng, name), nested(rng, permissions)]]
 
 
+def pairs(rng, keyword, first, second):
+    return [[keyword, dotted(rng, one), dotted(rng, other)] for one in first for other in second if often(rng, 0.6)]
+
+
 def policy(rng, names):
     made = [[b"type", name] for name in names.types] + [[b"user", name] for name in names.users]
     made += [[b"role", name] for name in names.roles if name != b"object_r" or often(rng, 0.2)]
     made += [[b"class", name, listed] for name, listed in names.classes.items()]
-    made += [[b"userrole", dotted(rng, user), dotted(rng, role)] for user in names.users for role in names.roles if often(rng, 0.6)]
-    made += [[b"roletype", dotted(rng, role), dotted(rng, name)] for role in names.roles for name in names.types if often(rng, 0.6)]
+    made += pairs(rng, b"userrole", names.users, names.roles) + pairs(rng, b"roletype", names.roles, names.types)
     return made + [rule(rng, names) for _ in range(rng.choice([0, 1, 3, 8, 14]))]
 
 
 def fault(rng, names):
     """A statement that is refused at a later step than that of shapes, or may be."""
-    name = rng.choice([b"nobody", b".nobody", b"a.b", b".all", rng.choice(names.users), rng.choice(list(names.classes))])
+    known = [rng.choice(names.users), rng.choice(list(names.classes))]
+    name = rng.choice([b"nobody", b".nobody", b"a.b", b".all", *known])
     class_name = rng.choice(list(names.classes))
     return rng.choice([
         [b"allow", name, rng.choice(names.types), [class_name, []]],
@@ -67,7 +73,8 @@ def context(rng, names, odd):
     parts = [rng.choice(names.users), rng.choice(names.roles), rng.choice(names.types)]
     if often(rng, odd):
         at = rng.randrange(3)
-        parts[at] = rng.choice([b"", b"nobody", b"." + parts[at], parts[at] + b".a", parts[at] + b"\r", b"\xff", parts[at].upper()])
+        part = parts[at]
+        parts[at] = rng.choice([b"", b"nobody", b"." + part, part + b".a", part + b"\r", b"\xff", part.upper()])
         if often(rng, 0.4):
             parts = rng.choice([parts[:2], [*parts, b"s0"], [*parts, b""], [b"", *parts], parts[::-1]])
     return b":".join(parts)
@@ -75,11 +82,13 @@ def context(rng, names, odd):
 
 def queries(rng, names, odd):
     if often(rng, 0.2):
-        all_of = [b":".join((user, role, name)) for user in names.users for role in names.roles for name in names.types][:8]
-        return [b"AV %s %s %s\n" % (source, target, rng.choice(list(names.classes))) for source in all_of for target in all_of]
+        some = [b":".join(parts) for parts in itertools.product(names.users, names.roles, names.types)][:8]
+        classes = list(names.classes)
+        return [b"AV %s %s %s\n" % (source, target, rng.choice(classes)) for source in some for target in some]
     made = []
     for _ in range(rng.randrange(1, 10)):
-        class_name = rng.choice([b"nobody", b".file", b"\0"]) if often(rng, odd / 2) else rng.choice(list(names.classes))
+        is_odd = often(rng, odd / 2)
+        class_name = rng.choice([b"nobody", b".file", b"\0"] if is_odd else list(names.classes))
         made.append(b"AV %s %s %s\n" % (context(rng, names, odd), context(rng, names, odd), class_name))
     return made
 
@@ -106,7 +115,8 @@ def policies(rng):
         made = policy(rng, names) if turn == 0 else [rule(rng, names) for _ in range(3)]
         made += [fault(rng, names) for _ in range(rng.choice([0, 0, 0, 0, 0, 0, 0, 1, 2]))]
         texts = modules_of(rng, made)
-        placed = [import_bundle(bundle_of(sorted(set(texts))))] if often(rng, 0.2) else [install(text) for text in texts]
+        is_bundle = often(rng, 0.2)
+        placed = [import_bundle(bundle_of(sorted(set(texts))))] if is_bundle else [install(text) for text in texts]
         rng.shuffle(placed)
         parts += [*placed, *placed[:1], b"LOAD\n", *queries(rng, names, 0.2)]
     return parts
@@ -133,10 +143,12 @@ def random_text(rng):
     if form == 1:
         depth = rng.randrange(126, 131)
         inside = rng.choice([b"", b"a", b'"x"', b";c\n", b"()", b"\x01", b'"', b"(a)(b)"])
-        return b"(" * depth + inside + b")" * (depth + rng.choice([0, 0, 0, -1, 1])) + rng.choice([b"", b";z", b")", b"a"])
+        closing = b")" * (depth + rng.choice([0, 0, 0, -1, 1]))
+        return b"(" * depth + inside + closing + rng.choice([b"", b";z", b")", b"a"])
     if form == 2:
         some = bytes(rng.randrange(256) for _ in range(rng.randrange(12)))
-        return rng.choice([b"", b"(a ", b"("]) + rng.choice([b";", b'"']) + some + rng.choice([b"", b"\n)", b'")', b'"a)', b"\r)"])
+        begin, end = rng.choice([b"", b"(a ", b"("]), rng.choice([b"", b"\n)", b'")', b'"a)', b"\r)"])
+        return begin + rng.choice([b";", b'"']) + some + end
     if form == 3:
         return rng.choice([b"%s", b"(%s)", b"(a%sb)", b'("%s")', b";%s", b"()%s"]) % bytes([rng.randrange(256)])
     text = bytearray(module_of(rng, statements_of_any_kind(rng)))
@@ -170,23 +182,32 @@ def bundles(rng):
     """Bundles, good and cut, changed or out of order; and what is exported, brought back."""
     parts = []
     for _ in range(rng.randrange(1, 12)):
-        parts.append(rng.choice([import_bundle(random_bundle(rng)), install(rng.choice(SMALL)), b"LIST\n", b"EXPORT\n"]))
+        placed = [import_bundle(random_bundle(rng)), install(rng.choice(SMALL))]
+        parts.append(rng.choice([*placed, b"LIST\n", b"EXPORT\n"]))
     host = model.Host()
     model.run(b"".join(parts), host)
     return [*parts, import_bundle(host.export()), import_bundle(host.export()[:-1]), b"LIST\n", b"EXPORT\n"]
 
 
+REQUESTS = [
+    b"LOAD", b"LIST", b"EXPORT", b"QUIT", b"AV u:r:a u:r:b file", b"INSTALL 0", b"IMPORT 0",
+    b"SET b true", b"CHECK a b c d", b"OPTIONALS", b"WHY",
+]
+
+
 def random_line(rng):
-    request = rng.choice([b"LOAD", b"LIST", b"EXPORT", b"QUIT", b"AV u:r:a u:r:b file", b"INSTALL 0", b"IMPORT 0", b"SET b true", b"CHECK a b c d", b"OPTIONALS", b"WHY"])
+    request = rng.choice(REQUESTS)
     form = rng.randrange(8)
     if form == 0:
         return rng.choice([b" ", b"\t", b"\r", b"\0"]) + request
     if form == 1:
         return request + rng.choice([b" ", b"\r", b"\0", b" x", b"  "])
     if form == 2:
-        return rng.choice([request.lower(), request.replace(b" ", b"  ", 1), request[:-1], b"AV  a b", b"AV a b ", b"", b" ", b"\xff"])
+        near = [request.lower(), request.replace(b" ", b"  ", 1), request[:-1]]
+        return rng.choice([*near, b"AV  a b", b"AV a b ", b"", b" ", b"\xff"])
     if form == 3:
-        number = rng.choice([b"00", b"01", b"+0", b"-1", b"0x0", b"1e1", b"", b"0 0", b"067108865", b"1_0", b"\xd9\xa0"])
+        numbers = [b"00", b"01", b"+0", b"-1", b"0x0", b"1e1", b"", b"0 0", b"067108865", b"1_0", b"\xd9\xa0"]
+        number = rng.choice(numbers)
         return rng.choice([b"INSTALL ", b"IMPORT "]) + number
     if form == 4:
         size = rng.choice([4094, 4095, 4096])
@@ -203,7 +224,10 @@ ENDS = [
 
 def lines(rng):
     """Lines of every kind, and every way in which a session ends."""
-    first = b"(class file (open read))(user u)(role r)(type a)(type b)(userrole u r)(roletype r a)(roletype r b)(allow a b (file (read)))"
+    first = (
+        b"(class file (open read))(user u)(role r)(type a)(type b)"
+        b"(userrole u r)(roletype r a)(roletype r b)(allow a b (file (read)))"
+    )
     parts = [install(first), b"LOAD\n"] if often(rng, 0.5) else []
     return parts + [random_line(rng) + b"\n" for _ in range(rng.randrange(16))] + [rng.choice(ENDS)]
 

@@ -73,7 +73,7 @@ class Instances:
         return next((each for each in found if each), None)
 
     def called(self, statement, frame):
-        """The macro of a call where there is one, and the codes of the faults that keep the call from being unfolded."""
+        """The macro of a call where there is one, and the codes of the faults that keep the call folded."""
         macro = self.macro(frame.word(statement.module, statement.macro_word, b"macro"))
         if not macro:
             return None, []

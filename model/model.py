@@ -1,8 +1,8 @@
 #!/usr/bin/env python3
 """The rules of `cilhost session` once more, for comparing: `model.py [FILE...]` answers a session as the program does.
 
-It was written from the rules alone, by somebody who had not read the program. It is plain and slow, it keeps everything in
-memory, and nothing in it is proved. Statements and requests that the program does not take yet are refused here too.
+It was written from the rules alone, by somebody who had not read the program. It is plain and slow, it keeps everything
+in memory, and nothing in it is proved. Statements and requests that are not supported yet are refused here too.
 """
 import hashlib
 import re

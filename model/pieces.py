@@ -9,14 +9,18 @@ LATER = sorted(shapes.REFUSED)
 FLAT = [b"allow", b"class", b"role", b"roletype", b"type", b"user", b"userrole"]
 UNKNOWN = [b"foo", b"Type", b"types", b"allows", b"typ", b"inn", b"1type", b".type", b"-", b"attribute"]
 ODD = [
-    b".a", b"a.b", b"..a", b"a.", b".", b"a..b", b".a.b", b"1a", b"-a", b"-", b"_", b"a'", b"a/b", b"a:b", b"a,b", b"*", b"\\",
+    b".a", b"a.b", b"..a", b"a.", b".", b"a..b", b".a.b", b"1a", b"-a", b"-", b"_", b"a'", b"a/b", b"a:b", b"a,b", b"*",
+    b"\\",
     b"self.a", b".self", b".all", b"ALL", b"t3", b".object_r", b"a.-", b".1", b"nobody", b"file.read",
     b"n" * 1024, b"n" * 1025, b"." + b"n" * 1024, b"." + b"n" * 1025, b"a." * 600 + b"a",
 ]
 PIECES = [b"(", b")", b'"', b";", b"a", b"type", b"(type a)", b"()", b'"x"', b".", b"!", b"~", *BLANK] + [
     bytes([byte]) for byte in (0, 11, 12, 31, 127, 128, 255)
 ]
-SMALL = [b"", b" ", b"()", b"(type a)", b"(type b)", b"(type a) ", b"(user u)", b"(class w (p))", b"(type", b"a", b")", b'("', b";", b"\xff"]
+SMALL = [
+    b"", b" ", b"()", b"(type a)", b"(type b)", b"(type a) ", b"(user u)", b"(class w (p))",
+    b"(type", b"a", b")", b'("', b";", b"\xff",
+]
 
 
 class Quoted(bytes):

@@ -12,7 +12,7 @@ OBJECT_ROLE = (b"object_r",)
 
 
 class Names:
-    """What is declared, by kinds and full names; of a class, its permissions. Or the faults of declarations that differ."""
+    """What is declared, by kinds and full names, with the permissions of classes; or the faults of what differs."""
 
     def __init__(self, instances):
         self.instances = instances
@@ -41,6 +41,11 @@ class Names:
         return next((path for path in paths(word.text, word.scope) if path in self.declared[word.kind]), None)
 
 
+def listed(statement):
+    """The permissions that a class statement lists."""
+    return statement.permissions if statement.keyword == b"class" else []
+
+
 def declared_fault(code, instance):
     statement = instance.statement
     return fault(code, statement.module, statement.name.at, instance.space, statement.name.value)
@@ -62,7 +67,7 @@ class Policy:
         stop_at([
             declared_fault(55, each)
             for each in instances
-            if each.statement.keyword == b"class" and len({node.value for node in each.statement.permissions}) > MOST_PERMISSIONS
+            if len({node.value for node in listed(each.statement)}) > MOST_PERMISSIONS
         ])
 
     def enter(self, instance, names):

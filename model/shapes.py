@@ -42,7 +42,7 @@ PARAMETER_KINDS = set(b"type role user class".split()) | PLAIN_KINDS
 
 
 class Place(collections.namedtuple("Place", "blocks macro")):
-    """Where a statement is written: in these block statements, the outermost first, and in this macro statement or none."""
+    """Where a statement is written: the block statements round it, the outermost first, and its macro or none."""
 
     @property
     def space(self):
