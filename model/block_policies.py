@@ -1,13 +1,14 @@
 """Random policies with blocks, inheritance, macros and calls, which can be mended until they are accepted."""
 import copy
+import itertools
 
 import shapes
 from contents import Contents
 from faults import Refused
 from instances import Instances
-from pieces import FLAT, LATER, ODD, UNKNOWN, Quoted, bent, blanks, often
+from pieces import FLAT, LATER, ODD, UNKNOWN, Quoted, bent, module_of, often
 from policy import Names, Policy
-from texts import RESERVED, read
+from texts import RESERVED, Node
 
 BLOCKS = [b"k", b"l", b"n", b"a"]
 MACROS = [b"m", b"o", b"n", b"b"]
@@ -53,33 +54,22 @@ class Spot:
 
 
 class Module:
-    """The statements of a module, and its text once they stay."""
+    """The statements of a module, and the nodes that they would be read as. A place is the number of a node here."""
 
     def __init__(self):
-        self.statements, self.text, self.starts, self.is_open = [], b"", {}, True
+        self.statements, self.is_open = [], True
+        self.nodes, self.starts = [], {}
 
-    def write(self, rng):
-        out, self.starts = bytearray(blanks(rng)), {}
-        for each in self.statements:
-            put(rng, each, out, self.starts)
-            out += blanks(rng)
-        self.text = bytes(out)
+    def number(self):
+        self.starts, numbers = {}, itertools.count()
+        self.nodes = [self.node(each, numbers) for each in self.statements]
 
-
-def put(rng, node, out, starts):
-    """Appends a node, and enters the places where lists begin."""
-    if isinstance(node, Quoted):
-        out += b'"' + node + b'"'
-    elif isinstance(node, bytes):
-        out += node
-    else:
-        starts[id(node)] = len(out)
-        out += b"(" + blanks(rng)
-        for at, inner in enumerate(node):
-            out += b" " if at and (often(rng, 0.5) or not isinstance(inner, list)) else b""
-            put(rng, inner, out, starts)
-            out += blanks(rng)
-        out += b")"
+    def node(self, item, numbers):
+        at = next(numbers)
+        if isinstance(item, list):
+            self.starts[id(item)] = at
+            return Node("list", at, [self.node(inner, numbers) for inner in item])
+        return Node("string" if isinstance(item, Quoted) else "word", at, item)
 
 
 def statements_of(body, first=0):
@@ -418,57 +408,56 @@ class Draft:
         if some:
             bent(self.rng, self.rng.choice(some), WORDS)
 
-    def write(self):
-        for module in self.modules:
-            if module.is_open:
-                module.write(self.rng)
+    def open_texts(self):
+        return [module_of(self.rng, module.statements) for module in self.modules if module.is_open]
 
     def trees(self):
-        return [read(text) for text in sorted({module.text for module in self.modules})]
+        for module in self.modules:
+            if module.is_open:
+                module.number()
+        return [module.nodes for module in self.modules]
+
+    def policy(self):
+        """The policy as it is now, or nothing where it has faults."""
+        try:
+            return Policy(self.trees())
+        except Refused:
+            return None
 
     def learn(self):
         """Enters all names that are declared, by inheritance and calls too, where the model sees them."""
-        self.write()
         try:
             names = Names(Instances(Contents(shapes.written(self.trees()))))
         except Refused:
             return
-        spots = {id(spot.body): spot for _, spot in self.macros}
-        self.standing = []
-        for path, macro in sorted(names.instances.macros.items(), key=lambda each: each[0]):
-            found = self.spot_at(macro.statement.module, macro.statement.at, spots)
-            if found:
-                self.standing.append((path, found))
+        starts = [module.starts for module in self.modules]
+        self.standing = [
+            (path, spot)
+            for path, macro in sorted(names.instances.macros.items(), key=lambda each: each[0])
+            for _, spot in self.macros
+            if starts[macro.statement.module].get(id(spot.body)) == macro.statement.at
+        ]
         for kind, declared in names.declared.items():
             self.declared[kind] = sorted(declared)
         self.permissions.update(names.declared[b"class"])
 
-    def spot_at(self, number, at, spots):
-        """The spot of the macro that is written at a place."""
-        text = sorted({module.text for module in self.modules})[number]
-        module = next(module for module in self.modules if module.text == text)
-        return next((spots[of] for of, start in module.starts.items() if start == at and of in spots), None)
-
     def mend(self, but=frozenset()):
         """Takes out statements with faults until there are none but these, or none that can be taken out."""
         for _ in range(MOST_MENDINGS):
-            self.write()
             try:
-                Policy(self.trees())
-                return
+                return Policy(self.trees())
             except Refused as refused:
                 if refused.faults[0][0] in but or not self.take_out(refused.faults):
-                    return
+                    return None
+        return None
 
     def take_out(self, faults):
         """Takes out what has faults; of things that share a name, one stays."""
         if faults[0][0] in (31, 36):
             faults = faults[1:] or faults
-        texts = sorted({module.text for module in self.modules})
-        by_text = {module.text: module for module in self.modules}
         is_changed = False
         for _, number, at, _, _ in faults:
-            module = by_text[texts[number]]
+            module = self.modules[number]
             if module.is_open:
                 is_changed |= take_out_at(module, at)
         return is_changed

@@ -1,5 +1,4 @@
 """Random sessions over policies with blocks and macros, as parts that can be left out."""
-import model
 from block_policies import NAMES, WRONG, Draft
 from pieces import bundle_of, import_bundle, install, often
 
@@ -15,18 +14,15 @@ def blocks(rng):
     for _ in range(rng.choice([1, 1, 2, 2, 3])):
         draft.add_module()
     draft.add_base()
-    parts, host = [], model.Host()
+    parts, policy = [], None
     for size in (rng.choice([0.5, 1, 1, 1.5]), 0.4):
         wrong = rng.choice(list(WRONG)) if often(rng, 0.4) else None
         if parts:
             draft.open_module()
         draft.add_all(size, wrong)
-        if often(rng, 0.9):
-            draft.mend(but=WRONG.get(wrong, frozenset()))
-        draft.write()
-        placed = placing(rng, [module.text for module in draft.modules if module.is_open])
-        model.run(b"".join([*placed, b"LOAD\n"]), host)
-        parts += [*placed, b"LOAD\n", *queries(rng, host.policy)]
+        loaded = draft.mend(but=WRONG.get(wrong, frozenset())) if often(rng, 0.9) else draft.policy()
+        policy = loaded or policy
+        parts += [*placing(rng, draft.open_texts()), b"LOAD\n", *queries(rng, policy)]
     return parts
 
 
