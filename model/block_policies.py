@@ -245,7 +245,7 @@ class Draft:
         spot.body.append([b"call", called, given] if given or often(self.rng, 0.5) else [b"call", called])
 
     def argument(self, spot, kind):
-        if self.goes_wrong("calls", 0.05):
+        if self.goes_wrong("calls", 0.12):
             return copy.deepcopy(self.rng.choice(WRONG_ARGUMENTS))
         if kind in NAMES:
             return self.word(spot, kind)
