@@ -21,7 +21,7 @@ use Rattle.cil_macros.specs.Walks.{written_in}
 
 -- as many are placed as there are items
 pub items_counted : (i : Kept) → length (items_in i) ≡ length (all_placed i)
-items_counted i = length-map (item_of (written_in i.0) (all_standing i.0)) (all_placed i)
+items_counted i = length-map (all_placed i) (item_of (written_in i.0) (all_standing i.0))
 
 module _ (i : Kept) (at : ℕ) (within : at < length (items_in i)) where
   among_placed : at < length (all_placed i)
