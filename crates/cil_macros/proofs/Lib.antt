@@ -13,6 +13,7 @@ pub mod FaultLemmas
 pub mod FirstLemmas
 pub mod FlatInstances
 pub mod Kept
+pub mod ItemLemmas
 pub mod LawLemmas
 pub mod MacroLemmas
 pub mod MacroScope

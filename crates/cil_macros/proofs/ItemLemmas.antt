@@ -1,0 +1,75 @@
+-- The items of all that is placed, place by place.
+use Rattle.std.specs.Prelude.{Some, slice_get}
+use Rattle.std.specs.List.{flat_map}
+use Rattle.std.proofs.Common.{◌≡◌, ℕ, ◌+◌, ◌<◌, ◌≤◌, true, List, [], ◌∷◌, ◌++◌, map, length, take, drop, get_or, refl, sym, ◌∙◌, ap, subst, arith}
+use Rattle.std.proofs.lemmas.List.{get_or-map, length-map, take_more}
+use Rattle.cil_sexpr.specs.Places.{drop_at, is_there}
+use Rattle.cil_syntax.specs.declared.kind.Keyword.{Keyword}
+use Rattle.cil_syntax.specs.declared.kind.Keyword.TheVariants as keywords
+use Rattle.cil_syntax.specs.declared.term.Word.{Word}
+use Rattle.cil_syntax.specs.Terms.{Terms, nil}
+use Rattle.cil_syntax.specs.Written.{Written}
+use Rattle.cil_blocks.specs.Contents.{Standing, standing_top}
+use Rattle.cil_blocks.specs.Entries.{nothing}
+use Rattle.cil_macros.specs.Item.{Item, all_replaced}
+use Rattle.cil_macros.specs.Items.{Kept, all_placed, item_at, item_of, items_in, placed_at, says, says_as_written, word_of}
+use Rattle.cil_macros.specs.Macros.{all_standing}
+use Rattle.cil_macros.specs.Placed.{Placed, placed_standing}
+use Rattle.cil_macros.specs.Walks.{written_in}
+
+-- ---- places
+
+-- as many are placed as there are items
+pub items_counted : (i : Kept) → length (items_in i) ≡ length (all_placed i)
+items_counted i = length-map (all_placed i) (item_of (written_in i.0) (all_standing i.0))
+
+module _ (i : Kept) (at : ℕ) (within : at < length (items_in i)) where
+  among_placed : at < length (all_placed i)
+  among_placed = let h = items_counted i in omega (arith, h, within)
+
+  -- what is placed there
+  pub placed_there : slice_get (all_placed i) at ≡ Some (placed_at i at)
+  placed_there = is_there (all_placed i) at (placed_standing (standing_top nothing)) among_placed
+
+  -- the item that is there
+  pub item_got : (d : Item) → item_at i at ≡ get_or (items_in i) at d
+  item_got d = sym (get_or-map (item_of (written_in i.0) (all_standing i.0)) (all_placed i) at (placed_standing (standing_top nothing)) d among_placed)
+
+  pub item_there : slice_get (items_in i) at ≡ Some (item_at i at)
+  item_there = is_there (items_in i) at (item_at i at) within ∙ ap Some (sym (item_got (item_at i at)))
+
+  -- the items before the next place
+  pub items_taken : take (at + 1) (items_in i) ≡ take at (items_in i) ++ item_at i at ∷ []
+  items_taken = take_more (items_in i) at (item_at i at) within ∙ ap (λ x. take at (items_in i) ++ x ∷ []) (sym (item_got (item_at i at)))
+
+  -- those from here on
+  pub items_left : drop at (items_in i) ≡ item_at i at ∷ drop (at + 1) (items_in i)
+  items_left = drop_at (items_in i) at (item_at i at) (item_at i at) within (item_got (item_at i at))
+
+-- ---- what items say
+
+-- each statement says what is written, but for calls and what is judged with the blocks
+pub said_as_written : (ws : List Written) (ss : List Standing) (p : Placed) (k : Keyword) (args : Terms Word) → says_as_written k ≡ true → says ws ss p k args ≡ all_replaced (λ at. at) (word_of ws p) args
+unfolding says
+said_as_written ws ss p keywords.Type_ args e = refl
+said_as_written ws ss p keywords.Class args e = refl
+said_as_written ws ss p keywords.Role args e = refl
+said_as_written ws ss p keywords.User args e = refl
+said_as_written ws ss p keywords.RoleType args e = refl
+said_as_written ws ss p keywords.UserRole args e = refl
+said_as_written ws ss p keywords.Allow args e = refl
+said_as_written ws ss p keywords.Block args e = refl
+said_as_written ws ss p keywords.BlockAbstract args e = absurd cc
+said_as_written ws ss p keywords.BlockInherit args e = absurd cc
+said_as_written ws ss p keywords.Macro args e = refl
+said_as_written ws ss p keywords.Call args e = absurd cc
+said_as_written ws ss p keywords.SetAside args e = refl
+
+module _ (ws : List Written) (ss : List Standing) (p : Placed) (args : Terms Word) where
+  pub inherit_says : says ws ss p keywords.BlockInherit args ≡ nil
+  unfolding says
+  inherit_says = refl
+
+  pub abstract_says : says ws ss p keywords.BlockAbstract args ≡ nil
+  unfolding says
+  abstract_says = refl
