@@ -1,16 +1,22 @@
 #!/usr/bin/env python3
 """Writes the modules of a policy that is as large as the flat part of a distribution's policy.
 
-usage: distribution.py FOLDER
+usage: distribution.py [--blocks] FOLDER
 
 The folder gets 187 files NAME.cil, the same on every run: 134 classes, 4,100 types, 5,300 roletype and 154,000 allow
 statements, about 11 MB in all. Names, classes and permissions are of the kind that distributions have; which type may
 do what is made up.
+
+With --blocks it is the same policy in 2,000 blocks. They inherit their types, and what all domains have, from three
+templates; 20,000 of the rules are made by calls of 50 macros. Templates and macros are in a block lib, in the module
+base. One more file, names, has a line for each type: its name without blocks, and its name here. So what is asked of
+the one policy can be asked of the other, and has the same answer.
 """
 import os
 import sys
 
 MODULES, TYPES, ROLETYPES, RULES, CLASSES = 187, 4100, 5300, 154_000, 134
+BLOCKS, MACROS, CALLS = 2000, 50, 20_000
 
 FILE = ("append audit_access create execmod execute getattr ioctl link lock map mounton open quotaon read relabelfrom "
         "relabelto rename setattr unlink watch watch_mount watch_reads watch_sb watch_with_perm write")
@@ -168,28 +174,124 @@ def rules(types, lists):
         name, list_ = numbers.one_of(used)
         if (source, target, name, list_) not in given:
             given.add((source, target, name, list_))
-            rules_of[module].append(f"(allow {source} {target} ({name} ({list_})))")
+            rules_of[module].append((source, target, name, list_))
     return rules_of
 
 
+def flat(types, pairs, rules_of):
+    """The lines of each module but the first, without blocks."""
+    for module, own in types.items():
+        domains = set(own[:len(DOMAINS)])
+        lines = [f"(type {type_})" for type_ in own]
+        lines += [f"(roletype {role} {domain})" for role, domain in pairs if domain in domains]
+        yield module, lines + [allow(*rule) for rule in rules_of[module]]
+
+
+def allow(source, target, name, list_):
+    return f"(allow {source} {target} ({name} ({list_})))"
+
+
+class Library:
+    """The block lib: templates, macros for a class and its permissions, and macros for permissions on any class."""
+
+    def __init__(self, roles):
+        self.roles = roles
+        used = [(name, number, list_) for _, name, lists in USED for number, list_ in enumerate(lists)]
+        self.of_class = {(name, list_): f"{name}_{number}" for name, number, list_ in used}
+        lists = list(dict.fromkeys(list_ for _, list_ in self.of_class))[:MACROS - len(self.of_class)]
+        self.of_list = {list_: f"access_{number}" for number, list_ in enumerate(lists)}
+        assert len(self.of_class) + len(self.of_list) == MACROS
+        self.calls = 0
+
+    def lines(self):
+        yield "(block lib"
+        for (name, list_), macro in self.of_class.items():
+            yield f"(macro {macro} ((type source)(type target)) {allow('source', 'target', name, list_)})"
+        for list_, macro in self.of_list.items():
+            yield f"(macro {macro} ((type source)(type target)(class on)) {allow('source', 'target', 'on', list_)})"
+        yield f"(block domain (blockabstract domain)(type t){''.join(f'(roletype {role} t)' for role in self.roles)})"
+        yield "(block one (blockabstract one)(type o0))"
+        yield "(block two (blockabstract two)(blockinherit one)(type o1))"
+        yield ")"
+
+    def call(self, source, target, name, list_):
+        """The call that makes this rule: every second one is of a macro with a class, if there is one."""
+        self.calls += 1
+        if list_ in self.of_list and self.calls % 2 == 0:
+            return f"(call lib.{self.of_list[list_]} ({source} {target} {name}))"
+        return f"(call lib.{self.of_class[name, list_]} ({source} {target}))"
+
+
+def placed(types):
+    """Each type with its block and its name there: a domain is t in a block of its own, objects are o0 and o1."""
+    places = {}
+    for number, (module, own) in enumerate(types.items()):
+        count = BLOCKS // len(types) + (number < BLOCKS % len(types))
+        for place, type_ in enumerate(own[:len(DOMAINS)]):
+            places[type_] = f"{module}_{place}", "t"
+        for place, type_ in enumerate(own[len(DOMAINS):]):
+            assert place < 2 * count
+            places[type_] = f"{module}_{place % count}", f"o{place // count}"
+    assert len({block for block, _ in places.values()}) == BLOCKS
+    return places
+
+
+def in_blocks(types, pairs, rules_of, places, library):
+    """The lines of each module but the first, in blocks. The rules of a module are spread over its blocks."""
+    called = seen = 0
+    for module, own in types.items():
+        blocks = {places[type_][0]: [] for type_ in own}
+        for block, lines in blocks.items():
+            here = {name for place, name in places.values() if place == block}
+            lines += ["(blockinherit lib.domain)"] if "t" in here else []
+            lines += ["(blockinherit lib.two)" if "o1" in here else "(blockinherit lib.one)"]
+        for role, domain in pairs:
+            if places[domain][0] in blocks and role not in library.roles:
+                blocks[places[domain][0]].append(f"(roletype {role} t)")
+        for number, (source, target, name, list_) in enumerate(rules_of[module]):
+            block = list(blocks)[number % len(blocks)]
+            words = [word if word == "self" else spelled(places[word], block) for word in (source, target)]
+            seen += 1
+            if target != "self" and called * RULES < CALLS * seen and called < CALLS:
+                called += 1
+                blocks[block].append(library.call(*words, name, list_))
+            else:
+                blocks[block].append(allow(*words, name, list_))
+        yield module, [line for block, lines in blocks.items() for line in (f"(block {block}", *lines, ")")]
+    assert called == CALLS
+
+
+def spelled(place, block):
+    """A type as it is written in a block."""
+    return place[1] if place[0] == block else ".".join(place)
+
+
 def main():
-    if len(sys.argv) != 2 or sys.argv[1].startswith("-"):
+    arguments = sys.argv[1:]
+    has_blocks = arguments[:1] == ["--blocks"]
+    folder = arguments[has_blocks:]
+    if len(folder) != 1 or folder[0].startswith("-"):
         print(__doc__, end="")
-        return 0 if sys.argv[1:] == ["--help"] else 2
+        return 0 if arguments == ["--help"] else 2
     lists, types = classes(), names()
     rules_of = rules(types, lists)
     pairs = [(role, domain) for role in ROLES for own in types.values() for domain in own[:len(DOMAINS)]][:ROLETYPES]
     assert len(pairs) == ROLETYPES
     texts = {"base": base(lists)}
-    for name, own in types.items():
-        domains = set(own[:len(DOMAINS)])
-        texts[name] = [f"(type {type_})" for type_ in own]
-        texts[name] += [f"(roletype {role} {domain})" for role, domain in pairs if domain in domains]
-        texts[name] += rules_of[name]
+    os.makedirs(folder[0], exist_ok=True)
+    if has_blocks:
+        places = placed(types)
+        # The roles that all domains have are in the template.
+        library = Library(ROLES[:ROLETYPES // (len(types) * len(DOMAINS))])
+        texts["base"] += library.lines()
+        texts.update(in_blocks(types, pairs, rules_of, places, library))
+        with open(os.path.join(folder[0], "names"), "w", encoding="ascii") as file:
+            file.writelines(f"{type_} {'.'.join(place)}\n" for type_, place in places.items())
+    else:
+        texts.update(flat(types, pairs, rules_of))
     assert len(texts) == MODULES
-    os.makedirs(sys.argv[1], exist_ok=True)
     for name, lines in texts.items():
-        with open(os.path.join(sys.argv[1], name + ".cil"), "w", encoding="ascii") as file:
+        with open(os.path.join(folder[0], name + ".cil"), "w", encoding="ascii") as file:
             file.write("\n".join(lines) + "\n")
     return 0
 

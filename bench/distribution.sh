@@ -1,30 +1,61 @@
 #!/usr/bin/env bash
 # Times a session of the program cilhost that loads a policy as large as the flat part of a distribution's policy, which
-# distribution.py writes. README.md says how to read the table.
+# distribution.py writes. With --blocks it also times one that loads the same policy in blocks, with inheritance and
+# calls of macros, and compares the answers of both. README.md says how to read the table.
+# usage: bench/distribution.sh [--blocks]
+[ $# -eq 0 ] || [ "$*" = --blocks ] || { echo "usage: bench/distribution.sh [--blocks]" >&2; exit 2; }
 . "$(dirname "$0")/session_common.sh"
 
-"$here/distribution.py" "$work/modules"
-cat "$work/modules"/*.cil >"$work/policy"
-for module in "$work/modules"/*.cil; do install_request "$module"; done >"$work/installed"
-{ cat "$work/installed"; echo LOAD; } >"$work/loaded"
-
 # A query for every 50th rule, and what the rule allows.
-grep '^(allow' "$work/policy" | tr -d '()' | awk 'NR % 50 == 0' >"$work/rules"
-{ cat "$work/loaded"; awk '{ print "AV system_u:system_r:" $2, "system_u:object_r:" ($3 == "self" ? $2 : $3), $4 }' "$work/rules"; } >"$work/asked"
+"$here/distribution.py" "$work/flat"
+cat "$work/flat"/*.cil | grep '^(allow' | tr -d '()' >"$work/all_rules"
+awk 'NR % 50 == 0' "$work/all_rules" >"$work/rules"
+awk '{ print "AV system_u:system_r:" $2, "system_u:object_r:" ($3 == "self" ? $2 : $3), $4 }' "$work/rules" \
+    >"$work/queries"
 queries=$(wc -l <"$work/rules")
 
-measure "$work/installed"; expect_no_refusal; installed=$(cat "$work/us")
-measure "$work/loaded"; expect_no_refusal; loaded=$(cat "$work/us"); peak=$(cat "$work/peak")
-measure "$work/asked"; expect_no_refusal; asked=$(cat "$work/us")
+# A row: $1 the folder of the modules, $2 the file of the queries. The replies to these go to $work/replies_of_$1.
+row() {
+    local installed loaded asked peak bytes
+    for module in "$work/$1"/*.cil; do install_request "$module"; done >"$work/installed"
+    { cat "$work/installed"; echo LOAD; } >"$work/loaded"
+    cat "$work/loaded" "$2" >"$work/asked"
+    bytes=$(cat "$work/$1"/*.cil | wc -c)
+
+    measure "$work/installed"; expect_no_refusal; installed=$(cat "$work/us")
+    measure "$work/loaded"; expect_no_refusal; loaded=$(cat "$work/us"); peak=$(cat "$work/peak")
+    measure "$work/asked"; expect_no_refusal; asked=$(cat "$work/us")
+    tail -n "$queries" "$work/replies" >"$work/replies_of_$1"
+
+    awk -v policy="$1" -v modules="$(ls "$work/$1"/*.cil | wc -l)" -v bytes="$bytes" \
+        -v rules="$(wc -l <"$work/all_rules")" -v queries="$queries" \
+        -v installed="$installed" -v loaded="$loaded" -v asked="$asked" -v peak="$peak" 'BEGIN {
+        printf "%-6s %8d %9d %8d %11.1f %8.1f %12.0f %8.1f %12.1f\n", policy, modules, bytes, rules, installed / 1000,
+            (loaded - installed) / 1000, queries * 1000000 / (asked - loaded),
+            peak * 1024 / 1000000, peak * 1024 / bytes
+    }'
+}
+
+printf '%-6s %8s %9s %8s %11s %8s %12s %8s %12s\n' policy modules bytes rules 'INSTALL ms' 'LOAD ms' 'AV a second' \
+    'peak MB' 'peak / bytes'
+row flat "$work/queries"
 
 # Each reply has to allow what its rule allows.
-tail -n "$queries" "$work/replies" | paste -d ' ' - "$work/rules" | awk '{
+paste -d ' ' "$work/replies_of_flat" "$work/rules" | awk '{
     for (i = 9; i <= NF; i++) if (index("," $2 ",", "," $i ",") == 0) { print "a rule is not in force: " $0; exit 1 }
 }' >&2
 
-printf '%8s %9s %8s %11s %8s %12s %8s %12s\n' modules bytes rules 'INSTALL ms' 'LOAD ms' 'AV a second' 'peak MB' 'peak / bytes'
-awk -v modules="$(ls "$work/modules" | wc -l)" -v bytes="$(wc -c <"$work/policy")" -v rules="$(grep -c '^(allow' "$work/policy")" \
-    -v installed="$installed" -v loaded="$loaded" -v asked="$asked" -v queries="$queries" -v peak="$peak" 'BEGIN {
-    printf "%8d %9d %8d %11.1f %8.1f %12.0f %8.1f %12.1f\n", modules, bytes, rules, installed / 1000, (loaded - installed) / 1000,
-        queries * 1000000 / (asked - loaded), peak * 1024 / 1000000, peak * 1024 / bytes
-}'
+# The same queries, with the names that the types have in blocks, must have the same replies.
+if [ $# -eq 1 ]; then
+    "$here/distribution.py" --blocks "$work/blocks"
+    awk 'NR == FNR { name[$1] = $2; next }
+        { split($2, source, ":"); split($3, target, ":")
+          print $1, source[1] ":" source[2] ":" name[source[3]], target[1] ":" target[2] ":" name[target[3]], $4 }' \
+        "$work/blocks/names" "$work/queries" >"$work/queries_of_blocks"
+    row blocks "$work/queries_of_blocks"
+    if ! cmp "$work/replies_of_flat" "$work/replies_of_blocks" >&2; then
+        echo "the answers of both policies differ" >&2
+        exit 1
+    fi
+    echo "$queries answers of both policies are the same"
+fi

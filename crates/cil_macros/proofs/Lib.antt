@@ -4,6 +4,7 @@ pub mod BodyLemmas
 pub mod BodyMeaning
 pub mod CallLemmas
 pub mod CallOpening
+pub mod CallWordLemmas
 pub mod CalledMacros
 pub mod ChainLemmas
 pub mod DeclaredLemmas
@@ -26,6 +27,7 @@ pub mod PlacedWalk
 pub mod SameParameters
 pub mod ScopeLemmas
 pub mod ServingLemmas
+pub mod TurnLemmas
 pub mod ValueLemmas
 pub mod WalkLemmas
 pub mod WordsOfTexts

@@ -12,12 +12,13 @@ use Rattle.cil_macros.specs.DeclaredInBodies.{AreDeclared}
 use Rattle.cil_macros.specs.ExpandFaults.{ExpandFault}
 use Rattle.cil_macros.specs.Macros.{all_standing}
 use Rattle.cil_macros.specs.Openings.{AreOpenings}
-use Rattle.cil_macros.specs.Walks.{AreBrought, placed_in, written_in}
+use Rattle.cil_macros.specs.Walks.{AreBrought, AreInTurn, placed_in, written_in}
 
 -- all that is placed in a program in which nothing is wrong with the blocks and the calls
 pub record AreInstances (s : Standings) (b : Brought) : Type 0 where
   pub standings : AreStandings s
   pub brought : AreBrought s b
+  pub in_turn : AreInTurn s b.called.items b.bodies.items (length (entries_in s) + length b.called.items)
   pub lawful : (f : Fault) → ExpandFault (written_in s) (all_standing s) f → ⊥
   pub placed : Lists placed_cmp (IsPlaced (written_in s) (all_standing s)) (placed_in s b.called.items)
   pub few : length (entries_in s) + length b.called.items ≤ most_instances

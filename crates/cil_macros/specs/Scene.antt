@@ -14,7 +14,7 @@ use Rattle.cil_macros.specs.Meant.{kind_sign, meant_term}
 use Rattle.cil_macros.specs.Openings.{AreOpenings}
 use Rattle.cil_macros.specs.Parameters.{Parameter, argument_of}
 use Rattle.cil_macros.specs.Placed.{Bound, Placed, filled, is_served, meaning, put}
-use Rattle.cil_macros.specs.Walks.{AreBrought, placed_in, written_in}
+use Rattle.cil_macros.specs.Walks.{AreBrought, AreInTurn, placed_in, written_in}
 
 pub record IsScene (s : Scene) : Type 0 where
   pub standings : AreStandings s.spaces.now
@@ -31,6 +31,13 @@ pub record IsKnown (s : Scene) (os : List Opening) (at : ℕ) : Type 0 where
   pub within : at < length (entries_in s.spaces.now) + length s.brought.now.called.items
   pub opened : AreOpenings (written_in s.spaces.now) (all_standing s.spaces.now) (placed_of_scene s) s.brought.now.bodies.items os
   pub first : IsEarlier s.brought.now.called.items (length os) (length (entries_in s.spaces.now)) at
+
+-- each call that is unfolded has its body, and it is known what each body has from its call
+pub record IsOpened (s : Scene) (os : List Opening) : Type 0 where
+  pub scene : IsScene s
+  pub in_turn : AreInTurn s.spaces.now s.brought.now.called.items s.brought.now.bodies.items (length (entries_in s.spaces.now) + length s.brought.now.called.items)
+  pub opened : AreOpenings (written_in s.spaces.now) (all_standing s.spaces.now) (placed_of_scene s) s.brought.now.bodies.items os
+  pub many : length os ≡ length s.brought.now.bodies.items
 
 -- what an argument of a kind means, of the call that is placed there
 abbrev pub SaysValue : Scene → ℕ → Op → Term Word → Meant → Type 0

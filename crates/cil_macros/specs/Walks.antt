@@ -1,5 +1,5 @@
 -- The walk over calls: what it stands on, and what holds of what it has brought so far.
-use Rattle.std.specs.Prelude.{◌≡◌, ℕ, List, map, Option, Some, None, slice_get, MatchOption}
+use Rattle.std.specs.Prelude.{◌≡◌, ℕ, ◌<◌, List, map, Option, Some, None, slice_get, MatchOption}
 use Rattle.cil_syntax.specs.Program.{program_of}
 use Rattle.cil_syntax.specs.Scopes.{Scope}
 use Rattle.cil_syntax.specs.Written.{Written}
@@ -10,6 +10,7 @@ use Rattle.cil_blocks.specs.Namespaces.{space_at}
 use Rattle.cil_blocks.specs.Numbers.{AreWithin}
 use Rattle.cil_blocks.specs.Places.{AreStandings, Standings, spaces_in, statements_in}
 use Rattle.cil_macros.specs.declared.chain.Brought.{Brought}
+use Rattle.cil_macros.specs.declared.entry.Body.{Body}
 use Rattle.cil_macros.specs.declared.entry.Called.{Called}
 use Rattle.cil_macros.specs.declared.source.Source.{Source}
 use Rattle.cil_macros.specs.Calls.{Unfolded, called_macro, unfolded}
@@ -41,6 +42,27 @@ pub record AreBrought (s : Standings) (b : Brought) : Type 0 where
   pub bodies : AreBodies (written_in s) (all_standing s) b.called.items b.bodies.items
   pub spaces : AreBodySpaces (written_in s) (all_standing s) (spaces_in s) b.called.items b.bodies.items
   pub firsts : AreFirsts (all_standing s) b
+
+-- the body of this number is that of the call at a place
+pub record IsBodyOf (bs : List Body) (at number : ℕ) : Type 0 where
+  pub body : Body
+  pub is : slice_get bs number ≡ Some body
+  pub by_call : body.call ≡ at
+
+-- the call at a place has no body
+abbrev pub HasNoBody : List Body → ℕ → Type 0
+HasNoBody bs at = (number : ℕ) → IsBodyOf bs at number → ⊥
+
+-- each body is that of a later call than those before it
+abbrev pub AreCallsRising : List Body → Type 0
+AreCallsRising bs = (i j : ℕ) (a b : Body) → i < j → slice_get bs i ≡ Some a → slice_get bs j ≡ Some b → a.call < b.call
+
+-- the bodies are in the order of their calls, which are all those before a place that are unfolded
+pub record AreInTurn (s : Standings) (cs : List Called) (bs : List Body) (at : ℕ) : Type 0 where
+  pub rising : AreCallsRising bs
+  pub before : (i : ℕ) (b : Body) → slice_get bs i ≡ Some b → b.call < at
+  pub all : (k : ℕ) (p : Placed) (u : Unfolded) → k < at → slice_get (placed_in s cs) k ≡ Some p → unfolded (written_in s) (all_standing s) p ≡ Some u
+      → (number : ℕ) × IsBodyOf bs k number
 
 -- the macro that is called there, by its rank
 abbrev pub SaysMeant : Standings → List Called → ℕ → Option ℕ → Type 0

@@ -1,20 +1,166 @@
-//! The words of a call (a stand-in of this clone).
+//! The words of a call: that of its macro, and its arguments that are looked up. The body of a call is found by a search by
+//! halving among all bodies; its words cost a step for each argument.
 
-ghost use Rattle.std.specs.Prelude.{◌≡◌, IfOk, map, true};
-ghost use Rattle.cil_macros.specs.Calls.{is_call};
-ghost use Rattle.cil_macros.specs.Items.{all_placed, item_at, leaves, scoped_by};
+ghost use Rattle.std.specs.Prelude.{◌≡◌, ◌+◌, ◌<◌, ◌++◌, IfOk, IfSome, List, MatchOption, OnOk, Some, length, map, slice_get};
+ghost use Rattle.cil_syntax.specs.Said.{args_of};
+ghost use Rattle.cil_blocks.specs.Contents.{first_word};
+ghost use Rattle.cil_blocks.specs.Places.{entries_in};
+ghost use Rattle.cil_macros.specs.Calls.{unfolded};
+ghost use Rattle.cil_macros.specs.Items.{argument_words, call_words, is_text, macro_words, scoped_by, unfolded_words, word_in_argument};
+ghost use Rattle.cil_macros.specs.Macros.{all_standing};
+ghost use Rattle.cil_macros.specs.Meant.{bounds_by, kind_sign, meant_term};
+ghost use Rattle.cil_macros.specs.Parameters.{macro_parameters};
+ghost use Rattle.cil_macros.specs.Placed.{Placed};
+ghost use Rattle.cil_macros.specs.Scene.{IsOpened, IsScene, placed_of_scene};
+ghost use Rattle.cil_macros.specs.Walks.{AreCallsRising, HasNoBody, IsBodyOf, written_in};
 
+use crate::arguments::{listed, sign_of};
+use crate::chain::{standing_statement, statement_at};
+use crate::entry::Body;
+use crate::meant::Meant;
 use crate::openings::Opening;
 use crate::placed_word::PlacedWord;
 use crate::scene::Scene;
 use cil_modset::NoMemory;
+use cil_syntax::{Excerpt, Op, Sign, Statement, Word, word_and_terms};
 use std::alloc::Global;
 
+/// The words of the call at a place: that of its macro and, where the call is unfolded, its arguments that are looked up.
 pub(crate) fn call_words_at<'a>(
     alloc: Global,
     scene: &Scene<'_, '_, 'a>,
     openings: &[Opening<'a>],
     at: usize,
-) -> Result<Vec<PlacedWord<'a>>, NoMemory> {
-    Ok(Vec::new(alloc))
+) -> Result<Vec<PlacedWord<'a>>, NoMemory>
+    requires opened { IsOpened scene.now openings.now }
+    requires within { at < length (entries_in scene.now.spaces.now) + length scene.now.brought.now.called.items }
+    ensures { IfOk result (λ words. (p : Placed) → slice_get (placed_of_scene scene.now) at ≡ Some p
+        → map (scoped_by (placed_of_scene scene.now)) words.items ≡ call_words (written_in scene.now.spaces.now) (all_standing scene.now.spaces.now) p p.standing.statement.statement.args) }
+{
+    let mut words = Vec::new(alloc);
+    add_macro(scene, at, &mut words)?;
+    add_arguments(scene, openings, at, &mut words)?;
+    Ok(words)
+}
+
+/// Adds the word of the macro that the statement at a place calls. It is looked up where the call is.
+fn add_macro<'a>(
+    scene: &Scene<'_, '_, 'a>,
+    at: usize,
+    words: &mut Vec<PlacedWord<'a>>,
+) -> Result<(), NoMemory>
+    requires scene { IsScene scene.now }
+    requires within { at < length (entries_in scene.now.spaces.now) + length scene.now.brought.now.called.items }
+    ensures { OnOk result ((p : Placed) → slice_get (placed_of_scene scene.now) at ≡ Some p
+        → map (scoped_by (placed_of_scene scene.now)) words.new.items ≡ map (scoped_by (placed_of_scene scene.now)) words.old.items ++ macro_words p (first_word p.standing.statement.statement.args)) }
+{
+    let spaces = scene.spaces;
+    let number = statement_at(spaces.entries(), scene.brought.called.as_slice(), at);
+    let Some(call) = spaces.statements().get(number) else {
+        return Ok(());
+    };
+    let Some(front) = word_and_terms(call.args.as_slice(), call.at.module) else {
+        return Ok(());
+    };
+    words.push(PlacedWord {
+        word: front.word,
+        scope: Some(at),
+    })?;
+    Ok(())
+}
+
+/// Adds the arguments of the call at a place that are looked up, where the call is unfolded.
+fn add_arguments<'a>(
+    scene: &Scene<'_, '_, 'a>,
+    openings: &[Opening<'a>],
+    at: usize,
+    words: &mut Vec<PlacedWord<'a>>,
+) -> Result<(), NoMemory>
+    requires opened { IsOpened scene.now openings.now }
+    requires within { at < length (entries_in scene.now.spaces.now) + length scene.now.brought.now.called.items }
+    ensures { OnOk result ((p : Placed) → slice_get (placed_of_scene scene.now) at ≡ Some p
+        → map (scoped_by (placed_of_scene scene.now)) words.new.items ≡ map (scoped_by (placed_of_scene scene.now)) words.old.items
+        ++ unfolded_words (unfolded (written_in scene.now.spaces.now) (all_standing scene.now.spaces.now) p)) }
+{
+    let spaces = scene.spaces;
+    let bodies = scene.brought.bodies.as_slice();
+    let Some(number) = body_of(bodies, at) else {
+        return Ok(());
+    };
+    let called = standing_statement(spaces.entries(), scene.brought.bodies[number].called);
+    let Some(called) = spaces.statements().get(called) else {
+        return Ok(());
+    };
+    add_looked_up(called, openings[number].arguments.as_slice(), words)?;
+    Ok(())
+}
+
+/// The number of the body of the call at a place, if it has one.
+fn body_of(bodies: &[Body], at: usize) -> Option<usize>
+    requires { AreCallsRising bodies.now }
+    ensures body { MatchOption result (HasNoBody bodies.now at) (IsBodyOf bodies.now at) }
+    ensures within { IfSome result (λ number. number < length bodies.now) }
+{
+    let number = bodies.partition_point(|body| body.call < at);
+    let body = bodies.get(number)?;
+    if body.call != at {
+        return None;
+    }
+    Some(number)
+}
+
+/// Adds those of the arguments of a macro that are looked up.
+fn add_looked_up<'a>(
+    called: &Statement<'a>,
+    arguments: &[Meant<'a>],
+    words: &mut Vec<PlacedWord<'a>>,
+) -> Result<(), NoMemory>
+    ensures { OnOk result ((ps : List Placed) → map (scoped_by ps) words.new.items
+        ≡ map (scoped_by ps) words.old.items ++ argument_words (bounds_by ps (macro_parameters (args_of called.now)) arguments.now)) }
+{
+    let mut taken = 0;
+    for term in listed(called) {
+        if let Some(parameter) = term.parameter(called.at.module) {
+            let Some(argument) = arguments.get(taken) else {
+                return Ok(());
+            };
+            add_argument(parameter.kind, argument, words)?;
+            taken += 1;
+        }
+    }
+    Ok(())
+}
+
+/// Adds an argument of a kind, if it is looked up: a word that is no text.
+fn add_argument<'a>(
+    kind: Op,
+    argument: &Meant<'a>,
+    words: &mut Vec<PlacedWord<'a>>,
+) -> Result<(), NoMemory>
+    ensures { OnOk result ((ps : List Placed) → map (scoped_by ps) words.new.items
+        ≡ map (scoped_by ps) words.old.items ++ word_in_argument (meant_term ps (kind_sign kind) argument.now)) }
+{
+    let sign = sign_of(kind);
+    if is_text(sign) {
+        return Ok(());
+    }
+    let Some(place) = argument.scope else {
+        return Ok(());
+    };
+    words.push(PlacedWord {
+        word: Word {
+            at: argument.at,
+            bytes: Excerpt::of(argument.bytes.as_slice()),
+            sign,
+        },
+        scope: Some(place),
+    })?;
+    Ok(())
+}
+
+/// Whether a word of a sign is a text, which is not looked up.
+fn is_text(sign: Sign) -> bool
+    ensures { result ≡ is_text sign }
+{
+    matches!(sign, Sign::Text)
 }

@@ -8,7 +8,7 @@ ghost use Rattle.cil_sexpr.specs.Rising.{IsOver};
 ghost use Rattle.cil_blocks.specs.Places.{entries_in};
 ghost use Rattle.cil_macros.specs.Calls.{IsPlaced, placed_cmp};
 ghost use Rattle.cil_macros.specs.Macros.{all_standing};
-ghost use Rattle.cil_macros.specs.Walks.{AreBrought, IsSource, called_by, placed_in, written_in};
+ghost use Rattle.cil_macros.specs.Walks.{AreBrought, AreInTurn, IsSource, called_by, placed_in, written_in};
 
 use crate::calls::{space_at, unfolded_at};
 use crate::chain::{Brought, keep_first, spot_of, standing_statement};
@@ -25,6 +25,7 @@ pub fn walk(alloc: Global, source: &Source, limit: usize) -> Result<Option<Broug
     requires { IsSource source.now }
     ensures all { IfOk result (λ o. IfSome o (λ b. Lists placed_cmp (IsPlaced (written_in source.now.spaces.now) (all_standing source.now.spaces.now)) (placed_in source.now.spaces.now b.called.items))) }
     ensures brought { IfOk result (λ o. IfSome o (AreBrought source.now.spaces.now)) }
+    ensures turn { IfOk result (λ o. IfSome o (λ b. AreInTurn source.now.spaces.now b.called.items b.bodies.items (length (entries_in source.now.spaces.now) + length b.called.items))) }
     ensures few { IfOk result (λ o. IfSome o (λ b. length (entries_in source.now.spaces.now) + length b.called.items ≤ limit)) }
     ensures many { IfOk result (λ o. IfNone o (IsOver placed_cmp (IsPlaced (written_in source.now.spaces.now) (all_standing source.now.spaces.now)) limit)) }
 {
@@ -52,7 +53,7 @@ impl Brought {
     ghost use Rattle.cil_macros.specs.Macros.{all_standing};
     ghost use Rattle.cil_macros.specs.Opens.{opens_placed};
     ghost use Rattle.cil_macros.specs.Placed.{Placed};
-    ghost use Rattle.cil_macros.specs.Walks.{AreBrought, IsSource, called_by, placed_in, written_in};
+    ghost use Rattle.cil_macros.specs.Walks.{AreBrought, AreInTurn, IsSource, called_by, placed_in, written_in};
 
     /// Adds what the statement at a place opens: where it is a call that is unfolded, the statements directly in its macro.
     fn open(
@@ -64,8 +65,10 @@ impl Brought {
     ) -> Result<(), NoMemory>
         requires source { IsSource source.now }
         requires brought { AreBrought source.now.spaces.now self.old }
+        requires turn { AreInTurn source.now.spaces.now self.old.called.items self.old.bodies.items at }
         requires within { at < length (entries_in source.now.spaces.now) + length self.old.called.items }
         ensures brought { OnOk result (AreBrought source.now.spaces.now self.new) }
+        ensures turn { OnOk result (AreInTurn source.now.spaces.now self.new.called.items self.new.bodies.items (at + 1)) }
         ensures opened { OnOk result ((p : Placed) → slice_get (placed_in source.now.spaces.now self.old.called.items) at ≡ Some p
             → placed_in source.now.spaces.now self.new.called.items ≡ placed_in source.now.spaces.now self.old.called.items ++ opens_placed (written_in source.now.spaces.now) (all_standing source.now.spaces.now) p) }
     {

@@ -12,10 +12,9 @@ use Rattle.cil_syntax.specs.declared.kind.Sign.TheVariants as signs
 use Rattle.cil_syntax.specs.Scopes.{Namespace, asked, spaces_asked, ScopedWord}
 use Rattle.std.proofs.Math.Bool.{or-false}
 use Rattle.cil_names.specs.declared.entry.Entry.{Entry}
-use Rattle.cil_names.specs.declared.instance.Instance.{Instance}
 use Rattle.cil_blocks.specs.declared.namespaces.Space.{Space}
-use Rattle.cil_names.specs.Entries.{AreEntries, AreOrdered, IsAnswer, IsNamed, candidate, candidates_of, is_declared_at, is_declared_in, is_entry_of, items_of, key_cmp, key_of, listed, place_where, rank}
-use Rattle.cil_macros.specs.Item.{OptSet}
+use Rattle.cil_names.specs.Entries.{AreEntries, AreOrdered, IsAnswer, IsNamed, candidate, candidates_of, is_declared_at, is_declared_in, is_entry_of, key_cmp, key_of, listed, place_where, rank}
+use Rattle.cil_macros.specs.Item.{Item, OptSet}
 use Rattle.cil_names.specs.Resolves.{found_in, has}
 use Rattle.cil_syntax.specs.Kinds.{is_wanted}
 use Rattle.cil_blocks.specs.Namespaces.{AreNamespaces}
@@ -24,7 +23,7 @@ use Rattle.cil_names.proofs.CandidateLemmas.{parts_of, place_is}
 use Rattle.cil_names.proofs.OrderLemmas.{key_total, one_key}
 use Rattle.std.proofs.lemmas.Option.{slice_get_within}
 use Rattle.cil_names.proofs.SearchLemmas.{one_number}
-use Rattle.cil_names.proofs.SpaceLemmas.{same_number}
+use Rattle.cil_blocks.proofs.NamespaceLemmas.{same_number}
 
 -- ---- the kinds of one word are of one name space
 
@@ -196,12 +195,12 @@ module _ (ss : List Space) (are : AreNamespaces ss) (xs : List Item) (es : List 
   known_live : (n : Namespace) (d : ℕ) → known n ≡ Some d → there n ≡ live d
   known_live n d k =
       let (x, at, t) = place_is (is_entry_of ss name sign n) es d k in
-      has_as ss is es entries s name sign n
+      has_as ss xs es entries s name sign n
       ∙ both_at (is_entry_of ss name sign n) (is_declared_in s) es (one_entry ss are es entries.ordered name sign n) d x at t
       ∙ ap (λ o. option_map_or (is_declared_in s) o false) (sym at)
 
   unknown_gone : (n : Namespace) → known n ≡ None → there n ≡ false
-  unknown_gone n k = has_as ss is es entries s name sign n ∙ none_of (is_entry_of ss name sign n) (is_declared_in s) es (none_where (is_entry_of ss name sign n) es k)
+  unknown_gone n k = has_as ss xs es entries s name sign n ∙ none_of (is_entry_of ss name sign n) (is_declared_in s) es (none_where (is_entry_of ss name sign n) es k)
 
   abbrev Found : List Namespace → Option ℕ → Type 0
   Found ns r = MatchOption r (find there ns ≡ None) (λ d. (n : Namespace) × (find there ns ≡ Some n) × (known n ≡ Some d) × (live d ≡ true))
@@ -240,14 +239,14 @@ module _ (ss : List Space) (are : AreNamespaces ss) (xs : List Item) (es : List 
       }
 
   from_found : (r : Option ℕ)
-      → Found ss are is es entries s (asked w.bytes).name w.sign (spaces_asked (asked w.bytes) w.scope) r → IsAnswer ss xs es s w r
+      → Found ss are xs es entries s (asked w.bytes).name w.sign (spaces_asked (asked w.bytes) w.scope) r → IsAnswer ss xs es s w r
   unfolding found_in
   from_found None none = none
   from_found (Some d) (n, found, k, l) = name_there n d found k l
 
   pub answer_is : IsAnswer ss xs es s w (find (is_declared_at s es) (candidates_of ss es w))
   unfolding candidates_of
-  answer_is = from_found _ (first_found ss are is es entries s (asked w.bytes).name w.sign (spaces_asked (asked w.bytes) w.scope))
+  answer_is = from_found _ (first_found ss are xs es entries s (asked w.bytes).name w.sign (spaces_asked (asked w.bytes) w.scope))
 
 -- ---- an entry that is named is there
 

@@ -17,7 +17,7 @@ use Rattle.cil_syntax.specs.Kinds.{is_wanted}
 use Rattle.cil_blocks.specs.Namespaces.{AreNamespaces, HasNoNumber, IsNumber, space_at}
 use Rattle.cil_names.specs.Spaces.{IsAskedAt, IsAskedNowhere}
 use Rattle.cil_names.proofs.EntryLemmas.{parts_fit, they_fit}
-use Rattle.cil_names.proofs.SpaceLemmas.{same_number}
+use Rattle.cil_blocks.proofs.NamespaceLemmas.{same_number}
 
 module _ {X : Type 0} (p : X → Bool) where
   passed : (x : X) (xs : List X) → p x ≡ true → place_where p (x ∷ xs) ≡ Some 0

@@ -15,11 +15,10 @@ use Rattle.cil_syntax.specs.Scopes.{asked, same_space, ScopedWord}
 use Rattle.cil_syntax.proofs.DecidedEquality.{spaces_decide}
 use Rattle.cil_names.proofs.DeclareDecided.{symbol_by}
 use Rattle.cil_names.specs.declared.entry.Entry.{Entry}
-use Rattle.cil_names.specs.declared.instance.Instance.{Instance}
 use Rattle.cil_blocks.specs.declared.namespaces.Space.{Space}
 use Rattle.cil_names.specs.Declarations.{Symbol, by, declared_by}
-use Rattle.cil_names.specs.Entries.{AreEntries, HasNoEntry, IsAnswer, IsEntryAt, IsNamed, items_of}
-use Rattle.cil_macros.specs.Item.{OptSet, is_enabled, nobody}
+use Rattle.cil_names.specs.Entries.{AreEntries, HasNoEntry, IsAnswer, IsEntryAt, IsNamed}
+use Rattle.cil_macros.specs.Item.{Item, OptSet, is_enabled, nobody}
 use Rattle.cil_names.specs.Numbers.{symbol_of}
 use Rattle.cil_names.specs.PermissionWords.{has_permission_at}
 use Rattle.cil_names.specs.Resolves.{Permission as APermission, fits, found_in, gives_permission, has_permission, listed_permissions, resolves}
@@ -28,13 +27,13 @@ use Rattle.cil_blocks.specs.Namespaces.{AreNamespaces, space_at}
 use Rattle.cil_names.specs.Unresolved.{ArePermissions, listed_at}
 use Rattle.cil_names.proofs.CandidateLemmas.{parts_of}
 use Rattle.cil_names.proofs.EntryLemmas.{parts_fit, they_fit}
-use Rattle.cil_names.proofs.SpaceLemmas.{same_number}
+use Rattle.cil_blocks.proofs.NamespaceLemmas.{same_number}
 
 -- an answer tells whether the word is found
 pub answered_found : (ss : List Space) (xs : List Item) (es : List Entry) (s : OptSet) (w : ScopedWord) (r : Option ℕ) → IsAnswer ss xs es s w r
     → is_some r ≡ is_some (found_in xs s w)
-answered_found ss is es s w None none = ap is_some (sym none)
-answered_found ss is es s w (Some d) named = ap is_some (sym named.found)
+answered_found ss xs es s w None none = ap is_some (sym none)
+answered_found ss xs es s w (Some d) named = ap is_some (sym named.found)
 
 module _ (ss : List Space) (are : AreNamespaces ss) (xs : List Item) (es : List Entry) (entries : AreEntries ss xs es) where
   -- a permission is given to a class that is declared
@@ -97,5 +96,5 @@ module _ (ss : List Space) (are : AreNamespaces ss) (xs : List Item) (es : List 
 -- a permission of a class that is missing does not resolve
 pub asked_of_none : (ss : List Space) (xs : List Item) (es : List Entry) (c : ScopedWord) → IsAnswer ss xs es nobody c None → (s : OptSet) (q : ScopedWord)
     → resolves xs s (APermission c q) ≡ false
-asked_of_none ss is es c none s q =
+asked_of_none ss xs es c none s q =
     ap (λ o. option_map_or (λ n. has_permission xs (record { space = n; name = (asked c.bytes).name }) q.bytes) o false) none

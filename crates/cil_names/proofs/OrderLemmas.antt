@@ -6,16 +6,6 @@ use Rattle.std.proofs.lemmas.Cmp.{then_total, on_total, nat_cmp_total, nat_list_
 use Rattle.std.proofs.lemmas.Map.Lookups.{exact_bytes}
 use Rattle.cil_sexpr.specs.Paths.{both_equal, same_by}
 use Rattle.cil_names.specs.Entries.{Key, key_cmp}
-use Rattle.cil_names.specs.Spaces.{Place, place_cmp}
-
-pub place_total : IsTotalOrder place_cmp
-place_total = then_total (on_total (λ (p : Place). p.outer) nat_cmp_total) (on_total (λ (p : Place). p.name) nat_list_cmp_total)
-
-same_place : (a b : Place) → a.outer ≡ b.outer → a.name ≡ b.name → a ≡ b
-same_place a b p q = λ i. record { outer = p i; name = q i }
-
-pub one_place : (a b : Place) → place_cmp a b ≡ Equal → a ≡ b
-one_place a b e = let both = both_equal _ _ e in same_place a b (same_by _ _ both.0) (exact_bytes _ _ both.1)
 
 pub key_total : IsTotalOrder key_cmp
 key_total =

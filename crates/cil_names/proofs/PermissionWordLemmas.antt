@@ -6,10 +6,9 @@ use Rattle.std.specs.List.{list_all, list_any}
 use Rattle.std.specs.Option.{is_some, option_map_or}
 use Rattle.std.proofs.lemmas.Bool.{cases_Bool, true≢false}
 use Rattle.cil_names.specs.declared.entry.Entry.{Entry}
-use Rattle.cil_names.specs.declared.instance.Instance.{Instance}
 use Rattle.cil_blocks.specs.declared.namespaces.Space.{Space}
-use Rattle.cil_names.specs.Entries.{AreEntries, IsAnswer, IsNamed, is_declared_at, is_declared_in, items_of, listed}
-use Rattle.cil_macros.specs.Item.{OptSet, nobody}
+use Rattle.cil_names.specs.Entries.{AreEntries, IsAnswer, IsNamed, is_declared_at, is_declared_in, listed}
+use Rattle.cil_macros.specs.Item.{Item, OptSet, nobody}
 use Rattle.cil_sexpr.specs.Searches.{or_second}
 use Rattle.cil_syntax.specs.Scopes.{ScopedWord}
 use Rattle.cil_names.specs.Laws.{WantedMeansWhatItNames}
@@ -57,10 +56,10 @@ module _ (ss : List Space) (are : AreNamespaces ss) (xs : List Item) (es : List 
   -- a permission resolves where the class that its class word names has it
   module _ (c : ScopedWord) (q : ScopedWord) where
     pub asked_unnamed : None ≡ meant ss es nobody c → false ≡ resolves xs s (APermission c q)
-    asked_unnamed none = sym (asked_of_none ss is es c (subst (IsAnswer ss xs es nobody c) (sym none) (answer_is ss are is es entries nobody c)) s q)
+    asked_unnamed none = sym (asked_of_none ss xs es c (subst (IsAnswer ss xs es nobody c) (sym none) (answer_is ss are xs es entries nobody c)) s q)
 
     pub asked_named : (d : ℕ) → Some d ≡ meant ss es nobody c → resolves xs s (APermission c q) ≡ has_permission_at ss es xs q.bytes d
-    asked_named d some = asked_of_class ss are is es entries c d (subst (IsAnswer ss xs es nobody c) (sym some) (answer_is ss are is es entries nobody c)) s q
+    asked_named d some = asked_of_class ss are xs es entries c d (subst (IsAnswer ss xs es nobody c) (sym some) (answer_is ss are xs es entries nobody c)) s q
 
   word_answer : (w : ScopedWord) (r : Option ℕ) → IsAnswer ss xs es s w r → IsAnswerFor ss xs es s (AWord w) r
   word_answer w None none = ap is_some none
@@ -72,14 +71,14 @@ module _ (ss : List Space) (are : AreNamespaces ss) (xs : List Item) (es : List 
 
     by_has : (d : ℕ) → IsNamed ss xs es nobody c d → (b : Bool) → has d ≡ b → IsAnswerFor ss xs es s (APermission c p) (cond b (Some d) None)
     by_has d named true t = (named, t)
-    by_has d named false f = asked_of_class ss are is es entries c d named s p ∙ f
+    by_has d named false f = asked_of_class ss are xs es entries c d named s p ∙ f
 
     by_class : (m : Option ℕ) → IsAnswer ss xs es nobody c m → IsAnswerFor ss xs es s (APermission c p) (find has (listed m))
-    by_class None none = asked_of_none ss is es c none s p
+    by_class None none = asked_of_none ss xs es c none s p
     by_class (Some d) named = by_has d named (has d) refl
 
     pub permission_answer : IsAnswerFor ss xs es s (APermission c p) (class_with ss es xs c p)
-    permission_answer = by_class (meant ss es nobody c) (answer_is ss are is es entries nobody c)
+    permission_answer = by_class (meant ss es nobody c) (answer_is ss are xs es entries nobody c)
 
     declared_too : (r : Option ℕ) → IsAnswerFor ss xs es s (APermission c p) r → r ≡ find (is_declared_at s es) (listed r)
     declared_too None none = refl
@@ -88,9 +87,9 @@ module _ (ss : List Space) (are : AreNamespaces ss) (xs : List Item) (es : List 
         (ap (λ o. option_map_or (is_declared_in s) o false) named.at ∙ always_declared s named.entry.always named.entry.rounds.items named.live))
 
   wanted_answer : (w : Wanted) → IsAnswerFor ss xs es s w (wanted_meaning ss es xs s w)
-  wanted_answer (AWord w) = word_answer w (meant ss es s w) (answer_is ss are is es entries s w)
+  wanted_answer (AWord w) = word_answer w (meant ss es s w) (answer_is ss are xs es entries s w)
   wanted_answer (APermission c p) =
       subst (IsAnswerFor ss xs es s (APermission c p)) (declared_too c p (class_with ss es xs c p) (permission_answer c p)) (permission_answer c p)
 
 pub wanted_means : WantedMeansWhatItNames
-wanted_means = λ ss is es s w are entries. wanted_answer ss are is es entries s w
+wanted_means = λ ss xs es s w are entries. wanted_answer ss are xs es entries s w

@@ -4,16 +4,15 @@ use Rattle.std.specs.Prelude.{◌&&◌, nat_le}
 use Rattle.std.proofs.lemmas.List.Elements.{All-cons}
 use Rattle.std.proofs.lemmas.Bool.{and_parts, true≢false}
 use Rattle.std.proofs.lemmas.Bool.Decides.{eqb_tells}
-use Rattle.cil_sexpr.specs.Places.{get_contains, some_at as number_there}
+use Rattle.cil_sexpr.specs.Places.{get_contains}
 use Rattle.cil_syntax.specs.Spelling.{begins_name, goes_on_name, is_name, longest_name}
-use Rattle.std.proofs.Common.{rules, ◌≡◌, ℕ, zero, suc, length, get_or, ◌==◌, Bool, true, false, List, [], ◌∷◌, ◌++◌, refl, sym, ◌∙◌, ap, subst, inl, inr, arith}
+use Rattle.std.proofs.Common.{rules, ◌≡◌, ℕ, length, get_or, ◌==◌, Bool, true, false, List, [], ◌∷◌, ◌++◌, refl, sym, ◌∙◌, ap, subst, inl, inr}
 use Rattle.std.specs.Prelude.{Contains, reverse}
 use Rattle.std.specs.List.{All, join_with_byte, slice_split}
 use Rattle.std.proofs.lemmas.List.{reverse-reverse}
 use Rattle.std.proofs.lemmas.List.Splits.{slice_split_at, slice_split_none}
 use Rattle.cil_sexpr.specs.Lists.{contains_here, contains_later}
 use Rattle.cil_syntax.specs.Written.{qualified}
-use Rattle.std.proofs.Common.{◌≤◌}
 use Rattle.std.proofs.lemmas.List.{reverse-append}
 use Rattle.std.proofs.lemmas.List.Elements.{Contains-append_cases}
 use Rattle.std.specs.Prelude.{Some, slice_get}
@@ -28,7 +27,7 @@ use Rattle.cil_names.specs.Numbers.{AreApart, AreNumbers, ArePlain, ArePlainName
 use Rattle.cil_blocks.specs.Namespaces.{AreNamespaces, space_at}
 use Rattle.cil_names.proofs.OrderLemmas.{key_total, one_key}
 use Rattle.cil_names.proofs.SearchLemmas.{one_number}
-use Rattle.cil_names.proofs.SpaceLemmas.{global_at, next_at, same_number}
+use Rattle.cil_blocks.proofs.NamespaceLemmas.{same_number}
 
 abbrev pub is_dot : ℕ → Bool
 is_dot b = b == 46
@@ -81,19 +80,6 @@ plain_name (b ∷ bs) e =
 -- ---- the names of entries and namespaces
 
 module _ (ss : List Space) (are : AreNamespaces ss) (es : List Entry) (ordered : AreOrdered ss es) (plain : ArePlainNames ss es) where
-  -- all names of a namespace are plain
-  plain_space : (n k : ℕ) → k ≤ n → k ≤ length ss → ArePlain (space_at ss k)
-  plain_space n zero few within = subst ArePlain (sym (global_at ss are)) (λ x c. absurd (contains_none x c))
-  plain_space zero (suc i) few within = absurd (omega (arith, few))
-  plain_space (suc n) (suc i) few within =
-      let (s, at) = number_there ss i (omega (arith, within)) in
-      let b = are.behind i s at in
-      subst ArePlain (sym (next_at ss are i s at))
-      (λ x c. elim (contains_cases x s.name (space_at ss s.outer) c) [
-        | inl e ↦ subst IsPlain e (plain_name s.name (plain.spaces s (get_contains ss i s at)))
-        | inr d ↦ plain_space n s.outer (omega (arith, b, few)) (omega (arith, b, within)) x d
-      ])
-
   turned_plain : (l : List (List ℕ)) → ArePlain l → ArePlain (reverse l)
   turned_plain [] p = p
   turned_plain (x ∷ l) p =
@@ -108,7 +94,7 @@ module _ (ss : List Space) (are : AreNamespaces ss) (es : List Entry) (ordered :
       turned_plain (e.name ∷ space_at ss e.space)
       (λ x d. elim (contains_cases x e.name (space_at ss e.space) d) [
         | inl p ↦ subst IsPlain p (plain_name e.name (plain.entries e c))
-        | inr q ↦ plain_space (length ss) e.space (ordered.within e c) (ordered.within e c) x q
+        | inr q ↦ plain_name x (plain.spaces e x c q)
       ])
 
   same_key : (d e : Entry) → d.space ≡ e.space → d.name ≡ e.name → rank d.kind ≡ rank e.kind → key_of d ≡ key_of e

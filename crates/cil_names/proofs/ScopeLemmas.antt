@@ -13,8 +13,8 @@ use Rattle.cil_syntax.proofs.AskedLemmas.{is_parted}
 use Rattle.cil_names.specs.declared.entry.Entry.{Entry}
 use Rattle.cil_blocks.specs.declared.namespaces.Space.{Space}
 use Rattle.cil_names.specs.Entries.{candidate, candidates_of, listed, numbers_asked, scope_of, scoped}
-use Rattle.cil_blocks.specs.Namespaces.{AreNamespaces, space_at}
-use Rattle.cil_names.proofs.SpaceLemmas.{global_at}
+use Rattle.cil_blocks.specs.Namespaces.{space_at}
+use Rattle.cil_blocks.proofs.NamespaceLemmas.{global_at}
 
 -- the entry that a word could name in one namespace
 abbrev pub could_name : List Space → List Entry → Word → ℕ → List ℕ
@@ -28,7 +28,7 @@ asked_there ss es w global path taken k r is = ap listed (is (asked w.bytes).nam
 
 -- ---- all namespaces
 
-module _ (ss : List Space) (are : AreNamespaces ss) (es : List Entry) (w : Word) where
+module _ (ss : List Space) (es : List Entry) (w : Word) where
   each_name : (ks : List ℕ) → flat_map (λ n. listed (candidate ss es (asked w.bytes).name w.sign n)) (map (λ n. (asked w.bytes).inner ++ n) (scope_of ss ks))
       ≡ flat_map (could_name ss es w) ks
   each_name [] = refl
@@ -39,7 +39,7 @@ module _ (ss : List Space) (are : AreNamespaces ss) (es : List Entry) (w : Word)
   unfolding candidates_of
   whole scope true e =
       ap (λ b. flat_map (λ n. listed (candidate ss es (asked w.bytes).name w.sign n)) (cond b ((asked w.bytes).inner ∷ []) (map (λ n. (asked w.bytes).inner ++ n) (scope_of ss scope)))) e
-      ∙ ap (λ n. listed (candidate ss es (asked w.bytes).name w.sign n) ++ []) (sym (append-nil (asked w.bytes).inner) ∙ ap (λ n. (asked w.bytes).inner ++ n) (sym (global_at ss are)))
+      ∙ ap (λ n. listed (candidate ss es (asked w.bytes).name w.sign n) ++ []) (sym (append-nil (asked w.bytes).inner) ∙ ap (λ n. (asked w.bytes).inner ++ n) (sym (global_at ss)))
   whole scope false e =
       ap (λ b. flat_map (λ n. listed (candidate ss es (asked w.bytes).name w.sign n)) (cond b ((asked w.bytes).inner ∷ []) (map (λ n. (asked w.bytes).inner ++ n) (scope_of ss scope)))) e
       ∙ each_name scope

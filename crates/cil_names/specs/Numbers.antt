@@ -1,13 +1,12 @@
 -- The numbers of declared symbols: for each kind that has a section, the place of the qualified name among all of
 -- that kind. This project's profile.
-use Rattle.std.specs.Prelude.{◌≡◌, ℕ, Bool, true, false, ◌&&◌, nat_eq, List, [], ◌∷◌, ◌++◌, Contains, Some, slice_get, get_or, reverse, if◌then◌else◌}
-use Rattle.std.specs.List.{flat_map}
+use Rattle.std.specs.Prelude.{◌≡◌, ℕ, Bool, true, false, ◌&&◌, nat_eq, List, [], ◌∷◌, Contains, Some, slice_get, get_or, if◌then◌else◌}
 use Rattle.std.specs.Option.{unwrap_or}
 use Rattle.cil_sexpr.specs.Lists.{Lists, text_cmp}
 use Rattle.cil_syntax.specs.declared.kind.Kind.{Kind}
 use Rattle.cil_syntax.specs.declared.kind.Kind.TheVariants as kinds
 use Rattle.cil_syntax.specs.Spelling.{is_name, same_bytes}
-use Rattle.cil_syntax.specs.Scopes.{IsDotless, Namespace}
+use Rattle.cil_syntax.specs.Scopes.{IsDotless}
 use Rattle.cil_names.specs.declared.entry.Entry.{Entry}
 use Rattle.cil_names.specs.declared.numbers.Sections.{Sections}
 use Rattle.cil_blocks.specs.declared.namespaces.Space.{Space}
@@ -16,10 +15,6 @@ use Rattle.cil_names.specs.Entries.{is_declared_in, place_where}
 use Rattle.cil_macros.specs.Item.{OptSet}
 use Rattle.cil_syntax.specs.Kinds.{kind_number}
 use Rattle.cil_blocks.specs.Namespaces.{space_at}
-
--- the names of a namespace from the outermost on, each with a dot behind it
-abbrev pub dotted : Namespace → List ℕ
-dotted n = flat_map (λ x. x ++ 46 ∷ []) (reverse n)
 
 -- the symbol that an entry declares
 abbrev pub symbol_of : List Space → Entry → Symbol

@@ -1,4 +1,4 @@
-//! What words name: namespaces as numbers, declared names as entries, and look-up in scopes.
+//! What words name: declared names as entries, and look-up in scopes. Namespaces are numbers, as cil_blocks has them.
 //!
 //! Start at `gather.rt` (`declare`) and `names.rt` (`Names::resolve`, `Names::candidates`). `fill.rt` looks up each word of
 //! each statement once, and reports those that name nothing; `numbers.rt` numbers the declared symbols by their names.
@@ -28,18 +28,16 @@ mod permission_word;
 mod permissions;
 mod row;
 mod run;
-mod space;
 mod spelled;
 mod table;
 
 pub use entry::Entry;
 pub use fill::words_of;
 pub use gather::declare;
-pub use instance::{Instance, Placing, are_placed};
+pub use look::are_numbers;
 pub use meaning::Meaning;
 pub use names::Names;
 pub use numbers::{Numbering, Sections, numbered};
 pub use opt_set::OptSet;
 pub use permissions::permissions_of;
-pub use space::{Space, Spaces};
 pub use table::{Lookup, Words};

@@ -1,22 +1,35 @@
-//! Look-up, over slices of namespaces and entries.
+//! Look-up, over namespaces and a slice of entries.
 
-ghost use Rattle.std.specs.Prelude.{◌≡◌, ◌∷◌, List, MatchOption, length, ℕ, ◌≤◌, ◌++◌, All, IfOk, OnOk, IsTrue, find};
+ghost use Rattle.std.specs.Prelude.{◌≡◌, ◌↔◌, ◌∷◌, List, MatchOption, length, ℕ, ◌≤◌, ◌++◌, All, IfOk, OnOk, IsTrue, find};
 ghost use Rattle.std.specs.List.{list_all, list_any};
 ghost use Rattle.std.specs.List.Sorted.{IsStrictlySortedBy};
 ghost use Rattle.std.specs.Ordering.{on};
 ghost use Rattle.cil_syntax.specs.Scopes.{IsDotless, names_backwards};
 ghost use Rattle.cil_names.specs.Entries.{AreOrdered, HasNoEntry, IsEntryAt, candidate, candidates_of, is_declared_at, is_declared_in, is_in, key_cmp, key_of, listed, scoped};
 ghost use Rattle.cil_names.specs.Found.{IsFound, IsMissing};
-ghost use Rattle.cil_blocks.specs.Namespaces.{AreNamespaces, space_at};
+ghost use Rattle.cil_blocks.specs.Namespaces.{space_at};
 
 use crate::entry::Entry;
 use crate::kinds::{rank_of, rank_wanted, wants};
 use crate::opt_set::are_set;
-use crate::path::asked_scope;
-use crate::space::{Space, asked_in};
+use crate::path::{asked_in, asked_scope};
+use cil_blocks::Namespaces;
 use cil_modset::NoMemory;
 use cil_syntax::{Path, Sign, Word, path_of};
 use std::alloc::Global;
+
+/// Whether these are numbers of namespaces.
+pub fn are_numbers(spaces: &Namespaces, numbers: &[usize]) -> bool
+    ensures { IsTrue result ↔ All (λ k. k ≤ length spaces.now) numbers.now }
+{
+    let most = spaces.len();
+    for number in numbers {
+        if *number > most {
+            return false;
+        }
+    }
+    true
+}
 
 /// The place of the entry with this key.
 fn place_of(entries: &[Entry], space: usize, name: &[u8], rank: u8) -> Option<usize>
@@ -48,18 +61,18 @@ pub fn entry_in(entries: &[Entry], space: usize, name: &[u8], sign: Sign) -> Opt
 
 /// The number of the entry that a path could name in a namespace, whatever is enabled.
 fn named_in(
-    spaces: &[Space],
+    spaces: &Namespaces,
     entries: &[Entry],
     from: usize,
     path: &Path,
     sign: Sign,
 ) -> Option<usize>
-    requires spaces { AreNamespaces spaces.now }
     requires entries { AreOrdered spaces.now entries.now }
     requires within { from ≤ length spaces.now }
     requires dotless { IsTrue path.now.dotless → IsDotless path.now.names.now }
     ensures { (name : List ℕ) (inner : List (List ℕ)) → names_backwards path.now.names.now ≡ name ∷ inner → result ≡ candidate spaces.now entries.now name sign (inner ++ space_at spaces.now from) }
 {
+    spaces.are_namespaces();
     if path.dotless {
         return entry_in(entries, from, path.names, sign);
     }
@@ -70,12 +83,11 @@ fn named_in(
 /// The numbers of the entries that a word could name, whatever is enabled, in the order of its scope.
 pub fn candidates(
     alloc: Global,
-    spaces: &[Space],
+    spaces: &Namespaces,
     entries: &[Entry],
     word: &Word,
     scope: &[usize],
 ) -> Result<Vec<usize>, NoMemory>
-    requires spaces { AreNamespaces spaces.now }
     requires entries { AreOrdered spaces.now entries.now }
     requires within { All (λ k. k ≤ length spaces.now) scope.now }
     ensures { IfOk result (λ ds. ds.items ≡ candidates_of spaces.now entries.now (scoped spaces.now scope.now word.now)) }
@@ -103,13 +115,12 @@ fn push_listed(found: &mut Vec<usize>, named: Option<usize>) -> Result<(), NoMem
 
 /// The number of the entry that a word names where these optionals are enabled.
 pub fn resolve(
-    spaces: &[Space],
+    spaces: &Namespaces,
     entries: &[Entry],
     enabled: &[bool],
     word: &Word,
     scope: &[usize],
 ) -> Option<usize>
-    requires spaces { AreNamespaces spaces.now }
     requires entries { AreOrdered spaces.now entries.now }
     requires within { All (λ k. k ≤ length spaces.now) scope.now }
     ensures { result ≡ find (is_declared_at (is_in enabled.now) entries.now) (candidates_of spaces.now entries.now (scoped spaces.now scope.now word.now)) }

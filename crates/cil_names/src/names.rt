@@ -6,10 +6,9 @@ ghost use Rattle.std.specs.List.Sorted.{IsStrictlySortedBy};
 ghost use Rattle.std.specs.Ordering.{on};
 ghost use Rattle.cil_sexpr.specs.Lists.{text_cmp};
 ghost use Rattle.cil_syntax.specs.declared.fault.Bytes.{Bytes as Text};
-ghost use Rattle.cil_names.specs.declared.instance.Instance.{Instance};
 ghost use Rattle.cil_names.specs.declared.entry.Entry.{Entry};
-ghost use Rattle.cil_names.specs.Entries.{AreEntries, AreOrdered, HasNoEntryIn, IsAnswer, IsEntryIn, candidates_of, is_declared_at, is_in, items_of, key_cmp, key_of, listed, scoped};
-ghost use Rattle.cil_macros.specs.Item.{OptSet as OptionalSet};
+ghost use Rattle.cil_names.specs.Entries.{AreEntries, AreOrdered, HasNoEntryIn, IsAnswer, IsEntryIn, candidates_of, is_declared_at, is_in, key_cmp, key_of, listed, scoped};
+ghost use Rattle.cil_macros.specs.Item.{Item, OptSet as OptionalSet};
 ghost use Rattle.cil_names.specs.PermissionWords.{IsAnswerFor, wanted_candidates};
 ghost use Rattle.cil_names.specs.Resolves.{Permission};
 ghost use Rattle.cil_blocks.specs.Namespaces.{space_at};
@@ -20,7 +19,7 @@ use crate::kinds::rank_of;
 use crate::look;
 use crate::opt_set::OptSet;
 use crate::permission_word::class_with;
-use crate::space::Spaces;
+use cil_blocks::Namespaces;
 use cil_modset::NoMemory;
 use cil_syntax::{Bytes, Sign, Word};
 use std::alloc::Global;
@@ -63,7 +62,7 @@ impl<'a> Names<'a> {
     }
 
     /// These entries; none where they do not rise, or one is in none of the namespaces.
-    pub fn checked(spaces: &Spaces, entries: Vec<Entry<'a>>) -> Option<Names<'a>>
+    pub fn checked(spaces: &Namespaces, entries: Vec<Entry<'a>>) -> Option<Names<'a>>
         ensures { MatchOption result (AreOrdered spaces.now entries.entry.items → ⊥)
             (λ names. (names ≡ entries.entry.items) × AreOrdered spaces.now names) }
     {
@@ -86,22 +85,21 @@ impl<'a> Names<'a> {
 
     /// The number of the entry of a wanted kind under this name in the namespace of this number, whatever is enabled. It
     /// costs one search by halving.
-    pub fn entry(&self, spaces: &Spaces, space: usize, name: &[u8], sign: Sign) -> Option<usize>
+    pub fn entry(&self, spaces: &Namespaces, space: usize, name: &[u8], sign: Sign) -> Option<usize>
         requires ordered { AreOrdered spaces.now self.now }
         requires within { space ≤ length spaces.now }
         ensures { MatchOption result (HasNoEntryIn spaces.now self.now name.now sign (space_at spaces.now space)) (IsEntryIn spaces.now self.now name.now sign (space_at spaces.now space)) }
     {
-        // What is known of the numbers of namespaces.
-        let _ = spaces.as_slice();
+        spaces.are_namespaces();
         look::entry_in(self.entries.as_slice(), space, name, sign)
     }
 
     /// The numbers of the entries that a word could name, whatever is enabled, in the order of its scope. Each
-    /// namespace of the scope costs one search by halving, and one more for each name before a dot.
+    /// namespace of the scope costs one search by halving, and one hash for each name before a dot.
     pub fn candidates(
         &self,
         alloc: Global,
-        spaces: &Spaces,
+        spaces: &Namespaces,
         word: &Word,
         scope: &[usize],
     ) -> Result<Vec<usize>, NoMemory>
@@ -109,20 +107,14 @@ impl<'a> Names<'a> {
         requires within { All (λ k. k ≤ length spaces.now) scope.now }
         ensures { IfOk result (λ ds. ds.items ≡ candidates_of spaces.now self.now (scoped spaces.now scope.now word.now)) }
     {
-        look::candidates(
-            alloc,
-            spaces.as_slice(),
-            self.entries.as_slice(),
-            word,
-            scope,
-        )
+        look::candidates(alloc, spaces, self.entries.as_slice(), word, scope)
     }
 
     /// The number of the entry that a word names in a scope where these optionals are enabled. It costs what
     /// `candidates` costs, and takes no memory.
     pub fn resolve(
         &self,
-        spaces: &Spaces,
+        spaces: &Namespaces,
         word: &Word,
         scope: &[usize],
         enabled: &OptSet,
@@ -134,8 +126,9 @@ impl<'a> Names<'a> {
         // Where these are the declared names of some instances, it is what the word names among them.
         ensures names { (xs : List Item) → AreEntries spaces.now xs self.now → IsAnswer spaces.now xs self.now (is_in enabled.now) (scoped spaces.now scope.now word.now) result }
     {
+        spaces.are_namespaces();
         look::resolve(
-            spaces.as_slice(),
+            spaces,
             self.entries.as_slice(),
             enabled.as_slice(),
             word,
@@ -149,7 +142,7 @@ impl<'a> Names<'a> {
     /// by halving; it takes no memory.
     pub fn resolve_permission(
         &self,
-        spaces: &Spaces,
+        spaces: &Namespaces,
         permissions: &[Vec<Bytes>],
         class: &Word,
         permission: &Word,
@@ -166,8 +159,9 @@ impl<'a> Names<'a> {
         ensures names { (xs : List Item) (s : OptionalSet) → AreEntries spaces.now xs self.now → ArePermissions spaces.now self.now xs permissions.now
             → IsAnswerFor spaces.now xs self.now s (Permission (scoped spaces.now scope.now class.now) (scoped spaces.now scope.now permission.now)) result }
     {
+        spaces.are_namespaces();
         class_with(
-            spaces.as_slice(),
+            spaces,
             self.entries(),
             permissions,
             class,
@@ -191,10 +185,10 @@ fn rise(entries: &[Entry]) -> bool
 }
 
 /// Whether each entry is in one of the namespaces.
-fn are_within(spaces: &Spaces, entries: &[Entry]) -> bool
+fn are_within(spaces: &Namespaces, entries: &[Entry]) -> bool
     ensures { IsTrue result ↔ ((i : ℕ) (e : Entry) → slice_get entries.now i ≡ Some e → e.space ≤ length spaces.now) }
 {
-    let most = spaces.as_slice().len();
+    let most = spaces.len();
     for entry in entries {
         if entry.space > most {
             return false;

@@ -8,13 +8,12 @@ ghost use Rattle.cil_syntax.specs.declared.kind.Kind as kinds;
 ghost use Rattle.cil_syntax.specs.Spelling.{same_bytes};
 ghost use Rattle.cil_names.specs.Entries.{AreOrdered, is_in, place_where};
 ghost use Rattle.cil_names.specs.Numbers.{AreApart, AreNumbers, ArePlainNames, IsNameAmong, has_section, name_given, names_of, place_in, spelled_of};
-ghost use Rattle.cil_blocks.specs.Namespaces.{AreNamespaces};
 
 use crate::entry::Entry;
 use crate::opt_set::OptSet;
-use crate::space::Space;
 use crate::spelled::spelled;
 use crate::table::Lookup;
+use cil_blocks::Namespaces;
 use cil_modset::NoMemory;
 use cil_syntax::{Bytes, Kind};
 use std::alloc::Global;
@@ -48,7 +47,8 @@ pub fn numbered(alloc: Global, lookup: &Lookup) -> Result<Numbering, NoMemory>
     // Where no name has a dot, two symbols of one kind have two numbers.
     ensures apart { IfOk result (λ n. ArePlainNames lookup.now.spaces.now lookup.now.names.now → AreApart lookup.now.names.now (is_in lookup.now.enabled.now) n.numbers.items) }
 {
-    let spaces = lookup.spaces.as_slice();
+    let spaces = lookup.spaces;
+    spaces.are_namespaces();
     let entries = lookup.names.entries();
     let sections = sections_of(alloc, spaces, entries, lookup.enabled)?;
     let numbers = numbers_of(alloc, spaces, entries, &sections)?;
@@ -58,12 +58,11 @@ pub fn numbered(alloc: Global, lookup: &Lookup) -> Result<Numbering, NoMemory>
 /// The names of all sections.
 fn sections_of(
     alloc: Global,
-    spaces: &[Space],
+    spaces: &Namespaces,
     entries: &[Entry],
     enabled: &OptSet,
 ) -> Result<Sections, NoMemory>
-    requires spaces { AreNamespaces spaces.now }
-    requires ordered { AreOrdered spaces.now entries.now }
+    requires { AreOrdered spaces.now entries.now }
     ensures { IfOk result (λ n. (kind : kinds.Kind) → has_section kind ≡ true → Lists text_cmp (IsNameAmong spaces.now entries.now (is_in enabled.now) kind) (names_of n kind)) }
 {
     let users = section_of(alloc, spaces, entries, enabled, Kind::User)?;
@@ -81,13 +80,12 @@ fn sections_of(
 /// The names of the declared symbols of one kind, in byte order, each once.
 fn section_of(
     alloc: Global,
-    spaces: &[Space],
+    spaces: &Namespaces,
     entries: &[Entry],
     enabled: &OptSet,
     kind: Kind,
 ) -> Result<Vec<Bytes>, NoMemory>
-    requires spaces { AreNamespaces spaces.now }
-    requires ordered { AreOrdered spaces.now entries.now }
+    requires { AreOrdered spaces.now entries.now }
     ensures { IfOk result (λ names. Lists text_cmp (IsNameAmong spaces.now entries.now (is_in enabled.now) kind) names.items) }
 {
     let mut names = given(alloc, spaces, entries, enabled, kind)?;
@@ -99,13 +97,12 @@ fn section_of(
 /// The names of the declared symbols of one kind, as they come.
 fn given(
     alloc: Global,
-    spaces: &[Space],
+    spaces: &Namespaces,
     entries: &[Entry],
     enabled: &OptSet,
     kind: Kind,
 ) -> Result<Vec<Bytes>, NoMemory>
-    requires spaces { AreNamespaces spaces.now }
-    requires ordered { AreOrdered spaces.now entries.now }
+    requires { AreOrdered spaces.now entries.now }
     ensures { IfOk result (λ names. names.items ≡ flat_map (name_given spaces.now (is_in enabled.now) kind) entries.now) }
 {
     let mut names = Vec::new(alloc);
@@ -121,11 +118,10 @@ fn given(
 fn push_name(
     alloc: Global,
     names: &mut Vec<Bytes>,
-    spaces: &[Space],
+    spaces: &Namespaces,
     entry: &Entry,
 ) -> Result<(), NoMemory>
-    requires spaces { AreNamespaces spaces.now }
-    requires within { entry.now.space ≤ length spaces.now }
+    requires { entry.now.space ≤ length spaces.now }
     ensures { OnOk result (names.new.items ≡ names.old.items ++ spelled_of spaces.now entry.now ∷ []) }
 {
     names.push(spelled(alloc, spaces, entry.space, entry.name.as_slice())?)?;
@@ -135,11 +131,10 @@ fn push_name(
 /// The place of the name of each entry in the section of its kind.
 fn numbers_of(
     alloc: Global,
-    spaces: &[Space],
+    spaces: &Namespaces,
     entries: &[Entry],
     sections: &Sections,
 ) -> Result<Vec<usize>, NoMemory>
-    requires spaces { AreNamespaces spaces.now }
     requires ordered { AreOrdered spaces.now entries.now }
     requires rising { (kind : kinds.Kind) → IsStrictlySortedBy text_cmp (names_of sections.now kind) }
     ensures { IfOk result (λ numbers. numbers.items ≡ map (λ e. place_in (names_of sections.now e.kind) (spelled_of spaces.now e)) entries.now) }

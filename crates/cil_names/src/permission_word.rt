@@ -8,10 +8,9 @@ ghost use Rattle.std.specs.Ordering.{on};
 ghost use Rattle.cil_sexpr.specs.Lists.{text_cmp};
 ghost use Rattle.cil_syntax.specs.declared.fault.Bytes.{Bytes as Text};
 ghost use Rattle.cil_syntax.specs.Spelling.{same_bytes};
-ghost use Rattle.cil_names.specs.declared.instance.Instance.{Instance};
-ghost use Rattle.cil_blocks.specs.declared.namespaces.Space.{Space as ASpace};
-ghost use Rattle.cil_names.specs.Entries.{AreEntries, AreOrdered, items_of, key_cmp, key_of, scoped};
-ghost use Rattle.cil_macros.specs.Item.{nobody};
+ghost use Rattle.cil_blocks.specs.declared.namespaces.Space.{Space};
+ghost use Rattle.cil_names.specs.Entries.{AreEntries, AreOrdered, key_cmp, key_of, scoped};
+ghost use Rattle.cil_macros.specs.Item.{Item, nobody};
 ghost use Rattle.cil_names.specs.Meanings.{meant};
 ghost use Rattle.cil_names.specs.PermissionWords.{class_with as the_class_with, has_permission_at};
 ghost use Rattle.cil_blocks.specs.Namespaces.{AreNamespaces};
@@ -20,18 +19,17 @@ ghost use Rattle.cil_names.specs.Unresolved.{ArePermissions, listed_at as listed
 use crate::entry::Entry;
 use crate::look::{entry_in, resolve};
 use crate::numbers::place_among;
-use crate::space::Space;
+use cil_blocks::Namespaces;
 use cil_syntax::{Bytes, Sign, Word};
 
 /// The number of the class or class map that a class word names. Classes do not hang on optionals, so the word is looked
 /// up where none is enabled.
 pub fn class_named(
-    spaces: &[Space],
+    spaces: &Namespaces,
     entries: &[Entry],
     class: &Word,
     scope: &[usize],
 ) -> Option<usize>
-    requires spaces { AreNamespaces spaces.now }
     requires entries { AreOrdered spaces.now entries.now }
     requires within { All (λ k. k ≤ length spaces.now) scope.now }
     ensures value { result ≡ meant spaces.now entries.now nobody (scoped spaces.now scope.now class.now) }
@@ -47,7 +45,7 @@ pub fn permissions_at<'s>(entries: &[Entry], permissions: &'s [Vec<Bytes>], d: u
     requires sorted { (v : Vector Text) → Contains permissions.now v → IsStrictlySortedBy text_cmp v.items }
     requires within { d < length entries.now }
     ensures sorted { IsStrictlySortedBy text_cmp result.now }
-    ensures listed { (ss : List ASpace) (xs : List Item) → AreNamespaces ss → AreEntries ss xs entries.now → ArePermissions ss entries.now xs permissions.now
+    ensures listed { (ss : List Space) (xs : List Item) → AreNamespaces ss → AreEntries ss xs entries.now → ArePermissions ss entries.now xs permissions.now
         → (p : List ℕ) → list_any (same_bytes p) result.now ≡ has_permission_at ss entries.now xs p d }
 {
     let entry = &entries[d];
@@ -79,14 +77,13 @@ pub fn is_listed(names: &[Bytes], name: &[u8]) -> bool
 
 /// The number of the class or class map that a permission word names.
 pub fn class_with(
-    spaces: &[Space],
+    spaces: &Namespaces,
     entries: &[Entry],
     permissions: &[Vec<Bytes>],
     class: &Word,
     permission: &Word,
     scope: &[usize],
 ) -> Option<usize>
-    requires spaces { AreNamespaces spaces.now }
     requires entries { AreOrdered spaces.now entries.now }
     requires sorted { (v : Vector Text) → Contains permissions.now v → IsStrictlySortedBy text_cmp v.items }
     requires within { All (λ k. k ≤ length spaces.now) scope.now }
@@ -94,6 +91,7 @@ pub fn class_with(
         → result ≡ the_class_with spaces.now entries.now xs (scoped spaces.now scope.now class.now) (scoped spaces.now scope.now permission.now) }
     ensures within { IfSome result (λ d. d < length entries.now) }
 {
+    spaces.are_namespaces();
     let d = class_named(spaces, entries, class, scope)?;
     let listed = permissions_at(entries, permissions, d);
     if !is_listed(listed, permission.bytes.as_slice()) {

@@ -55,9 +55,17 @@ const HELP: &[(&[&str], &str)] = &[
         &["--help"],
         "type, class, role, user, roletype, userrole and allow",
     ),
+    (
+        &["--help"],
+        "block, blockabstract, blockinherit, macro and call",
+    ),
     (&["help"], "Example:"),
     (&["session", "-h"], "Usage: cilhost session [FILE]..."),
     (&["session", "--help"], "AV source target class"),
+    (
+        &["session", "--help"],
+        "32  a blockinherit that names no block",
+    ),
     (&["session", "--help"], "41  a word that names nothing"),
     (
         &["session", "--help"],

@@ -10,8 +10,10 @@ Modules are texts in the Common Intermediate Language (CIL). cilhost acts as one
 modules, compiles them into a policy, and then answers which permissions a process in one security
 context has on an object in another. The answers do not depend on the order of the modules.
 
-The statements that cilhost accepts are type, class, role, user, roletype, userrole and allow. For
-now it refuses everything else in CIL by name, with fault 22.";
+The statements that cilhost accepts are type, class, role, user, roletype, userrole and allow, and
+block, blockabstract, blockinherit, macro and call. Statements that label files, ports and the like,
+such as filecon, are accepted and have no effect. For now it refuses everything else in CIL by name,
+with fault 22.";
 
 /// How the program is called.
 pub const EXAMPLE: &str = "Example:
@@ -29,8 +31,10 @@ pub const SESSION_LONG: &str = "Installs files, then answers requests from stand
 The FILEs are installed from left to right. Then requests are read from standard input, one a line,
 and each reply is written to standard output, until QUIT or the end of the input.
 
-The statements that a FILE may have are type, class, role, user, roletype, userrole and allow. For
-now LOAD refuses everything else in CIL by name, with fault 22.";
+The statements that a FILE may have are type, class, role, user, roletype, userrole and allow, and
+block, blockabstract, blockinherit, macro and call. Statements that label files, ports and the like,
+such as filecon, are accepted and have no effect. For now LOAD refuses everything else in CIL by
+name, with fault 22.";
 
 /// What a file of a session is.
 pub const FILE: &str = "A module, as text in CIL, of at most 4194304 bytes";
@@ -43,9 +47,9 @@ pub const REQUESTS: &str = "Requests:
                           OK, or FAULTS with how many there are, and a line for each. After FAULTS
                           the policy is the one that was loaded before
   AV source target class  What a process in the context source may do to an object of this class
-                          in the context target. A context is user:role:type. Reply: OK, then the
-                          permissions that are allowed, those audited when allowed, and those
-                          audited when denied (- for none), or ERR
+                          in the context target. A context is user:role:type, where a type t of
+                          block b is b.t. Reply: OK, then the permissions that are allowed, those
+                          audited when allowed, and those audited when denied (- for none), or ERR
   LIST                    Reply: OK with the number of modules; for each its SHA-256 and its length
   EXPORT                  Reply: OK n, then n bytes: all modules, for IMPORT on another host
   IMPORT n                Install the modules of such n bytes after this line. Reply: OK with the
@@ -54,14 +58,24 @@ pub const REQUESTS: &str = "Requests:
 
 Faults of a policy, one a line after FAULTS: NUMBER MODULE PLACE NAMESPACE WORD
   MODULE is the number of the module in the reply to LIST, from 0. PLACE is the place of the fault
-  in the module, in bytes from 0. NAMESPACE is . for the global namespace.
+  in the module, in bytes from 0. NAMESPACE is . for the global namespace, else names of blocks
+  joined by dots: for 21 to 33 where the statement is written, for the others where it takes effect,
+  by inheritance or by a call. WORD is - where no word is meant.
   21  an unknown statement
   22  a statement or form that cilhost does not support
   23  a statement of another shape
+  24  a statement in a wrong place, such as a class in a macro
   25  a word that is not a name
   26  a reserved word in place of a name
+  27  a parameter of a macro whose name is used again, by another one or by a declaration
+  31  two blocks or macros of one name in a namespace, inherited ones included
+  32  a blockinherit that names no block
+  33  a block that inherits itself, in one or more steps
+  34  a macro that calls itself, in one or more steps
+  35  a call with too few or too many arguments, or with one of a wrong form
   36  a name with two different declarations
-  38  more than 1000000 statements; it is told alone, with module 0, place 0 and - as the word
+  38  more than 1000000 statements, with those that are inherited or come by calls. It is reported
+      alone, with module 0, place 0 and - as the word
   41  a word that names nothing
   55  a class of more than 32 permissions
 

@@ -34,6 +34,7 @@ invariant_of-result c =
       record {
         standings = c.in_ok-macros.ensures.standings;
         brought = is_some _ c.in_ok-brought.field-0 c.in-Some.brought c.in-Some.is c.in_ok-brought.ensures.brought;
+        in_turn = is_some _ c.in_ok-brought.field-0 c.in-Some.brought c.in-Some.is c.in_ok-brought.ensures.turn;
         lawful = no_fault (written_in s) (all_standing s) (placed_in s cs) placed c.in_ok-faults.faults.items c.in_ok-faults.ensures (c.in_default-of.ensures.none.0 refl);
         placed = placed;
         few = is_some _ c.in_ok-brought.field-0 c.in-Some.brought c.in-Some.is c.in_ok-brought.ensures.few;

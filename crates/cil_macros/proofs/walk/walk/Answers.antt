@@ -1,6 +1,7 @@
 use Rattle.std.proofs.Common.{ap, arith, length}
 use Rattle.cil_macros.specs.Macros.{all_standing}
 use Rattle.cil_macros.proofs.FirstLemmas.{no_firsts}
+use Rattle.cil_macros.proofs.TurnLemmas.{all_in_turn, none_in_turn}
 use Rattle.cil_macros.proofs.WalkLemmas.{all_reached, begun, gone_on, no_bodies, no_spaces, over_reached}
 use Rattle.cil_macros.proofs.walk.walk.Goals as goal
 
@@ -14,6 +15,7 @@ loop-at-init c =
         spaces = no_spaces s c.new.result.items c.new-2.result.items c.new-2.ensures.items;
       },
       begun s c.requires.standings c.new.result.items c.new.ensures.items,
+      none_in_turn s c.new.result.items c.new-2.result.items c.new-2.ensures.items,
     )
 
 pub returns-then-standing-len-clause-many : goal.returns-then-standing-len-clause-many
@@ -38,6 +40,7 @@ loop-at-preserved c =
       c.in_ok-open.ensures.brought,
       gone_on s c.requires.standings c.loop-at.at c.loop-at.brought.called.items c.open.new.self.called.items (omega (arith, h, l, m, n)) c.loop-at.invariant.2
           c.in_ok-open.ensures.opened,
+      c.in_ok-open.ensures.turn,
     )
 
 pub returns-clause-all : goal.returns-clause-all
@@ -48,3 +51,12 @@ returns-clause-all c =
     let m = c.len.ensures in
     let n = c.loop-at.brought.called.ok in
     all_reached s c.requires.standings c.loop-at.at c.loop-at.brought.called.items (omega (arith, h, l, m, n)) c.loop-at.invariant.2
+
+pub returns-clause-turn : goal.returns-clause-turn
+returns-clause-turn c =
+    let s = c.args.source.now.spaces.now in
+    let h = c.loop-at-test.false in
+    let l = ap length c.entries-standing.ensures.same in
+    let m = c.len.ensures in
+    let n = c.loop-at.brought.called.ok in
+    all_in_turn s c.loop-at.brought.called.items c.loop-at.brought.bodies.items c.loop-at.at c.loop-at.invariant.1.bodies (omega (arith, h, l, m, n)) c.loop-at.invariant.3

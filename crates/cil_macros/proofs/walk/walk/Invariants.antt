@@ -1,5 +1,5 @@
 use Rattle.std.proofs.Common.{◌-◌, ◌+◌, ◌≤◌}
-use Rattle.cil_macros.specs.Walks.{AreBrought}
+use Rattle.cil_macros.specs.Walks.{AreBrought, AreInTurn}
 use Rattle.cil_macros.proofs.WalkLemmas.{AreReached}
 use Rattle.cil_macros.proofs.walk.walk.Given as goal
 
@@ -7,6 +7,7 @@ abbrev pub invariant-loop-at : goal.invariant-loop-at
 invariant-loop-at l =
     (l.at ≤ l.limit) × AreBrought l.source.spaces.now l.brought
     × AreReached l.source.spaces.now l.at l.brought.called.items
+    × AreInTurn l.source.spaces.now l.brought.called.items l.brought.bodies.items l.at
 
 abbrev pub decreases-loop-at : goal.decreases-loop-at
 decreases-loop-at l = l.limit + 1 - l.at

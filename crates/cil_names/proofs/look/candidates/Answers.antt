@@ -15,5 +15,5 @@ loop-from-preserved c =
 pub returns : goal.returns
 returns c =
     all_passed (could_name c.args.spaces.now c.args.entries.now c.args.word.now) c.asked_scope-from-items.result.now c.loop-from.from-index (search (rules, arith)) c.loop-from.found.items _ c.loop-from.invariant
-    ∙ sym (whole c.args.spaces.now c.requires.spaces c.args.entries.now c.args.word.now c.args.scope.now c.path_of-path.result.global
+    ∙ sym (whole c.args.spaces.now c.args.entries.now c.args.word.now c.args.scope.now c.path_of-path.result.global
     (is_global c.args.word.now.bytes c.path_of-path.result.global c.path_of-path.result.names.now (search rules)) ∙ sym (search rules))

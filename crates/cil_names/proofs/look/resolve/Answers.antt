@@ -13,7 +13,7 @@ returns-then-is_some c =
     c.where_declared-declared.ensures ∙ ap (find (is_declared_at (is_in c.args.enabled.now) c.args.entries.now)) there in
     found_by (could_name c.args.spaces.now c.args.entries.now c.args.word.now) c.asked_scope-from-items.result.now c.loop-from.from-index k 0 (search (rules, arith)) refl
     (is_declared_at (is_in c.args.enabled.now) c.args.entries.now) c.loop-from.invariant c.where_declared-declared.result live (sym c.if-is_some.ensures)
-    ∙ ap (find (is_declared_at (is_in c.args.enabled.now) c.args.entries.now)) (sym (whole c.args.spaces.now c.requires.spaces c.args.entries.now c.args.word.now c.args.scope.now c.path_of-path.result.global
+    ∙ ap (find (is_declared_at (is_in c.args.enabled.now) c.args.entries.now)) (sym (whole c.args.spaces.now c.args.entries.now c.args.word.now c.args.scope.now c.path_of-path.result.global
     (is_global c.args.word.now.bytes c.path_of-path.result.global c.path_of-path.result.names.now (search rules)) ∙ sym (search rules)))
 
 pub loop-from-preserved : goal.loop-from-preserved
@@ -29,5 +29,5 @@ pub returns : goal.returns
 returns c =
     never (could_name c.args.spaces.now c.args.entries.now c.args.word.now) c.asked_scope-from-items.result.now c.loop-from.from-index (search (rules, arith))
     (is_declared_at (is_in c.args.enabled.now) c.args.entries.now) c.loop-from.invariant
-    ∙ ap (find (is_declared_at (is_in c.args.enabled.now) c.args.entries.now)) (sym (whole c.args.spaces.now c.requires.spaces c.args.entries.now c.args.word.now c.args.scope.now c.path_of-path.result.global
+    ∙ ap (find (is_declared_at (is_in c.args.enabled.now) c.args.entries.now)) (sym (whole c.args.spaces.now c.args.entries.now c.args.word.now c.args.scope.now c.path_of-path.result.global
     (is_global c.args.word.now.bytes c.path_of-path.result.global c.path_of-path.result.names.now (search rules)) ∙ sym (search rules)))

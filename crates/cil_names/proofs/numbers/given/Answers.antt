@@ -8,9 +8,9 @@ use Rattle.cil_names.proofs.numbers.given.Goals.{then-is_declared_as+in_ok-push_
 use Rattle.std.specs.Global.{Vec}
 use Rattle.cil_syntax.specs.declared.fault.Bytes.{Bytes}
 
-pub push_name-requires-clause-within : goal.push_name-requires-clause-within
-push_name-requires-clause-within c =
-    entry_within c.args.spaces.now c.args.entries.now c.requires.ordered c.loop-entry.entry-index c.entry-item.result c.loop-entry-test.true c.entry-item.is
+pub push_name-requires : goal.push_name-requires
+push_name-requires c =
+    entry_within c.args.spaces.now c.args.entries.now c.requires c.loop-entry.entry-index c.entry-item.result c.loop-entry-test.true c.entry-item.is
 
 pub loop-entry-preserved : goal.loop-entry-preserved
 loop-entry-preserved c =

@@ -4,8 +4,8 @@ use Rattle.cil_names.specs.Numbers.{names_of, place_in, spelled_of}
 use Rattle.cil_names.proofs.NumberLemmas.{all_mapped, entry_within, mapped_on}
 use Rattle.cil_names.proofs.numbers.numbers_of.Goals as goal
 
-pub spelled-requires-clause-within : goal.spelled-requires-clause-within
-spelled-requires-clause-within c =
+pub spelled-requires : goal.spelled-requires
+spelled-requires c =
     entry_within c.args.spaces.now c.args.entries.now c.requires.ordered c.loop-entry.entry-index c.entry-item.result c.loop-entry-test.true c.entry-item.is
 
 pub loop-entry-preserved : goal.loop-entry-preserved

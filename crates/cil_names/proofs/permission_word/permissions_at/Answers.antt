@@ -11,15 +11,15 @@ returns-in_default-clause-sorted c = rising_nothing text_cmp
 
 pub returns-in_default-clause-listed : goal.returns-in_default-clause-listed
 returns-in_default-clause-listed c =
-    λ ss is are entries permissions p.
+    λ ss xs are entries permissions p.
     let at : slice_get c.args.entries.now c.args.d ≡ Some c.index-entries-d.result =
     slice_get-get_or c.args.entries.now c.args.d c.index-entries-d.result c.requires.within ∙ ap Some (sym c.index-entries-d.is) in
-    listed_of_none ss are is c.args.entries.now entries c.args.d c.index-entries-d.result at p (search rules)
+    listed_of_none ss are xs c.args.entries.now entries c.args.d c.index-entries-d.result at p (search rules)
 
 pub returns-clause-listed : goal.returns-clause-listed
 returns-clause-listed c =
-    λ ss is are entries permissions p.
+    λ ss xs are entries permissions p.
     let at : slice_get c.args.entries.now c.args.d ≡ Some c.index-entries-d.result =
     slice_get-get_or c.args.entries.now c.args.d c.index-entries-d.result c.requires.within ∙ ap Some (sym c.index-entries-d.is) in
-    listed_of_class ss are is c.args.entries.now entries c.args.d c.index-entries-d.result at p c.args.permissions.now permissions c.in-Some.class (search rules)
+    listed_of_class ss are xs c.args.entries.now entries c.args.d c.index-entries-d.result at p c.args.permissions.now permissions c.in-Some.class (search rules)
     c.listed_at.result.now c.listed_at.ensures.value

@@ -1,4 +1,4 @@
-use Rattle.std.proofs.Common.{◌≡◌, ◌∙◌, ◌++◌, List, ap, arith, length, map, subst, sym}
+use Rattle.std.proofs.Common.{◌≡◌, ◌∙◌, ◌++◌, List, ap, arith, length, map, refl, subst, sym}
 use Rattle.std.specs.Prelude.{Some, slice_get}
 use Rattle.std.proofs.lemmas.List.{append-nil}
 use Rattle.cil_syntax.specs.declared.program.Statement.{Statement}
@@ -10,10 +10,12 @@ use Rattle.cil_blocks.specs.Entries.{standings_of, statement_at}
 use Rattle.cil_blocks.specs.Places.{entries_in}
 use Rattle.cil_blocks.proofs.EntryLemmas.{standings_length}
 use Rattle.cil_macros.specs.Macros.{all_standing}
+use Rattle.cil_macros.specs.Opens.{opens_placed}
 use Rattle.cil_macros.specs.Walks.{called_by, placed_in, written_in}
 use Rattle.cil_macros.proofs.CallLemmas.{not_unfolded, placed_there, unfolded_below, unfolded_is}
 use Rattle.cil_macros.proofs.EntryLemmas.{opens_nothing}
 use Rattle.cil_macros.proofs.FirstLemmas.{firsts_opened}
+use Rattle.cil_macros.proofs.TurnLemmas.{opened_in_turn, passed_in_turn}
 use Rattle.cil_macros.proofs.WalkLemmas.{bodies_opened, placed_opened, spaces_opened}
 use Rattle.cil_macros.proofs.chain.Brought.open.Goals as goal
 
@@ -72,3 +74,24 @@ returns-clause-opened c = λ p e.
     (subst (λ (es : List Entry). (ws : List Written) (m : Standing) → slice_get (standings_of ws es) c.in-Some.called ≡ Some m → m.statement ≡ statement_at ws c.standing_statement-number.result)
     c.entries-entries.ensures.same c.standing_statement-number.ensures)
     c.parts_at.ensures c.in_ok-push_called.ensures
+
+pub returns-in_default-clause-turn : goal.returns-in_default-clause-turn
+returns-in_default-clause-turn c =
+    let s = c.args.source.now.spaces.now in
+    passed_in_turn s c.args.self.now.called.items c.args.self.now.bodies.items c.args.at c.requires.turn
+    (not_unfolded s c.args.self.now.called.items c.args.at c.in_ok-called.field-0 c.in_default.is c.in_ok-called.ensures)
+
+pub returns-clause-turn : goal.returns-clause-turn
+returns-clause-turn c =
+    let s = c.args.source.now.spaces.now in
+    let cs = c.args.self.now.called.items in
+    let bs = c.args.self.now.bodies.items in
+    let p = placed_there s cs c.args.at c.requires.within in
+    let u = unfolded_is s cs c.args.at c.in_ok-called.field-0 c.in-Some.called c.in-Some.is c.in_ok-called.ensures p.0 p.1 in
+    let placed = placed_opened s cs bs c.args.at c.in-Some.called p.0 p.1 u c.requires.within c.args.source.now.parts.now c.requires.source.parts
+    c.standing_statement-number.result c.len-body.result c.parts_at.result.now _
+    (subst (λ (es : List Entry). (ws : List Written) (m : Standing) → slice_get (standings_of ws es) c.in-Some.called ≡ Some m → m.statement ≡ statement_at ws c.standing_statement-number.result)
+    c.entries-entries.ensures.same c.standing_statement-number.ensures)
+    c.parts_at.ensures c.in_ok-push_called.ensures in
+    opened_in_turn s cs _ bs c.args.at (record { call = c.args.at; called = c.in-Some.called; space = c.space_at-space.result }) c.requires.turn
+    (opens_placed (written_in s) (all_standing s) p.0) c.requires.within placed refl _ c.in_ok-push.ensures.items

@@ -6,10 +6,10 @@ use Rattle.cil_names.proofs.names.Names.resolve.Goals as goal
 
 pub returns-clause-names : goal.returns-clause-names
 returns-clause-names c =
-    λ is entries.
-    subst (IsAnswer c.args.spaces.now is c.args.self.now (is_in c.args.enabled.now) (scoped c.args.spaces.now c.args.scope.now c.args.word.now))
+    λ xs entries.
+    subst (IsAnswer c.args.spaces.now xs c.args.self.now (is_in c.args.enabled.now) (scoped c.args.spaces.now c.args.scope.now c.args.word.now))
     (search rules)
-    (answer_is c.args.spaces.now (search rules) is c.args.self.now entries (is_in c.args.enabled.now) (scoped c.args.spaces.now c.args.scope.now c.args.word.now))
+    (answer_is c.args.spaces.now c.are_namespaces.ensures xs c.args.self.now entries (is_in c.args.enabled.now) (scoped c.args.spaces.now c.args.scope.now c.args.word.now))
 
 pub returns-clause-within : goal.returns-clause-within
 returns-clause-within c =
