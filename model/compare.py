@@ -4,356 +4,33 @@
 Of each kind, the first session that differs is cut down to the parts that matter, and printed.
 """
 import argparse
+import collections
+import multiprocessing
 import random
+import re
 import subprocess
 import sys
 
+import block_sessions
+import flat_sessions
 import model
 
-# ---- random pieces
-
-BLANK = [b" ", b"\t", b"\n", b"\r"]
-NAMES = [b"a", b"b", b"c", b"_", b"a-b", b"A", b"file", b"process", b"type", b"in", b"object_r"]
-PERMISSIONS = [b"read", b"open", b"write", b"Read", b"_x", b"a-", b"aa"]
-LATER = sorted(model.REFUSED)
-UNKNOWN = [b"foo", b"Type", b"types", b"allows", b"typ", b"inn", b"1type", b".type", b"-", b"attribute"]
-ODD = [
-    b".a", b"a.b", b"..a", b"a.", b".", b"a..b", b".a.b", b"1a", b"-a", b"-", b"_", b"a'", b"a/b", b"a:b", b"a,b", b"*", b"\\",
-    b"self.a", b".self", b".all", b"ALL", b"t3", b".object_r", b"a.-", b".1", b"nobody", b"file.read",
-    b"n" * 1024, b"n" * 1025, b"." + b"n" * 1024, b"." + b"n" * 1025, b"a." * 600 + b"a",
-]
-PIECES = [b"(", b")", b'"', b";", b"a", b"type", b"(type a)", b"()", b'"x"', b".", b"!", b"~", *BLANK] + [
-    bytes([byte]) for byte in (0, 11, 12, 31, 127, 128, 255)
-]
-SMALL = [b"", b" ", b"()", b"(type a)", b"(type b)", b"(type a) ", b"(user u)", b"(class w (p))", b"(type", b"a", b")", b'("', b";", b"\xff"]
-
-
-class Quoted(bytes):
-    """A string, where a word is plain bytes and a list is a list."""
-
-
-def often(rng, chance):
-    return rng.random() < chance
-
-
-def blanks(rng):
-    if often(rng, 0.8):
-        return b""
-    comment = b";" + rng.choice([b"", b"(", b")", b'"', b"\xff\0"]) + b"\n"
-    return b"".join(rng.choice([*BLANK, comment]) for _ in range(rng.randrange(1, 4)))
-
-
-def written(rng, node):
-    if isinstance(node, Quoted):
-        return b'"' + node + b'"'
-    if isinstance(node, bytes):
-        return node
-    return b"(" + blanks(rng) + b" ".join(written(rng, inner) + blanks(rng) for inner in node) + b")"
-
-
-def module_of(rng, statements):
-    return blanks(rng) + b"".join(written(rng, each) + blanks(rng) for each in statements)
-
-
-# ---- statements of every kind
-
-
-def word(rng, odd):
-    if not often(rng, odd):
-        return rng.choice([b"a", b"b", b"c", b"u", b"r", b"file", b"read"])
-    return rng.choice(rng.choice([ODD, sorted(model.RESERVED), LATER, sorted(model.TAKEN)]))
-
-
-def expression(rng, depth, odd):
-    if depth == 0 or often(rng, 0.4):
-        return Quoted(b"read") if often(rng, odd / 2) else word(rng, odd)
-    head = [rng.choice([b"and", b"or", b"not", b"xor", b"all", b"eq", b"range"])] if often(rng, 0.25) else []
-    return head + [expression(rng, depth - 1, odd) for _ in range(rng.choice([0, 1, 1, 2, 2, 3]))]
-
-
-def any_statement(rng, odd):
-    keyword = rng.choice(sorted(model.TAKEN))
-    if keyword in (b"type", b"role", b"user"):
-        return [keyword, word(rng, odd)]
-    if keyword == b"class":
-        count = rng.choice([0, 1, 2, 3, 3, 32, 33])
-        return [keyword, word(rng, odd), [word(rng, odd) if count < 4 else b"p%d" % i for i in range(count)]]
-    if keyword != b"allow":
-        return [keyword, word(rng, odd), word(rng, odd)]
-    target = rng.choice([b"self", b"notself", b"other", word(rng, odd), word(rng, odd), word(rng, odd)])
-    permissions = [word(rng, odd), expression(rng, 3, odd)] if often(rng, 0.9) else word(rng, odd)
-    return [keyword, word(rng, odd), target, permissions]
-
-
-def lists_of(node):
-    return [node] + [deep for inner in node if isinstance(inner, list) for deep in lists_of(inner)]
-
-
-def bent(rng, statement):
-    """The statement with one of its parts changed, taken out, doubled, wrapped, quoted or added."""
-    chosen = rng.choice(lists_of(statement))
-    at = rng.randrange(len(chosen) + 1)
-    change = rng.randrange(6)
-    if at == len(chosen):
-        chosen.append(rng.choice([Quoted(b"z"), [], [b"a", b"b"], word(rng, 0.6)]))
-    elif change == 0:
-        chosen[at] = word(rng, 0.8)
-    elif change == 1:
-        chosen[at] = Quoted(rng.choice([b"", b"a", b"self", b"("]))
-    elif change == 2:
-        chosen[at] = [chosen[at]]
-    elif change == 3:
-        del chosen[at]
-    elif change == 4:
-        chosen.insert(at, chosen[at])
-    else:
-        statement[:1] = [rng.choice(rng.choice([LATER, UNKNOWN, sorted(model.TAKEN)]))]
-    return statement
-
-
-def statements_of_any_kind(rng):
-    odd, bend = rng.choice([0.0, 0.02, 0.1, 0.3]), rng.choice([0.0, 0.1, 0.3])
-    made = []
-    for _ in range(rng.choice([0, 1, 1, 2, 3, 6])):
-        each = any_statement(rng, odd)
-        while often(rng, bend):
-            each = bent(rng, each)
-        made.append(rng.choice([[], [[]], [Quoted(b"a")], [[b"type", b"a"]]]) if often(rng, 0.03) else each)
-    return made
-
-
-# ---- policies that load
-
-
-class Names:
-    def __init__(self, rng):
-        def some(most):
-            return rng.sample(NAMES, rng.randrange(1, most + 1))
-
-        self.types, self.users, self.roles, self.classes = some(4), some(3), [*some(3), b"object_r"], {}
-        for name in some(3):
-            many = [b"p%d" % i for i in range(rng.choice([31, 32]))]
-            few = rng.sample(PERMISSIONS, rng.randrange(0, 5))
-            self.classes[name] = many if often(rng, 0.15) else few + few[:1] * often(rng, 0.2)
-
-
-def dotted(rng, name):
-    return b"." + name if often(rng, 0.15) else name
-
-
-def nested(rng, items):
-    if len(items) < 2 or often(rng, 0.6):
-        return items
-    at = rng.randrange(len(items) + 1)
-    return [nested(rng, items[:at]), nested(rng, items[at:])]
-
-
-def rule(rng, names):
-    name = rng.choice(list(names.classes))
-    listed = names.classes[name]
-    permissions = [rng.choice(listed) for _ in range(rng.randrange(4))] if listed else []
-    target = b"self" if often(rng, 0.25) else dotted(rng, rng.choice(names.types))
-    return [b"allow", dotted(rng, rng.choice(names.types)), target, [dotted(rng, name), nested(rng, permissions)]]
-
-
-def policy(rng, names):
-    made = [[b"type", name] for name in names.types] + [[b"user", name] for name in names.users]
-    made += [[b"role", name] for name in names.roles if name != b"object_r" or often(rng, 0.2)]
-    made += [[b"class", name, listed] for name, listed in names.classes.items()]
-    made += [[b"userrole", dotted(rng, user), dotted(rng, role)] for user in names.users for role in names.roles if often(rng, 0.6)]
-    made += [[b"roletype", dotted(rng, role), dotted(rng, name)] for role in names.roles for name in names.types if often(rng, 0.6)]
-    return made + [rule(rng, names) for _ in range(rng.choice([0, 1, 3, 8, 14]))]
-
-
-def fault(rng, names):
-    """A statement that is refused at a later step than that of shapes, or may be."""
-    name = rng.choice([b"nobody", b".nobody", b"a.b", b".all", rng.choice(names.users), rng.choice(list(names.classes))])
-    class_name = rng.choice(list(names.classes))
-    return rng.choice([
-        [b"allow", name, rng.choice(names.types), [class_name, []]],
-        [b"allow", rng.choice(names.types), name, [class_name, [b"nope", [b"nope", b"read"]]]],
-        [b"allow", rng.choice(names.types), b"self", [name, [b"read"]]],
-        [b"roletype", name, name],
-        [b"userrole", name, rng.choice(names.roles)],
-        [b"class", class_name, rng.sample(names.classes[class_name], len(names.classes[class_name]))],
-        [b"class", class_name, [*names.classes[class_name], b"more"]],
-        [b"class", b"wide", [b"p%d" % i for i in range(rng.choice([32, 33, 40]))]],
-    ])
-
-
-def context(rng, names, odd):
-    parts = [rng.choice(names.users), rng.choice(names.roles), rng.choice(names.types)]
-    if often(rng, odd):
-        at = rng.randrange(3)
-        parts[at] = rng.choice([b"", b"nobody", b"." + parts[at], parts[at] + b".a", parts[at] + b"\r", b"\xff", parts[at].upper()])
-        if often(rng, 0.4):
-            parts = rng.choice([parts[:2], [*parts, b"s0"], [*parts, b""], [b"", *parts], parts[::-1]])
-    return b":".join(parts)
-
-
-def queries(rng, names, odd):
-    if often(rng, 0.2):
-        all_of = [b":".join((user, role, name)) for user in names.users for role in names.roles for name in names.types][:8]
-        return [b"AV %s %s %s\n" % (source, target, rng.choice(list(names.classes))) for source in all_of for target in all_of]
-    made = []
-    for _ in range(rng.randrange(1, 10)):
-        class_name = rng.choice([b"nobody", b".file", b"\0"]) if often(rng, odd / 2) else rng.choice(list(names.classes))
-        made.append(b"AV %s %s %s\n" % (context(rng, names, odd), context(rng, names, odd), class_name))
-    return made
-
-
-def modules_of(rng, statements):
-    """Statements spread over a few modules, some of them twice."""
-    modules = [[] for _ in range(rng.choice([1, 1, 2, 3, 5]))]
-    for each in statements:
-        for _ in range(1 + often(rng, 0.05)):
-            rng.choice(modules).append(each)
-    for each in modules:
-        rng.shuffle(each)
-    return [module_of(rng, each) for each in modules]
-
-
-# ---- sessions, as parts that can be left out
-
-
-def install(text):
-    return b"INSTALL %d\n%s" % (len(text), text)
-
-
-def import_bundle(bundle):
-    return b"IMPORT %d\n%s" % (len(bundle), bundle)
-
-
-def bundle_of(texts):
-    return b"CILB\x01" + len(texts).to_bytes(8, "big") + b"".join(len(text).to_bytes(8, "big") + text for text in texts)
-
-
-def policies(rng):
-    """Policies that load, and queries of every kind; some later ones do not load."""
-    parts, names = [], Names(rng)
-    for turn in range(rng.choice([1, 1, 2, 3])):
-        made = policy(rng, names) if turn == 0 else [rule(rng, names) for _ in range(3)]
-        made += [fault(rng, names) for _ in range(rng.choice([0, 0, 0, 0, 0, 0, 0, 1, 2]))]
-        texts = modules_of(rng, made)
-        placed = [import_bundle(bundle_of(sorted(set(texts))))] if often(rng, 0.2) else [install(text) for text in texts]
-        rng.shuffle(placed)
-        parts += [*placed, *placed[:1], b"LOAD\n", *queries(rng, names, 0.2)]
-    return parts
-
-
-def faults(rng):
-    """Policies with faults of several steps, in several modules."""
-    names = Names(rng)
-    made = policy(rng, names) + [fault(rng, names) for _ in range(rng.randrange(1, 5))]
-    if often(rng, 0.3):
-        made += statements_of_any_kind(rng)
-    return [install(text) for text in modules_of(rng, made)] + [b"LOAD\n"]
-
-
-def shapes(rng):
-    """Statements of every shape, right and wrong."""
-    return [install(module_of(rng, statements_of_any_kind(rng))) for _ in range(rng.randrange(1, 4))] + [b"LOAD\n"]
-
-
-def random_text(rng):
-    form = rng.randrange(5)
-    if form == 0:
-        return b"".join(rng.choice(PIECES) for _ in range(rng.randrange(40)))
-    if form == 1:
-        depth = rng.randrange(126, 131)
-        inside = rng.choice([b"", b"a", b'"x"', b";c\n", b"()", b"\x01", b'"', b"(a)(b)"])
-        return b"(" * depth + inside + b")" * (depth + rng.choice([0, 0, 0, -1, 1])) + rng.choice([b"", b";z", b")", b"a"])
-    if form == 2:
-        some = bytes(rng.randrange(256) for _ in range(rng.randrange(12)))
-        return rng.choice([b"", b"(a ", b"("]) + rng.choice([b";", b'"']) + some + rng.choice([b"", b"\n)", b'")', b'"a)', b"\r)"])
-    if form == 3:
-        return rng.choice([b"%s", b"(%s)", b"(a%sb)", b'("%s")', b";%s", b"()%s"]) % bytes([rng.randrange(256)])
-    text = bytearray(module_of(rng, statements_of_any_kind(rng)))
-    if text:
-        text[rng.randrange(len(text))] = rng.randrange(256)
-    return bytes(text)
-
-
-def texts(rng):
-    """Texts of random bytes, brackets, strings and comments."""
-    return [install(random_text(rng)) for _ in range(rng.randrange(1, 40))] + [b"LIST\n", b"LOAD\n"]
-
-
-def random_bundle(rng):
-    listed = [rng.choice(SMALL) for _ in range(rng.randrange(5))]
-    listed = sorted(set(listed)) if often(rng, 0.8) else listed
-    bundle = bytearray(bundle_of(listed))
-    form = rng.randrange(6)
-    if form == 0:
-        del bundle[rng.randrange(len(bundle)):]
-    elif form == 1:
-        bundle += rng.choice([b"\0", b"x", bytes(bundle)])
-    elif form == 2:
-        bundle[rng.randrange(min(len(bundle), 21))] = rng.choice([0, 1, 2, 127, 128, 255])
-    elif form == 3:
-        return bundle_of(listed + listed[-1:])
-    return bytes(bundle)
-
-
-def bundles(rng):
-    """Bundles, good and cut, changed or out of order; and what is exported, brought back."""
-    parts = []
-    for _ in range(rng.randrange(1, 12)):
-        parts.append(rng.choice([import_bundle(random_bundle(rng)), install(rng.choice(SMALL)), b"LIST\n", b"EXPORT\n"]))
-    host = model.Host()
-    model.run(b"".join(parts), host)
-    return [*parts, import_bundle(host.export()), import_bundle(host.export()[:-1]), b"LIST\n", b"EXPORT\n"]
-
-
-def random_line(rng):
-    request = rng.choice([b"LOAD", b"LIST", b"EXPORT", b"QUIT", b"AV u:r:a u:r:b file", b"INSTALL 0", b"IMPORT 0", b"SET b true", b"CHECK a b c d", b"OPTIONALS", b"WHY"])
-    form = rng.randrange(8)
-    if form == 0:
-        return rng.choice([b" ", b"\t", b"\r", b"\0"]) + request
-    if form == 1:
-        return request + rng.choice([b" ", b"\r", b"\0", b" x", b"  "])
-    if form == 2:
-        return rng.choice([request.lower(), request.replace(b" ", b"  ", 1), request[:-1], b"AV  a b", b"AV a b ", b"", b" ", b"\xff"])
-    if form == 3:
-        number = rng.choice([b"00", b"01", b"+0", b"-1", b"0x0", b"1e1", b"", b"0 0", b"067108865", b"1_0", b"\xd9\xa0"])
-        return rng.choice([b"INSTALL ", b"IMPORT "]) + number
-    if form == 4:
-        size = rng.choice([4094, 4095, 4096])
-        return rng.choice([b"AV a b " + b"c" * (size - 7), b" " * size, b"INSTALL " + b"0" * (size - 8)])
-    return request
-
-
-ENDS = [
-    b"", b"QUIT\nLIST\n", b"LOAD", b"L", b"x" * 4096, b"x" * 4097, b"x" * 4096 + b"\nLIST\n", b"x" * 4097 + b"\nLIST\n",
-    b"INSTALL 5\nLOAD", b"IMPORT 67108864\nx", b"INSTALL 67108865\nLIST\n", b"INSTALL 18446744073709551621\n",
-    b"IMPORT " + b"9" * 4089 + b"\nLIST\n", b"IMPORT " + b"9" * 4090 + b"\nLIST\n", b"INSTALL 01\nLIST\n",
-]
-
-
-def lines(rng):
-    """Lines of every kind, and every way in which a session ends."""
-    first = b"(class file (open read))(user u)(role r)(type a)(type b)(userrole u r)(roletype r a)(roletype r b)(allow a b (file (read)))"
-    parts = [install(first), b"LOAD\n"] if often(rng, 0.5) else []
-    return parts + [random_line(rng) + b"\n" for _ in range(rng.randrange(16))] + [rng.choice(ENDS)]
-
-
-def long_texts(rng):
-    """Texts at the limit of their length, and over it."""
-    size = model.LONGEST_TEXT + rng.choice([-1, 0, 1, 2])
-    text = rng.choice([
-        rng.choice([b" ", b"a", b"(", b")", b";", b'"', b"\xff"]) * size,
-        b"(" + b"a" * (size - 2) + b")",
-        b"()" * (size // 2) + b" " * (size % 2),
-        b" " * (size - 8) + b"(type a)",
-        b'("' + b"x" * (size - 4) + rng.choice([b'")', b"x)", b"\n)"]),
-    ])
-    return [install(text), import_bundle(bundle_of(sorted([b"(type a)", text]))), b"LIST\n", b"LOAD\n"]
-
-
-KINDS = {each.__name__: each for each in (policies, faults, shapes, texts, bundles, lines, long_texts)}
-
-
-# ---- comparing
+KINDS = {
+    each.__name__: each
+    for each in (
+        flat_sessions.policies, flat_sessions.faults, flat_sessions.shapes, block_sessions.blocks,
+        flat_sessions.texts, flat_sessions.bundles, flat_sessions.lines, flat_sessions.long_texts,
+    )
+}
+USUAL_COUNT = 200
+
+# So many sessions are given to a process at a time.
+AT_A_TIME = 50
+
+
+def session(kind, number):
+    """The parts of a session. One number of a kind is one session."""
+    return KINDS[kind](random.Random(f"{kind} {number}"))
 
 
 def answer(program, parts):
@@ -377,41 +54,116 @@ def cut_down(program, parts):
     return parts
 
 
-def are_alike(program, kind, count, first):
-    """Runs sessions of a kind, up to the first that differs, which is printed."""
-    loads = refused = 0
-    for number in range(first, first + count):
-        parts = KINDS[kind](random.Random(f"{kind} {number}"))
+def told(program, kind, number):
+    """What is printed of a session that differs."""
+    parts = cut_down(program, session(kind, number))
+    return "\n".join([
+        f"{kind} {number} differs: {b''.join(parts)!r}",
+        f"    the program has {answer(program, parts)!r}",
+        f"    the model has   {wanted(parts)!r}",
+    ])
+
+
+def run_some(given):
+    """Runs some sessions: what the model replied to loads and queries, counted, and the first session that differs."""
+    program, kind, numbers = given
+    counts = collections.Counter()
+    for number in numbers:
+        parts = session(kind, number)
         replies = wanted(parts)
-        if answer(program, parts) != replies:
-            parts = cut_down(program, parts)
-            print(f"{kind} {number} differs: {b''.join(parts)!r}")
-            print(f"    the program has {answer(program, parts)!r}")
-            print(f"    the model has   {wanted(parts)!r}")
-            return False
-        loads += parts.count(b"LOAD\n")
-        refused += replies[0].count(b"FAULTS ")
-    print(f"{kind}: {count} sessions alike; of {loads} loads {refused} were refused")
+        counts.update(replies_counted(replies[0]))
+        if program and answer(program, parts) != replies:
+            return counts, number
+    return counts, None
+
+
+def replies_counted(replies):
+    """The replies to loads and queries of a session, by what they tell; a code once for a load that has it."""
+    for load in re.split(rb"\n(?=OK\n|FAULTS )", b"\n" + replies):
+        lines = load.split(b"\n")
+        if lines[0].startswith(b"FAULTS "):
+            yield "loads refused"
+            codes = {line.split(b" ")[0] for line in lines[1:1 + int(lines[0][7:])]}
+            yield from sorted("fault " + code.decode() for code in codes)
+        elif lines[0] == b"OK":
+            yield "loads accepted"
+        for line in lines:
+            if re.fullmatch(rb"OK \S+ - \S+", line):
+                yield "queries, nothing allowed" if line.startswith(b"OK - ") else "queries, something allowed"
+            elif re.fullmatch(rb"ERR 7[0-9].*", line):
+                yield "queries, " + line.decode()
+
+
+def run_all(program, kind, numbers, jobs):
+    """Runs sessions of a kind up to the first that differs: the counts, and that session's number or nothing."""
+    some = [(program, kind, numbers[at:at + AT_A_TIME]) for at in range(0, len(numbers), AT_A_TIME)]
+    counts = collections.Counter()
+    with multiprocessing.Pool(jobs) as pool:
+        for counted, different in pool.imap(run_some, some):
+            counts += counted
+            if different is not None:
+                return counts, different
+    return counts, None
+
+
+def are_alike(program, kind, numbers, jobs):
+    counts, different = run_all(program, kind, numbers, jobs)
+    if different is not None:
+        print(told(program, kind, different))
+        return False
+    refused = counts["loads refused"]
+    loads = refused + counts["loads accepted"]
+    print(f"{kind}: {len(numbers)} sessions alike; of {loads} loads {refused} were refused", flush=True)
     return True
 
 
-def main():
+def print_census(kind, numbers, jobs):
+    counts, _ = run_all(None, kind, numbers, jobs)
+    print(f"{kind}: {len(numbers)} sessions")
+    for told_of, count in sorted(counts.items()):
+        print(f"    {told_of}: {count}")
+
+
+def arguments():
     parser = argparse.ArgumentParser(
-        description="Runs random sessions through the program and through the model, and compares all that they answer.",
+        usage="%(prog)s [--jobs JOBS] {PROGRAM | --census} [KIND [COUNT [FIRST]]]",
+        description="Runs random sessions through the program and through the model, and compares their answers.",
         epilog="Kinds of sessions: " + "; ".join(f"{kind}: {made.__doc__}" for kind, made in KINDS.items()),
     )
-    parser.add_argument("program", help="the built cilhost")
-    parser.add_argument("kind", nargs="?", choices=[*KINDS, "all"], default="all")
-    parser.add_argument("count", nargs="?", type=int, default=200, help="how many sessions of a kind (200; of long_texts, among all kinds, a twentieth)")
-    parser.add_argument("first", nargs="?", type=int, default=0, help="the number of the first; one number is one session (0)")
-    given = parser.parse_args()
+    parser.add_argument("words", nargs="*", help="PROGRAM is the built cilhost. KIND is a kind of sessions, or all, as"
+                        " without it. COUNT is how many sessions of a kind (200; of long_texts, among all kinds, a"
+                        " twentieth). FIRST is the number of the first; one number is one session (0).")
+    parser.add_argument("--census", action="store_true", help="counts what the model replies, without the program")
+    parser.add_argument("--jobs", type=int, default=1, help="how many processes run sessions at a time (1)")
+    given = parser.parse_intermixed_args()
+    words = given.words if given.census else given.words[1:]
+    if len(words) > 3 or not (given.census or given.words):
+        parser.error("PROGRAM or --census is wanted, and at most KIND, COUNT and FIRST after it")
+    given.program = None if given.census else given.words[0]
+    given.kind = words[0] if words else "all"
+    if given.kind not in KINDS and given.kind != "all":
+        parser.error(f"there is no kind {given.kind}")
+    if not all(word.isdecimal() for word in words[1:]):
+        parser.error("COUNT and FIRST are numbers")
+    given.count, given.first = (int(word) for word in (*words[1:], *[str(USUAL_COUNT), "0"][len(words[1:]):]))
+    return given
+
+
+def main():
+    given = arguments()
     if given.kind != "all":
         counts = {given.kind: given.count}
     else:
         # A session of a long text takes more than a second.
         counts = {kind: given.count // 20 if kind == "long_texts" else given.count for kind in KINDS}
-    if not all([are_alike(given.program, kind, count, given.first) for kind, count in counts.items()]):
-        sys.exit(1)
+    is_alike = True
+    for kind, count in counts.items():
+        numbers = range(given.first, given.first + count)
+        if given.census:
+            print_census(kind, numbers, given.jobs)
+        else:
+            is_alike &= are_alike(given.program, kind, numbers, given.jobs)
+    sys.exit(0 if is_alike else 1)
 
 
 if __name__ == "__main__":

@@ -18,6 +18,10 @@ use Rattle.cil_macros.specs.Item.{all_words_in, words_in}
 both_counted : (a b limit : ℕ) → min (min a limit + min b limit) limit ≡ min (a + b) limit
 both_counted a b limit = omega arith
 
+pub none_counted : {X Y : Type 0} (f : X → List Y) (limit : ℕ) (xs : List X) → 0 ≡ min (length (flat_map f (take 0 xs))) limit
+none_counted f limit [] = omega arith
+none_counted f limit (x ∷ xs) = omega arith
+
 module _ {X Y : Type 0} (f : X → List Y) (limit : ℕ) (xs : List X) (i : ℕ) where
   pub one_counted : (x d : X) (old part new : ℕ) → i < length xs → x ≡ get_or xs i d → old ≡ min (length (flat_map f (take i xs))) limit → part ≡ min (length (f x)) limit
       → new ≡ min (old + part) limit → new ≡ min (length (flat_map f (take (i + 1) xs))) limit

@@ -7,23 +7,23 @@ use Rattle.std.specs.declared.cmp.Ordering.TheVariants.{Less}
 use Rattle.std.specs.Option.{option_map, unwrap_or}
 use Rattle.std.specs.Ordering.{on}
 use Rattle.std.specs.Global.{Vec}
-use Rattle.std.proofs.Common.{◌≡◌, ℕ, Bool, true, false, ◌||◌, List, [], ◌∷◌, ◌++◌, map, length, refl, sym, ◌∙◌, ap, subst}
+use Rattle.std.proofs.Common.{◌≡◌, ℕ, Bool, true, false, ◌||◌, List, [], ◌∷◌, ◌++◌, map, length, refl, sym, ◌∙◌, ap, subst, inl, inr}
 use Rattle.std.proofs.lemmas.Option.{slice_get-map}
 use Rattle.cil_sexpr.specs.Searches.{any_from, any_map, any_true}
 use Rattle.cil_sexpr.specs.Places.{get_at, get_contains}
 use Rattle.cil_names.specs.declared.entry.Entry.{Entry}
-use Rattle.cil_names.specs.declared.instance.Instance.{Instance}
 use Rattle.cil_names.specs.declared.row.Row.{Row}
 use Rattle.cil_names.specs.declared.run.Run.{Run}
-use Rattle.cil_blocks.specs.declared.namespaces.Space.{Space}
+use Rattle.cil_macros.specs.Items.{Kept, items_in, namespaces_in}
 use Rattle.cil_names.specs.Declarations.{Declaration, IsDeclaration}
-use Rattle.cil_names.specs.DeclareRows.{TellsDiffering, declaration_of, is_row_enabled, round_at}
+use Rattle.cil_names.specs.DeclareRows.{declaration_of, is_row_enabled, round_at}
 use Rattle.cil_names.specs.DeclareRuns.{Said, entry_of_run, is_always, has_none, listed_unless, rounds_by, run_key, said_by}
-use Rattle.cil_names.specs.Entries.{AreEntries, IsEntryFor, Key, is_declared_in, items_of, key_cmp, key_of, rank}
+use Rattle.cil_names.specs.Entries.{AreEntries, IsEntryFor, Key, is_declared_in, key_cmp, key_of, rank}
 use Rattle.cil_macros.specs.Item.{OptSet, everybody}
 use Rattle.cil_blocks.specs.Namespaces.{space_at}
-use Rattle.cil_names.proofs.DeclareFaults.{all_enabled}
-use Rattle.cil_names.proofs.DeclareDone.{AreRunsOf, declared_row, in_rows, placed_in, row_declared, run_of, space_within}
+use Rattle.cil_names.proofs.DeclareFaults.{alike_of, all_enabled, one_name_space}
+use Rattle.cil_names.proofs.DeclareDone.{AreRunsOf, declared_row, is_row, row_declared, run_of, space_within}
+use Rattle.cil_names.proofs.DeclareRowLemmas.{of_macro}
 
 -- ---- where an entry is declared
 
@@ -32,23 +32,23 @@ or_moved true true b = refl
 or_moved true false b = refl
 or_moved false x b = refl
 
-module _ (s : OptSet) where
+module _ (kept : Kept) (s : OptSet) where
   abbrev lives : List Row → Bool
-  lives rows = list_any is_always rows || list_any (list_all s) (flat_map rounds_by rows)
+  lives rows = list_any (is_always kept) rows || list_any (list_all s) (flat_map (rounds_by kept) rows)
 
   one_more : (round : List ℕ) (a : Bool) (rest : List (List ℕ)) → ((has_none round || a) || list_any (list_all s) (listed_unless (has_none round) round ++ rest))
       ≡ (list_all s round || (a || list_any (list_all s) rest))
   one_more [] a rest = refl
   one_more (o ∷ os) a rest = or_moved a (list_all s (o ∷ os)) (list_any (list_all s) rest)
 
-  lives_as : (rows : List Row) → lives rows ≡ list_any (is_row_enabled s) rows
+  lives_as : (rows : List Row) → lives rows ≡ list_any (is_row_enabled kept s) rows
   unfolding rounds_by
   lives_as [] = refl
   lives_as (r ∷ rs) =
-      one_more (round_at r.instance) (list_any is_always rs) (flat_map rounds_by rs) ∙ ap (λ b. is_row_enabled s r || b) (lives_as rs)
+      one_more (round_at kept r.at) (list_any (is_always kept) rs) (flat_map (rounds_by kept) rs) ∙ ap (λ b. is_row_enabled kept s r || b) (lives_as rs)
 
   -- an entry is declared where a row of its run is enabled
-  pub lives_in : (e : Entry) (run : Run) → said_by e ≡ entry_of_run run → is_declared_in s e ≡ list_any (is_row_enabled s) run.rows.now
+  pub lives_in : (e : Entry) (run : Run) → said_by e ≡ entry_of_run kept run → is_declared_in s e ≡ list_any (is_row_enabled kept s) run.rows.now
   lives_in e run says =
       ap (λ b. e.always || b) (sym (any_map (λ (round : Vec ℕ). round.items) (list_all s) e.rounds.items))
       ∙ ap (λ (z : Said). z.always || list_any (list_all s) z.rounds) says
@@ -60,19 +60,19 @@ some_of : {X Y : Type 0} (f : X → Y) (o : Option X) (y : Y) → option_map f o
 some_of f None y e = absurd cc
 some_of f (Some x) y e = (x, refl, ap (λ z. unwrap_or z y) e)
 
-module _ (es : List Entry) (runs : List Run) (says : map said_by es ≡ map entry_of_run runs) where
-  same_at : (n : ℕ) → option_map said_by (slice_get es n) ≡ option_map entry_of_run (slice_get runs n)
-  same_at n = sym (slice_get-map said_by es n) ∙ ap (λ z. slice_get z n) says ∙ slice_get-map entry_of_run runs n
+module _ (kept : Kept) (es : List Entry) (runs : List Run) (says : map said_by es ≡ map (entry_of_run kept) runs) where
+  same_at : (n : ℕ) → option_map said_by (slice_get es n) ≡ option_map (entry_of_run kept) (slice_get runs n)
+  same_at n = sym (slice_get-map said_by es n) ∙ ap (λ z. slice_get z n) says ∙ slice_get-map (entry_of_run kept) runs n
 
-  pub entry_for : (run : Run) → Contains runs run → (n : ℕ) × (e : Entry) × (slice_get es n ≡ Some e) × (said_by e ≡ entry_of_run run)
+  pub entry_for : (run : Run) → Contains runs run → (n : ℕ) × (e : Entry) × (slice_get es n ≡ Some e) × (said_by e ≡ entry_of_run kept run)
   entry_for run c =
       let (n, below_n, at) = get_at runs run c in
-      let (e, is, same) = some_of said_by (slice_get es n) (entry_of_run run) (same_at n ∙ ap (option_map entry_of_run) at) in
+      let (e, is, same) = some_of said_by (slice_get es n) (entry_of_run kept run) (same_at n ∙ ap (option_map (entry_of_run kept)) at) in
       (n, e, is, same)
 
-  pub run_for : (n : ℕ) (e : Entry) → slice_get es n ≡ Some e → (run : Run) × Contains runs run × (said_by e ≡ entry_of_run run)
+  pub run_for : (n : ℕ) (e : Entry) → slice_get es n ≡ Some e → (run : Run) × Contains runs run × (said_by e ≡ entry_of_run kept run)
   run_for n e at =
-      let (run, is, same) = some_of entry_of_run (slice_get runs n) (said_by e) (sym (same_at n) ∙ ap (option_map said_by) at) in
+      let (run, is, same) = some_of (entry_of_run kept) (slice_get runs n) (said_by e) (sym (same_at n) ∙ ap (option_map said_by) at) in
       (run, get_contains runs n run is, sym same)
 
 -- ---- the order of entries
@@ -103,69 +103,83 @@ unfolding key_said
 keys_said [] = refl
 keys_said (e ∷ es) = ap (λ z. key_of e ∷ z) (keys_said es)
 
-keys_run : (runs : List Run) → map run_key runs ≡ map key_said (map entry_of_run runs)
+keys_run : (kept : Kept) (runs : List Run) → map run_key runs ≡ map key_said (map (entry_of_run kept) runs)
 unfolding key_said
-keys_run [] = refl
-keys_run (run ∷ runs) = ap (λ z. run_key run ∷ z) (keys_run runs)
+keys_run kept [] = refl
+keys_run kept (run ∷ runs) = ap (λ z. run_key run ∷ z) (keys_run kept runs)
 
-pub entries_rise : (es : List Entry) (runs : List Run) → map said_by es ≡ map entry_of_run runs → IsStrictlySortedBy (on run_key key_cmp) runs → IsStrictlySortedBy (on key_of key_cmp) es
-entries_rise es runs says up =
+pub entries_rise : (kept : Kept) (es : List Entry) (runs : List Run) → map said_by es ≡ map (entry_of_run kept) runs → IsStrictlySortedBy (on run_key key_cmp) runs → IsStrictlySortedBy (on key_of key_cmp) es
+entries_rise kept es runs says up =
     unmap_rises key_of key_cmp es
-    (subst (IsStrictlySortedBy key_cmp) (keys_run runs ∙ ap (map key_said) (sym says) ∙ sym (keys_said es)) (rises_map run_key key_cmp runs up))
+    (subst (IsStrictlySortedBy key_cmp) (keys_run kept runs ∙ ap (map key_said) (sym says) ∙ sym (keys_said es)) (rises_map run_key key_cmp runs up))
 
 -- ---- the entries are the declared names
 
-all_one : (ss : List Space) (first : Row) (rows : List Row) (b : Bool) → b ≡ false → TellsDiffering ss first rows b → (r : Row) → Contains rows r
-    → declaration_of ss first ≡ declaration_of ss r
-all_one ss first rows b is tells = subst (TellsDiffering ss first rows) is tells
+module _ (i : Kept) (rows : List Row) (runs : List Run) (of : AreRunsOf i rows runs)
+    (clean : (run : Run) → Contains runs run → run.differing ≡ false) (es : List Entry) (says : map said_by es ≡ map (entry_of_run i) runs) where
+  -- what an entry says of a row of its run
+  record IsSaid (first r : Row) : Type 0 where
+    of_kind : first.kind ≡ r.kind
+    in_space : first.space ≡ r.space
+    of_name : first.name ≡ r.name
 
-module _ (ss : List Space) (xs : List Item) (rows : List Row) (runs : List Run) (of : AreRunsOf ss is rows runs)
-    (clean : (run : Run) → Contains runs run → run.differing ≡ false) (es : List Entry) (says : map said_by es ≡ map entry_of_run runs) where
-  one : (run : Run) → Contains runs run → (r : Row) → Contains run.rows.now r → declaration_of ss run.first.now ≡ declaration_of ss r
-  one run c = all_one ss run.first.now run.rows.now run.differing (clean run c) (of.are.each run c).tells
+  one : (run : Run) → Contains runs run → (r : Row) → Contains run.rows.now r → IsSaid run.first.now r
+  one run c r d =
+      let is_run = of.are.each run c in
+      let key = sym (is_run.same r d) in
+      record {
+        of_kind = elim (alike_of i run.first.now run.rows.now run.differing (clean run c) is_run.tells r d) [
+          | inl block ↦
+              of_macro i run.first.now (is_row i rows runs of run run.first.now c is_run.first) block
+              ∙ sym (of_macro i r (is_row i rows runs of run r c d) (sym (one_name_space run.first.now r key) ∙ block))
+          | inr same ↦ ap (λ (x : Declaration). x.kind) same
+        ];
+        in_space = ap (λ (k : Key). k.space) key;
+        of_name = ap (λ (k : Key). k.name) key;
+      }
 
-  named_each : (s : OptSet) (d : Declaration) → IsDeclaration xs s d → (i : ℕ) × IsEntryFor ss es s d.kind d.space d.name i
+  named_each : (s : OptSet) (d : Declaration) → IsDeclaration (items_in i) s d → (n : ℕ) × IsEntryFor (namespaces_in i) es s d.kind d.space d.name n
   named_each s d declared =
-      let (r, in_all, same, enabled) = declared_row ss of.spaces is s d declared in
-      let (run, in_runs, in_run) = run_of ss is rows runs of r in_all in
-      let (n, e, at, said) = entry_for es runs says run in_runs in
-      let whole = one run in_runs r in_run ∙ same in (
+      let (r, in_all, same, enabled) = declared_row i rows of.all s d declared in
+      let (run, in_runs, in_run) = run_of i rows runs of r in_all in
+      let (n, e, at, said) = entry_for i es runs says run in_runs in
+      let whole = one run in_runs r in_run in (
         n,
         record {
           entry = e;
           at = at;
-          of_kind = ap (λ (z : Said). z.kind) said ∙ ap (λ (x : Declaration). x.kind) whole;
-          in_space = ap (λ (z : Said). space_at ss z.space) said ∙ ap (λ (x : Declaration). x.space) whole;
-          of_name = ap (λ (z : Said). z.name) said ∙ ap (λ (x : Declaration). x.name) whole;
-          live = lives_in s e run said ∙ any_from (is_row_enabled s) run.rows.now r in_run enabled;
+          of_kind = ap (λ (z : Said). z.kind) said ∙ whole.of_kind ∙ ap (λ (x : Declaration). x.kind) same;
+          in_space = ap (λ (z : Said). space_at (namespaces_in i) z.space) said ∙ ap (space_at (namespaces_in i)) whole.in_space ∙ ap (λ (x : Declaration). x.space) same;
+          of_name = ap (λ (z : Said). z.name) said ∙ whole.of_name ∙ ap (λ (x : Declaration). x.name) same;
+          live = lives_in i s e run said ∙ any_from (is_row_enabled i s) run.rows.now r in_run enabled;
         },
       )
 
-  named_only : (s : OptSet) (i : ℕ) (e : Entry) → slice_get es i ≡ Some e → is_declared_in s e ≡ true
-      → (d : Declaration) × IsDeclaration xs s d × (d.kind ≡ e.kind) × (d.space ≡ space_at ss e.space) × (d.name ≡ e.name)
-  named_only s i e at live =
-      let (run, in_runs, said) = run_for es runs says i e at in
-      let (r, in_run, enabled) = any_true (is_row_enabled s) run.rows.now (sym (lives_in s e run said) ∙ live) in
-      let same = sym (one run in_runs r in_run) in (
-        declaration_of ss r,
-        row_declared ss of.spaces is s r (in_rows ss is rows runs of run r in_runs in_run) enabled,
-        ap (λ (x : Declaration). x.kind) same ∙ sym (ap (λ (z : Said). z.kind) said),
-        ap (λ (x : Declaration). x.space) same ∙ sym (ap (λ (z : Said). space_at ss z.space) said),
-        ap (λ (x : Declaration). x.name) same ∙ sym (ap (λ (z : Said). z.name) said),
+  named_only : (s : OptSet) (n : ℕ) (e : Entry) → slice_get es n ≡ Some e → is_declared_in s e ≡ true
+      → (d : Declaration) × IsDeclaration (items_in i) s d × (d.kind ≡ e.kind) × (d.space ≡ space_at (namespaces_in i) e.space) × (d.name ≡ e.name)
+  named_only s n e at live =
+      let (run, in_runs, said) = run_for i es runs says n e at in
+      let (r, in_run, enabled) = any_true (is_row_enabled i s) run.rows.now (sym (lives_in i s e run said) ∙ live) in
+      let whole = one run in_runs r in_run in (
+        declaration_of i r,
+        row_declared i s r (is_row i rows runs of run r in_runs in_run) enabled,
+        sym whole.of_kind ∙ sym (ap (λ (z : Said). z.kind) said),
+        ap (space_at (namespaces_in i)) (sym whole.in_space) ∙ sym (ap (λ (z : Said). space_at (namespaces_in i) z.space) said),
+        sym whole.of_name ∙ sym (ap (λ (z : Said). z.name) said),
       )
 
-  named_used : (i : ℕ) (e : Entry) → slice_get es i ≡ Some e → is_declared_in everybody e ≡ true
-  named_used i e at =
-      let (run, in_runs, said) = run_for es runs says i e at in
-      lives_in everybody e run said
-      ∙ any_from (is_row_enabled everybody) run.rows.now run.first.now (of.are.each run in_runs).first (all_enabled (round_at run.first.now.instance))
+  named_used : (n : ℕ) (e : Entry) → slice_get es n ≡ Some e → is_declared_in everybody e ≡ true
+  named_used n e at =
+      let (run, in_runs, said) = run_for i es runs says n e at in
+      lives_in i everybody e run said
+      ∙ any_from (is_row_enabled i everybody) run.rows.now run.first.now (of.are.each run in_runs).first (all_enabled (round_at i run.first.now.at))
 
-  stands_within : (e : Entry) → Contains es e → e.space ≤ length ss
+  stands_within : (e : Entry) → Contains es e → e.space ≤ length (namespaces_in i)
   stands_within e c =
       let (n, below_n, at) = get_at es e c in
-      let (run, in_runs, said) = run_for es runs says n e at in
-      let within = space_within ss run.first.now (placed_in ss is rows runs of run run.first.now in_runs (of.are.each run in_runs).first) in
-      subst (λ k. k ≤ length ss) (sym (ap (λ (z : Said). z.space) said)) within
+      let (run, in_runs, said) = run_for i es runs says n e at in
+      let within = space_within i run.first.now (is_row i rows runs of run run.first.now in_runs (of.are.each run in_runs).first) in
+      subst (λ k. k ≤ length (namespaces_in i)) (sym (ap (λ (z : Said). z.space) said)) within
 
-  pub are_named : AreEntries ss xs es
-  are_named = record { ordered = record { rising = entries_rise es runs says of.are.rising; within = stands_within }; each = named_each; only = named_only; used = named_used }
+  pub are_named : AreEntries (namespaces_in i) (items_in i) es
+  are_named = record { ordered = record { rising = entries_rise i es runs says of.are.rising; within = stands_within }; each = named_each; only = named_only; used = named_used }

@@ -1,150 +1,186 @@
 -- The rows of instances, and what they declare.
-use Rattle.std.specs.Prelude.{◌≤◌, All, Contains, IsTrue, Option, Some, None}
-use Rattle.std.proofs.Common.{◌≡◌, ℕ, ◌+◌, ◌<◌, suc, Bool, false, List, [], ◌∷◌, ◌++◌, length, take, drop, get_or, refl, sym, ◌∙◌, ap, subst, inl, inr, arith}
-use Rattle.std.proofs.lemmas.Bool.{true≢false}
-use Rattle.std.proofs.lemmas.List.{append-nil, take_all, take_more}
-use Rattle.std.proofs.lemmas.List.Elements.{Contains-append_cases}
-use Rattle.cil_sexpr.specs.Lists.{contains_cases, contains_none}
-use Rattle.cil_sexpr.specs.Places.{cons_head, cons_tail}
+use Rattle.std.specs.Prelude.{◌⊎◌, Contains, None}
+use Rattle.std.specs.List.{list_all}
+use Rattle.std.proofs.Common.{◌≡◌, ℕ, ◌+◌, ◌<◌, Bool, true, false, List, [], ◌∷◌, ◌++◌, map, refl, sym, ◌∙◌, ap, subst, inl, inr, arith}
+use Rattle.std.proofs.lemmas.Bool.{and_parts}
+use Rattle.std.proofs.lemmas.List.Elements.{Contains-append_cases, Contains-append_left, Contains-append_right}
+use Rattle.cil_sexpr.specs.Lists.{contains_cases, contains_here, contains_none}
+use Rattle.cil_sexpr.specs.MadeLists.{contains_map, from_map}
+use Rattle.cil_syntax.specs.declared.kind.Keyword.{Keyword}
+use Rattle.cil_syntax.specs.declared.kind.Keyword.TheVariants as keywords
 use Rattle.cil_syntax.specs.declared.kind.Kind.{Kind}
-use Rattle.cil_syntax.specs.declared.term.Spot.{Spot}
-use Rattle.cil_syntax.specs.declared.term.Term as rust
-use Rattle.cil_syntax.specs.declared.term.Word.{Word}
+use Rattle.cil_syntax.specs.declared.kind.Kind.TheVariants as kinds
 use Rattle.cil_syntax.specs.Forms.{name_in_front}
-use Rattle.cil_syntax.specs.Said.{all_said, args_of}
 use Rattle.cil_syntax.specs.Table.{entry_of}
 use Rattle.cil_syntax.specs.Terms.{Leaf, Name, Form, Terms, nil, cons}
-use Rattle.cil_syntax.specs.Scopes.{Scope}
-use Rattle.cil_names.specs.declared.instance.Instance.{Instance}
+use Rattle.cil_syntax.specs.Scopes.{Namespace, ScopedWord}
+use Rattle.cil_macros.specs.Item.{Item}
+use Rattle.cil_macros.specs.Items.{Kept, item_at, says_as_written}
 use Rattle.cil_names.specs.declared.row.Row.{Row}
-use Rattle.cil_blocks.specs.declared.namespaces.Space.{Space}
-use Rattle.cil_names.specs.Declarations.{Declaration, content_of}
-use Rattle.cil_names.specs.DeclareRows.{IsPlacedRow, bare_terms, behind, content_at, declaration_of, row_key, rows_by, rows_named, scope_numbers, terms_behind}
-use Rattle.cil_names.specs.Entries.{Key, scope_of, scoped}
-use Rattle.cil_macros.specs.Item.{all_replaced}
-use Rattle.cil_blocks.specs.Namespaces.{AreNamespaces, space_at}
-use Rattle.cil_names.proofs.DeclareContents.{Tells}
-use Rattle.cil_names.proofs.SpaceLemmas.{same_number}
+use Rattle.cil_names.specs.Declarations.{Declaration, content_of, declarations, declared_by, name_space, of_blocks, of_roles}
+use Rattle.cil_names.specs.DeclareRows.{AreRowsUpTo, IsRow, IsRowAt, behind, content_at, declaration_of, object_row}
 
--- ---- the rows of an instance
+-- ---- what statements declare
 
-module _ (i : Instance) where
-  none_named : (declares : List Kind) (args : Terms Word) → name_in_front args ≡ None → rows_named i declares args ≡ []
-  none_named declares nil e = refl
-  none_named declares (cons (Leaf w) rest) e = refl
-  none_named declares (cons (Name at name) rest) e = absurd cc
-  none_named declares (cons (Form at op parts) rest) e = refl
+-- what declares something says what is written
+pub declares_written : (k : Keyword) (kind : Kind) → Contains (entry_of k).declares kind → says_as_written k ≡ true
+unfolding entry_of
+declares_written keywords.Type_ kind c = refl
+declares_written keywords.Class kind c = refl
+declares_written keywords.Role kind c = refl
+declares_written keywords.User kind c = refl
+declares_written keywords.RoleType kind c = refl
+declares_written keywords.UserRole kind c = refl
+declares_written keywords.Allow kind c = refl
+declares_written keywords.Block kind c = refl
+declares_written keywords.BlockAbstract kind c = absurd (contains_none kind c)
+declares_written keywords.BlockInherit kind c = absurd (contains_none kind c)
+declares_written keywords.Macro kind c = refl
+declares_written keywords.Call kind c = absurd (contains_none kind c)
+declares_written keywords.SetAside kind c = refl
 
-  none_declared : (args : Terms Word) → rows_named i [] args ≡ []
-  none_declared nil = refl
-  none_declared (cons (Leaf w) rest) = refl
-  none_declared (cons (Name at name) rest) = refl
-  none_declared (cons (Form at op parts) rest) = refl
+is_no_block : Kind → Bool
+is_no_block kinds.Block = false
+is_no_block kind = true
 
-  pub without_name : (rows : List Row) → name_in_front (args_of i.statement.now) ≡ None → rows ≡ rows ++ rows_by i
-  unfolding rows_by
-  without_name rows e = sym (ap (λ z. rows ++ z) (none_named (entry_of i.statement.now.keyword).declares (args_of i.statement.now) e) ∙ append-nil rows)
+no_blocks : (k : Keyword) → list_all is_no_block (entry_of k).declares ≡ true
+unfolding entry_of is_no_block
+no_blocks keywords.Type_ = refl
+no_blocks keywords.Class = refl
+no_blocks keywords.Role = refl
+no_blocks keywords.User = refl
+no_blocks keywords.RoleType = refl
+no_blocks keywords.UserRole = refl
+no_blocks keywords.Allow = refl
+no_blocks keywords.Block = refl
+no_blocks keywords.BlockAbstract = refl
+no_blocks keywords.BlockInherit = refl
+no_blocks keywords.Macro = refl
+no_blocks keywords.Call = refl
+no_blocks keywords.SetAside = refl
 
-  pub without_kind : (rows : List Row) → (entry_of i.statement.now.keyword).declares ≡ [] → rows ≡ rows ++ rows_by i
-  unfolding rows_by
-  without_kind rows e =
-      sym (ap (λ z. rows ++ z) (ap (λ ks. rows_named i ks (args_of i.statement.now)) e ∙ none_declared (args_of i.statement.now)) ∙ append-nil rows)
+holds_of : {X : Type 0} (p : X → Bool) (xs : List X) (x : X) → Contains xs x → list_all p xs ≡ true → p x ≡ true
+holds_of p [] x c e = absurd (contains_none x c)
+holds_of p (y ∷ ys) x c e =
+    let (here, later) = and_parts (p y) (list_all p ys) e in
+    elim (contains_cases x y ys c) [ inl is ↦ subst (λ z. p z ≡ true) is here | inr d ↦ holds_of p ys x d later ]
 
-  pub one_row : (kind : Kind) (at : Spot) (name : List ℕ) (more : Terms Word) → (entry_of i.statement.now.keyword).declares ≡ kind ∷ []
-      → args_of i.statement.now ≡ cons (Name at name) more → rows_by i ≡ record { space = i.place.now.space; name = name; kind = kind; instance = Some i } ∷ []
-  unfolding rows_by
-  one_row kind at name more e says = ap (λ ks. rows_named i ks (args_of i.statement.now)) e ∙ ap (rows_named i (kind ∷ [])) says
+only_macros : (kind : Kind) → is_no_block kind ≡ true → name_space kind ≡ of_blocks → kind ≡ kinds.Macro
+unfolding is_no_block
+only_macros kinds.Type_ p e = absurd cc
+only_macros kinds.TypeAlias p e = absurd cc
+only_macros kinds.TypeAttribute p e = absurd cc
+only_macros kinds.Role p e = absurd cc
+only_macros kinds.RoleAttribute p e = absurd cc
+only_macros kinds.User p e = absurd cc
+only_macros kinds.UserAttribute p e = absurd cc
+only_macros kinds.Class p e = absurd cc
+only_macros kinds.ClassMap p e = absurd cc
+only_macros kinds.Block p e = absurd (let f : false ≡ true = p in cc)
+only_macros kinds.Macro p e = refl
 
-  pub row_pushed : (old new : List Row) (kind : Kind) (at : Spot) (name bytes : List ℕ) (more : Terms Word) → (entry_of i.statement.now.keyword).declares ≡ kind ∷ []
-      → args_of i.statement.now ≡ cons (Name at name) more → bytes ≡ name
-      → new ≡ old ++ record { space = i.place.now.space; name = bytes; kind = kind; instance = Some i } ∷ [] → new ≡ old ++ rows_by i
-  row_pushed old new kind at name bytes more e says same push =
-      push ∙ ap (λ (n : List ℕ). old ++ record { space = i.place.now.space; name = n; kind = kind; instance = Some i } ∷ []) same
-      ∙ ap (λ z. old ++ z) (sym (one_row kind at name more e says))
+-- of the kinds of blocks and macros only macros are declared
+pub declared_macro : (k : Keyword) (kind : Kind) → Contains (entry_of k).declares kind → name_space kind ≡ of_blocks → kind ≡ kinds.Macro
+declared_macro k kind c e = only_macros kind (holds_of is_no_block (entry_of k).declares kind c (no_blocks k)) e
 
--- ---- what rows declare
+pub of_macro : (i : Kept) (r : Row) → IsRow i r → name_space r.kind ≡ of_blocks → r.kind ≡ kinds.Macro
+of_macro i r is e = elim is [
+  | inl object ↦ absurd (let f : of_roles ≡ of_blocks = sym (ap (λ (x : Row). name_space x.kind) object) ∙ e in cc)
+  | inr from ↦ declared_macro (item_at i from.0).keyword r.kind from.1.kind e
+]
 
--- the number of the module of a row
-pub module_of : Option Instance → ℕ
-module_of None = 0
-module_of (Some i) = i.statement.now.at.«module»
+-- ---- the row of an instance
 
--- the scope of the words of a row
-abbrev pub row_scope : List Space → Row → Scope
-row_scope ss r = scope_of ss (scope_numbers r.instance)
+-- a declaration by its parts
+abbrev declared_as : Namespace → List ℕ → Terms ScopedWord → Kind → Declaration
+declared_as space name more kind = record { kind = kind; space = space; name = name; content = content_of more }
 
-nothing_said : (ss : List Space) → nil ≡ bare_terms 0 (scope_of ss []) []
-unfolding bare_terms all_replaced
-nothing_said ss = refl
+module _ (i : Kept) (k : ℕ) (r : Row) (of : IsRowAt i k r) where
+  by_name : declared_by (item_at i k) ≡ map (declared_as (item_at i k).space r.name of.named.0) (entry_of (item_at i k).keyword).declares
+  by_name = ap (declarations (item_at i k).space (entry_of (item_at i k).keyword).declares) of.named.1
 
-said_behind : (m : ℕ) (ss : List Space) (scope : List ℕ) (ts : List rust.Term)
-    → content_of (behind (all_replaced (λ at. at) (scoped ss scope) (all_said m ts))) ≡ bare_terms m (scope_of ss scope) (drop 1 ts)
-unfolding bare_terms all_replaced
-said_behind m ss scope [] = refl
-said_behind m ss scope (t ∷ ts) = refl
+  row_says : declaration_of i r ≡ declared_as (item_at i k).space r.name of.named.0 r.kind
+  row_says =
+      let content : content_at i r.at ≡ content_of of.named.0 = ap (content_at i) of.at ∙ ap (λ args. content_of (behind args)) of.named.1 in
+      λ j. record { kind = r.kind; space = of.space.is j; name = r.name; content = content j }
 
-said_by_instance : (ss : List Space) (i : Option Instance) → content_at ss i ≡ bare_terms (module_of i) (scope_of ss (scope_numbers i)) (terms_behind i)
-unfolding module_of
-said_by_instance ss None = nothing_said ss
-said_by_instance ss (Some i) = said_behind i.statement.now.at.«module» ss i.place.now.scope.items i.statement.now.args.items
+  -- what the row declares is declared by the instance
+  pub row_declares : Contains (declared_by (item_at i k)) (declaration_of i r)
+  row_declares =
+      subst (λ ds. Contains ds (declaration_of i r)) (sym by_name)
+      (subst (Contains (map (declared_as (item_at i k).space r.name of.named.0) (entry_of (item_at i k).keyword).declares)) (sym row_says)
+      (contains_map (declared_as (item_at i k).space r.name of.named.0) (entry_of (item_at i k).keyword).declares r.kind of.kind))
 
-pub numbers_within : (ss : List Space) (r : Row) → IsPlacedRow ss r → All (λ k. k ≤ length ss) (scope_numbers r.instance)
-numbers_within ss r = by r.instance
-  where
-    by : (i : Option Instance) → IsPlacedRow ss (record { space = r.space; name = r.name; kind = r.kind; instance = i }) → All (λ k. k ≤ length ss) (scope_numbers i)
-    by None placed = λ k d h. absurd (omega (arith, h))
-    by (Some i) placed = placed.0.asks
-
-module _ (ss : List Space) (spaces : AreNamespaces ss) where
-  -- the namespaces of numbers are the same where the numbers are
-  one_scope : (m n : List ℕ) → All (λ k. k ≤ length ss) m → All (λ k. k ≤ length ss) n → scope_of ss m ≡ scope_of ss n → m ≡ n
-  one_scope [] [] p q e = refl
-  one_scope [] (y ∷ ys) p q e = absurd cc
-  one_scope (x ∷ xs) [] p q e = absurd cc
-  one_scope (x ∷ xs) (y ∷ ys) p q e =
-      let one = same_number ss spaces (space_at ss y) x y (record { within = p 0 0 (omega arith); is = cons_head _ _ _ _ e }) (record { within = q 0 0 (omega arith); is = refl }) in
-      let others = one_scope xs ys (λ k d h. p (suc k) d (omega (arith, h))) (λ k d h. q (suc k) d (omega (arith, h))) (cons_tail _ _ _ _ e) in
-      λ i. one i ∷ others i
-
-  module _ (a b : Row) (placed_a : IsPlacedRow ss a) (placed_b : IsPlacedRow ss b) where
-    pub scopes_told : (same : Bool) → (IsTrue same → scope_numbers a.instance ≡ scope_numbers b.instance) × (scope_numbers a.instance ≡ scope_numbers b.instance → IsTrue same)
-        → (IsTrue same → row_scope ss a ≡ row_scope ss b) × (row_scope ss a ≡ row_scope ss b → IsTrue same)
-    scopes_told same tells =
-        ((λ h. ap (scope_of ss) (tells.0 h)), (λ e. tells.1 (one_scope _ _ (numbers_within ss a placed_a) (numbers_within ss b placed_b) e)))
-
-    pub kinds_apart : (same : Bool) → same ≡ false → (a.kind ≡ b.kind → IsTrue same)
-        → (IsTrue same → declaration_of ss a ≡ declaration_of ss b) × (declaration_of ss a ≡ declaration_of ss b → IsTrue same)
-    kinds_apart same is told =
-        ((λ h. absurd (true≢false (sym h ∙ is))), (λ e. told (ap (λ (d : Declaration). d.kind) e)))
-
-    pub declarations_told : (same : Bool) → row_key b ≡ row_key a → a.kind ≡ b.kind
-        → Tells same (bare_terms (module_of a.instance) (row_scope ss a) (terms_behind a.instance)) (bare_terms (module_of b.instance) (row_scope ss b) (terms_behind b.instance))
-        → (IsTrue same → declaration_of ss a ≡ declaration_of ss b) × (declaration_of ss a ≡ declaration_of ss b → IsTrue same)
-    declarations_told same one kind tells =
-        let there = said_by_instance ss a.instance in
-        let here = said_by_instance ss b.instance in (
-          (λ h. let content = there ∙ tells.0 h ∙ sym here in
-              λ i. record { kind = kind i; space = space_at ss (sym (ap (λ (k : Key). k.space) one) i); name = sym (ap (λ (k : Key). k.name) one) i; content = content i }),
-          (λ e. tells.1 (sym there ∙ ap (λ (d : Declaration). d.content) e ∙ here)),
-        )
-
--- ---- rows that differ from the first
-
-module _ (ss : List Space) (first : Row) where
-  abbrev pub AllAlike : List Row → Type 0
-  AllAlike rows = (r : Row) → Contains rows r → declaration_of ss first ≡ declaration_of ss r
-
-  pub none_alike : (rows : List Row) → AllAlike (take 0 rows)
-  none_alike [] r c = absurd (contains_none r c)
-  none_alike (x ∷ xs) r c = absurd (contains_none r c)
-
-  pub more_alike : (rows : List Row) (i : ℕ) (x : Row) → i < length rows → x ≡ get_or rows i x → AllAlike (take i rows) → declaration_of ss first ≡ declaration_of ss x
-      → AllAlike (take (i + 1) rows)
-  more_alike rows i x within is all same r c =
-      elim (Contains-append_cases (take i rows) (x ∷ []) r (subst (λ z. Contains z r) (take_more rows i x within ∙ ap (λ y. take i rows ++ y ∷ []) (sym is)) c)) [
-        | inl old ↦ all r old
-        | inr new ↦ elim (contains_cases r x [] new) [ inl e ↦ subst (λ y. declaration_of ss first ≡ declaration_of ss y) e same | inr none ↦ absurd (contains_none r none) ]
+  -- and it is all that the instance declares
+  pub declares_row : (entry_of (item_at i k).keyword).declares ≡ r.kind ∷ [] → (d : Declaration) → Contains (declared_by (item_at i k)) d → declaration_of i r ≡ d
+  declares_row one d c =
+      let (kind, in_one, is) = from_map (declared_as (item_at i k).space r.name of.named.0) (entry_of (item_at i k).keyword).declares d (subst (λ ds. Contains ds d) by_name c) in
+      elim (contains_cases kind r.kind [] (subst (λ ks. Contains ks kind) one in_one)) [
+        | inl same ↦ row_says ∙ ap (declared_as (item_at i k).space r.name of.named.0) same ∙ is
+        | inr none ↦ absurd (contains_none kind none)
       ]
 
-  pub all_alike : (rows : List Row) (i : ℕ) → length rows ≤ i → AllAlike (take i rows) → AllAlike rows
-  all_alike rows i over all = subst AllAlike (take_all i rows over) all
+-- ---- one instance after another
+
+last_or_before : (n k : ℕ) → k < n + 1 → (k < n) ⊎ (k ≡ n)
+last_or_before n k below = grind (arith, below)
+
+-- before the first instance there is the row of object_r
+pub first_rows : (i : Kept) (rows : List Row) → rows ≡ object_row ∷ [] → AreRowsUpTo i 0 rows
+first_rows i rows e = subst (AreRowsUpTo i 0) (sym e) (record {
+  object = contains_here object_row [];
+  each = λ r c. elim (contains_cases r object_row [] c) [ inl is ↦ inl (sym is) | inr none ↦ absurd (contains_none r none) ];
+  all = λ k below d c. absurd (omega (arith, below));
+})
+
+module _ (i : Kept) (n : ℕ) where
+  -- an instance that declares nothing has no row
+  pub no_row : (rows : List Row) → ((d : Declaration) → Contains (declared_by (item_at i n)) d → ⊥) → AreRowsUpTo i n rows → AreRowsUpTo i (n + 1) rows
+  no_row rows none up = record {
+    object = up.object;
+    each = up.each;
+    all = λ k below d c. elim (last_or_before n k (omega (arith, below))) [
+      | inl before ↦ up.all k before d c
+      | inr last ↦ absurd (none d (subst (λ m. Contains (declared_by (item_at i m)) d) last c))
+    ];
+  }
+
+  pub one_row : (old new : List Row) (r : Row) → IsRowAt i n r → (entry_of (item_at i n).keyword).declares ≡ r.kind ∷ [] → new ≡ old ++ r ∷ [] → AreRowsUpTo i n old
+      → AreRowsUpTo i (n + 1) new
+  one_row old new r of one e up = subst (AreRowsUpTo i (n + 1)) (sym e) (record {
+    object = Contains-append_left old (r ∷ []) object_row up.object;
+    each = λ x c. elim (Contains-append_cases old (r ∷ []) x c) [
+      | inl before ↦ up.each x before
+      | inr last ↦ elim (contains_cases x r [] last) [ inl is ↦ inr (n, subst (IsRowAt i n) is of) | inr none ↦ absurd (contains_none x none) ]
+    ];
+    all = λ k below d c. elim (last_or_before n k (omega (arith, below))) [
+      | inl before ↦ let (x, in_old, at, is) = up.all k before d c in (x, Contains-append_left old (r ∷ []) x in_old, at, is)
+      | inr last ↦ (
+        r,
+        Contains-append_right old (r ∷ []) r (contains_here r []),
+        subst (λ m. IsRowAt i m r) (sym last) of,
+        declares_row i n r of one d (subst (λ m. Contains (declared_by (item_at i m)) d) last c),
+      )
+    ];
+  })
+
+-- ---- where an instance has no row
+
+module _ (x : Item) where
+  pub without_kind : (entry_of x.keyword).declares ≡ [] → (d : Declaration) → Contains (declared_by x) d → ⊥
+  without_kind e d c = none_of x.args (subst (λ ks. Contains (declarations x.space ks x.args) d) e c)
+    where
+      none_of : (args : Terms ScopedWord) → Contains (declarations x.space [] args) d → ⊥
+      none_of nil h = contains_none d h
+      none_of (cons (Leaf w) rest) h = contains_none d h
+      none_of (cons (Name at name) rest) h = contains_none d h
+      none_of (cons (Form at op parts) rest) h = contains_none d h
+
+  pub without_name : name_in_front x.args ≡ None → (d : Declaration) → Contains (declared_by x) d → ⊥
+  without_name e d c = none_of x.args e c
+    where
+      none_of : (args : Terms ScopedWord) → name_in_front args ≡ None → Contains (declarations x.space (entry_of x.keyword).declares args) d → ⊥
+      none_of nil is h = contains_none d h
+      none_of (cons (Leaf w) rest) is h = contains_none d h
+      none_of (cons (Name at name) rest) is h = absurd cc
+      none_of (cons (Form at op parts) rest) is h = contains_none d h

@@ -8,7 +8,7 @@ use Rattle.std.specs.List.{AllByRecursion, flat_map}
 use Rattle.std.specs.List.Sorted.{IsPartitionedBy, IsPartitionPoint, IsSortedByKey, IsStrictlySortedBy}
 use Rattle.std.specs.Ordering.{on, ordering_reverse}
 use Rattle.std.proofs.lemmas.Bool.{false≢true, not-true, not-false, true≢false}
-use Rattle.std.proofs.lemmas.List.{append-nil, drop_all, drop-drop, get_or-drop, length-drop, length-take-le, take-append-drop}
+use Rattle.std.proofs.lemmas.List.{append-nil, drop_all, drop-drop, get_or-drop, length-drop, length-take-le, take-append-drop, take_all, take_more}
 use Rattle.std.proofs.lemmas.List.Concat.{flat_map-append, flat_map-cons}
 use Rattle.std.proofs.lemmas.List.Elements.{Contains-append_left, Contains-append_right, Contains-append_cases}
 use Rattle.std.proofs.lemmas.List.Sorted.{ranks_by, sorted_far}
@@ -17,11 +17,10 @@ use Rattle.cil_sexpr.specs.Lists.{contains_here, contains_later, contains_cases,
 use Rattle.cil_sexpr.specs.Places.{in_drop, in_take}
 use Rattle.cil_names.specs.declared.row.Row.{Row}
 use Rattle.cil_names.specs.declared.run.Run.{Run}
-use Rattle.cil_blocks.specs.declared.namespaces.Space.{Space}
-use Rattle.cil_names.specs.DeclareRows.{IsPlacedRow, row_key}
+use Rattle.cil_macros.specs.Items.{Kept}
+use Rattle.cil_names.specs.DeclareRows.{AreAlike, declaration_of, row_key}
 use Rattle.cil_names.specs.DeclareRuns.{AreRuns, IsNextRun, IsRun, rows_in, run_key}
 use Rattle.cil_names.specs.Entries.{Key, key_cmp}
-use Rattle.cil_blocks.specs.Namespaces.{AreNamespaces}
 use Rattle.cil_names.proofs.OrderLemmas.{key_total, one_key}
 
 -- ---- the first items of a list, and the others
@@ -145,22 +144,22 @@ rising_push order (y ∷ ys) x up above =
     (all_push (λ z. order y z ≡ Less) ys x up.0 (above y (contains_here y ys)), rising_push order ys x up.1 (λ z c. above z (contains_later z y ys c)))
 
 -- the runs of the rows before a place
-pub record AreRunsUpTo (ss : List Space) (rows : List Row) (runs : List Run) (start : ℕ) : Type 0 where
+pub record AreRunsUpTo (i : Kept) (rows : List Row) (runs : List Run) (start : ℕ) : Type 0 where
   pub whole : flat_map rows_in runs ++ drop start rows ≡ rows
   pub rising : IsStrictlySortedBy (on run_key key_cmp) runs
   pub below : (run : Run) → Contains runs run → (r : Row) → Contains (drop start rows) r → key_cmp (run_key run) (row_key r) ≡ Less
-  pub each : (run : Run) → Contains runs run → IsRun ss run
+  pub each : (run : Run) → Contains runs run → IsRun i run
 
-pub no_runs : (ss : List Space) (rows : List Row) → AreRunsUpTo ss rows [] 0
+pub no_runs : (i : Kept) (rows : List Row) → AreRunsUpTo i rows [] 0
 unfolding IsStrictlySortedBy
-no_runs ss rows = record { whole = refl; rising = tt; below = λ run c r d. absurd (contains_none run c); each = λ run c. absurd (contains_none run c) }
+no_runs i rows = record { whole = refl; rising = tt; below = λ run c r d. absurd (contains_none run c); each = λ run c. absurd (contains_none run c) }
 
-module _ (ss : List Space) (spaces : AreNamespaces ss) (rows : List Row) (placed : (r : Row) → Contains rows r → IsPlacedRow ss r) where
-  pub next_run : (runs more : List Run) (run : Run) (start : ℕ) → IsNextRun rows start run → AreRunsUpTo ss rows runs start → more ≡ runs ++ run ∷ []
-      → AreRunsUpTo ss rows more (start + length run.rows.now)
+module _ (i : Kept) (rows : List Row) where
+  pub next_run : (runs more : List Run) (run : Run) (start : ℕ) → IsNextRun i rows start run → AreRunsUpTo i rows runs start → more ≡ runs ++ run ∷ []
+      → AreRunsUpTo i rows more (start + length run.rows.now)
   next_run runs more run start next up e =
-      let one = next.is_run ss spaces placed in
-      subst (λ z. AreRunsUpTo ss rows z (start + length run.rows.now)) (sym e) (record {
+      let one = next.is_run in
+      subst (λ z. AreRunsUpTo i rows z (start + length run.rows.now)) (sym e) (record {
         whole =
             ap (λ z. z ++ drop (start + length run.rows.now) rows) (flat_map-append rows_in runs (run ∷ []) ∙ ap (λ z. flat_map rows_in runs ++ z) (flat_map-cons rows_in run [] ∙ append-nil (rows_in run)))
             ∙ append_assoc (flat_map rows_in runs) (rows_in run) (drop (start + length run.rows.now) rows)
@@ -178,13 +177,37 @@ module _ (ss : List Space) (spaces : AreNamespaces ss) (rows : List Row) (placed
         ];
         each = λ r c. elim (Contains-append_cases runs (run ∷ []) r c) [
           | inl old ↦ up.each r old
-          | inr new ↦ elim (contains_cases r run [] new) [ inl is ↦ subst (IsRun ss) is one | inr none ↦ absurd (contains_none r none) ]
+          | inr new ↦ elim (contains_cases r run [] new) [ inl is ↦ subst (IsRun i) is one | inr none ↦ absurd (contains_none r none) ]
         ];
       })
 
-  pub last_run : (runs : List Run) (start : ℕ) → length rows ≤ start → AreRunsUpTo ss rows runs start → AreRuns ss rows runs
+  pub last_run : (runs : List Run) (start : ℕ) → length rows ≤ start → AreRunsUpTo i rows runs start → AreRuns i rows runs
   last_run runs start over up = record {
     whole = sym (append-nil (flat_map rows_in runs)) ∙ ap (λ z. flat_map rows_in runs ++ z) (sym (drop_all start rows over)) ∙ up.whole;
     rising = up.rising;
     each = up.each;
   }
+
+-- ---- rows that differ from the first
+
+module _ (i : Kept) (first : Row) where
+  abbrev pub AllAlike : List Row → Type 0
+  AllAlike rows = (r : Row) → Contains rows r → AreAlike (declaration_of i first) (declaration_of i r)
+
+  pub none_alike : (rows : List Row) → AllAlike (take 0 rows)
+  none_alike [] r c = absurd (contains_none r c)
+  none_alike (x ∷ xs) r c = absurd (contains_none r c)
+
+  pub more_alike : (rows : List Row) (n : ℕ) (x : Row) → n < length rows → x ≡ get_or rows n x → AllAlike (take n rows) → AreAlike (declaration_of i first) (declaration_of i x)
+      → AllAlike (take (n + 1) rows)
+  more_alike rows n x within is all same r c =
+      elim (Contains-append_cases (take n rows) (x ∷ []) r (subst (λ z. Contains z r) (take_more rows n x within ∙ ap (λ y. take n rows ++ y ∷ []) (sym is)) c)) [
+        | inl old ↦ all r old
+        | inr new ↦ elim (contains_cases r x [] new) [
+          | inl e ↦ subst (λ y. AreAlike (declaration_of i first) (declaration_of i y)) e same
+          | inr none ↦ absurd (contains_none r none)
+        ]
+      ]
+
+  pub all_alike : (rows : List Row) (n : ℕ) → length rows ≤ n → AllAlike (take n rows) → AllAlike rows
+  all_alike rows n over all = subst AllAlike (take_all n rows over) all

@@ -1,24 +1,23 @@
 -- The faults that were found are those of the step.
-use Rattle.std.specs.Prelude.{Contains, if◌then◌else◌, not, ◌&&◌}
+use Rattle.std.specs.Prelude.{Contains, Option, if◌then◌else◌, not, ◌&&◌}
 use Rattle.std.specs.List.{flat_map}
-use Rattle.std.proofs.Common.{◌≡◌, ℕ, ◌+◌, ◌<◌, true, false, List, [], ◌∷◌, ◌++◌, length, drop, get_or, refl, sym, ◌∙◌, ap, subst, inl, inr}
+use Rattle.std.proofs.Common.{◌≡◌, ℕ, ◌+◌, ◌<◌, true, false, List, [], ◌∷◌, ◌++◌, map, length, drop, get_or, append-nil, refl, sym, ◌∙◌, ap, subst, inl, inr}
 use Rattle.std.proofs.lemmas.Bool.{and_parts, and_from, cases_Bool, not-true}
 use Rattle.cil_sexpr.specs.Lists.{contains_cases, contains_here, contains_none}
-use Rattle.cil_sexpr.specs.MadeLists.{contains_flat, contains_map, from_flat, from_map}
-use Rattle.cil_sexpr.specs.Places.{contains_at}
+use Rattle.cil_sexpr.specs.MadeLists.{contains_flat, from_flat}
 use Rattle.cil_syntax.specs.declared.code.FaultCode.TheVariants as causes
 use Rattle.cil_syntax.specs.declared.fault.Fault.{Fault}
 use Rattle.cil_syntax.specs.Reported.{fault_at}
 use Rattle.cil_syntax.specs.Scopes.{Namespace}
-use Rattle.cil_names.specs.declared.instance.Instance.{Instance}
 use Rattle.cil_blocks.specs.declared.namespaces.Space.{Space}
-use Rattle.cil_names.specs.Entries.{item_of, items_of}
 use Rattle.cil_names.specs.Faults.{ResolveFault, unresolved}
-use Rattle.cil_macros.specs.Item.{Item, OptSet}
-use Rattle.cil_names.specs.Placed.{IsPlaced}
-use Rattle.cil_names.specs.Resolves.{Wanted, is_judged, resolves, told_word, words_of}
-use Rattle.cil_blocks.specs.Namespaces.{space_at}
+use Rattle.cil_macros.specs.Item.{Item, OptSet, all_words_in}
+use Rattle.cil_names.specs.declared.entry.Entry.{Entry}
+use Rattle.cil_names.specs.Meanings.{meanings, meant}
+use Rattle.cil_syntax.specs.Terms.{nil}
+use Rattle.cil_names.specs.Resolves.{Wanted, all_wanted_in, is_judged, resolves, told_word, words_of}
 use Rattle.cil_names.specs.Unresolved.{fault_of_word, faults_in, faults_of_all, faults_of_wanted, is_outside}
+use Rattle.cil_names.proofs.ReadingLemmas.{no_words, none_wanted}
 use Rattle.cil_names.proofs.ScopeLemmas.{passed_on}
 
 outside_is : (round : List ℕ) → is_outside round ≡ true → round ≡ []
@@ -48,37 +47,45 @@ module _ (xs : List Item) (s : OptSet) (n : Namespace) (w : Wanted) where
       subst (λ b. Contains (if b then fault_of_word n (told_word w) ∷ [] else []) (fault_of_word n (told_word w)))
       (sym (and_from (is_judged xs s w) (not (resolves xs s w)) judged (ap not missing))) (contains_here (fault_of_word n (told_word w)) [])
 
-module _ (ss : List Space) (xs : List Item) (s : OptSet) where
-  abbrev of_words : Instance → List Fault
-  of_words i = faults_of_all xs s (space_at ss i.place.now.space) (words_of (item_of ss i))
+-- ---- all items
 
-  abbrev told : Instance → List Fault
-  told i = faults_in xs s ss i
+module _ (xs : List Item) (s : OptSet) where
+  abbrev of_words : Item → List Fault
+  of_words x = faults_of_all xs s x.space (words_of x)
 
-  pub all_there : (f : Fault) → Contains (flat_map told is) f → ResolveFault s xs f
+  pub faults_outside : (x : Item) → x.round ≡ [] → faults_in xs s x ≡ of_words x
+  faults_outside x e = ap (λ round. if is_outside round then of_words x else []) e
+
+  pub faults_within : (x : Item) → is_outside x.round ≡ false → faults_in xs s x ≡ []
+  faults_within x e = ap (λ b. if b then of_words x else []) e
+
+  -- what says nothing has no faults
+  pub no_faults : (x : Item) (old : List Fault) → x.args ≡ nil → old ≡ old ++ faults_in xs s x
+  no_faults x old e = sym (ap (λ l. old ++ l) (elim (cases_Bool (is_outside x.round)) [
+    | inl t ↦ ap (λ b. if b then of_words x else []) t ∙ ap (λ ts. faults_of_all xs s x.space (all_wanted_in ts)) e ∙ ap (faults_of_all xs s x.space) none_wanted
+    | inr f ↦ faults_within x f
+  ]) ∙ append-nil old)
+
+  pub all_there : (f : Fault) → Contains (flat_map (faults_in xs s) xs) f → ResolveFault s xs f
   all_there f c =
-      let (i, ci, ti) = from_flat told is f c in
-      elim (cases_Bool (is_outside i.place.now.round.items)) [
+      let (x, cx, tx) = from_flat (faults_in xs s) xs f c in
+      elim (cases_Bool (is_outside x.round)) [
         | inl t ↦
-            let (w, cw, tw) = from_flat (faults_of_wanted xs s (space_at ss i.place.now.space)) (words_of (item_of ss i)) f (subst (λ b. Contains (if b then of_words i else []) f) t ti) in
-            let (judged, missing, same) = told_from xs s (space_at ss i.place.now.space) w f tw in
-            subst (ResolveFault s xs) (sym same)
-            (unresolved (item_of ss i) w (contains_map (item_of ss) is i ci) (outside_is i.place.now.round.items t) cw judged missing)
-        | inr e ↦ absurd (contains_none f (subst (λ b. Contains (if b then of_words i else []) f) e ti))
+            let (w, cw, tw) = from_flat (faults_of_wanted xs s x.space) (words_of x) f (subst (λ b. Contains (if b then of_words x else []) f) t tx) in
+            let (judged, missing, same) = told_from xs s x.space w f tw in
+            subst (ResolveFault s xs) (sym same) (unresolved x w cx (outside_is x.round t) cw judged missing)
+        | inr e ↦ absurd (contains_none f (subst (λ b. Contains (if b then of_words x else []) f) e tx))
       ]
 
-  pub all_back : (f : Fault) → ResolveFault s xs f → Contains (flat_map told is) f
+  pub all_back : (f : Fault) → ResolveFault s xs f → Contains (flat_map (faults_in xs s) xs) f
   all_back f (unresolved x w c round asks judged missing) =
-      let (i, ci, same) = from_map (item_of ss) is x c in
-      contains_flat told is i _ ci
-      (subst (λ b. Contains (if b then of_words i else []) (fault_at causes.Unresolved (told_word w).at x.space (told_word w).bytes))
-      (sym (ap is_outside (ap (λ (y : Item). y.round) same ∙ round)))
-      (contains_flat (faults_of_wanted xs s (space_at ss i.place.now.space)) (words_of (item_of ss i)) w _ (subst (λ y. Contains (words_of y) w) (sym same) asks)
-      (subst (λ (y : Item). Contains (faults_of_wanted xs s (space_at ss i.place.now.space) w) (fault_at causes.Unresolved (told_word w).at y.space (told_word w).bytes)) same
-      (told_to xs s (space_at ss i.place.now.space) w judged missing))))
+      contains_flat (faults_in xs s) xs x _ c
+      (subst (λ b. Contains (if b then of_words x else []) (fault_at causes.Unresolved (told_word w).at x.space (told_word w).bytes)) (sym (ap is_outside round))
+      (contains_flat (faults_of_wanted xs s x.space) (words_of x) w _ asks (told_to xs s x.space w judged missing)))
 
-pub placed_at : (ss : List Space) (xs : List Item) → ((i : Instance) → Contains is i → IsPlaced ss i) → (k : ℕ) (i : Instance) → k < length is → i ≡ get_or is k i → IsPlaced ss i
-placed_at ss is placed k i within e = placed i (contains_at is k i i within e)
+-- what says nothing means nothing
+pub no_meanings : (ss : List Space) (es : List Entry) (s : OptSet) (x : Item) (old : List (Option ℕ)) → x.args ≡ nil → old ≡ old ++ meanings ss es s x
+no_meanings ss es s x old e = sym (ap (λ l. old ++ map (meant ss es s) l) (ap all_words_in e ∙ no_words) ∙ append-nil old)
 
 -- one more instance was checked
 pub told_on : {X Y : Type 0} (f : X → List Y) (xs : List X) (i : ℕ) (x : X) → i < length xs → x ≡ get_or xs i x → (before new all : List Y) → before ++ flat_map f (drop i xs) ≡ all

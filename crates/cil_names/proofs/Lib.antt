@@ -11,6 +11,8 @@ pub mod DeclareLists
 pub mod DeclareNamed
 pub mod DeclareRowLemmas
 pub mod DeclareRunLemmas
+pub mod DeclareScopes
+pub mod DeclareStatements
 pub mod EntryLemmas
 pub mod FillLemmas
 pub mod ListedLemmas
@@ -21,6 +23,7 @@ pub mod PathLemmas
 pub mod PermissionLemmas
 pub mod PermissionWordLemmas
 pub mod Qualified
+pub mod ReadingLemmas
 pub mod RisingLemmas
 pub mod RowLemmas
 pub mod ScopeLemmas

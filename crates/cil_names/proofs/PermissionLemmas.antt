@@ -28,6 +28,10 @@ use Rattle.cil_syntax.specs.declared.term.Term as rust
 use Rattle.cil_syntax.specs.declared.term.Word.{Word}
 use Rattle.cil_syntax.specs.Forms.{listed_behind_name}
 use Rattle.cil_syntax.specs.Said.{all_said, args_of, said_of}
+use Rattle.cil_syntax.specs.Program.{statement_of}
+use Rattle.cil_syntax.specs.declared.program.Statement.{Statement}
+use Rattle.cil_syntax.specs.Forms as declares
+use Rattle.cil_syntax.specs.Written.{Written}
 use Rattle.cil_syntax.specs.Spelling.{same_bytes}
 use Rattle.cil_syntax.specs.Table.{entry_of}
 use Rattle.cil_syntax.specs.Terms.{Leaf, Name, Form, Term, Terms, nil, cons}
@@ -35,20 +39,23 @@ use Rattle.cil_syntax.specs.Scopes.{Namespace, ScopedWord, same_space}
 use Rattle.cil_syntax.proofs.DecidedEquality.{spaces_decide}
 use Rattle.std.proofs.Math.Bool.{or-false}
 use Rattle.cil_names.specs.declared.entry.Entry.{Entry}
-use Rattle.cil_names.specs.declared.instance.Instance.{Instance}
 use Rattle.cil_blocks.specs.declared.namespaces.Space.{Space}
 use Rattle.cil_names.specs.Declarations.{Declaration, Symbol, content_of, declarations, declared_by}
-use Rattle.cil_names.specs.Entries.{AreOrdered, HasNoEntry, IsEntryAt, item_of, items_of, scoped}
-use Rattle.cil_macros.specs.Item.{Item, all_replaced, is_enabled, names_in, nobody}
+use Rattle.cil_names.specs.Entries.{AreOrdered, HasNoEntry, IsEntryAt}
+use Rattle.cil_blocks.specs.Entries.{nothing}
+use Rattle.cil_macros.specs.Item.{Item, all_replaced, is_enabled, names_in, nobody, replaced}
+use Rattle.cil_macros.specs.Items.{Kept, item_at, items_in, placed_at, says_as_written, word_at}
+use Rattle.cil_macros.specs.Macros.{all_standing}
+use Rattle.cil_macros.specs.Walks.{written_in}
+use Rattle.cil_macros.proofs.ItemLemmas.{items_taken, said_as_written}
 use Rattle.cil_names.specs.Numbers.{symbol_of}
 use Rattle.cil_names.specs.Permissions.{AreEmpty, DeclaresClass, DeclaresNoClass}
-use Rattle.cil_names.specs.Placed.{IsPlaced}
 use Rattle.cil_names.specs.Resolves.{fits, gives_permission, has_permission, listed_permissions}
 use Rattle.cil_syntax.specs.Kinds.{is_wanted}
-use Rattle.cil_blocks.specs.Namespaces.{AreNamespaces, space_at}
+use Rattle.cil_blocks.specs.Namespaces.{AreNamespaces, IsNumber, space_at}
 use Rattle.cil_names.specs.Unresolved.{ArePermissions, listed_at}
 use Rattle.cil_names.proofs.EntryLemmas.{parts_fit, they_fit}
-use Rattle.cil_names.proofs.SpaceLemmas.{same_number}
+use Rattle.cil_blocks.proofs.NamespaceLemmas.{same_number}
 
 -- ---- the names among terms
 
@@ -128,7 +135,7 @@ class_keyword keywords.Allow kind c wanted = absurd (contains_none kind c)
 class_keyword keywords.Block kind c wanted = absurd (contains_none kind c)
 class_keyword keywords.BlockAbstract kind c wanted = absurd (contains_none kind c)
 class_keyword keywords.BlockInherit kind c wanted = absurd (contains_none kind c)
-class_keyword keywords.Macro kind c wanted = absurd (contains_none kind c)
+class_keyword keywords.Macro kind c wanted = absurd (elim (contains_cases kind kinds.Macro [] c) [ inl e ↦ true≢false (sym wanted ∙ ap (is_wanted signs.Classes) (sym e)) | inr n ↦ contains_none kind n ])
 class_keyword keywords.Call kind c wanted = absurd (contains_none kind c)
 class_keyword keywords.SetAside kind c wanted = absurd (contains_none kind c)
 
@@ -136,93 +143,86 @@ pub class_declares : (entry_of keywords.Class).declares ≡ kinds.Class ∷ []
 unfolding entry_of
 class_declares = refl
 
-pub class_declared : (f : Word → ScopedWord) (n : Namespace) (at : Spot) (name : List ℕ) (rest : Terms Word)
-    → declarations n (kinds.Class ∷ []) (all_replaced (λ bt. bt) f (cons (Name at name) rest))
-    ≡ record { kind = kinds.Class; space = n; name = name; content = content_of (all_replaced (λ bt. bt) f rest) } ∷ []
-unfolding all_replaced
-class_declared f n at name rest = refl
+pub class_declared : (n : Namespace) (at : Spot) (name : List ℕ) (rest : Terms ScopedWord)
+    → declarations n (kinds.Class ∷ []) (cons (Name at name) rest) ≡ record { kind = kinds.Class; space = n; name = name; content = content_of rest } ∷ []
+class_declared n at name rest = refl
 
--- ---- what an instance gives
+-- ---- what an item gives
 
 none_on : (round : List ℕ) → list_all nobody round ≡ true → round ≡ []
 none_on [] e = refl
 none_on (o ∷ os) e = absurd (true≢false (sym e))
 
-module _ (ss : List Space) (i : Instance) where
-  abbrev f : Word → ScopedWord
-  f = scoped ss i.place.now.scope.items
-
+module _ (x : Item) where
   -- where a declaration comes from
-  record IsFront (declares : List Kind) (args : Terms Word) (d : Declaration) : Type 0 where
+  record IsFront (declares : List Kind) (args : Terms ScopedWord) (d : Declaration) : Type 0 where
     at : Spot
     name : List ℕ
-    rest : Terms Word
+    rest : Terms ScopedWord
     says : args ≡ cons (Name at name) rest
     named : d.name ≡ name
-    spaced : d.space ≡ space_at ss i.place.now.space
+    spaced : d.space ≡ x.space
     declared : Contains declares d.kind
 
-  front_of : (declares : List Kind) (args : Terms Word) (d : Declaration) → Contains (declarations (space_at ss i.place.now.space) declares (all_replaced (λ at. at) f args)) d → IsFront declares args d
-  unfolding all_replaced
+  front_of : (declares : List Kind) (args : Terms ScopedWord) (d : Declaration) → Contains (declarations x.space declares args) d → IsFront declares args d
   front_of declares nil d c = absurd (contains_none d c)
   front_of declares (cons (Leaf w) rest) d c = absurd (contains_none d c)
   front_of declares (cons (Form at op parts) rest) d c = absurd (contains_none d c)
   front_of declares (cons (Name at name) rest) d c =
-      let (kind, ck, e) = from_map (λ (k : Kind). record { kind = k; space = space_at ss i.place.now.space; name = name; content = content_of (all_replaced (λ bt. bt) f rest) }) declares d c in
+      let (kind, ck, e) = from_map (λ (k : Kind). record { kind = k; space = x.space; name = name; content = content_of rest }) declares d c in
       record {
         at = at;
         name = name;
         rest = rest;
         says = refl;
-        named = ap (λ (x : Declaration). x.name) (sym e);
-        spaced = ap (λ (x : Declaration). x.space) (sym e);
-        declared = subst (Contains declares) (ap (λ (x : Declaration). x.kind) e) ck;
+        named = ap (λ (y : Declaration). y.name) (sym e);
+        spaced = ap (λ (y : Declaration). y.space) (sym e);
+        declared = subst (Contains declares) (ap (λ (y : Declaration). y.kind) e) ck;
       }
 
   -- what gives a permission to a class declares it
   record Gives (c : Symbol) (p : List ℕ) : Type 0 where
-    declares : DeclaresClass i c.name
-    spaced : space_at ss i.place.now.space ≡ c.space
-    lists : list_any (same_bytes p) (listed_permissions (args_of i.statement.now)) ≡ true
+    declares : DeclaresClass x c.name
+    spaced : x.space ≡ c.space
+    lists : list_any (same_bytes p) (listed_permissions x.args) ≡ true
 
-  gives_only : (c : Symbol) (p : List ℕ) → gives_permission c p (item_of ss i) ≡ true → Gives c p
+  gives_only : (c : Symbol) (p : List ℕ) → gives_permission c p x ≡ true → Gives c p
   gives_only c p e =
-      let x = item_of ss i in
       let (front, lists) = and_parts (is_enabled nobody x && list_any (fits c.name signs.Classes c.space) (declared_by x)) (list_any (same_bytes p) (listed_permissions x.args)) e in
       let (on, some) = and_parts (is_enabled nobody x) (list_any (fits c.name signs.Classes c.space) (declared_by x)) front in
       let (d, cd, fit) = any_true (fits c.name signs.Classes c.space) (declared_by x) some in
       let (named, spaced) = and_parts (same_bytes d.name c.name && is_wanted signs.Classes d.kind) (same_space d.space c.space) fit in
       let (same, wanted) = and_parts (same_bytes d.name c.name) (is_wanted signs.Classes d.kind) named in
-      let is = front_of (entry_of i.statement.now.keyword).declares (args_of i.statement.now) d cd in
+      let is = front_of (entry_of x.keyword).declares x.args d cd in
       record {
         declares = record {
-          outside = none_on i.place.now.round.items on;
-          keyword = class_keyword i.statement.now.keyword d.kind is.declared wanted;
+          outside = none_on x.round on;
+          keyword = class_keyword x.keyword d.kind is.declared wanted;
           at = is.at;
           rest = is.rest;
           says = is.says ∙ ap (λ n. cons (Name is.at n) is.rest) (sym is.named ∙ (bytes_decides d.name c.name).0 same);
         };
         spaced = sym is.spaced ∙ (spaces_decide d.space c.space).0 spaced;
-        lists = ap (list_any (same_bytes p)) (sym (listed_said f (args_of i.statement.now))) ∙ lists;
+        lists = lists;
       }
 
-  gives_from : (c : Symbol) (p : List ℕ) → Gives c p → gives_permission c p (item_of ss i) ≡ true
+  gives_from : (c : Symbol) (p : List ℕ) → Gives c p → gives_permission c p x ≡ true
   gives_from c p g =
       and_from _ _
       (and_from _ _ (ap (list_all nobody) g.declares.outside)
-      (any_from (fits c.name signs.Classes c.space) (declared_by (item_of ss i)) d (subst (λ ds. Contains ds d) (sym declared) (contains_here d []))
-      (and_from _ _ (and_from _ _ ((bytes_decides c.name c.name).1 refl) refl) ((spaces_decide (space_at ss i.place.now.space) c.space).1 g.spaced))))
-      (ap (list_any (same_bytes p)) (listed_said f (args_of i.statement.now)) ∙ g.lists)
+      (any_from (fits c.name signs.Classes c.space) (declared_by x) d (subst (λ ds. Contains ds d) (sym declared) (contains_here d []))
+      (and_from _ _ (and_from _ _ ((bytes_decides c.name c.name).1 refl) refl) ((spaces_decide x.space c.space).1 g.spaced))))
+      g.lists
     where
       d : Declaration
-      d = record { kind = kinds.Class; space = space_at ss i.place.now.space; name = c.name; content = content_of (all_replaced (λ bt. bt) f g.declares.rest) }
+      d = record { kind = kinds.Class; space = x.space; name = c.name; content = content_of g.declares.rest }
 
-      declared : declared_by (item_of ss i) ≡ d ∷ []
+      declared : declared_by x ≡ d ∷ []
       declared =
-          ap (λ k. declarations (space_at ss i.place.now.space) (entry_of k).declares (all_replaced (λ bt. bt) f (args_of i.statement.now))) g.declares.keyword
-          ∙ ap (λ ks. declarations (space_at ss i.place.now.space) ks (all_replaced (λ bt. bt) f (args_of i.statement.now))) class_declares
-          ∙ ap (λ ts. declarations (space_at ss i.place.now.space) (kinds.Class ∷ []) (all_replaced (λ bt. bt) f ts)) g.declares.says
-          ∙ class_declared f (space_at ss i.place.now.space) g.declares.at c.name g.declares.rest
+          ap (λ k. declarations x.space (entry_of k).declares x.args) g.declares.keyword
+          ∙ ap (λ ks. declarations x.space ks x.args) class_declares
+          ∙ ap (declarations x.space (kinds.Class ∷ [])) g.declares.says
+          ∙ class_declared x.space g.declares.at c.name g.declares.rest
 
 -- ---- the lists of all entries
 
@@ -241,67 +241,71 @@ module _ (ss : List Space) (es : List Entry) where
       at None e = ap (λ o. option_map_or (λ (w : Vec Bytes). w.items) o []) e
       at (Some v) e = listed_some lists d v e ∙ empty.each v (get_contains lists d v e)
 
-  -- no instance lists nothing
-  pub nothing_listed : (lists : List (Vec Bytes)) → AreEmpty es lists → ArePermissions ss es (items_of ss (take 0 [])) lists
+  -- no items list nothing
+  pub nothing_listed : (lists : List (Vec Bytes)) → AreEmpty es lists → ArePermissions ss es [] lists
   unfolding has_permission
   nothing_listed lists empty = record {
     rising = λ v c. subst (IsStrictlySortedBy text_cmp) (sym (empty.each v c)) (rising_nothing text_cmp);
     each = λ d e at wanted p. ap (list_any (same_bytes p)) (empty_at lists empty d);
   }
 
-  module _ (xs : List Item) (i : Instance) where
+  module _ (xs : List Item) (x : Item) where
     abbrev more : List Item
-    more = xs ++ item_of ss i ∷ []
+    more = xs ++ x ∷ []
 
-    has_more : (c : Symbol) (p : List ℕ) → has_permission more c p ≡ (has_permission xs c p || (gives_permission c p (item_of ss i) || false))
+    has_more : (c : Symbol) (p : List ℕ) → has_permission more c p ≡ (has_permission xs c p || (gives_permission c p x || false))
     unfolding has_permission
-    has_more c p = list_any-append (gives_permission c p) xs (item_of ss i ∷ [])
+    has_more c p = list_any-append (gives_permission c p) xs (x ∷ [])
 
-    has_same : (c : Symbol) (p : List ℕ) → gives_permission c p (item_of ss i) ≡ false → has_permission more c p ≡ has_permission xs c p
+    has_same : (c : Symbol) (p : List ℕ) → gives_permission c p x ≡ false → has_permission more c p ≡ has_permission xs c p
     has_same c p e = has_more c p ∙ ap (λ b. has_permission xs c p || (b || false)) e ∙ or-false (has_permission xs c p)
 
-    no_gift : (c : Symbol) (p : List ℕ) → (Gives ss i c p → ⊥) → gives_permission c p (item_of ss i) ≡ false
-    no_gift c p none = elim (cases_Bool (gives_permission c p (item_of ss i))) [ inl t ↦ absurd (none (gives_only ss i c p t)) | inr e ↦ e ]
+    no_gift : (c : Symbol) (p : List ℕ) → (Gives x c p → ⊥) → gives_permission c p x ≡ false
+    no_gift c p none = elim (cases_Bool (gives_permission c p x)) [ inl t ↦ absurd (none (gives_only x c p t)) | inr e ↦ e ]
 
-    kept : (lists : List (Vec Bytes)) → ((d : ℕ) (e : Entry) (p : List ℕ) → slice_get es d ≡ Some e → is_wanted signs.Classes e.kind ≡ true → Gives ss i (symbol_of ss e) p → ⊥)
+    kept : (lists : List (Vec Bytes)) → ((d : ℕ) (e : Entry) (p : List ℕ) → slice_get es d ≡ Some e → is_wanted signs.Classes e.kind ≡ true → Gives x (symbol_of ss e) p → ⊥)
         → ArePermissions ss es xs lists → ArePermissions ss es more lists
     kept lists none are = record {
       rising = are.rising;
       each = λ d e at wanted p. are.each d e at wanted p ∙ sym (has_same (symbol_of ss e) p (no_gift (symbol_of ss e) p (none d e p at wanted)));
     }
 
-    -- the instance declares no class
-    pub kept_without : (lists : List (Vec Bytes)) → DeclaresNoClass i → ArePermissions ss es xs lists → ArePermissions ss es more lists
+    -- the item declares no class
+    pub kept_without : (lists : List (Vec Bytes)) → DeclaresNoClass x → ArePermissions ss es xs lists → ArePermissions ss es more lists
     kept_without lists without = kept lists (λ d e p at wanted g. without e.name g.declares)
 
-    module _ (spaces : AreNamespaces ss) (ordered : AreOrdered ss es) (placed : IsPlaced ss i) where
-      one_space : (e : Entry) → Contains es e → space_at ss i.place.now.space ≡ space_at ss e.space → e.space ≡ i.place.now.space
+    module _ (spaces : AreNamespaces ss) (ordered : AreOrdered ss es) (k : ℕ) (placed : IsNumber ss x.space k) where
+      one_space : (e : Entry) → Contains es e → x.space ≡ space_at ss e.space → e.space ≡ k
       one_space e c same =
-          same_number ss spaces (space_at ss e.space) e.space i.place.now.space (record { within = ordered.within e c; is = refl }) (record { within = placed.stands; is = same })
+          same_number ss spaces (space_at ss e.space) e.space k (record { within = ordered.within e c; is = refl }) (record { within = placed.within; is = placed.is ∙ same })
 
-      one_name : (a b : List ℕ) → DeclaresClass i a → DeclaresClass i b → a ≡ b
+      permissions_said : (f : Word → ScopedWord) (args : Terms Word) → x.args ≡ all_replaced (λ at. at) f args → listed_permissions x.args ≡ option_map_or names_in (listed_behind_name args) []
+      permissions_said f args says = ap listed_permissions says ∙ listed_said f args ∙ permissions_in args
+
+      one_name : (a b : List ℕ) → DeclaresClass x a → DeclaresClass x b → a ≡ b
       one_name a b x y = let e : cons (Name x.at a) x.rest ≡ cons (Name y.at b) y.rest = sym x.says ∙ y.says in cc
 
-      module _ (name : List ℕ) (declares : DeclaresClass i name) where
-        fits_here : (d : ℕ) (e : Entry) (p : List ℕ) → slice_get es d ≡ Some e → is_wanted signs.Classes e.kind ≡ true → Gives ss i (symbol_of ss e) p
-            → (e.space ≡ i.place.now.space) × (e.name ≡ name)
+      module _ (name : List ℕ) (declares : DeclaresClass x name) where
+        fits_here : (d : ℕ) (e : Entry) (p : List ℕ) → slice_get es d ≡ Some e → is_wanted signs.Classes e.kind ≡ true → Gives x (symbol_of ss e) p
+            → (e.space ≡ k) × (e.name ≡ name)
         fits_here d e p at wanted g = (one_space e (get_contains es d e at) g.spaced, one_name e.name name g.declares declares)
 
         -- the class has no entry
-        pub kept_unknown : (lists : List (Vec Bytes)) → HasNoEntry es name signs.Classes i.place.now.space → ArePermissions ss es xs lists → ArePermissions ss es more lists
+        pub kept_unknown : (lists : List (Vec Bytes)) → HasNoEntry es name signs.Classes k → ArePermissions ss es xs lists → ArePermissions ss es more lists
         kept_unknown lists none =
-            kept lists (λ d e p at wanted g. let (space, same) = fits_here d e p at wanted g in none d e at (they_fit name signs.Classes i.place.now.space e space same wanted))
+            kept lists (λ d e p at wanted g. let (space, same) = fits_here d e p at wanted g in none d e at (they_fit name signs.Classes k e space same wanted))
 
         -- the class statement has no list
-        pub kept_unlisted : (lists : List (Vec Bytes)) → listed_behind_name (args_of i.statement.now) ≡ None → ArePermissions ss es xs lists → ArePermissions ss es more lists
-        kept_unlisted lists none =
+        pub kept_unlisted : (f : Word → ScopedWord) (args : Terms Word) → x.args ≡ all_replaced (λ at. at) f args → (lists : List (Vec Bytes)) → listed_behind_name args ≡ None
+            → ArePermissions ss es xs lists → ArePermissions ss es more lists
+        kept_unlisted f args says lists none =
             kept lists (λ d e p at wanted g.
-            let empty : listed_permissions (args_of i.statement.now) ≡ [] = permissions_in (args_of i.statement.now) ∙ ap (λ o. option_map_or names_in o []) none in
+            let empty : listed_permissions x.args ≡ [] = permissions_said f args says ∙ ap (λ o. option_map_or names_in o []) none in
             true≢false (sym g.lists ∙ ap (list_any (same_bytes p)) empty))
 
         -- the names that the statement lists are added to those of the class
-        module _ (old : List (Vec Bytes)) (class_ : ℕ) (is : IsEntryAt es name signs.Classes i.place.now.space class_) (before none_yet after : Vec Bytes) (m : ℕ) (items : List rust.Term)
-            (len : length old ≡ length es) (was : slice_get old class_ ≡ Some before) (listed : listed_behind_name (args_of i.statement.now) ≡ Some (all_said m items))
+        module _ (f : Word → ScopedWord) (args : Terms Word) (says : x.args ≡ all_replaced (λ at. at) f args) (old : List (Vec Bytes)) (class_ : ℕ) (is : IsEntryAt es name signs.Classes k class_) (before none_yet after : Vec Bytes) (m : ℕ) (items : List rust.Term)
+            (len : length old ≡ length es) (was : slice_get old class_ ≡ Some before) (listed : listed_behind_name args ≡ Some (all_said m items))
             (all : Lists text_cmp (Contains (before.items ++ names_in (all_said m items))) after.items) where
           abbrev new : List (Vec Bytes)
           new = set (set old class_ none_yet) class_ after
@@ -329,11 +333,11 @@ module _ (ss : List Space) (es : List Entry) where
               some_vec : {a b : Vec Bytes} → Some a ≡ Some b → a ≡ b
               some_vec {a} {b} e = ap (λ o. unwrap_or o a) e
 
-          said : listed_permissions (args_of i.statement.now) ≡ names_in (all_said m items)
-          said = permissions_in (args_of i.statement.now) ∙ ap (λ o. option_map_or names_in o []) listed
+          said : listed_permissions x.args ≡ names_in (all_said m items)
+          said = permissions_said f args says ∙ ap (λ o. option_map_or names_in o []) listed
 
           -- a name is among the new ones where it was among the old ones or is listed
-          any_all : (p : List ℕ) → list_any (same_bytes p) after.items ≡ (list_any (same_bytes p) before.items || list_any (same_bytes p) (listed_permissions (args_of i.statement.now)))
+          any_all : (p : List ℕ) → list_any (same_bytes p) after.items ≡ (list_any (same_bytes p) before.items || list_any (same_bytes p) (listed_permissions x.args))
           any_all p =
               same_truth (list_any (same_bytes p) after.items) (list_any (same_bytes p) (before.items ++ names_in (all_said m items)))
               (λ t. let (x, c, same) = any_true (same_bytes p) after.items t in any_from (same_bytes p) _ x ((all.members x).0 c) same)
@@ -342,15 +346,15 @@ module _ (ss : List Space) (es : List Entry) where
               ∙ ap (λ l. list_any (same_bytes p) before.items || list_any (same_bytes p) l) (sym said)
 
           gives_all : (e : Entry) → slice_get es class_ ≡ Some e → (p : List ℕ)
-              → gives_permission (symbol_of ss e) p (item_of ss i) ≡ list_any (same_bytes p) (listed_permissions (args_of i.statement.now))
+              → gives_permission (symbol_of ss e) p x ≡ list_any (same_bytes p) (listed_permissions x.args)
           gives_all e at p =
-              let (space, same, wanted) = parts_fit name signs.Classes i.place.now.space is.entry is.fits in
+              let (space, same, wanted) = parts_fit name signs.Classes k is.entry is.fits in
               let one : is.entry ≡ e = same_Some is.entry e (sym is.at ∙ at) in
               same_truth _ _
-              (λ t. (gives_only ss i (symbol_of ss e) p t).lists)
-              (λ t. gives_from ss i (symbol_of ss e) p (record {
-                declares = subst (DeclaresClass i) (sym same ∙ ap (λ (x : Entry). x.name) one) declares;
-                spaced = ap (space_at ss) (sym space ∙ ap (λ (x : Entry). x.space) one);
+              (λ t. (gives_only x (symbol_of ss e) p t).lists)
+              (λ t. gives_from x (symbol_of ss e) p (record {
+                declares = subst (DeclaresClass x) (sym same ∙ ap (λ (y : Entry). y.name) one) declares;
+                spaced = sym placed.is ∙ ap (space_at ss) (sym space ∙ ap (λ (y : Entry). y.space) one);
                 lists = t;
               }))
 
@@ -363,14 +367,14 @@ module _ (ss : List Space) (es : List Entry) where
                   ap (λ k. list_any (same_bytes p) (listed_at new k)) same
                   ∙ ap (list_any (same_bytes p)) (listed_some new class_ after here)
                   ∙ any_all p
-                  ∙ ap (λ b. b || list_any (same_bytes p) (listed_permissions (args_of i.statement.now))) (ap (list_any (same_bytes p)) (sym (listed_some old class_ before was)) ∙ are.each class_ e at_class wanted p)
-                  ∙ ap (λ b. has_permission xs (symbol_of ss e) p || b) (sym (gives_all e at_class p) ∙ or_last (gives_permission (symbol_of ss e) p (item_of ss i)))
+                  ∙ ap (λ b. b || list_any (same_bytes p) (listed_permissions x.args)) (ap (list_any (same_bytes p)) (sym (listed_some old class_ before was)) ∙ are.each class_ e at_class wanted p)
+                  ∙ ap (λ b. has_permission xs (symbol_of ss e) p || b) (sym (gives_all e at_class p) ∙ or_last (gives_permission (symbol_of ss e) p x))
                   ∙ sym (has_more (symbol_of ss e) p)
               | inr differ ↦
                   ap (λ o. list_any (same_bytes p) (option_map_or (λ (w : Vec Bytes). w.items) o [])) (elsewhere d differ)
                   ∙ are.each d e at wanted p
                   ∙ sym (has_same (symbol_of ss e) p (no_gift (symbol_of ss e) p (λ g. let (space, same) = fits_here d e p at wanted g in
-                  differ (is.only d e at (they_fit name signs.Classes i.place.now.space e space same wanted)))))
+                  differ (is.only d e at (they_fit name signs.Classes k e space same wanted)))))
             ];
           }
             where
@@ -378,27 +382,66 @@ module _ (ss : List Space) (es : List Entry) where
               or_last true = refl
               or_last false = refl
 
--- ---- instance by instance
+-- ---- place by place
 
-taken_more : (ss : List Space) (xs : List Item) (n : ℕ) (i : Instance) → n < length is → i ≡ get_or is n i → items_of ss (take n is) ++ item_of ss i ∷ [] ≡ items_of ss (take (n + 1) is)
-taken_more ss is n i within e =
-    sym (ap (items_of ss) (take_more is n i within ∙ ap (λ z. take n is ++ z ∷ []) (sym e)) ∙ mapped (take n is))
-  where
-    mapped : (ys : List Instance) → items_of ss (ys ++ i ∷ []) ≡ items_of ss ys ++ item_of ss i ∷ []
-    mapped [] = refl
-    mapped (y ∷ ys) = ap (λ z. item_of ss y ∷ z) (mapped ys)
+module _ (ss : List Space) (es : List Entry) where
+  pub listed_more : (i : Kept) (at : ℕ) (lists : List (Vec Bytes)) → at < length (items_in i) → ArePermissions ss es (take at (items_in i) ++ item_at i at ∷ []) lists
+      → ArePermissions ss es (take (at + 1) (items_in i)) lists
+  listed_more i at lists within are = subst (λ xs. ArePermissions ss es xs lists) (sym (items_taken i at within)) are
 
-pub listed_more : (ss : List Space) (es : List Entry) (xs : List Item) (n : ℕ) (i : Instance) (lists : List (Vec Bytes)) → n < length is → i ≡ get_or is n i
-    → ArePermissions ss es (items_of ss (take n is) ++ item_of ss i ∷ []) lists → ArePermissions ss es (items_of ss (take (n + 1) is)) lists
-listed_more ss es is n i lists within e are = subst (λ xs. ArePermissions ss es xs lists) (taken_more ss is n i within e) are
+  pub listed_all : (xs : List Item) (n : ℕ) (lists : List (Vec Bytes)) → length xs ≤ n → ArePermissions ss es (take n xs) lists → ArePermissions ss es xs lists
+  listed_all xs n lists over are = subst (λ ys. ArePermissions ss es ys lists) (take_all n xs over) are
 
-pub listed_all : (ss : List Space) (es : List Entry) (xs : List Item) (n : ℕ) (lists : List (Vec Bytes)) → length is ≤ n
-    → ArePermissions ss es (items_of ss (take n is)) lists → ArePermissions ss es xs lists
-listed_all ss es is n lists over are = subst (λ js. ArePermissions ss es (items_of ss js) lists) (take_all n is over) are
+  pub listed_none : (xs : List Item) (lists : List (Vec Bytes)) → AreEmpty es lists → ArePermissions ss es (take 0 xs) lists
+  listed_none [] lists empty = nothing_listed ss es lists empty
+  listed_none (x ∷ xs) lists empty = nothing_listed ss es lists empty
 
-pub listed_none : (ss : List Space) (es : List Entry) (xs : List Item) (lists : List (Vec Bytes)) → AreEmpty es lists → ArePermissions ss es (items_of ss (take 0 is)) lists
-listed_none ss es [] lists empty = nothing_listed ss es lists empty
-listed_none ss es (i ∷ is) lists empty = nothing_listed ss es lists empty
+-- ---- the statement at a place
+
+-- what begins with a name where its words are replaced began with it
+name_back : (f : Word → ScopedWord) (ts : Terms Word) (at : Spot) (name : List ℕ) (rest : Terms ScopedWord) → all_replaced (λ bt. bt) f ts ≡ cons (Name at name) rest
+    → (more : Terms Word) × (ts ≡ cons (Name at name) more)
+unfolding replaced all_replaced
+name_back f nil at name rest e = absurd cc
+name_back f (cons (Leaf w) ts) at name rest e = absurd cc
+name_back f (cons (Form bt op parts) ts) at name rest e = absurd cc
+name_back f (cons (Name bt b) ts) at name rest e = (ts, (let p : bt ≡ at = cc in let q : b ≡ name = cc in λ i. cons (Name (p i) (q i)) ts))
+
+-- where it is in an optional
+pub none_in_optional : (x : Item) → (x.round ≡ [] → ⊥) → DeclaresNoClass x
+none_in_optional x inside name d = inside d.outside
+
+module _ (i : Kept) (at : ℕ) where
+  -- where there is none
+  pub none_of_nothing : (placed_at i at).standing.statement ≡ nothing → DeclaresNoClass (item_at i at)
+  none_of_nothing e name d = let f : keywords.SetAside ≡ keywords.Class = sym (ap (λ (w : Written). w.statement.keyword) e) ∙ d.keyword in absurd cc
+
+  module _ (s : Statement) (says : statement_of s ≡ (placed_at i at).standing.statement.statement) where
+    class_says : s.keyword ≡ keywords.Class → (item_at i at).args ≡ all_replaced (λ bt. bt) (word_at i at) (args_of s)
+    class_says k =
+        said_as_written (written_in i.0) (all_standing i.0) (placed_at i at) (placed_at i at).standing.statement.statement.keyword (placed_at i at).standing.statement.statement.args
+        (ap says_as_written (sym (ap (λ t. t.keyword) says) ∙ k))
+        ∙ ap (all_replaced (λ bt. bt) (word_at i at)) (sym (ap (λ t. t.args) says))
+
+    pub none_declared : declares.DeclaresNoClass s → DeclaresNoClass (item_at i at)
+    none_declared none name d =
+        let k : s.keyword ≡ keywords.Class = ap (λ t. t.keyword) says ∙ d.keyword in
+        let (more, e) = name_back (word_at i at) (args_of s) d.at name d.rest (sym (class_says k) ∙ d.says) in
+        none d.at name (record { keyword = k; rest = more; says = e })
+
+    module _ (bt : Spot) (name : List ℕ) (d : declares.DeclaresClass s bt name) where
+      pub said_by_class : (item_at i at).args ≡ all_replaced (λ bt. bt) (word_at i at) (args_of s)
+      said_by_class = class_says d.keyword
+
+      pub one_declared : (item_at i at).round ≡ [] → DeclaresClass (item_at i at) name
+      unfolding replaced all_replaced
+      one_declared outside = record {
+        outside = outside;
+        keyword = sym (ap (λ t. t.keyword) says) ∙ d.keyword;
+        at = bt;
+        rest = all_replaced (λ ct. ct) (word_at i at) d.rest;
+        says = said_by_class ∙ ap (all_replaced (λ ct. ct) (word_at i at)) d.says;
+      }
 
 -- ---- no lists
 

@@ -10,7 +10,6 @@ use Rattle.cil_syntax.specs.declared.code.FaultCode.TheVariants as causes
 use Rattle.cil_syntax.specs.declared.fault.Fault.{Fault}
 use Rattle.cil_syntax.specs.declared.term.LookedUp.{LookedUp}
 use Rattle.cil_syntax.specs.declared.term.Op.{Op}
-use Rattle.cil_syntax.specs.declared.term.Spot.{Spot}
 use Rattle.cil_syntax.specs.declared.term.Term as rust
 use Rattle.cil_syntax.specs.declared.term.Word.{Word as RustWord}
 use Rattle.cil_syntax.specs.Forms.{is_class_list, word_in_front}
@@ -20,11 +19,9 @@ use Rattle.cil_syntax.specs.Terms.{Terms, Leaf, Name, Form, cons, nil, spot_at}
 use Rattle.cil_syntax.specs.Reported.{fault_at}
 use Rattle.cil_syntax.specs.Scopes.{Namespace, ScopedWord}
 use Rattle.cil_syntax.proofs.SaidLemmas.{form_said, leaf_said, name_said}
-use Rattle.cil_blocks.specs.declared.namespaces.Space.{Space}
-use Rattle.cil_names.specs.Entries.{scoped}
 use Rattle.cil_macros.specs.Item.{OptSet, Item, all_replaced, replaced, words_in, all_words_in}
 use Rattle.cil_names.specs.Resolves.{Wanted, Word as AWord, Permission as APermission, found_in, resolves, wanted_in, all_wanted_in, words_of_class}
-use Rattle.cil_names.specs.Unresolved.{fault_of_word, faults_of_all, faults_of_wanted, faults_unless_listed, fault_unless_listed, scoped_term, scoped_terms}
+use Rattle.cil_names.specs.Unresolved.{fault_of_word, faults_of_all, faults_of_wanted, faults_unless_listed, fault_unless_listed, term_with, terms_with}
 
 -- a walk over terms: what each gives, one after the other
 module _ {A : Type 0} (one : rust.Term → List A) (all : List rust.Term → List A) (none : all [] ≡ []) (more : (t : rust.Term) (ts : List rust.Term) → all (t ∷ ts) ≡ one t ++ all ts) where
@@ -40,36 +37,36 @@ module _ {A : Type 0} (one : rust.Term → List A) (all : List rust.Term → Lis
   pub walked_all : (ts : List rust.Term) (i : ℕ) (new total : List A) → length ts ≤ i → new ++ all (drop i ts) ≡ total → new ≡ total
   walked_all ts i new total over so = sym (ap (λ l. new ++ all l) (drop_all i ts over) ∙ ap (λ l. new ++ l) none ∙ append-nil new) ∙ so
 
-module _ (ss : List Space) (sc : List ℕ) (n : Namespace) (m : ℕ) where
+module _ (f : RustWord → ScopedWord) (n : Namespace) (m : ℕ) where
   -- ---- the terms of Rust, as terms of items
-  pub scoped_leaf : (t : rust.Term) (w : LookedUp) → t ≡ rust.Leaf w → scoped_term ss sc m t ≡ Leaf (scoped ss sc (word_in m w))
+  pub scoped_leaf : (t : rust.Term) (w : LookedUp) → t ≡ rust.Leaf w → term_with f m t ≡ Leaf (f (word_in m w))
   unfolding replaced
-  scoped_leaf t w e = ap (scoped_term ss sc m) e ∙ ap (replaced (λ at. at) (scoped ss sc)) (leaf_said m w)
+  scoped_leaf t w e = ap (term_with f m) e ∙ ap (replaced (λ at. at) f) (leaf_said m w)
 
-  pub scoped_name : (t : rust.Term) (at : ℕ) (bytes : List ℕ) → t ≡ rust.Name at bytes → scoped_term ss sc m t ≡ Name (spot_at m at) bytes
+  pub scoped_name : (t : rust.Term) (at : ℕ) (bytes : List ℕ) → t ≡ rust.Name at bytes → term_with f m t ≡ Name (spot_at m at) bytes
   unfolding replaced
-  scoped_name t at bytes e = ap (scoped_term ss sc m) e ∙ ap (replaced (λ at. at) (scoped ss sc)) (name_said m at bytes)
+  scoped_name t at bytes e = ap (term_with f m) e ∙ ap (replaced (λ at. at) f) (name_said m at bytes)
 
-  pub scoped_form : (t : rust.Term) (at : ℕ) (op : Op) (parts : Vec rust.Term) → t ≡ rust.Form op at parts → scoped_term ss sc m t ≡ Form (spot_at m at) op (scoped_terms ss sc m parts.items)
+  pub scoped_form : (t : rust.Term) (at : ℕ) (op : Op) (parts : Vec rust.Term) → t ≡ rust.Form op at parts → term_with f m t ≡ Form (spot_at m at) op (terms_with f m parts.items)
   unfolding replaced
-  scoped_form t at op parts e = ap (scoped_term ss sc m) e ∙ ap (replaced (λ at. at) (scoped ss sc)) (form_said m at op parts)
+  scoped_form t at op parts e = ap (term_with f m) e ∙ ap (replaced (λ at. at) f) (form_said m at op parts)
 
   -- ---- permissions
 
-  pub no_words : all_words_in (scoped_terms ss sc m []) ≡ []
+  pub no_words : all_words_in (terms_with f m []) ≡ []
   unfolding all_words_in all_replaced
   no_words = refl
 
-  pub more_words : (t : rust.Term) (ts : List rust.Term) → all_words_in (scoped_terms ss sc m (t ∷ ts)) ≡ words_in (scoped_term ss sc m t) ++ all_words_in (scoped_terms ss sc m ts)
+  pub more_words : (t : rust.Term) (ts : List rust.Term) → all_words_in (terms_with f m (t ∷ ts)) ≡ words_in (term_with f m t) ++ all_words_in (terms_with f m ts)
   unfolding all_words_in all_replaced
   more_words t ts = refl
 
   module _ (permissions : List (List ℕ)) where
     abbrev pub unlisted_one : rust.Term → List Fault
-    unlisted_one t = faults_unless_listed permissions n (words_in (scoped_term ss sc m t))
+    unlisted_one t = faults_unless_listed permissions n (words_in (term_with f m t))
 
     abbrev pub unlisted : List rust.Term → List Fault
-    unlisted ts = faults_unless_listed permissions n (all_words_in (scoped_terms ss sc m ts))
+    unlisted ts = faults_unless_listed permissions n (all_words_in (terms_with f m ts))
 
     pub none_unlisted : unlisted [] ≡ []
     none_unlisted = ap (faults_unless_listed permissions n) no_words
@@ -77,45 +74,35 @@ module _ (ss : List Space) (sc : List ℕ) (n : Namespace) (m : ℕ) where
     pub more_unlisted : (t : rust.Term) (ts : List rust.Term) → unlisted (t ∷ ts) ≡ unlisted_one t ++ unlisted ts
     more_unlisted t ts =
         ap (faults_unless_listed permissions n) (more_words t ts)
-        ∙ flat_map-append (fault_unless_listed permissions n) (words_in (scoped_term ss sc m t)) (all_words_in (scoped_terms ss sc m ts))
+        ∙ flat_map-append (fault_unless_listed permissions n) (words_in (term_with f m t)) (all_words_in (terms_with f m ts))
 
   -- what one term tells
   module _ (permissions : List (List ℕ)) (t : rust.Term) (old new : List Fault) where
-    pub leaf_listed : (w : LookedUp) → t ≡ rust.Leaf w → (b : List ℕ) → b ≡ w.bytes → list_any (same_bytes b) permissions ≡ true
-        → old ≡ old ++ faults_unless_listed permissions n (words_in (scoped_term ss sc m t))
+    pub leaf_unlisted : (w : LookedUp) → t ≡ rust.Leaf w → new ≡ old ++ fault_unless_listed permissions n (f (word_in m w)) → new ≡ old ++ faults_unless_listed permissions n (words_in (term_with f m t))
     unfolding words_in
-    leaf_listed w is b same listed =
-        sym (ap (λ u. old ++ faults_unless_listed permissions n (words_in u)) (scoped_leaf t w is)
-        ∙ ap (λ v. old ++ ((if v then [] else fault_of_word n (scoped ss sc (word_in m w)) ∷ []) ++ [])) (ap (λ z. list_any (same_bytes z) permissions) (sym same) ∙ listed)
-        ∙ append-nil old)
+    leaf_unlisted w is push =
+        push ∙ ap (λ l. old ++ l) (sym (append-nil (fault_unless_listed permissions n (f (word_in m w)))))
+        ∙ sym (ap (λ u. old ++ faults_unless_listed permissions n (words_in u)) (scoped_leaf t w is))
 
-    pub leaf_unlisted : (w : LookedUp) → t ≡ rust.Leaf w → (b : List ℕ) → b ≡ w.bytes → list_any (same_bytes b) permissions ≡ false
-        → (at : Spot) → at ≡ spot_at m w.at → new ≡ old ++ fault_at causes.Unresolved at n b ∷ [] → new ≡ old ++ faults_unless_listed permissions n (words_in (scoped_term ss sc m t))
-    unfolding words_in
-    leaf_unlisted w is b same unlisted at here push =
-        push ∙ ap (λ sp. old ++ fault_at causes.Unresolved sp n b ∷ []) here ∙ ap (λ z. old ++ fault_at causes.Unresolved (spot_at m w.at) n z ∷ []) same
-        ∙ sym (ap (λ u. old ++ faults_unless_listed permissions n (words_in u)) (scoped_leaf t w is)
-        ∙ ap (λ v. old ++ ((if v then [] else fault_of_word n (scoped ss sc (word_in m w)) ∷ []) ++ [])) (ap (λ z. list_any (same_bytes z) permissions) (sym same) ∙ unlisted))
-
-    pub name_unlisted : (at : ℕ) (bytes : List ℕ) → t ≡ rust.Name at bytes → old ≡ old ++ faults_unless_listed permissions n (words_in (scoped_term ss sc m t))
+    pub name_unlisted : (at : ℕ) (bytes : List ℕ) → t ≡ rust.Name at bytes → old ≡ old ++ faults_unless_listed permissions n (words_in (term_with f m t))
     unfolding words_in
     name_unlisted at bytes is = sym (ap (λ u. old ++ faults_unless_listed permissions n (words_in u)) (scoped_name t at bytes is) ∙ append-nil old)
 
     pub form_unlisted : (at : ℕ) (op : Op) (parts : Vec rust.Term) → t ≡ rust.Form op at parts → (items : List rust.Term) → items ≡ parts.items
-        → new ≡ old ++ faults_unless_listed permissions n (all_words_in (scoped_terms ss sc m items)) → new ≡ old ++ faults_unless_listed permissions n (words_in (scoped_term ss sc m t))
+        → new ≡ old ++ faults_unless_listed permissions n (all_words_in (terms_with f m items)) → new ≡ old ++ faults_unless_listed permissions n (words_in (term_with f m t))
     unfolding words_in
     form_unlisted at op parts is items same push =
-        push ∙ ap (λ us. old ++ faults_unless_listed permissions n (all_words_in (scoped_terms ss sc m us))) same
+        push ∙ ap (λ us. old ++ faults_unless_listed permissions n (all_words_in (terms_with f m us))) same
         ∙ sym (ap (λ u. old ++ faults_unless_listed permissions n (words_in u)) (scoped_form t at op parts is))
 
   -- ---- words
 
   module _ (xs : List Item) (s : OptSet) where
     abbrev pub untold_one : rust.Term → List Fault
-    untold_one t = faults_of_all xs s n (wanted_in (scoped_term ss sc m t))
+    untold_one t = faults_of_all xs s n (wanted_in (term_with f m t))
 
     abbrev pub untold : List rust.Term → List Fault
-    untold ts = faults_of_all xs s n (all_wanted_in (scoped_terms ss sc m ts))
+    untold ts = faults_of_all xs s n (all_wanted_in (terms_with f m ts))
 
     pub none_untold : untold [] ≡ []
     unfolding all_wanted_in all_replaced
@@ -123,34 +110,43 @@ module _ (ss : List Space) (sc : List ℕ) (n : Namespace) (m : ℕ) where
 
     pub more_untold : (t : rust.Term) (ts : List rust.Term) → untold (t ∷ ts) ≡ untold_one t ++ untold ts
     unfolding all_wanted_in all_replaced
-    more_untold t ts = flat_map-append (faults_of_wanted xs s n) (wanted_in (scoped_term ss sc m t)) (all_wanted_in (scoped_terms ss sc m ts))
+    more_untold t ts = flat_map-append (faults_of_wanted xs s n) (wanted_in (term_with f m t)) (all_wanted_in (terms_with f m ts))
 
   -- what one term tells
   module _ (xs : List Item) (s : OptSet) (t : rust.Term) (old new : List Fault) where
-    pub leaf_told : (w : LookedUp) → t ≡ rust.Leaf w → new ≡ old ++ faults_of_all xs s n (AWord (scoped ss sc (word_in m w)) ∷ [])
-        → new ≡ old ++ faults_of_all xs s n (wanted_in (scoped_term ss sc m t))
+    pub leaf_told : (w : LookedUp) → t ≡ rust.Leaf w → new ≡ old ++ faults_of_all xs s n (AWord (f (word_in m w)) ∷ [])
+        → new ≡ old ++ faults_of_all xs s n (wanted_in (term_with f m t))
     unfolding wanted_in
     leaf_told w is push = push ∙ sym (ap (λ u. old ++ faults_of_all xs s n (wanted_in u)) (scoped_leaf t w is))
 
-    pub name_told : (at : ℕ) (bytes : List ℕ) → t ≡ rust.Name at bytes → old ≡ old ++ faults_of_all xs s n (wanted_in (scoped_term ss sc m t))
+    pub name_told : (at : ℕ) (bytes : List ℕ) → t ≡ rust.Name at bytes → old ≡ old ++ faults_of_all xs s n (wanted_in (term_with f m t))
     unfolding wanted_in
     name_told at bytes is = sym (ap (λ u. old ++ faults_of_all xs s n (wanted_in u)) (scoped_name t at bytes is) ∙ append-nil old)
 
     pub class_told : (at : ℕ) (op : Op) (parts : Vec rust.Term) → t ≡ rust.Form op at parts → (items : List rust.Term) → items ≡ parts.items → is_class_list op ≡ true
-        → new ≡ old ++ faults_of_all xs s n (words_of_class (scoped_terms ss sc m items)) → new ≡ old ++ faults_of_all xs s n (wanted_in (scoped_term ss sc m t))
+        → new ≡ old ++ faults_of_all xs s n (words_of_class (terms_with f m items)) → new ≡ old ++ faults_of_all xs s n (wanted_in (term_with f m t))
     unfolding wanted_in
     class_told at op parts is items same of_class push =
-        push ∙ ap (λ us. old ++ faults_of_all xs s n (words_of_class (scoped_terms ss sc m us))) same
+        push ∙ ap (λ us. old ++ faults_of_all xs s n (words_of_class (terms_with f m us))) same
         ∙ sym (ap (λ u. old ++ faults_of_all xs s n (wanted_in u)) (scoped_form t at op parts is)
-        ∙ ap (λ b. old ++ faults_of_all xs s n (if b then words_of_class (scoped_terms ss sc m parts.items) else all_wanted_in (scoped_terms ss sc m parts.items))) of_class)
+        ∙ ap (λ b. old ++ faults_of_all xs s n (if b then words_of_class (terms_with f m parts.items) else all_wanted_in (terms_with f m parts.items))) of_class)
 
     pub form_told : (at : ℕ) (op : Op) (parts : Vec rust.Term) → t ≡ rust.Form op at parts → (items : List rust.Term) → items ≡ parts.items → is_class_list op ≡ false
-        → new ≡ old ++ faults_of_all xs s n (all_wanted_in (scoped_terms ss sc m items)) → new ≡ old ++ faults_of_all xs s n (wanted_in (scoped_term ss sc m t))
+        → new ≡ old ++ faults_of_all xs s n (all_wanted_in (terms_with f m items)) → new ≡ old ++ faults_of_all xs s n (wanted_in (term_with f m t))
     unfolding wanted_in
     form_told at op parts is items same other push =
-        push ∙ ap (λ us. old ++ faults_of_all xs s n (all_wanted_in (scoped_terms ss sc m us))) same
+        push ∙ ap (λ us. old ++ faults_of_all xs s n (all_wanted_in (terms_with f m us))) same
         ∙ sym (ap (λ u. old ++ faults_of_all xs s n (wanted_in u)) (scoped_form t at op parts is)
-        ∙ ap (λ b. old ++ faults_of_all xs s n (if b then words_of_class (scoped_terms ss sc m parts.items) else all_wanted_in (scoped_terms ss sc m parts.items))) other)
+        ∙ ap (λ b. old ++ faults_of_all xs s n (if b then words_of_class (terms_with f m parts.items) else all_wanted_in (terms_with f m parts.items))) other)
+
+-- ---- one permission
+
+module _ (permissions : List (List ℕ)) (n : Namespace) (w : ScopedWord) (old new : List Fault) where
+  pub listed_not_told : list_any (same_bytes w.bytes) permissions ≡ true → old ≡ old ++ fault_unless_listed permissions n w
+  listed_not_told listed = sym (ap (λ b. old ++ (if b then [] else fault_of_word n w ∷ [])) listed ∙ append-nil old)
+
+  pub unlisted_told : list_any (same_bytes w.bytes) permissions ≡ false → new ≡ old ++ fault_of_word n w ∷ [] → new ≡ old ++ fault_unless_listed permissions n w
+  unlisted_told unlisted push = push ∙ sym (ap (λ b. old ++ (if b then [] else fault_of_word n w ∷ [])) unlisted)
 
 -- ---- one word
 
@@ -215,26 +211,26 @@ module _ (xs : List Item) (s : OptSet) (n : Namespace) where
       ∙ append_assoc old (faults_of_wanted xs s n w) (faults_of_all xs s n more) ∙ ap (λ z. old ++ faults_of_all xs s n z) (sym e)
 
 -- the words of a class list, by the word in front of its terms
-module _ (ss : List Space) (sc : List ℕ) (m : ℕ) where
+module _ (f : RustWord → ScopedWord) (m : ℕ) where
   pub class_list_words : (terms more : List rust.Term) (w : RustWord) → all_said m terms ≡ cons (Leaf w) (all_said m more)
-      → words_of_class (scoped_terms ss sc m terms) ≡ AWord (scoped ss sc w) ∷ map (APermission (scoped ss sc w)) (all_words_in (scoped_terms ss sc m more))
+      → words_of_class (terms_with f m terms) ≡ AWord (f w) ∷ map (APermission (f w)) (all_words_in (terms_with f m more))
   unfolding all_replaced replaced
-  class_list_words terms more w says = ap (λ ts. words_of_class (all_replaced (λ at. at) (scoped ss sc) ts)) says
+  class_list_words terms more w says = ap (λ ts. words_of_class (all_replaced (λ at. at) f ts)) says
 
-  no_word_in_front : (ts : Terms RustWord) → word_in_front ts ≡ None → words_of_class (all_replaced (λ at. at) (scoped ss sc) ts) ≡ []
+  no_word_in_front : (ts : Terms RustWord) → word_in_front ts ≡ None → words_of_class (all_replaced (λ at. at) f ts) ≡ []
   unfolding all_replaced replaced
   no_word_in_front nil e = refl
   no_word_in_front (cons (Leaf w) ts) e = absurd cc
   no_word_in_front (cons (Name at bytes) ts) e = refl
   no_word_in_front (cons (Form at op parts) ts) e = refl
 
-  pub no_class_list : (terms : List rust.Term) → word_in_front (all_said m terms) ≡ None → words_of_class (scoped_terms ss sc m terms) ≡ []
+  pub no_class_list : (terms : List rust.Term) → word_in_front (all_said m terms) ≡ None → words_of_class (terms_with f m terms) ≡ []
   no_class_list terms none = no_word_in_front (all_said m terms) none
 
   -- what they mean: the word in front first
-  pub class_list_meant : {Y : Type 0} (f : RustWord → Y) (terms more : List rust.Term) (w : RustWord) (old mid new : List Y) → all_said m terms ≡ cons (Leaf w) (all_said m more)
-      → mid ≡ old ++ f w ∷ [] → new ≡ mid ++ map f (all_words_in (all_said m more)) → new ≡ old ++ map f (all_words_in (all_said m terms))
+  pub class_list_meant : {Y : Type 0} (g : RustWord → Y) (terms more : List rust.Term) (w : RustWord) (old mid new : List Y) → all_said m terms ≡ cons (Leaf w) (all_said m more)
+      → mid ≡ old ++ g w ∷ [] → new ≡ mid ++ map g (all_words_in (all_said m more)) → new ≡ old ++ map g (all_words_in (all_said m terms))
   unfolding all_words_in words_in
-  class_list_meant f terms more w old mid new says one rest =
-      rest ∙ ap (λ l. l ++ map f (all_words_in (all_said m more))) one ∙ append_assoc old (f w ∷ []) (map f (all_words_in (all_said m more)))
-      ∙ ap (λ ts. old ++ map f (all_words_in ts)) (sym says)
+  class_list_meant g terms more w old mid new says one rest =
+      rest ∙ ap (λ l. l ++ map g (all_words_in (all_said m more))) one ∙ append_assoc old (g w ∷ []) (map g (all_words_in (all_said m more)))
+      ∙ ap (λ ts. old ++ map g (all_words_in ts)) (sym says)

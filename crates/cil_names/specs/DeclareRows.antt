@@ -1,54 +1,24 @@
 -- The rows from which the declared names are gathered: one for each declaration of each instance, and one for object_r.
 -- No other crate needs these words.
-use Rattle.std.specs.Prelude.{◌≡◌, ◌≤◌, ℕ, Bool, true, false, List, [], ◌∷◌, codes, map, length, drop, Contains, Option, Some, None}
-use Rattle.std.specs.List.{flat_map, list_all}
-use Rattle.cil_syntax.specs.declared.kind.Kind.{Kind}
+use Rattle.std.specs.Prelude.{◌≡◌, ◌<◌, ◌⊎◌, ℕ, Bool, true, false, List, [], codes, length, Contains, Option, Some, None}
+use Rattle.std.specs.List.{list_all}
 use Rattle.cil_syntax.specs.declared.kind.Kind.TheVariants as kinds
+use Rattle.cil_syntax.specs.declared.term.Spot.{Spot}
 use Rattle.cil_syntax.specs.declared.term.Term as rust
 use Rattle.cil_syntax.specs.declared.term.Word.{Word}
-use Rattle.cil_syntax.specs.Said.{all_said, args_of, said_of}
+use Rattle.cil_syntax.specs.Forms.{BeginsWithName}
+use Rattle.cil_syntax.specs.Said.{all_said, said_of}
 use Rattle.cil_syntax.specs.Table.{entry_of}
-use Rattle.cil_syntax.specs.Terms.{Leaf, Name, Form, Term, Terms, nil, cons}
-use Rattle.cil_syntax.specs.Scopes.{Scope, ScopedWord}
-use Rattle.cil_names.specs.declared.instance.Instance.{Instance}
-use Rattle.cil_names.specs.declared.row.Row.{Row}
-use Rattle.cil_blocks.specs.declared.namespaces.Space.{Space}
-use Rattle.cil_names.specs.Declarations.{Bare, Declaration, bare, content_of, nowhere}
-use Rattle.cil_names.specs.Entries.{Key, item_of, rank}
+use Rattle.cil_syntax.specs.Terms.{Term, Terms, nil, cons}
+use Rattle.cil_syntax.specs.Scopes.{ScopedWord}
+use Rattle.cil_blocks.specs.Namespaces.{IsNumber, space_at}
 use Rattle.cil_macros.specs.Item.{OptSet, all_replaced, replaced}
-use Rattle.cil_names.specs.Placed.{IsPlaced}
-use Rattle.cil_blocks.specs.Namespaces.{space_at}
-
--- ---- rows
-
-abbrev pub rows_named : Instance → List Kind → Terms Word → List Row
-rows_named i declares nil = []
-rows_named i declares (cons (Leaf w) rest) = []
-rows_named i declares (cons (Name at name) rest) = map (λ kind. record { space = i.place.now.space; name = name; kind = kind; instance = Some i }) declares
-rows_named i declares (cons (Form at op parts) rest) = []
-
--- the rows of an instance: one for each kind that its statement declares
-unfoldable pub rows_by : Instance → List Row
-rows_by i = rows_named i (entry_of i.statement.now.keyword).declares (args_of i.statement.now)
-
--- the row of the role that every policy has
-abbrev pub object_row : Row
-object_row = record { space = 0; name = codes "object_r"; kind = kinds.Role; instance = None }
-
-abbrev pub all_rows : List Instance → List Row
-all_rows is = object_row ∷ flat_map rows_by is
-
--- rows with one key are of one name space, and have one name in one namespace
-abbrev pub row_key : Row → Key
-row_key r = record { space = r.space; name = r.name; rank = rank r.kind }
-
--- the optionals round the statement of a row
-abbrev pub round_at : Option Instance → List ℕ
-round_at None = []
-round_at (Some i) = i.place.now.round.items
-
-abbrev pub is_row_enabled : OptSet → Row → Bool
-is_row_enabled s r = list_all s (round_at r.instance)
+use Rattle.cil_macros.specs.Items.{Kept, item_at, items_in, namespaces_in, says_as_written, word_at}
+use Rattle.cil_names.specs.declared.content.Comparison.{Comparison}
+use Rattle.cil_names.specs.declared.content.Reading.{Reading}
+use Rattle.cil_names.specs.declared.row.Row.{Row}
+use Rattle.cil_names.specs.Declarations.{Bare, Declaration, bare, content_of, declared_by, name_space, nowhere, of_blocks}
+use Rattle.cil_names.specs.Entries.{Key, rank}
 
 -- ---- what a row declares
 
@@ -56,44 +26,91 @@ abbrev pub behind : {L : Type 0} → Terms L → Terms L
 behind nil = nil
 behind (cons t rest) = rest
 
--- what an instance says behind the declared name
-abbrev pub content_at : List Space → Option Instance → Terms Bare
-content_at ss None = nil
-content_at ss (Some i) = content_of (behind (item_of ss i).args)
+-- what the instance at a place says behind the declared name
+abbrev pub content_at : Kept → Option ℕ → Terms Bare
+content_at i None = nil
+content_at i (Some k) = content_of (behind (item_at i k).args)
 
-abbrev pub declaration_of : List Space → Row → Declaration
-declaration_of ss r = record { kind = r.kind; space = space_at ss r.space; name = r.name; content = content_at ss r.instance }
+abbrev pub declaration_of : Kept → Row → Declaration
+declaration_of i r = record { kind = r.kind; space = space_at (namespaces_in i) r.space; name = r.name; content = content_at i r.at }
 
--- the row is that of an instance whose namespaces have numbers, or of object_r
-abbrev pub IsPlacedRow : List Space → Row → Type 0
-IsPlacedRow ss r = at r.instance
-  where
-    at : Option Instance → Type 0
-    at None = r.space ≤ length ss
-    at (Some i) = IsPlaced ss i × (r.space ≡ i.place.now.space)
+-- ---- rows
+
+-- the row of the role that every policy has
+abbrev pub object_row : Row
+object_row = record { space = 0; name = codes "object_r"; kind = kinds.Role; at = None }
+
+-- the row is that of a declaration of the instance at a place
+pub record IsRowAt (i : Kept) (k : ℕ) (r : Row) : Type 0 where
+  pub at : r.at ≡ Some k
+  pub within : k < length (items_in i)
+  pub space : IsNumber (namespaces_in i) (item_at i k).space r.space
+  pub spot : Spot
+  pub named : BeginsWithName (item_at i k).args spot r.name
+  pub kind : Contains (entry_of (item_at i k).keyword).declares r.kind
+
+-- the row is that of object_r, or that of a declaration of an instance
+abbrev pub IsRow : Kept → Row → Type 0
+IsRow i r = (r ≡ object_row) ⊎ ((k : ℕ) × IsRowAt i k r)
+
+abbrev pub AreRowsIn : Kept → List Row → Type 0
+AreRowsIn i rows = (r : Row) → Contains rows r → IsRow i r
+
+-- the rows are that of object_r, and those of the declarations of the first so many instances
+pub record AreRowsUpTo (i : Kept) (n : ℕ) (rows : List Row) : Type 0 where
+  pub object : Contains rows object_row
+  pub each : AreRowsIn i rows
+  pub all : (k : ℕ) → k < n → (d : Declaration) → Contains (declared_by (item_at i k)) d → (r : Row) × Contains rows r × IsRowAt i k r × (declaration_of i r ≡ d)
+
+-- the rows of all instances
+abbrev pub AreAllRows : Kept → List Row → Type 0
+AreAllRows i rows = AreRowsUpTo i (length (items_in i)) rows
+
+-- rows with one key are of one name space, and have one name in one namespace
+abbrev pub row_key : Row → Key
+row_key r = record { space = r.space; name = r.name; rank = rank r.kind }
+
+-- the optionals round the instance at a place
+abbrev pub round_at : Kept → Option ℕ → List ℕ
+round_at i None = []
+round_at i (Some k) = (item_at i k).round
+
+abbrev pub is_row_enabled : Kept → OptSet → Row → Bool
+is_row_enabled i s r = list_all s (round_at i r.at)
+
+-- ---- rows of one key
+
+-- two declarations of one key are one, or are of blocks or macros, which are told apart a step before
+abbrev pub AreAlike : Declaration → Declaration → Type 0
+AreAlike d e = (name_space d.kind ≡ of_blocks) ⊎ (d ≡ e)
 
 -- some of these rows differs from the first, or none does
-abbrev pub TellsDiffering : List Space → Row → List Row → Bool → Type 0
-TellsDiffering ss first rows true = (r : Row) × Contains rows r × (declaration_of ss first ≡ declaration_of ss r → ⊥)
-TellsDiffering ss first rows false = (r : Row) → Contains rows r → declaration_of ss first ≡ declaration_of ss r
+abbrev pub TellsDiffering : Kept → Row → List Row → Bool → Type 0
+TellsDiffering i first rows true = (r : Row) × Contains rows r × (AreAlike (declaration_of i first) (declaration_of i r) → ⊥)
+TellsDiffering i first rows false = (r : Row) → Contains rows r → AreAlike (declaration_of i first) (declaration_of i r)
 
 -- ---- contents, as they are compared
 
-abbrev pub in_scope : Scope → Word → ScopedWord
-in_scope scope w = record { at = w.at; bytes = w.bytes; sign = w.sign; scope = scope }
+-- the terms of a content of a module, without their places, where a word says this
+unfoldable pub bare_term : ℕ → (Word → ScopedWord) → rust.Term → Term Bare
+bare_term m f t = replaced (λ at. nowhere) bare (replaced (λ at. at) f (said_of m t))
 
--- the terms of a content of a module, without their places
-unfoldable pub bare_term : ℕ → Scope → rust.Term → Term Bare
-bare_term m scope t = replaced (λ at. nowhere) bare (replaced (λ at. at) (in_scope scope) (said_of m t))
+unfoldable pub bare_terms : ℕ → (Word → ScopedWord) → List rust.Term → Terms Bare
+bare_terms m f ts = content_of (all_replaced (λ at. at) f (all_said m ts))
 
-unfoldable pub bare_terms : ℕ → Scope → List rust.Term → Terms Bare
-bare_terms m scope ts = content_of (all_replaced (λ at. at) (in_scope scope) (all_said m ts))
+-- the same of the instance that is read there
+abbrev pub bare_there : Kept → Reading → rust.Term → Term Bare
+bare_there i r t = bare_term r.«module» (word_at i r.at) t
 
--- the terms behind the declared name
-abbrev pub terms_behind : Option Instance → List rust.Term
-terms_behind None = []
-terms_behind (Some i) = drop 1 i.statement.now.args.items
+abbrev pub all_bare_there : Kept → Reading → List rust.Term → Terms Bare
+all_bare_there i r ts = bare_terms r.«module» (word_at i r.at) ts
 
-abbrev pub scope_numbers : Option Instance → List ℕ
-scope_numbers None = []
-scope_numbers (Some i) = i.place.now.scope.items
+-- there are such instances
+pub record AreThere (c : Comparison) : Type 0 where
+  pub one : c.one.at < length (items_in c.instances.now)
+  pub other : c.other.at < length (items_in c.instances.now)
+
+-- the instance at a place says what is written
+pub record SaysWritten (i : Kept) (k : ℕ) : Type 0 where
+  pub within : k < length (items_in i)
+  pub written : says_as_written (item_at i k).keyword ≡ true

@@ -7,19 +7,15 @@ use Rattle.std.specs.Ordering.{on}
 use Rattle.cil_syntax.specs.declared.code.FaultCode.TheVariants as causes
 use Rattle.cil_syntax.specs.declared.fault.Fault.{Fault}
 use Rattle.cil_syntax.specs.declared.kind.Kind.{Kind}
-use Rattle.cil_syntax.specs.declared.term.Word.{Word}
-use Rattle.cil_syntax.specs.Said.{args_of}
 use Rattle.cil_syntax.specs.Terms.{Leaf, Name, Form, Terms, nil, cons}
 use Rattle.cil_syntax.specs.Reported.{fault_at}
-use Rattle.cil_syntax.specs.Scopes.{Namespace}
+use Rattle.cil_syntax.specs.Scopes.{Namespace, ScopedWord}
+use Rattle.cil_macros.specs.Items.{Kept, item_at}
 use Rattle.cil_names.specs.declared.entry.Entry.{Entry}
-use Rattle.cil_names.specs.declared.instance.Instance.{Instance}
 use Rattle.cil_names.specs.declared.row.Row.{Row}
 use Rattle.cil_names.specs.declared.run.Run.{Run}
-use Rattle.cil_blocks.specs.declared.namespaces.Space.{Space}
-use Rattle.cil_names.specs.DeclareRows.{IsPlacedRow, TellsDiffering, round_at, row_key}
+use Rattle.cil_names.specs.DeclareRows.{TellsDiffering, round_at, row_key}
 use Rattle.cil_names.specs.Entries.{Key, key_cmp}
-use Rattle.cil_blocks.specs.Namespaces.{AreNamespaces, space_at}
 
 abbrev pub run_key : Run → Key
 run_key run = row_key run.first.now
@@ -28,44 +24,44 @@ abbrev pub rows_in : Run → List Row
 rows_in run = run.rows.now
 
 -- the rows of a run share its key, and the flag tells whether some of them declares another symbol than the first
-pub record IsRun (ss : List Space) (run : Run) : Type 0 where
+pub record IsRun (i : Kept) (run : Run) : Type 0 where
   pub first : Contains run.rows.now run.first.now
   pub same : (r : Row) → Contains run.rows.now r → row_key r ≡ row_key run.first.now
-  pub tells : TellsDiffering ss run.first.now run.rows.now run.differing
+  pub tells : TellsDiffering i run.first.now run.rows.now run.differing
 
 -- the run that begins at a place of rows
-pub record IsNextRun (rows : List Row) (start : ℕ) (run : Run) : Type 0 where
+pub record IsNextRun (i : Kept) (rows : List Row) (start : ℕ) (run : Run) : Type 0 where
   pub some : 0 < length run.rows.now
   pub parted : drop start rows ≡ run.rows.now ++ drop (start + length run.rows.now) rows
   pub above : (r : Row) → Contains (drop (start + length run.rows.now) rows) r → key_cmp (row_key run.first.now) (row_key r) ≡ Less
-  pub is_run : (ss : List Space) → AreNamespaces ss → ((r : Row) → Contains rows r → IsPlacedRow ss r) → IsRun ss run
+  pub is_run : IsRun i run
 
 -- the runs are these rows, parted by their keys
-pub record AreRuns (ss : List Space) (rows : List Row) (runs : List Run) : Type 0 where
+pub record AreRuns (i : Kept) (rows : List Row) (runs : List Run) : Type 0 where
   pub whole : flat_map rows_in runs ≡ rows
   pub rising : IsStrictlySortedBy (on run_key key_cmp) runs
-  pub each : (run : Run) → Contains runs run → IsRun ss run
+  pub each : (run : Run) → Contains runs run → IsRun i run
 
 -- ---- faults
 
 -- the fault of a statement that begins with a name: it stands at that name
-abbrev pub faults_named : Namespace → Terms Word → List Fault
+abbrev pub faults_named : Namespace → Terms ScopedWord → List Fault
 faults_named space nil = []
 faults_named space (cons (Leaf w) rest) = []
 faults_named space (cons (Name at name) rest) = fault_at causes.Clash at space name ∷ []
 faults_named space (cons (Form at op parts) rest) = []
 
-abbrev pub faults_at : List Space → Option Instance → List Fault
-faults_at ss None = []
-faults_at ss (Some i) = faults_named (space_at ss i.place.now.space) (args_of i.statement.now)
+abbrev pub faults_at : Kept → Option ℕ → List Fault
+faults_at i None = []
+faults_at i (Some k) = faults_named (item_at i k).space (item_at i k).args
 
 -- the fault of a row, where its declaration differs from another one
-unfoldable pub row_faults : List Space → Row → List Fault
-row_faults ss r = faults_at ss r.instance
+unfoldable pub row_faults : Kept → Row → List Fault
+row_faults i r = faults_at i r.at
 
 -- where some rows of a run differ, each of them is at fault
-unfoldable pub run_faults : List Space → Run → List Fault
-run_faults ss run = if run.differing then flat_map (row_faults ss) run.rows.now else []
+unfoldable pub run_faults : Kept → Run → List Fault
+run_faults i run = if run.differing then flat_map (row_faults i) run.rows.now else []
 
 -- ---- entries
 
@@ -78,12 +74,12 @@ listed_unless true x = []
 listed_unless false x = x ∷ []
 
 -- whether the declaration of a row stands outside all optionals
-abbrev pub is_always : Row → Bool
-is_always r = has_none (round_at r.instance)
+abbrev pub is_always : Kept → Row → Bool
+is_always i r = has_none (round_at i r.at)
 
 -- the optionals round the statement of a row, where there are some
-unfoldable pub rounds_by : Row → List (List ℕ)
-rounds_by r = listed_unless (is_always r) (round_at r.instance)
+unfoldable pub rounds_by : Kept → Row → List (List ℕ)
+rounds_by i r = listed_unless (is_always i r) (round_at i r.at)
 
 -- what an entry says
 pub record Said : Type 0 where
@@ -97,11 +93,11 @@ abbrev pub said_by : Entry → Said
 said_by e = record { space = e.space; name = e.name; kind = e.kind; always = e.always; rounds = map (λ round. round.items) e.rounds.items }
 
 -- the entry of a run
-abbrev pub entry_of_run : Run → Said
-entry_of_run run = record {
+abbrev pub entry_of_run : Kept → Run → Said
+entry_of_run i run = record {
   space = run.first.now.space;
   name = run.first.now.name;
   kind = run.first.now.kind;
-  always = list_any is_always run.rows.now;
-  rounds = flat_map rounds_by run.rows.now;
+  always = list_any (is_always i) run.rows.now;
+  rounds = flat_map (rounds_by i) run.rows.now;
 }

@@ -1,5 +1,5 @@
--- What a check of the words of an instance notes and reports. No other crate needs these words.
-use Rattle.std.specs.Prelude.{◌≡◌, ◌≤◌, ℕ, All, List, ◌++◌, length, Contains}
+-- What a check of the words of a placed statement notes and reports. No other crate needs these words.
+use Rattle.std.specs.Prelude.{◌≡◌, ℕ, List, Option, ◌++◌, Contains}
 use Rattle.std.specs.Global.{Vec}
 use Rattle.std.specs.List.Sorted.{IsStrictlySortedBy}
 use Rattle.cil_sexpr.specs.Lists.{text_cmp}
@@ -9,52 +9,65 @@ use Rattle.cil_syntax.specs.declared.term.Term as rust
 use Rattle.cil_syntax.specs.declared.term.Word.{Word}
 use Rattle.cil_syntax.specs.Terms.{Term, Terms}
 use Rattle.cil_syntax.specs.Scopes.{Namespace, ScopedWord}
-use Rattle.cil_names.specs.declared.instance.Instance.{Instance}
+use Rattle.cil_blocks.specs.Namespaces.{IsNumber}
+use Rattle.cil_macros.specs.declared.placed_word.PlacedWord.{PlacedWord}
+use Rattle.cil_macros.specs.Item.{Item, OptSet}
 use Rattle.cil_names.specs.declared.judge.Judge.{Judge}
-use Rattle.cil_names.specs.Entries.{AreEntries, AreOrdered, IsAnswer, is_in, items_of, scoped}
-use Rattle.cil_macros.specs.Item.{OptSet}
-use Rattle.cil_names.specs.Meanings.{meant}
+use Rattle.cil_names.specs.Entries.{AreEntries, IsAnswer}
+use Rattle.cil_names.specs.Readings.{IsFilling, enabled_by, item_read, meant_by, meant_there, module_of, scoped_there, word_read}
 use Rattle.cil_names.specs.Resolves.{Wanted}
-use Rattle.cil_blocks.specs.Namespaces.{AreNamespaces, space_at}
-use Rattle.cil_names.specs.Unresolved.{ArePermissions, faults_of_all, scoped_term, scoped_terms}
-use Rattle.std.specs.Prelude.{Option}
+use Rattle.cil_names.specs.Unresolved.{ArePermissions, faults_of_all, term_with, terms_with}
+
+abbrev pub module_in : Judge → ℕ
+module_in j = module_of j.filling.reading
+
+abbrev pub enabled_in : Judge → OptSet
+enabled_in j = enabled_by j.filling
+
+-- the item whose words are checked
+abbrev pub item_in : Judge → Item
+item_in j = item_read j.filling.reading
+
+abbrev pub space_in : Judge → Namespace
+space_in j = (item_in j).space
 
 -- what a check goes by
 pub record IsReady (j : Judge) : Type 0 where
-  pub spaces : AreNamespaces j.filling.spaces.now
-  pub ordered : AreOrdered j.filling.spaces.now j.filling.names.now
-  pub within : All (λ k. k ≤ length j.filling.spaces.now) j.filling.scope.now
-  pub space : j.space ≤ length j.filling.spaces.now
+  pub filling : IsFilling j.filling
+  pub space : IsNumber j.filling.lookup.spaces.now (space_in j) j.space
   pub rising : (v : Vec Bytes) → Contains j.permissions.now v → IsStrictlySortedBy text_cmp v.items
 
-abbrev pub enabled_in : Judge → OptSet
-enabled_in j = is_in j.filling.enabled.now
+-- ---- words
 
-abbrev pub space_in : Judge → Namespace
-space_in j = space_at j.filling.spaces.now j.space
+-- a word in the scope of the place that it has
+abbrev pub scoped_in : Judge → PlacedWord → ScopedWord
+scoped_in j w = scoped_there j.filling.reading w
 
-abbrev pub word_in_scope : Judge → Word → ScopedWord
-word_in_scope j w = scoped j.filling.spaces.now j.filling.scope.now w
+abbrev pub term_in_place : Judge → rust.Term → Term ScopedWord
+term_in_place j t = term_with (word_read j.filling.reading) (module_in j) t
 
-abbrev pub term_in_scope : Judge → rust.Term → Term ScopedWord
-term_in_scope j t = scoped_term j.filling.spaces.now j.filling.scope.now j.filling.«module» t
+abbrev pub terms_in_place : Judge → List rust.Term → Terms ScopedWord
+terms_in_place j ts = terms_with (word_read j.filling.reading) (module_in j) ts
 
-abbrev pub terms_in_scope : Judge → List rust.Term → Terms ScopedWord
-terms_in_scope j ts = scoped_terms j.filling.spaces.now j.filling.scope.now j.filling.«module» ts
+-- what a word means
+abbrev pub meant_in : Judge → ScopedWord → Option ℕ
+meant_in j w = meant_by j.filling w
 
--- what a word means here
-abbrev pub meant_in : Judge → Word → Option ℕ
-meant_in j w = meant j.filling.spaces.now j.filling.names.now (enabled_in j) (word_in_scope j w)
+-- what a word of the statement means there
+abbrev pub meant_in_place : Judge → Word → Option ℕ
+meant_in_place j w = meant_there j.filling w
 
--- the entries are the declared names of these instances, and the lists the permissions of their classes
+-- ---- faults
+
+-- the entries are the declared names of these items, and the lists the permissions of their classes
 pub record Knows (j : Judge) (xs : List Item) : Type 0 where
-  pub entries : AreEntries j.filling.spaces.now xs j.filling.names.now
-  pub permissions : ArePermissions j.filling.spaces.now j.filling.names.now xs j.permissions.now
+  pub entries : AreEntries j.filling.lookup.spaces.now xs j.filling.lookup.names.now
+  pub permissions : ArePermissions j.filling.lookup.spaces.now j.filling.lookup.names.now xs j.permissions.now
 
 -- the faults of what was asked are behind those that were there
 abbrev pub Tells : Judge → List Wanted → List Fault → List Fault → Type 0
 Tells j ws old new = (xs : List Item) → Knows j xs → new ≡ old ++ faults_of_all xs (enabled_in j) (space_in j) ws
 
 -- what look-up answers for a word
-abbrev pub Named : Judge → Word → Option ℕ → Type 0
-Named j w r = (xs : List Item) → Knows j xs → IsAnswer j.filling.spaces.now xs j.filling.names.now (enabled_in j) (word_in_scope j w) r
+abbrev pub Named : Judge → ScopedWord → Option ℕ → Type 0
+Named j w r = (xs : List Item) → Knows j xs → IsAnswer j.filling.lookup.spaces.now xs j.filling.lookup.names.now (enabled_in j) w r

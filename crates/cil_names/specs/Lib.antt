@@ -10,7 +10,7 @@ pub mod Meanings
 pub mod Numbers
 pub mod PermissionWords
 pub mod Permissions
-pub mod Placed
+pub mod Readings
 pub mod Resolves
 pub mod Rows
 pub mod Spaces

@@ -4,21 +4,20 @@ use Rattle.std.specs.Global.{Vec}
 use Rattle.cil_syntax.specs.declared.fault.Bytes.{Bytes}
 use Rattle.cil_syntax.specs.declared.kind.Keyword.TheVariants as keywords
 use Rattle.cil_syntax.specs.declared.term.Spot.{Spot}
-use Rattle.cil_syntax.specs.declared.term.Word.{Word}
-use Rattle.cil_syntax.specs.Said.{args_of}
+use Rattle.cil_syntax.specs.Scopes.{ScopedWord}
 use Rattle.cil_syntax.specs.Terms.{Name, Terms, cons}
-use Rattle.cil_names.specs.declared.instance.Instance.{Instance}
+use Rattle.cil_macros.specs.Item.{Item}
 
--- an instance that is in no optional declares a class of this name
-pub record DeclaresClass (i : Instance) (name : List ℕ) : Type 0 where
-  pub outside : i.place.now.round.items ≡ []
-  pub keyword : i.statement.now.keyword ≡ keywords.Class
+-- an item that is in no optional declares a class of this name
+pub record DeclaresClass (x : Item) (name : List ℕ) : Type 0 where
+  pub outside : x.round ≡ []
+  pub keyword : x.keyword ≡ keywords.Class
   pub at : Spot
-  pub rest : Terms Word
-  pub says : args_of i.statement.now ≡ cons (Name at name) rest
+  pub rest : Terms ScopedWord
+  pub says : x.args ≡ cons (Name at name) rest
 
-abbrev pub DeclaresNoClass : Instance → Type 0
-DeclaresNoClass i = (name : List ℕ) → DeclaresClass i name → ⊥
+abbrev pub DeclaresNoClass : Item → Type 0
+DeclaresNoClass x = (name : List ℕ) → DeclaresClass x name → ⊥
 
 -- no permission is listed yet
 pub record AreEmpty {X : Type 0} (es : List X) (lists : List (Vec Bytes)) : Type 0 where

@@ -22,7 +22,6 @@ use Rattle.cil_macros.specs.Item.{Item, OptSet, all_replaced, replaced}
 use Rattle.cil_names.specs.Numbers.{symbol_of}
 use Rattle.cil_names.specs.Resolves.{Wanted, has_permission, is_judged, resolves, told_word, words_of}
 use Rattle.cil_syntax.specs.Kinds.{is_wanted}
-use Rattle.cil_blocks.specs.Namespaces.{space_at}
 
 -- the terms of a statement of a module, each word as it takes part in a policy
 abbrev pub term_with : (Word → ScopedWord) → ℕ → rust.Term → Term ScopedWord

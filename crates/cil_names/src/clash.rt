@@ -1,31 +1,28 @@
 //! Declarations that differ: the faults of their statements.
 
-ghost use Rattle.std.specs.Prelude.{◌≡◌, ◌≤◌, ◌++◌, Contains, IfOk, OnOk, length};
+ghost use Rattle.std.specs.Prelude.{◌≡◌, ◌++◌, Contains, IfOk, OnOk, Some};
 ghost use Rattle.std.specs.List.{flat_map};
 ghost use Rattle.cil_names.specs.declared.row.Row.{Row};
 ghost use Rattle.cil_names.specs.declared.run.Run.{Run};
-ghost use Rattle.cil_names.specs.DeclareRows.{IsPlacedRow};
+ghost use Rattle.cil_names.specs.DeclareRows.{AreRowsIn, IsRow, IsRowAt};
 ghost use Rattle.cil_names.specs.DeclareRuns.{faults_at, row_faults, run_faults};
-ghost use Rattle.cil_blocks.specs.Namespaces.{AreNamespaces};
 
-use crate::instance::Instance;
 use crate::row::Row;
 use crate::run::Run;
-use crate::space::Space;
-use crate::spelled::spelled_space;
+use cil_blocks::spelled::spelled;
+use cil_macros::Instances;
 use cil_modset::NoMemory;
 use cil_syntax::{Fault, FaultCode, push_fault_in};
 use std::alloc::Global;
 
-/// The faults of runs whose rows differ: one for each declaring statement.
-pub fn clashes(alloc: Global, spaces: &[Space], runs: &[Run]) -> Result<Vec<Fault>, NoMemory>
-    requires spaces { AreNamespaces spaces.now }
-    requires placed { (run : Run) (r : Row) → Contains runs.now run → Contains run.rows.now r → IsPlacedRow spaces.now r }
-    ensures { IfOk result (λ faults. faults.items ≡ flat_map (run_faults spaces.now) runs.now) }
+/// The faults of runs whose rows differ: one for each declaring instance.
+pub fn clashes(alloc: Global, instances: &Instances, runs: &[Run]) -> Result<Vec<Fault>, NoMemory>
+    requires { (run : Run) → Contains runs.now run → AreRowsIn instances.now run.rows.now }
+    ensures { IfOk result (λ faults. faults.items ≡ flat_map (run_faults instances.now) runs.now) }
 {
     let mut faults = Vec::new(alloc);
     for run in runs {
-        push_run(alloc, &mut faults, spaces, run)?;
+        push_run(alloc, &mut faults, instances, run)?;
     }
     Ok(faults)
 }
@@ -33,31 +30,29 @@ pub fn clashes(alloc: Global, spaces: &[Space], runs: &[Run]) -> Result<Vec<Faul
 fn push_run(
     alloc: Global,
     faults: &mut Vec<Fault>,
-    spaces: &[Space],
+    instances: &Instances,
     run: &Run,
 ) -> Result<(), NoMemory>
-    requires spaces { AreNamespaces spaces.now }
-    requires placed { (r : Row) → Contains run.now.rows.now r → IsPlacedRow spaces.now r }
-    ensures { OnOk result (faults.new.items ≡ faults.old.items ++ run_faults spaces.now run.now) }
+    requires { AreRowsIn instances.now run.now.rows.now }
+    ensures { OnOk result (faults.new.items ≡ faults.old.items ++ run_faults instances.now run.now) }
 {
     if !run.differing {
         return Ok(());
     }
-    push_rows(alloc, faults, spaces, run.rows)
+    push_rows(alloc, faults, instances, run.rows)
 }
 
 fn push_rows(
     alloc: Global,
     faults: &mut Vec<Fault>,
-    spaces: &[Space],
+    instances: &Instances,
     rows: &[Row],
 ) -> Result<(), NoMemory>
-    requires spaces { AreNamespaces spaces.now }
-    requires placed { (r : Row) → Contains rows.now r → IsPlacedRow spaces.now r }
-    ensures { OnOk result (faults.new.items ≡ faults.old.items ++ flat_map (row_faults spaces.now) rows.now) }
+    requires { AreRowsIn instances.now rows.now }
+    ensures { OnOk result (faults.new.items ≡ faults.old.items ++ flat_map (row_faults instances.now) rows.now) }
 {
     for row in rows {
-        push_row(alloc, faults, spaces, row)?;
+        push_row(alloc, faults, instances, row)?;
     }
     Ok(())
 }
@@ -65,33 +60,36 @@ fn push_rows(
 fn push_row(
     alloc: Global,
     faults: &mut Vec<Fault>,
-    spaces: &[Space],
+    instances: &Instances,
     row: &Row,
 ) -> Result<(), NoMemory>
-    requires spaces { AreNamespaces spaces.now }
-    requires placed { IsPlacedRow spaces.now row.now }
-    ensures { OnOk result (faults.new.items ≡ faults.old.items ++ row_faults spaces.now row.now) }
+    requires { IsRow instances.now row.now }
+    ensures { OnOk result (faults.new.items ≡ faults.old.items ++ row_faults instances.now row.now) }
 {
-    let Some(instance) = row.instance else {
+    let Some(at) = row.at else {
         return Ok(());
     };
-    push_clash(alloc, faults, spaces, &instance)
+    push_clash(alloc, faults, instances, row, at)
 }
 
+/// Adds the fault of a row, which is that of the instance at a place.
 fn push_clash(
     alloc: Global,
     faults: &mut Vec<Fault>,
-    spaces: &[Space],
-    instance: &Instance,
+    instances: &Instances,
+    row: &Row,
+    at: usize,
 ) -> Result<(), NoMemory>
-    requires spaces { AreNamespaces spaces.now }
-    requires within { instance.now.place.now.space ≤ length spaces.now }
-    ensures { OnOk result (faults.new.items ≡ faults.old.items ++ faults_at spaces.now (Some instance.now)) }
+    requires { IsRowAt instances.now at row.now }
+    ensures { OnOk result (faults.new.items ≡ faults.old.items ++ faults_at instances.now (Some at)) }
 {
-    let Some(name) = instance.statement.declared_name() else {
+    let Some(statement) = instances.statement_there(at) else {
         return Ok(());
     };
-    let space = spelled_space(alloc, spaces, instance.place.space)?;
+    let Some(name) = statement.declared_name() else {
+        return Ok(());
+    };
+    let space = spelled(alloc, instances.namespaces(), row.space)?;
     push_fault_in(alloc, faults, FaultCode::Clash, name.at, space, name.bytes)?;
     Ok(())
 }

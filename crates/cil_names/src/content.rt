@@ -1,58 +1,154 @@
 //! What declarations say behind their names, compared without places.
 
-ghost use Rattle.std.specs.Prelude.{◌≡◌, ◌↔◌, IsTrue, ℕ};
-ghost use Rattle.cil_syntax.specs.Scopes.{Scope};
-ghost use Rattle.cil_names.specs.DeclareRows.{bare_term, bare_terms};
+ghost use Rattle.std.specs.Prelude.{◌≡◌, ◌↔◌, IfOk, IsTrue};
+ghost use Rattle.cil_syntax.specs.Said.{word_in};
+ghost use Rattle.cil_macros.specs.Items.{all_placed, namespaces_in, scope_by, scoped_by, word_at};
+ghost use Rattle.cil_macros.specs.Walks.{IsScope};
+ghost use Rattle.cil_names.specs.Declarations.{bare};
+ghost use Rattle.cil_names.specs.DeclareRows.{AreThere, all_bare_there, bare_there};
 
+use cil_blocks::ScopeList;
+use cil_macros::{Instances, PlacedWord};
+use cil_modset::NoMemory;
 use cil_syntax::{LookedUp, Op, Sign, Term};
+use std::alloc::Global;
 
-/// Whether two lists of terms say the same, where the scopes of their words are the same or not.
+/// Where terms are read: the place of their instance, and the number of the module in which they are written.
+#[derive(Clone, Copy)]
+pub struct Reading {
+    pub at: usize,
+    pub module: u64,
+}
+
+/// Two instances whose terms are compared.
+#[derive(Clone, Copy)]
+pub struct Comparison<'i, 's, 'p, 'a> {
+    pub instances: &'i Instances<'s, 'p, 'a>,
+    pub one: Reading,
+    pub other: Reading,
+}
+
+/// Whether two lists of terms say the same, each at its instance. A looked-up word costs two scopes.
 #[cycle(a)]
-pub fn is_same_content(a: &[Term], b: &[Term], one_scope: bool) -> bool
-    ensures { (m n : ℕ) (s t : Scope) → (IsTrue one_scope ↔ (s ≡ t)) → (IsTrue result ↔ (bare_terms m s a.now ≡ bare_terms n t b.now)) }
+pub fn is_same_content<'a>(
+    alloc: Global,
+    both: &Comparison<'_, '_, '_, 'a>,
+    a: &[Term<'a>],
+    b: &[Term<'a>],
+) -> Result<bool, NoMemory>
+    requires { AreThere both.now }
+    ensures { IfOk result (λ same. IsTrue same ↔ (all_bare_there both.now.instances.now both.now.one a.now ≡ all_bare_there both.now.instances.now both.now.other b.now)) }
 {
     if a.len() != b.len() {
-        return false;
+        return Ok(false);
     }
     for i in 0..a.len() {
-        if !is_same_term(&a[i], &b[i], one_scope) {
-            return false;
+        if !is_same_term(alloc, both, &a[i], &b[i])? {
+            return Ok(false);
         }
     }
-    true
+    Ok(true)
 }
 
 #[cycle(a)]
-fn is_same_term(a: &Term, b: &Term, one_scope: bool) -> bool
-    ensures { (m n : ℕ) (s t : Scope) → (IsTrue one_scope ↔ (s ≡ t)) → (IsTrue result ↔ (bare_term m s a.now ≡ bare_term n t b.now)) }
+fn is_same_term<'a>(
+    alloc: Global,
+    both: &Comparison<'_, '_, '_, 'a>,
+    a: &Term<'a>,
+    b: &Term<'a>,
+) -> Result<bool, NoMemory>
+    requires { AreThere both.now }
+    ensures { IfOk result (λ same. IsTrue same ↔ (bare_there both.now.instances.now both.now.one a.now ≡ bare_there both.now.instances.now both.now.other b.now)) }
 {
     match a {
         Term::Leaf(word) => match b {
-            Term::Leaf(other) => one_scope && is_same_word(word, other),
-            Term::Name(_, _) => false,
-            Term::Form(_, _, _) => false,
+            Term::Leaf(other) => is_same_word(alloc, both, word, other),
+            Term::Name(_, _) => Ok(false),
+            Term::Form(_, _, _) => Ok(false),
         },
         Term::Name(_, name) => match b {
-            Term::Leaf(_) => false,
-            Term::Name(_, other) => is_same_text(name.as_slice(), other.as_slice()),
-            Term::Form(_, _, _) => false,
+            Term::Leaf(_) => Ok(false),
+            Term::Name(_, other) => Ok(is_same_text(name.as_slice(), other.as_slice())),
+            Term::Form(_, _, _) => Ok(false),
         },
         Term::Form(op, _, parts) => match b {
-            Term::Leaf(_) => false,
-            Term::Name(_, _) => false,
+            Term::Leaf(_) => Ok(false),
+            Term::Name(_, _) => Ok(false),
             Term::Form(other, _, rest) => {
-                is_same_op(*op, *other)
-                    && is_same_content(parts.as_slice(), rest.as_slice(), one_scope)
+                if !is_same_op(*op, *other) {
+                    return Ok(false);
+                }
+                is_same_content(alloc, both, parts.as_slice(), rest.as_slice())
             }
         },
     }
 }
 
-/// Whether two words have the same bytes and want the same.
-fn is_same_word(a: &LookedUp, b: &LookedUp) -> bool
-    ensures { IsTrue result ↔ ((a.now.bytes ≡ b.now.bytes) × (a.now.sign ≡ b.now.sign)) }
+/// Whether two words say the same, each at its instance.
+fn is_same_word<'a>(
+    alloc: Global,
+    both: &Comparison<'_, '_, '_, 'a>,
+    a: &LookedUp<'a>,
+    b: &LookedUp<'a>,
+) -> Result<bool, NoMemory>
+    requires { AreThere both.now }
+    ensures { IfOk result (λ same. IsTrue same ↔ (bare (word_at both.now.instances.now both.now.one.at (word_in both.now.one.«module» a.now))
+        ≡ bare (word_at both.now.instances.now both.now.other.at (word_in both.now.other.«module» b.now)))) }
 {
-    is_same_text(a.bytes.as_slice(), b.bytes.as_slice()) && is_same_sign(a.sign, b.sign)
+    let word = a.in_module(both.one.module);
+    let other = b.in_module(both.other.module);
+    let here = both.instances.word(both.one.at, &word);
+    let there = both.instances.word(both.other.at, &other);
+    is_same_placed(alloc, both.instances, &here, &there)
+}
+
+/// Whether two words have the same bytes, want the same and are looked up in the same namespaces.
+fn is_same_placed(
+    alloc: Global,
+    instances: &Instances,
+    a: &PlacedWord,
+    b: &PlacedWord,
+) -> Result<bool, NoMemory>
+    ensures { IfOk result (λ same. IsTrue same ↔ (bare (scoped_by (all_placed instances.now) a.now) ≡ bare (scoped_by (all_placed instances.now) b.now))) }
+{
+    if !is_same_text(a.word.bytes.as_slice(), b.word.bytes.as_slice()) {
+        return Ok(false);
+    }
+    if !is_same_sign(a.word.sign, b.word.sign) {
+        return Ok(false);
+    }
+    is_same_scope(alloc, instances, a.scope, b.scope)
+}
+
+/// Whether two places have the same scope.
+fn is_same_scope(
+    alloc: Global,
+    instances: &Instances,
+    a: Option<usize>,
+    b: Option<usize>,
+) -> Result<bool, NoMemory>
+    ensures { IfOk result (λ same. IsTrue same ↔ (scope_by (all_placed instances.now) a ≡ scope_by (all_placed instances.now) b)) }
+{
+    // Numbers of namespaces are one to one.
+    instances.namespaces().are_namespaces();
+    let one = scope_of(alloc, instances, a)?;
+    let other = scope_of(alloc, instances, b)?;
+    Ok(is_same_list(one.as_slice(), other.as_slice()))
+}
+
+/// The scope of a place.
+fn scope_of(alloc: Global, instances: &Instances, at: Option<usize>) -> Result<ScopeList, NoMemory>
+    ensures { IfOk result (IsScope (namespaces_in instances.now) (scope_by (all_placed instances.now) at)) }
+{
+    let mut scope = ScopeList::new(alloc);
+    instances.scope_into(alloc, at, &mut scope)?;
+    Ok(scope)
+}
+
+fn is_same_list(a: &[usize], b: &[usize]) -> bool
+    ensures { IsTrue result ↔ (a.now ≡ b.now) }
+{
+    a == b
 }
 
 fn is_same_text(a: &[u8], b: &[u8]) -> bool

@@ -1,22 +1,35 @@
-//! How many words instances have, so that the list of what they mean has its room from the start.
+//! How many words are written in all that is placed, so that the list of what they mean has its room from the start.
 
 ghost use Rattle.std.specs.Prelude.{◌≡◌, ◌-◌, ◌^◌, length, min, ℕ};
 ghost use Rattle.std.specs.List.{flat_map};
-ghost use Rattle.cil_syntax.specs.Said.{all_said, args_of, said_of};
+ghost use Rattle.cil_syntax.specs.Said.{all_said, said_of};
 ghost use Rattle.cil_macros.specs.Item.{all_words_in, words_in};
+ghost use Rattle.cil_macros.specs.Items.{all_placed, placed_at};
+ghost use Rattle.cil_names.specs.Readings.{words_written};
 
-use crate::instance::Instance;
+use cil_macros::Instances;
 use cil_syntax::Term;
 
-/// How many words some instances have, or the greatest number where there are more.
-pub(crate) fn count_words(instances: &[Instance]) -> usize
-    ensures { result ≡ min (length (flat_map (λ i. all_words_in (args_of i.statement.now)) instances.now)) (2 ^ 64 - 1) }
+/// How many words are written in the statements of all places, or the greatest number where there are more. Of a call that is
+/// at least as many as it has.
+pub(crate) fn count_words(instances: &Instances) -> usize
+    ensures { result ≡ min (length (flat_map words_written (all_placed instances.now))) (2 ^ 64 - 1) }
 {
     let mut count: usize = 0;
-    for instance in instances {
-        count = count.saturating_add(count_among(instance.statement.args.as_slice()));
+    for at in 0..instances.len() {
+        count = count.saturating_add(count_at(instances, at));
     }
     count
+}
+
+/// How many words are written in the statement at a place.
+fn count_at(instances: &Instances, at: usize) -> usize
+    ensures { result ≡ min (length (words_written (placed_at instances.now at))) (2 ^ 64 - 1) }
+{
+    match instances.statement_there(at) {
+        Some(statement) => count_among(statement.args.as_slice()),
+        None => 0,
+    }
 }
 
 #[cycle(words)]

@@ -1,103 +1,116 @@
 //! The declared names of instances, or the faults of declarations that differ.
 
-ghost use Rattle.std.specs.Prelude.{◌≡◌, ◌++◌, Contains, IfOk, List, OnOk, map};
+ghost use Rattle.std.specs.Prelude.{◌≡◌, ◌++◌, IfOk, OnOk, map};
 ghost use Rattle.std.specs.List.{flat_map, list_any};
 ghost use Rattle.cil_syntax.specs.Refusal.{Answers};
+ghost use Rattle.cil_macros.specs.Items.{items_in, namespaces_in};
 ghost use Rattle.cil_names.specs.DeclareRuns.{entry_of_run, is_always, rounds_by, said_by};
-ghost use Rattle.cil_names.specs.Entries.{AreEntries, items_of};
+ghost use Rattle.cil_names.specs.Entries.{AreEntries};
 ghost use Rattle.cil_names.specs.Faults.{ClashFault};
-ghost use Rattle.cil_names.specs.Placed.{ArePlaced};
 
 use crate::clash::clashes;
 use crate::entry::Entry;
-use crate::instance::Instance;
 use crate::names::Names;
 use crate::row::{Row, rows_of};
 use crate::run::{Run, runs_of, sorted_rows};
-use crate::space::Spaces;
+use cil_macros::Instances;
 use cil_modset::NoMemory;
 use cil_syntax::{Excerpt, Failure, refuse};
 use std::alloc::Global;
 
-/// The declared names of some instances, whatever is enabled. A sort is its cost, and a comparison of what the
+/// The declared names of all instances, whatever is enabled. A sort is its cost, and a comparison of what the
 /// declarations of one name say.
 ///
 /// Errors: where declarations of one name differ in their kind or in what they say, a fault at each of them; or out of
 /// memory.
-pub fn declare<'s, 'a>(
-    alloc: Global,
-    spaces: &Spaces,
-    instances: &[Instance<'s, 'a>],
-) -> Result<Names<'a>, Failure>
-    requires { ArePlaced spaces.now instances.now }
-    ensures { Answers (AreEntries spaces.now instances.now) (ClashFault (items_of spaces.now instances.now)) result }
+pub fn declare<'a>(alloc: Global, instances: &Instances<'_, '_, 'a>) -> Result<Names<'a>, Failure>
+    ensures { Answers (AreEntries (namespaces_in instances.now) (items_in instances.now)) (ClashFault (items_in instances.now)) result }
 {
+    // Numbers of namespaces are one to one.
+    instances.namespaces().are_namespaces();
     let rows = sorted_rows(rows_of(alloc, instances)?);
-    let runs = runs_of(alloc, rows.as_slice())?;
-    let faults = clashes(alloc, spaces.as_slice(), runs.as_slice())?;
+    let runs = runs_of(alloc, instances, rows.as_slice())?;
+    let faults = clashes(alloc, instances, runs.as_slice())?;
     refuse(faults)?;
-    let entries = entries_of(alloc, runs.as_slice())?;
+    let entries = entries_of(alloc, instances, runs.as_slice())?;
     Ok(Names::of(entries))
 }
 
 /// The entries of runs.
-fn entries_of<'a>(alloc: Global, runs: &[Run<'_, '_, 'a>]) -> Result<Vec<Entry<'a>>, NoMemory>
-    ensures { IfOk result (λ entries. map said_by entries.items ≡ map entry_of_run runs.now) }
+fn entries_of<'a>(
+    alloc: Global,
+    instances: &Instances,
+    runs: &[Run<'_, 'a>],
+) -> Result<Vec<Entry<'a>>, NoMemory>
+    ensures { IfOk result (λ entries. map said_by entries.items ≡ map (entry_of_run instances.now) runs.now) }
 {
     let mut entries = Vec::new(alloc);
     for run in runs {
-        entries.push(entry_of(alloc, run)?)?;
+        entries.push(entry_of(alloc, instances, run)?)?;
     }
     Ok(entries)
 }
 
-fn entry_of<'a>(alloc: Global, run: &Run<'_, '_, 'a>) -> Result<Entry<'a>, NoMemory>
-    ensures { IfOk result (λ entry. said_by entry ≡ entry_of_run run.now) }
+fn entry_of<'a>(
+    alloc: Global,
+    instances: &Instances,
+    run: &Run<'_, 'a>,
+) -> Result<Entry<'a>, NoMemory>
+    ensures { IfOk result (λ entry. said_by entry ≡ entry_of_run instances.now run.now) }
 {
-    let rounds = rounds_of(alloc, run.rows)?;
+    let rounds = rounds_of(alloc, instances, run.rows)?;
     Ok(Entry {
         space: run.first.space,
         name: Excerpt::of(run.first.name.as_slice()),
         kind: run.first.kind,
-        always: any_always(run.rows),
+        always: any_always(instances, run.rows),
         rounds,
     })
 }
 
 /// Whether one of some rows declares outside all optionals.
-fn any_always(rows: &[Row]) -> bool
-    ensures { result ≡ list_any is_always rows.now }
+fn any_always(instances: &Instances, rows: &[Row]) -> bool
+    ensures { result ≡ list_any (is_always instances.now) rows.now }
 {
-    rows.iter().any(|row| is_always(row))
+    rows.iter().any(|row| is_always(instances, row))
 }
 
 /// Whether the declaration of a row stands outside all optionals.
-fn is_always(row: &Row) -> bool
-    ensures { result ≡ is_always row.now }
+fn is_always(instances: &Instances, row: &Row) -> bool
+    ensures { result ≡ is_always instances.now row.now }
 {
-    match row.round() {
+    match row.round(instances) {
         [] => true,
         [_, ..] => false,
     }
 }
 
 /// The optionals round the declarations of rows, where there are some.
-fn rounds_of(alloc: Global, rows: &[Row]) -> Result<Vec<Vec<usize>>, NoMemory>
-    ensures { IfOk result (λ rounds. map (λ round. round.items) rounds.items ≡ flat_map rounds_by rows.now) }
+fn rounds_of(
+    alloc: Global,
+    instances: &Instances,
+    rows: &[Row],
+) -> Result<Vec<Vec<usize>>, NoMemory>
+    ensures { IfOk result (λ rounds. map (λ round. round.items) rounds.items ≡ flat_map (rounds_by instances.now) rows.now) }
 {
     let mut rounds = Vec::new(alloc);
     for row in rows {
-        push_round(alloc, &mut rounds, row)?;
+        push_round(alloc, instances, &mut rounds, row)?;
     }
     Ok(rounds)
 }
 
-fn push_round(alloc: Global, rounds: &mut Vec<Vec<usize>>, row: &Row) -> Result<(), NoMemory>
-    ensures { OnOk result (map (λ round. round.items) rounds.new.items ≡ map (λ round. round.items) rounds.old.items ++ rounds_by row.now) }
+fn push_round(
+    alloc: Global,
+    instances: &Instances,
+    rounds: &mut Vec<Vec<usize>>,
+    row: &Row,
+) -> Result<(), NoMemory>
+    ensures { OnOk result (map (λ round. round.items) rounds.new.items ≡ map (λ round. round.items) rounds.old.items ++ rounds_by instances.now row.now) }
 {
-    if is_always(row) {
+    if is_always(instances, row) {
         return Ok(());
     }
-    rounds.push(Vec::from_slice(alloc, row.round())?)?;
+    rounds.push(Vec::from_slice(alloc, row.round(instances))?)?;
     Ok(())
 }

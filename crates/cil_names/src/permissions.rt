@@ -1,25 +1,22 @@
 //! The permissions of classes, as statements list them.
 
-ghost use Rattle.std.specs.Prelude.{◌≡◌, ◌↔◌, ◌∷◌, ◌++◌, [], Contains, IfOk, IsTrue, List, MatchOption, OnOk, length, ℕ};
+ghost use Rattle.std.specs.Prelude.{◌≡◌, ◌↔◌, ◌∷◌, ◌++◌, [], Contains, IfOk, IsTrue, List, OnOk, length, ℕ};
 ghost use Rattle.std.specs.List.Sorted.{IsStrictlySortedBy};
 ghost use Rattle.std.specs.Ordering.{on};
 ghost use Rattle.cil_sexpr.specs.Lists.{Lists, text_cmp};
 ghost use Rattle.cil_syntax.specs.Said.{all_said};
-ghost use Rattle.cil_blocks.specs.declared.namespaces.Space.{Space};
-ghost use Rattle.cil_names.specs.Entries.{AreOrdered, item_of, items_of, key_cmp, key_of};
 ghost use Rattle.cil_macros.specs.Item.{Item, names_in};
-ghost use Rattle.cil_names.specs.Permissions.{AreEmpty, DeclaresClass, DeclaresNoClass};
-ghost use Rattle.cil_names.specs.Placed.{ArePlaced, IsPlaced};
-ghost use Rattle.cil_blocks.specs.Namespaces.{AreNamespaces};
+ghost use Rattle.cil_macros.specs.Items.{item_at, items_in, namespaces_in};
+ghost use Rattle.cil_names.specs.Entries.{AreOrdered, key_cmp, key_of};
+ghost use Rattle.cil_names.specs.Permissions.{AreEmpty};
 ghost use Rattle.cil_names.specs.Unresolved.{ArePermissions};
 
 use crate::entry::Entry;
-use crate::instance::Instance;
 use crate::look::entry_in;
 use crate::names::Names;
-use crate::space::Spaces;
+use cil_macros::Instances;
 use cil_modset::NoMemory;
-use cil_syntax::{Bytes, DeclaredName, Sign, Term};
+use cil_syntax::{Bytes, Sign, Term};
 use std::alloc::Global;
 use std::mem;
 
@@ -28,21 +25,17 @@ use std::mem;
 /// costs one search by halving, and a sort of what is listed for its class so far.
 pub fn permissions_of(
     alloc: Global,
-    spaces: &Spaces,
     names: &Names,
-    instances: &[Instance],
+    instances: &Instances,
 ) -> Result<Vec<Vec<Bytes>>, NoMemory>
-    requires ordered { AreOrdered spaces.now names.now }
-    requires placed { ArePlaced spaces.now instances.now }
+    requires ordered { AreOrdered (namespaces_in instances.now) names.now }
     ensures len { IfOk result (λ lists. length lists.items ≡ length names.now) }
-    ensures permissions { IfOk result (λ lists. ArePermissions spaces.now names.now (items_of spaces.now instances.now) lists.items) }
+    ensures permissions { IfOk result (λ lists. ArePermissions (namespaces_in instances.now) names.now (items_in instances.now) lists.items) }
 {
-    // What is known of the numbers of namespaces.
-    let _ = spaces.as_slice();
     let entries = names.entries();
     let mut lists = no_lists(alloc, entries)?;
-    for instance in instances {
-        add_listed(alloc, &mut lists, entries, instance)?;
+    for at in 0..instances.len() {
+        add_listed(alloc, &mut lists, entries, instances, at)?;
     }
     Ok(lists)
 }
@@ -58,44 +51,41 @@ fn no_lists(alloc: Global, entries: &[Entry]) -> Result<Vec<Vec<Bytes>>, NoMemor
     Ok(lists)
 }
 
-/// Adds the permissions that an instance lists for a class.
+/// Adds the permissions that the statement at a place lists for a class.
 fn add_listed(
     alloc: Global,
     lists: &mut Vec<Vec<Bytes>>,
     entries: &[Entry],
-    instance: &Instance,
+    instances: &Instances,
+    at: usize,
 ) -> Result<(), NoMemory>
     requires rising { IsStrictlySortedBy (on key_of key_cmp) entries.now }
     requires len { length lists.old.items ≡ length entries.now }
     ensures len { OnOk result (length lists.new.items ≡ length entries.now) }
-    ensures listed { OnOk result ((ss : List Space) (xs : List Item) → AreNamespaces ss → AreOrdered ss entries.now → IsPlaced ss instance.now
-        → ArePermissions ss entries.now xs lists.old.items → ArePermissions ss entries.now (xs ++ item_of ss instance.now ∷ []) lists.new.items) }
+    ensures listed { OnOk result ((xs : List Item) → AreOrdered (namespaces_in instances.now) entries.now
+        → ArePermissions (namespaces_in instances.now) entries.now xs lists.old.items
+        → ArePermissions (namespaces_in instances.now) entries.now (xs ++ item_at instances.now at ∷ []) lists.new.items) }
 {
-    let Some(name) = class_declared(instance) else {
+    // What is known of the numbers of namespaces.
+    instances.namespaces();
+    if !is_outside(instances.round(at)) {
+        return Ok(());
+    }
+    let Some(statement) = instances.statement_there(at) else {
         return Ok(());
     };
-    let Some(class) = entry_in(entries, instance.place.space, name.bytes, Sign::Classes) else {
+    let Some(name) = statement.declared_class() else {
         return Ok(());
     };
-    let Some(items) = instance.statement.listed_behind_name() else {
+    let Some(class) = entry_in(entries, instances.space(at), name.bytes, Sign::Classes) else {
+        return Ok(());
+    };
+    let Some(items) = statement.listed_behind_name() else {
         return Ok(());
     };
     let listed = mem::replace(&mut lists[class], Vec::new(alloc));
     lists[class] = with_names(alloc, listed, items)?;
     Ok(())
-}
-
-/// The name of the class that an instance declares outside all optionals.
-fn class_declared<'a>(instance: &Instance<'_, 'a>) -> Option<DeclaredName<'a>>
-    ensures { MatchOption result (DeclaresNoClass instance.now) (λ name. DeclaresClass instance.now name.bytes.now) }
-{
-    if !is_outside(instance.place.round.as_slice()) {
-        return None;
-    }
-    let Some(name) = instance.statement.declared_class() else {
-        return None;
-    };
-    Some(name)
 }
 
 /// Whether there are no optionals.

@@ -1,96 +1,85 @@
-//! The rows from which the declared names are gathered: one for each declaration of a statement, and one for object_r.
+//! The rows from which the declared names are gathered: one for each declaration of an instance, and one for object_r.
 
-ghost use Rattle.std.specs.Prelude.{◌≡◌, ◌∷◌, ◌++◌, [], drop, IfOk, MatchOption, OnOk};
-ghost use Rattle.cil_syntax.specs.Table.{entry_of};
-ghost use Rattle.cil_names.specs.DeclareRows.{all_rows, object_row, round_at, row_key, rows_by, scope_numbers, terms_behind};
+ghost use Rattle.std.specs.Prelude.{◌≡◌, ◌+◌, ◌<◌, IfOk, OnOk, length};
+ghost use Rattle.cil_macros.specs.Items.{items_in};
+ghost use Rattle.cil_names.specs.DeclareRows.{AreAllRows, AreRowsUpTo, object_row, round_at, row_key};
 ghost use Rattle.cil_names.specs.Entries.{key_cmp};
 
-use crate::instance::Instance;
 use crate::kinds::rank_of;
+use cil_macros::Instances;
 use cil_modset::NoMemory;
-use cil_syntax::{Excerpt, Keyword, Kind, Term};
+use cil_syntax::{Excerpt, Kind};
 use std::alloc::Global;
 use std::cmp::Ordering;
 
-/// A declaration: that of a statement, or that of object_r, which has no statement.
+/// A declaration: that of an instance, or that of object_r, which no statement declares.
 #[derive(Drop)]
-pub struct Row<'s, 'a> {
+pub struct Row<'a> {
     /// The number of the namespace.
     pub space: usize,
     /// The declared name.
     pub name: Excerpt<'a>,
     /// The declared kind.
     pub kind: Kind,
-    /// Where it is declared.
-    pub instance: Option<Instance<'s, 'a>>,
+    /// The place of the instance that declares it.
+    pub at: Option<usize>,
 }
 
-/// The rows of all declarations of some instances.
-pub fn rows_of<'s, 'a>(
+/// The rows of all declarations of instances.
+pub fn rows_of<'a>(
     alloc: Global,
-    instances: &[Instance<'s, 'a>],
-) -> Result<Vec<Row<'s, 'a>>, NoMemory>
-    ensures { IfOk result (λ rows. rows.items ≡ all_rows instances.now) }
+    instances: &Instances<'_, '_, 'a>,
+) -> Result<Vec<Row<'a>>, NoMemory>
+    ensures { IfOk result (λ rows. AreAllRows instances.now rows.items) }
 {
     let mut rows = Vec::new(alloc);
     rows.push(object_row(instances))?;
-    for instance in instances {
-        push_rows(&mut rows, instance)?;
+    for at in 0..instances.len() {
+        push_rows(&mut rows, instances, at)?;
     }
     Ok(rows)
 }
 
 /// The row of the role that every policy has. The instances are there for their lifetimes alone.
-fn object_row<'s, 'a>(_instances: &[Instance<'s, 'a>]) -> Row<'s, 'a>
+fn object_row<'a>(_instances: &Instances<'_, '_, 'a>) -> Row<'a>
     ensures { result ≡ object_row }
 {
     Row {
         space: 0,
         name: Excerpt::of(b"object_r"),
         kind: Kind::Role,
-        instance: None,
+        at: None,
     }
 }
 
-/// Adds the rows of an instance.
-fn push_rows<'s, 'a>(
-    rows: &mut Vec<Row<'s, 'a>>,
-    instance: &Instance<'s, 'a>,
+/// Adds the row of what the instance at a place declares.
+fn push_rows<'a>(
+    rows: &mut Vec<Row<'a>>,
+    instances: &Instances<'_, '_, 'a>,
+    at: usize,
 ) -> Result<(), NoMemory>
-    ensures { OnOk result (rows.new.items ≡ rows.old.items ++ rows_by instance.now) }
+    requires { at < length (items_in instances.now) }
+    ensures { OnOk result (AreRowsUpTo instances.now at rows.old.items → AreRowsUpTo instances.now (at + 1) rows.new.items) }
 {
-    let Some(kind) = kind_declared(instance.statement.keyword) else {
+    let Some(statement) = instances.statement_there(at) else {
         return Ok(());
     };
-    let Some(name) = instance.statement.declared_name() else {
+    let Some(kind) = statement.keyword.declares() else {
+        return Ok(());
+    };
+    let Some(name) = statement.declared_name() else {
         return Ok(());
     };
     rows.push(Row {
-        space: instance.place.space,
+        space: instances.space(at),
         name: Excerpt::of(name.bytes),
         kind,
-        instance: Some(*instance),
+        at: Some(at),
     })?;
     Ok(())
 }
 
-/// The kind of what a statement declares.
-#[tactic(auto, unfolding(cil_syntax::specs::Table::entry_of))]
-fn kind_declared(keyword: Keyword) -> Option<Kind>
-    ensures { MatchOption result ((entry_of keyword).declares ≡ []) (λ kind. (entry_of keyword).declares ≡ kind ∷ []) }
-{
-    match keyword {
-        Keyword::Type_ => Some(Kind::Type_),
-        Keyword::Class => Some(Kind::Class),
-        Keyword::Role => Some(Kind::Role),
-        Keyword::User => Some(Kind::User),
-        Keyword::RoleType | Keyword::UserRole | Keyword::Allow => None,
-        Keyword::Block | Keyword::BlockAbstract | Keyword::BlockInherit => None,
-        Keyword::Macro | Keyword::Call | Keyword::SetAside => None,
-    }
-}
-
-impl<'s, 'a> Row<'s, 'a> {
+impl Row<'_> {
     /// The order of rows: by namespace, name and name space.
     pub fn compare(&self, other: &Row) -> Ordering
         ensures { result ≡ key_cmp (row_key self.now) (row_key other.now) }
@@ -101,55 +90,13 @@ impl<'s, 'a> Row<'s, 'a> {
             .then(rank_of(self.kind).cmp(&rank_of(other.kind)))
     }
 
-    /// The numbers of the optionals round the declaring statement.
-    pub fn round(&self) -> &'s [usize]
-        ensures { result.now ≡ round_at self.now.instance }
+    /// The numbers of the optionals round the declaring instance.
+    pub fn round<'i>(&self, instances: &'i Instances) -> &'i [usize]
+        ensures { result.now ≡ round_at instances.now self.now.at }
     {
-        match self.instance {
-            Some(instance) => instance.place.round.as_slice(),
+        match self.at {
+            Some(at) => instances.round(at),
             None => &[],
         }
-    }
-
-    /// The numbers of the namespaces in which the words of the declaring statement are looked up.
-    pub fn scope(&self) -> &'s [usize]
-        ensures { result.now ≡ scope_numbers self.now.instance }
-    {
-        match self.instance {
-            Some(instance) => instance.place.scope.as_slice(),
-            None => &[],
-        }
-    }
-
-    /// What the declaring statement says behind the declared name.
-    pub fn content(&self) -> &'s [Term<'a>]
-        ensures { result.now ≡ terms_behind self.now.instance }
-    {
-        behind_name(self.instance)
-    }
-}
-
-/// What the statement of an instance says behind its first term; nothing where there is no instance.
-fn behind_name<'s, 'a>(instance: Option<Instance<'s, 'a>>) -> &'s [Term<'a>]
-    ensures { result.now ≡ terms_behind instance.entry }
-{
-    match instance {
-        Some(instance) => behind_first(instance.statement.args.as_slice()),
-        None => no_terms(),
-    }
-}
-
-fn no_terms<'t, 'a>() -> &'t [Term<'a>]
-    ensures { result.now ≡ [] }
-{
-    &[]
-}
-
-fn behind_first<'t, 'a>(terms: &'t [Term<'a>]) -> &'t [Term<'a>]
-    ensures { result.now ≡ drop 1 terms.now }
-{
-    match terms {
-        [] => terms,
-        [_, rest @ ..] => rest,
     }
 }

@@ -1,34 +1,35 @@
 //! Rows in the order of their keys, parted into runs of one key.
 
-ghost use Rattle.std.specs.Prelude.{◌≡◌, ◌↔◌, ◌<◌, ◌≤◌, Contains, IfOk, IsTrue, List, drop, get_or, length, take};
+ghost use Rattle.std.specs.Prelude.{◌≡◌, ◌↔◌, ◌<◌, ◌≤◌, [], Contains, IfOk, IsTrue, None, Some, drop, get_or, length, take};
 ghost use Rattle.std.specs.declared.cmp.Ordering.TheVariants.{Less};
 ghost use Rattle.std.specs.List.Sorted.{IsPermutation, IsSortedByKey};
+ghost use Rattle.cil_macros.specs.Items.{word_at};
 ghost use Rattle.cil_names.specs.declared.row.Row.{Row};
-ghost use Rattle.cil_blocks.specs.declared.namespaces.Space.{Space};
-ghost use Rattle.cil_names.specs.DeclareRows.{IsPlacedRow, TellsDiffering, declaration_of, row_key};
+ghost use Rattle.cil_names.specs.DeclareRows.{AreAlike, AreRowsIn, IsRow, SaysWritten, TellsDiffering, bare_terms, content_at, declaration_of, row_key};
 ghost use Rattle.cil_names.specs.DeclareRuns.{AreRuns, IsNextRun};
+ghost use Rattle.cil_names.specs.Declarations.{name_space, of_blocks};
 ghost use Rattle.cil_names.specs.Entries.{key_cmp};
-ghost use Rattle.cil_blocks.specs.Namespaces.{AreNamespaces};
 
-use crate::content::is_same_content;
+use crate::content::{Comparison, Reading, is_same_content};
 use crate::row::Row;
+use cil_macros::Instances;
 use cil_modset::NoMemory;
-use cil_syntax::Kind;
+use cil_syntax::{Kind, Term};
 use std::alloc::Global;
 
 /// The rows of one name of a name space in a namespace.
 #[derive(Clone, Copy)]
-pub struct Run<'r, 's, 'a> {
+pub struct Run<'r, 'a> {
     /// The first of them.
-    pub first: &'r Row<'s, 'a>,
+    pub first: &'r Row<'a>,
     /// All of them.
-    pub rows: &'r [Row<'s, 'a>],
-    /// Whether one of them declares another symbol than the first.
+    pub rows: &'r [Row<'a>],
+    /// Whether one of them declares another symbol than the first. Blocks and macros of one name are told a step before.
     pub differing: bool,
 }
 
 /// The rows in the order of their keys.
-pub fn sorted_rows<'s, 'a>(mut rows: Vec<Row<'s, 'a>>) -> Vec<Row<'s, 'a>>
+pub fn sorted_rows<'a>(mut rows: Vec<Row<'a>>) -> Vec<Row<'a>>
     ensures same { IsPermutation rows.entry.items result.items }
     ensures sorted { IsSortedByKey row_key key_cmp result.items }
 {
@@ -37,17 +38,19 @@ pub fn sorted_rows<'s, 'a>(mut rows: Vec<Row<'s, 'a>>) -> Vec<Row<'s, 'a>>
 }
 
 /// The runs of sorted rows. Each costs a search by halving, and a comparison of each row with the first.
-pub fn runs_of<'r, 's, 'a>(
+pub fn runs_of<'r, 'a>(
     alloc: Global,
-    rows: &'r [Row<'s, 'a>],
-) -> Result<Vec<Run<'r, 's, 'a>>, NoMemory>
-    requires { IsSortedByKey row_key key_cmp rows.now }
-    ensures { IfOk result (λ runs. (ss : List Space) → AreNamespaces ss → ((r : Row) → Contains rows.now r → IsPlacedRow ss r) → AreRuns ss rows.now runs.items) }
+    instances: &Instances<'_, '_, 'a>,
+    rows: &'r [Row<'a>],
+) -> Result<Vec<Run<'r, 'a>>, NoMemory>
+    requires sorted { IsSortedByKey row_key key_cmp rows.now }
+    requires rows { AreRowsIn instances.now rows.now }
+    ensures { IfOk result (λ runs. AreRuns instances.now rows.now runs.items) }
 {
     let mut runs = Vec::new(alloc);
     let mut start = 0;
     while start < rows.len() {
-        let run = run_at(rows, start);
+        let run = run_at(alloc, instances, rows, start)?;
         runs.push(run)?;
         start += run.rows.len();
     }
@@ -55,22 +58,29 @@ pub fn runs_of<'r, 's, 'a>(
 }
 
 /// The run that begins at a place of sorted rows.
-fn run_at<'r, 's, 'a>(rows: &'r [Row<'s, 'a>], start: usize) -> Run<'r, 's, 'a>
+fn run_at<'r, 'a>(
+    alloc: Global,
+    instances: &Instances<'_, '_, 'a>,
+    rows: &'r [Row<'a>],
+    start: usize,
+) -> Result<Run<'r, 'a>, NoMemory>
     requires sorted { IsSortedByKey row_key key_cmp rows.now }
+    requires rows { AreRowsIn instances.now rows.now }
     requires within { start < length rows.now }
-    ensures { IsNextRun rows.now start result }
+    ensures { IfOk result (IsNextRun instances.now rows.now start) }
 {
     let rest = from(rows, start);
     let first = &rows[start];
     let same = &rest[..run_length(rest, first)];
-    Run {
+    let differing = is_differing(alloc, instances, first, same)?;
+    Ok(Run {
         first,
         rows: same,
-        differing: is_differing(first, same),
-    }
+        differing,
+    })
 }
 
-fn from<'r, 's, 'a>(rows: &'r [Row<'s, 'a>], start: usize) -> &'r [Row<'s, 'a>]
+fn from<'r, 'a>(rows: &'r [Row<'a>], start: usize) -> &'r [Row<'a>]
     requires { start ≤ length rows.now }
     ensures { result.now ≡ drop start rows.now }
 {
@@ -91,30 +101,148 @@ fn run_length(rest: &[Row], first: &Row) -> usize
 }
 
 /// Whether one of some rows with one key declares another symbol than the first.
-fn is_differing(first: &Row, rows: &[Row]) -> bool
-    requires { (r : Row) → Contains rows.now r → row_key r ≡ row_key first.now }
-    ensures { (ss : List Space) → AreNamespaces ss → IsPlacedRow ss first.now → ((r : Row) → Contains rows.now r → IsPlacedRow ss r)
-        → TellsDiffering ss first.now rows.now result }
+fn is_differing<'a>(
+    alloc: Global,
+    instances: &Instances<'_, '_, 'a>,
+    first: &Row<'a>,
+    rows: &[Row<'a>],
+) -> Result<bool, NoMemory>
+    requires first { IsRow instances.now first.now }
+    requires rows { AreRowsIn instances.now rows.now }
+    requires same { (r : Row) → Contains rows.now r → row_key r ≡ row_key first.now }
+    ensures { IfOk result (TellsDiffering instances.now first.now rows.now) }
 {
     for row in rows {
-        if !is_same(first, row) {
-            return true;
+        if !is_same(alloc, instances, first, row)? {
+            return Ok(true);
         }
     }
-    false
+    Ok(false)
 }
 
-/// Whether two rows with one key declare the same.
-fn is_same(a: &Row, b: &Row) -> bool
-    requires { row_key b.now ≡ row_key a.now }
-    ensures { (ss : List Space) → AreNamespaces ss → IsPlacedRow ss a.now → IsPlacedRow ss b.now → (IsTrue result ↔ (declaration_of ss a.now ≡ declaration_of ss b.now)) }
+/// Whether two rows with one key declare the same, or are of macros.
+fn is_same<'a>(
+    alloc: Global,
+    instances: &Instances<'_, '_, 'a>,
+    a: &Row<'a>,
+    b: &Row<'a>,
+) -> Result<bool, NoMemory>
+    requires a { IsRow instances.now a.now }
+    requires b { IsRow instances.now b.now }
+    requires one { row_key b.now ≡ row_key a.now }
+    ensures { IfOk result (λ same. IsTrue same ↔ AreAlike (declaration_of instances.now a.now) (declaration_of instances.now b.now)) }
 {
-    is_same_kind(a.kind, b.kind)
-        && is_same_content(
-            a.content(),
-            b.content(),
-            is_same_scope(a.scope(), b.scope()),
-        )
+    if is_of_blocks(a.kind) {
+        return Ok(true);
+    }
+    if !is_same_kind(a.kind, b.kind) {
+        return Ok(false);
+    }
+    is_same_said(alloc, instances, a, b)
+}
+
+/// Whether two rows say the same behind the declared name.
+fn is_same_said<'a>(
+    alloc: Global,
+    instances: &Instances<'_, '_, 'a>,
+    a: &Row<'a>,
+    b: &Row<'a>,
+) -> Result<bool, NoMemory>
+    requires a { IsRow instances.now a.now }
+    requires b { IsRow instances.now b.now }
+    ensures { IfOk result (λ same. IsTrue same ↔ (content_at instances.now a.now.at ≡ content_at instances.now b.now.at)) }
+{
+    let Some(place) = a.at else {
+        return Ok(says_nothing(instances, b));
+    };
+    let Some(other) = b.at else {
+        return Ok(says_nothing(instances, a));
+    };
+    is_same_there(alloc, instances, place, other)
+}
+
+/// Whether a row says nothing behind the declared name.
+fn says_nothing(instances: &Instances, row: &Row) -> bool
+    requires { IsRow instances.now row.now }
+    ensures { IsTrue result ↔ (content_at instances.now None ≡ content_at instances.now row.now.at) }
+{
+    match row.at {
+        Some(at) => is_nothing(behind_name(instances, at).terms),
+        None => true,
+    }
+}
+
+fn is_nothing(terms: &[Term]) -> bool
+    ensures { IsTrue result ↔ (terms.now ≡ []) }
+{
+    match terms {
+        [] => true,
+        [_, ..] => false,
+    }
+}
+
+/// Whether two instances say the same behind the declared name.
+fn is_same_there<'a>(
+    alloc: Global,
+    instances: &Instances<'_, '_, 'a>,
+    a: usize,
+    b: usize,
+) -> Result<bool, NoMemory>
+    requires a { SaysWritten instances.now a }
+    requires b { SaysWritten instances.now b }
+    ensures { IfOk result (λ same. IsTrue same ↔ (content_at instances.now (Some a) ≡ content_at instances.now (Some b))) }
+{
+    let one = behind_name(instances, a);
+    let other = behind_name(instances, b);
+    let both = Comparison {
+        instances,
+        one: one.reading,
+        other: other.reading,
+    };
+    is_same_content(alloc, &both, one.terms, other.terms)
+}
+
+/// Terms, and where they are read.
+#[derive(Clone, Copy)]
+struct Content<'t, 'a> {
+    reading: Reading,
+    terms: &'t [Term<'a>],
+}
+
+/// What the instance at a place says behind the declared name.
+fn behind_name<'p, 'a>(instances: &Instances<'_, 'p, 'a>, at: usize) -> Content<'p, 'a>
+    requires { SaysWritten instances.now at }
+    ensures there { result.reading.at ≡ at }
+    ensures says { content_at instances.now (Some at) ≡ bare_terms result.reading.«module» (word_at instances.now at) result.terms.now }
+{
+    let Some(statement) = instances.statement_there(at) else {
+        return Content {
+            reading: Reading { at, module: 0 },
+            terms: no_terms(),
+        };
+    };
+    Content {
+        reading: Reading {
+            at,
+            module: statement.at.module,
+        },
+        terms: behind_first(statement.args.as_slice()),
+    }
+}
+
+fn no_terms<'t, 'a>() -> &'t [Term<'a>]
+    ensures { result.now ≡ [] }
+{
+    &[]
+}
+
+fn behind_first<'t, 'a>(terms: &'t [Term<'a>]) -> &'t [Term<'a>]
+    ensures { result.now ≡ drop 1 terms.now }
+{
+    match terms {
+        [] => terms,
+        [_, rest @ ..] => rest,
+    }
 }
 
 fn is_same_kind(a: Kind, b: Kind) -> bool
@@ -123,8 +251,14 @@ fn is_same_kind(a: Kind, b: Kind) -> bool
     a == b
 }
 
-fn is_same_scope(a: &[usize], b: &[usize]) -> bool
-    ensures { IsTrue result ↔ (a.now ≡ b.now) }
+/// Whether a kind is that of blocks or of macros.
+fn is_of_blocks(kind: Kind) -> bool
+    ensures { IsTrue result ↔ (name_space kind ≡ of_blocks) }
 {
-    a == b
+    match kind {
+        Kind::Block | Kind::Macro => true,
+        Kind::Type_ | Kind::TypeAlias | Kind::TypeAttribute => false,
+        Kind::Role | Kind::RoleAttribute | Kind::User | Kind::UserAttribute => false,
+        Kind::Class | Kind::ClassMap => false,
+    }
 }

@@ -1,17 +1,19 @@
 //! What the words of all instances mean: each word is looked up once.
 
-ghost use Rattle.std.specs.Prelude.{◌≡◌, ◌≤◌, ◌++◌, [], ◌∷◌, All, Contains, IfOk, IfSome, ◌<◌, List, OnOk, Option, Some, length, map, slice_get, slice_range, ℕ, ◌+◌};
+ghost use Rattle.std.specs.Prelude.{◌≡◌, ◌≤◌, ◌++◌, [], ◌∷◌, IfOk, IfSome, ◌<◌, List, OnOk, Option, Some, length, map, slice_get, slice_range, true, ℕ, ◌+◌};
 ghost use Rattle.cil_syntax.specs.Said.{all_said, said_of};
-ghost use Rattle.cil_names.specs.declared.instance.Instance.{Instance};
-ghost use Rattle.cil_names.specs.Entries.{AreEntries, AreOrdered, IsAnswer, is_in, scoped};
-ghost use Rattle.cil_macros.specs.Item.{all_words_in, words_in};
-ghost use Rattle.cil_names.specs.Meanings.{meanings, meant};
+ghost use Rattle.cil_names.specs.Entries.{AreEntries, IsAnswer};
+ghost use Rattle.cil_macros.specs.Calls.{is_call};
+ghost use Rattle.cil_macros.specs.Item.{Item, all_words_in, words_in};
+ghost use Rattle.cil_names.specs.Readings.{IsFilling, enabled_by, item_read, meant_by, meant_there, module_of, scoped_there};
 ghost use Rattle.cil_names.specs.Rows.{IsTableOf};
 
 use crate::meaning::Meaning;
 use crate::names::Names;
 use crate::opt_set::OptSet;
-use crate::space::Spaces;
+use crate::reading::{Reading, is_call, says_as_written};
+use cil_blocks::Namespaces;
+use cil_macros::PlacedWord;
 use cil_modset::NoMemory;
 use cil_syntax::{Term, Word};
 use std::alloc::Global;
@@ -20,36 +22,61 @@ use std::alloc::Global;
 #[derive(Clone, Copy)]
 pub struct Lookup<'s, 'a> {
     /// The namespaces.
-    pub spaces: &'s Spaces<'a>,
+    pub spaces: &'s Namespaces<'a>,
     /// The declared names.
     pub names: &'s Names<'a>,
     /// The optionals that are enabled.
     pub enabled: &'s OptSet,
 }
 
-/// The words of one instance: where they are looked up, and the number of their module.
+/// What the words of a placed statement are looked up by.
 #[derive(Clone, Copy)]
-pub struct Filling<'s, 'a> {
-    /// The namespaces.
-    pub spaces: &'s Spaces<'a>,
-    /// The declared names.
-    pub names: &'s Names<'a>,
-    /// The optionals that are enabled.
-    pub enabled: &'s OptSet,
-    /// The numbers of the namespaces in which the words are looked up.
-    pub scope: &'s [usize],
-    /// The number of the module in which they are written.
-    pub module: u64,
+pub struct Filling<'r, 's, 'p, 'a> {
+    /// What they are looked up in.
+    pub lookup: Lookup<'r, 'a>,
+    /// The statement.
+    pub reading: Reading<'r, 's, 'p, 'a>,
+    pub alloc: Global,
 }
 
-impl<'s, 'a> Filling<'s, 'a> {
+impl<'r, 's, 'p, 'a> Filling<'r, 's, 'p, 'a> {
+    /// Adds what the words of the statement mean, in order.
+    pub fn statement(&self, words: &mut Vec<Meaning>) -> Result<(), NoMemory>
+        requires { IsFilling self.now }
+        ensures { OnOk result (words.new.items ≡ words.old.items ++ map (meant_by self.now) (all_words_in (item_read self.now.reading).args)) }
+    {
+        let keyword = self.reading.statement.keyword;
+        if is_call(keyword) {
+            self.call(words)?;
+            return Ok(());
+        }
+        if !says_as_written(keyword) {
+            return Ok(());
+        }
+        self.terms(words, self.reading.statement.args.as_slice())?;
+        Ok(())
+    }
+
+    /// Adds what the words of a call mean, in order.
+    fn call(&self, words: &mut Vec<Meaning>) -> Result<(), NoMemory>
+        requires { IsFilling self.now }
+        ensures { OnOk result (is_call (item_read self.now.reading).keyword ≡ true → words.new.items ≡ words.old.items ++ map (meant_by self.now) (all_words_in (item_read self.now.reading).args)) }
+    {
+        let asked = self
+            .reading
+            .instances
+            .call_words(self.alloc, self.reading.at)?;
+        for word in asked.as_slice() {
+            self.word(words, word)?;
+        }
+        Ok(())
+    }
+
     /// Adds what the words among some terms mean, in order.
     #[cycle(terms)]
-    pub fn terms(&self, words: &mut Vec<Meaning>, terms: &[Term]) -> Result<(), NoMemory>
-        requires ordered { AreOrdered self.now.spaces.now self.now.names.now }
-        requires within { All (λ k. k ≤ length self.now.spaces.now) self.now.scope.now }
-        ensures { OnOk result (words.new.items ≡ words.old.items
-            ++ map (λ w. meant self.now.spaces.now self.now.names.now (is_in self.now.enabled.now) (scoped self.now.spaces.now self.now.scope.now w)) (all_words_in (all_said self.now.«module» terms.now))) }
+    pub fn terms(&self, words: &mut Vec<Meaning>, terms: &[Term<'a>]) -> Result<(), NoMemory>
+        requires { IsFilling self.now }
+        ensures { OnOk result (words.new.items ≡ words.old.items ++ map (meant_there self.now) (all_words_in (all_said (module_of self.now.reading) terms.now))) }
     {
         for term in terms {
             self.term(words, term)?;
@@ -58,14 +85,15 @@ impl<'s, 'a> Filling<'s, 'a> {
     }
 
     #[cycle(terms)]
-    fn term(&self, words: &mut Vec<Meaning>, term: &Term) -> Result<(), NoMemory>
-        requires ordered { AreOrdered self.now.spaces.now self.now.names.now }
-        requires within { All (λ k. k ≤ length self.now.spaces.now) self.now.scope.now }
-        ensures { OnOk result (words.new.items ≡ words.old.items
-            ++ map (λ w. meant self.now.spaces.now self.now.names.now (is_in self.now.enabled.now) (scoped self.now.spaces.now self.now.scope.now w)) (words_in (said_of self.now.«module» term.now))) }
+    fn term(&self, words: &mut Vec<Meaning>, term: &Term<'a>) -> Result<(), NoMemory>
+        requires { IsFilling self.now }
+        ensures { OnOk result (words.new.items ≡ words.old.items ++ map (meant_there self.now) (words_in (said_of (module_of self.now.reading) term.now))) }
     {
         match term {
-            Term::Leaf(word) => self.word(words, &word.in_module(self.module))?,
+            Term::Leaf(word) => {
+                let written = word.in_module(self.reading.statement.at.module);
+                self.word(words, &self.reading.word(&written))?;
+            }
             Term::Name(_, _) => {}
             Term::Form(_, _, parts) => self.terms(words, parts.as_slice())?,
         }
@@ -73,27 +101,31 @@ impl<'s, 'a> Filling<'s, 'a> {
     }
 
     /// Adds what a word means.
-    fn word(&self, words: &mut Vec<Meaning>, word: &Word) -> Result<(), NoMemory>
-        requires ordered { AreOrdered self.now.spaces.now self.now.names.now }
-        requires within { All (λ k. k ≤ length self.now.spaces.now) self.now.scope.now }
-        ensures { OnOk result (words.new.items ≡ words.old.items
-            ++ meant self.now.spaces.now self.now.names.now (is_in self.now.enabled.now) (scoped self.now.spaces.now self.now.scope.now word.now) ∷ []) }
+    fn word(&self, words: &mut Vec<Meaning>, word: &PlacedWord) -> Result<(), NoMemory>
+        requires { IsFilling self.now }
+        ensures { OnOk result (words.new.items ≡ words.old.items ++ meant_by self.now (scoped_there self.now.reading word.now) ∷ []) }
     {
-        words.push(Meaning::of(self.named(word))?)?;
+        words.push(Meaning::of(self.named(word)?)?)?;
         Ok(())
     }
 
     /// The entry that a word names.
-    pub fn named(&self, word: &Word) -> Option<usize>
-        requires ordered { AreOrdered self.now.spaces.now self.now.names.now }
-        requires within { All (λ k. k ≤ length self.now.spaces.now) self.now.scope.now }
-        ensures first { result ≡ meant self.now.spaces.now self.now.names.now (is_in self.now.enabled.now) (scoped self.now.spaces.now self.now.scope.now word.now) }
-        ensures within { IfSome result (λ d. d < length self.now.names.now) }
-        ensures names { (xs : List Item) → AreEntries self.now.spaces.now xs self.now.names.now
-            → IsAnswer self.now.spaces.now xs self.now.names.now (is_in self.now.enabled.now) (scoped self.now.spaces.now self.now.scope.now word.now) result }
+    pub fn named(&self, word: &PlacedWord) -> Result<Option<usize>, NoMemory>
+        requires { IsFilling self.now }
+        ensures first { IfOk result (λ named. named ≡ meant_by self.now (scoped_there self.now.reading word.now)) }
+        ensures within { IfOk result (λ named. IfSome named (λ d. d < length self.now.lookup.names.now)) }
+        ensures names { IfOk result (λ named. (xs : List Item) → AreEntries self.now.lookup.spaces.now xs self.now.lookup.names.now
+            → IsAnswer self.now.lookup.spaces.now xs self.now.lookup.names.now (enabled_by self.now) (scoped_there self.now.reading word.now) named) }
     {
-        self.names
-            .resolve(self.spaces, word, self.scope, self.enabled)
+        let scope = self.reading.scope_of(self.alloc, word)?;
+        let lookup = &self.lookup;
+        let named = lookup.names.resolve(
+            lookup.spaces,
+            &word.word,
+            scope.as_slice(),
+            lookup.enabled,
+        );
+        Ok(named)
     }
 }
 

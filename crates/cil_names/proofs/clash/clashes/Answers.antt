@@ -3,12 +3,11 @@ use Rattle.cil_names.specs.DeclareRuns.{run_faults}
 use Rattle.cil_names.proofs.DeclareLists.{gave_all, gave_more}
 use Rattle.cil_names.proofs.clash.clashes.Goals as goal
 
-pub push_run-requires-clause-placed : goal.push_run-requires-clause-placed
-push_run-requires-clause-placed c = λ r h. c.requires.placed _ r (c.loop-run.run-index, c.loop-run-test.true, sym c.run-item.is) h
+pub push_run-requires : goal.push_run-requires
+push_run-requires c = c.requires _ (c.loop-run.run-index, c.loop-run-test.true, sym c.run-item.is)
 
 pub loop-run-preserved : goal.loop-run-preserved
-loop-run-preserved c =
-    gave_more (run_faults c.args.spaces.now) _ _ _ _ _ c.loop-run-test.true c.run-item.is c.loop-run.invariant c.in_ok-push_run.ensures
+loop-run-preserved c = gave_more (run_faults c.args.instances.now) _ _ _ _ _ c.loop-run-test.true c.run-item.is c.loop-run.invariant c.in_ok-push_run.ensures
 
 pub returns : goal.returns
-returns c = gave_all (run_faults c.args.spaces.now) _ _ _ c.loop-run.invariant c.loop-run-test.false
+returns c = gave_all (run_faults c.args.instances.now) _ _ _ c.loop-run.invariant c.loop-run-test.false

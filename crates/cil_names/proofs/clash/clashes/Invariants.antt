@@ -4,4 +4,4 @@ use Rattle.cil_names.specs.DeclareRuns.{run_faults}
 use Rattle.cil_names.proofs.clash.clashes.Given as goal
 
 abbrev pub invariant-loop-run : goal.invariant-loop-run
-invariant-loop-run l = l.faults.items ≡ flat_map (run_faults l.spaces) (take l.run-index l.runs)
+invariant-loop-run l = l.faults.items ≡ flat_map (run_faults l.instances) (take l.run-index l.runs)

@@ -4,4 +4,4 @@ use Rattle.cil_names.specs.DeclareRuns.{row_faults}
 use Rattle.cil_names.proofs.clash.push_rows.Given as goal
 
 abbrev pub invariant-loop-row : goal.invariant-loop-row
-invariant-loop-row l = l.faults.items ≡ l.fn.faults.items ++ flat_map (row_faults l.spaces) (take l.row-index l.rows)
+invariant-loop-row l = l.faults.items ≡ l.fn.faults.items ++ flat_map (row_faults l.instances) (take l.row-index l.rows)

@@ -8,9 +8,9 @@ use Rattle.cil_names.proofs.clash.push_run.Goals as goal
 pub returns-then-not-run : goal.returns-then-not-run
 unfolding run_faults
 returns-then-not-run c =
-    sym (ap (λ b. c.args.faults.now.items ++ (if b then flat_map (row_faults c.args.spaces.now) c.args.run.now.rows.now else [])) c.if-not-run.true ∙ append-nil _)
+    sym (ap (λ b. c.args.faults.now.items ++ (if b then flat_map (row_faults c.args.instances.now) c.args.run.now.rows.now else [])) c.if-not-run.true ∙ append-nil _)
 
 pub returns : goal.returns
 unfolding run_faults
 returns c =
-    subst (λ b. OnOk c.push_rows.result (c.push_rows.new.faults.items ≡ c.args.faults.now.items ++ (if b then flat_map (row_faults c.args.spaces.now) c.args.run.now.rows.now else []))) (sym c.if-not-run.false) c.push_rows.ensures
+    subst (λ b. OnOk c.push_rows.result (c.push_rows.new.faults.items ≡ c.args.faults.now.items ++ (if b then flat_map (row_faults c.args.instances.now) c.args.run.now.rows.now else []))) (sym c.if-not-run.false) c.push_rows.ensures

@@ -1,20 +1,31 @@
-use Rattle.std.proofs.Common.{◌∙◌, ap, length}
-use Rattle.std.specs.Prelude.{◌-◌, ◌^◌, min}
-use Rattle.cil_syntax.specs.Said.{all_said, args_of}
-use Rattle.cil_names.specs.declared.instance.Instance.{Instance}
-use Rattle.cil_macros.specs.Item.{all_words_in}
-use Rattle.cil_names.proofs.CountLemmas.{all_counted, one_counted}
+use Rattle.std.proofs.Common.{arith, refl}
+use Rattle.std.specs.Prelude.{◌-◌, ◌^◌}
+use Rattle.cil_blocks.specs.Contents.{standing_top}
+use Rattle.cil_blocks.specs.Entries.{nothing}
+use Rattle.cil_macros.specs.Items.{all_placed, placed_at}
+use Rattle.cil_macros.specs.Placed.{placed_standing}
+use Rattle.cil_macros.proofs.ItemLemmas.{items_counted}
+use Rattle.cil_names.specs.Readings.{words_written}
+use Rattle.cil_names.proofs.CountLemmas.{all_counted, none_counted, one_counted}
 use Rattle.cil_names.proofs.count.count_words.Goals as goal
 
-pub loop-instance-preserved : goal.loop-instance-preserved
-loop-instance-preserved c =
-    one_counted (λ (i : Instance). all_words_in (args_of i.statement.now)) (2 ^ 64 - 1) c.args.instances.now c.loop-instance.instance-index c.instance-item.result c.instance-item.result _ _ _
-    c.loop-instance-test.true c.instance-item.is c.loop-instance.invariant
-    (c.count_among.ensures c.instance-item.result.statement.now.at.«module»
-    ∙ ap (λ terms. min (length (all_words_in (all_said c.instance-item.result.statement.now.at.«module» terms))) (2 ^ 64 - 1)) c.as_slice.ensures.value)
-    c.saturating_add-count.ensures
+pub loop-at-init : goal.loop-at-init
+loop-at-init c = none_counted words_written (2 ^ 64 - 1) (all_placed c.args.instances.now)
+
+pub loop-at-preserved : goal.loop-at-preserved
+loop-at-preserved c =
+    let i = c.args.instances.now in
+    let at = c.loop-at.at in
+    let h = c.loop-at-test.true in
+    let n = c.len-at-end.ensures.items in
+    let k = items_counted i in
+    one_counted words_written (2 ^ 64 - 1) (all_placed i) at (placed_at i at) (placed_standing (standing_top nothing)) _ _ _ (omega (arith, h, n, k)) refl c.loop-at.invariant
+    c.count_at.ensures c.saturating_add-count.ensures
 
 pub returns : goal.returns
 returns c =
-    all_counted (λ (i : Instance). all_words_in (args_of i.statement.now)) (2 ^ 64 - 1) c.args.instances.now c.loop-instance.instance-index c.loop-instance.count c.loop-instance-test.false
-    c.loop-instance.invariant
+    let i = c.args.instances.now in
+    let h = c.loop-at-test.false in
+    let n = c.len-at-end.ensures.items in
+    let k = items_counted i in
+    all_counted words_written (2 ^ 64 - 1) (all_placed i) c.loop-at.at c.loop-at.count (omega (arith, h, n, k)) c.loop-at.invariant

@@ -1,27 +1,51 @@
 use Rattle.std.specs.Prelude.{Some}
-use Rattle.std.proofs.Common.{refl, sym, ◌∙◌, ap}
+use Rattle.std.proofs.Common.{refl, sym, ◌∙◌, ap, subst}
 use Rattle.std.proofs.lemmas.Option.{slice_get_read}
-use Rattle.cil_names.proofs.PermissionLemmas.{added, class_within, kept_unknown, kept_unlisted, kept_without}
+use Rattle.cil_blocks.specs.Namespaces.{AreNamespaces}
+use Rattle.cil_macros.specs.Items.{item_at, namespaces_in, word_at}
+use Rattle.cil_syntax.specs.Said.{args_of}
+use Rattle.cil_names.proofs.PermissionLemmas.{added, class_within, kept_unknown, kept_unlisted, kept_without, none_declared, none_of_nothing, one_declared, said_by_class}
 use Rattle.cil_names.proofs.permissions.add_listed.Goals as goal
 
 pub returns-in_default-clause-listed : goal.returns-in_default-clause-listed
-returns-in_default-clause-listed c = λ ss xs spaces ordered placed are.
-    kept_without ss c.args.entries.now xs c.args.instance.now c.args.lists.now.items c.in_default.ensures are
+returns-in_default-clause-listed c = λ xs ordered are.
+    let i = c.args.instances.now in
+    kept_without (namespaces_in i) c.args.entries.now xs (item_at i c.args.at) c.args.lists.now.items (none_of_nothing i c.args.at c.in_default.ensures) are
+
+pub returns-in_default-declared_class-clause-listed : goal.returns-in_default-declared_class-clause-listed
+returns-in_default-declared_class-clause-listed c = λ xs ordered are.
+    let i = c.args.instances.now in
+    kept_without (namespaces_in i) c.args.entries.now xs (item_at i c.args.at) c.args.lists.now.items
+    (none_declared i c.args.at c.in-Some.statement.now c.in-Some.ensures c.in_default-declared_class.ensures) are
 
 pub returns-in_default-entry_in-clause-listed : goal.returns-in_default-entry_in-clause-listed
-returns-in_default-entry_in-clause-listed c = λ ss xs spaces ordered placed are.
-    kept_unknown ss c.args.entries.now xs c.args.instance.now spaces ordered placed c.in-Some.name.bytes.now c.in-Some.ensures c.args.lists.now.items
+returns-in_default-entry_in-clause-listed c = λ xs ordered are.
+    let i = c.args.instances.now in
+    let name = c.in-Some-declared_class.name in
+    kept_unknown (namespaces_in i) c.args.entries.now xs (item_at i c.args.at) (subst AreNamespaces c.namespaces.ensures.value c.namespaces.ensures.once) ordered c.space.result c.space.ensures name.bytes.now
+    (one_declared i c.args.at c.in-Some.statement.now c.in-Some.ensures name.at name.bytes.now c.in-Some-declared_class.ensures refl) c.args.lists.now.items
     c.in_default-entry_in.ensures are
 
 pub returns-in_default-listed_behind_name-clause-listed : goal.returns-in_default-listed_behind_name-clause-listed
-returns-in_default-listed_behind_name-clause-listed c = λ ss xs spaces ordered placed are.
-    kept_unlisted ss c.args.entries.now xs c.args.instance.now spaces ordered placed c.in-Some.name.bytes.now c.in-Some.ensures c.args.lists.now.items
+returns-in_default-listed_behind_name-clause-listed c = λ xs ordered are.
+    let i = c.args.instances.now in
+    let name = c.in-Some-declared_class.name in
+    kept_unlisted (namespaces_in i) c.args.entries.now xs (item_at i c.args.at) (subst AreNamespaces c.namespaces.ensures.value c.namespaces.ensures.once) ordered c.space.result c.space.ensures name.bytes.now
+    (one_declared i c.args.at c.in-Some.statement.now c.in-Some.ensures name.at name.bytes.now c.in-Some-declared_class.ensures refl)
+    (word_at i c.args.at) (args_of c.in-Some.statement.now)
+    (said_by_class i c.args.at c.in-Some.statement.now c.in-Some.ensures name.at name.bytes.now c.in-Some-declared_class.ensures) c.args.lists.now.items
     c.in_default-listed_behind_name.ensures are
 
 pub returns-clause-listed : goal.returns-clause-listed
-returns-clause-listed c = λ ss xs spaces ordered placed are.
-    added ss c.args.entries.now xs c.args.instance.now spaces ordered placed c.in-Some.name.bytes.now c.in-Some.ensures c.args.lists.now.items c.in-Some-entry_in.class
-    c.in-Some-entry_in.ensures c.replace-listed.result c.replace-listed.new.dest c.in_ok-lists.field-0 c.args.instance.now.statement.now.at.«module»
+returns-clause-listed c = λ xs ordered are.
+    let i = c.args.instances.now in
+    let name = c.in-Some-declared_class.name in
+    let s = c.in-Some.statement.now in
+    added (namespaces_in i) c.args.entries.now xs (item_at i c.args.at) (subst AreNamespaces c.namespaces.ensures.value c.namespaces.ensures.once) ordered c.space.result c.space.ensures name.bytes.now
+    (one_declared i c.args.at s c.in-Some.ensures name.at name.bytes.now c.in-Some-declared_class.ensures refl)
+    (word_at i c.args.at) (args_of s)
+    (said_by_class i c.args.at s c.in-Some.ensures name.at name.bytes.now c.in-Some-declared_class.ensures) c.args.lists.now.items c.in-Some-entry_in.class
+    c.in-Some-entry_in.ensures c.replace-listed.result c.replace-listed.new.dest c.in_ok-lists.field-0 s.at.«module»
     c.in-Some-listed_behind_name.items.now c.requires.len
     (slice_get_read _ _ _ _ refl (class_within _ _ _ _ _ _ c.requires.len c.in-Some-entry_in.ensures) c.index_mut.ensures.value ∙ ap Some (sym c.replace-listed.ensures.value))
-    c.in-Some-listed_behind_name.ensures (c.in_ok-lists.ensures c.args.instance.now.statement.now.at.«module») are
+    c.in-Some-listed_behind_name.ensures (c.in_ok-lists.ensures s.at.«module») are

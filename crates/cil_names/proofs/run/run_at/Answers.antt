@@ -2,6 +2,12 @@ use Rattle.cil_sexpr.specs.Places.{contains_at}
 use Rattle.cil_names.proofs.DeclareRunLemmas.{next_parted, next_above, row_within, some_within}
 use Rattle.cil_names.proofs.run.run_at.Goals as goal
 
+pub is_differing-requires-clause-first : goal.is_differing-requires-clause-first
+is_differing-requires-clause-first c = c.requires.rows _ (contains_at c.args.rows.now c.args.start _ _ c.requires.within c.index-rows-start.is)
+
+pub is_differing-requires-clause-rows : goal.is_differing-requires-clause-rows
+is_differing-requires-clause-rows c = λ r d. c.requires.rows r (row_within c.args.rows.now c.args.start c.run_length.result _ c.from-rest.ensures r d)
+
 pub returns : goal.returns
 returns c =
     let rest = c.from-rest.ensures in
@@ -10,10 +16,5 @@ returns c =
       parted = next_parted c.args.rows.now c.args.start c.run_length.result _ rest bound;
       some = some_within _ _ c.run_length.ensures.first;
       above = next_above c.args.rows.now c.args.start c.run_length.result _ rest c.index-rows-start.result bound c.run_length.ensures.above;
-      is_run = λ ss spaces placed. record {
-        first = c.run_length.ensures.first;
-        same = c.run_length.ensures.same;
-        tells = c.is_differing.ensures ss spaces (placed _ (contains_at c.args.rows.now c.args.start _ _ c.requires.within c.index-rows-start.is))
-            (λ r d. placed r (row_within c.args.rows.now c.args.start c.run_length.result _ rest r d));
-      };
+      is_run = record { first = c.run_length.ensures.first; same = c.run_length.ensures.same; tells = c.in_ok-differing.ensures };
     }

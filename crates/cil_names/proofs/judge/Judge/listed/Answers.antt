@@ -1,25 +1,39 @@
-use Rattle.std.proofs.Common.{sym, ◌∙◌}
+use Rattle.std.proofs.Common.{ap, sym, ◌∙◌}
 use Rattle.cil_sexpr.specs.Rising.{rising_nothing}
 use Rattle.cil_sexpr.specs.Lists.{text_cmp}
-use Rattle.cil_names.specs.Judging.{enabled_in, word_in_scope}
+use Rattle.cil_macros.specs.Item.{nobody}
+use Rattle.cil_names.specs.Judging.{enabled_in, scoped_in}
+use Rattle.cil_names.specs.Meanings.{meant}
 use Rattle.cil_names.proofs.PermissionWordLemmas.{asked_named, asked_unnamed}
+use Rattle.cil_names.proofs.ReadingLemmas.{numbers_within, scoped_so}
 use Rattle.cil_names.proofs.judge.Judge.listed.Goals as goal
+
+pub class_named-requires-clause-within : goal.class_named-requires-clause-within
+class_named-requires-clause-within c =
+    let f = c.args.self.now.filling in
+    numbers_within f.lookup.spaces.now f.reading.instances.now c.requires.filling.spaces c.args.class.now _ (rw (← c.as_slice.ensures) at c.in_ok-scope.ensures)
 
 pub returns-in_default-clause-sorted : goal.returns-in_default-clause-sorted
 returns-in_default-clause-sorted c = rising_nothing text_cmp
 
 pub returns-in_default-clause-listed : goal.returns-in_default-clause-listed
-returns-in_default-clause-listed c =
-    λ is knows w.
-    let named = rw c.as_slice-spaces.ensures.value at (rw c.entries-entries.ensures.value at c.class_named.ensures.value) in
-    asked_unnamed c.args.self.now.filling.spaces.now c.requires.spaces is c.args.self.now.filling.names.now knows.entries (enabled_in c.args.self.now) (word_in_scope c.args.self.now c.args.class.now) w
-    (sym c.in_default.is ∙ named)
+returns-in_default-clause-listed c = λ xs knows w.
+    let j = c.args.self.now in
+    let f = j.filling in
+    let named = rw c.entries-entries.ensures.value at c.class_named.ensures.value in
+    asked_unnamed f.lookup.spaces.now c.are_namespaces.ensures xs f.lookup.names.now knows.entries (enabled_in j) (scoped_in j c.args.class.now) w
+    (sym c.in_default.is ∙ named
+    ∙ ap (meant f.lookup.spaces.now f.lookup.names.now nobody)
+    (scoped_so f.lookup.spaces.now f.reading.instances.now c.requires.filling.spaces c.args.class.now _ (rw (← c.as_slice.ensures) at c.in_ok-scope.ensures)))
 
 pub returns-clause-listed : goal.returns-clause-listed
-returns-clause-listed c =
-    λ is knows w.
-    let named = rw c.as_slice-spaces.ensures.value at (rw c.entries-entries.ensures.value at c.class_named.ensures.value) in
+returns-clause-listed c = λ xs knows w.
+    let j = c.args.self.now in
+    let f = j.filling in
+    let named = rw c.entries-entries.ensures.value at c.class_named.ensures.value in
     let listed = rw c.entries-entries.ensures.value at c.permissions_at.ensures.listed in
-    listed c.args.self.now.filling.spaces.now is c.requires.spaces knows.entries knows.permissions w.bytes
-    ∙ sym (asked_named c.args.self.now.filling.spaces.now c.requires.spaces is c.args.self.now.filling.names.now knows.entries (enabled_in c.args.self.now) (word_in_scope c.args.self.now c.args.class.now) w c.in-Some.d
-    (sym c.in-Some.is ∙ named))
+    listed f.lookup.spaces.now xs c.are_namespaces.ensures knows.entries knows.permissions w.bytes
+    ∙ sym (asked_named f.lookup.spaces.now c.are_namespaces.ensures xs f.lookup.names.now knows.entries (enabled_in j) (scoped_in j c.args.class.now) w c.in-Some.d
+    (sym c.in-Some.is ∙ named
+    ∙ ap (meant f.lookup.spaces.now f.lookup.names.now nobody)
+    (scoped_so f.lookup.spaces.now f.reading.instances.now c.requires.filling.spaces c.args.class.now _ (rw (← c.as_slice.ensures) at c.in_ok-scope.ensures))))

@@ -1,0 +1,150 @@
+-- What a placed statement says, by what is written; and in which scope its words are looked up.
+use Rattle.std.specs.Prelude.{All, Contains}
+use Rattle.std.proofs.Common.{◌≡◌, ℕ, ◌≤◌, true, false, List, [], ◌∷◌, ◌++◌, map, length, get_or, refl, sym, ◌∙◌, ap, subst, append-nil}
+use Rattle.std.proofs.lemmas.List.{map-append}
+use Rattle.std.proofs.lemmas.Simd.{map-map}
+use Rattle.cil_sexpr.specs.Places.{contains_at}
+use Rattle.cil_syntax.specs.declared.kind.Keyword.{Keyword}
+use Rattle.cil_syntax.specs.declared.kind.Keyword.TheVariants as keywords
+use Rattle.cil_syntax.specs.declared.term.Term as rust
+use Rattle.cil_syntax.specs.declared.term.Word.{Word}
+use Rattle.cil_syntax.specs.Said.{all_said, args_of}
+use Rattle.cil_syntax.specs.Scopes.{ScopedWord}
+use Rattle.cil_syntax.specs.Terms.{Term, Leaf, Name, Form, Terms, nil, cons}
+use Rattle.cil_syntax.specs.Written.{Written}
+use Rattle.cil_blocks.specs.declared.namespaces.Space.{Space}
+use Rattle.cil_blocks.specs.Contents.{Standing}
+use Rattle.cil_blocks.specs.Entries.{nothing}
+use Rattle.cil_blocks.specs.Namespaces.{space_at}
+use Rattle.cil_macros.specs.declared.placed_word.PlacedWord.{PlacedWord}
+use Rattle.cil_macros.specs.Calls.{is_call}
+use Rattle.cil_macros.specs.Item.{all_replaced, all_words_in, replaced, words_in}
+use Rattle.cil_macros.specs.Items.{Kept, all_placed, item_at, leaves, namespaces_in, placed_at, says, says_as_written, scope_by, scoped_by}
+use Rattle.cil_macros.specs.Macros.{all_standing}
+use Rattle.cil_macros.specs.Placed.{Placed}
+use Rattle.cil_macros.specs.Walks.{IsScope, written_in}
+use Rattle.cil_macros.proofs.ItemLemmas.{abstract_says, inherit_says, said_as_written}
+use Rattle.cil_names.specs.declared.reading.Reading.{Reading}
+use Rattle.cil_names.specs.Entries.{scoped}
+use Rattle.cil_names.specs.Readings.{IsReading, item_read, word_read}
+use Rattle.cil_names.specs.Resolves.{Word as AWord, all_wanted_in, wanted_in}
+
+-- ---- words of terms
+
+module _ {L M : Type 0} (f : L → M) where
+  mutual
+    unfolding replaced all_replaced words_in all_words_in
+
+    words_of_term : (t : Term L) → words_in (replaced (λ at. at) f t) ≡ map f (words_in t)
+    words_of_term (Leaf w) = refl
+    words_of_term (Name at bytes) = refl
+    words_of_term (Form at op parts) = words_of_terms parts
+
+    -- the words of replaced terms are the words, replaced
+    pub words_of_terms : (ts : Terms L) → all_words_in (all_replaced (λ at. at) f ts) ≡ map f (all_words_in ts)
+    words_of_terms nil = refl
+    words_of_terms (cons t ts) =
+        ap (λ l. l ++ all_words_in (all_replaced (λ at. at) f ts)) (words_of_term t)
+        ∙ ap (λ l. map f (words_in t) ++ l) (words_of_terms ts)
+        ∙ sym (map-append f (words_in t) (all_words_in ts))
+
+-- words, one after another
+pub words_of_leaves : (ws : List ScopedWord) → all_words_in (leaves ws) ≡ ws
+unfolding leaves words_in all_words_in
+words_of_leaves [] = refl
+words_of_leaves (w ∷ ws) = ap (λ l. w ∷ l) (words_of_leaves ws)
+
+pub wanted_of_leaves : (ws : List ScopedWord) → all_wanted_in (leaves ws) ≡ map AWord ws
+unfolding leaves wanted_in all_wanted_in
+wanted_of_leaves [] = refl
+wanted_of_leaves (w ∷ ws) = ap (λ l. AWord w ∷ l) (wanted_of_leaves ws)
+
+pub no_words : {L : Type 0} → all_words_in {L = L} nil ≡ []
+unfolding all_words_in
+no_words = refl
+
+pub none_wanted : all_wanted_in nil ≡ []
+unfolding all_wanted_in
+none_wanted = refl
+
+-- ---- what a placed statement says
+
+says_nothing : (ws : List Written) (ss : List Standing) (p : Placed) (k : Keyword) (args : Terms Word) → is_call k ≡ false → says_as_written k ≡ false → says ws ss p k args ≡ nil
+says_nothing ws ss p keywords.Type_ args c e = absurd cc
+says_nothing ws ss p keywords.Class args c e = absurd cc
+says_nothing ws ss p keywords.Role args c e = absurd cc
+says_nothing ws ss p keywords.User args c e = absurd cc
+says_nothing ws ss p keywords.RoleType args c e = absurd cc
+says_nothing ws ss p keywords.UserRole args c e = absurd cc
+says_nothing ws ss p keywords.Allow args c e = absurd cc
+says_nothing ws ss p keywords.Block args c e = absurd cc
+says_nothing ws ss p keywords.BlockAbstract args c e = abstract_says ws ss p args
+says_nothing ws ss p keywords.BlockInherit args c e = inherit_says ws ss p args
+says_nothing ws ss p keywords.Macro args c e = absurd cc
+says_nothing ws ss p keywords.Call args c e = absurd cc
+says_nothing ws ss p keywords.SetAside args c e = absurd cc
+
+-- where there is no statement nothing is said
+pub none_said : (i : Kept) (at : ℕ) → (placed_at i at).standing.statement ≡ nothing → (item_at i at).args ≡ nil
+unfolding all_replaced
+none_said i at e =
+    ap (λ (w : Written). says (written_in i.0) (all_standing i.0) (placed_at i at) w.statement.keyword w.statement.args) e
+    ∙ said_as_written (written_in i.0) (all_standing i.0) (placed_at i at) keywords.SetAside nil refl
+
+module _ (r : Reading) (is : IsReading r) where
+  abbrev there : Placed
+  there = placed_at r.instances.now r.at
+
+  pub keyword_read : (item_read r).keyword ≡ r.statement.now.keyword
+  keyword_read = sym (ap (λ s. s.keyword) is.says)
+
+  args_read : there.standing.statement.statement.args ≡ args_of r.statement.now
+  args_read = sym (ap (λ s. s.args) is.says)
+
+  pub nothing_read : is_call r.statement.now.keyword ≡ false → says_as_written r.statement.now.keyword ≡ false → (item_read r).args ≡ nil
+  nothing_read c e =
+      says_nothing (written_in r.instances.now.0) (all_standing r.instances.now.0) there there.standing.statement.statement.keyword there.standing.statement.statement.args
+      (ap is_call keyword_read ∙ c) (ap says_as_written keyword_read ∙ e)
+
+  -- nothing means nothing
+  pub nothing_meant : {Y : Type 0} (f : ScopedWord → Y) → is_call r.statement.now.keyword ≡ false → says_as_written r.statement.now.keyword ≡ false → (old : List Y)
+      → old ≡ old ++ map f (all_words_in (item_read r).args)
+  nothing_meant f c e old = sym (ap (λ ts. old ++ map f (all_words_in ts)) (nothing_read c e) ∙ ap (λ ws. old ++ map f ws) no_words ∙ append-nil old)
+
+  pub written_read : says_as_written r.statement.now.keyword ≡ true → (terms : List rust.Term) → terms ≡ r.statement.now.args.items
+      → (item_read r).args ≡ all_replaced (λ at. at) (word_read r) (all_said r.statement.now.at.«module» terms)
+  written_read e terms same =
+      said_as_written (written_in r.instances.now.0) (all_standing r.instances.now.0) there there.standing.statement.statement.keyword there.standing.statement.statement.args
+      (ap says_as_written keyword_read ∙ e)
+      ∙ ap (all_replaced (λ at. at) (word_read r)) (args_read ∙ ap (all_said r.statement.now.at.«module») (sym same))
+
+  -- what its words mean, by what those that are written mean there
+  pub written_meant : {Y : Type 0} (f : ScopedWord → Y) → says_as_written r.statement.now.keyword ≡ true → (terms : List rust.Term) → terms ≡ r.statement.now.args.items
+      → map (λ w. f (word_read r w)) (all_words_in (all_said r.statement.now.at.«module» terms)) ≡ map f (all_words_in (item_read r).args)
+  written_meant f e terms same =
+      sym (ap (λ ts. map f (all_words_in ts)) (written_read e terms same)
+      ∙ ap (map f) (words_of_terms (word_read r) (all_said r.statement.now.at.«module» terms))
+      ∙ map-map f (word_read r) (all_words_in (all_said r.statement.now.at.«module» terms)))
+
+  -- the words of a call, one after another
+  pub call_meant : {Y : Type 0} (f : ScopedWord → Y) (ws : List PlacedWord) → (item_read r).args ≡ leaves (map (scoped_by (all_placed r.instances.now)) ws)
+      → map (λ w. f (scoped_by (all_placed r.instances.now) w)) ws ≡ map f (all_words_in (item_read r).args)
+  call_meant f ws e =
+      sym (ap (λ ts. map f (all_words_in ts)) e ∙ ap (map f) (words_of_leaves (map (scoped_by (all_placed r.instances.now)) ws)) ∙ map-map f (scoped_by (all_placed r.instances.now)) ws)
+
+pub call_wanted : (r : Reading) (ws : List PlacedWord) → (item_read r).args ≡ leaves (map (scoped_by (all_placed r.instances.now)) ws)
+    → all_wanted_in (item_read r).args ≡ map (λ w. AWord (scoped_by (all_placed r.instances.now) w)) ws
+call_wanted r ws e = ap all_wanted_in e ∙ wanted_of_leaves (map (scoped_by (all_placed r.instances.now)) ws) ∙ map-map AWord (scoped_by (all_placed r.instances.now)) ws
+
+-- ---- scopes
+
+all_of : (P : ℕ → Type 0) (ks : List ℕ) → ((k : ℕ) → Contains ks k → P k) → All P ks
+all_of P ks h = λ k d within. h (get_or ks k d) (contains_at ks k (get_or ks k d) d within refl)
+
+module _ (ss : List Space) (i : Kept) (same : ss ≡ namespaces_in i) (w : PlacedWord) (ks : List ℕ) (is : IsScope (namespaces_in i) (scope_by (all_placed i) w.scope) ks) where
+  pub numbers_within : All (λ k. k ≤ length ss) ks
+  numbers_within = all_of (λ k. k ≤ length ss) ks (λ k c. subst (λ (l : List Space). k ≤ length l) (sym same) (is.within k c))
+
+  -- a word in the scope of its place
+  pub scoped_so : scoped ss ks w.word ≡ scoped_by (all_placed i) w
+  scoped_so = ap (λ sc. record { at = w.word.at; bytes = w.word.bytes; sign = w.word.sign; scope = sc }) (ap (λ (l : List Space). map (space_at l) ks) same ∙ is.is)

@@ -1,0 +1,522 @@
+"""Random policies with blocks, inheritance, macros and calls, which can be mended until they are accepted."""
+import copy
+import itertools
+
+import shapes
+from contents import Contents
+from faults import Refused
+from instances import Instances
+from pieces import FLAT, LATER, ODD, UNKNOWN, Quoted, bent, module_of, often
+from policy import Names, Policy
+from texts import RESERVED, Node
+
+BLOCKS = [b"k", b"l", b"n", b"a"]
+MACROS = [b"m", b"o", b"n", b"b"]
+NAMES = {
+    b"type": [b"a", b"b", b"c", b"t", b"k"],
+    b"role": [b"r", b"q", b"a", b"object_r"],
+    b"user": [b"u", b"v", b"a"],
+    b"class": [b"file", b"dir", b"a"],
+}
+PERMISSIONS = [b"read", b"open", b"write", b"a"]
+
+# Types that are there in most policies.
+BASE_TYPES = [b"a", b"b"]
+
+# Each rule has one of these permissions, so that an answer tells which rules led to it.
+MARKS = [b"p%d" % i for i in range(20)]
+KINDS = [b"type", b"type", b"type", b"role", b"user", b"class", b"class", b"name", b"string"]
+WRONG_ARGUMENTS = [Quoted(b"a"), Quoted(b""), b"all", b"self", b"1x", b"a..b", b".", [], [b"a"], [[b"a"], Quoted(b"b")]]
+NOWHERE = [b"nobody", b"k.a", b".k", b"l.l.a", b"a.k"]
+RULES = {b"roletype": (b"role", b"type"), b"userrole": (b"user", b"role")}
+WORDS = [*FLAT, *sorted(shapes.IN_BLOCKS), b"call", b"filecon", *LATER, *UNKNOWN]
+
+MOST_MENDINGS = 12
+
+# What can be wrong on purpose, with the codes of the step that tells it.
+WRONG = {
+    "shapes": {21, 22, 23, 24, 25, 26, 27},
+    "blocks": {31, 32, 33, 38},
+    "calls": {34, 35, 38},
+    "classes": {36},
+    "words": {41},
+    "widths": {55},
+}
+
+
+class Spot:
+    """A body where statements may be put: its namespace, its list, and of a macro the parameters as kinds and names."""
+
+    def __init__(self, space, body, parameters=None):
+        self.space, self.body, self.parameters = space, body, parameters or []
+        self.is_macro = parameters is not None
+        self.own = []
+
+
+class Module:
+    """The statements of a module, and the nodes that they would be read as. A place is the number of a node here."""
+
+    def __init__(self):
+        self.statements, self.is_open = [], True
+        self.nodes, self.starts = [], {}
+
+    def number(self):
+        self.starts, numbers = {}, itertools.count()
+        self.nodes = [self.node(each, numbers) for each in self.statements]
+
+    def node(self, item, numbers):
+        at = next(numbers)
+        if isinstance(item, list):
+            self.starts[id(item)] = at
+            return Node("list", at, [self.node(inner, numbers) for inner in item])
+        return Node("string" if isinstance(item, Quoted) else "word", at, item)
+
+
+def statements_of(body, first=0):
+    """The statements in a body and in the bodies of its blocks and macros, each with the list that it is in."""
+    for each in body[first:]:
+        if isinstance(each, list):
+            yield body, each
+            if each[:1] in ([b"block"], [b"macro"]):
+                yield from statements_of(each, 2 if each[0] == b"block" else 3)
+
+
+class Draft:
+    """A policy that is being made up. What is wrong is one of WRONG, or nothing."""
+
+    def __init__(self, rng):
+        self.rng, self.wrong = rng, None
+        self.modules, self.spots, self.macros = [], [], []
+        self.standing = []
+        self.permissions, self.rules = {}, 0
+        self.declared = {kind: [] for kind in NAMES}
+
+    def goes_wrong(self, what, chance=0.25):
+        """Whether the next thing is to be wrong in this way."""
+        return self.wrong == what and often(self.rng, chance)
+
+    def open_module(self):
+        """Begins a module. Those that are there stay as they are."""
+        for each in self.modules:
+            each.is_open = False
+        self.add_module()
+
+    def add_module(self):
+        self.modules.append(Module())
+        self.spots.append(Spot((), self.modules[-1].statements))
+
+    def spot(self, may_be_macro=False, deepest=4):
+        """A body in a module that is open."""
+        fitting = [
+            each for each in self.open_spots() if (may_be_macro or not each.is_macro) and len(each.space) <= deepest
+        ]
+        return self.rng.choice(fitting)
+
+    def open_spots(self):
+        bodies = {id(module.statements) for module in self.modules if module.is_open}
+        for module in self.modules:
+            if module.is_open:
+                bodies |= {id(each) for _, each in statements_of(module.statements)}
+        return [each for each in self.spots if id(each.body) in bodies]
+
+    # ---- words
+
+    def path(self, space, path):
+        """A word that may lead from a namespace to a full name."""
+        form = self.rng.randrange(4)
+        if form == 0:
+            return b"." + b".".join(path)
+        common = 0
+        while common < min(len(space), len(path) - 1) and space[common] == path[common]:
+            common += 1
+        if form == 1:
+            common = 0
+        return b".".join(path[common:])
+
+    def odd_word(self):
+        return self.rng.choice(self.rng.choice([ODD, ODD, sorted(RESERVED), NOWHERE]))
+
+    def word(self, spot, kind):
+        """A word of a kind for a body: a parameter, a name of the body, a full name, or any name."""
+        if self.goes_wrong("words", 0.1) or self.goes_wrong("shapes", 0.03):
+            return self.odd_word()
+        fitting = [name for of, name in spot.parameters if of == kind]
+        if fitting and often(self.rng, 0.7):
+            return self.rng.choice(fitting)
+        own = [name for of, name in spot.own if of == kind]
+        if own and often(self.rng, 0.5):
+            return self.rng.choice(own)
+        if self.declared[kind] and often(self.rng, 0.75):
+            return self.path(spot.space, self.rng.choice(self.declared[kind]))
+        return self.rng.choice(NAMES[kind])
+
+    # ---- what is declared
+
+    def add_block(self):
+        around = self.spot(deepest=2)
+        name = self.odd_word() if self.goes_wrong("shapes", 0.05) else self.rng.choice(BLOCKS)
+        space = (*around.space, name)
+        if self.is_taken(space):
+            return
+        body = [b"block", name]
+        if often(self.rng, 0.3):
+            body.append([b"blockabstract", self.rng.choice(BLOCKS) if self.goes_wrong("shapes", 0.1) else name])
+        around.body.append(body)
+        self.spots.append(Spot(space, body))
+
+    def add_macro(self):
+        around = self.spot(may_be_macro=self.goes_wrong("shapes", 0.1))
+        path = (*around.space, self.rng.choice(MACROS))
+        if self.is_taken(path):
+            return
+        parameters = []
+        for _ in range(self.rng.choice([0, 1, 1, 2, 2, 3])):
+            kind = self.rng.choice(KINDS)
+            name = self.rng.choice([b"x", b"y", b"z", *NAMES.get(kind, [b"a"])])
+            if name not in [of for _, of in parameters] or self.goes_wrong("shapes"):
+                wrong = self.goes_wrong("shapes", 0.05)
+                parameters.append((self.rng.choice([b"bool", b"level", b"1x", b"self"]) if wrong else kind, name))
+        self.place_macro(around, path[-1], parameters)
+
+    def place_macro(self, around, name, parameters):
+        spot = Spot(around.space, [b"macro", name, [[kind, of] for kind, of in parameters]], parameters)
+        around.body.append(spot.body)
+        self.spots.append(spot)
+        self.macros.append(((*around.space, name), spot))
+        return spot
+
+    def is_taken(self, path):
+        taken = [each.space for each in self.spots] + [of for of, _ in self.macros]
+        return path in taken and not self.goes_wrong("blocks", 0.5)
+
+    def add_declaration(self):
+        kind = self.rng.choice([b"type", b"type", b"type", b"role", b"user", b"class"])
+        spot = self.spot(may_be_macro=kind != b"class" or self.goes_wrong("shapes", 0.1))
+        self.declare(spot, kind, self.rng.choice(NAMES[kind]))
+
+    def declare(self, spot, kind, name):
+        if spot.is_macro and name in [of for _, of in spot.parameters] and not self.goes_wrong("shapes"):
+            return
+        path = (*spot.space, name)
+        if kind == b"class":
+            listed = self.permissions.get(path)
+            if listed is None or self.goes_wrong("classes", 0.5):
+                listed = self.listed()
+            self.permissions[path] = listed
+            spot.body.append([kind, name, list(listed)])
+        else:
+            spot.body.append([kind, name])
+        spot.own.append((kind, name))
+        self.declared[kind].append(path)
+
+    def listed(self):
+        if often(self.rng, 0.01) or self.goes_wrong("widths", 0.5):
+            many = [b"p%d" % i for i in range(33 if self.wrong == "widths" else 32)]
+            self.rng.shuffle(many)
+            return many + self.rng.sample(many, self.rng.randrange(3))
+        return [*MARKS, b"read", *self.rng.sample(PERMISSIONS, self.rng.randrange(0, 4))]
+
+    # ---- what goes by words
+
+    def add_inherit(self):
+        around = self.spot(may_be_macro=self.goes_wrong("shapes", 0.1))
+        targets = [each.space for each in self.spots if each.space and not each.is_macro]
+        if not targets:
+            return
+        target = self.rng.choice(targets)
+        if target == around.space[:len(target)] and not self.goes_wrong("blocks", 0.5):
+            return
+        is_odd = self.goes_wrong("blocks", 0.1) or self.goes_wrong("shapes", 0.05)
+        around.body.append([b"blockinherit", self.odd_word() if is_odd else self.path(around.space, target)])
+
+    def add_call(self):
+        spot = self.spot(may_be_macro=often(self.rng, 0.5))
+        known = self.standing if self.standing and often(self.rng, 0.9) else self.macros
+        if not known:
+            return
+        path, macro = self.rng.choice(known)
+        if spot is macro and not self.goes_wrong("calls", 0.5):
+            return
+        given = [self.argument(spot, kind) for kind, _ in macro.parameters]
+        if self.goes_wrong("calls", 0.1):
+            given = given[1:] if often(self.rng, 0.5) else [*given, b"a"]
+        is_odd = self.goes_wrong("words", 0.1) or self.goes_wrong("shapes", 0.05)
+        called = self.odd_word() if is_odd else self.path(spot.space, path)
+        spot.body.append([b"call", called, given] if given or often(self.rng, 0.5) else [b"call", called])
+
+    def argument(self, spot, kind):
+        if self.goes_wrong("calls", 0.12):
+            return copy.deepcopy(self.rng.choice(WRONG_ARGUMENTS))
+        if kind in NAMES:
+            return self.word(spot, kind)
+        names = [name for _, name in spot.parameters]
+        return self.rng.choice([b"a", b"all", b"1x", b".", Quoted(b"a b"), *names, *names])
+
+    def add_rule(self):
+        spot = self.spot(may_be_macro=often(self.rng, 0.55))
+        keyword = self.rng.choice([b"roletype", b"userrole", b"allow", b"allow", b"allow", b"allow"])
+        if keyword != b"allow":
+            spot.body.append([keyword, *(self.word(spot, kind) for kind in RULES[keyword])])
+            return
+        target = b"self" if often(self.rng, 0.15) else self.word(spot, b"type")
+        class_word = self.word(spot, b"class")
+        full_names = [path for path in self.permissions if path[-1] == class_word.split(b".")[-1]]
+        listed = self.permissions[self.rng.choice(full_names)] if full_names else [b"read"]
+        permissions = [self.rng.choice(listed) for _ in range(self.rng.choice([0, 0, 0, 0, 1, 2]))]
+        if b"p0" in listed and often(self.rng, 0.95):
+            self.rules += 1
+            permissions.append(MARKS[self.rules % len(MARKS)])
+        if self.goes_wrong("words", 0.1):
+            permissions.append(self.rng.choice([b"nope", b"write", [b"open", [b"a"]]]))
+        spot.body.append([b"allow", self.word(spot, b"type"), target, [class_word, permissions]])
+
+    def add_diamond(self):
+        """A block with a macro, two blocks that inherit it, and a body that inherits these and calls the macro."""
+        home, *outer = (self.below(self.spot(deepest=1)) for _ in range(3))
+        inner = [self.below(each) if often(self.rng, 0.85) else each for each in outer]
+        macro = self.macro_in(home, [])
+        if not macro:
+            return
+        path = self.macros[-1][0]
+        is_global = often(self.rng, 0.4)
+        last = self.spot(deepest=0) if is_global else self.below(self.spot(deepest=1))
+        ways = [(each, home) for each in inner] + [(last, each) for each in inner]
+        for around, target in ways + [(last, home)] * often(self.rng, 0.3):
+            around = self.spot(deepest=0) if is_global and around is last else around
+            if target.space != around.space[:len(target.space)]:
+                around.body.append([b"blockinherit", b"." + b".".join(target.space)])
+        for each, chance in ((outer[0], 0.75), (outer[1], 0.75), (home, 0.3), (last, 0.15)):
+            self.declare_some(each, chance)
+        for name in BASE_TYPES:
+            self.mark(macro, name)
+        last.body.append([b"call", path[-1]])
+
+    def add_nest(self):
+        """A macro that calls a macro elsewhere, and a call of it; the same names everywhere."""
+        places = [self.below(self.spot(deepest=1)) for _ in range(3)]
+        places = [self.below(each) if often(self.rng, 0.3) else each for each in places]
+        names = self.rng.choices([None, b"x", b"a", b"b"], k=2)
+        parameters = [[(b"type", name)] if name else [] for name in names]
+        macros = [self.macro_in(each, given) for each, given in zip(places, parameters)]
+        if not all(macros):
+            return
+        for each, chance in ((places[0], 0.3), (places[1], 0.5), (places[2], 0.3), (macros[0], 0.4), (macros[1], 0.4)):
+            self.declare_some(each, chance)
+        for each in macros:
+            for name in [*BASE_TYPES, *(name for _, name in each.parameters)]:
+                self.mark(each, name)
+        (inner, outer), caller = macros, places[2]
+        outer.body.append(self.call_of(outer, self.macros[-2][0], inner))
+        caller.body.append(self.call_of(caller, self.macros[-1][0], outer))
+
+    def macro_in(self, around, parameters):
+        """A new macro in a body, or nothing."""
+        path = (*around.space, self.rng.choice(MACROS))
+        return None if self.is_taken(path) else self.place_macro(around, path[-1], parameters)
+
+    def declare_some(self, spot, chance):
+        for name in BASE_TYPES:
+            if often(self.rng, chance):
+                self.declare(spot, b"type", name)
+
+    def below(self, around):
+        """A block in a body: one that is there, or a new one."""
+        space = (*around.space, self.rng.choice(BLOCKS))
+        found = next((each for each in self.spots if each.space == space and not each.is_macro), None)
+        if not found:
+            found = Spot(space, [b"block", space[-1]])
+            around.body.append(found.body)
+            self.spots.append(found)
+        return found
+
+    def mark(self, spot, source):
+        """A rule that tells what a type word means."""
+        self.rules += 1
+        spot.body.append([b"allow", source, b"self", [b".file", [MARKS[self.rules % len(MARKS)]]]])
+
+    def add_ring(self):
+        """Macros each of which calls the next, and the last the first; and a call of one of them."""
+        ring = self.rng.sample(self.macros, min(len(self.macros), self.rng.choice([1, 2, 2, 3])))
+        bodies = {id(each.body) for each in self.open_spots()}
+        for (_, macro), (path, called) in zip(ring, [*ring[1:], *ring[:1]]):
+            if id(macro.body) in bodies:
+                macro.body.append(self.call_of(macro, path, called))
+        if ring:
+            spot = self.spot()
+            spot.body.append(self.call_of(spot, *self.rng.choice(ring)))
+
+    def call_of(self, spot, path, macro):
+        return [b"call", self.path(spot.space, path), [self.argument(spot, kind) for kind, _ in macro.parameters]]
+
+    def add_set_aside(self):
+        spot = self.spot(may_be_macro=self.goes_wrong("shapes"))
+        items = [b"a", b"self", b"1x", Quoted(b"/x(.*)?"), [], [b"type", b"a"], [[b"block"]]]
+        keyword = self.rng.choice(sorted(shapes.SET_ASIDE))
+        spot.body.append([keyword, *self.rng.sample(items, self.rng.randrange(3))])
+
+    # ---- whole policies
+
+    def add_base(self):
+        spot = self.spots[-1]
+        types = [(b"type", name) for name in BASE_TYPES]
+        for kind, name in (*types, (b"role", b"r"), (b"user", b"u"), (b"class", b"file")):
+            if often(self.rng, 0.95):
+                self.declare(spot, kind, name)
+
+    def add_several(self, add, most):
+        for _ in range(self.rng.randrange(most + 1)):
+            add()
+
+    def add_all(self, size, wrong):
+        """What a policy has, in an order in which words have something to name."""
+        self.wrong = wrong
+        for add, chance in ((self.add_diamond, 0.2), (self.add_nest, 0.25)):
+            if often(self.rng, chance):
+                add()
+        for add, most in (
+            (self.add_block, 5), (self.add_macro, 4), (self.add_declaration, 12), (self.add_inherit, 3)
+        ):
+            self.add_several(add, int(most * size))
+        self.learn()
+        self.add_several(self.add_call, int(7 * size))
+        self.learn()
+        self.add_several(self.add_rule, int(16 * size))
+        self.add_several(self.add_set_aside, 2)
+        if often(self.rng, 0.1):
+            self.double()
+        if self.goes_wrong("calls", 0.7):
+            self.add_ring()
+        while self.goes_wrong("shapes", 0.7):
+            self.rng.choice([self.bend, self.add_odd_statement])()
+        for module in self.modules:
+            if module.is_open:
+                self.rng.shuffle(module.statements)
+
+    def double(self):
+        """Writes a statement once more, in the same body or another."""
+        some = [each for module in self.modules if module.is_open for _, each in statements_of(module.statements)]
+        if some:
+            self.spot().body.append(copy.deepcopy(self.rng.choice(some)))
+
+    def add_odd_statement(self):
+        spot = self.spot(may_be_macro=often(self.rng, 0.3))
+        names = [*spot.space, b"k"]
+        spot.body.append(odd_statement(self.rng, self.rng.choice(names[-3:])))
+
+    def bend(self):
+        some = [each for module in self.modules if module.is_open for _, each in statements_of(module.statements)]
+        if some:
+            bent(self.rng, self.rng.choice(some), WORDS)
+
+    def open_texts(self):
+        return [module_of(self.rng, module.statements) for module in self.modules if module.is_open]
+
+    def trees(self):
+        for module in self.modules:
+            if module.is_open:
+                module.number()
+        return [module.nodes for module in self.modules]
+
+    def policy(self):
+        """The policy as it is now, or nothing where it has faults."""
+        try:
+            return Policy(self.trees())
+        except Refused:
+            return None
+
+    def learn(self):
+        """Enters all names that are declared, by inheritance and calls too, where the model sees them."""
+        try:
+            names = Names(Instances(Contents(shapes.written(self.trees()))))
+        except Refused:
+            return
+        starts = [module.starts for module in self.modules]
+        self.standing = [
+            (path, spot)
+            for path, macro in sorted(names.instances.macros.items(), key=lambda each: each[0])
+            for _, spot in self.macros
+            if starts[macro.statement.module].get(id(spot.body)) == macro.statement.at
+        ]
+        for kind, declared in names.declared.items():
+            self.declared[kind] = sorted(declared)
+        self.permissions.update(names.declared[b"class"])
+
+    def mend(self, but=frozenset()):
+        """Takes out statements with faults until there are none but these, or none that can be taken out."""
+        for _ in range(MOST_MENDINGS):
+            try:
+                return Policy(self.trees())
+            except Refused as refused:
+                if refused.faults[0][0] in but or not self.take_out(refused.faults):
+                    return None
+        return None
+
+    def take_out(self, faults):
+        """Takes out what has faults; of things that share a name, one stays."""
+        if faults[0][0] in (31, 36):
+            faults = faults[1:] or faults
+        is_changed = False
+        for _, number, at, _, _ in faults:
+            module = self.modules[number]
+            if module.is_open:
+                is_changed |= take_out_at(module, at)
+        return is_changed
+
+
+def take_out_at(module, at):
+    """Takes out the innermost statement round a place."""
+    before = [
+        (module.starts[id(each)], body, each)
+        for body, each in statements_of(module.statements)
+        if module.starts.get(id(each), at + 1) <= at
+    ]
+    if not before:
+        return False
+    _, body, chosen = max(before, key=lambda found: found[0])
+    body[:] = [each for each in body if each is not chosen]
+    return True
+
+
+def odd_statement(rng, name):
+    """A statement whose shape, place or words are wrong, or nearly so. The name of a block round it may be of use."""
+    return rng.choice([odd_inherit, odd_call, odd_block, odd_macro, odd_macro])(rng, name)
+
+
+def odd_inherit(rng, name):
+    keyword = rng.choice([b"blockabstract", b"blockabstract", b"blockinherit"])
+    forms = [[], [name], [name], [b"." + name], [Quoted(name)], [[name]], [name, name], [b"1x"], [b"all"]]
+    return [keyword, *rng.choice(forms)]
+
+
+def odd_call(rng, _):
+    forms = [[], [Quoted(b"m")], [b"m", b"x"], [b"m", [], []], [[b"m"]], [b"all"], [b"1m"], [b"m", Quoted(b"")]]
+    return [b"call", *rng.choice(forms)]
+
+
+def odd_block(rng, name):
+    heads = [[], [[]], [b"all"], [b"1k"], [b".k"], [b"k.k"], [Quoted(b"k")], [b"j"]]
+    return [b"block", *rng.choice(heads), *odd_contents(rng, name)]
+
+
+def odd_macro(rng, name):
+    heads = [[b"p"], [b"w"], [b"w"], [b"all"], [Quoted(b"w")], []]
+    same = rng.choice([b"p", b"p", b"q", b"1p", b"all"])
+    kinds = rng.choices([b"type", b"role", b"string", b"name", b"class", b"bool", b"self"], k=rng.randrange(4))
+    odd_parameters = [
+        b"x", Quoted(b"x"), [b"type", b"p"], [[b"type"]], [[b"type", b"p", b"p"]], [[Quoted(b"type"), b"p"]],
+        [[b"type", Quoted(b"p")]], [[[b"type"], b"p"]], [[]],
+    ]
+    parameters = rng.choice(odd_parameters) if often(rng, 0.6) else [[kind, same] for kind in kinds]
+    return [b"macro", *rng.choice(heads), parameters, *odd_contents(rng, name)]
+
+
+def odd_contents(rng, name):
+    """Up to two items of a body."""
+    items = [
+        b"x", Quoted(b"x"), [], [Quoted(b"x")], [[b"type"]],
+        [b"type", b"p"], [b"role", b"p"], [b"user", b"p"], [b"user", b"q"], [b"type", b"1p"], [b"type", b"all"],
+        [b"foo", b"p"], [b"optional", b"p"], [b"class", b"p", []], [b"sid", b"1x"],
+        [b"macro", b"o", []], [b"block", b"p"],
+        [b"blockabstract", name], [b"blockabstract", b"all"], [b"blockabstract", b"1k"],
+    ]
+    return rng.sample(items, rng.choice([0, 1, 1, 2]))

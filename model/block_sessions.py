@@ -1,0 +1,115 @@
+"""Random sessions over policies with blocks and macros, as parts that can be left out."""
+from block_policies import NAMES, WRONG, Draft
+from pieces import bundle_of, import_bundle, install, often
+
+OBJECT_ROLE = b"object_r"
+MOST_ASKED = 12
+
+
+def blocks(rng):
+    """Policies with blocks, inheritance, macros and calls, right and wrong, and queries with qualified names."""
+    if often(rng, 0.01):
+        return too_many(rng)
+    draft = Draft(rng)
+    for _ in range(rng.choice([1, 1, 2, 2, 3])):
+        draft.add_module()
+    draft.add_base()
+    parts, policy = [], None
+    for size in (rng.choice([0.5, 1, 1, 1.5]), 0.4):
+        wrong = rng.choice(list(WRONG)) if often(rng, 0.4) else None
+        if parts:
+            draft.open_module()
+        draft.add_all(size, wrong)
+        loaded = draft.mend(but=WRONG.get(wrong, frozenset())) if often(rng, 0.9) else draft.policy()
+        policy = loaded or policy
+        parts += [*placing(rng, draft.open_texts()), b"LOAD\n", *queries(rng, policy)]
+    return parts
+
+
+def placing(rng, texts):
+    rng.shuffle(texts)
+    if often(rng, 0.1):
+        return [import_bundle(bundle_of(sorted(set(texts))))]
+    return [install(text) for text in texts]
+
+
+def queries(rng, policy):
+    if not policy:
+        return [b"AV u:r:a u:r:b file\n"] if often(rng, 0.1) else []
+    asked = sorted({(source, target or source, name) for source, target, name, _ in policy.rules})
+    if len(asked) > MOST_ASKED:
+        asked = rng.sample(asked, MOST_ASKED)
+    of_rules = [b"AV %s %s %s\n" % (*(any_context(rng, policy, each) for each in ends), name) for *ends, name in asked]
+    return of_rules + [query(rng, policy, asked) for _ in range(rng.randrange(2, 6))]
+
+
+def any_context(rng, policy, type_name):
+    """A context of a type that is valid where there is a user."""
+    return rng.choice(sorted(policy.names[b"user"]) or [b"u"]) + b":object_r:" + type_name
+
+
+def query(rng, policy, asked):
+    types = sorted(policy.names[b"type"]) or NAMES[b"type"]
+    classes = sorted(policy.names[b"class"]) or NAMES[b"class"]
+    source, target, class_name = rng.choice(types), rng.choice(types), rng.choice(classes)
+    if asked and often(rng, 0.7):
+        source, target, class_name = rng.choice(asked)
+    if often(rng, 0.03):
+        class_name = rng.choice([b"." + class_name, b"k.file", class_name.split(b".")[-1]])
+    return b"AV %s %s %s\n" % (context(rng, policy, source), context(rng, policy, target), class_name)
+
+
+def context(rng, policy, type_name):
+    """A context of a type: often of a role that has it, or of the role that has all."""
+    users = sorted(policy.names[b"user"]) or [b"u"]
+    roles = sorted({role for role, held in policy.pairs[b"roletype"] if held == type_name})
+    pairs = sorted(pair for pair in policy.pairs[b"userrole"] if pair[1] in roles)
+    if often(rng, 0.05):
+        type_name = rng.choice([b"." + type_name, type_name + b".a", type_name.split(b".")[-1], b""])
+    if pairs and often(rng, 0.6):
+        user, role = rng.choice(pairs)
+    elif often(rng, 0.85):
+        user, role = rng.choice(users), OBJECT_ROLE
+    else:
+        user, role = rng.choice(users), rng.choice([*sorted(policy.names[b"role"]), b"k.object_r"])
+    return b":".join((user, role, type_name))
+
+
+# ---- over a million instances
+
+MOST = 1_000_000
+FAULTY = [
+    b"", b"(macro loop () (call loop))(call loop)", b"(call m0 (a))",
+    b"(type)", b"(blockinherit nobody)", b"(block b0)",
+]
+
+
+def too_many(rng):
+    """One instance too many, or some more, with faults of the same step or without."""
+    over = rng.choice([1, 1, 2, 3, 1000])
+    text = (doubling_blocks if often(rng, 0.5) else doubling_calls)(MOST + over)
+    return [install(text), install(rng.choice(FAULTY)), b"LOAD\n"]
+
+
+def doubling_blocks(count, most=17):
+    """Blocks of so many instances together. A block that inherits the block of a number i brings 3 * 2^i."""
+    made = [b"(block b0 (type t))"]
+    made += [b"(block b%d (blockinherit b%d)(blockinherit b%d))" % (i, i - 1, i - 1) for i in range(1, most + 1)]
+    left = count - sum(3 * 2 ** i - 1 for i in range(most + 1))
+    for i in range(most, -1, -1):
+        while left >= 3 * 2 ** i:
+            made.append(b"(block c%d (blockinherit b%d))" % (len(made), i))
+            left -= 3 * 2 ** i
+    return b"".join(made) + b"(type a)" * left
+
+
+def doubling_calls(count, most=17):
+    """Calls of so many instances together. A call of the macro of a number i brings 3 * 2^i - 1."""
+    made = [b"(macro m0 () (type t))"]
+    made += [b"(macro m%d () (call m%d)(call m%d))" % (i, i - 1, i - 1) for i in range(1, most + 1)]
+    left = count - len(made)
+    for i in range(most, -1, -1):
+        while left >= 3 * 2 ** i - 1:
+            made.append(b"(call m%d)" % i)
+            left -= 3 * 2 ** i - 1
+    return b"".join(made) + b"(type a)" * left

@@ -1,0 +1,119 @@
+#!/usr/bin/env python3
+"""Runs the worked examples of the rules on the model. Status: 0 all are answered as the rules say, 1 one is not.
+
+Each example is its modules, and the requests with the replies that the rules give for them. With --long there are also
+examples of nearly a million instances, which take minutes.
+"""
+import sys
+
+import model
+
+FIRST = (
+    b"(class file (open read))(user u)(role r)(type a)(type b)(userrole u r)(roletype r a)(roletype r b)"
+    b"(allow a b (file (read)))"
+)
+AB, BA = b"AV u:r:a u:r:b file", b"AV u:r:b u:r:a file"
+
+
+def faults(*lines):
+    return [(b"LOAD", b"\n".join([b"FAULTS %d" % len(lines), *lines]))]
+
+
+def accepted(*asked):
+    return [(b"LOAD", b"OK"), *asked]
+
+
+def asked_of(type_name, reply):
+    return b"AV u:r:%s u:r:a file" % type_name, reply
+
+
+def doubling(count):
+    blocks = [b"(block b0 (type t))"]
+    blocks += [b"(block b%d (blockinherit b%d)(blockinherit b%d))" % (i, i - 1, i - 1) for i in range(1, count)]
+    return b"".join(blocks)
+
+
+def doubling_calls(last):
+    macros = [b"(macro m0 () (type t))"]
+    macros += [b"(macro m%d () (call m%d)(call m%d))" % (i, i - 1, i - 1) for i in range(1, last + 1)]
+    return b"".join([*macros, b"(call m%d)" % last])
+
+
+TOO_MANY = faults(b"38 0 0 . -")
+NO_ARGUMENT = b"(macro m ((type p)) (type b)(allow p .a (file (open))))(block k (call m (b)))(roletype r k.b)"
+NESTED_CALL = (
+    b"(block lib (type p)(macro in () (type p)(allow p .b (file (open))))(macro out () (call in)))"
+    b"(block n (call lib.out))(roletype r n.p)(roletype r lib.p)"
+)
+LIBRARY = (
+    b"(block lib (type p)(macro m ((type arg)) (allow arg a (file (open)))))"
+    b"(block tpl (blockabstract tpl)(type p)(call lib.m (p)))(block n (blockinherit tpl))"
+    b"(roletype r n.p)(roletype r lib.p)"
+)
+
+# What it shows, the modules, the requests and replies.
+EXAMPLES = [
+    ("no module", [], accepted((AB, b"ERR 72 1"))),
+    ("before a load", [], [(AB, b"ERR 71")]),
+    ("a first answer", [FIRST], accepted((AB, b"OK read - open,read"), (b"AV u:r:a u:r:b dir", b"ERR 73"))),
+    ("unresolved", [FIRST + b"(allow a nobody (file (read)))"], faults(b"41 0 132 . nobody")),
+    ("two classes", [b"(class w (p))", b"(class w (q))"], faults(b"36 0 7 . w", b"36 1 7 . w")),
+    ("no permissive types", [FIRST + b"(typepermissive a)"], faults(b"22 0 123 . typepermissive")),
+    ("a block and a macro of one name", [b"(block b)(macro b ())"], faults(b"31 0 7 . b", b"31 0 16 . b")),
+    ("no such block", [b"(blockinherit nob)"], faults(b"32 0 14 . nob")),
+    ("a block inherits itself", [b"(block b (blockinherit b))"], faults(b"33 0 23 b b")),
+    ("a parameter twice", [b"(macro m ((type p)(type p)))"], faults(b"27 0 24 . p")),
+    ("a parameter three times", [b"(macro m ((type p)(type p)(role p)))"], faults(b"27 0 24 . p", b"27 0 32 . p")),
+    ("too few arguments", [b"(macro m ((type p)))(call m ())"], faults(b"35 0 26 . m")),
+    ("a macro calls itself", [b"(macro m () (call m))(call m)"], faults(b"34 0 18 . m")),
+    ("two macros in a template", [b"(block t (blockabstract t)(macro m ())(macro m ()))"], faults(
+        b"31 0 33 t m", b"31 0 45 t m",
+    )),
+    ("a name is fine elsewhere", [b"(block b (type b))(macro m ((type b)))"], accepted()),
+    ("arguments keep their scope", [FIRST + LIBRARY], accepted(
+        asked_of(b"n.p", b"OK open - open,read"), asked_of(b"lib.p", b"OK - - open,read"),
+    )),
+    ("declarations of the body are found by an argument", [FIRST + NO_ARGUMENT], accepted(
+        asked_of(b"k.b", b"OK open - open,read"), asked_of(b"b", b"OK - - open,read"),
+    )),
+    ("the home scope of a nested call", [FIRST + NESTED_CALL], accepted(
+        (b"AV u:r:n.p u:r:b file", b"OK open - open,read"), (b"AV u:r:lib.p u:r:b file", b"OK - - open,read"),
+    )),
+    ("a parameter of another macro", [
+        FIRST + b"(macro in () (allow e .a (file (open))))(macro out ((type e)) (call in))(type c)(call out (c))"
+    ], faults(b"41 0 143 . e")),
+    ("doubling blocks, one too many", [doubling(18), b"(block b18 (blockinherit b17)(blockinherit b17))"], TOO_MANY),
+    ("doubling calls, one too many", [doubling_calls(19)], TOO_MANY),
+]
+
+# Examples of nearly a million instances.
+LONG = [
+    ("doubling blocks", [doubling(18)], accepted()),
+    ("doubling calls", [doubling_calls(18)], accepted()),
+    ("many statements", [b"(type a)" * 500_000, b"(type b)" * 500_000], accepted()),
+    ("many statements, one too many", [b"(type a)" * 500_000, b"(type b)" * 500_000, b"(type c)"], TOO_MANY),
+]
+
+
+def answered(modules, asked):
+    host = model.Host()
+    for text in modules:
+        host.install(text)
+    return model.run(b"".join(request + b"\n" for request, _ in asked), host)[0]
+
+
+def main():
+    examples = EXAMPLES + (LONG if sys.argv[1:] == ["--long"] else [])
+    wrong = 0
+    for shown, modules, asked in examples:
+        wanted = b"".join(reply + b"\n" for _, reply in asked)
+        replies = answered(modules, asked)
+        if replies != wanted:
+            wrong += 1
+            print(f"{shown}: the rules have {wanted!r}, the model has {replies!r}")
+    print(f"{len(examples)} examples, {wrong} wrong")
+    sys.exit(1 if wrong else 0)
+
+
+if __name__ == "__main__":
+    main()
