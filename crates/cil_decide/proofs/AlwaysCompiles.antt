@@ -1,5 +1,5 @@
 -- Readable modules compile to tables or have a list of faults: step after step, as the compiler takes them.
-use Rattle.std.proofs.Common.{◌≡◌, ℕ, false, List, map, refl, sym, ap, inl, inr}
+use Rattle.std.proofs.Common.{◌≡◌, ℕ, false, List, map, refl, inl, inr}
 use Rattle.cil_sexpr.specs.Lists.{Lists}
 use Rattle.cil_syntax.specs.declared.failure.Failure.TheVariants.{Faults}
 use Rattle.cil_syntax.specs.declared.fault.Fault.{Fault}

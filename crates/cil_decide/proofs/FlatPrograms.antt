@@ -1,7 +1,7 @@
 -- The statements of policies without blocks and macros stand at the top of their modules, and their items in the global
 -- namespace.
 use Rattle.std.proofs.Common.{◌≡◌, ℕ, true, false, List, [], map, refl, sym, ◌∙◌, ap}
-use Rattle.std.specs.Prelude.{Contains, Option, Some, None}
+use Rattle.std.specs.Prelude.{Contains, Some}
 use Rattle.std.proofs.lemmas.Option.{none-some}
 use Rattle.cil_sexpr.specs.MadeLists.{from_map}
 use Rattle.cil_sexpr.specs.Lists.{Lists}
@@ -11,7 +11,7 @@ use Rattle.cil_syntax.specs.declared.kind.Keyword.TheVariants as keywords
 use Rattle.cil_syntax.specs.declared.term.Spot.{Spot}
 use Rattle.cil_syntax.specs.Table.{entry_of, plain}
 use Rattle.cil_syntax.specs.Written.{Context, FoundIn, IsItem, IsWritten, Written, at_top, body_of, inside, top, within, written}
-use Rattle.cil_blocks.specs.Contents.{Standing, Stands, in_block, in_optional as in_standing_optional, inherited, is_block, is_inheriting, is_named, standing_cmp, top as standing_on_top}
+use Rattle.cil_blocks.specs.Contents.{Standing, Stands, in_block, in_optional as in_standing_optional, inherited, is_block, is_inheriting, is_named, top as standing_on_top}
 use Rattle.cil_blocks.specs.Laws.{IsFlat}
 use Rattle.cil_macros.specs.Calls.{IsPlaced, called, in_optional, placed_cmp, stands}
 use Rattle.cil_macros.specs.Item.{Item}

@@ -1,13 +1,12 @@
 -- What the item at a place says, by the statement that is written.
-use Rattle.std.proofs.Common.{◌≡◌, ℕ, true, List, sym, ◌∙◌, ap, refl}
-use Rattle.cil_syntax.specs.declared.kind.Keyword.{Keyword}
+use Rattle.std.proofs.Common.{◌≡◌, ℕ, true, sym, ◌∙◌, ap, refl}
 use Rattle.cil_syntax.specs.declared.kind.Keyword.TheVariants as keywords
 use Rattle.cil_syntax.specs.declared.program.Statement.{Statement}
 use Rattle.cil_syntax.specs.declared.term.Word.{Word}
 use Rattle.cil_syntax.specs.Program.{statement_of}
 use Rattle.cil_syntax.specs.Said.{args_of}
 use Rattle.cil_syntax.specs.Scopes.{ScopedWord}
-use Rattle.cil_syntax.specs.Terms.{Terms, nil}
+use Rattle.cil_syntax.specs.Terms.{nil}
 use Rattle.cil_syntax.specs.Written.{Statement as Said, Written}
 use Rattle.cil_blocks.specs.Entries.{nothing}
 use Rattle.cil_macros.specs.Item.{all_replaced}

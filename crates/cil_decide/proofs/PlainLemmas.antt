@@ -2,7 +2,7 @@
 -- symbols whose qualified names are spelled alike are one.
 use Rattle.std.specs.Prelude.{Contains, Option, Some, None, reverse}
 use Rattle.std.specs.Option.{option_map_or}
-use Rattle.std.proofs.Common.{◌≡◌, ℕ, true, false, List, [], ◌∷◌, ◌++◌, map, refl, sym, ◌∙◌, ap, subst, inl, inr}
+use Rattle.std.proofs.Common.{◌≡◌, ℕ, true, false, List, [], ◌∷◌, map, refl, sym, ◌∙◌, ap, subst, inl, inr}
 use Rattle.std.proofs.lemmas.List.{reverse-append}
 use Rattle.std.proofs.lemmas.List.Elements.{Contains-append_cases}
 use Rattle.cil_sexpr.specs.Lists.{Lists, contains_cases, contains_here, contains_later, contains_none}
@@ -18,7 +18,7 @@ use Rattle.cil_syntax.specs.Spelling.{is_name}
 use Rattle.cil_syntax.specs.Table.{entry_of}
 use Rattle.cil_syntax.specs.Terms.{Name, Terms, cons}
 use Rattle.cil_syntax.specs.Written.{Named, Written, bytes_of, named_in_front}
-use Rattle.cil_blocks.specs.Contents.{Standing, Stands, in_block, in_optional as in_standing_optional, inherited, is_block, standing_cmp, top}
+use Rattle.cil_blocks.specs.Contents.{Standing, Stands, in_block, in_optional as in_standing_optional, inherited, is_block, top}
 use Rattle.cil_blocks.specs.declared.namespaces.Space.{Space}
 use Rattle.cil_blocks.specs.Namespaces.{space_at}
 use Rattle.cil_macros.specs.Calls.{IsPlaced, called, in_optional, placed_cmp, stands}
@@ -29,7 +29,7 @@ use Rattle.cil_macros.proofs.ItemLemmas.{said_as_written}
 use Rattle.cil_names.specs.declared.entry.Entry.{Entry}
 use Rattle.cil_names.specs.Declarations.{Declaration, Declared, IsDeclaration, Symbol, by, declared_by, name_of, object}
 use Rattle.cil_names.specs.Entries.{AreEntries}
-use Rattle.cil_names.specs.Numbers.{ArePlain, ArePlainNames, IsPlain}
+use Rattle.cil_names.specs.Numbers.{ArePlain, ArePlainNames}
 use Rattle.cil_names.proofs.DeclareDecided.{symbol_by}
 use Rattle.cil_names.proofs.Qualified.{plain_name, spelled_one}
 use Rattle.cil_decide.proofs.WideClasses.{in_front, of_own_kind}

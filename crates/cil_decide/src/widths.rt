@@ -1,12 +1,12 @@
 //! Classes with more permissions than a mask has bits.
 
-ghost use Rattle.std.specs.Prelude.{◌≡◌, ◌<◌, ◌↔◌, ◌⊎◌, Contains, List, MatchOption, OnOk, length};
+ghost use Rattle.std.specs.Prelude.{◌≡◌, ◌<◌, ◌↔◌, ◌⊎◌, Contains, MatchOption, OnOk, length};
 ghost use Rattle.cil_syntax.specs.declared.fault.Fault.{Fault as AFault};
 ghost use Rattle.cil_syntax.specs.declared.code.FaultCode.TheVariants as causes;
 ghost use Rattle.cil_syntax.specs.Refusal.{Answers};
 ghost use Rattle.cil_syntax.specs.Reported.{fault_at};
 ghost use Rattle.cil_macros.specs.Items.{item_at, items_in, namespaces_in};
-ghost use Rattle.cil_names.specs.Entries.{AreEntries, AreOrdered, is_in};
+ghost use Rattle.cil_names.specs.Entries.{AreEntries, is_in};
 ghost use Rattle.cil_names.specs.Unresolved.{ArePermissions, listed_at};
 ghost use Rattle.cil_decide.specs.Faults.{ClassFault};
 ghost use Rattle.cil_decide.specs.Widths.{IsWide};

@@ -1,8 +1,8 @@
-use Rattle.std.proofs.Common.{◌≡◌, ◌∙◌, List, subst, sym}
+use Rattle.std.proofs.Common.{◌∙◌, List, subst, sym}
 use Rattle.cil_syntax.specs.declared.fault.Fault.{Fault}
 use Rattle.cil_syntax.specs.Refusal.{Fails}
 use Rattle.cil_blocks.specs.declared.namespaces.Space.{Space}
-use Rattle.cil_macros.specs.Item.{OptSet, nobody}
+use Rattle.cil_macros.specs.Item.{OptSet}
 use Rattle.cil_macros.specs.Items.{items_in, namespaces_in}
 use Rattle.cil_names.specs.Entries.{AreEntries}
 use Rattle.cil_names.specs.Faults.{ResolveFault}
@@ -16,7 +16,7 @@ use Rattle.cil_decide.proofs.JoinLemmas.{none_enabled}
 use Rattle.cil_decide.proofs.compiler.placed_tables.Goals as goal
 
 pub permissions_of-requires : goal.permissions_of-requires
-permissions_of-requires c = c.in_ok-names.ensures.0.ordered
+permissions_of-requires c = record { ordered = c.in_ok-names.ensures.0.ordered }
 
 pub words_of-requires-clause-spaces : goal.words_of-requires-clause-spaces
 words_of-requires-clause-spaces c = c.namespaces.ensures.value

@@ -1,10 +1,10 @@
 use Rattle.std.specs.List.{list_all}
-use Rattle.std.specs.Prelude.{Contains, length}
+use Rattle.std.specs.Prelude.{length}
 use Rattle.std.proofs.Common.{◌≡◌, ◌<◌, ◌≤◌, ◌∙◌, ap, rules, subst, sym}
 use Rattle.cil_sexpr.specs.Places.{get_contains}
 use Rattle.cil_blocks.specs.Namespaces.{space_at}
 use Rattle.cil_syntax.specs.declared.kind.Sign.TheVariants as signs
-use Rattle.cil_macros.specs.Items.{item_at, items_in, namespaces_in, word_at}
+use Rattle.cil_macros.specs.Items.{item_at, items_in, word_at}
 use Rattle.cil_macros.proofs.ItemLemmas.{item_there}
 use Rattle.cil_names.specs.Entries.{HasNoEntryIn, IsEntryIn, is_in}
 use Rattle.cil_names.specs.Unresolved.{listed_at}
