@@ -227,7 +227,11 @@ const NUMBERED: &[(usize, &[u8], usize)] = &[
 fn each_namespace_has_one_number(rt: HostRuntime) -> Result<(), Fail> {
     for &(outer, name, wanted) in NUMBERED {
         let mut spaces = spaces(rt.alloc())?;
-        assert_eq!(rt; number(&mut spaces, outer, name)?, wanted, "{outer} {name:?}");
+        assert_eq!(rt;
+            number(&mut spaces, outer, name)?,
+            wanted,
+            "{outer} {name:?}"
+        );
     }
     Ok(())
 }

@@ -195,7 +195,7 @@ const LISTED: &[(&str, &str)] = &[
     // In byte order, each once.
     (
         "(block p (block q (class w (b a_ a B a1 b a-))))",
-        "[Role object_r()][Block p()][Block p.q()][Class p.q.w(B a a- a1 a_ b)]",
+        "[Role object_r()][Class p.q.w(B a a- a1 a_ b)]",
     ),
     (
         "(class w (q p))(class w (q p))",
@@ -203,7 +203,7 @@ const LISTED: &[(&str, &str)] = &[
     ),
     (
         "(block p (class w (c a))(class v (d))(block q (class w ())))(block r (class w (b a)))",
-        "[Role object_r()][Block p()][Block r()][Block p.q()][Class p.v(d)][Class p.w(a c)][Class r.w(a b)][Class p.q.w()]",
+        "[Role object_r()][Class p.v(d)][Class p.w(a c)][Class r.w(a b)][Class p.q.w()]",
     ),
     (
         "(class w (p))(type w)(type p)(allow p w (w (p)))(macro m ((class w)))",
@@ -212,7 +212,7 @@ const LISTED: &[(&str, &str)] = &[
     // A class of a template, in each namespace that inherits it.
     (
         "(block t (blockabstract t)(class w (q p)))(block n (blockinherit t))(block k (blockinherit t)(class v (p)))",
-        "[Block k()][Block n()][Role object_r()][Block t()][Class n.w(p q)][Class k.v(p)][Class k.w(p q)]",
+        "[Role object_r()][Class n.w(p q)][Class k.v(p)][Class k.w(p q)]",
     ),
 ];
 

@@ -175,7 +175,10 @@ const IN_MACROS: &[(&str, &[Row])] = &[
         &[
             (&["(type m)(call m (a))"], "41 0 14 . m\n"),
             (&["(block m)(block n (call m (a)))"], "41 0 24 n m\n"),
-            (&["(block n (macro m ()))(block k (call m ()))"], "41 0 37 k m\n"),
+            (
+                &["(block n (macro m ()))(block k (call m ()))"],
+                "41 0 37 k m\n",
+            ),
         ],
     ),
     (
@@ -188,7 +191,9 @@ const IN_MACROS: &[(&str, &[Row])] = &[
                 "[Macro lib.m, Type_ n.p][Role z, Type_ n.p][Role z, Type_ lib.p]",
             ),
             (
-                &["(role z)(block lib (type s)(macro m ((type x)) (roletype z x)))(block n (call lib.m (s)))"],
+                &[
+                    "(role z)(block lib (type s)(macro m ((type x)) (roletype z x)))(block n (call lib.m (s)))",
+                ],
                 "41 0 85 n s\n",
             ),
             // Passed on, and one that a body gives.
@@ -199,7 +204,9 @@ const IN_MACROS: &[(&str, &[Row])] = &[
                 "[Macro b, Type_ n.t][Macro a, Type_ n.t][Role object_r, Type_ n.t]",
             ),
             (
-                &["(macro a ((type y)) (roletype object_r y))(block n (type t)(macro b () (call a (t))))(call n.b ())"],
+                &[
+                    "(macro a ((type y)) (roletype object_r y))(block n (type t)(macro b () (call a (t))))(call n.b ())",
+                ],
                 "[Macro n.b][Macro a, Type_ n.t][Role object_r, Type_ n.t]",
             ),
         ],
@@ -208,7 +215,9 @@ const IN_MACROS: &[(&str, &[Row])] = &[
         "what a body declares is looked up where the outermost call stands",
         &[
             (
-                &["(role z)(type q)(block lib (type q)(macro m () (type q)(roletype z q)))(block n (call lib.m ()))"],
+                &[
+                    "(role z)(type q)(block lib (type q)(macro m () (type q)(roletype z q)))(block n (call lib.m ()))",
+                ],
                 "[Macro lib.m][Role z, Type_ n.q]",
             ),
             (
@@ -219,7 +228,9 @@ const IN_MACROS: &[(&str, &[Row])] = &[
             ),
             // In the kind that it has there.
             (
-                &["(block lib (role q)(macro m () (type q)(roletype q q)))(block n (call lib.m ()))"],
+                &[
+                    "(block lib (role q)(macro m () (type q)(roletype q q)))(block n (call lib.m ()))",
+                ],
                 "[Macro lib.m][Role lib.q, Type_ n.q]",
             ),
         ],
@@ -228,7 +239,9 @@ const IN_MACROS: &[(&str, &[Row])] = &[
         "a class that is an argument, and its permissions",
         &[
             (
-                &["(type a)(type b)(class file (read))(macro m ((class c)) (allow a b (c (read))))(call m (file))"],
+                &[
+                    "(type a)(type b)(class file (read))(macro m ((class c)) (allow a b (c (read))))(call m (file))",
+                ],
                 "[Macro m, Class file][Type_ a, Type_ b, Class file, -]",
             ),
             // The class of the argument, and another of that name.
@@ -240,11 +253,15 @@ const IN_MACROS: &[(&str, &[Row])] = &[
             ),
             // A permission is no parameter.
             (
-                &["(type a)(class file (c))(macro m ((class c)) (allow a self (c (c))))(call m (file))"],
+                &[
+                    "(type a)(class file (c))(macro m ((class c)) (allow a self (c (c))))(call m (file))",
+                ],
                 "[Macro m, Class file][Type_ a, Class file, -]",
             ),
             (
-                &["(type a)(class c (q))(macro m ((class k)) (allow a self (k (read))))(block n (call m (c)))"],
+                &[
+                    "(type a)(class c (q))(macro m ((class k)) (allow a self (k (read))))(block n (call m (c)))",
+                ],
                 "41 0 60 n read\n",
             ),
             (
