@@ -1,7 +1,7 @@
 //! A host's calls on worked policies, as tables of calls and their answers.
 
 use crate::module_sets::{DIGEST_OF_A, DIGEST_OF_B};
-use crate::policies::{BLOCKS_IN_ORDERS, FIRST};
+use crate::policies::{FIRST, HEIRS, LIB, TOP};
 use cil_decide::Decision;
 use cil_host::{Host, ListLine, QueryFault};
 use cil_modset::{BundleError, BundleFault};
@@ -226,9 +226,9 @@ const WORKED: &[(&str, &[Call])] = &[
     (
         "blocks inherit from other modules",
         &[
-            Call::Install(BLOCKS_IN_ORDERS[0][0]),
-            Call::Install(BLOCKS_IN_ORDERS[0][1]),
-            Call::Install(BLOCKS_IN_ORDERS[0][2]),
+            Call::Install(LIB),
+            Call::Install(HEIRS),
+            Call::Install(TOP),
             Call::Load,
             Call::Query(b"u:r:n.t", b"u:r:n.t", b"file", OPEN),
             Call::Query(b"u:r:k.t", b"u:r:n.t", b"file", READ),

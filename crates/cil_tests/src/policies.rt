@@ -29,13 +29,14 @@ pub(crate) const ORDERS: &[[&str; 3]] = &[
 
 /// Three modules of blocks that inherit from one another, and a macro of a template: types `t`, `n.t` and `k.t` that may open
 /// themselves, of which `k.t` and `t` may read `n.t`.
-const LIB: &str =
+pub(crate) const LIB: &str =
     "(block lib (blockabstract lib)(type t)(macro uses ((type s)) (roletype r s)(allow s self (file (open))))(call uses (t)))";
 
-const HEIRS: &str =
+pub(crate) const HEIRS: &str =
     "(block k (blockinherit n)(allow t n.t (file (read))))(block n (blockinherit lib))";
 
-const TOP: &str = "(user u)(role r)(userrole u r)(class file (read open))(blockinherit k)";
+pub(crate) const TOP: &str =
+    "(user u)(role r)(userrole u r)(class file (read open))(blockinherit k)";
 
 /// The three in each order.
 pub(crate) const BLOCKS_IN_ORDERS: &[[&str; 3]] = &[
