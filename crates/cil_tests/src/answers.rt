@@ -6,29 +6,25 @@ use cil_blocks::{Namespaces, Spaces, inherit};
 use cil_macros::{Instances, expand};
 use cil_modset::ModuleSet;
 use cil_names::Entry;
-use cil_syntax::{Program, written};
+use cil_syntax::{FaultList, Program, render, written};
 use std::alloc::Global;
-use std::test::Fail;
 
 /// A question about all that is placed.
 pub(crate) trait Question {
-    /// What is answered.
-    type Answer;
-
-    /// The answer.
-    fn answer(&self, alloc: Global, instances: &Instances) -> Self::Answer;
+    /// The answer in words. None where there is no memory.
+    fn answer(&self, alloc: Global, instances: &Instances) -> Option<String>;
 }
 
 /// The answer for what stands in blocks. None where a call is wrong, or there is no memory.
-fn expanded<Q: Question>(alloc: Global, spaces: &Spaces, question: &Q) -> Option<Q::Answer> {
+fn expanded<Q: Question>(alloc: Global, spaces: &Spaces, question: &Q) -> Option<String> {
     match expand(alloc, spaces) {
-        Ok(instances) => Some(question.answer(alloc, &instances)),
+        Ok(instances) => question.answer(alloc, &instances),
         Err(_) => None,
     }
 }
 
 /// The same for what is written.
-fn inherited<Q: Question>(alloc: Global, program: &Program, question: &Q) -> Option<Q::Answer> {
+fn inherited<Q: Question>(alloc: Global, program: &Program, question: &Q) -> Option<String> {
     match inherit(alloc, program) {
         Ok(spaces) => expanded(alloc, &spaces, question),
         Err(_) => None,
@@ -36,7 +32,7 @@ fn inherited<Q: Question>(alloc: Global, program: &Program, question: &Q) -> Opt
 }
 
 /// The same for modules.
-fn answer_of<Q: Question>(alloc: Global, modules: &ModuleSet, question: &Q) -> Option<Q::Answer> {
+fn answer_of<Q: Question>(alloc: Global, modules: &ModuleSet, question: &Q) -> Option<String> {
     match written(alloc, modules) {
         Ok(program) => inherited(alloc, &program, question),
         Err(_) => None,
@@ -48,31 +44,18 @@ pub(crate) fn answer_to<Q: Question>(
     alloc: Global,
     texts: &[&str],
     question: &Q,
-) -> Option<Q::Answer> {
+) -> Option<String> {
     match set_of(alloc, texts) {
         Ok(modules) => answer_of(alloc, &modules, question),
         Err(_) => None,
     }
 }
 
-/// The answer in words for some texts.
-pub(crate) fn words_for<Q: Question<Answer = Result<String, Fail>>>(
-    alloc: Global,
-    texts: &[&str],
-    question: &Q,
-) -> Result<String, Fail> {
-    answer_to(alloc, texts, question).ok_or("nothing is placed")?
-}
-
-/// How many of something there are for a text, or how many faults; counted once more where a growth is refused.
-pub(crate) fn counted_at_last<Q: Question<Answer = Option<Result<usize, usize>>>>(
-    alloc: Global,
-    text: &str,
-    question: &Q,
-) -> Option<Result<usize, usize>> {
-    match answer_to(alloc, &[text], question) {
-        Some(Some(count)) => Some(count),
-        _ => answer_to(alloc, &[text], question)?,
+/// The lines of faults.
+pub(crate) fn lines(alloc: Global, faults: &FaultList) -> Option<String> {
+    match render(alloc, faults) {
+        Ok(bytes) => String::from_utf8(bytes).ok(),
+        Err(_) => None,
     }
 }
 
@@ -82,15 +65,14 @@ pub(crate) fn show_entry(
     out: &mut String,
     spaces: &Namespaces,
     entry: &Entry,
-) -> Result<(), Fail> {
+) -> Option<()> {
     if entry.space > spaces.len() {
-        return Err(Fail::from("no namespace"));
+        return None;
     }
-    let space = spelled(alloc, spaces, entry.space)?;
-    let space = str::from_utf8(space.as_slice()).ok().ok_or("no text")?;
+    let space = spelled(alloc, spaces, entry.space).ok()?;
+    let space = str::from_utf8(space.as_slice()).ok()?;
     let dot = if entry.space > 0 { "." } else { "" };
-    let name = str::from_utf8(entry.name.as_slice()).ok().ok_or("no text")?;
+    let name = str::from_utf8(entry.name.as_slice()).ok()?;
     let kind = entry.kind;
-    write!(out, "{kind:?} {space}{dot}{name}")?;
-    Ok(())
+    write!(out, "{kind:?} {space}{dot}{name}").ok()
 }

@@ -1,11 +1,10 @@
 //! What modules with blocks and macros declare.
 
-use crate::answers::{Question, counted_at_last, show_entry, words_for};
-use crate::policies::lines_of;
+use crate::answers::{Question, answer_to, lines, show_entry};
 use cil_blocks::Namespaces;
 use cil_macros::Instances;
 use cil_names::{Names, declare};
-use cil_syntax::{Failure, render};
+use cil_syntax::Failure;
 use std::alloc::Global;
 use std::test::Fail;
 
@@ -13,30 +12,28 @@ use std::test::Fail;
 struct DeclaredNames {}
 
 impl Question for DeclaredNames {
-    type Answer = Result<String, Fail>;
-
-    fn answer(&self, alloc: Global, instances: &Instances) -> Result<String, Fail> {
+    fn answer(&self, alloc: Global, instances: &Instances) -> Option<String> {
         match declare(alloc, instances) {
             Ok(names) => shown(alloc, instances.namespaces(), &names),
-            Err(Failure::Faults(faults)) => lines_of(render(alloc, &faults)?),
-            Err(Failure::NoMemory) => Err(Fail::from("no memory")),
+            Err(Failure::Faults(faults)) => lines(alloc, &faults),
+            Err(Failure::NoMemory) => None,
         }
     }
 }
 
 /// The kinds and qualified names of what is declared, each in brackets. There are no optionals, so each is always declared. Blocks
 /// are not among them: no word of a policy names one.
-fn shown(alloc: Global, spaces: &Namespaces, names: &Names) -> Result<String, Fail> {
+fn shown(alloc: Global, spaces: &Namespaces, names: &Names) -> Option<String> {
     let mut out = String::new(alloc);
     for entry in names.entries() {
-        write!(out, "[")?;
+        write!(out, "[").ok()?;
         show_entry(alloc, &mut out, spaces, entry)?;
         if !entry.always || !entry.rounds.is_empty() {
-            write!(out, " at times")?;
+            write!(out, " at times").ok()?;
         }
-        write!(out, "]")?;
+        write!(out, "]").ok()?;
     }
-    Ok(out)
+    Some(out)
 }
 
 /// What rows are about, and modules with what they declare or the lines of their faults.
@@ -145,35 +142,27 @@ const DECLARED: &[(&str, &[(&[&str], &str)])] = &[
 fn modules_declare_names_or_clash(rt: HostRuntime) -> Result<(), Fail> {
     for &(name, rows) in DECLARED {
         for &(texts, wanted) in rows {
-            assert_eq!(rt;
-                words_for(rt.alloc(), texts, &DeclaredNames {})?.as_str(),
-                wanted,
-                "{name}: {texts:?}"
-            );
+            let got = answer_to(rt.alloc(), texts, &DeclaredNames {}).ok_or("no answer")?;
+            assert_eq!(rt; got.as_str(), wanted, "{name}: {texts:?}");
         }
     }
     Ok(())
 }
 
-/// How many names are declared, or how many faults there are. None where there is no memory.
-struct Count {}
-
-impl Question for Count {
-    type Answer = Option<Result<usize, usize>>;
-
-    fn answer(&self, alloc: Global, instances: &Instances) -> Option<Result<usize, usize>> {
-        match declare(alloc, instances) {
-            Ok(names) => Some(Ok(names.entries().len())),
-            Err(Failure::Faults(faults)) => Some(Err(faults.len())),
-            Err(Failure::NoMemory) => None,
-        }
-    }
+/// Whether a text has this answer, at once or when it is asked again.
+fn is_answered(alloc: Global, text: &str, want: &str) -> bool {
+    let answer = match answer_to(alloc, &[text], &DeclaredNames {}) {
+        None => answer_to(alloc, &[text], &DeclaredNames {}),
+        answer => answer,
+    };
+    answer.is_some_and(|got| got.as_str() == want)
 }
 
 #[test]
 fn a_refused_growth_is_no_clash(rt: HostRuntime) {
     let text = "(macro m () (type x))(block p (call m ())(type x))";
-    assert!(rt; counted_at_last(rt.alloc(), text, &Count {}) == Some(Ok(3)));
+    let names = "[Macro m][Role object_r][Type_ p.x]";
+    assert!(rt; is_answered(rt.alloc(), text, names));
     let text = "(block p (class w (p))(class w (q)))";
-    assert!(rt; counted_at_last(rt.alloc(), text, &Count {}) == Some(Err(2)));
+    assert!(rt; is_answered(rt.alloc(), text, "36 0 16 p w\n36 0 29 p w\n"));
 }

@@ -3,7 +3,7 @@
 ghost use Rattle.cil_macros.specs.Items.{items_in, namespaces_in};
 ghost use Rattle.cil_names.specs.Entries.{AreEntries};
 
-use crate::answers::{Question, show_entry, words_for};
+use crate::answers::{Question, answer_to, show_entry};
 use crate::look_ups::word;
 use cil_macros::Instances;
 use cil_names::{Names, are_numbers, declare, permissions_of};
@@ -90,51 +90,42 @@ struct PermissionWord {
 }
 
 impl Question for PermissionWord {
-    type Answer = Result<String, Fail>;
-
-    fn answer(&self, alloc: Global, instances: &Instances) -> Result<String, Fail> {
-        let names = declare(alloc, instances)?;
+    fn answer(&self, alloc: Global, instances: &Instances) -> Option<String> {
+        let names = declare(alloc, instances).ok()?;
         let mut out = String::new(alloc);
         match named(alloc, &names, instances, self.row)? {
             Some(d) => {
-                let entry = names.entries().get(d).ok_or("no entry")?;
+                let entry = names.entries().get(d)?;
                 show_entry(alloc, &mut out, instances.namespaces(), entry)?;
             }
-            None => write!(out, "-")?,
+            None => write!(out, "-").ok()?,
         }
-        Ok(out)
+        Some(out)
     }
 }
 
-/// The number of the class that the permission word of a row names.
-fn named(
-    alloc: Global,
-    names: &Names,
-    instances: &Instances,
-    row: Row,
-) -> Result<Option<usize>, Fail>
+/// The number of the class that the permission word of a row names. None where there is no memory, or no such namespace.
+fn named(alloc: Global, names: &Names, instances: &Instances, row: Row) -> Option<Option<usize>>
     requires { AreEntries (namespaces_in instances.now) (items_in instances.now) names.now }
 {
     let (class, permission, scope, _) = row;
     let spaces = instances.namespaces();
     if !are_numbers(spaces, scope) {
-        return Err(Fail::from("no namespace"));
+        return None;
     }
-    let permissions = permissions_of(alloc, names, instances)?;
+    let permissions = permissions_of(alloc, names, instances).ok()?;
     let class = word(class, Sign::Classes);
     let permission = word(permission, Sign::Permission);
-    Ok(names.resolve_permission(spaces, permissions.as_slice(), &class, &permission, scope))
+    Some(names.resolve_permission(spaces, permissions.as_slice(), &class, &permission, scope))
 }
 
 #[test]
 fn permission_words_name_the_class_that_has_them(rt: HostRuntime) -> Result<(), Fail> {
     for &(name, text, rows) in NAMED {
         for (i, &row) in rows.iter().enumerate() {
-            assert_eq!(rt;
-                words_for(rt.alloc(), &[text], &PermissionWord { row })?.as_str(),
-                row.3,
-                "{name}, row {i}"
-            );
+            let question = PermissionWord { row };
+            let got = answer_to(rt.alloc(), &[text], &question).ok_or("no answer")?;
+            assert_eq!(rt; got.as_str(), row.3, "{name}, row {i}");
         }
     }
     Ok(())

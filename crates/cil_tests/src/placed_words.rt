@@ -1,60 +1,40 @@
-//! What the words of all that is placed mean, and the want of memory where this is asked.
+//! What the words of modules with blocks and macros mean, and the want of memory where this is asked.
 
-ghost use Rattle.cil_macros.specs.Items.{items_in, namespaces_in};
-ghost use Rattle.cil_names.specs.Entries.{AreEntries};
-
-use crate::answers::{Question, counted_at_last, show_entry};
-use crate::policies::lines_of;
-use cil_blocks::Namespaces;
-use cil_macros::Instances;
+use crate::answers::{lines, show_entry};
+use crate::policies::set_of;
+use cil_blocks::{Namespaces, inherit};
+use cil_macros::{Instances, expand};
+use cil_modset::ModuleSet;
 use cil_names::{Lookup, Meaning, Names, OptSet, Words, declare, permissions_of, words_of};
-use cil_syntax::{Failure, render};
+use cil_syntax::{Failure, written};
 use std::alloc::Global;
-use std::test::Fail;
 
-/// What the words of each statement mean, or the lines of the faults of those that name nothing.
-pub(crate) struct PlacedWords {}
-
-impl Question for PlacedWords {
-    type Answer = Result<String, Fail>;
-
-    fn answer(&self, alloc: Global, instances: &Instances) -> Result<String, Fail> {
-        let names = declare(alloc, instances)?;
-        match table_of(alloc, &names, instances) {
-            Ok(words) => shown(alloc, instances, &names, &words),
-            Err(Failure::Faults(faults)) => lines_of(render(alloc, &faults)?),
-            Err(Failure::NoMemory) => Err(Fail::from("no memory")),
-        }
-    }
-}
-
-/// The table of the words of all that is placed, or the faults of those that name nothing.
-fn table_of(alloc: Global, names: &Names, instances: &Instances) -> Result<Words, Failure>
-    requires { AreEntries (namespaces_in instances.now) (items_in instances.now) names.now }
-{
-    let permissions = permissions_of(alloc, names, instances)?;
+/// What the words of modules mean, or all that is wrong in the first step that has a fault. None where what they mean cannot be
+/// shown, for want of memory.
+fn meant(alloc: Global, modules: &ModuleSet) -> Result<Option<String>, Failure> {
+    let program = written(alloc, modules)?;
+    let stands = inherit(alloc, &program)?;
+    let instances = expand(alloc, &stands)?;
+    let names = declare(alloc, &instances)?;
+    let permissions = permissions_of(alloc, &names, &instances)?;
     let enabled = OptSet::of(Vec::new(alloc));
     let lookup = Lookup {
         spaces: instances.namespaces(),
-        names,
+        names: &names,
         enabled: &enabled,
     };
-    words_of(alloc, &lookup, permissions.as_slice(), instances)
+    let words = words_of(alloc, &lookup, permissions.as_slice(), &instances)?;
+    Ok(shown(alloc, &instances, &names, &words))
 }
 
 /// For each statement with words, in order, the entries that these name, or `-`, in brackets with commas between.
-fn shown(
-    alloc: Global,
-    instances: &Instances,
-    names: &Names,
-    words: &Words,
-) -> Result<String, Fail> {
+fn shown(alloc: Global, instances: &Instances, names: &Names, words: &Words) -> Option<String> {
     let spaces = instances.namespaces();
     let mut out = String::new(alloc);
     for at in 0..instances.len() {
         show_row(alloc, &mut out, spaces, names, words.row(at))?;
     }
-    Ok(out)
+    Some(out)
 }
 
 /// Adds what the words of one statement mean, if it has some.
@@ -64,48 +44,44 @@ fn show_row(
     spaces: &Namespaces,
     names: &Names,
     row: &[Meaning],
-) -> Result<(), Fail> {
+) -> Option<()> {
     for (i, word) in row.iter().enumerate() {
-        write!(out, "{}", if i > 0 { ", " } else { "[" })?;
+        write!(out, "{}", if i > 0 { ", " } else { "[" }).ok()?;
         match word.entry() {
-            Some(d) => {
-                let entry = names.entries().get(d).ok_or("no entry")?;
-                show_entry(alloc, out, spaces, entry)?;
-            }
-            None => write!(out, "-")?,
+            Some(d) => show_entry(alloc, out, spaces, names.entries().get(d)?)?,
+            None => write!(out, "-").ok()?,
         }
     }
     if !row.is_empty() {
-        write!(out, "]")?;
+        write!(out, "]").ok()?;
     }
-    Ok(())
+    Some(())
 }
 
-/// How many words of what is placed fifth name an entry, or how many faults there are. None where there is no memory.
-struct Count {}
-
-impl Question for Count {
-    type Answer = Option<Result<usize, usize>>;
-
-    fn answer(&self, alloc: Global, instances: &Instances) -> Option<Result<usize, usize>> {
-        let names = declare(alloc, instances).ok()?;
-        match table_of(alloc, &names, instances) {
-            Ok(words) => Some(Ok(meant_by(words.row(4)))),
-            Err(Failure::Faults(faults)) => Some(Err(faults.len())),
-            Err(Failure::NoMemory) => None,
-        }
+/// What the words of some texts mean, or the lines of what is wrong. None where there is no memory.
+pub(crate) fn answer(alloc: Global, texts: &[&str]) -> Option<String> {
+    let modules = set_of(alloc, texts).ok()?;
+    match meant(alloc, &modules) {
+        Ok(shown) => shown,
+        Err(Failure::Faults(faults)) => lines(alloc, &faults),
+        Err(Failure::NoMemory) => None,
     }
 }
 
-/// How many words of a statement name an entry.
-fn meant_by(row: &[Meaning]) -> usize {
-    row.iter().filter(|word| word.entry().is_some()).count()
+/// Whether a text has this answer, at once or when it is asked again.
+fn is_answered(alloc: Global, text: &str, want: &str) -> bool {
+    let answer = match answer(alloc, &[text]) {
+        None => answer(alloc, &[text]),
+        answer => answer,
+    };
+    answer.is_some_and(|got| got.as_str() == want)
 }
 
 #[test]
 fn a_refused_growth_is_no_missing_name(rt: HostRuntime) {
     let text = "(class c (q p))(macro m ((type x)) (allow x self (c (p q))))(type a)(call m (a))";
-    assert!(rt; counted_at_last(rt.alloc(), text, &Count {}) == Some(Ok(2)));
+    let words = "[Macro m, Type_ a][Type_ a, Class c, -, -]";
+    assert!(rt; is_answered(rt.alloc(), text, words));
     let text = "(class c (q))(macro m ((type x)) (allow x self (c (p))))(block p (call m (b)))";
-    assert!(rt; counted_at_last(rt.alloc(), text, &Count {}) == Some(Err(2)));
+    assert!(rt; is_answered(rt.alloc(), text, "41 0 51 p p\n41 0 74 p b\n"));
 }

@@ -1,6 +1,6 @@
 //! The numbers of declared symbols, and the permissions of classes.
 
-use crate::answers::{Question, show_entry, words_for};
+use crate::answers::{Question, answer_to, show_entry};
 use crate::look_ups::{Declared, entries, spaces};
 use cil_blocks::Namespaces;
 use cil_macros::Instances;
@@ -10,22 +10,21 @@ use std::alloc::Global;
 use std::test::Fail;
 
 /// Adds some names, with blanks between and in parentheses.
-fn show_names(out: &mut String, names: &[Bytes]) -> Result<(), Fail> {
-    write!(out, "(")?;
+fn show_names(out: &mut String, names: &[Bytes]) -> Option<()> {
+    write!(out, "(").ok()?;
     for (i, name) in names.iter().enumerate() {
-        let name = str::from_utf8(name.as_slice()).ok().ok_or("no text")?;
+        let name = str::from_utf8(name.as_slice()).ok()?;
         let blank = if i > 0 { " " } else { "" };
-        write!(out, "{blank}{name}")?;
+        write!(out, "{blank}{name}").ok()?;
     }
-    write!(out, ")")?;
-    Ok(())
+    write!(out, ")").ok()
 }
 
 /// The users, roles, types and classes, and the number of each entry.
 fn show_numbers(alloc: Global, numbering: &Numbering) -> Result<String, Fail> {
     let mut out = String::new(alloc);
     for kind in [Kind::User, Kind::Role, Kind::Type_, Kind::Class] {
-        show_names(&mut out, numbering.sections.names(kind))?;
+        show_names(&mut out, numbering.sections.names(kind)).ok_or("no names")?;
     }
     for number in numbering.numbers.as_slice() {
         write!(out, " {number}")?;
@@ -153,11 +152,9 @@ fn symbols_are_numbered_by_their_names(rt: HostRuntime) -> Result<(), Fail> {
 struct ListedPermissions {}
 
 impl Question for ListedPermissions {
-    type Answer = Result<String, Fail>;
-
-    fn answer(&self, alloc: Global, instances: &Instances) -> Result<String, Fail> {
-        let names = declare(alloc, instances)?;
-        let permissions = permissions_of(alloc, &names, instances)?;
+    fn answer(&self, alloc: Global, instances: &Instances) -> Option<String> {
+        let names = declare(alloc, instances).ok()?;
+        let permissions = permissions_of(alloc, &names, instances).ok()?;
         show_permissions(
             alloc,
             instances.namespaces(),
@@ -173,15 +170,15 @@ fn show_permissions(
     spaces: &Namespaces,
     names: &Names,
     permissions: &[Vec<Bytes>],
-) -> Result<String, Fail> {
+) -> Option<String> {
     let mut out = String::new(alloc);
     for (entry, listed) in names.entries().iter().zip(permissions) {
-        write!(out, "[")?;
+        write!(out, "[").ok()?;
         show_entry(alloc, &mut out, spaces, entry)?;
         show_names(&mut out, listed.as_slice())?;
-        write!(out, "]")?;
+        write!(out, "]").ok()?;
     }
-    Ok(out)
+    Some(out)
 }
 
 /// A text, and the permissions of each declared name.
@@ -219,11 +216,8 @@ const LISTED: &[(&str, &str)] = &[
 #[test]
 fn classes_have_the_permissions_that_are_listed(rt: HostRuntime) -> Result<(), Fail> {
     for &(text, wanted) in LISTED {
-        assert_eq!(rt;
-            words_for(rt.alloc(), &[text], &ListedPermissions {})?.as_str(),
-            wanted,
-            "{text}"
-        );
+        let got = answer_to(rt.alloc(), &[text], &ListedPermissions {}).ok_or("no answer")?;
+        assert_eq!(rt; got.as_str(), wanted, "{text}");
     }
     Ok(())
 }

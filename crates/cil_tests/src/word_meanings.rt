@@ -1,7 +1,6 @@
 //! What words mean in blocks and macros, and which of them are reported.
 
-use crate::answers::words_for;
-use crate::placed_words::PlacedWords;
+use crate::placed_words::answer;
 use std::test::Fail;
 
 /// Texts in their order, and what their words mean or is reported.
@@ -276,11 +275,8 @@ const IN_MACROS: &[(&str, &[Row])] = &[
 fn words_name_entries_or_are_reported(rt: HostRuntime) -> Result<(), Fail> {
     for &(name, rows) in MEANT.iter().chain(IN_MACROS) {
         for &(texts, wanted) in rows {
-            assert_eq!(rt;
-                words_for(rt.alloc(), texts, &PlacedWords {})?.as_str(),
-                wanted,
-                "{name}: {texts:?}"
-            );
+            let got = answer(rt.alloc(), texts).ok_or("no answer")?;
+            assert_eq!(rt; got.as_str(), wanted, "{name}: {texts:?}");
         }
     }
     Ok(())
