@@ -180,14 +180,22 @@ fn some_policies_are_alike(rt: HostRuntime) -> Result<(), Fail> {
     Ok(())
 }
 
+/// What three modules compile to, which is the same in each order.
+fn answer_in(alloc: Global, orders: &[[&str; 3]]) -> Result<String, Fail> {
+    let want = answer(alloc, orders.first().ok_or("no order")?)?;
+    for texts in orders {
+        if answer(alloc, texts)?.as_str() != want.as_str() {
+            return Err(Fail::from("an order has another answer"));
+        }
+    }
+    Ok(want)
+}
+
 #[test]
 fn the_order_of_arrival_changes_nothing(rt: HostRuntime) -> Result<(), Fail> {
     for orders in [ORDERS, BLOCKS_IN_ORDERS] {
-        let want = answer(rt.alloc(), &orders[0])?;
-        assert!(rt; want.as_str().starts_with("Tables"), "{want}");
-        for texts in orders {
-            assert_eq!(rt; answer(rt.alloc(), texts)?.as_str(), want.as_str());
-        }
+        let tables = answer_in(rt.alloc(), orders)?;
+        assert!(rt; tables.as_str().starts_with("Tables"), "{tables}");
     }
     Ok(())
 }

@@ -273,7 +273,18 @@ const IN_MACROS: &[(&str, &[Row])] = &[
 
 #[test]
 fn words_name_entries_or_are_reported(rt: HostRuntime) -> Result<(), Fail> {
-    for &(name, rows) in MEANT.iter().chain(IN_MACROS) {
+    for &(name, rows) in MEANT {
+        for &(texts, wanted) in rows {
+            let got = answer(rt.alloc(), texts).ok_or("no answer")?;
+            assert_eq!(rt; got.as_str(), wanted, "{name}: {texts:?}");
+        }
+    }
+    Ok(())
+}
+
+#[test]
+fn words_of_calls_and_bodies_name_entries_or_are_reported(rt: HostRuntime) -> Result<(), Fail> {
+    for &(name, rows) in IN_MACROS {
         for &(texts, wanted) in rows {
             let got = answer(rt.alloc(), texts).ok_or("no answer")?;
             assert_eq!(rt; got.as_str(), wanted, "{name}: {texts:?}");
