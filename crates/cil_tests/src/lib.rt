@@ -19,6 +19,8 @@ mod body_declarations;
 #[cfg(test)]
 mod bundles;
 #[cfg(test)]
+mod call_words;
+#[cfg(test)]
 mod compiling;
 #[cfg(test)]
 mod decisions;
