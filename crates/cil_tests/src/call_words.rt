@@ -4,6 +4,7 @@ use crate::placed_words::answer;
 use crate::word_meanings::Row;
 use std::test::Fail;
 
+/// What rows are about, and the rows.
 const MEANT: &[(&str, &[Row])] = &[
     (
         "the words of a call",
