@@ -4,7 +4,9 @@ ghost use Rattle.cil_names.specs.Entries.{AreOrdered};
 
 use crate::error::BenchError;
 use crate::figures::{RUNS, median, micros, print};
-use cil_names::{Entry, Names, OptSet, Space, Spaces};
+use cil_blocks::Namespaces;
+use cil_modset::NoMemory;
+use cil_names::{Entry, Names, OptSet, are_numbers};
 use cil_syntax::{Excerpt, Kind, Sign, Spot, Word};
 use std::alloc::{AllocError, Global};
 use std::time::CpuClock;
@@ -37,13 +39,10 @@ fn numbered(alloc: Global, letter: u8, count: usize) -> Result<Vec<Vec<u8>>, All
 }
 
 /// A namespace of each of these names.
-fn spaces<'a>(alloc: Global, names: &'a [Vec<u8>]) -> Result<Vec<Space<'a>>, AllocError> {
-    let mut spaces = Vec::with_capacity(alloc, names.len())?;
+fn spaces<'a>(alloc: Global, names: &'a [Vec<u8>]) -> Result<Namespaces<'a>, NoMemory> {
+    let mut spaces = Namespaces::global(alloc);
     for name in names {
-        spaces.push(Space {
-            outer: 0,
-            name: Excerpt::of(name.as_slice()),
-        })?;
+        spaces.number(0, name.as_slice())?;
     }
     Ok(spaces)
 }
@@ -98,7 +97,7 @@ fn scope(alloc: Global, length: usize) -> Result<Vec<usize>, AllocError> {
 /// a type.
 fn look_up(
     names: &Names,
-    spaces: &Spaces,
+    spaces: &Namespaces,
     words: &[Vec<u8>],
     scope: &[usize],
     enabled: &OptSet,
@@ -106,7 +105,7 @@ fn look_up(
     requires { AreOrdered spaces.now names.now }
 {
     let mut named = 0u64;
-    if scope.is_empty() || !spaces.has_all(scope) {
+    if scope.is_empty() || !are_numbers(spaces, scope) {
         return named;
     }
     for bytes in words.iter().cycle().take(ASKED / scope.len()) {
@@ -130,7 +129,6 @@ pub fn run<R: Print + CpuClock>(rt: &R, alloc: Global, length: usize) -> Result<
         global: numbered(alloc, b'g', TYPES)?,
     };
     let spaces = spaces(alloc, declared.spaces.as_slice())?;
-    let spaces = Spaces::checked(spaces).ok_or(BenchError::Faults)?;
     let names = Names::checked(&spaces, entries(alloc, &declared)?).ok_or(BenchError::Faults)?;
     let scope = scope(alloc, length)?;
     let enabled = OptSet::of(Vec::new(alloc));

@@ -1,7 +1,6 @@
 -- Readable modules compile to tables or have a list of faults: step after step, as the compiler takes them.
-use Rattle.std.proofs.Common.{◌≡◌, ℕ, false, List, map, refl, sym, ap, inl, inr}
+use Rattle.std.proofs.Common.{◌≡◌, ℕ, false, List, map, refl, inl, inr}
 use Rattle.cil_sexpr.specs.Lists.{Lists}
-use Rattle.cil_sexpr.specs.MadeLists.{from_map}
 use Rattle.cil_syntax.specs.declared.failure.Failure.TheVariants.{Faults}
 use Rattle.cil_syntax.specs.declared.fault.Fault.{Fault}
 use Rattle.cil_syntax.specs.declared.kind.Keyword.{Keyword}
@@ -18,13 +17,15 @@ use Rattle.cil_decide.specs.CompileRefusal.{CompileFails}
 use Rattle.cil_decide.specs.Compiled.{IsTable}
 use Rattle.cil_decide.specs.Faults.{ClassFault}
 use Rattle.cil_names.specs.Faults.{ClashFault, ResolveFault}
-use Rattle.cil_decide.specs.Flat.{AreFlat, AreItems, item_of}
+use Rattle.cil_macros.specs.Items.{AreItems, item_of}
+use Rattle.cil_macros.specs.Placed.{Placed}
 use Rattle.cil_macros.specs.Item.{Item, nobody}
-use Rattle.cil_decide.specs.Laws.{AlwaysCompilesOrFails, Outcome, compiles, fails}
+use Rattle.cil_decide.specs.Laws.{AlwaysCompilesOrFails, AreFlatModules, Outcome, compiles, fails}
 use Rattle.cil_decide.specs.Table.{Table, IsOrderly}
 use Rattle.cil_decide.proofs.AgreesLemmas.{table_agrees}
 use Rattle.cil_decide.proofs.CompileLemmas.{IsFront, clash_fails, expand_fails, front_of, inherit_fails, nothing_wrong, widths_fail, words_fail}
-use Rattle.cil_decide.proofs.FlatPrograms.{is_flat}
+use Rattle.cil_decide.proofs.FlatLemmas.{AreFlat, one_flat}
+use Rattle.cil_decide.proofs.FlatPrograms.{flat_statement, items_flat}
 use Rattle.cil_decide.proofs.FiniteFaults.{finite_clashes, finite_unresolved, finite_wide, step_outcome}
 use Rattle.cil_decide.proofs.TablesExist.{tables}
 use Rattle.cil_decide.proofs.WideClasses.{few}
@@ -45,17 +46,28 @@ module _ (xs : List Item) (none : (f : Fault) → ClassFault nobody xs f → ⊥
 
 -- ---- the steps
 
-module _ (modules : List (List ℕ)) (program : List Written) (is_program : Lists written_cmp (IsWritten modules) program) (front : IsFront modules) where
+module _ (modules : List (List ℕ)) (program : List Written) (is_program : Lists written_cmp (IsWritten modules) program) (standings : List Standing)
+    (are_standings : Lists standing_cmp (Stands program) standings) (placed : List Placed) (are_placed : Lists placed_cmp (IsPlaced program standings) placed) (modules_flat : AreFlatModules modules)
+    (front : IsFront modules) where
   items : List Item
-  items = map item_of program
+  items = map (item_of program standings) placed
 
   are_items : AreItems modules items
   unfolding items
-  are_items = record { program = program; is_program = is_program; items = refl }
+  are_items = record {
+    program = program;
+    is_program = is_program;
+    standings = standings;
+    are_standings = are_standings;
+    placed = placed;
+    are_placed = are_placed;
+    items = refl;
+  }
 
   flat : AreFlat items
   unfolding items
-  flat x c = let w = from_map item_of program x c in (ap (λ (y : Item). y.space) (sym w.2), ap (λ (y : Item). y.round) (sym w.2))
+  flat =
+      items_flat program (λ w c. flat_statement modules modules_flat w ((is_program.members w).0 c)) standings (λ s c. (are_standings.members s).0 c) placed are_placed
 
   failed : (fs : List Fault) → CompileFails modules (Faults fs) → Outcome modules
   failed fs h = fails fs h.0 h.1
@@ -68,7 +80,7 @@ module _ (modules : List (List ℕ)) (program : List Written) (is_program : List
         are_items = are_items;
         no_faults = nothing_wrong modules items are_items front apart named narrow;
         table = t.1;
-        agrees = table_agrees items flat t.0 t.1;
+        agrees = table_agrees items (one_flat items flat) t.0 t.1;
       })
 
   outcome : Outcome modules
@@ -87,24 +99,26 @@ not_macro : (k : Keyword) → is_named k ≡ false → is_macro k ≡ false
 not_macro keywords.Macro e = cc
 not_macro k e = refl
 
-by_calls : (modules : List (List ℕ)) (program : List Written) (standings : List Standing) → Lists written_cmp (IsWritten modules) program → ((f : Fault) → ShapeFault modules f → ⊥)
-    → Lists standing_cmp (Stands program) standings → ((f : Fault) → InheritStep program f → ⊥)
+by_calls : (modules : List (List ℕ)) (program : List Written) (standings : List Standing) → AreFlatModules modules → Lists written_cmp (IsWritten modules) program
+    → ((f : Fault) → ShapeFault modules f → ⊥) → Lists standing_cmp (Stands program) standings → ((f : Fault) → InheritStep program f → ⊥)
     → StepOutcome (Lists placed_cmp (IsPlaced program standings)) (ExpandStep program standings) → Outcome modules
-by_calls modules program standings is shape are blocks (succeeds placed all calls) = outcome modules program is (front_of modules program standings is are shape blocks calls)
-by_calls modules program standings is shape are blocks (step_fails faults wrong) =
+by_calls modules program standings modules_flat is shape are blocks (succeeds placed all calls) =
+    outcome modules program is standings are placed all modules_flat (front_of modules program standings is are shape blocks calls)
+by_calls modules program standings modules_flat is shape are blocks (step_fails faults wrong) =
     let refused = expand_fails modules program standings is are shape blocks (Faults faults) wrong in fails faults refused.0 refused.1
 
-by_blocks : HaveFlatInstances → (modules : List (List ℕ)) (program : List Written) → Lists written_cmp (IsWritten modules) program → ((f : Fault) → ShapeFault modules f → ⊥)
-    → StepOutcome (Lists standing_cmp (Stands program)) (InheritStep program) → Outcome modules
-by_blocks instances modules program is shape (succeeds contents are blocks) =
-    by_calls modules program contents is shape are blocks (instances program contents is.rising are (λ w c. not_macro w.statement.keyword (is_flat modules w ((is.members w).0 c)).no_name))
-by_blocks instances modules program is shape (step_fails faults are) =
+by_blocks : HaveFlatInstances → (modules : List (List ℕ)) (program : List Written) → AreFlatModules modules → Lists written_cmp (IsWritten modules) program
+    → ((f : Fault) → ShapeFault modules f → ⊥) → StepOutcome (Lists standing_cmp (Stands program)) (InheritStep program) → Outcome modules
+by_blocks instances modules program modules_flat is shape (succeeds contents are blocks) =
+    by_calls modules program contents modules_flat is shape are blocks
+    (instances program contents is.rising are (λ w c. not_macro w.statement.keyword (flat_statement modules modules_flat w ((is.members w).0 c)).no_name))
+by_blocks instances modules program modules_flat is shape (step_fails faults are) =
     let refused = inherit_fails modules program is shape (Faults faults) are in fails faults refused.0 refused.1
 
-by_shape : HaveFlatContents → HaveFlatInstances → (modules : List (List ℕ)) → StepOutcome (Lists written_cmp (IsWritten modules)) (ShapeFault modules) → Outcome modules
-by_shape blocks instances modules (succeeds program is none) =
-    by_blocks instances modules program is none (blocks program is.rising (λ w c. is_flat modules w ((is.members w).0 c)))
-by_shape blocks instances modules (step_fails faults are) = fails faults (inl are) are.some
+by_shape : HaveFlatContents → HaveFlatInstances → (modules : List (List ℕ)) → AreFlatModules modules → StepOutcome (Lists written_cmp (IsWritten modules)) (ShapeFault modules) → Outcome modules
+by_shape blocks instances modules modules_flat (succeeds program is none) =
+    by_blocks instances modules program modules_flat is none (blocks program is.rising (λ w c. flat_statement modules modules_flat w ((is.members w).0 c)))
+by_shape blocks instances modules modules_flat (step_fails faults are) = fails faults (inl are) are.some
 
 pub always_compiles_or_fails : AlwaysHaveProgramOrFaults → HaveFlatContents → HaveFlatInstances → AlwaysCompilesOrFails
-always_compiles_or_fails law blocks instances modules readable = by_shape blocks instances modules (law modules readable)
+always_compiles_or_fails law blocks instances modules readable modules_flat = by_shape blocks instances modules modules_flat (law modules readable)

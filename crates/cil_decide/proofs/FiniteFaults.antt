@@ -22,7 +22,7 @@ use Rattle.cil_syntax.specs.Terms.{Name, cons}
 use Rattle.cil_syntax.specs.Reported.{fault_at}
 use Rattle.cil_syntax.proofs.DecidedEquality.{keyword_is, same_namespace}
 use Rattle.cil_names.proofs.DeclareDecided.{same_declaration, same_name_space}
-use Rattle.cil_names.specs.Declarations.{Declaration, declared_by, IsDeclaration, name_space, Clash, Symbol}
+use Rattle.cil_names.specs.Declarations.{Declaration, declared_by, IsDeclaration, name_space, of_blocks, Clash, Symbol}
 use Rattle.cil_decide.specs.Faults.{ClassFault, wide}
 use Rattle.cil_names.specs.Faults.{ClashFault, clash, ResolveFault, unresolved}
 use Rattle.cil_macros.specs.Item.{Item, OptSet, everybody, nobody, is_enabled}
@@ -35,11 +35,12 @@ use Rattle.cil_decide.proofs.FinitePolicy.{Front, finite_declarations, finite_fr
 
 decided_clash : (d e : Declaration) → Decided (Clash d e)
 decided_clash d e =
-    decided_same (λ h. record { one_name = h.0; one_namespace = h.1.0; one_name_space = h.1.1.0; differ = h.1.1.1 })
-    (λ c. (c.one_name, (c.one_namespace, (c.one_name_space, c.differ))))
+    decided_same (λ h. record { one_name = h.0; one_namespace = h.1.0; one_name_space = h.1.1.0; apart = h.1.1.1.0; differ = h.1.1.1.1 })
+    (λ c. (c.one_name, (c.one_namespace, (c.one_name_space, (c.apart, c.differ)))))
     (decided_both (same_text d.name e.name)
     (decided_both (same_namespace d.space e.space)
-    (decided_both (same_name_space (name_space d.kind) (name_space e.kind)) (decided_not (same_declaration d e)))))
+    (decided_both (same_name_space (name_space d.kind) (name_space e.kind))
+    (decided_both (decided_not (same_name_space (name_space d.kind) of_blocks)) (decided_not (same_declaration d e))))))
 
 module _ (xs : List Item) where
   -- a declaration of the statement clashes with some declaration

@@ -1,125 +1,94 @@
--- The statements of policies without blocks and macros stand at the top of their modules.
-use Rattle.std.proofs.Common.{◌≡◌, ℕ, Bool, true, false, if◌then◌else◌, List, [], ◌∷◌, refl, ap, subst}
-use Rattle.std.specs.Prelude.{Option, Some, None, find}
-use Rattle.std.specs.List.{AllByRecursion}
+-- The statements of policies without blocks and macros stand at the top of their modules, and their items in the global
+-- namespace.
+use Rattle.std.proofs.Common.{◌≡◌, ℕ, true, false, List, [], map, refl, sym, ◌∙◌, ap}
+use Rattle.std.specs.Prelude.{Contains, Some}
+use Rattle.std.proofs.lemmas.Option.{none-some}
+use Rattle.cil_sexpr.specs.MadeLists.{from_map}
+use Rattle.cil_sexpr.specs.Lists.{Lists}
 use Rattle.cil_sexpr.specs.Tree.{Node, Nodes, inner_of, next, none}
-use Rattle.cil_syntax.specs.declared.kind.Dialect.TheVariants as dialects
 use Rattle.cil_syntax.specs.declared.kind.Keyword.{Keyword}
 use Rattle.cil_syntax.specs.declared.kind.Keyword.TheVariants as keywords
 use Rattle.cil_syntax.specs.declared.term.Spot.{Spot}
-use Rattle.cil_syntax.specs.declared.term.Word.{Word}
-use Rattle.cil_syntax.specs.Shapes.{Cell, Face, Inner, Reading, a_list, a_string, a_word, read_row}
-use Rattle.cil_syntax.specs.Spelling.{same_bytes}
-use Rattle.cil_syntax.specs.Table.{Entry, entry_in, entry_of, plain, table}
-use Rattle.cil_syntax.specs.Terms.{Terms}
-use Rattle.cil_syntax.specs.Written.{Context, FoundIn, IsItem, IsWritten, Refused, Shaped, Statement, Verdict, Written, at_top, body_of, by_entry, by_head, by_items, by_reading, inside, may_stand, names_its_block, top, verdict_in, within, written}
-use Rattle.cil_blocks.specs.Contents.{is_block, is_inheriting, is_named}
+use Rattle.cil_syntax.specs.Table.{entry_of, plain}
+use Rattle.cil_syntax.specs.Written.{Context, FoundIn, IsItem, IsWritten, Written, at_top, body_of, inside, top, within, written}
+use Rattle.cil_blocks.specs.Contents.{Standing, Stands, in_block, in_optional as in_standing_optional, inherited, is_block, is_inheriting, is_named, top as standing_on_top}
 use Rattle.cil_blocks.specs.Laws.{IsFlat}
+use Rattle.cil_macros.specs.Calls.{IsPlaced, called, in_optional, placed_cmp, stands}
+use Rattle.cil_macros.specs.Item.{Item}
+use Rattle.cil_macros.specs.Items.{item_of}
+use Rattle.cil_macros.specs.Placed.{Placed}
+use Rattle.cil_decide.specs.Laws.{AreFlatModules, is_flat}
+use Rattle.cil_decide.proofs.FlatLemmas.{AreFlat}
 
--- a statement that has no body, and that is no block, no macro and no blockinherit
-record IsPlain (k : Keyword) : Type 0 where
-  pub body : (entry_of k).body ≡ plain
-  pub no_block : is_block k ≡ false
-  pub no_name : is_named k ≡ false
-  pub no_inheritance : is_inheriting k ≡ false
+-- ---- where a statement stands
 
-abbrev ArePlain : List Entry → Type 0
-ArePlain es = AllByRecursion (λ (e : Entry). IsPlain e.keyword) es
-
-type_plain : IsPlain (entry_of keywords.Type_).keyword
+flat_body : (k : Keyword) → is_flat k ≡ true → (entry_of k).body ≡ plain
 unfolding entry_of
-type_plain = record { body = refl; no_block = refl; no_name = refl; no_inheritance = refl }
+flat_body keywords.Type_ e = refl
+flat_body keywords.Role e = refl
+flat_body keywords.User e = refl
+flat_body keywords.Class e = refl
+flat_body keywords.RoleType e = refl
+flat_body keywords.UserRole e = refl
+flat_body keywords.Allow e = refl
+flat_body keywords.Block e = absurd cc
+flat_body keywords.BlockAbstract e = absurd cc
+flat_body keywords.BlockInherit e = absurd cc
+flat_body keywords.Macro e = absurd cc
+flat_body keywords.Call e = absurd cc
+flat_body keywords.SetAside e = absurd cc
 
-role_plain : IsPlain (entry_of keywords.Role).keyword
-unfolding entry_of
-role_plain = record { body = refl; no_block = refl; no_name = refl; no_inheritance = refl }
+flat_block : (k : Keyword) → is_flat k ≡ true → is_block k ≡ false
+flat_block keywords.Block e = absurd cc
+flat_block k e = refl
 
-user_plain : IsPlain (entry_of keywords.User).keyword
-unfolding entry_of
-user_plain = record { body = refl; no_block = refl; no_name = refl; no_inheritance = refl }
+flat_name : (k : Keyword) → is_flat k ≡ true → is_named k ≡ false
+flat_name keywords.Block e = absurd cc
+flat_name keywords.Macro e = absurd cc
+flat_name k e = refl
 
-class_plain : IsPlain (entry_of keywords.Class).keyword
-unfolding entry_of
-class_plain = record { body = refl; no_block = refl; no_name = refl; no_inheritance = refl }
-
-role_type_plain : IsPlain (entry_of keywords.RoleType).keyword
-unfolding entry_of
-role_type_plain = record { body = refl; no_block = refl; no_name = refl; no_inheritance = refl }
-
-user_role_plain : IsPlain (entry_of keywords.UserRole).keyword
-unfolding entry_of
-user_role_plain = record { body = refl; no_block = refl; no_name = refl; no_inheritance = refl }
-
-allow_plain : IsPlain (entry_of keywords.Allow).keyword
-unfolding entry_of
-allow_plain = record { body = refl; no_block = refl; no_name = refl; no_inheritance = refl }
-
-plain_table : ArePlain table
-unfolding table
-plain_table = (type_plain, (role_plain, (user_plain, (class_plain, (role_type_plain, (user_role_plain, (allow_plain, tt)))))))
-
-found_step : (e : Entry) (es : List Entry) (b : Bool) (p : Entry → Bool) (f : Entry) → IsPlain e.keyword
-    → (find p es ≡ Some f → IsPlain f.keyword) → (if b then Some e else find p es) ≡ Some f → IsPlain f.keyword
-found_step e es true p f is rest same = let one : e ≡ f = cc in subst (λ (x : Entry). IsPlain x.keyword) one is
-found_step e es false p f is rest same = rest same
-
-found_plain : (p : Entry → Bool) (es : List Entry) (f : Entry) → ArePlain es → find p es ≡ Some f → IsPlain f.keyword
-found_plain p [] f all same = absurd (let g : None ≡ Some f = same in cc)
-found_plain p (e ∷ es) f all same = found_step e es (p e) p f all.0 (found_plain p es f all.1) same
-
--- ---- what a node says
-
-unless_refused : (b : Bool) (v : Verdict) (i : Inner) (s : Statement) (fs : List Inner) → (if b then v else Refused i) ≡ Shaped s fs → v ≡ Shaped s fs
-unless_refused true v i s fs e = e
-unless_refused false v i s fs e = absurd (let g : Refused i ≡ Shaped s fs = e in cc)
-
-one_statement : (s t : Statement) (fs gs : List Inner) → Shaped s fs ≡ Shaped t gs → s ≡ t
-one_statement s t fs gs e = cc
-
-reading_plain : (context : Context) (at : Spot) (e : Entry) (r : Option (Reading (Terms Word))) (s : Statement) (fs : List Inner) → IsPlain e.keyword
-    → by_reading context at e r ≡ Shaped s fs → IsPlain s.keyword
-reading_plain context at e None s fs is same = absurd (let g : Refused _ ≡ Shaped s fs = same in cc)
-reading_plain context at e (Some r) s fs is same =
-    subst (λ (t : Statement). IsPlain t.keyword) (one_statement _ s _ fs (unless_refused (names_its_block context e.keyword r.value) _ _ s fs same)) is
-
-entry_plain : (context : Context) (at : Spot) (word : List ℕ) (cells : List Cell) (o : Option Entry) (s : Statement) (fs : List Inner)
-    → ((e : Entry) → o ≡ Some e → IsPlain e.keyword) → by_entry context at word cells o ≡ Shaped s fs → IsPlain s.keyword
-entry_plain context at word cells None s fs is same = absurd (let g : Refused _ ≡ Shaped s fs = same in cc)
-entry_plain context at word cells (Some e) s fs is same =
-    reading_plain context at e (read_row e.row cells) s fs (is e refl) (unless_refused (may_stand context e) _ _ s fs same)
-
-head_plain : (context : Context) (at : Spot) (face : Face) (cells : List Cell) (s : Statement) (fs : List Inner)
-    → by_head dialects.Flat context at face cells ≡ Shaped s fs → IsPlain s.keyword
-head_plain context at (a_word word) cells s fs same =
-    entry_plain context at word cells (entry_in dialects.Flat word) s fs (λ e h. found_plain (λ (x : Entry). same_bytes word x.word) table e plain_table h) same
-head_plain context at a_string cells s fs same = absurd (let g : Refused _ ≡ Shaped s fs = same in cc)
-head_plain context at a_list cells s fs same = absurd (let g : Refused _ ≡ Shaped s fs = same in cc)
-
-items_plain : (context : Context) (at : Spot) (cells : List Cell) (s : Statement) (fs : List Inner) → by_items dialects.Flat context at cells ≡ Shaped s fs → IsPlain s.keyword
-items_plain context at [] s fs same = absurd (let g : Refused _ ≡ Shaped s fs = same in cc)
-items_plain context at (c ∷ cs) s fs same = head_plain context at c.face cs s fs same
-
-verdict_plain : (m : ℕ) (context : Context) (n : Node) (s : Statement) (fs : List Inner) → verdict_in dialects.Flat m context n ≡ Shaped s fs → IsPlain s.keyword
-unfolding verdict_in
-verdict_plain m context n s fs same = items_plain context _ _ s fs same
-
--- ---- where it stands
+flat_inheritance : (k : Keyword) → is_flat k ≡ true → is_inheriting k ≡ false
+flat_inheritance keywords.BlockInherit e = absurd cc
+flat_inheritance k e = refl
 
 no_item : (n : Node) (ns : Nodes) → IsItem n ns → ns ≡ none → ⊥
 no_item n none i e = elim i [ ]
 no_item n (next m ms) i e = cc
 
-on_top : (modules : List (List ℕ)) (m : ℕ) (context : Context) (n : Node) → FoundIn dialects.Flat modules m context n → context ≡ at_top
-on_top modules m context n (top tree k within_modules text item) = refl
-on_top modules m context n (inside outer p k s fs found said item) =
-    absurd (no_item n (body_of s p) item (ap (λ b. within b (inner_of p)) (verdict_plain m outer p s fs said).body))
+module _ (modules : List (List ℕ)) (flat : AreFlatModules modules) where
+  on_top : (m : ℕ) (context : Context) (n : Node) → FoundIn modules m context n → context ≡ at_top
+  on_top m context n (top tree k within_modules text item) = refl
+  on_top m context n (inside outer p k s fs found said item) =
+      absurd (no_item n (body_of s p) item (ap (λ b. within b (inner_of p)) (flat_body s.keyword (flat (record { context = outer; statement = s }) (written m outer p s fs found said)))))
 
-pub is_flat : (modules : List (List ℕ)) (w : Written) → IsWritten modules w → IsFlat w
-is_flat modules w (written m context n s fs found said) =
-    let p = verdict_plain m context n s fs said in
-    record {
-      on_top = ap (λ (c : Context). c.under) (on_top modules m context n found);
-      no_block = p.no_block;
-      no_name = p.no_name;
-      no_inheritance = p.no_inheritance;
-    }
+  pub flat_statement : (w : Written) → IsWritten modules w → IsFlat w
+  flat_statement w (written m context n s fs found said) =
+      let is = flat (record { context = context; statement = s }) (written m context n s fs found said) in
+      record {
+        on_top = ap (λ (c : Context). c.under) (on_top m context n found);
+        no_block = flat_block s.keyword is;
+        no_name = flat_name s.keyword is;
+        no_inheritance = flat_inheritance s.keyword is;
+      }
+
+-- ---- what is placed
+
+module _ (ws : List Written) (flat : (w : Written) → Contains ws w → IsFlat w) where
+  nowhere_in : (w : Written) (at : Spot) → Contains ws w → w.context.under ≡ Some at → ⊥
+  nowhere_in w at c is_in = none-some at (sym (flat w c).on_top ∙ is_in)
+
+  standing_flat : (s : Standing) → Stands ws s → s.space ≡ []
+  standing_flat _ (standing_on_top w c top_of) = refl
+  standing_flat _ (in_block s w st is_it not_abstract c is_in) = absurd (nowhere_in w s.statement.statement.at c is_in)
+  standing_flat _ (in_standing_optional s w st is_it c is_in) = absurd (nowhere_in w s.statement.statement.at c is_in)
+  standing_flat _ (inherited s b w st is_it target c is_in) = absurd (nowhere_in w b.statement.at c is_in)
+
+  module _ (ss : List Standing) (standing : (s : Standing) → Contains ss s → Stands ws s) where
+    placed_flat : (p : Placed) → IsPlaced ws ss p → p.standing.space ≡ []
+    placed_flat _ (stands s c) = standing_flat s (standing s c)
+    placed_flat _ (called p u w is unfolds c is_in) = absurd (nowhere_in w u.macro.statement.statement.at c is_in)
+    placed_flat _ (in_optional p b w is body is_it c is_in) = absurd (nowhere_in w p.standing.statement.statement.at c is_in)
+
+    pub items_flat : (placed : List Placed) → Lists placed_cmp (IsPlaced ws ss) placed → AreFlat (map (item_of ws ss) placed)
+    items_flat placed are x c =
+        let (p, cp, e) = from_map (item_of ws ss) placed x c in ap (λ (y : Item). y.space) (sym e) ∙ placed_flat p ((are.members p).0 cp)

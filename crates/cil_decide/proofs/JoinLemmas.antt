@@ -1,47 +1,23 @@
--- The compiler goes by instances: what is known of them, and the table of their parts.
+-- The table of a policy by its parts, where no optional is enabled.
 use Rattle.std.specs.Prelude.{Bool}
-use Rattle.std.proofs.Common.{◌≡◌, ℕ, List, [], sym, ◌∙◌, ap, subst}
+use Rattle.std.proofs.Common.{◌≡◌, ℕ, List, [], sym, ap, subst}
 use Rattle.cil_sexpr.specs.Gives.{Gives}
 use Rattle.cil_sexpr.specs.Lists.{Lists, text_cmp}
 use Rattle.cil_syntax.specs.declared.kind.Keyword.TheVariants as keywords
 use Rattle.cil_syntax.specs.declared.kind.Kind.{Kind}
 use Rattle.cil_syntax.specs.declared.kind.Kind.TheVariants as kinds
-use Rattle.cil_syntax.specs.declared.program.Statement.{Statement}
-use Rattle.cil_syntax.specs.Program.{program_of}
-use Rattle.cil_syntax.specs.Written.{IsWritten, written_cmp}
-use Rattle.cil_names.specs.declared.instance.Instance.{Instance}
-use Rattle.cil_blocks.specs.declared.namespaces.Space.{Space}
 use Rattle.cil_names.specs.Declarations.{Declared}
-use Rattle.cil_names.specs.Entries.{is_in, items_of}
+use Rattle.cil_names.specs.Entries.{is_in}
 use Rattle.cil_macros.specs.Item.{Item, OptSet, nobody}
-use Rattle.cil_names.specs.Placed.{ArePlaced}
 use Rattle.cil_decide.specs.declared.tables.Class.{Class}
 use Rattle.cil_decide.specs.declared.tables.Link.{Link}
 use Rattle.cil_decide.specs.declared.tables.Rule.{Rule}
 use Rattle.cil_decide.specs.Compiled.{IsCase, IsLink, IsNameOf, IsRowOf, IsRuleOf, IsTable}
-use Rattle.cil_decide.specs.Flat.{AreFlat, AreInstances, AreItems, flat_items}
 use Rattle.cil_decide.specs.Table.{class_cmp, link_cmp, rule_cmp}
-use Rattle.cil_decide.proofs.CompileLemmas.{items_are}
-use Rattle.cil_decide.proofs.FlatLemmas.{flat_all, flat_is_flat, flat_placed}
 
 -- no optional is enabled
 pub none_enabled : (flags : List Bool) → flags ≡ [] → is_in flags ≡ nobody
 none_enabled flags off = ap is_in off
-
--- the instances of flat programs, in namespaces of which there are none
-module _ (ss : List Statement) (xs : List Item) (are : AreInstances ss is) (spaces : List Space) (global : spaces ≡ []) (js : List Instance) (sliced : js ≡ is) where
-  items_path : items_of spaces js ≡ flat_items ss
-  items_path = (λ k. items_of (global k) (sliced k)) ∙ flat_all ss is are
-
-  pub items_here : (modules : List (List ℕ)) (program : List Statement) → ss ≡ program → Lists written_cmp (IsWritten modules) (program_of program)
-      → AreItems modules (items_of spaces js)
-  items_here modules program same listed = subst (AreItems modules) (sym items_path) (items_are modules program ss same listed)
-
-  pub flat_here : AreFlat (items_of spaces js)
-  flat_here = subst AreFlat (sym items_path) (flat_is_flat ss)
-
-  pub placed_here : ArePlaced spaces js
-  placed_here = subst (λ (z : List Space). ArePlaced z js) (sym global) (subst (λ (z : List Instance). ArePlaced [] z) (sym sliced) (flat_placed ss is are))
 
 -- the sections, as a table
 module _ (xs : List Item) (s : OptSet) (names : Kind → List (List ℕ)) (users roles types : List (List ℕ)) (classes : List Class) (user_roles role_types : List Link) (allow : List Rule) where

@@ -3,29 +3,24 @@ use Rattle.std.specs.Prelude.{Contains, Some, slice_get}
 use Rattle.std.specs.Global.{Vec}
 use Rattle.std.specs.List.Sorted.{IsStrictlySortedBy}
 use Rattle.std.specs.Option.{option_map, unwrap_or}
-use Rattle.std.proofs.Common.{◌≡◌, ℕ, true, List, [], get_or, refl, sym, ◌∙◌, ap, subst}
+use Rattle.std.proofs.Common.{◌≡◌, ℕ, true, List, get_or, refl, sym, ◌∙◌, ap, subst}
 use Rattle.std.proofs.lemmas.Option.{slice_get-map}
 use Rattle.cil_sexpr.specs.Gives.{Gives}
-use Rattle.cil_sexpr.specs.Lists.{Lists, text_cmp, contains_none}
+use Rattle.cil_sexpr.specs.Lists.{Lists, text_cmp}
 use Rattle.cil_sexpr.specs.MadeLists.{from_map}
 use Rattle.cil_sexpr.specs.Places.{get_at, get_contains}
 use Rattle.cil_syntax.specs.declared.fault.Bytes.{Bytes}
 use Rattle.cil_syntax.specs.declared.kind.Kind.{Kind}
 use Rattle.cil_syntax.specs.declared.kind.Kind.TheVariants as kinds
 use Rattle.cil_syntax.specs.declared.kind.Sign.TheVariants as signs
-use Rattle.cil_syntax.specs.declared.program.Statement.{Statement}
-use Rattle.cil_syntax.specs.Said.{args_of}
 use Rattle.cil_syntax.specs.Sorted.{lists_of}
-use Rattle.cil_syntax.specs.Spelling.{is_name}
-use Rattle.cil_syntax.specs.Table.{entry_of}
 use Rattle.cil_names.specs.declared.entry.Entry.{Entry}
-use Rattle.cil_names.specs.declared.instance.Instance.{Instance}
 use Rattle.cil_names.specs.declared.numbers.Sections.{Sections}
 use Rattle.cil_blocks.specs.declared.namespaces.Space.{Space}
-use Rattle.cil_names.specs.Declarations.{Declaration, IsDeclaration, object, by, declared_by, Declared, Symbol, name_of}
-use Rattle.cil_names.specs.Entries.{AreEntries, is_declared_in, item_of, items_of, scoped}
-use Rattle.cil_macros.specs.Item.{Item, OptSet, everybody}
-use Rattle.cil_names.specs.Numbers.{AreApart, AreNumbers, ArePlainNames, IsNameAmong, has_section, names_of, spelled_of, symbol_of}
+use Rattle.cil_names.specs.Declarations.{Declared, Symbol, name_of}
+use Rattle.cil_names.specs.Entries.{AreEntries, is_declared_in}
+use Rattle.cil_macros.specs.Item.{Item, OptSet}
+use Rattle.cil_names.specs.Numbers.{AreApart, AreNumbers, IsNameAmong, has_section, names_of, spelled_of, symbol_of}
 use Rattle.cil_names.specs.Resolves.{has_permission}
 use Rattle.cil_syntax.specs.Kinds.{is_wanted}
 use Rattle.cil_names.specs.Unresolved.{ArePermissions, listed_at}
@@ -35,10 +30,9 @@ use Rattle.cil_decide.specs.declared.tables.Class.{Class}
 use Rattle.cil_decide.specs.Known.{AreClasses}
 use Rattle.cil_decide.specs.Table.{class_cmp}
 use Rattle.cil_decide.proofs.ClassRowLemmas.{class_from, class_named, class_parts}
-use Rattle.cil_decide.proofs.CompileLemmas.{AreNamed, rising_by}
+use Rattle.cil_decide.proofs.CompileLemmas.{rising_by}
 use Rattle.cil_decide.proofs.SearchLemmas.{number_is}
-use Rattle.cil_decide.proofs.WideClasses.{in_front, of_own_kind}
-use Rattle.cil_decide.proofs.WidthLemmas.{listed_are, said_front}
+use Rattle.cil_decide.proofs.WidthLemmas.{listed_are}
 
 module _ (ss : List Space) (xs : List Item) (es : List Entry) (entries : AreEntries ss xs es) where
   -- ---- names of entries, as names of items
@@ -130,26 +124,3 @@ module _ (ss : List Space) (xs : List Item) (es : List Entry) (entries : AreEntr
 
     pub rows_rise : (row : Class) → Contains rows row → IsStrictlySortedBy text_cmp row.permissions
     rows_rise row member = (class_of_row row member).2.permissions.rising
-
--- ---- names as the language has them
-
--- where no namespace is inside another one, all names are those that statements declare
-pub plain_names : (ss : List Statement) (xs : List Item) (es : List Entry) → AreNamed ss → ((i : Instance) → Contains is i → Contains ss i.statement.now)
-    → AreEntries [] is es → ArePlainNames [] es
-plain_names ss is es named among entries = record {
-  spaces = λ s c. absurd (contains_none s c);
-  entries = λ e c.
-      let (i, below_i, at) = get_at es e c in
-      let (d, declares, of_kind, in_space, of_name) = entries.only everybody i e at (entries.used i e at) in
-      subst (λ n. is_name n ≡ true) of_name (plain d declares);
-}
-  where
-    plain : (d : Declaration) → IsDeclaration (items_of [] is) everybody d → is_name d.name ≡ true
-    plain d object = refl
-    plain d (by x f c on declares) =
-        let (i, ci, e) = from_map (item_of []) is x c in
-        let declares_here : Contains (declared_by (item_of [] i)) f = subst (λ (y : Item). Contains (declared_by y) f) (sym e) declares in
-        let kind = of_own_kind (item_of [] i).space (entry_of i.statement.now.keyword).declares (item_of [] i).args f declares_here in
-        let front = in_front (item_of [] i).space (entry_of i.statement.now.keyword).declares (item_of [] i).args f declares_here in
-        let (more, says) = said_front (scoped [] i.place.now.scope.items) (args_of i.statement.now) front.at f.name front.rest front.says in
-        named i.statement.now f.kind front.at f.name more (among i ci) kind says

@@ -4,10 +4,10 @@ use Rattle.std.specs.Prelude.{Option, Some, None, slice_get}
 use Rattle.std.proofs.lemmas.Option.{none-some, same_Some}
 use Rattle.cil_syntax.specs.declared.kind.Kind.{Kind}
 use Rattle.cil_syntax.specs.Scopes.{asked, ScopedWord}
+use Rattle.cil_macros.specs.Item.{Item}
 use Rattle.cil_names.proofs.CandidateLemmas.{parts_of, they_are}
 use Rattle.cil_names.proofs.DeclareDecided.{symbol_by}
 use Rattle.cil_names.specs.declared.entry.Entry.{Entry}
-use Rattle.cil_names.specs.declared.instance.Instance.{Instance}
 use Rattle.cil_names.specs.Declarations.{Symbol, name_of}
 use Rattle.cil_names.specs.Entries.{IsAnswer, IsNamed, is_declared_in}
 use Rattle.cil_names.specs.Laws.{MeansWhatItNames}
@@ -17,7 +17,7 @@ use Rattle.cil_syntax.specs.Kinds.{is_wanted}
 use Rattle.cil_blocks.specs.Namespaces.{space_at}
 use Rattle.cil_decide.specs.declared.known.Known.{Known}
 use Rattle.cil_decide.specs.Compiled.{IsNumbered}
-use Rattle.cil_decide.specs.Known.{IsKnown, IsNumberFor, StandsForNothing, enabled_in, items_in, meant_in}
+use Rattle.cil_decide.specs.Known.{IsKnown, IsNumberFor, StandsForNothing, enabled_in, meant_in}
 use Rattle.cil_decide.specs.Members.{StandsFor}
 use Rattle.cil_decide.proofs.SearchLemmas.{number_is}
 
@@ -89,7 +89,7 @@ module _ (k : Known) (xs : List Item) (names : Kind → List (List ℕ)) (known 
     its_answer : (r : Option ℕ) → r ≡ meant_in k w → IsAnswer k.lookup.spaces.now xs k.lookup.names.now (enabled_in k) w r
     its_answer r means =
         subst (IsAnswer k.lookup.spaces.now xs k.lookup.names.now (enabled_in k) w) (sym means)
-        (law k.lookup.spaces.now is k.lookup.names.now (enabled_in k) w known.spaces known.entries)
+        (law k.lookup.spaces.now xs k.lookup.names.now (enabled_in k) w known.spaces known.entries)
 
     pub of_nothing : None ≡ meant_in k w → StandsForNothing xs (enabled_in k) kind w
     of_nothing means = not_found (its_answer None means)

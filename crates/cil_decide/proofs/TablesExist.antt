@@ -28,7 +28,7 @@ use Rattle.cil_names.specs.Declarations.{Declared, Symbol}
 use Rattle.cil_macros.specs.Item.{Item, nobody}
 use Rattle.cil_syntax.specs.Scopes.{ScopedWord}
 use Rattle.cil_decide.specs.Pairs.{HasPair}
-use Rattle.cil_decide.specs.Flat.{AreFlat, global_symbol}
+use Rattle.cil_decide.proofs.FlatLemmas.{AreFlat, global_symbol}
 use Rattle.cil_names.specs.Resolves.{has_permission}
 use Rattle.cil_decide.specs.Table.{Table, class_cmp, link_cmp, link_total, one_link, rule_cmp, rule_total, one_rule}
 use Rattle.cil_decide.proofs.BitLemmas.{none_set, set_in_either, set_is_one}

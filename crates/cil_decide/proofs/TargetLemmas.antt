@@ -19,12 +19,14 @@ use Rattle.cil_syntax.specs.Terms.{Term, Leaf, Form, Terms, spot_at}
 use Rattle.cil_syntax.proofs.SaidLemmas.{form_said, leaf_said, name_said}
 use Rattle.cil_macros.specs.Item.{Item, OptSet}
 use Rattle.cil_syntax.specs.Scopes.{ScopedWord}
+use Rattle.cil_syntax.specs.declared.term.Word.{Word}
+use Rattle.cil_names.specs.Unresolved.{term_with}
 use Rattle.cil_decide.specs.declared.known.Known.{Known}
 use Rattle.cil_decide.specs.declared.tables.Numbers.{Numbers}
 use Rattle.cil_decide.specs.declared.tables.Target.{Target}
 use Rattle.cil_decide.specs.declared.tables.Target.TheVariants as targets
 use Rattle.cil_decide.specs.Compiled.{HasNumber, HasTarget, IsNumbered, IsTargetOf}
-use Rattle.cil_decide.specs.Known.{BeginWith, IsNumberFor, StandsForNothing, enabled_in, meant_in, term_in_scope, word_in_scope}
+use Rattle.cil_decide.specs.Known.{BeginWith, IsNumberFor, StandsForNothing, enabled_in, meant_in}
 use Rattle.cil_decide.proofs.FormLemmas.{across, all_across, form_across, leaf_across, name_across}
 use Rattle.cil_decide.proofs.LeafLemmas.{leaves_leaf}
 
@@ -79,46 +81,46 @@ self_reached : (xs : List Item) (s : OptSet) (types : List (List ℕ)) (at : Spo
 self_reached xs s types at op parts target is same =
     subst (λ o. IsReached xs s types (Form at o parts) target) (sym is) (subst (IsReached xs s types (Form at ops.Itself parts)) (sym same) (tt, tt))
 
-module _ (k : Known) (scope : List ℕ) (m : ℕ) (t : rust.Term) where
+module _ (k : Known) (f : Word → ScopedWord) (m : ℕ) (t : rust.Term) where
   -- where the term is a word, the first meaning is that of the word
-  pub word_means : (w : LookedUp) → t ≡ variants.Leaf w → (words : List (Option ℕ)) → BeginWith k scope (said_of m t) words → (r : Option ℕ) → r ≡ get_or words 0 None
-      → r ≡ meant_in k (word_in_scope k scope (word_in m w))
+  pub word_means : (w : LookedUp) → t ≡ variants.Leaf w → (words : List (Option ℕ)) → BeginWith k f (said_of m t) words → (r : Option ℕ) → r ≡ get_or words 0 None
+      → r ≡ meant_in k (f (word_in m w))
   word_means w is words begin r first =
       first
       ∙ ap (λ ws. get_or ws 0 None) begin.are
-      ∙ ap (λ ls. get_or (map (λ v. meant_in k (word_in_scope k scope v)) ls ++ begin.more) 0 None) (leaves_leaf m t w is)
+      ∙ ap (λ ls. get_or (map (λ v. meant_in k (f v)) ls ++ begin.more) 0 None) (leaves_leaf m t w is)
 
-  is_word : (w : LookedUp) → t ≡ variants.Leaf w → term_in_scope k scope m t ≡ Leaf (word_in_scope k scope (word_in m w))
-  is_word w is = ap (across (word_in_scope k scope)) (ap (said_of m) is ∙ leaf_said m w) ∙ leaf_across (word_in_scope k scope) (word_in m w)
+  is_word : (w : LookedUp) → t ≡ variants.Leaf w → term_with f m t ≡ Leaf (f (word_in m w))
+  is_word w is = ap (across f) (ap (said_of m) is ∙ leaf_said m w) ∙ leaf_across f (word_in m w)
 
   is_form : (at : ℕ) (op : Op) (parts : Vec rust.Term Global) → t ≡ variants.Form op at parts
-      → term_in_scope k scope m t ≡ Form (spot_at m at) op (all_across (word_in_scope k scope) (all_said m parts.items))
+      → term_with f m t ≡ Form (spot_at m at) op (all_across f (all_said m parts.items))
   is_form at op parts is =
-      ap (across (word_in_scope k scope)) (ap (said_of m) is ∙ form_said m at op parts) ∙ form_across (word_in_scope k scope) (spot_at m at) op (all_said m parts.items)
+      ap (across f) (ap (said_of m) is ∙ form_said m at op parts) ∙ form_across f (spot_at m at) op (all_said m parts.items)
 
   module _ (xs : List Item) (types : List (List ℕ)) where
-    pub word_reached : (w : LookedUp) (n : ℕ) (numbers : Numbers) → t ≡ variants.Leaf w → IsNumberFor xs (enabled_in k) kinds.Type_ types (word_in_scope k scope (word_in m w)) n
-        → numbers ≡ n ∷ [] → IsReached xs (enabled_in k) types (term_in_scope k scope m t) (targets.Types numbers)
+    pub word_reached : (w : LookedUp) (n : ℕ) (numbers : Numbers) → t ≡ variants.Leaf w → IsNumberFor xs (enabled_in k) kinds.Type_ types (f (word_in m w)) n
+        → numbers ≡ n ∷ [] → IsReached xs (enabled_in k) types (term_with f m t) (targets.Types numbers)
     word_reached w n numbers is number same =
         subst (λ u. IsReached xs (enabled_in k) types u (targets.Types numbers)) (sym (is_word w is))
-        ((number.symbol, number.stands), only_number xs (enabled_in k) types (word_in_scope k scope (word_in m w)) n numbers number same)
+        ((number.symbol, number.stands), only_number xs (enabled_in k) types (f (word_in m w)) n numbers number same)
 
-    pub word_lost : (w : LookedUp) → t ≡ variants.Leaf w → StandsForNothing xs (enabled_in k) kinds.Type_ (word_in_scope k scope (word_in m w))
-        → HasTarget xs (enabled_in k) (term_in_scope k scope m t) → ⊥
+    pub word_lost : (w : LookedUp) → t ≡ variants.Leaf w → StandsForNothing xs (enabled_in k) kinds.Type_ (f (word_in m w))
+        → HasTarget xs (enabled_in k) (term_with f m t) → ⊥
     word_lost w is none h = let r = subst (HasTarget xs (enabled_in k)) (is_word w is) h in none r.0 r.1
 
-    pub name_lost : (at : ℕ) (bytes : Bytes) → t ≡ variants.Name at bytes → HasTarget xs (enabled_in k) (term_in_scope k scope m t) → ⊥
+    pub name_lost : (at : ℕ) (bytes : Bytes) → t ≡ variants.Name at bytes → HasTarget xs (enabled_in k) (term_with f m t) → ⊥
     name_lost at bytes is h =
         subst (HasTarget xs (enabled_in k))
-        (ap (across (word_in_scope k scope)) (ap (said_of m) is ∙ name_said m at bytes) ∙ name_across (word_in_scope k scope) (spot_at m at) bytes) h
+        (ap (across f) (ap (said_of m) is ∙ name_said m at bytes) ∙ name_across f (spot_at m at) bytes) h
 
     pub form_reached : (at : ℕ) (op : Op) (parts : Vec rust.Term Global) (r : Option Target) → t ≡ variants.Form op at parts
         → MatchOption r (op ≡ ops.Itself → ⊥) (λ target. (op ≡ ops.Itself) × (target ≡ targets.Itself))
-        → MatchOption r (HasTarget xs (enabled_in k) (term_in_scope k scope m t) → ⊥)
-        (λ target. HasTarget xs (enabled_in k) (term_in_scope k scope m t) × IsTargetOf xs (enabled_in k) types (term_in_scope k scope m t) target)
+        → MatchOption r (HasTarget xs (enabled_in k) (term_with f m t) → ⊥)
+        (λ target. HasTarget xs (enabled_in k) (term_with f m t) × IsTargetOf xs (enabled_in k) types (term_with f m t) target)
     form_reached at op parts None is other = λ h.
-        no_target xs (enabled_in k) (spot_at m at) op (all_across (word_in_scope k scope) (all_said m parts.items)) other
+        no_target xs (enabled_in k) (spot_at m at) op (all_across f (all_said m parts.items)) other
         (subst (HasTarget xs (enabled_in k)) (is_form at op parts is) h)
     form_reached at op parts (Some target) is itself =
         subst (λ u. IsReached xs (enabled_in k) types u target) (sym (is_form at op parts is))
-        (self_reached xs (enabled_in k) types (spot_at m at) op (all_across (word_in_scope k scope) (all_said m parts.items)) target itself.0 itself.1)
+        (self_reached xs (enabled_in k) types (spot_at m at) op (all_across f (all_said m parts.items)) target itself.0 itself.1)

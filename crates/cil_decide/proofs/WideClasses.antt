@@ -1,8 +1,10 @@
 -- A class that no statement makes too wide has few permissions.
 use Rattle.std.specs.Prelude.{Contains}
-use Rattle.std.proofs.Common.{◌≡◌, ℕ, ◌<◌, ◌≤◌, true, List, [], length, refl, sym, ◌∙◌, ap, subst, inl, inr, arith}
-use Rattle.std.proofs.lemmas.Bool.{cases_lt}
-use Rattle.cil_sexpr.specs.Lists.{Lists, text_cmp, contains_cases, contains_none}
+use Rattle.std.specs.List.{list_any}
+use Rattle.std.proofs.Common.{◌≡◌, ℕ, ◌<◌, ◌≤◌, Bool, true, false, List, length, refl, sym, ◌∙◌, ap, subst, inl, inr, arith}
+use Rattle.std.proofs.lemmas.Bool.{cases_lt, true≢false}
+use Rattle.cil_sexpr.specs.Lists.{Lists, text_cmp}
+use Rattle.cil_sexpr.specs.Searches.{any_from}
 use Rattle.cil_sexpr.specs.MadeLists.{from_map}
 use Rattle.cil_syntax.specs.declared.fault.Fault.{Fault}
 use Rattle.cil_syntax.specs.declared.kind.Keyword.{Keyword}
@@ -21,22 +23,29 @@ use Rattle.cil_decide.specs.Compiled.{IsRowOf}
 use Rattle.cil_decide.specs.Faults.{ClassFault, wide}
 use Rattle.cil_decide.specs.Table.{most_permissions}
 
+abbrev is_class : Kind → Bool
+is_class kinds.Class = true
+is_class kind = false
+
+lacks_class : (ks : List Kind) → list_any is_class ks ≡ false → Contains ks kinds.Class → ⊥
+lacks_class ks none c = true≢false (sym (any_from is_class ks kinds.Class c refl) ∙ none)
+
 -- only a class statement declares a class
 pub class_keyword : (k : Keyword) → Contains (entry_of k).declares kinds.Class → k ≡ keywords.Class
 unfolding entry_of
-class_keyword keywords.Type_ c = absurd (elim (contains_cases kinds.Class kinds.Type_ [] c) [ inl e ↦ cc | inr n ↦ contains_none kinds.Class n ])
 class_keyword keywords.Class c = refl
-class_keyword keywords.Role c = absurd (elim (contains_cases kinds.Class kinds.Role [] c) [ inl e ↦ cc | inr n ↦ contains_none kinds.Class n ])
-class_keyword keywords.User c = absurd (elim (contains_cases kinds.Class kinds.User [] c) [ inl e ↦ cc | inr n ↦ contains_none kinds.Class n ])
-class_keyword keywords.RoleType c = absurd (contains_none kinds.Class c)
-class_keyword keywords.UserRole c = absurd (contains_none kinds.Class c)
-class_keyword keywords.Allow c = absurd (contains_none kinds.Class c)
-class_keyword keywords.Block c = absurd (contains_none kinds.Class c)
-class_keyword keywords.BlockAbstract c = absurd (contains_none kinds.Class c)
-class_keyword keywords.BlockInherit c = absurd (contains_none kinds.Class c)
-class_keyword keywords.Macro c = absurd (contains_none kinds.Class c)
-class_keyword keywords.Call c = absurd (contains_none kinds.Class c)
-class_keyword keywords.SetAside c = absurd (contains_none kinds.Class c)
+class_keyword keywords.Type_ c = absurd (lacks_class (entry_of keywords.Type_).declares refl c)
+class_keyword keywords.Role c = absurd (lacks_class (entry_of keywords.Role).declares refl c)
+class_keyword keywords.User c = absurd (lacks_class (entry_of keywords.User).declares refl c)
+class_keyword keywords.RoleType c = absurd (lacks_class (entry_of keywords.RoleType).declares refl c)
+class_keyword keywords.UserRole c = absurd (lacks_class (entry_of keywords.UserRole).declares refl c)
+class_keyword keywords.Allow c = absurd (lacks_class (entry_of keywords.Allow).declares refl c)
+class_keyword keywords.Block c = absurd (lacks_class (entry_of keywords.Block).declares refl c)
+class_keyword keywords.BlockAbstract c = absurd (lacks_class (entry_of keywords.BlockAbstract).declares refl c)
+class_keyword keywords.BlockInherit c = absurd (lacks_class (entry_of keywords.BlockInherit).declares refl c)
+class_keyword keywords.Macro c = absurd (lacks_class (entry_of keywords.Macro).declares refl c)
+class_keyword keywords.Call c = absurd (lacks_class (entry_of keywords.Call).declares refl c)
+class_keyword keywords.SetAside c = absurd (lacks_class (entry_of keywords.SetAside).declares refl c)
 
 -- a declaration of a statement is of a kind that its entry names
 pub of_own_kind : (space : Namespace) (ks : List Kind) (args : Terms ScopedWord) (d : Declaration) → Contains (declarations space ks args) d → Contains ks d.kind

@@ -2,13 +2,12 @@
 use Rattle.std.specs.Prelude.{Contains, Some, None, slice_get}
 use Rattle.std.specs.Cmp.Lexicographic.{bytes_decides}
 use Rattle.std.specs.Global.{Vec}
-use Rattle.std.proofs.Common.{◌≡◌, ◌⊎◌, ℕ, ◌+◌, ◌<◌, ◌≤◌, true, false, List, [], ◌∷◌, ◌++◌, length, take, get_or, refl, sym, ◌∙◌, ap, subst, inl, inr, arith}
+use Rattle.std.proofs.Common.{◌≡◌, ◌⊎◌, ℕ, ◌+◌, ◌<◌, ◌≤◌, true, false, List, [], ◌∷◌, ◌++◌, length, take, refl, sym, ◌∙◌, ap, subst, inl, inr, arith}
 use Rattle.std.proofs.lemmas.Bool.{true≢false}
 use Rattle.std.proofs.lemmas.Cmp.{nat_list_cmp_total}
-use Rattle.std.proofs.lemmas.List.{take_more, take_all}
+use Rattle.std.proofs.lemmas.List.{take_all}
 use Rattle.std.proofs.lemmas.List.Elements.{Contains-append_cases, Contains-append_left, Contains-append_right}
 use Rattle.cil_sexpr.specs.Lists.{Lists, text_cmp, contains_cases, contains_here, contains_none, one_list}
-use Rattle.cil_sexpr.specs.MadeLists.{contains_map, from_map}
 use Rattle.cil_sexpr.specs.Searches.{any_from, any_true}
 use Rattle.cil_sexpr.specs.Places.{get_contains}
 use Rattle.cil_sexpr.specs.Rising.{rising_nothing}
@@ -22,18 +21,20 @@ use Rattle.cil_syntax.specs.declared.term.Word.{Word}
 use Rattle.cil_syntax.specs.Said.{args_of}
 use Rattle.cil_syntax.specs.Spelling.{same_bytes}
 use Rattle.cil_syntax.specs.Table.{entry_of}
+use Rattle.cil_syntax.specs.declared.kind.Keyword.TheVariants as keywords
 use Rattle.cil_syntax.specs.Terms.{Leaf, Name, Form, Terms, nil, cons}
 use Rattle.cil_syntax.specs.Reported.{fault_at}
 use Rattle.cil_syntax.specs.Scopes.{same_space, ScopedWord}
 use Rattle.cil_syntax.specs.Forms.{DeclaresClass, DeclaresNoClass}
-use Rattle.cil_names.proofs.PermissionLemmas.{class_declared, class_declares}
+use Rattle.cil_names.proofs.PermissionLemmas.{class_declares}
 use Rattle.cil_names.proofs.CandidateLemmas.{they_are}
 use Rattle.cil_names.specs.declared.entry.Entry.{Entry}
-use Rattle.cil_names.specs.declared.instance.Instance.{Instance}
+use Rattle.cil_syntax.specs.declared.program.Statement.{Statement}
 use Rattle.cil_blocks.specs.declared.namespaces.Space.{Space}
 use Rattle.cil_names.specs.Declarations.{Declaration, Symbol, by, content_of, declarations, declared_by}
-use Rattle.cil_names.specs.Entries.{AreEntries, HasNoEntryIn, IsEntryIn, is_entry_of, item_of, items_of, scoped}
+use Rattle.cil_names.specs.Entries.{AreEntries, HasNoEntryIn, IsEntryIn, is_entry_of}
 use Rattle.cil_macros.specs.Item.{Item, OptSet, all_replaced, is_enabled}
+use Rattle.cil_macros.specs.Items.{says_as_written}
 use Rattle.cil_names.specs.Numbers.{symbol_of}
 use Rattle.cil_names.specs.Resolves.{has_permission}
 use Rattle.cil_syntax.specs.Kinds.{is_wanted}
@@ -95,86 +96,97 @@ module _ (f : Word → ScopedWord) where
   unfolding all_replaced
   item_says at name rest = refl
 
-module _ (ss : List Space) (xs : List Item) (es : List Entry) (s : OptSet) (i : Instance) where
-  abbrev x : Item
-  x = item_of ss i
+-- an item that says what a statement says that is written, each word with what it says
+pub record IsSaid (w : Statement) (f : Word → ScopedWord) (x : Item) : Type 0 where
+  pub keyword : x.keyword ≡ w.keyword
+  pub args : says_as_written w.keyword ≡ true → x.args ≡ all_replaced (λ at. at) f (args_of w)
 
-  abbrev xs : List Item
-  xs = xs
+-- an item that is not enabled, or that says nothing
+pub not_enabled : (xs : List Item) (s : OptSet) (x : Item) → is_enabled s x ≡ false → (f : Fault) → IsWide s xs x f → ⊥
+not_enabled xs s x off f w = true≢false (sym w.enabled ∙ off)
 
-  -- the instance is not enabled
-  pub not_enabled : is_enabled s x ≡ false → (f : Fault) → IsWide s xs x f → ⊥
-  not_enabled off f w = true≢false (sym w.enabled ∙ off)
+pub nothing_wide : (xs : List Item) (s : OptSet) (x : Item) → x.args ≡ nil → (f : Fault) → IsWide s xs x f → ⊥
+nothing_wide xs s x none f w = let e : nil ≡ cons (Name w.at w.name) w.rest = sym none ∙ w.says in cc
 
-  declares_by : (f : Fault) (w : IsWide s xs x f) → DeclaresClass i.statement.now w.at w.name
+module _ (ss : List Space) (xs : List Item) (es : List Entry) (s : OptSet) (x : Item) (st : Statement) (g : Word → ScopedWord) (said : IsSaid st g x) where
+  class_says : st.keyword ≡ keywords.Class → x.args ≡ all_replaced (λ at. at) g (args_of st)
+  class_says k = said.args (ap says_as_written k)
+
+  declares_by : (f : Fault) (w : IsWide s xs x f) → DeclaresClass st w.at w.name
   declares_by f w =
-      let (more, says) = said_front (scoped ss i.place.now.scope.items) (args_of i.statement.now) w.at w.name w.rest w.says in
-      record { keyword = w.keyword; rest = more; says = says }
+      let k = sym said.keyword ∙ w.keyword in
+      let (more, says) = said_front g (args_of st) w.at w.name w.rest (sym (class_says k) ∙ w.says) in
+      record { keyword = k; rest = more; says = says }
 
-  pub declares_none : DeclaresNoClass i.statement.now → (f : Fault) → IsWide s xs x f → ⊥
+  pub declares_none : DeclaresNoClass st → (f : Fault) → IsWide s xs x f → ⊥
   declares_none none f w = none w.at w.name (declares_by f w)
 
-  module _ (at : Spot) (name : List ℕ) (declares : DeclaresClass i.statement.now at name) where
-    one_class : (bt : Spot) (other : List ℕ) → DeclaresClass i.statement.now bt other → (bt ≡ at) × (other ≡ name)
+  module _ (at : Spot) (name : List ℕ) (declares : DeclaresClass st at name) where
+    one_class : (bt : Spot) (other : List ℕ) → DeclaresClass st bt other → (bt ≡ at) × (other ≡ name)
     one_class bt other d =
         let e : cons (Name bt other) d.rest ≡ cons (Name at name) declares.rest = sym d.says ∙ declares.says in (cc, cc)
 
+    abbrev rest : Terms ScopedWord
+    rest = all_replaced (λ bt. bt) g declares.rest
+
+    item_is : x.args ≡ cons (Name at name) rest
+    item_is = class_says declares.keyword ∙ ap (all_replaced (λ bt. bt) g) declares.says ∙ item_says g at name declares.rest
+
     abbrev declaration : Declaration
-    declaration = record { kind = kinds.Class; space = space_at ss i.place.now.space; name = name; content = content_of (all_replaced (λ bt. bt) (scoped ss i.place.now.scope.items) declares.rest) }
+    declaration = record { kind = kinds.Class; space = x.space; name = name; content = content_of rest }
 
     declared : Contains (declared_by x) declaration
     declared =
         subst (λ ds. Contains ds declaration)
-        (sym (ap (λ k. declarations (space_at ss i.place.now.space) (entry_of k).declares (all_replaced (λ bt. bt) (scoped ss i.place.now.scope.items) (args_of i.statement.now))) declares.keyword
-        ∙ ap (λ ks. declarations (space_at ss i.place.now.space) ks (all_replaced (λ bt. bt) (scoped ss i.place.now.scope.items) (args_of i.statement.now))) class_declares
-        ∙ ap (λ ts. declarations (space_at ss i.place.now.space) (kinds.Class ∷ []) (all_replaced (λ bt. bt) (scoped ss i.place.now.scope.items) ts)) declares.says
-        ∙ class_declared (scoped ss i.place.now.scope.items) (space_at ss i.place.now.space) at name declares.rest))
+        (sym ((λ i. declarations x.space (entry_of (said.keyword i)).declares (item_is i))
+        ∙ ap (λ k. declarations x.space (entry_of k).declares (cons (Name at name) rest)) declares.keyword
+        ∙ ap (λ ks. declarations x.space ks (cons (Name at name) rest)) class_declares))
         (contains_here declaration [])
 
-    module _ (entries : AreEntries ss xs es) (member : Contains is i) where
+    module _ (entries : AreEntries ss xs es) (member : Contains xs x) where
       -- an enabled class has an entry
-      pub no_entry : HasNoEntryIn ss es name signs.Classes (space_at ss i.place.now.space) → (f : Fault) → IsWide s xs x f → ⊥
+      pub no_entry : HasNoEntryIn ss es name signs.Classes x.space → (f : Fault) → IsWide s xs x f → ⊥
       no_entry none f w =
-          let (d, e) = entries.each s declaration (by x declaration (contains_map (item_of ss) is i member) w.enabled declared) in
-          none d e.entry e.at (they_are ss name signs.Classes (space_at ss i.place.now.space) e.entry e.in_space e.of_name (ap (is_wanted signs.Classes) e.of_kind))
+          let (d, e) = entries.each s declaration (by x declaration member w.enabled declared) in
+          none d e.entry e.at (they_are ss name signs.Classes x.space e.entry e.in_space e.of_name (ap (is_wanted signs.Classes) e.of_kind))
 
-      module _ (lists : List (Vec Bytes)) (permissions : ArePermissions ss es xs lists) (d : ℕ) (entry : IsEntryIn ss es name signs.Classes (space_at ss i.place.now.space) d) where
-        symbol_is : symbol_of ss entry.entry ≡ record { space = space_at ss i.place.now.space; name = name }
-        symbol_is = let (space, named, wanted) = entry_parts ss name (space_at ss i.place.now.space) entry.entry entry.fits in λ j. record { space = space j; name = named j }
+      module _ (lists : List (Vec Bytes)) (permissions : ArePermissions ss es xs lists) (d : ℕ) (entry : IsEntryIn ss es name signs.Classes x.space d) where
+        symbol_is : symbol_of ss entry.entry ≡ record { space = x.space; name = name }
+        symbol_is = let (space, named, wanted) = entry_parts ss name x.space entry.entry entry.fits in λ j. record { space = space j; name = named j }
 
-        listed : Lists text_cmp (λ p. has_permission xs (record { space = space_at ss i.place.now.space; name = name }) p ≡ true) (listed_at lists d)
+        listed : Lists text_cmp (λ p. has_permission xs (record { space = x.space; name = name }) p ≡ true) (listed_at lists d)
         listed =
-            let (space, named, wanted) = entry_parts ss name (space_at ss i.place.now.space) entry.entry entry.fits in
+            let (space, named, wanted) = entry_parts ss name x.space entry.entry entry.fits in
             subst (λ (c : Symbol). Lists text_cmp (λ p. has_permission xs c p ≡ true) (listed_at lists d)) symbol_is (listed_are lists d ss es xs permissions entry.entry entry.at wanted)
 
         pub few : length (listed_at lists d) ≤ most_permissions → (f : Fault) → IsWide s xs x f → ⊥
         few short f w =
             let (spot, same) = one_class w.at w.name (declares_by f w) in
-            let here : Lists text_cmp (λ p. has_permission xs (record { space = space_at ss i.place.now.space; name = name }) p ≡ true) w.permissions =
-            subst (λ n. Lists text_cmp (λ p. has_permission xs (record { space = space_at ss i.place.now.space; name = n }) p ≡ true) w.permissions) same w.listed in
-            let one = ap length (one_list text_cmp nat_list_cmp_total (λ p. has_permission xs (record { space = space_at ss i.place.now.space; name = name }) p ≡ true) w.permissions (listed_at lists d) here listed) in
+            let here : Lists text_cmp (λ p. has_permission xs (record { space = x.space; name = name }) p ≡ true) w.permissions =
+            subst (λ n. Lists text_cmp (λ p. has_permission xs (record { space = x.space; name = n }) p ≡ true) w.permissions) same w.listed in
+            let one = ap length (one_list text_cmp nat_list_cmp_total (λ p. has_permission xs (record { space = x.space; name = name }) p ≡ true) w.permissions (listed_at lists d) here listed) in
             let big = w.wide in
             omega (arith, short, one, big)
 
         pub many : is_enabled s x ≡ true → most_permissions < length (listed_at lists d) → (f : Fault)
-            → (IsWide s xs x f → f ≡ fault_at causes.ClassWide at (space_at ss i.place.now.space) name) × (f ≡ fault_at causes.ClassWide at (space_at ss i.place.now.space) name → IsWide s xs x f)
+            → (IsWide s xs x f → f ≡ fault_at causes.ClassWide at x.space name) × (f ≡ fault_at causes.ClassWide at x.space name → IsWide s xs x f)
         many on big f = (
-          (λ w. let (spot, same) = one_class w.at w.name (declares_by f w) in w.told ∙ (λ j. fault_at causes.ClassWide (spot j) (space_at ss i.place.now.space) (same j))),
+          (λ w. let (spot, same) = one_class w.at w.name (declares_by f w) in w.told ∙ (λ j. fault_at causes.ClassWide (spot j) x.space (same j))),
           (λ told. record {
             at = at;
             name = name;
-            rest = all_replaced (λ bt. bt) (scoped ss i.place.now.scope.items) declares.rest;
+            rest = rest;
             permissions = listed_at lists d;
             enabled = on;
-            keyword = declares.keyword;
-            says = ap (all_replaced (λ bt. bt) (scoped ss i.place.now.scope.items)) declares.says ∙ item_says (scoped ss i.place.now.scope.items) at name declares.rest;
+            keyword = said.keyword ∙ declares.keyword;
+            says = item_is;
             listed = listed;
             wide = big;
             told = told;
           }),
         )
 
--- ---- instance by instance
+-- ---- item by item
 
 -- a fault more, or none
 pub none_more : (old : List Fault) (P : Fault → Type 0) → ((f : Fault) → P f → ⊥) → (f : Fault) → (Contains old f → Contains old f ⊎ P f) × (Contains old f ⊎ P f → Contains old f)
@@ -193,53 +205,46 @@ one_more old new g P push told f = (
   ])),
 )
 
-module _ (ss : List Space) (xs : List Item) (s : OptSet) where
-  -- the faults are those of these instances
-  abbrev pub AreToldOf : List Instance → List Fault → Type 0
+module _ (xs : List Item) (s : OptSet) where
+  -- the faults are those of these items
+  abbrev pub AreToldOf : List Item → List Fault → Type 0
   AreToldOf some faults =
-      (f : Fault) → (Contains faults f → (i : Instance) × Contains some i × IsWide s xs (item_of ss i) f)
-      × ((i : Instance) × Contains some i × IsWide s xs (item_of ss i) f → Contains faults f)
+      (f : Fault) → (Contains faults f → (x : Item) × Contains some x × IsWide s xs x f) × ((x : Item) × Contains some x × IsWide s xs x f → Contains faults f)
 
-  pub told_none : (faults : List Fault) → faults ≡ [] → AreToldOf (take 0 is) faults
-  told_none faults e f = ((λ c. absurd (contains_none f (subst (λ z. Contains z f) e c))), (λ t. absurd (nobody is t.0 t.1)))
+  pub told_none : (faults : List Fault) → faults ≡ [] → AreToldOf (take 0 xs) faults
+  told_none faults e f = ((λ c. absurd (contains_none f (subst (λ z. Contains z f) e c))), (λ t. absurd (nobody xs t.0 t.1)))
     where
-      nobody : (js : List Instance) (i : Instance) → Contains (take 0 js) i → ⊥
-      nobody [] i c = contains_none i c
-      nobody (j ∷ js) i c = contains_none i c
+      nobody : (ys : List Item) (x : Item) → Contains (take 0 ys) x → ⊥
+      nobody [] x c = contains_none x c
+      nobody (y ∷ ys) x c = contains_none x c
 
-  pub told_more : (k : ℕ) (i : Instance) (old new : List Fault) → k < length is → i ≡ get_or is k i
-      → ((f : Fault) → (Contains new f → Contains old f ⊎ IsWide s xs (item_of ss i) f) × (Contains old f ⊎ IsWide s xs (item_of ss i) f → Contains new f))
-      → AreToldOf (take k is) old → AreToldOf (take (k + 1) is) new
-  told_more k i old new within at step are f =
-      let taken = take_more is k i within ∙ ap (λ z. take k is ++ z ∷ []) (sym at) in (
-        (λ c. elim ((step f).0 c) [
-          | inl d ↦ let t = (are f).0 d in (t.0, subst (λ z. Contains z t.0) (sym taken) (Contains-append_left (take k is) (i ∷ []) t.0 t.1), t.2)
-          | inr w ↦ (i, subst (λ z. Contains z i) (sym taken) (Contains-append_right (take k is) (i ∷ []) i (contains_here i [])), w)
-        ]),
-        (λ t. (step f).1 (elim (Contains-append_cases (take k is) (i ∷ []) t.0 (subst (λ z. Contains z t.0) taken t.1)) [
-          | inl d ↦ inl ((are f).1 (t.0, d, t.2))
-          | inr d ↦ elim (contains_cases t.0 i [] d) [
-            | inl e ↦ inr (subst (λ (j : Instance). IsWide s xs (item_of ss j) f) (sym e) t.2)
-            | inr n ↦ absurd (contains_none t.0 n)
-          ]
-        ])),
-      )
+  pub told_more : (k : ℕ) (x : Item) (old new : List Fault) → take (k + 1) xs ≡ take k xs ++ x ∷ []
+      → ((f : Fault) → (Contains new f → Contains old f ⊎ IsWide s xs x f) × (Contains old f ⊎ IsWide s xs x f → Contains new f))
+      → AreToldOf (take k xs) old → AreToldOf (take (k + 1) xs) new
+  told_more k x old new taken step are f = (
+    (λ c. elim ((step f).0 c) [
+      | inl d ↦ let t = (are f).0 d in (t.0, subst (λ z. Contains z t.0) (sym taken) (Contains-append_left (take k xs) (x ∷ []) t.0 t.1), t.2)
+      | inr w ↦ (x, subst (λ z. Contains z x) (sym taken) (Contains-append_right (take k xs) (x ∷ []) x (contains_here x [])), w)
+    ]),
+    (λ t. (step f).1 (elim (Contains-append_cases (take k xs) (x ∷ []) t.0 (subst (λ z. Contains z t.0) taken t.1)) [
+      | inl d ↦ inl ((are f).1 (t.0, d, t.2))
+      | inr d ↦ elim (contains_cases t.0 x [] d) [
+        | inl e ↦ inr (subst (λ (y : Item). IsWide s xs y f) (sym e) t.2)
+        | inr n ↦ absurd (contains_none t.0 n)
+      ]
+    ])),
+  )
 
-  module _ (k : ℕ) (faults : List Fault) (over : length is ≤ k) (are : AreToldOf (take k is) faults) where
+  module _ (k : ℕ) (faults : List Fault) (over : length xs ≤ k) (are : AreToldOf (take k xs) faults) where
     pub wide_there : (f : Fault) → Contains faults f → ClassFault s xs f
     wide_there f c =
-        let (i, ci, w) = (are f).0 c in
-        subst (ClassFault s xs) (sym w.told)
-        (wide (item_of ss i) w.at w.name w.rest w.permissions (contains_map (item_of ss) is i (subst (λ z. Contains z i) (take_all k is over) ci)) w.enabled w.keyword w.says w.listed w.wide)
+        let (x, cx, w) = (are f).0 c in
+        subst (ClassFault s xs) (sym w.told) (wide x w.at w.name w.rest w.permissions (subst (λ z. Contains z x) (take_all k xs over) cx) w.enabled w.keyword w.says w.listed w.wide)
 
     pub wide_back : (f : Fault) → ClassFault s xs f → Contains faults f
-    wide_back f (wide y at name rest permissions c on keyword says listed big) =
-        let (i, ci, e) = from_map (item_of ss) is y c in
-        (are (fault_at causes.ClassWide at y.space name)).1 (
-          i,
-          subst (λ z. Contains z i) (sym (take_all k is over)) ci,
-          subst (λ (z : Item). IsWide s xs z (fault_at causes.ClassWide at y.space name)) (sym e)
-              (record { at = at; name = name; rest = rest; permissions = permissions; enabled = on; keyword = keyword; says = says; listed = listed; wide = big; told = refl }),
+    wide_back f (wide x at name rest permissions c on keyword says listed big) =
+        (are (fault_at causes.ClassWide at x.space name)).1 (
+          x,
+          subst (λ z. Contains z x) (sym (take_all k xs over)) c,
+          record { at = at; name = name; rest = rest; permissions = permissions; enabled = on; keyword = keyword; says = says; listed = listed; wide = big; told = refl },
         )
-
--- ---- the instances one by one

@@ -1,24 +1,21 @@
--- What is known of the words of instances, of the numbers of their symbols, and of the rows of their classes. No other
+-- What is known of the words of items, of the numbers of their symbols, and of the rows of their classes. No other
 -- crate needs these words.
 use Rattle.std.specs.Prelude.{◌≡◌, ℕ, true, List, ◌++◌, map, Contains, Option}
 use Rattle.cil_sexpr.specs.Lists.{Lists, text_cmp}
 use Rattle.cil_syntax.specs.declared.kind.Kind.{Kind}
 use Rattle.cil_syntax.specs.declared.kind.Kind.TheVariants as kinds
-use Rattle.cil_syntax.specs.declared.term.Term as rust
 use Rattle.cil_syntax.specs.declared.term.Word.{Word}
 use Rattle.cil_syntax.specs.Terms.{Term}
 use Rattle.cil_names.specs.declared.entry.Entry.{Entry}
-use Rattle.cil_names.specs.declared.instance.Instance.{Instance}
 use Rattle.cil_blocks.specs.declared.namespaces.Space.{Space}
 use Rattle.cil_names.specs.Declarations.{Declared, Symbol, name_of}
-use Rattle.cil_names.specs.Entries.{AreEntries, is_in, item_of, items_of, scoped}
+use Rattle.cil_names.specs.Entries.{AreEntries, is_in}
 use Rattle.cil_macros.specs.Item.{Item, OptSet, words_in}
 use Rattle.cil_syntax.specs.Scopes.{ScopedWord}
 use Rattle.cil_names.specs.Meanings.{meanings, meant}
 use Rattle.cil_names.specs.Numbers.{AreNumbers}
 use Rattle.cil_names.specs.Resolves.{has_permission}
 use Rattle.cil_blocks.specs.Namespaces.{AreNamespaces}
-use Rattle.cil_names.specs.Unresolved.{scoped_term}
 use Rattle.cil_decide.specs.declared.known.Known.{Known}
 use Rattle.cil_decide.specs.declared.tables.Class.{Class}
 use Rattle.cil_decide.specs.Compiled.{IsNumbered}
@@ -26,7 +23,7 @@ use Rattle.cil_decide.specs.Members.{StandsFor}
 
 -- ---- names
 
--- what is known of the names of instances: their namespaces, their declared names, and the sections that number these
+-- what is known of the names of items: their namespaces, their declared names, and the sections that number these
 pub record AreKnown (ss : List Space) (xs : List Item) (es : List Entry) (s : OptSet) (names : Kind → List (List ℕ)) (numbers : List ℕ) : Type 0 where
   pub spaces : AreNamespaces ss
   pub entries : AreEntries ss xs es
@@ -56,37 +53,23 @@ StandsForNothing xs s kind w = (t : Symbol) → StandsFor xs s kind w t → ⊥
 abbrev pub enabled_in : Known → OptSet
 enabled_in k = is_in k.lookup.enabled.now
 
-abbrev pub item_in : Known → Instance → Item
-item_in k = item_of k.lookup.spaces.now
-
-abbrev pub items_in : Known → List Instance → List Item
-items_in k = items_of k.lookup.spaces.now
-
--- the instances are those of which this is known, and these are the sections of their names
-abbrev pub IsKnown : Known → List Instance → (Kind → List (List ℕ)) → Type 0
+-- the items are those of which this is known, and these are the sections of their names
+abbrev pub IsKnown : Known → List Item → (Kind → List (List ℕ)) → Type 0
 IsKnown k xs names = AreKnown k.lookup.spaces.now xs k.lookup.names.now (enabled_in k) names k.numbers.now
-
--- a word in the namespaces of these numbers
-abbrev pub word_in_scope : Known → List ℕ → Word → ScopedWord
-word_in_scope k scope w = scoped k.lookup.spaces.now scope w
-
--- a term of a module, its words in the namespaces of these numbers
-abbrev pub term_in_scope : Known → List ℕ → ℕ → rust.Term → Term ScopedWord
-term_in_scope k scope m t = scoped_term k.lookup.spaces.now scope m t
 
 -- what a word means
 abbrev pub meant_in : Known → ScopedWord → Option ℕ
 meant_in k w = meant k.lookup.spaces.now k.lookup.names.now (enabled_in k) w
 
--- what the words of an instance mean
-abbrev pub row_in : Known → Instance → List (Option ℕ)
-row_in k i = meanings k.lookup.spaces.now k.lookup.names.now (enabled_in k) i
+-- what the words of an item mean
+abbrev pub row_in : Known → Item → List (Option ℕ)
+row_in k x = meanings k.lookup.spaces.now k.lookup.names.now (enabled_in k) x
 
--- what the words of a term mean
-abbrev pub meant_by : Known → List ℕ → Term Word → List (Option ℕ)
-meant_by k scope t = map (λ w. meant_in k (word_in_scope k scope w)) (words_in t)
+-- what the words of a term mean, where each says this
+abbrev pub meant_by : Known → (Word → ScopedWord) → Term Word → List (Option ℕ)
+meant_by k f t = map (λ w. meant_in k (f w)) (words_in t)
 
 -- the meanings begin with those of the words of a term
-pub record BeginWith (k : Known) (scope : List ℕ) (t : Term Word) (words : List (Option ℕ)) : Type 0 where
+pub record BeginWith (k : Known) (f : Word → ScopedWord) (t : Term Word) (words : List (Option ℕ)) : Type 0 where
   pub more : List (Option ℕ)
-  pub are : words ≡ meant_by k scope t ++ more
+  pub are : words ≡ meant_by k f t ++ more

@@ -3,13 +3,14 @@
 
 ghost use Rattle.std.specs.Prelude.{◌≡◌, ◌↔◌, ℕ, IsTrue, List, MatchOption, None, get_or, true};
 ghost use Rattle.cil_syntax.specs.declared.kind.Kind as kinds;
-ghost use Rattle.cil_names.specs.declared.instance.Instance.{Instance as AnInstance};
-ghost use Rattle.cil_macros.specs.Item.{is_enabled};
+ghost use Rattle.cil_macros.specs.Item.{Item, is_enabled};
+ghost use Rattle.cil_macros.specs.Items.{item_at};
 ghost use Rattle.cil_syntax.specs.Scopes.{ScopedWord};
 ghost use Rattle.cil_names.specs.Numbers.{has_section};
-ghost use Rattle.cil_decide.specs.Known.{IsKnown, IsNumberFor, StandsForNothing, enabled_in, item_in, items_in, meant_in};
+ghost use Rattle.cil_decide.specs.Known.{IsKnown, IsNumberFor, StandsForNothing, enabled_in, meant_in};
 
-use cil_names::{Instance, Lookup, Meaning, Words, laws};
+use cil_macros::Instances;
+use cil_names::{Lookup, Meaning, Words, laws};
 use cil_syntax::Kind;
 
 /// What is known of the words of a policy: what each means, and the number of each symbol that they can mean.
@@ -17,7 +18,7 @@ use cil_syntax::Kind;
 pub struct Known<'s, 'a> {
     /// The namespaces, the declared names and the optionals that are enabled.
     pub lookup: Lookup<'s, 'a>,
-    /// What the words of each instance mean.
+    /// What the words of each statement mean.
     pub words: &'s Words,
     /// For each declared name its number in the section of its kind.
     pub numbers: &'s [usize],
@@ -39,11 +40,11 @@ impl<'s, 'a> Known<'s, 'a> {
         Some(number_at(self.numbers, d))
     }
 
-    /// Whether all optionals round an instance are enabled.
-    pub fn is_enabled(&self, instance: &Instance) -> bool
-        ensures { result ≡ is_enabled (enabled_in self.now) (item_in self.now instance.now) }
+    /// Whether all optionals round the statement at a place are enabled.
+    pub fn is_enabled(&self, instances: &Instances, at: usize) -> bool
+        ensures { result ≡ is_enabled (enabled_in self.now) (item_at instances.now at) }
     {
-        self.lookup.enabled.has_all(instance.place.round.as_slice())
+        self.lookup.enabled.has_all(instances.round(at))
     }
 }
 

@@ -5,19 +5,18 @@ use Rattle.std.specs.List.Sorted.{IsStrictlySortedBy}
 use Rattle.std.specs.declared.cmp.Ordering.{Ordering}
 use Rattle.std.specs.declared.cmp.Ordering.TheVariants.{Less}
 use Rattle.std.specs.Ordering.{ordering_reverse}
-use Rattle.std.proofs.Common.{◌≡◌, ℕ, zero, suc, ◌<◌, true, List, [], ◌∷◌, length, get_or, map, sym, ◌∙◌, ap, subst, inl, inr, arith}
+use Rattle.std.proofs.Common.{◌≡◌, ℕ, zero, suc, ◌<◌, true, List, [], ◌∷◌, length, get_or, sym, ◌∙◌, ap, subst, inl, inr, arith}
 use Rattle.std.proofs.lemmas.Bool.{cases_order}
 use Rattle.std.proofs.lemmas.Cmp.{nat_list_cmp_total}
 use Rattle.std.proofs.lemmas.List.Elements.{Contains-get_or}
 use Rattle.std.proofs.lemmas.Option.{slice_get-get_or, slice_get_within, get_or_from_slice_get}
 use Rattle.cil_sexpr.specs.Lists.{Lists, text_cmp, one_list, all_at}
 use Rattle.cil_syntax.specs.declared.kind.Kind.TheVariants as kinds
-use Rattle.cil_syntax.specs.Written.{IsWritten, written_cmp, written_total}
 use Rattle.cil_decide.specs.declared.tables.Class.{Class}
 use Rattle.cil_decide.specs.Agrees.{Compiles}
 use Rattle.cil_names.specs.Declarations.{Declared}
-use Rattle.cil_decide.specs.Flat.{AreItems, item_of}
-use Rattle.cil_macros.specs.Item.{Item, nobody}
+use Rattle.cil_decide.proofs.CompileLemmas.{one_items}
+use Rattle.cil_macros.specs.Item.{nobody}
 use Rattle.cil_decide.specs.Meaning.{IsClassAt, IsPermissionAt}
 use Rattle.cil_names.specs.Resolves.{has_permission}
 use Rattle.cil_decide.specs.Table.{Table, class_cmp}
@@ -59,11 +58,6 @@ one_row rows i j r q rising at bt same =
         | inr more ↦ absurd (never_less q.name (subst (λ n. text_cmp q.name n ≡ Less) same (rising_at class_cmp rows j i q r rising bt at more)))
       ]
     ]
-
--- modules have one list of items
-one_items : (modules : List (List ℕ)) (xs ys : List Item) → AreItems modules xs → AreItems modules ys → xs ≡ ys
-one_items modules xs ys a b =
-    a.items ∙ ap (map item_of) (one_list written_cmp written_total (IsWritten modules) a.program b.program a.is_program b.is_program) ∙ sym b.items
 
 module _ (modules : List (List ℕ)) (t : Table) (compiles : Compiles modules t) (class_name : List ℕ) (n bit : ℕ) (is_class : IsClassAt t n class_name) where
   pub permission_there : (p : List ℕ) → IsPermissionAt t n bit p → IsPermissionOf class_name bit p modules

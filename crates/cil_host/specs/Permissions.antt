@@ -4,8 +4,8 @@ use Rattle.std.specs.declared.cmp.Ordering.TheVariants.{Less}
 use Rattle.cil_sexpr.specs.Lists.{Lists, text_cmp}
 use Rattle.cil_syntax.specs.declared.kind.Kind.TheVariants as kinds
 use Rattle.cil_names.specs.Declarations.{Declared, Symbol, name_of}
-use Rattle.cil_decide.specs.Flat.{AreItems}
 use Rattle.cil_macros.specs.Item.{Item, nobody}
+use Rattle.cil_macros.specs.Items.{AreItems}
 use Rattle.cil_names.specs.Resolves.{has_permission}
 use Rattle.cil_host.specs.Machine.{OfLoaded, State}
 

@@ -1,6 +1,6 @@
 -- What a placed statement says, by what is written; and in which scope its words are looked up.
-use Rattle.std.specs.Prelude.{All, Contains, Option, Some, slice_get}
-use Rattle.std.proofs.Common.{◌≡◌, ℕ, ◌+◌, ◌≤◌, true, false, List, [], ◌∷◌, ◌++◌, map, length, get_or, take, refl, sym, ◌∙◌, ap, subst, append-nil}
+use Rattle.std.specs.Prelude.{All, Contains}
+use Rattle.std.proofs.Common.{◌≡◌, ℕ, ◌≤◌, true, false, List, [], ◌∷◌, ◌++◌, map, length, get_or, refl, sym, ◌∙◌, ap, subst, append-nil}
 use Rattle.std.proofs.lemmas.List.{map-append}
 use Rattle.std.proofs.lemmas.Simd.{map-map}
 use Rattle.cil_sexpr.specs.Places.{contains_at}
@@ -8,7 +8,6 @@ use Rattle.cil_syntax.specs.declared.kind.Keyword.{Keyword}
 use Rattle.cil_syntax.specs.declared.kind.Keyword.TheVariants as keywords
 use Rattle.cil_syntax.specs.declared.term.Term as rust
 use Rattle.cil_syntax.specs.declared.term.Word.{Word}
-use Rattle.cil_syntax.specs.Program.{statement_of}
 use Rattle.cil_syntax.specs.Said.{all_said, args_of}
 use Rattle.cil_syntax.specs.Scopes.{ScopedWord}
 use Rattle.cil_syntax.specs.Terms.{Term, Leaf, Name, Form, Terms, nil, cons}
@@ -17,10 +16,9 @@ use Rattle.cil_blocks.specs.declared.namespaces.Space.{Space}
 use Rattle.cil_blocks.specs.Contents.{Standing}
 use Rattle.cil_blocks.specs.Entries.{nothing}
 use Rattle.cil_blocks.specs.Namespaces.{space_at}
-use Rattle.cil_blocks.specs.Numbers.{AreWithin}
 use Rattle.cil_macros.specs.declared.placed_word.PlacedWord.{PlacedWord}
 use Rattle.cil_macros.specs.Calls.{is_call}
-use Rattle.cil_macros.specs.Item.{Item, all_replaced, all_words_in, replaced, words_in}
+use Rattle.cil_macros.specs.Item.{all_replaced, all_words_in, replaced, words_in}
 use Rattle.cil_macros.specs.Items.{Kept, all_placed, item_at, leaves, namespaces_in, placed_at, says, says_as_written, scope_by, scoped_by}
 use Rattle.cil_macros.specs.Macros.{all_standing}
 use Rattle.cil_macros.specs.Placed.{Placed}
@@ -29,7 +27,7 @@ use Rattle.cil_macros.proofs.ItemLemmas.{abstract_says, inherit_says, said_as_wr
 use Rattle.cil_names.specs.declared.reading.Reading.{Reading}
 use Rattle.cil_names.specs.Entries.{scoped}
 use Rattle.cil_names.specs.Readings.{IsReading, item_read, word_read}
-use Rattle.cil_names.specs.Resolves.{Word as AWord, Wanted, all_wanted_in, wanted_in}
+use Rattle.cil_names.specs.Resolves.{Word as AWord, all_wanted_in, wanted_in}
 
 -- ---- words of terms
 

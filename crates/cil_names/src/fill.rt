@@ -31,11 +31,11 @@ use std::alloc::Global;
 /// class word of a list of permissions two more.
 ///
 /// Errors: the faults, or out of memory.
-pub fn words_of<'r, 'a>(
+pub fn words_of<'a>(
     alloc: Global,
-    lookup: &Lookup<'r, 'a>,
-    permissions: &'r [Vec<Bytes>],
-    instances: &'r Instances<'_, '_, 'a>,
+    lookup: &Lookup<'_, 'a>,
+    permissions: &[Vec<Bytes>],
+    instances: &Instances<'_, '_, 'a>,
 ) -> Result<Words, Failure>
     requires spaces { lookup.now.spaces.now ≡ namespaces_in instances.now }
     requires entries { AreEntries lookup.now.spaces.now (items_in instances.now) lookup.now.names.now }

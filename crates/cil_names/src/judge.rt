@@ -64,10 +64,7 @@ impl<'r, 's, 'p, 'a> Judge<'r, 's, 'p, 'a> {
         ensures words { OnOk result (is_call (item_in self.now).keyword ≡ true → words.new.items ≡ words.old.items ++ map (meant_in self.now) (all_words_in (item_in self.now).args)) }
         ensures faults { OnOk result (is_call (item_in self.now).keyword ≡ true → Tells self.now (words_of (item_in self.now)) faults.old.items faults.new.items) }
     {
-        let reading = &self.filling.reading;
-        let asked = reading
-            .instances
-            .call_words(self.filling.alloc, reading.at)?;
+        let asked = self.filling.reading.call_words(self.filling.alloc)?;
         for word in asked.as_slice() {
             self.word(words, faults, word)?;
         }

@@ -1,10 +1,10 @@
 //! A placed statement, as its words are looked up: what each says there, and in which namespaces it is looked up.
 
-ghost use Rattle.std.specs.Prelude.{◌≡◌, ◌↔◌, IfOk, IsTrue, Some};
+ghost use Rattle.std.specs.Prelude.{◌≡◌, ◌↔◌, IfOk, IsTrue, Some, map, true};
 ghost use Rattle.cil_macros.specs.Calls.{is_call};
-ghost use Rattle.cil_macros.specs.Items.{all_placed, namespaces_in, says_as_written, scope_by, scoped_by};
+ghost use Rattle.cil_macros.specs.Items.{all_placed, leaves, namespaces_in, says_as_written, scope_by, scoped_by};
 ghost use Rattle.cil_macros.specs.Walks.{IsScope};
-ghost use Rattle.cil_names.specs.Readings.{IsReading, numbers_in, word_read};
+ghost use Rattle.cil_names.specs.Readings.{IsReading, item_read, numbers_in, scoped_there, word_read};
 
 use cil_blocks::ScopeList;
 use cil_macros::{Instances, PlacedWord};
@@ -41,6 +41,14 @@ impl<'r, 's, 'p, 'a> Reading<'r, 's, 'p, 'a> {
         ensures { scoped_by (all_placed self.now.instances.now) result ≡ word_read self.now word.now }
     {
         self.instances.word(self.at, word)
+    }
+
+    /// The words of the call that the statement is: that of its macro and, where it is unfolded, its arguments that are looked up.
+    pub fn call_words(&self, alloc: Global) -> Result<Vec<PlacedWord<'a>>, NoMemory>
+        requires { IsReading self.now }
+        ensures { IfOk result (λ ws. is_call (item_read self.now).keyword ≡ true → (item_read self.now).args ≡ leaves (map (scoped_there self.now) ws.items)) }
+    {
+        self.instances.call_words(alloc, self.at)
     }
 
     /// The scope of a word. That of the statement is at hand; only for a word that is looked up elsewhere, as an argument of a

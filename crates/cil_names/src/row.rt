@@ -1,7 +1,6 @@
 //! The rows from which the declared names are gathered: one for each declaration of an instance, and one for object_r.
 
-ghost use Rattle.std.specs.Prelude.{◌≡◌, ◌∷◌, ◌+◌, ◌<◌, [], IfOk, MatchOption, OnOk, length};
-ghost use Rattle.cil_syntax.specs.Table.{entry_of};
+ghost use Rattle.std.specs.Prelude.{◌≡◌, ◌+◌, ◌<◌, IfOk, OnOk, length};
 ghost use Rattle.cil_macros.specs.Items.{items_in};
 ghost use Rattle.cil_names.specs.DeclareRows.{AreAllRows, AreRowsUpTo, object_row, round_at, row_key};
 ghost use Rattle.cil_names.specs.Entries.{key_cmp};
@@ -9,7 +8,7 @@ ghost use Rattle.cil_names.specs.Entries.{key_cmp};
 use crate::kinds::rank_of;
 use cil_macros::Instances;
 use cil_modset::NoMemory;
-use cil_syntax::{Excerpt, Keyword, Kind};
+use cil_syntax::{Excerpt, Kind};
 use std::alloc::Global;
 use std::cmp::Ordering;
 
@@ -65,7 +64,7 @@ fn push_rows<'a>(
     let Some(statement) = instances.statement_there(at) else {
         return Ok(());
     };
-    let Some(kind) = kind_declared(statement.keyword) else {
+    let Some(kind) = statement.keyword.declares() else {
         return Ok(());
     };
     let Some(name) = statement.declared_name() else {
@@ -78,22 +77,6 @@ fn push_rows<'a>(
         at: Some(at),
     })?;
     Ok(())
-}
-
-/// The kind of what a statement declares.
-#[tactic(auto, unfolding(cil_syntax::specs::Table::entry_of))]
-fn kind_declared(keyword: Keyword) -> Option<Kind>
-    ensures { MatchOption result ((entry_of keyword).declares ≡ []) (λ kind. (entry_of keyword).declares ≡ kind ∷ []) }
-{
-    match keyword {
-        Keyword::Type_ => Some(Kind::Type_),
-        Keyword::Class => Some(Kind::Class),
-        Keyword::Role => Some(Kind::Role),
-        Keyword::User => Some(Kind::User),
-        Keyword::RoleType | Keyword::UserRole | Keyword::Allow => None,
-        Keyword::Block | Keyword::BlockAbstract | Keyword::BlockInherit => None,
-        Keyword::Macro | Keyword::Call | Keyword::SetAside => None,
-    }
 }
 
 impl Row<'_> {

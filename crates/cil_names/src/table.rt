@@ -62,10 +62,7 @@ impl<'r, 's, 'p, 'a> Filling<'r, 's, 'p, 'a> {
         requires { IsFilling self.now }
         ensures { OnOk result (is_call (item_read self.now.reading).keyword ≡ true → words.new.items ≡ words.old.items ++ map (meant_by self.now) (all_words_in (item_read self.now.reading).args)) }
     {
-        let asked = self
-            .reading
-            .instances
-            .call_words(self.alloc, self.reading.at)?;
+        let asked = self.reading.call_words(self.alloc)?;
         for word in asked.as_slice() {
             self.word(words, word)?;
         }

@@ -1,6 +1,6 @@
 //! Whole policies: their tables, and their faults.
 
-use crate::policies::{FIRST, ORDERS, lines_of, set_of};
+use crate::policies::{BLOCKS_IN_ORDERS, FIRST, ORDERS, lines_of, set_of};
 use cil_decide::compile;
 use cil_decide::tables::{Names, Numbers};
 use cil_syntax::{Bytes, Failure, render};
@@ -75,10 +75,29 @@ const ANSWERS: &[(&[&str], &str)] = &[
         ],
         "41 0 10 . nor\n41 0 14 . noa\n41 0 28 . nou\n41 0 32 . nor\n41 0 43 . noa\n41 0 53 . noc\n41 0 72 . nob\n41 0 76 . noa\n41 0 81 . noc\n",
     ),
-    // The first step with faults is the answer: shape, declarations, names.
+    // Names of blocks and macros, targets of inheritance, parameters and calls.
+    (&["(block b)(macro b ())"], "31 0 7 . b\n31 0 16 . b\n"),
+    (&["(blockinherit nob)"], "32 0 14 . nob\n"),
+    (&["(block b (blockinherit b))"], "33 0 23 b b\n"),
+    (&["(macro m ((type p)(type p)))"], "27 0 24 . p\n"),
+    (&["(macro m ((type p)))(call m ())"], "35 0 26 . m\n"),
+    (&["(macro m () (call m))(call m)"], "34 0 18 . m\n"),
+    // The first step with faults is the answer: shape, blocks, calls, declarations, names.
     (
         &["(type 1x)(class w (p))(class w (q))(roletype no no)"],
         "25 0 6 . 1x\n",
+    ),
+    (
+        &["(class w (p))(class w (q))(block b (macro m ((type p)(type p)))(blockinherit b))"],
+        "27 0 59 b p\n",
+    ),
+    (
+        &["(class w (p))(class w (q))(block b (blockinherit b))(macro m ())(call m (x))"],
+        "33 0 49 b b\n",
+    ),
+    (
+        &["(class w (p))(class w (q))(macro m ())(call m (x))(roletype no no)"],
+        "35 0 44 . m\n",
     ),
     (
         &["(class w (p))(class w (q))(roletype no no)"],
@@ -138,6 +157,14 @@ const ALIKE: &[(&[&str], &[&str])] = &[
             "(allow a b (d (x)))(allow b b (c (z y z)))(allow b self (c (z)))",
         ],
     ),
+    // What is inherited and called in the global namespace is as if it were written there.
+    (
+        &[
+            "(block t (blockabstract t)(class d (x))(class c (z y))(type b))(blockinherit t)",
+            "(macro m ((type s)(class k)) (type a)(allow s b (k (x))))(call m (a d))",
+        ],
+        &[CLASSES, "(allow a b (d (x)))"],
+    ),
 ];
 
 #[test]
@@ -153,12 +180,22 @@ fn some_policies_are_alike(rt: HostRuntime) -> Result<(), Fail> {
     Ok(())
 }
 
+/// What three modules compile to, which is the same in each order.
+fn answer_in(alloc: Global, orders: &[[&str; 3]]) -> Result<String, Fail> {
+    let want = answer(alloc, orders.first().ok_or("no order")?)?;
+    for texts in orders {
+        if answer(alloc, texts)?.as_str() != want.as_str() {
+            return Err(Fail::from("an order has another answer"));
+        }
+    }
+    Ok(want)
+}
+
 #[test]
 fn the_order_of_arrival_changes_nothing(rt: HostRuntime) -> Result<(), Fail> {
-    let want = answer(rt.alloc(), &ORDERS[0])?;
-    assert!(rt; want.as_str().starts_with("Tables"), "{want}");
-    for texts in ORDERS {
-        assert_eq!(rt; answer(rt.alloc(), texts)?.as_str(), want.as_str());
+    for orders in [ORDERS, BLOCKS_IN_ORDERS] {
+        let tables = answer_in(rt.alloc(), orders)?;
+        assert!(rt; tables.as_str().starts_with("Tables"), "{tables}");
     }
     Ok(())
 }

@@ -1,7 +1,7 @@
 //! A host's calls on worked policies, as tables of calls and their answers.
 
 use crate::module_sets::{DIGEST_OF_A, DIGEST_OF_B};
-use crate::policies::FIRST;
+use crate::policies::{FIRST, HEIRS, LIB, TOP};
 use cil_decide::Decision;
 use cil_host::{Host, ListLine, QueryFault};
 use cil_modset::{BundleError, BundleFault};
@@ -167,6 +167,10 @@ pub(crate) const READ: Result<Decision, QueryFault> = Ok(Decision {
     auditdeny: 0b11,
 });
 
+/// A macro that is called in a template: its rule is about the type of the namespace in which that is inherited.
+const ARGUMENTS: &str =
+    "(block lib (type p)(macro m ((type arg)) (allow arg a (file (open)))))(block tpl (blockabstract tpl)(type p)(call lib.m (p)))(block n (blockinherit tpl))(roletype r n.p)(roletype r lib.p)";
+
 /// A bundle of `(type a)`, `(type b))` and `(type c)`.
 const BAD_SECOND: &[u8] =
     b"CILB\x01\0\0\0\0\0\0\0\x03\0\0\0\0\0\0\0\x08(type a)\0\0\0\0\0\0\0\x09(type b))\0\0\0\0\0\0\0\x08(type c)";
@@ -207,6 +211,30 @@ const WORKED: &[(&str, &[Call])] = &[
             Call::Query(A, B, b"dir", Err(QueryFault::NoClass)),
             Call::Query(b"u:r:c", b"u:r:d", b"dir", Err(QueryFault::BadSource)),
             Call::Query(A, b"u:r:d", b"dir", Err(QueryFault::BadTarget)),
+        ],
+    ),
+    (
+        "arguments are looked up where the call stands",
+        &[
+            Call::Install(FIRST),
+            Call::Install(ARGUMENTS),
+            Call::Load,
+            Call::Query(b"u:r:n.p", A, b"file", OPEN),
+            Call::Query(b"u:r:lib.p", A, b"file", NOTHING),
+        ],
+    ),
+    (
+        "blocks inherit from other modules",
+        &[
+            Call::Install(LIB),
+            Call::Install(HEIRS),
+            Call::Install(TOP),
+            Call::Load,
+            Call::Query(b"u:r:n.t", b"u:r:n.t", b"file", OPEN),
+            Call::Query(b"u:r:k.t", b"u:r:n.t", b"file", READ),
+            Call::Query(b"u:r:t", b"u:r:n.t", b"file", READ),
+            Call::Query(b"u:r:n.t", b"u:r:t", b"file", NOTHING),
+            Call::Query(b"u:r:t", b"u:r:lib.t", b"file", Err(QueryFault::BadTarget)),
         ],
     ),
     (

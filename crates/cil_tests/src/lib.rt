@@ -7,6 +7,8 @@
 #![tactic(auto)]
 
 #[cfg(test)]
+mod answers;
+#[cfg(test)]
 mod block_faults;
 #[cfg(test)]
 mod blocks;
@@ -16,6 +18,8 @@ mod bodies;
 mod body_declarations;
 #[cfg(test)]
 mod bundles;
+#[cfg(test)]
+mod call_words;
 #[cfg(test)]
 mod compiling;
 #[cfg(test)]

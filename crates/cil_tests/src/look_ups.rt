@@ -1,6 +1,7 @@
 //! Look-up of words in scopes of several namespaces.
 
-use cil_names::{Entry, Names, OptSet, Space, Spaces};
+use cil_blocks::Namespaces;
+use cil_names::{Entry, Names, OptSet, are_numbers};
 use cil_syntax::{Excerpt, Kind, Sign, Spot, Word};
 use std::alloc::Global;
 use std::test::Fail;
@@ -25,24 +26,24 @@ const DECLARED: &[Declared] = &[
     (3, b"z", Kind::Class, &[]),
 ];
 
-/// The namespaces of the first list, and then those of the second.
-fn spaces_of(
-    alloc: Global,
-    first: &[(usize, &'static [u8])],
-    second: &[(usize, &'static [u8])],
-) -> Result<Vec<Space<'static>>, Fail> {
-    let mut spaces = Vec::new(alloc);
-    for &(outer, name) in first.iter().chain(second) {
-        spaces.push(Space {
-            outer,
-            name: Excerpt::of(name),
-        })?;
+/// The number of a namespace, which is added if it is not there.
+fn number(
+    spaces: &mut Namespaces<'static>,
+    outer: usize,
+    name: &'static [u8],
+) -> Result<usize, Fail> {
+    if outer > spaces.len() {
+        return Err(Fail::from("no namespace"));
     }
-    Ok(spaces)
+    Ok(spaces.number(outer, name)?)
 }
 
-fn spaces(alloc: Global) -> Result<Spaces<'static>, Fail> {
-    Ok(Spaces::checked(spaces_of(alloc, SPACES, &[])?).ok_or("they do not rise")?)
+pub(crate) fn spaces(alloc: Global) -> Result<Namespaces<'static>, Fail> {
+    let mut spaces = Namespaces::global(alloc);
+    for &(outer, name) in SPACES {
+        number(&mut spaces, outer, name)?;
+    }
+    Ok(spaces)
 }
 
 fn rounds(alloc: Global, optionals: &[&[usize]]) -> Result<Vec<Vec<usize>>, Fail> {
@@ -89,7 +90,7 @@ fn named(
     let names = Names::checked(&spaces, entries(alloc, DECLARED)?).ok_or("they do not rise")?;
     let mut enabled = Vec::new(alloc);
     enabled.extend_from_slice(flags)?;
-    if !spaces.has_all(scope) {
+    if !are_numbers(&spaces, scope) {
         return Err(Fail::from("no namespace"));
     }
     Ok(names.resolve(&spaces, word, scope, &OptSet::of(enabled)))
@@ -186,7 +187,7 @@ fn words_name_the_first_that_is_declared(rt: HostRuntime) -> Result<(), Fail> {
 fn could_name(alloc: Global, word: &Word<'static>, scope: &[usize]) -> Result<Vec<usize>, Fail> {
     let spaces = spaces(alloc)?;
     let names = Names::checked(&spaces, entries(alloc, DECLARED)?).ok_or("they do not rise")?;
-    if !spaces.has_all(scope) {
+    if !are_numbers(&spaces, scope) {
         return Err(Fail::from("no namespace"));
     }
     Ok(names.candidates(alloc, &spaces, word, scope)?)
@@ -212,14 +213,28 @@ fn candidates_are_there_whatever_is_enabled(rt: HostRuntime) -> Result<(), Fail>
     Ok(())
 }
 
-/// One more namespace, and whether the namespaces rise with it at their end.
-const ONE_MORE_SPACE: &[(usize, &[u8], bool)] = &[
-    (1, b"r", true),
-    (3, b"a", true),
-    (4, b"a", false),
-    (1, b"q", false),
-    (0, b"z", false),
+/// A namespace that is there or is added, and its number.
+const NUMBERED: &[(usize, &[u8], usize)] = &[
+    (0, b"p", 1),
+    (0, b"r", 2),
+    (1, b"q", 3),
+    (0, b"q", 4),
+    (1, b"p", 4),
+    (3, b"q", 4),
 ];
+
+#[test]
+fn each_namespace_has_one_number(rt: HostRuntime) -> Result<(), Fail> {
+    for &(outer, name, wanted) in NUMBERED {
+        let mut spaces = spaces(rt.alloc())?;
+        assert_eq!(rt;
+            number(&mut spaces, outer, name)?,
+            wanted,
+            "{outer} {name:?}"
+        );
+    }
+    Ok(())
+}
 
 /// One more class, and whether the declared names rise with it at their end.
 const ONE_MORE_NAME: &[(usize, &[u8], bool)] = &[
@@ -228,21 +243,6 @@ const ONE_MORE_NAME: &[(usize, &[u8], bool)] = &[
     (3, b"z", false),
     (2, b"zz", false),
 ];
-
-#[test]
-fn namespaces_and_names_have_to_rise(rt: HostRuntime) -> Result<(), Fail> {
-    for &(outer, name, is_made) in ONE_MORE_SPACE {
-        assert_eq!(rt; with_space(rt.alloc(), outer, name)?, is_made, "{outer}");
-    }
-    for &(space, name, is_made) in ONE_MORE_NAME {
-        assert_eq!(rt; with_name(rt.alloc(), space, name)?, is_made, "{space}");
-    }
-    Ok(())
-}
-
-fn with_space(alloc: Global, outer: usize, name: &'static [u8]) -> Result<bool, Fail> {
-    Ok(Spaces::checked(spaces_of(alloc, SPACES, &[(outer, name)])?).is_some())
-}
 
 fn with_name(alloc: Global, space: usize, name: &'static [u8]) -> Result<bool, Fail> {
     let mut entries = entries(alloc, DECLARED)?;
@@ -254,4 +254,12 @@ fn with_name(alloc: Global, space: usize, name: &'static [u8]) -> Result<bool, F
         rounds: Vec::new(alloc),
     })?;
     Ok(Names::checked(&spaces(alloc)?, entries).is_some())
+}
+
+#[test]
+fn names_have_to_rise(rt: HostRuntime) -> Result<(), Fail> {
+    for &(space, name, is_made) in ONE_MORE_NAME {
+        assert_eq!(rt; with_name(rt.alloc(), space, name)?, is_made, "{space}");
+    }
+    Ok(())
 }

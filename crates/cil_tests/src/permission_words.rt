@@ -1,27 +1,25 @@
 //! What permission words name: the class of their class word, where that has the permission.
 
-ghost use Rattle.std.specs.Prelude.{◌≤◌, All, length};
+ghost use Rattle.cil_macros.specs.Items.{items_in, namespaces_in};
 ghost use Rattle.cil_names.specs.Entries.{AreEntries};
-ghost use Rattle.cil_names.specs.Placed.{ArePlaced};
 
-use crate::declared_names::spaces;
+use crate::answers::{Question, answer_to, show_entry};
 use crate::look_ups::word;
-use crate::placed_words::{GLOBAL, P, PQ, Place, instances, placings, show_entry};
-use crate::policies::set_of;
-use cil_names::{Instance, Names, Spaces, are_placed, declare, permissions_of};
-use cil_syntax::{Sign, Statement, written};
+use cil_macros::Instances;
+use cil_names::{Names, are_numbers, declare, permissions_of};
+use cil_syntax::Sign;
 use std::alloc::Global;
 use std::test::Fail;
 
 /// A class word, a permission word, the namespaces of their scope, and the class that is named, or `-`.
 type Row = (&'static [u8], &'static [u8], &'static [usize], &'static str);
 
-/// What rows are about, a text, and the places of its statements.
-const NAMED: &[(&str, &str, &[Place], &[Row])] = &[
+/// What rows are about, and a text. The namespaces have numbers in the order in which they are reached: `p` the number 1, `r` 2
+/// and `p.q` 3.
+const NAMED: &[(&str, &str, &[Row])] = &[
     (
         "the permissions of a class",
-        "(class c (p q))",
-        &[P],
+        "(block p (class c (p q)))",
         &[
             (b"c", b"p", &[1, 0], "Class p.c"),
             (b"c", b"q", &[1, 0], "Class p.c"),
@@ -33,8 +31,7 @@ const NAMED: &[(&str, &str, &[Place], &[Row])] = &[
     ),
     (
         "the first class of the scope, though it may lack the permission",
-        "(class c (p))(class c (q))",
-        &[P, GLOBAL],
+        "(class c (q))(block p (class c (p)))(block r (type x))",
         &[
             (b"c", b"p", &[1, 0], "Class p.c"),
             (b"c", b"q", &[1, 0], "-"),
@@ -46,8 +43,7 @@ const NAMED: &[(&str, &str, &[Place], &[Row])] = &[
     ),
     (
         "class words with dots",
-        "(class c (p))(class c (q))(class c (r))",
-        &[P, GLOBAL, PQ],
+        "(class c (q))(block p (class c (p))(block q (class c (r))))(block r (type x))",
         &[
             (b".c", b"q", &[1, 0], "Class c"),
             (b".c", b"p", &[1, 0], "-"),
@@ -59,8 +55,7 @@ const NAMED: &[(&str, &str, &[Place], &[Row])] = &[
     ),
     (
         "a class that is not there",
-        "(type k)(class c (p))",
-        &[GLOBAL, P],
+        "(type k)(block p (class c (p)))(block r (type x))",
         &[
             (b"k", b"p", &[1, 0], "-"),
             (b"d", b"p", &[1, 0], "-"),
@@ -69,82 +64,68 @@ const NAMED: &[(&str, &str, &[Place], &[Row])] = &[
         ],
     ),
     (
-        "a type of the same name hides no class",
-        "(type c)(class c (p))",
-        &[P, GLOBAL],
-        &[(b"c", b"p", &[1, 0], "Class c"), (b"c", b"q", &[1, 0], "-")],
+        "a type, a block or a macro of the same name hides no class",
+        "(class c (p))(block p (type c)(block c))(block r (macro c ()))",
+        &[
+            (b"c", b"p", &[1, 0], "Class c"),
+            (b"c", b"q", &[1, 0], "-"),
+            (b"c", b"p", &[2, 0], "Class c"),
+        ],
     ),
     (
-        "a class that is declared twice is one",
-        "(class c (p q))(class c (p q))",
-        &[P, P],
+        "a class that is declared twice, or inherited twice, is one",
+        "(block p (class c (p q))(class c (p q)))(block r (blockinherit p)(blockinherit p))",
         &[
             (b"c", b"q", &[1, 0], "Class p.c"),
             (b"c", b"r", &[1, 0], "-"),
+            (b"c", b"q", &[2, 0], "Class r.c"),
         ],
     ),
 ];
 
-/// Which class of some instances a permission word names.
-fn named(
-    alloc: Global,
-    spaces: &Spaces,
-    names: &Names,
-    instances: &[Instance],
+/// What the permission word of a row names: the kind and the qualified name of the class, or `-`.
+#[derive(Drop)]
+struct PermissionWord {
     row: Row,
-) -> Result<Option<usize>, Fail>
-    requires entries { AreEntries spaces.now instances.now names.now }
-    requires placed { ArePlaced spaces.now instances.now }
+}
+
+impl Question for PermissionWord {
+    fn answer(&self, alloc: Global, instances: &Instances) -> Option<String> {
+        let names = declare(alloc, instances).ok()?;
+        let mut out = String::new(alloc);
+        match named(alloc, &names, instances, self.row)? {
+            Some(d) => {
+                let entry = names.entries().get(d)?;
+                show_entry(alloc, &mut out, instances.namespaces(), entry)?;
+            }
+            None => write!(out, "-").ok()?,
+        }
+        Some(out)
+    }
+}
+
+/// The number of the class that the permission word of a row names. None where there is no memory, or no such namespace.
+fn named(alloc: Global, names: &Names, instances: &Instances, row: Row) -> Option<Option<usize>>
+    requires { AreEntries (namespaces_in instances.now) (items_in instances.now) names.now }
 {
     let (class, permission, scope, _) = row;
-    if !spaces.has_all(scope) {
-        return Err(Fail::from("no namespace"));
+    let spaces = instances.namespaces();
+    if !are_numbers(spaces, scope) {
+        return None;
     }
-    let permissions = permissions_of(alloc, spaces, names, instances)?;
+    let permissions = permissions_of(alloc, names, instances).ok()?;
     let class = word(class, Sign::Classes);
     let permission = word(permission, Sign::Permission);
-    Ok(names.resolve_permission(spaces, permissions.as_slice(), &class, &permission, scope))
-}
-
-/// The same, shown.
-fn shown(
-    alloc: Global,
-    statements: &[Statement],
-    places: &[Place],
-    row: Row,
-) -> Result<String, Fail> {
-    let spaces = spaces(alloc).ok_or("no namespaces")?;
-    let placings = placings(alloc, places).ok_or("no places")?;
-    let instances = instances(alloc, statements, placings.as_slice()).ok_or("no instances")?;
-    let instances = instances.as_slice();
-    if !are_placed(&spaces, instances) {
-        return Err(Fail::from("no namespace"));
-    }
-    let names = declare(alloc, &spaces, instances)?;
-    let mut out = String::new(alloc);
-    match named(alloc, &spaces, &names, instances, row)? {
-        Some(d) => show_entry(&mut out, names.entries().get(d).ok_or("no entry")?)?,
-        None => write!(out, "-")?,
-    }
-    Ok(out)
-}
-
-/// The same of the statements of a text.
-fn answer(alloc: Global, text: &str, places: &[Place], row: Row) -> Result<String, Fail> {
-    let modules = set_of(alloc, &[text])?;
-    let program = written(alloc, &modules)?;
-    shown(alloc, program.statements(), places, row)
+    Some(names.resolve_permission(spaces, permissions.as_slice(), &class, &permission, scope))
 }
 
 #[test]
 fn permission_words_name_the_class_that_has_them(rt: HostRuntime) -> Result<(), Fail> {
-    for &(name, text, places, rows) in NAMED {
+    for &(name, text, rows) in NAMED {
         for (i, &row) in rows.iter().enumerate() {
-            assert_eq!(rt;
-                answer(rt.alloc(), text, places, row)?.as_str(),
-                row.3,
-                "{name}, row {i}"
-            );
+            let question = PermissionWord { row };
+            let got = answer_to(rt.alloc(), &[text], &question).ok_or("no answer")?;
+            assert_eq!(rt; got.as_str(), row.3, "{name}, row {i}");
         }
     }
     Ok(())

@@ -27,6 +27,27 @@ pub(crate) const ORDERS: &[[&str; 3]] = &[
     [Z, Y, X],
 ];
 
+/// Three modules of blocks that inherit from one another, and a macro of a template: types `t`, `n.t` and `k.t` that may open
+/// themselves, of which `k.t` and `t` may read `n.t`.
+pub(crate) const LIB: &str =
+    "(block lib (blockabstract lib)(type t)(macro uses ((type s)) (roletype r s)(allow s self (file (open))))(call uses (t)))";
+
+pub(crate) const HEIRS: &str =
+    "(block k (blockinherit n)(allow t n.t (file (read))))(block n (blockinherit lib))";
+
+pub(crate) const TOP: &str =
+    "(user u)(role r)(userrole u r)(class file (read open))(blockinherit k)";
+
+/// The three in each order.
+pub(crate) const BLOCKS_IN_ORDERS: &[[&str; 3]] = &[
+    [LIB, HEIRS, TOP],
+    [LIB, TOP, HEIRS],
+    [HEIRS, LIB, TOP],
+    [HEIRS, TOP, LIB],
+    [TOP, LIB, HEIRS],
+    [TOP, HEIRS, LIB],
+];
+
 /// The set of some texts, installed in this order.
 pub(crate) fn set_of(alloc: Global, texts: &[&str]) -> Result<ModuleSet, ReadError> {
     let mut modules = ModuleSet::new(alloc);

@@ -1,33 +1,30 @@
 //! The numbers of declared symbols, and the permissions of classes.
 
-use crate::declared_names::spaces;
-use crate::look_ups::{Declared, entries};
-use crate::placed_words::{
-    GLOBAL, INNER, OPTIONAL, P, PQ, Place, R, instances, placings, show_entry,
-};
-use crate::policies::set_of;
-use cil_names::{Lookup, Names, Numbering, OptSet, are_placed, declare, numbered, permissions_of};
-use cil_syntax::{Bytes, Kind, Statement, written};
+use crate::answers::{Question, answer_to, show_entry};
+use crate::look_ups::{Declared, entries, spaces};
+use cil_blocks::Namespaces;
+use cil_macros::Instances;
+use cil_names::{Lookup, Names, Numbering, OptSet, declare, numbered, permissions_of};
+use cil_syntax::{Bytes, Kind};
 use std::alloc::Global;
 use std::test::Fail;
 
 /// Adds some names, with blanks between and in parentheses.
-fn show_names(out: &mut String, names: &[Bytes]) -> Result<(), Fail> {
-    write!(out, "(")?;
+fn show_names(out: &mut String, names: &[Bytes]) -> Option<()> {
+    write!(out, "(").ok()?;
     for (i, name) in names.iter().enumerate() {
-        let name = str::from_utf8(name.as_slice()).ok().ok_or("no text")?;
+        let name = str::from_utf8(name.as_slice()).ok()?;
         let blank = if i > 0 { " " } else { "" };
-        write!(out, "{blank}{name}")?;
+        write!(out, "{blank}{name}").ok()?;
     }
-    write!(out, ")")?;
-    Ok(())
+    write!(out, ")").ok()
 }
 
 /// The users, roles, types and classes, and the number of each entry.
 fn show_numbers(alloc: Global, numbering: &Numbering) -> Result<String, Fail> {
     let mut out = String::new(alloc);
     for kind in [Kind::User, Kind::Role, Kind::Type_, Kind::Class] {
-        show_names(&mut out, numbering.sections.names(kind))?;
+        show_names(&mut out, numbering.sections.names(kind)).ok_or("no names")?;
     }
     for number in numbering.numbers.as_slice() {
         write!(out, " {number}")?;
@@ -37,7 +34,7 @@ fn show_numbers(alloc: Global, numbering: &Numbering) -> Result<String, Fail> {
 
 /// The numbers of declared names where some optionals are enabled.
 fn numbers(alloc: Global, declared: &[Declared], flags: &[bool]) -> Result<String, Fail> {
-    let spaces = spaces(alloc).ok_or("no namespaces")?;
+    let spaces = spaces(alloc)?;
     let names = Names::checked(&spaces, entries(alloc, declared)?).ok_or("they do not rise")?;
     let enabled = OptSet::of(Vec::from_slice(alloc, flags)?);
     let lookup = Lookup {
@@ -151,94 +148,76 @@ fn symbols_are_numbered_by_their_names(rt: HostRuntime) -> Result<(), Fail> {
     Ok(())
 }
 
+/// The declared names with the permissions of each.
+struct ListedPermissions {}
+
+impl Question for ListedPermissions {
+    fn answer(&self, alloc: Global, instances: &Instances) -> Option<String> {
+        let names = declare(alloc, instances).ok()?;
+        let permissions = permissions_of(alloc, &names, instances).ok()?;
+        show_permissions(
+            alloc,
+            instances.namespaces(),
+            &names,
+            permissions.as_slice(),
+        )
+    }
+}
+
 /// The permissions of each declared name.
 fn show_permissions(
     alloc: Global,
+    spaces: &Namespaces,
     names: &Names,
     permissions: &[Vec<Bytes>],
-) -> Result<String, Fail> {
+) -> Option<String> {
     let mut out = String::new(alloc);
     for (entry, listed) in names.entries().iter().zip(permissions) {
-        write!(out, "[")?;
-        show_entry(&mut out, entry)?;
+        write!(out, "[").ok()?;
+        show_entry(alloc, &mut out, spaces, entry)?;
         show_names(&mut out, listed.as_slice())?;
-        write!(out, "]")?;
+        write!(out, "]").ok()?;
     }
-    Ok(out)
+    Some(out)
 }
 
-/// The permissions that statements at their places list.
-fn listed(alloc: Global, statements: &[Statement], places: &[Place]) -> Result<String, Fail> {
-    let spaces = spaces(alloc).ok_or("no namespaces")?;
-    let placings = placings(alloc, places).ok_or("no places")?;
-    let instances = instances(alloc, statements, placings.as_slice()).ok_or("no instances")?;
-    let instances = instances.as_slice();
-    if !are_placed(&spaces, instances) {
-        return Err(Fail::from("no namespace"));
-    }
-    let names = declare(alloc, &spaces, instances)?;
-    let permissions = permissions_of(alloc, &spaces, &names, instances)?;
-    show_permissions(alloc, &names, permissions.as_slice())
-}
-
-/// The same of the statements of a text.
-fn permissions(alloc: Global, text: &str, places: &[Place]) -> Result<String, Fail> {
-    let modules = set_of(alloc, &[text])?;
-    let program = written(alloc, &modules)?;
-    listed(alloc, program.statements(), places)
-}
-
-/// A text, the places of its statements, and the permissions of each declared name.
-const LISTED: &[(&str, &[Place], &str)] = &[
-    ("", &[], "[Role object_r()]"),
-    ("(class w ())", &[GLOBAL], "[Role object_r()][Class w()]"),
+/// A text, and the permissions of each declared name.
+const LISTED: &[(&str, &str)] = &[
+    ("", "[Role object_r()]"),
+    ("(class w ())", "[Role object_r()][Class w()]"),
     (
         "(class file (read append open))",
-        &[GLOBAL],
         "[Class file(append open read)][Role object_r()]",
     ),
     // In byte order, each once.
     (
-        "(class w (b a_ a B a1 b a-))",
-        &[PQ],
+        "(block p (block q (class w (b a_ a B a1 b a-))))",
         "[Role object_r()][Class p.q.w(B a a- a1 a_ b)]",
     ),
     (
         "(class w (q p))(class w (q p))",
-        &[GLOBAL, GLOBAL],
         "[Role object_r()][Class w(p q)]",
     ),
     (
-        "(class w (b a))(class w (c a))(class v (d))(class w ())",
-        &[R, P, P, PQ],
+        "(block p (class w (c a))(class v (d))(block q (class w ())))(block r (class w (b a)))",
         "[Role object_r()][Class p.v(d)][Class p.w(a c)][Class r.w(a b)][Class p.q.w()]",
     ),
     (
-        "(class w (p))(type w)(type p)(allow p w (w (p)))",
-        &[GLOBAL, GLOBAL, GLOBAL, GLOBAL],
-        "[Role object_r()][Type_ p()][Type_ w()][Class w(p)]",
+        "(class w (p))(type w)(type p)(allow p w (w (p)))(macro m ((class w)))",
+        "[Macro m()][Role object_r()][Type_ p()][Type_ w()][Class w(p)]",
     ),
-    // In optionals, and outside all of them too.
+    // A class of a template, in each namespace that inherits it.
     (
-        "(class v (p))(class w (p))",
-        &[INNER, OPTIONAL],
-        "[Role object_r()][Class v()][Class w()]",
-    ),
-    (
-        "(class w (p))(class w (p))",
-        &[OPTIONAL, GLOBAL],
-        "[Role object_r()][Class w(p)]",
+        "(block t (blockabstract t)(class w (q p)))(block n (blockinherit t))(block k (blockinherit t)(class v (p)))",
+        "[Role object_r()][Class n.w(p q)][Class k.v(p)][Class k.w(p q)]",
     ),
 ];
 
 #[test]
 fn classes_have_the_permissions_that_are_listed(rt: HostRuntime) -> Result<(), Fail> {
-    for &(text, places, wanted) in LISTED {
-        assert_eq!(rt;
-            permissions(rt.alloc(), text, places)?.as_str(),
-            wanted,
-            "{text}"
-        );
+    for &(text, wanted) in LISTED {
+        let got = answer_to(rt.alloc(), &[text], &ListedPermissions {}).ok_or("no answer")?;
+        assert_eq!(rt; got.as_str(), wanted, "{text}");
     }
     Ok(())
 }

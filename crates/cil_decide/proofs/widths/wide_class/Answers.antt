@@ -1,30 +1,75 @@
 use Rattle.std.specs.List.{list_all}
-use Rattle.std.proofs.Common.{◌<◌, ◌≤◌, ◌∙◌, ap, length, rules, sym}
-use Rattle.cil_names.specs.Entries.{is_in}
+use Rattle.std.specs.Prelude.{length}
+use Rattle.std.proofs.Common.{◌≡◌, ◌<◌, ◌≤◌, ◌∙◌, ap, rules, subst, sym}
+use Rattle.cil_sexpr.specs.Places.{get_contains}
+use Rattle.cil_blocks.specs.Namespaces.{space_at}
+use Rattle.cil_syntax.specs.declared.kind.Sign.TheVariants as signs
+use Rattle.cil_macros.specs.Items.{item_at, items_in, word_at}
+use Rattle.cil_macros.proofs.ItemLemmas.{item_there}
+use Rattle.cil_names.specs.Entries.{HasNoEntryIn, IsEntryIn, is_in}
 use Rattle.cil_names.specs.Unresolved.{listed_at}
 use Rattle.cil_decide.specs.Table.{most_permissions}
-use Rattle.cil_decide.proofs.WidthLemmas.{declares_none, few, many, no_entry}
+use Rattle.cil_decide.proofs.ItemsThere.{is_said, nothing_there}
+use Rattle.cil_decide.proofs.WidthLemmas.{declares_none, few, many, no_entry, not_enabled, nothing_wide}
 use Rattle.cil_decide.proofs.widths.wide_class.Goals as goal
 
+pub entry-requires-clause-ordered : goal.entry-requires-clause-ordered
+entry-requires-clause-ordered c = c.requires.entries.ordered
+
+pub entry-requires-clause-within : goal.entry-requires-clause-within
+entry-requires-clause-within c = subst (λ ss. c.space-space.result ≤ length ss) (sym c.requires.spaces) c.space-space.ensures.within
+
+pub returns-then-not-has_all : goal.returns-then-not-has_all
+returns-then-not-has_all c =
+    not_enabled (items_in c.args.instances.now) (is_in c.args.lookup.now.enabled.now) (item_at c.args.instances.now c.args.at)
+    (ap (list_all (is_in c.args.lookup.now.enabled.now)) (sym c.round.ensures) ∙ sym c.has_all.ensures ∙ c.if-not-has_all.true)
+
 pub returns-in_default : goal.returns-in_default
-returns-in_default c = λ is entries member permissions.
-    declares_none c.args.lookup.now.spaces.now is c.args.lookup.now.names.now (is_in c.args.lookup.now.enabled.now) c.args.instance.now c.in_default.ensures
+returns-in_default c =
+    nothing_wide (items_in c.args.instances.now) (is_in c.args.lookup.now.enabled.now) (item_at c.args.instances.now c.args.at) (nothing_there c.args.instances.now c.args.at c.in_default.ensures)
+
+pub returns-in_default-declared_class : goal.returns-in_default-declared_class
+returns-in_default-declared_class c =
+    let i = c.args.instances.now in
+    let s = c.in-Some.statement.now in
+    declares_none c.args.lookup.now.spaces.now (items_in i) c.args.lookup.now.names.now (is_in c.args.lookup.now.enabled.now) (item_at i c.args.at) s (word_at i c.args.at)
+    (is_said i c.args.at s c.in-Some.ensures) c.in_default-declared_class.ensures
 
 pub returns-in_default-entry : goal.returns-in_default-entry
-returns-in_default-entry c = λ is entries member permissions.
-    no_entry c.args.lookup.now.spaces.now is c.args.lookup.now.names.now (is_in c.args.lookup.now.enabled.now) c.args.instance.now c.in-Some.name.at c.in-Some.name.bytes.now
-    c.in-Some.ensures entries member c.in_default-entry.ensures
+returns-in_default-entry c =
+    let i = c.args.instances.now in
+    let s = c.in-Some.statement.now in
+    let ss = c.args.lookup.now.spaces.now in
+    let x = item_at i c.args.at in
+    let space : space_at ss c.space-space.result ≡ x.space = ap (λ z. space_at z c.space-space.result) c.requires.spaces ∙ c.space-space.ensures.is in
+    let name = c.in-Some-declared_class.name in
+    no_entry ss (items_in i) c.args.lookup.now.names.now (is_in c.args.lookup.now.enabled.now) x s (word_at i c.args.at) (is_said i c.args.at s c.in-Some.ensures) name.at name.bytes.now
+    c.in-Some-declared_class.ensures c.requires.entries (get_contains (items_in i) c.args.at x (item_there i c.args.at c.requires.within))
+    (subst (HasNoEntryIn ss c.args.lookup.now.names.now name.bytes.now signs.Classes) space c.in_default-entry.ensures)
 
 pub returns-then-listed_count-le-MOST_PERMISSIONS : goal.returns-then-listed_count-le-MOST_PERMISSIONS
 returns-then-listed_count-le-MOST_PERMISSIONS c =
     let short : length (listed_at c.args.permissions.now c.in-Some-entry.class) ≤ most_permissions = let h = c.if-listed_count-le-MOST_PERMISSIONS.true in let n = c.listed_count.ensures in search (rules, h, n) in
-    λ is entries member permissions.
-    few c.args.lookup.now.spaces.now is c.args.lookup.now.names.now (is_in c.args.lookup.now.enabled.now) c.args.instance.now c.in-Some.name.at c.in-Some.name.bytes.now
-    c.in-Some.ensures entries member c.args.permissions.now permissions c.in-Some-entry.class c.in-Some-entry.ensures short
+    let i = c.args.instances.now in
+    let s = c.in-Some.statement.now in
+    let ss = c.args.lookup.now.spaces.now in
+    let x = item_at i c.args.at in
+    let space : space_at ss c.space-space.result ≡ x.space = ap (λ z. space_at z c.space-space.result) c.requires.spaces ∙ c.space-space.ensures.is in
+    let name = c.in-Some-declared_class.name in
+    few ss (items_in i) c.args.lookup.now.names.now (is_in c.args.lookup.now.enabled.now) x s (word_at i c.args.at) (is_said i c.args.at s c.in-Some.ensures) name.at name.bytes.now
+    c.in-Some-declared_class.ensures c.requires.entries (get_contains (items_in i) c.args.at x (item_there i c.args.at c.requires.within)) c.args.permissions.now c.requires.permissions c.in-Some-entry.class
+    (subst (λ n. IsEntryIn ss c.args.lookup.now.names.now name.bytes.now signs.Classes n c.in-Some-entry.class) space c.in-Some-entry.ensures) short
 
 pub returns : goal.returns
 returns c =
     let big : most_permissions < length (listed_at c.args.permissions.now c.in-Some-entry.class) = let h = c.if-listed_count-le-MOST_PERMISSIONS.false in let n = c.listed_count.ensures in search (rules, h, n) in
-    λ is entries member permissions.
-    many c.args.lookup.now.spaces.now is c.args.lookup.now.names.now (is_in c.args.lookup.now.enabled.now) c.args.instance.now c.in-Some.name.at c.in-Some.name.bytes.now
-    c.in-Some.ensures entries member c.args.permissions.now permissions c.in-Some-entry.class c.in-Some-entry.ensures (ap (list_all (is_in c.args.lookup.now.enabled.now)) (sym c.as_slice.ensures.value) ∙ sym c.has_all.ensures ∙ c.if-not-has_all.false) big
+    let i = c.args.instances.now in
+    let s = c.in-Some.statement.now in
+    let ss = c.args.lookup.now.spaces.now in
+    let x = item_at i c.args.at in
+    let space : space_at ss c.space-space.result ≡ x.space = ap (λ z. space_at z c.space-space.result) c.requires.spaces ∙ c.space-space.ensures.is in
+    let name = c.in-Some-declared_class.name in
+    many ss (items_in i) c.args.lookup.now.names.now (is_in c.args.lookup.now.enabled.now) x s (word_at i c.args.at) (is_said i c.args.at s c.in-Some.ensures) name.at name.bytes.now
+    c.in-Some-declared_class.ensures c.requires.entries (get_contains (items_in i) c.args.at x (item_there i c.args.at c.requires.within)) c.args.permissions.now c.requires.permissions c.in-Some-entry.class
+    (subst (λ n. IsEntryIn ss c.args.lookup.now.names.now name.bytes.now signs.Classes n c.in-Some-entry.class) space c.in-Some-entry.ensures)
+    (ap (list_all (is_in c.args.lookup.now.enabled.now)) (sym c.round.ensures) ∙ sym c.has_all.ensures ∙ c.if-not-has_all.false) big
