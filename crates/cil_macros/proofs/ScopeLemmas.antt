@@ -1,14 +1,15 @@
 -- The scope of what a call brings: those of the macros round it, the innermost first, and then that of the call that stands.
-use Rattle.std.proofs.Common.{◌≡◌, ◌⊎◌, ◌==◌, ℕ, ◌+◌, ◌<◌, ◌≤◌, false, List, [], ◌∷◌, ◌++◌, length, map, refl, sym, ◌∙◌, ap, subst, inl, inr, arith}
+use Rattle.std.proofs.Common.{◌≡◌, ◌⊎◌, ◌==◌, ℕ, ◌+◌, ◌<◌, ◌≤◌, false, List, [], ◌∷◌, ◌++◌, length, get_or, map, take, refl, sym, ◌∙◌, ap, subst, inl, inr, arith}
 use Rattle.std.specs.Prelude.{Some, slice_get}
 use Rattle.std.specs.List.{list_any}
+use Rattle.std.proofs.lemmas.List.{take_more}
 use Rattle.cil_sexpr.specs.Lists.{contains_none}
 use Rattle.cil_sexpr.specs.Places.{some_same}
 use Rattle.cil_syntax.specs.Scopes.{Scope, apart, tidy}
 use Rattle.cil_blocks.specs.declared.namespaces.Space.{Space}
 use Rattle.cil_blocks.specs.Contents.{Standing}
 use Rattle.cil_blocks.specs.Namespaces.{AreNamespaces, space_at}
-use Rattle.cil_blocks.specs.Numbers.{with_numbers}
+use Rattle.cil_blocks.specs.Numbers.{with_number, with_numbers}
 use Rattle.cil_blocks.specs.Places.{AreStandings, Numbered, Standings, entries_in, places_in, spaces_in}
 use Rattle.cil_blocks.proofs.NumberLemmas.{all_apart, all_pushed, all_within, closed, closed_within}
 use Rattle.cil_blocks.proofs.OnceLemmas.{more_numbers, no_global, scope_again}
@@ -18,7 +19,7 @@ use Rattle.cil_macros.specs.Calls.{placed_called}
 use Rattle.cil_macros.specs.Entries.{IsBodyAt}
 use Rattle.cil_macros.specs.Macros.{all_standing}
 use Rattle.cil_macros.specs.Placed.{Placed}
-use Rattle.cil_macros.specs.Walks.{IsScope, placed_in, written_in}
+use Rattle.cil_macros.specs.Walks.{HasScope, IsBodyScope, IsScope, IsScopePlace, placed_in, written_in}
 use Rattle.cil_macros.proofs.CallLemmas.{placed_there, stood_at}
 
 -- the numbers of one scope, and behind them those of another one
@@ -58,6 +59,13 @@ module _ (s : Standings) (are : AreStandings s) (spaces : AreNamespaces (spaces_
       (x.place, x.is, record { within = x.so.within; is = x.so.is_scope })
 
   module _ (at : ℕ) where
+    -- of two places with the same scope the one does as well as the other
+    behind_from : (place from : ℕ) (cur : List ℕ) → place < length (entries_in s) + length cs → IsScopePlace (placed_in s cs) place from
+        → IsBehind s cs at place cur → IsBehind s cs at from cur
+    behind_from place from cur h is_from so p q ns e f is =
+        let (r, there) = placed_there s cs place h in
+        so p r ns e there (subst (λ (l : Scope). IsScope (spaces_in s) l ns) (sym (is_from.same r q there f)) is)
+
     pub begun_left : (none : List ℕ) → none ≡ [] → at < length (entries_in s) + length cs → IsLeft s cs at at none
     begun_left none e h = record { within = h; unclosed = ap (list_any (λ k. 0 == k)) e; so = inl (refl, e) }
 
@@ -87,15 +95,16 @@ module _ (s : Standings) (are : AreStandings s) (spaces : AreNamespaces (spaces_
           subst (λ (ks : List ℕ). IsScope (spaces_in s) p.standing.scope (ks ++ 0 ∷ [])) (joined_behind cur ms ns ∙ ap (λ ks. with_numbers ks ns) (sym e2))
           (so p r (with_numbers (with_numbers [] ms) ns ++ 0 ∷ []) e there scope)
 
-      pub added_left : IsLeft s cs at place cur → IsLeft s cs at b.call new
-      added_left l =
+      pub added_left : (from : ℕ) → IsScopePlace (placed_in s cs) b.call from → IsLeft s cs at place cur → IsLeft s cs at from new
+      added_left from is_from l =
           let before = x.before in
+          let near = is_from.near in
           let h = l.within in
           let (n, at_n, scope) = standing_scope b.called x.so.opened.macro x.so.is_macro in
           record {
-            within = omega (arith, before, h);
+            within = omega (arith, before, near, h);
             unclosed = ap (list_any (λ k. 0 == k)) (added n at_n) ∙ no_global n.1 cur ∙ l.unclosed;
-            so = inr (behind_by h l.so);
+            so = inr (behind_from b.call from new (omega (arith, before, h)) is_from (behind_by h l.so));
           }
 
     -- at last the scope of the call that stands
@@ -111,3 +120,52 @@ module _ (s : Standings) (are : AreStandings s) (spaces : AreNamespaces (spaces_
         subst (IsScope (spaces_in s) p.standing.scope)
         (ap (λ (ks : List ℕ). ks ++ 0 ∷ []) (sym all) ∙ sym (close (ap (list_any (λ k. 0 == k)) all ∙ no_global n.1 cur ∙ l.unclosed)))
         (so p q n.1 e there (subst (λ (r : Placed). IsScope (spaces_in s) r.standing.scope n.1) (sym is) scope))
+
+-- ---- the place of what has the same scope
+
+module _ (s : Standings) (cs : List Called) where
+  pub own_place : (at : ℕ) → IsScopePlace (placed_in s cs) at at
+  own_place at = record {
+    near = omega arith;
+    same = λ p q e f. ap (λ (x : Placed). x.standing.scope) (some_same p q (sym e ∙ f));
+  }
+
+  -- what a call brings has the scope that its body names
+  pub body_place : (at : ℕ) (b : Body) → IsBodyAt (written_in s) (all_standing s) cs at b → (from : ℕ) → IsBodyScope (all_standing s) (placed_in s cs) b.call b.called from
+      → IsScopePlace (placed_in s cs) at from
+  body_place at b x from so = record {
+    near = let before = x.before in let near = so.near in omega (arith, before, near);
+    same = λ p q e f.
+        ap (λ (r : Placed). r.standing.scope) (some_same p (placed_called x.so.call x.so.opened x.statement) (sym e ∙ x.placed))
+        ∙ so.same x.so.call q x.so.opened.macro x.so.is_call f x.so.is_macro;
+  }
+
+  -- a call has the scope of a place, and the macro adds nothing
+  pub nothing_added : (at called from : ℕ) (ks : List ℕ) → HasScope s cs at ks → IsScopePlace (placed_in s cs) at from
+      → ((m : Standing) (l : Scope) → slice_get (all_standing s) called ≡ Some m → IsScope (spaces_in s) l ks → tidy (m.scope ++ l) ≡ l)
+      → IsBodyScope (all_standing s) (placed_in s cs) at called from
+  nothing_added at called from ks has is_from none = record {
+    near = is_from.near;
+    same = λ p q m e f g. none m p.standing.scope g (has p e) ∙ is_from.same p q e f;
+  }
+
+  -- two scopes with the same numbers are one
+  pub same_scope : AreStandings s → AreNamespaces (spaces_in s) → (called : ℕ) (own all closed_now ks : List ℕ)
+      → ((p : Numbered) → slice_get (places_in s) called ≡ Some p → own ≡ with_numbers [] p.1) → all ≡ with_numbers own ks
+      → (list_any (λ k. 0 == k) all ≡ false → closed_now ≡ all ++ 0 ∷ []) → closed_now ≡ ks
+      → (m : Standing) (l : Scope) → slice_get (all_standing s) called ≡ Some m → IsScope (spaces_in s) l ks → tidy (m.scope ++ l) ≡ l
+  same_scope are spaces called own all closed_now ks added more close same m l e is =
+      let (n, at_n, scope) = standing_scope s are spaces cs called m e in
+      let its = added n at_n in
+      let whole = more ∙ ap (λ xs. with_numbers xs ks) its in
+      let none : list_any (λ k. 0 == k) all ≡ false = ap (list_any (λ k. 0 == k)) whole ∙ no_global ks (with_numbers [] n.1) ∙ no_global n.1 [] in
+      sym (joined_scope (spaces_in s) spaces m.scope l n.1 ks scope is).is
+      ∙ ap (λ xs. map (space_at (spaces_in s)) (xs ++ 0 ∷ [])) (sym whole) ∙ ap (map (space_at (spaces_in s))) (sym (close none) ∙ same) ∙ is.is
+
+-- one number more is put in
+pub added_one : (numbers : List ℕ) (k : ℕ) (old cur new : List ℕ) → k < length numbers → cur ≡ with_numbers old (take k numbers)
+    → new ≡ with_number cur (get_or numbers k 0) → new ≡ with_numbers old (take (k + 1) numbers)
+added_one numbers k old cur new h so e =
+    e ∙ ap (λ xs. with_number xs (get_or numbers k 0)) so
+    ∙ sym (more_numbers old (take k numbers) (get_or numbers k 0 ∷ []))
+    ∙ ap (with_numbers old) (sym (take_more numbers k 0 h))

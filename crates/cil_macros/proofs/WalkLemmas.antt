@@ -1,6 +1,6 @@
 -- The walk: what a call brings is put behind what was brought before, and its body is kept.
 use Rattle.std.proofs.Common.{◌≡◌, ℕ, zero, suc, ◌+◌, ◌<◌, ◌≤◌, ◌⊎◌, true, false, List, [], ◌∷◌, ◌++◌, length, get_or, map, take, refl, sym, ◌∙◌, ap, subst, inl, inr, arith, append_assoc}
-use Rattle.std.specs.Prelude.{Contains, Some, slice_get}
+use Rattle.std.specs.Prelude.{Contains, IfSome, Option, None, Some, slice_get}
 use Rattle.std.proofs.lemmas.List.{append-nil, map-append, take_more}
 use Rattle.std.proofs.lemmas.List.Elements.{Contains-append_cases}
 use Rattle.cil_sexpr.specs.Lists.{contains_cases, contains_none}
@@ -19,7 +19,7 @@ use Rattle.cil_macros.specs.Calls.{IsPlaced, Unfolded, is_call, placed_cmp, unfo
 use Rattle.cil_macros.specs.Entries.{AreBodies, AreBodySpaces, IsBody, IsOf, placed_by, placed_from, placed_of, placed_under}
 use Rattle.cil_macros.specs.Opens.{opens_placed, starts}
 use Rattle.cil_macros.specs.Placed.{Placed}
-use Rattle.cil_macros.specs.Walks.{IsUnfoldedAt, called_by, placed_in, written_in}
+use Rattle.cil_macros.specs.Walks.{AreBodyScopes, IsBodyScope, IsUnfoldedAt, called_by, placed_in, written_in}
 use Rattle.cil_macros.specs.Macros.{all_standing}
 use Rattle.cil_macros.proofs.EntryLemmas.{AreSoFar, all_placed, opens_so, placed_length, started, too_many, went_on}
 use Rattle.cil_macros.proofs.CallLemmas.{placed_there}
@@ -181,35 +181,76 @@ module _ (ws : List Written) (ss : List Standing) where
           | inr none ↦ absurd (contains_none x none)
         ]
 
+    -- and the places from which they have their scopes
+    pub scopes_more : AreBodyScopes ss (placed_of ws ss cs) bs → IfSome b.scope (IsBodyScope ss (placed_of ws ss cs) b.call b.called)
+        → AreBodyScopes ss (placed_of ws ss new) (bs ++ b ∷ [])
+    scopes_more old so x c = by (Contains-append_cases bs (b ∷ []) x c)
+      where
+        old_place : (k : ℕ) (p : Placed) → k < length (placed_of ws ss cs) → slice_get (placed_of ws ss new) k ≡ Some p → slice_get (placed_of ws ss cs) k ≡ Some p
+        old_place k p h g = sym (get_in_front (placed_of ws ss cs) more k h) ∙ ap (λ ps. slice_get ps k) (sym placed_more) ∙ g
+
+        stays : (call called from : ℕ) → call < length (placed_of ws ss cs) → IsBodyScope ss (placed_of ws ss cs) call called from
+            → IsBodyScope ss (placed_of ws ss new) call called from
+        stays call called from h y = record {
+          near = y.near;
+          same = λ p q m f g k. let near = y.near in y.same p q m (old_place call p h f) (old_place from q (omega (arith, h, near)) g) k;
+        }
+
+        all_stay : (call called : ℕ) (o : Option ℕ) → call < length (placed_of ws ss cs) → IfSome o (IsBodyScope ss (placed_of ws ss cs) call called)
+            → IfSome o (IsBodyScope ss (placed_of ws ss new) call called)
+        all_stay call called None h y = y
+        all_stay call called (Some from) h y = stays call called from h y
+
+        by : (Contains bs x ⊎ Contains (b ∷ []) x) → IfSome x.scope (IsBodyScope ss (placed_of ws ss new) x.call x.called)
+        by (inl d) =
+            let i = get_of_contains bs x d in
+            let y = are.each i.0 x i.1 in
+            all_stay x.call x.called x.scope (in_range (placed_of ws ss cs) x.call y.call y.is_call) (old x d)
+        by (inr d) = elim (contains_cases x b [] d) [
+          | inl same ↦ subst (λ (z : Body). IfSome z.scope (IsBodyScope ss (placed_of ws ss new) z.call z.called)) same
+              (all_stay b.call b.called b.scope (in_range (placed_of ws ss cs) b.call is.call is.is_call) so)
+          | inr none ↦ absurd (contains_none x none)
+        ]
+
 -- ---- a step of the walk
 
 module _ (s : Standings) (cs : List Called) (bs : List Body) (at called : ℕ) (p : Placed) (here : slice_get (placed_in s cs) at ≡ Some p)
     (u : IsUnfoldedAt (written_in s) (all_standing s) p called) (within : at < length (entries_in s) + length cs) where
-  its_body : (space : ℕ) → IsBody (written_in s) (all_standing s) (placed_in s cs) (record { call = at; called = called; space = space })
-  its_body space = record { call = p; is_call = here; opened = u.opened; is_opened = u.is; is_macro = u.at }
+  its_body : (space : ℕ) (from : Option ℕ) → IsBody (written_in s) (all_standing s) (placed_in s cs) (record { call = at; called = called; space = space; scope = from })
+  its_body space from = record { call = p; is_call = here; opened = u.opened; is_opened = u.is; is_macro = u.at }
 
   range : at < length (all_standing s) + length cs
   range = let l = standings_length (written_in s) (entries_in s) in omega (arith, within, l)
 
-  pub bodies_opened : (space : ℕ) (numbers : List ℕ) (body : ℕ) (new : List Called) (more : List Body) → AreBodies (written_in s) (all_standing s) cs bs
-      → body ≡ length bs → new ≡ cs ++ map (called_by at body) numbers → more ≡ bs ++ (record { call = at; called = called; space = space }) ∷ []
+  pub bodies_opened : (space : ℕ) (from : Option ℕ) (numbers : List ℕ) (body : ℕ) (new : List Called) (more : List Body) → AreBodies (written_in s) (all_standing s) cs bs
+      → body ≡ length bs → new ≡ cs ++ map (called_by at body) numbers → more ≡ bs ++ (record { call = at; called = called; space = space; scope = from }) ∷ []
       → AreBodies (written_in s) (all_standing s) new more
-  bodies_opened space numbers body new more are l e f =
+  bodies_opened space from numbers body new more are l e f =
       subst (λ xs. AreBodies (written_in s) (all_standing s) new xs) (sym f)
-      (subst (λ xs. AreBodies (written_in s) (all_standing s) xs (bs ++ (record { call = at; called = called; space = space }) ∷ []))
+      (subst (λ xs. AreBodies (written_in s) (all_standing s) xs (bs ++ (record { call = at; called = called; space = space; scope = from }) ∷ []))
       (sym (e ∙ ap (λ n. cs ++ map (called_by at n) numbers) l))
-      (bodies_more (written_in s) (all_standing s) cs bs (record { call = at; called = called; space = space }) numbers are (its_body space) range))
+      (bodies_more (written_in s) (all_standing s) cs bs (record { call = at; called = called; space = space; scope = from }) numbers are (its_body space from) range))
 
-  pub spaces_opened : (space : ℕ) (numbers : List ℕ) (body : ℕ) (new : List Called) (more : List Body) → AreBodies (written_in s) (all_standing s) cs bs
+  pub spaces_opened : (space : ℕ) (from : Option ℕ) (numbers : List ℕ) (body : ℕ) (new : List Called) (more : List Body) → AreBodies (written_in s) (all_standing s) cs bs
       → AreBodySpaces (written_in s) (all_standing s) (spaces_in s) cs bs
       → ((q : Placed) → slice_get (placed_in s cs) at ≡ Some q → IsNumber (spaces_in s) q.standing.space space)
-      → body ≡ length bs → new ≡ cs ++ map (called_by at body) numbers → more ≡ bs ++ (record { call = at; called = called; space = space }) ∷ []
+      → body ≡ length bs → new ≡ cs ++ map (called_by at body) numbers → more ≡ bs ++ (record { call = at; called = called; space = space; scope = from }) ∷ []
       → AreBodySpaces (written_in s) (all_standing s) (spaces_in s) new more
-  spaces_opened space numbers body new more are spaces so l e f =
+  spaces_opened space from numbers body new more are spaces so l e f =
       subst (λ xs. AreBodySpaces (written_in s) (all_standing s) (spaces_in s) new xs) (sym f)
-      (subst (λ xs. AreBodySpaces (written_in s) (all_standing s) (spaces_in s) xs (bs ++ (record { call = at; called = called; space = space }) ∷ []))
+      (subst (λ xs. AreBodySpaces (written_in s) (all_standing s) (spaces_in s) xs (bs ++ (record { call = at; called = called; space = space; scope = from }) ∷ []))
       (sym (e ∙ ap (λ n. cs ++ map (called_by at n) numbers) l))
-      (spaces_more (written_in s) (all_standing s) cs bs (record { call = at; called = called; space = space }) numbers are (its_body space) range (spaces_in s) spaces so))
+      (spaces_more (written_in s) (all_standing s) cs bs (record { call = at; called = called; space = space; scope = from }) numbers are (its_body space from) range (spaces_in s) spaces so))
+
+  pub scopes_opened : (space : ℕ) (from : Option ℕ) (numbers : List ℕ) (body : ℕ) (new : List Called) (more : List Body) → AreBodies (written_in s) (all_standing s) cs bs
+      → AreBodyScopes (all_standing s) (placed_in s cs) bs → IfSome from (IsBodyScope (all_standing s) (placed_in s cs) at called)
+      → body ≡ length bs → new ≡ cs ++ map (called_by at body) numbers → more ≡ bs ++ (record { call = at; called = called; space = space; scope = from }) ∷ []
+      → AreBodyScopes (all_standing s) (placed_in s new) more
+  scopes_opened space from numbers body new more are scopes so l e f =
+      subst (λ xs. AreBodyScopes (all_standing s) (placed_in s new) xs) (sym f)
+      (subst (λ xs. AreBodyScopes (all_standing s) (placed_in s xs) (bs ++ (record { call = at; called = called; space = space; scope = from }) ∷ []))
+      (sym (e ∙ ap (λ n. cs ++ map (called_by at n) numbers) l))
+      (scopes_more (written_in s) (all_standing s) cs bs (record { call = at; called = called; space = space; scope = from }) numbers are (its_body space from) range scopes so))
 
   -- what is placed is what was placed, and what this statement opens
   pub placed_opened : (ps : Parts) → AreParts (written_in s) ps → (k body : ℕ) (numbers : List ℕ) (new : List Called)
@@ -243,6 +284,9 @@ module _ (s : Standings) where
 
   pub no_spaces : (cs : List Called) (bs : List Body) → bs ≡ [] → AreBodySpaces (written_in s) (all_standing s) (spaces_in s) cs bs
   no_spaces cs bs f b p c e = absurd (contains_none b (subst (λ xs. Contains xs b) f c))
+
+  pub no_scopes : (cs : List Called) (bs : List Body) → bs ≡ [] → AreBodyScopes (all_standing s) (placed_in s cs) bs
+  no_scopes cs bs f b c = absurd (contains_none b (subst (λ xs. Contains xs b) f c))
 
   module _ (are : AreStandings s) where
     calls : (p : Placed) (u : Unfolded) → unfolded (written_in s) (all_standing s) p ≡ Some u → is_call p.standing.statement.statement.keyword ≡ true

@@ -1,7 +1,7 @@
 -- The walk over calls: what it stands on, and what holds of what it has brought so far.
-use Rattle.std.specs.Prelude.{◌≡◌, ℕ, ◌<◌, List, map, Option, Some, None, slice_get, MatchOption}
+use Rattle.std.specs.Prelude.{◌≡◌, ℕ, ◌<◌, ◌≤◌, ◌++◌, List, map, Contains, Option, Some, None, slice_get, IfSome, MatchOption}
 use Rattle.cil_syntax.specs.Program.{program_of}
-use Rattle.cil_syntax.specs.Scopes.{Scope}
+use Rattle.cil_syntax.specs.Scopes.{Scope, tidy}
 use Rattle.cil_syntax.specs.Written.{Written}
 use Rattle.cil_blocks.specs.declared.namespaces.Space.{Space}
 use Rattle.cil_blocks.specs.Contents.{Standing}
@@ -31,6 +31,25 @@ pub record IsScope (spaces : List Space) (scope : Scope) (ks : List ℕ) : Type 
   pub within : AreWithin spaces ks
   pub is : map (space_at spaces) ks ≡ scope
 
+-- the numbers are those of the scope of what is placed there
+abbrev pub HasScope : Standings → List Called → ℕ → List ℕ → Type 0
+HasScope s cs at ks = (p : Placed) → slice_get (placed_in s cs) at ≡ Some p → IsScope (spaces_in s) p.standing.scope ks
+
+-- what is placed at a place has the scope of what is placed at another one, which is not behind it
+pub record IsScopePlace (ps : List Placed) (at from : ℕ) : Type 0 where
+  pub near : from ≤ at
+  pub same : (p q : Placed) → slice_get ps at ≡ Some p → slice_get ps from ≡ Some q → p.standing.scope ≡ q.standing.scope
+
+-- the statements of a macro at a call have the scope of what is placed somewhere, which is not behind the call
+pub record IsBodyScope (ss : List Standing) (ps : List Placed) (call called from : ℕ) : Type 0 where
+  pub near : from ≤ call
+  pub same : (p q : Placed) (m : Standing) → slice_get ps call ≡ Some p → slice_get ps from ≡ Some q → slice_get ss called ≡ Some m
+      → tidy (m.scope ++ p.standing.scope) ≡ q.standing.scope
+
+-- so have those of each body that names such a place
+abbrev pub AreBodyScopes : List Standing → List Placed → List Body → Type 0
+AreBodyScopes ss ps bs = (b : Body) → Contains bs b → IfSome b.scope (IsBodyScope ss ps b.call b.called)
+
 -- what a walk stands on
 pub record IsSource (s : Source) : Type 0 where
   pub standings : AreStandings s.spaces.now
@@ -41,6 +60,7 @@ pub record IsSource (s : Source) : Type 0 where
 pub record AreBrought (s : Standings) (b : Brought) : Type 0 where
   pub bodies : AreBodies (written_in s) (all_standing s) b.called.items b.bodies.items
   pub spaces : AreBodySpaces (written_in s) (all_standing s) (spaces_in s) b.called.items b.bodies.items
+  pub scopes : AreBodyScopes (all_standing s) (placed_in s b.called.items) b.bodies.items
   pub firsts : AreFirsts (all_standing s) b
 
 -- the body of this number is that of the call at a place

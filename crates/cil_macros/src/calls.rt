@@ -1,13 +1,13 @@
 //! What is known of the statement at a place: where it is, which macro it calls, and whether the call is unfolded.
 
-ghost use Rattle.std.specs.Prelude.{◌≡◌, ◌+◌, ◌<◌, ◌≤◌, IfOk, MatchOption, OnOk, Some, is_some, length, slice_get};
+ghost use Rattle.std.specs.Prelude.{◌≡◌, ◌+◌, ◌<◌, ◌≤◌, IfOk, IfSome, MatchOption, OnOk, Some, is_some, length, slice_get};
 ghost use Rattle.cil_blocks.specs.Contents.{Standing};
 ghost use Rattle.cil_blocks.specs.Namespaces.{AreNamespaces, IsNumber};
 ghost use Rattle.cil_blocks.specs.Places.{AreStandings, entries_in, spaces_in};
 ghost use Rattle.cil_macros.specs.Calls.{bounds_of_call, called_macro, is_repeated};
 ghost use Rattle.cil_macros.specs.Macros.{all_standing};
 ghost use Rattle.cil_macros.specs.Placed.{Placed};
-ghost use Rattle.cil_macros.specs.Walks.{AreBrought, IsScope, IsSource, SaysMeant, SaysUnfolded, placed_in, written_in};
+ghost use Rattle.cil_macros.specs.Walks.{AreBrought, HasScope, IsScope, IsScopePlace, IsSource, SaysMeant, SaysUnfolded, placed_in, written_in};
 
 use crate::arguments::arguments_fit;
 use crate::chain::{Brought, is_repeated, spot_of, standing_statement, statement_at};
@@ -46,6 +46,21 @@ pub fn space_at(spaces: &Spaces, brought: &Brought, at: usize) -> usize
     body.space
 }
 
+/// The place of what has the same scope as the statement at a place: that place itself, or that of a call round it.
+pub fn scope_place(spaces: &Spaces, brought: &Brought, at: usize) -> usize
+    requires brought { AreBrought spaces.now brought.now }
+    requires within { at < length (entries_in spaces.now) + length brought.now.called.items }
+    ensures { IsScopePlace (placed_in spaces.now brought.now.called.items) at result }
+{
+    let Some(body) = brought.body_at(spaces.entries().len(), at) else {
+        return at;
+    };
+    match body.scope {
+        None => at,
+        Some(place) => place,
+    }
+}
+
 /// Fills a list with the scope of the statement at a place.
 pub fn scope_at(
     alloc: Global,
@@ -61,16 +76,17 @@ pub fn scope_at(
     ensures { OnOk result ((p : Placed) → slice_get (placed_in spaces.now brought.now.called.items) at ≡ Some p
         → IsScope (spaces_in spaces.now) p.standing.scope scope.new) }
 {
-    if at < spaces.entries().len() {
-        spaces.scope_into(alloc, at, scope)?;
+    let from = scope_place(spaces, brought, at);
+    if from < spaces.entries().len() {
+        spaces.scope_into(alloc, from, scope)?;
         return Ok(());
     }
-    called_scope_at(alloc, spaces, brought, at, scope)?;
+    called_scope_at(alloc, spaces, brought, from, scope)?;
     Ok(())
 }
 
 /// The same of a statement that a call brings: the scope of the place of its macro comes first, then those of the places of the
-/// macros round it, and last that of the call that stands.
+/// macros round it, and last that of the call that stands. Macros whose scope changes nothing are passed over.
 fn called_scope_at(
     alloc: Global,
     spaces: &Spaces,
@@ -91,7 +107,7 @@ fn called_scope_at(
     let mut place = at;
     while let Some(body) = brought.body_at(standing, place) {
         spaces.add_scope(alloc, body.called, scope)?;
-        place = body.call;
+        place = scope_place(spaces, brought, body.call);
     }
     spaces.add_scope(alloc, place, scope)?;
     scope.close()?;
@@ -110,7 +126,8 @@ pub fn macro_at(
     requires source { IsSource source.now }
     requires brought { AreBrought source.now.spaces.now brought.now }
     requires within { at < length (entries_in source.now.spaces.now) + length brought.now.called.items }
-    ensures { IfOk result (SaysMeant source.now.spaces.now brought.now.called.items at) }
+    ensures meant { IfOk result (SaysMeant source.now.spaces.now brought.now.called.items at) }
+    ensures scope { IfOk result (λ o. IfSome o (λ k. HasScope source.now.spaces.now brought.now.called.items at scope.new)) }
 {
     let number = statement_at(source.spaces.entries(), brought.called.as_slice(), at);
     if !is_call_at(source.spaces.statements(), number) {
@@ -122,7 +139,7 @@ pub fn macro_at(
 }
 
 /// The rank of the macro that the statement at a place calls, where the call is unfolded: its arguments fit, and it did not
-/// come through this macro itself.
+/// come through this macro itself. Then the scope of the call is in the list.
 pub fn unfolded_at(
     alloc: Global,
     source: &Source,
@@ -133,7 +150,8 @@ pub fn unfolded_at(
     requires source { IsSource source.now }
     requires brought { AreBrought source.now.spaces.now brought.now }
     requires within { at < length (entries_in source.now.spaces.now) + length brought.now.called.items }
-    ensures { IfOk result (SaysUnfolded source.now.spaces.now brought.now.called.items at) }
+    ensures unfolded { IfOk result (SaysUnfolded source.now.spaces.now brought.now.called.items at) }
+    ensures scope { IfOk result (λ o. IfSome o (λ k. HasScope source.now.spaces.now brought.now.called.items at scope.new)) }
 {
     let Some(called) = macro_at(alloc, source, brought, at, scope)? else {
         return Ok(None);

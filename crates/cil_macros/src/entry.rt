@@ -18,6 +18,8 @@ pub struct Body {
     pub call: usize,
     /// The place of the macro among all that stands.
     pub called: usize,
-    /// The number of the namespace in which its statements are. Their scope follows from the macro and the call.
+    /// The number of the namespace in which its statements are.
     pub space: usize,
+    /// The place of what has the scope of its statements; none where that follows from the macro and the call alone.
+    pub scope: Option<usize>,
 }

@@ -5,9 +5,9 @@
 //! `laws.rt` has laws of these.
 #![tactic(auto)]
 
-
 mod arguments;
 mod asked;
+mod body_scope;
 mod call_words;
 pub mod calls;
 pub mod chain;

@@ -10,6 +10,7 @@ ghost use Rattle.cil_macros.specs.Calls.{IsPlaced, placed_cmp};
 ghost use Rattle.cil_macros.specs.Macros.{all_standing};
 ghost use Rattle.cil_macros.specs.Walks.{AreBrought, AreInTurn, IsSource, called_by, placed_in, written_in};
 
+use crate::body_scope::body_scope;
 use crate::calls::{space_at, unfolded_at};
 use crate::chain::{Brought, keep_first, spot_of, standing_statement};
 use crate::entry::{Body, Called};
@@ -36,12 +37,13 @@ pub fn walk(alloc: Global, source: &Source, limit: usize) -> Result<Option<Broug
         firsts: IndexMap::new(alloc),
     };
     let mut scope = ScopeList::new(alloc);
+    let mut own = ScopeList::new(alloc);
     let mut at = 0;
     while at < standing + brought.called.len() {
         if standing + brought.called.len() > limit {
             return Ok(None);
         }
-        brought.open(alloc, source, at, &mut scope)?;
+        brought.open(alloc, source, at, &mut scope, &mut own)?;
         at += 1;
     }
     Ok(Some(brought))
@@ -62,6 +64,7 @@ impl Brought {
         source: &Source,
         at: usize,
         scope: &mut ScopeList,
+        own: &mut ScopeList,
     ) -> Result<(), NoMemory>
         requires source { IsSource source.now }
         requires brought { AreBrought source.now.spaces.now self.old }
@@ -75,6 +78,15 @@ impl Brought {
         let Some(called) = unfolded_at(alloc, source, self, at, scope)? else {
             return Ok(());
         };
+        let shared = body_scope(
+            alloc,
+            source.spaces,
+            self,
+            at,
+            called,
+            scope.as_slice(),
+            own,
+        )?;
         let space = space_at(source.spaces, self, at);
         let entries = source.spaces.entries();
         let number = standing_statement(entries, called);
@@ -85,6 +97,7 @@ impl Brought {
             call: at,
             called,
             space,
+            scope: shared,
         })?;
         push_called(&mut self.called, parts_at(source.parts, number), at, body)?;
         Ok(())

@@ -16,7 +16,18 @@ loop-body-smaller c =
     let s = c.args.spaces.now in
     let l = ap length c.entries-standing.ensures.same in
     let m = standings_length (written_in s) (entries_in s) in
-    (c.in-Some.ensures.body (written_in s) (all_standing s) (m ∙ sym l) c.requires.brought.bodies).before
+    let before = (c.in-Some.ensures.body (written_in s) (all_standing s) (m ∙ sym l) c.requires.brought.bodies).before in
+    let near = c.scope_place-place.ensures.near in
+    omega (arith, before, near)
+
+pub scope_place-place-requires-clause-within : goal.scope_place-place-requires-clause-within
+scope_place-place-requires-clause-within c =
+    let s = c.args.spaces.now in
+    let l = ap length c.entries-standing.ensures.same in
+    let m = standings_length (written_in s) (entries_in s) in
+    let before = (c.in-Some.ensures.body (written_in s) (all_standing s) (m ∙ sym l) c.requires.brought.bodies).before in
+    let within = c.loop-body.invariant.within in
+    omega (arith, before, within)
 
 pub loop-body-preserved : goal.loop-body-preserved
 loop-body-preserved c =
@@ -24,7 +35,8 @@ loop-body-preserved c =
     let l = ap length c.entries-standing.ensures.same in
     let m = standings_length (written_in s) (entries_in s) in
     added_left s c.requires.standings c.requires.namespaces c.args.brought.now.called.items c.args.at c.loop-body.place c.in-Some.body.now
-    (c.in-Some.ensures.body (written_in s) (all_standing s) (m ∙ sym l) c.requires.brought.bodies) c.loop-body.scope c.add_scope.new.scope c.in_ok-add_scope.ensures c.loop-body.invariant
+    (c.in-Some.ensures.body (written_in s) (all_standing s) (m ∙ sym l) c.requires.brought.bodies) c.loop-body.scope c.add_scope.new.scope c.in_ok-add_scope.ensures
+    c.scope_place-place.result c.scope_place-place.ensures c.loop-body.invariant
 
 pub returns : goal.returns
 returns c =

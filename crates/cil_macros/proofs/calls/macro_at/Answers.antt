@@ -12,8 +12,8 @@ use Rattle.cil_macros.proofs.CallLemmas.{placed_there, stated_by}
 use Rattle.cil_macros.proofs.MacroLemmas.{no_call}
 use Rattle.cil_macros.proofs.calls.macro_at.Goals as goal
 
-pub returns-then-not-is_call_at : goal.returns-then-not-is_call_at
-returns-then-not-is_call_at c = λ p e.
+pub returns-then-not-is_call_at-clause-meant : goal.returns-then-not-is_call_at-clause-meant
+returns-then-not-is_call_at-clause-meant c = λ p e.
     let s = c.args.source.now.spaces.now in
     no_call (all_standing s) p
     (ap (λ (w : Written). is_call w.statement.keyword) (stated_by s c.args.brought.now.called.items c.entries.result.now c.as_slice.result.now c.args.at c.statement_at-number.result
@@ -27,8 +27,8 @@ macro_called-called-requires-clause-within c =
     let p = placed_there s c.args.brought.now.called.items c.args.at c.requires.within in
     subst (AreWithin (spaces_in s)) (sym c.as_slice-2.ensures) (c.in_ok-scope_at.ensures p.0 p.1).within
 
-pub returns : goal.returns
-returns c = λ p e.
+pub returns-clause-meant : goal.returns-clause-meant
+returns-clause-meant c = λ p e.
     let s = c.args.source.now.spaces.now in
     c.macro_called-called.ensures p (stated_by s c.args.brought.now.called.items c.entries.result.now c.as_slice.result.now c.args.at c.statement_at-number.result
     c.entries.ensures.same c.as_slice.ensures.value c.statement_at-number.ensures p e)

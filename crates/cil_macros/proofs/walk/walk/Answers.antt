@@ -2,7 +2,7 @@ use Rattle.std.proofs.Common.{ap, arith, length}
 use Rattle.cil_macros.specs.Macros.{all_standing}
 use Rattle.cil_macros.proofs.FirstLemmas.{no_firsts}
 use Rattle.cil_macros.proofs.TurnLemmas.{all_in_turn, none_in_turn}
-use Rattle.cil_macros.proofs.WalkLemmas.{all_reached, begun, gone_on, no_bodies, no_spaces, over_reached}
+use Rattle.cil_macros.proofs.WalkLemmas.{all_reached, begun, gone_on, no_bodies, no_scopes, no_spaces, over_reached}
 use Rattle.cil_macros.proofs.walk.walk.Goals as goal
 
 pub loop-at-init : goal.loop-at-init
@@ -12,6 +12,7 @@ loop-at-init c =
       record {
         bodies = no_bodies s c.new.result.items c.new-2.result.items c.new.ensures.items c.new-2.ensures.items;
         firsts = no_firsts (all_standing s) _ c.new-2.ensures.items c.new-3.ensures.empty;
+        scopes = no_scopes s c.new.result.items c.new-2.result.items c.new-2.ensures.items;
         spaces = no_spaces s c.new.result.items c.new-2.result.items c.new-2.ensures.items;
       },
       begun s c.requires.standings c.new.result.items c.new.ensures.items,
