@@ -1,0 +1,6 @@
+mod Examples
+mod LawLemmas
+mod RowLemmas
+mod StartLemmas
+mod StepLemmas
+mod WalkLemmas
