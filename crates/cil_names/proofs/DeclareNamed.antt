@@ -9,20 +9,22 @@ use Rattle.std.specs.Ordering.{on}
 use Rattle.std.specs.Global.{Vec}
 use Rattle.std.proofs.Common.{◌≡◌, ℕ, Bool, true, false, ◌||◌, List, [], ◌∷◌, ◌++◌, map, length, refl, sym, ◌∙◌, ap, subst, inl, inr}
 use Rattle.std.proofs.lemmas.Option.{slice_get-map}
+use Rattle.cil_sexpr.specs.Lists.{contains_cases, contains_none}
+use Rattle.cil_sexpr.specs.MadeLists.{contains_map, from_flat}
 use Rattle.cil_sexpr.specs.Searches.{any_from, any_map, any_true}
-use Rattle.cil_sexpr.specs.Places.{get_at, get_contains}
+use Rattle.cil_sexpr.specs.Places.{get_at, get_contains, never_cons}
 use Rattle.cil_names.specs.declared.entry.Entry.{Entry}
 use Rattle.cil_names.specs.declared.row.Row.{Row}
 use Rattle.cil_names.specs.declared.run.Run.{Run}
-use Rattle.cil_macros.specs.Items.{Kept, items_in, namespaces_in}
+use Rattle.cil_macros.specs.Items.{Kept, item_at, items_in, namespaces_in}
 use Rattle.cil_names.specs.Declarations.{Declaration, IsDeclaration}
-use Rattle.cil_names.specs.DeclareRows.{declaration_of, is_row_enabled, round_at}
+use Rattle.cil_names.specs.DeclareRows.{IsRow, declaration_of, is_row_enabled, round_at}
 use Rattle.cil_names.specs.DeclareRuns.{Said, entry_of_run, is_always, has_none, listed_unless, rounds_by, run_key, said_by}
-use Rattle.cil_names.specs.Entries.{AreEntries, IsEntryFor, Key, is_declared_in, key_cmp, key_of, rank}
+use Rattle.cil_names.specs.Entries.{AreEntries, AreRounds, IsEntryFor, IsRoundOf, Key, is_declared_in, key_cmp, key_of, rank}
 use Rattle.cil_macros.specs.Item.{OptSet, everybody}
 use Rattle.cil_blocks.specs.Namespaces.{space_at}
 use Rattle.cil_names.proofs.DeclareFaults.{alike_of, all_enabled, one_name_space}
-use Rattle.cil_names.proofs.DeclareDone.{AreRunsOf, declared_row, is_row, row_declared, run_of, space_within}
+use Rattle.cil_names.proofs.DeclareDone.{AreRunsOf, declared_row, is_row, item_within, row_at, row_declared, run_of, space_within}
 use Rattle.cil_names.proofs.DeclareRowLemmas.{of_macro}
 
 -- ---- where an entry is declared
@@ -113,6 +115,20 @@ entries_rise kept es runs says up =
     unmap_rises key_of key_cmp es
     (subst (IsStrictlySortedBy key_cmp) (keys_run kept runs ∙ ap (map key_said) (sym says) ∙ sym (keys_said es)) (rises_map run_key key_cmp runs up))
 
+-- ---- the optionals round the declaration of a row
+
+listed_round : (round other : List ℕ) → Contains (listed_unless (has_none round) round) other → (round ≡ other) × (other ≡ [] → ⊥)
+listed_round [] other c = absurd (contains_none other c)
+listed_round (o ∷ os) other c =
+    elim (contains_cases other (o ∷ os) [] c) [
+      | inl e ↦ (e, λ none. never_cons o os (sym (e ∙ none)))
+      | inr d ↦ absurd (contains_none other d)
+    ]
+
+round_there : (i : Kept) (r : Row) → IsRow i r → (at : Option ℕ) → r.at ≡ at → (round : List ℕ) → round_at i at ≡ round → (round ≡ [] → ⊥) → IsRoundOf (items_in i) round
+round_there i r is None e round same some = absurd (some (sym same))
+round_there i r is (Some k) e round same some = (item_at i k, item_within i k (row_at i r is k e).within, same, some)
+
 -- ---- the entries are the declared names
 
 module _ (i : Kept) (rows : List Row) (runs : List Run) (of : AreRunsOf i rows runs)
@@ -181,5 +197,22 @@ module _ (i : Kept) (rows : List Row) (runs : List Run) (of : AreRunsOf i rows r
       let within = space_within i run.first.now (is_row i rows runs of run run.first.now in_runs (of.are.each run in_runs).first) in
       subst (λ k. k ≤ length (namespaces_in i)) (sym (ap (λ (z : Said). z.space) said)) within
 
+  named_rounds : AreRounds (items_in i) es
+  unfolding rounds_by
+  named_rounds e r ce cr =
+      let (n, below_n, at) = get_at es e ce in
+      let (run, in_runs, said) = run_for i es runs says n e at in
+      let named : Contains (flat_map (rounds_by i) run.rows.now) r.items =
+      subst (λ (z : Said). Contains z.rounds r.items) said (contains_map (λ (round : Vec ℕ). round.items) e.rounds.items r cr) in
+      let (row, in_run, is) = from_flat (rounds_by i) run.rows.now r.items named in
+      let (same, some) = listed_round (round_at i row.at) r.items is in
+      round_there i row (is_row i rows runs of run row in_runs in_run) row.at refl r.items same some
+
   pub are_named : AreEntries (namespaces_in i) (items_in i) es
-  are_named = record { ordered = record { rising = entries_rise i es runs says of.are.rising; within = stands_within }; each = named_each; only = named_only; used = named_used }
+  are_named = record {
+    ordered = record { rising = entries_rise i es runs says of.are.rising; within = stands_within };
+    each = named_each;
+    only = named_only;
+    rounds = named_rounds;
+    used = named_used;
+  }

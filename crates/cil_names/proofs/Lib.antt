@@ -1,5 +1,7 @@
 pub mod AnswerLemmas
+pub mod AskedLemmas
 pub mod CandidateLemmas
+pub mod CandidateListLemmas
 pub mod CountLemmas
 pub mod DeclLemmas
 pub mod DeclareContents
@@ -24,6 +26,7 @@ pub mod PermissionLemmas
 pub mod PermissionWordLemmas
 pub mod Qualified
 pub mod ReadingLemmas
+pub mod ResolvesLemmas
 pub mod RisingLemmas
 pub mod RowLemmas
 pub mod ScopeLemmas

@@ -1,6 +1,7 @@
 -- Declarations as entries: one for each name of a name space in a namespace, with the optionals round its declaring
 -- statements. This project's profile.
 use Rattle.std.specs.Prelude.{◌≡◌, suc, cond, ◌≤◌, ℕ, Bool, true, false, ◌&&◌, ◌||◌, ◌==◌, List, [], ◌∷◌, map, length, get_or, Contains, Option, Some, None, MatchOption, slice_get}
+use Rattle.std.specs.Global.{Vec}
 use Rattle.std.specs.List.{flat_map, list_all, list_any}
 use Rattle.std.specs.Option.{option_map, option_map_or}
 use Rattle.std.specs.declared.cmp.Ordering.{Ordering}
@@ -132,13 +133,22 @@ pub record IsEntryFor (ss : List Space) (es : List Entry) (s : OptSet) (kind : K
   pub of_name : entry.name ≡ name
   pub live : is_declared_in s entry ≡ true
 
+-- these are the optionals round some item, and there are some
+abbrev pub IsRoundOf : List Item → List ℕ → Type 0
+IsRoundOf xs round = (x : Item) × Contains xs x × (x.round ≡ round) × (round ≡ [] → ⊥)
+
+-- the optionals that entries name are those round some item
+abbrev pub AreRounds : List Item → List Entry → Type 0
+AreRounds xs es = (e : Entry) (r : Vec ℕ) → Contains es e → Contains e.rounds.items r → IsRoundOf xs r.items
+
 -- the entries are the declarations of the items, whatever is enabled: each declaration has one, each that is declared
--- has a declaration, and each is declared where all optionals are enabled
+-- has a declaration, the optionals that they name are those round items, and each is declared where all are enabled
 pub record AreEntries (ss : List Space) (xs : List Item) (es : List Entry) : Type 0 where
   pub ordered : AreOrdered ss es
   pub each : (s : OptSet) (d : Declaration) → IsDeclaration xs s d → (i : ℕ) × IsEntryFor ss es s d.kind d.space d.name i
   pub only : (s : OptSet) (i : ℕ) (e : Entry) → slice_get es i ≡ Some e → is_declared_in s e ≡ true
       → (d : Declaration) × IsDeclaration xs s d × (d.kind ≡ e.kind) × (d.space ≡ space_at ss e.space) × (d.name ≡ e.name)
+  pub rounds : AreRounds xs es
   pub used : (i : ℕ) (e : Entry) → slice_get es i ≡ Some e → is_declared_in everybody e ≡ true
 
 -- the word names this entry: it is declared, of a wanted kind, and has the name of the word in the namespace in which

@@ -1,3 +1,5 @@
+pub mod Asked
+pub mod CandidateLists
 pub mod DeclareRows
 pub mod DeclareRuns
 pub mod Declarations

@@ -5,9 +5,12 @@
 //! `specs/Resolves.antt` says what a word names, over statements as `Item.antt` of cil_macros has them; `specs/Declarations.antt`
 //! what is declared; `specs/Entries.antt` how entries and numbers of namespaces stand for that; `laws.rt` says that what a
 //! word means is the entry that it names. `permission_word.rt` has what permission words name
-//! (`Names::resolve_permission`); the permissions of classes are given, by `permissions.rt`.
+//! (`Names::resolve_permission`); the permissions of classes are given, by `permissions.rt`. `listing.rt` lists what the words of
+//! a statement could name, whatever is enabled (`add_candidates`), and tells which word has a number (`word_asked`).
 #![tactic(auto)]
 
+mod asked;
+mod candidates;
 mod clash;
 mod content;
 mod count;
@@ -17,6 +20,7 @@ mod gather;
 mod judge;
 mod kinds;
 pub mod laws;
+mod listing;
 mod look;
 mod meaning;
 mod names;
@@ -31,9 +35,11 @@ mod run;
 mod spelled;
 mod table;
 
+pub use candidates::Candidates;
 pub use entry::Entry;
 pub use fill::words_of;
 pub use gather::declare;
+pub use listing::{add_candidates, word_asked};
 pub use look::are_numbers;
 pub use meaning::Meaning;
 pub use names::Names;

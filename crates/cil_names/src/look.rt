@@ -92,20 +92,35 @@ pub fn candidates(
     requires within { All (λ k. k ≤ length spaces.now) scope.now }
     ensures { IfOk result (λ ds. ds.items ≡ candidates_of spaces.now entries.now (scoped spaces.now scope.now word.now)) }
 {
-    let path = path_of(word.bytes.as_slice());
     let mut found = Vec::new(alloc);
-    for from in asked_scope(path.global, scope) {
-        push_listed(
-            &mut found,
-            named_in(spaces, entries, *from, &path, word.sign),
-        )?;
-    }
+    push_candidates(&mut found, spaces, entries, word, scope)?;
     Ok(found)
 }
 
+/// Adds the numbers of the entries that a word could name, whatever is enabled, in the order of its scope.
+pub fn push_candidates(
+    found: &mut Vec<usize>,
+    spaces: &Namespaces,
+    entries: &[Entry],
+    word: &Word,
+    scope: &[usize],
+) -> Result<(), NoMemory>
+    requires entries { AreOrdered spaces.now entries.now }
+    requires within { All (λ k. k ≤ length spaces.now) scope.now }
+    ensures found { OnOk result (found.new.items ≡ found.old.items ++ candidates_of spaces.now entries.now (scoped spaces.now scope.now word.now)) }
+    ensures none_lost { length found.old.items ≤ length found.new.items }
+{
+    let path = path_of(word.bytes.as_slice());
+    for from in asked_scope(path.global, scope) {
+        push_listed(found, named_in(spaces, entries, *from, &path, word.sign))?;
+    }
+    Ok(())
+}
+
 /// Adds a number, if there is one.
-fn push_listed(found: &mut Vec<usize>, named: Option<usize>) -> Result<(), NoMemory>
-    ensures { OnOk result (found.new.items ≡ found.old.items ++ listed named) }
+pub fn push_listed(found: &mut Vec<usize>, named: Option<usize>) -> Result<(), NoMemory>
+    ensures found { OnOk result (found.new.items ≡ found.old.items ++ listed named) }
+    ensures none_lost { length found.old.items ≤ length found.new.items }
 {
     if let Some(d) = named {
         found.push(d)?;

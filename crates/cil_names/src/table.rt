@@ -157,7 +157,8 @@ impl Words {
     }
 }
 
-fn start_at(starts: &[usize], i: usize) -> Option<usize>
+/// The place where a row begins.
+pub fn start_at(starts: &[usize], i: usize) -> Option<usize>
     ensures { result ≡ slice_get starts.now i }
 {
     match starts.get(i) {
@@ -166,7 +167,8 @@ fn start_at(starts: &[usize], i: usize) -> Option<usize>
     }
 }
 
-fn end_at(starts: &[usize], i: usize) -> Option<usize>
+/// The place where the next row begins.
+pub fn end_at(starts: &[usize], i: usize) -> Option<usize>
     ensures { result ≡ slice_get starts.now (i + 1) }
 {
     if i < starts.len() {

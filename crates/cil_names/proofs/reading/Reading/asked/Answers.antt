@@ -1,0 +1,26 @@
+use Rattle.std.proofs.Common.{◌∙◌, ap, sym}
+use Rattle.cil_macros.specs.Calls.{is_call}
+use Rattle.cil_macros.specs.Items.{all_placed}
+use Rattle.cil_names.specs.Asked.{wanted_by}
+use Rattle.cil_names.specs.Resolves.{all_wanted_in}
+use Rattle.cil_names.proofs.AskedLemmas.{asked_from, nothing_asked}
+use Rattle.cil_names.proofs.ReadingLemmas.{keyword_read, none_wanted, nothing_read, written_read}
+use Rattle.cil_names.proofs.reading.Reading.asked.Goals as goal
+
+pub returns-then-is_call : goal.returns-then-is_call
+returns-then-is_call c =
+    let r = c.args.self.now in
+    asked_from (wanted_by (all_placed r.instances.now)) _ _ _ c.new-asked.ensures.items
+    (c.in_ok-ask_call.ensures (ap is_call (keyword_read r c.requires) ∙ sym c.is_call.ensures ∙ c.if-is_call.true))
+
+pub returns-then-not-says_as_written : goal.returns-then-not-says_as_written
+returns-then-not-says_as_written c =
+    let r = c.args.self.now in
+    nothing_asked (wanted_by (all_placed r.instances.now)) _ c.new-asked.ensures.items
+    ∙ sym (ap all_wanted_in (nothing_read r c.requires (sym c.is_call.ensures ∙ c.if-is_call.false) (sym c.says_as_written.ensures ∙ c.if-not-says_as_written.true)) ∙ none_wanted)
+
+pub returns : goal.returns
+returns c =
+    let r = c.args.self.now in
+    asked_from (wanted_by (all_placed r.instances.now)) _ _ _ c.new-asked.ensures.items c.in_ok-ask_terms.ensures
+    ∙ ap all_wanted_in (sym (written_read r c.requires (sym c.says_as_written.ensures ∙ c.if-not-says_as_written.false) c.as_slice.result.now c.as_slice.ensures.value))
