@@ -1,0 +1,4 @@
+mod Examples
+pub mod GreatestLemmas
+pub mod KeepLemmas
+pub mod PolicyLemmas

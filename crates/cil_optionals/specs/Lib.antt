@@ -1,0 +1,4 @@
+pub mod Certificate
+pub mod Greatest
+pub mod Laws
+pub mod Policy
