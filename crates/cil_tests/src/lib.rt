@@ -21,6 +21,8 @@ mod bundles;
 #[cfg(test)]
 mod call_words;
 #[cfg(test)]
+mod candidates;
+#[cfg(test)]
 mod compiling;
 #[cfg(test)]
 mod decisions;
@@ -58,6 +60,8 @@ mod policies;
 mod requests;
 #[cfg(test)]
 mod sessions;
+#[cfg(test)]
+mod settled_nodes;
 #[cfg(test)]
 mod shapes;
 #[cfg(test)]
