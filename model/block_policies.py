@@ -6,11 +6,12 @@ import shapes
 from contents import Contents
 from faults import Refused
 from instances import Instances
+from names import names_of_all
 from pieces import FLAT, LATER, ODD, UNKNOWN, Quoted, bent, module_of, often
-from policy import Names, Policy
+from policy import Policy
 from texts import RESERVED, Node
 
-BLOCKS = [b"k", b"l", b"n", b"a"]
+BLOCKS = [b"k", b"l", b"n", b"a", b"k-a"]
 MACROS = [b"m", b"o", b"n", b"b"]
 NAMES = {
     b"type": [b"a", b"b", b"c", b"t", b"k"],
@@ -77,8 +78,8 @@ def statements_of(body, first=0):
     for each in body[first:]:
         if isinstance(each, list):
             yield body, each
-            if each[:1] in ([b"block"], [b"macro"]):
-                yield from statements_of(each, 2 if each[0] == b"block" else 3)
+            if each[:1] in ([b"block"], [b"macro"], [b"optional"]):
+                yield from statements_of(each, 3 if each[0] == b"macro" else 2)
 
 
 class Draft:
@@ -381,6 +382,10 @@ class Draft:
         self.add_several(self.add_call, int(7 * size))
         self.learn()
         self.add_several(self.add_rule, int(16 * size))
+        self.add_last()
+
+    def add_last(self):
+        """What goes by all that is there; and mixes the statements."""
         self.add_several(self.add_set_aside, 2)
         if often(self.rng, 0.1):
             self.double()
@@ -427,7 +432,7 @@ class Draft:
     def learn(self):
         """Enters all names that are declared, by inheritance and calls too, where the model sees them."""
         try:
-            names = Names(Instances(Contents(shapes.written(self.trees()))))
+            names = names_of_all(Instances(Contents(shapes.written(self.trees()))))
         except Refused:
             return
         starts = [module.starts for module in self.modules]

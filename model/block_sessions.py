@@ -10,13 +10,17 @@ def blocks(rng):
     """Policies with blocks, inheritance, macros and calls, right and wrong, and queries with qualified names."""
     if often(rng, 0.01):
         return too_many(rng)
-    draft = Draft(rng)
+    return loads(rng, Draft(rng), queries)
+
+
+def loads(rng, draft, queries, wrong_ones=0.4):
+    """Two loads of a policy that grows, some with something wrong on purpose, and what is asked after each."""
     for _ in range(rng.choice([1, 1, 2, 2, 3])):
         draft.add_module()
     draft.add_base()
     parts, policy = [], None
     for size in (rng.choice([0.5, 1, 1, 1.5]), 0.4):
-        wrong = rng.choice(list(WRONG)) if often(rng, 0.4) else None
+        wrong = rng.choice(list(WRONG)) if often(rng, wrong_ones) else None
         if parts:
             draft.open_module()
         draft.add_all(size, wrong)
@@ -84,32 +88,35 @@ FAULTY = [
 ]
 
 
-def too_many(rng):
+def too_many(rng, body=b"(type t)", size=1):
     """One instance too many, or some more, with faults of the same step or without."""
     over = rng.choice([1, 1, 2, 3, 1000])
-    text = (doubling_blocks if often(rng, 0.5) else doubling_calls)(MOST + over)
+    text = (doubling_blocks if often(rng, 0.5) else doubling_calls)(MOST + over, body, size)
     return [install(text), install(rng.choice(FAULTY)), b"LOAD\n"]
 
 
-def doubling_blocks(count, most=17):
-    """Blocks of so many instances together. A block that inherits the block of a number i brings 3 * 2^i."""
-    made = [b"(block b0 (type t))"]
+def doubling_blocks(count, body, size, most=16):
+    """Blocks of so many instances together, from a body of a size.
+
+    A block that inherits the block of a number i brings (2 + size) * 2^i.
+    """
+    made = [b"(block b0 %s)" % body]
     made += [b"(block b%d (blockinherit b%d)(blockinherit b%d))" % (i, i - 1, i - 1) for i in range(1, most + 1)]
-    left = count - sum(3 * 2 ** i - 1 for i in range(most + 1))
+    left = count - sum((2 + size) * 2 ** i - 1 for i in range(most + 1))
     for i in range(most, -1, -1):
-        while left >= 3 * 2 ** i:
+        while left >= (2 + size) * 2 ** i:
             made.append(b"(block c%d (blockinherit b%d))" % (len(made), i))
-            left -= 3 * 2 ** i
+            left -= (2 + size) * 2 ** i
     return b"".join(made) + b"(type a)" * left
 
 
-def doubling_calls(count, most=17):
-    """Calls of so many instances together. A call of the macro of a number i brings 3 * 2^i - 1."""
-    made = [b"(macro m0 () (type t))"]
+def doubling_calls(count, body, size, most=16):
+    """Calls of so many instances together. A call of the macro of a number i brings (2 + size) * 2^i - 1."""
+    made = [b"(macro m0 () %s)" % body]
     made += [b"(macro m%d () (call m%d)(call m%d))" % (i, i - 1, i - 1) for i in range(1, most + 1)]
     left = count - len(made)
     for i in range(most, -1, -1):
-        while left >= 3 * 2 ** i - 1:
+        while left >= (2 + size) * 2 ** i - 1:
             made.append(b"(call m%d)" % i)
-            left -= 3 * 2 ** i - 1
+            left -= (2 + size) * 2 ** i - 1
     return b"".join(made) + b"(type a)" * left

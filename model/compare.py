@@ -1,5 +1,6 @@
 #!/usr/bin/env python3
 """Runs random sessions through the program and through the model, and compares replies and exit status, byte for byte.
+Replies to WHY need not be the same: they are judged by the model.
 
 Of each kind, the first session that differs is cut down to the parts that matter, and printed.
 """
@@ -14,14 +15,20 @@ import sys
 import block_sessions
 import flat_sessions
 import model
+import optional_sessions
+import shapes
 
 KINDS = {
     each.__name__: each
     for each in (
         flat_sessions.policies, flat_sessions.faults, flat_sessions.shapes, block_sessions.blocks,
         flat_sessions.texts, flat_sessions.bundles, flat_sessions.lines, flat_sessions.long_texts,
+        optional_sessions.optionals,
     )
 }
+
+# Kinds of sessions with what the program does not take yet. They are run where they are asked for by name.
+EARLY = {"optionals"}
 USUAL_COUNT = 200
 
 # So many sessions are given to a process at a time.
@@ -29,7 +36,8 @@ AT_A_TIME = 50
 
 
 def session(kind, number):
-    """The parts of a session. One number of a kind is one session."""
+    """The parts of a session. One number of a kind is one session. The model takes what the kind needs from then on."""
+    shapes.optionals_are_taken = kind in EARLY
     return KINDS[kind](random.Random(f"{kind} {number}"))
 
 
@@ -39,7 +47,28 @@ def answer(program, parts):
 
 
 def wanted(parts):
-    return *model.run(b"".join(parts), model.Host()), b""
+    """The replies of the model, one by one, and the exit status."""
+    return model.run(b"".join(parts), model.Host())
+
+
+def is_alike(answered, replies, status):
+    """Whether a program answered as the model does."""
+    given, *rest = answered
+    at = 0
+    for reply in replies:
+        at = end_of(reply, given, at)
+        if at is None:
+            return False
+    return at == len(given) and rest == [status, b""]
+
+
+def end_of(reply, given, at):
+    """Where a reply ends that begins at a place of what was answered, or nothing where there is another one."""
+    if not isinstance(reply, model.Why):
+        return at + len(reply) if given.startswith(reply, at) else None
+    first, *wanted_lines = reply.split(b"\n")
+    lines = given[at:].split(b"\n")[:1 + len(wanted_lines)]
+    return at + len(b"\n".join(lines)) if lines[0] == first and reply.is_right(lines[1:]) else None
 
 
 def cut_down(program, parts):
@@ -47,7 +76,7 @@ def cut_down(program, parts):
     at = 0
     while at < len(parts):
         fewer = parts[:at] + parts[at + 1:]
-        if answer(program, fewer) == wanted(fewer):
+        if is_alike(answer(program, fewer), *wanted(fewer)):
             at += 1
         else:
             parts = fewer
@@ -57,10 +86,11 @@ def cut_down(program, parts):
 def told(program, kind, number):
     """What is printed of a session that differs."""
     parts = cut_down(program, session(kind, number))
+    replies, status = wanted(parts)
     return "\n".join([
         f"{kind} {number} differs: {b''.join(parts)!r}",
         f"    the program has {answer(program, parts)!r}",
-        f"    the model has   {wanted(parts)!r}",
+        f"    the model has   {(b''.join(replies), status, b'')!r}",
     ])
 
 
@@ -70,9 +100,9 @@ def run_some(given):
     counts = collections.Counter()
     for number in numbers:
         parts = session(kind, number)
-        replies = wanted(parts)
-        counts.update(replies_counted(replies[0]))
-        if program and answer(program, parts) != replies:
+        replies, status = wanted(parts)
+        counts.update(replies_counted(b"".join(replies)))
+        if program and not is_alike(answer(program, parts), replies, status):
             return counts, number
     return counts, None
 
@@ -83,8 +113,8 @@ def replies_counted(replies):
         lines = load.split(b"\n")
         if lines[0].startswith(b"FAULTS "):
             yield "loads refused"
-            codes = {line.split(b" ")[0] for line in lines[1:1 + int(lines[0][7:])]}
-            yield from sorted("fault " + code.decode() for code in codes)
+            faults = [lines.pop(1) for _ in range(int(lines[0][7:]))]
+            yield from sorted({"fault " + line.split(b" ")[0].decode() for line in faults})
         elif lines[0] == b"OK":
             yield "loads accepted"
         for line in lines:
@@ -92,6 +122,8 @@ def replies_counted(replies):
                 yield "queries, nothing allowed" if line.startswith(b"OK - ") else "queries, something allowed"
             elif re.fullmatch(rb"ERR 7[0-9].*", line):
                 yield "queries, " + line.decode()
+            elif re.fullmatch(rb"\d+ \d+ \S+ \S+ (in|out|parent|missing \S+)", line):
+                yield "optionals, " + line.split(b" ")[4].decode()
 
 
 def run_all(program, kind, numbers, jobs):
@@ -131,8 +163,9 @@ def arguments():
         epilog="Kinds of sessions: " + "; ".join(f"{kind}: {made.__doc__}" for kind, made in KINDS.items()),
     )
     parser.add_argument("words", nargs="*", help="PROGRAM is the built cilhost. KIND is a kind of sessions, or all, as"
-                        " without it. COUNT is how many sessions of a kind (200; of long_texts, among all kinds, a"
-                        " twentieth). FIRST is the number of the first; one number is one session (0).")
+                        " without it: all that the program takes. COUNT is how many sessions of a kind (200; of"
+                        " long_texts, among all kinds, a twentieth). FIRST is the number of the first; one number is"
+                        " one session (0).")
     parser.add_argument("--census", action="store_true", help="counts what the model replies, without the program")
     parser.add_argument("--jobs", type=int, default=1, help="how many processes run sessions at a time (1)")
     given = parser.parse_intermixed_args()
@@ -155,7 +188,8 @@ def main():
         counts = {given.kind: given.count}
     else:
         # A session of a long text takes more than a second.
-        counts = {kind: given.count // 20 if kind == "long_texts" else given.count for kind in KINDS}
+        kinds = [kind for kind in KINDS if kind not in EARLY]
+        counts = {kind: given.count // 20 if kind == "long_texts" else given.count for kind in kinds}
     is_alike = True
     for kind, count in counts.items():
         numbers = range(given.first, given.first + count)

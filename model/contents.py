@@ -135,6 +135,8 @@ class Contents:
         for each in statements:
             if each.keyword == b"block" and not each.is_abstract:
                 count += self.size_of(each)
+            elif each.keyword == b"optional":
+                count += self.size(each.body)
             for block in self.targets.get(each, []):
                 count += self.size_of(block)
         return count
@@ -145,7 +147,10 @@ class Contents:
         return self.sizes[block]
 
     def standing(self):
-        """All statements with the namespaces in which they stand, once for each chain."""
+        """All statements with the namespaces in which they stand, once for each chain.
+
+        What is in an optional stands where the optional stands, and is not listed.
+        """
         found = []
         self.stand(self.top, (), ((),), (), found)
         return found

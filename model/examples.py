@@ -7,6 +7,7 @@ examples of nearly a million instances, which take minutes.
 import sys
 
 import model
+import shapes
 
 FIRST = (
     b"(class file (open read))(user u)(role r)(type a)(type b)(userrole u r)(roletype r a)(roletype r b)"
@@ -39,6 +40,14 @@ def doubling_calls(last):
     return b"".join([*macros, b"(call m%d)" % last])
 
 
+def optionals(*lines):
+    return b"OPTIONALS", b"\n".join([b"OK %d" % len(lines), *lines])
+
+
+def why(*lines):
+    return b"WHY", b"\n".join([b"OK %d" % len(lines), *lines])
+
+
 TOO_MANY = faults(b"38 0 0 . -")
 NO_ARGUMENT = b"(macro m ((type p)) (type b)(allow p .a (file (open))))(block k (call m (b)))(roletype r k.b)"
 NESTED_CALL = (
@@ -50,6 +59,15 @@ LIBRARY = (
     b"(block tpl (blockabstract tpl)(type p)(call lib.m (p)))(block n (blockinherit tpl))"
     b"(roletype r n.p)(roletype r lib.p)"
 )
+CHAIN = b"(optional A (allow a x (file (read))))(optional B (type x)(allow x nobody (file (read))))"
+CHAIN_REASONS = [b"0 161 . B missing nobody", b"0 123 . A missing x"]
+MUTUAL = b"(optional A (type x)(allow x y (file (read))))(optional B (type y)(allow y x (file (read))))"
+NESTED = b"(optional A (roletype r nobody)(optional B (type z)))"
+ALIKE = (
+    b"(macro m () (optional o (roletype r x)(roletype r z)))(block p (type z)(block t (blockabstract t)(call m)))"
+    b"(block q (block t (blockabstract t)(call m)))(block n (blockinherit q.t)(blockinherit p.t))"
+)
+TWICE = b"(macro m () (optional o (allow a nobody (file (open)))))(call m)(call m)"
 
 # What it shows, the modules, the requests and replies.
 EXAMPLES = [
@@ -84,6 +102,45 @@ EXAMPLES = [
     ], faults(b"41 0 143 . e")),
     ("doubling blocks, one too many", [doubling(18), b"(block b18 (blockinherit b17)(blockinherit b17))"], TOO_MANY),
     ("doubling calls, one too many", [doubling_calls(19)], TOO_MANY),
+    ("before a load, no optionals", [FIRST + CHAIN], [(b"OPTIONALS", b"ERR 71"), (b"WHY", b"ERR 71")]),
+    ("no optionals", [FIRST], accepted(optionals(), why())),
+    ("a chain of optionals", [FIRST + CHAIN], accepted(
+        optionals(b"0 123 . A out", b"0 161 . B out"), why(*CHAIN_REASONS),
+    )),
+    ("mutual optionals", [FIRST + MUTUAL], accepted(optionals(b"0 123 . A in", b"0 169 . B in"), why())),
+    ("an optional in one that is out", [FIRST + NESTED], accepted(
+        optionals(b"0 123 . A out", b"0 154 . B out"), why(b"0 123 . A missing nobody", b"0 154 . B parent"),
+    )),
+    ("declared in an optional that is out", [FIRST + b"(optional A (type z)(roletype r nobody))(roletype r z)"], faults(
+        b"41 0 175 . z",
+    )),
+    ("no class in an optional", [b"(optional o (class w (p)))"], faults(b"24 0 12 . class")),
+    ("equal lines are repeated", [FIRST + TWICE], accepted(
+        optionals(b"0 135 . o out", b"0 135 . o out"),
+        why(b"0 135 . o missing nobody", b"0 135 . o missing nobody"),
+        (AB, b"OK read - open,read"),
+    )),
+    ("a class that is missing", [FIRST + b"(optional o (allow a b (dir (read))))"], accepted(
+        optionals(b"0 123 . o out"), why(b"0 123 . o missing dir"),
+    )),
+]
+
+# Replies to WHY that are right, and some that are not, for the modules beside them.
+REASONS = [
+    ("a chain of optionals", FIRST + CHAIN, CHAIN_REASONS, True),
+    ("another order", FIRST + CHAIN, CHAIN_REASONS[::-1], False),
+    ("one reason too few", FIRST + CHAIN, CHAIN_REASONS[:1], False),
+    ("one reason twice", FIRST + CHAIN, CHAIN_REASONS[:1] * 2, False),
+    ("another word", FIRST + CHAIN, [b"0 161 . B missing a", b"0 123 . A missing x"], False),
+    ("no parent", FIRST + CHAIN, [CHAIN_REASONS[0], b"0 123 . A parent"], False),
+    ("mutual optionals", FIRST + MUTUAL, [b"0 123 . A missing y", b"0 169 . B missing x"], False),
+    ("a parent after its optional", FIRST + NESTED, [b"0 154 . B parent", b"0 123 . A missing nobody"], False),
+    ("a permission of a class that is missing", FIRST + b"(optional o (allow a b (dir (read))))", [
+        b"0 123 . o missing read",
+    ], True),
+    ("two that are told alike, another order", FIRST + ALIKE, [b"0 135 n o missing x", b"0 135 n o missing z"], True),
+    ("two that are told alike", FIRST + ALIKE, [b"0 135 n o missing z", b"0 135 n o missing x"], True),
+    ("two that are told alike, one twice", FIRST + ALIKE, [b"0 135 n o missing z"] * 2, False),
 ]
 
 # Examples of nearly a million instances.
@@ -99,10 +156,20 @@ def answered(modules, asked):
     host = model.Host()
     for text in modules:
         host.install(text)
-    return model.run(b"".join(request + b"\n" for request, _ in asked), host)[0]
+    return b"".join(model.run(b"".join(request + b"\n" for request, _ in asked), host)[0])
+
+
+def are_reasons(text, lines):
+    """Whether the model takes lines as the reply to WHY."""
+    host = model.Host()
+    host.install(text)
+    if host.load() != b"OK":
+        return None
+    return host.why().is_right(lines)
 
 
 def main():
+    shapes.optionals_are_taken = True
     examples = EXAMPLES + (LONG if sys.argv[1:] == ["--long"] else [])
     wrong = 0
     for shown, modules, asked in examples:
@@ -111,7 +178,11 @@ def main():
         if replies != wanted:
             wrong += 1
             print(f"{shown}: the rules have {wanted!r}, the model has {replies!r}")
-    print(f"{len(examples)} examples, {wrong} wrong")
+    for shown, text, lines, is_right in REASONS:
+        if are_reasons(text, lines) != is_right:
+            wrong += 1
+            print(f"reasons, {shown}: the rules have {is_right}, the model has {are_reasons(text, lines)}")
+    print(f"{len(examples) + len(REASONS)} examples, {wrong} wrong")
     sys.exit(1 if wrong else 0)
 
 

@@ -3,7 +3,7 @@ import collections
 
 from contents import MOST_INSTANCES, joined_scope, paths
 from faults import TOO_MANY, Refused, fault, stop_at
-from shapes import PLAIN_KINDS
+from shapes import PLAIN_KINDS, declaring
 from texts import RESERVED, is_path
 
 # A word that is looked up: what it wants, where it is written, its bytes, and its scope.
@@ -11,10 +11,13 @@ Word = collections.namedtuple("Word", "kind module at text scope")
 
 
 class Instance:
-    """A statement in a namespace, with the words that are looked up."""
+    """A statement in a namespace, with the words that are looked up and the optionals round it, the outermost first.
 
-    def __init__(self, statement, space, words):
-        self.statement, self.space, self.words = statement, space, words
+    The optionals are instances too. The words of a class permission's list are not among the words.
+    """
+
+    def __init__(self, statement, space, words, optionals):
+        self.statement, self.space, self.words, self.optionals = statement, space, words, optionals
 
 
 class Frame:
@@ -35,7 +38,7 @@ class Frame:
     def within(self, macro, arguments):
         """The frame of the body of a macro that stands somewhere, called from this one."""
         statement = macro.statement
-        declared = {(each.keyword, each.name.value) for each in statement.body if each.name}
+        declared = {(each.keyword, each.name.value) for each in declaring(statement.body)}
         return Frame(joined_scope(macro.scope, self.scope), self.home, (*self.macros, statement), declared, arguments)
 
 
@@ -58,8 +61,9 @@ class Instances:
         if sum(self.size(each.statement, Frame(each.scope, each.scope)) for each in standing) > MOST_INSTANCES:
             raise Refused([TOO_MANY])
         for statement, space, scope, _ in standing:
-            self.unfold(statement, space, Frame(scope, scope))
+            self.unfold(statement, space, Frame(scope, scope), ())
         stop_at(self.faults)
+        self.optionals = {each for each in self.all if each.statement.keyword == b"optional"}
 
     def enter_macro(self, standing):
         """A macro that stands in a namespace through several chains is called through the least."""
@@ -85,6 +89,8 @@ class Instances:
 
     def size(self, statement, frame):
         """How many instances a statement brings, its calls unfolded. Which arguments it has does not matter."""
+        if statement.keyword == b"optional":
+            return 1 + sum(self.size(each, frame) for each in statement.body)
         if statement.keyword != b"call":
             return 1
         macro, codes = self.called(statement, frame)
@@ -96,14 +102,19 @@ class Instances:
             self.sizes[key] = sum(self.size(each, inside) for each in macro.statement.body)
         return 1 + self.sizes[key]
 
-    def unfold(self, statement, space, frame):
-        """Enters an instance of a statement, and all that it calls."""
+    def unfold(self, statement, space, frame, optionals):
+        """Enters an instance of a statement, and all that is in it or that it calls."""
         words = [frame.word(statement.module, node, kind) for kind, node in statement.words]
-        self.all.append(Instance(statement, space, words))
+        entered = Instance(statement, space, words, optionals)
+        self.all.append(entered)
         if statement.keyword == b"call":
-            self.call(statement, space, frame, words)
+            self.call(entered, frame)
+        elif statement.keyword == b"optional":
+            for each in statement.body:
+                self.unfold(each, space, frame, (*optionals, entered))
 
-    def call(self, statement, space, frame, words):
+    def call(self, instance, frame):
+        statement, space, words = instance.statement, instance.space, instance.words
         word = frame.word(statement.module, statement.macro_word, b"macro")
         words.append(word)
         macro, codes = self.called(statement, frame)
@@ -117,4 +128,4 @@ class Instances:
         words += arguments.values()
         inside = frame.within(macro, arguments)
         for each in macro.statement.body:
-            self.unfold(each, space, inside)
+            self.unfold(each, space, inside, instance.optionals)

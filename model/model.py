@@ -1,5 +1,6 @@
 #!/usr/bin/env python3
 """The rules of `cilhost session` once more, for comparing: `model.py [FILE...]` answers a session as the program does.
+With `--optionals` before the files it takes optionals, which the program does not yet.
 
 It was written from the rules alone, by somebody who had not read the program. It is plain and slow, it keeps everything
 in memory, and nothing in it is proved. Statements and requests that are not supported yet are refused here too.
@@ -8,7 +9,9 @@ import hashlib
 import re
 import sys
 
+import shapes
 from faults import Refused
+from optionals import place_of
 from policy import Policy
 from texts import LONGEST_TEXT, Unreadable, read
 
@@ -102,6 +105,39 @@ class Host:
     def query(self, source, target, class_name):
         return self.policy.query(source, target, class_name) if self.policy else b"ERR 71"
 
+    def optionals(self):
+        if not self.policy:
+            return b"ERR 71"
+        lines = [b"%d %d %s %s %s" % each for each in self.policy.optionals.lines()]
+        return b"\n".join([b"OK %d" % len(lines), *lines])
+
+    def why(self):
+        return Why.of(self.policy.optionals) if self.policy else b"ERR 71"
+
+
+REASON = re.compile(rb"(0|[1-9][0-9]*) (0|[1-9][0-9]*) (\S+) (\S+) (?:parent|missing (\S+))")
+
+
+class Why(bytes):
+    """The reply to WHY. There can be other right ones."""
+
+    @classmethod
+    def of(cls, optionals):
+        lines = [
+            b"%d %d %s %s " % place_of(optional) + (b"parent" if missing is None else b"missing " + missing)
+            for optional, missing in optionals.reasons
+        ]
+        made = cls(b"\n".join([b"OK %d" % len(lines), *lines]))
+        made.optionals = optionals
+        return made
+
+    def is_right(self, lines):
+        """Whether these could be the lines after the first."""
+        read = [REASON.fullmatch(line) for line in lines]
+        return all(read) and self.optionals.are_right([
+            ((int(reason[1]), int(reason[2]), reason[3], reason[4]), reason[5]) for reason in read
+        ])
+
 
 # ---- sessions
 
@@ -114,21 +150,21 @@ def run(given, host):
     at = 0
     for _ in range(MOST_REQUESTS):
         if at == len(given):
-            return b"".join(replies), 0
+            return replies, 0
         newline = given.find(b"\n", at, at + LONGEST_LINE + 1)
         if newline < 0:
             replies.append(b"ERR 82\n" if len(given) - at > LONGEST_LINE else b"ERR 83\n")
-            return b"".join(replies), 2
+            return replies, 2
         words = given[at:newline].split(b" ")
         at = newline + 1
         if len(words) == 2 and words[0] in (b"INSTALL", b"IMPORT") and DECIMAL.match(words[1]):
             if len(words[1]) > 10 or int(words[1]) > LONGEST_BODY:
                 replies.append(b"ERR 84\n")
-                return b"".join(replies), 2
+                return replies, 2
             size = int(words[1])
             if len(given) - at < size:
                 replies.append(b"ERR 83\n")
-                return b"".join(replies), 2
+                return replies, 2
             body = given[at:at + size]
             at += size
             replies.append((host.install(body) if words[0] == b"INSTALL" else host.import_bundle(body)) + b"\n")
@@ -141,18 +177,26 @@ def run(given, host):
             replies.append(host.load() + b"\n")
         elif words == [b"QUIT"]:
             replies.append(b"OK\n")
-            return b"".join(replies), 0
+            return replies, 0
+        elif words == [b"OPTIONALS"] and shapes.optionals_are_taken:
+            replies += [host.optionals(), b"\n"]
+        elif words == [b"WHY"] and shapes.optionals_are_taken:
+            replies += [host.why(), b"\n"]
         elif len(words) == 4 and words[0] == b"AV" and b"" not in words:
             replies.append(host.query(*words[1:]) + b"\n")
         else:
             replies.append(b"ERR 81\n")
     replies.append(b"ERR 85\n")
-    return b"".join(replies), 2
+    return replies, 2
 
 
 def main():
     host = Host()
-    for file in sys.argv[1:]:
+    files = sys.argv[1:]
+    if files[:1] == ["--optionals"]:
+        shapes.optionals_are_taken = True
+        del files[0]
+    for file in files:
         try:
             with open(file, "rb") as opened:
                 text = opened.read(LONGEST_TEXT + 1)
@@ -161,7 +205,7 @@ def main():
         if host.install(text).startswith(b"ERR"):
             sys.exit(1)
     replies, status = run(sys.stdin.buffer.read(), host)
-    sys.stdout.buffer.write(replies)
+    sys.stdout.buffer.write(b"".join(replies))
     sys.stdout.buffer.flush()
     sys.exit(status)
 

@@ -1,98 +1,43 @@
 """What a policy declares and allows."""
-import collections
-
-from contents import Contents, paths
-from faults import fault, printed, stop_at
+from contents import Contents
+from faults import printed, stop_at
 from instances import Instances
+from names import OBJECT_ROLE, Names, content, declared_fault, names_of_all
+from optionals import Optionals
 from shapes import written
 
 MOST_PERMISSIONS = 32
-DECLARING = (b"type", b"role", b"user", b"class")
-OBJECT_ROLE = (b"object_r",)
-
-
-class Names:
-    """What is declared, by kinds and full names, with the permissions of classes; or the faults of what differs."""
-
-    def __init__(self, instances):
-        self.instances = instances
-        self.declared = {kind: {} for kind in DECLARING}
-        self.declared[b"role"][OBJECT_ROLE] = ()
-        given = collections.defaultdict(list)
-        for each in instances.all:
-            statement = each.statement
-            if statement.keyword in DECLARING:
-                path = (*each.space, statement.name.value)
-                content = tuple(permission.value for permission in statement.permissions)
-                given[statement.keyword, path].append((content, each))
-                self.declared[statement.keyword][path] = content
-        stop_at([
-            declared_fault(36, each)
-            for listed in given.values()
-            if len({content for content, _ in listed}) > 1
-            for _, each in listed
-        ])
-
-    def named(self, word):
-        """The full name of what a word means, or nothing."""
-        if word.kind == b"macro":
-            macro = self.instances.macro(word)
-            return macro and (*macro.space, macro.statement.name.value)
-        return next((path for path in paths(word.text, word.scope) if path in self.declared[word.kind]), None)
-
-
-def listed(statement):
-    """The permissions that a class statement lists."""
-    return statement.permissions if statement.keyword == b"class" else []
-
-
-def declared_fault(code, instance):
-    statement = instance.statement
-    return fault(code, statement.module, statement.name.at, instance.space, statement.name.value)
 
 
 class Policy:
     """What trees of modules say, by printed names; or the faults of the first step that has some."""
 
     def __init__(self, trees):
-        names = Names(Instances(Contents(written(trees))))
+        instances = Instances(Contents(written(trees)))
+        names_of_all(instances)
+        self.optionals = Optionals(instances)
+        names = Names(instances, self.optionals.enabled)
         self.names = {
-            kind: {printed(path): frozenset(content) for path, content in declared.items()}
+            kind: {printed(path): frozenset(listed) for path, listed in declared.items()}
             for kind, declared in names.declared.items()
         }
+        stop_at([each for instance in instances.all if not instance.optionals for each in names.unresolved(instance)])
+        enabled = [each for each in instances.all if self.optionals.enabled.issuperset(each.optionals)]
+        stop_at([declared_fault(55, each) for each in enabled if len(set(content(each))) > MOST_PERMISSIONS])
         self.pairs = {b"roletype": set(), b"userrole": set()}
         self.rules = []
-        instances = names.instances.all
-        stop_at([each for instance in instances for each in self.enter(instance, names)])
-        stop_at([
-            declared_fault(55, each)
-            for each in instances
-            if len({node.value for node in listed(each.statement)}) > MOST_PERMISSIONS
-        ])
+        for each in enabled:
+            self.enter(each, names)
 
     def enter(self, instance, names):
-        """Enters a pair or a rule; answers the words that name nothing."""
+        """Enters a pair or a rule."""
         statement = instance.statement
-        found = [names.named(word) for word in instance.words]
-        unresolved = [
-            fault(41, word.module, word.at, instance.space, word.text)
-            for word, path in zip(instance.words, found)
-            if path is None
-        ]
-        if statement.keyword == b"allow" and found[-1] is not None:
-            held = names.declared[b"class"][found[-1]]
-            unresolved += [
-                fault(41, statement.module, node.at, instance.space, node.value)
-                for node in statement.permissions
-                if node.value not in held
-            ]
-        if not unresolved and statement.keyword in self.pairs:
-            self.pairs[statement.keyword].add(tuple(map(printed, found)))
-        elif not unresolved and statement.keyword == b"allow":
-            source, target, class_name = found[0], found[1] if len(found) == 3 else None, found[-1]
+        if statement.keyword in self.pairs:
+            self.pairs[statement.keyword].add(tuple(printed(names.named(word)) for word in instance.words))
+        elif statement.keyword == b"allow":
+            source, *target, class_name = [printed(names.named(word)) for word in instance.words]
             words = {permission.value for permission in statement.permissions}
-            self.rules.append((printed(source), target and printed(target), printed(class_name), words))
-        return unresolved
+            self.rules.append((source, target[0] if target else None, class_name, words))
 
     def type_of(self, context):
         """The type of a valid context, else nothing."""

@@ -4,11 +4,14 @@ import collections
 from faults import fault, stop_at
 from texts import RESERVED, is_name, is_path
 
-# Statements that may stand anywhere, and those that may not stand in a macro.
-IN_MACROS = set(b"type role user roletype userrole allow call".split())
+# Whether optionals are taken. The program does not take them yet, so they are refused by name where nobody sets this.
+optionals_are_taken = False
+
+# Statements that may stand anywhere, and those that may not stand in a macro or an optional.
+ANYWHERE = set(b"type role user roletype userrole allow call optional".split())
 IN_BLOCKS = set(b"class block blockabstract blockinherit macro".split())
 
-# Statements without effect, whose contents are not looked at. They may not stand in a macro.
+# Statements without effect, whose contents are not looked at. They may not stand in a macro or an optional.
 SET_ASIDE = set(
     b"""
     filecon fsuse genfscon netifcon nodecon portcon ibpkeycon ibendportcon sid sidorder sidcontext context ipaddr
@@ -17,12 +20,12 @@ SET_ASIDE = set(
     validatetrans mlsvalidatetrans
     """.split()
 )
-TAKEN = IN_MACROS | IN_BLOCKS | SET_ASIDE
+TAKEN = ANYWHERE | IN_BLOCKS | SET_ASIDE
 
 # The statements that are refused by name: those of the language that are not taken yet, and those that never will be.
 REFUSED = set(
     b"""
-    in tunable tunableif optional booleanif boolean
+    in tunable tunableif booleanif boolean
     common classcommon classmap classmapping classorder classpermission classpermissionset
     typealias typealiasactual typeattribute typeattributeset expandtypeattribute typebounds typepermissive
     roleattribute roleattributeset roleallow roletransition rolebounds
@@ -41,8 +44,8 @@ PLAIN_KINDS = set(b"name string".split())
 PARAMETER_KINDS = set(b"type role user class".split()) | PLAIN_KINDS
 
 
-class Place(collections.namedtuple("Place", "blocks macro")):
-    """Where a statement is written: the block statements round it, the outermost first, and its macro or none."""
+class Place(collections.namedtuple("Place", "blocks macro optional")):
+    """Where a statement is written: the block statements round it, the outermost first; its macro; its optional."""
 
     @property
     def space(self):
@@ -63,7 +66,7 @@ class Statement:
         self.module, self.at, self.place = module, node.at, place
         self.keyword, self.items = node.value[0].value, node.value[1:]
         self.faults = []
-        self.name, self.words, self.permissions = None, [], []
+        self.name, self.label, self.words, self.permissions = None, None, [], []
         self.inner, self.body, self.is_abstract = [], [], False
         if self.keyword not in SET_ASIDE:
             getattr(self, "take_" + self.keyword.decode())()
@@ -160,6 +163,10 @@ class Statement:
         self.expect(1, len(self.items))
         self.name, self.inner = self.declared(self.items[0]), self.lists(self.items[1:])
 
+    def take_optional(self):
+        self.expect(1, len(self.items))
+        self.label, self.inner = self.declared(self.items[0]), self.lists(self.items[1:])
+
     def take_blockabstract(self):
         self.expect(1)
         self.target_block = self.path(self.items[0])
@@ -190,8 +197,8 @@ class Statement:
 
 
 def is_out_of_place(keyword, items, place):
-    if place.macro:
-        return keyword not in IN_MACROS
+    if place.macro or place.optional:
+        return keyword not in ANYWHERE
     if keyword != b"blockabstract":
         return False
     if not place.blocks:
@@ -206,6 +213,8 @@ def refusal(node, place):
     if not items or items[0].kind != "word":
         return 23, b"-"
     keyword = items[0].value
+    if keyword == b"optional" and not optionals_are_taken:
+        return 22, keyword
     if keyword not in TAKEN:
         return 22 if keyword in REFUSED else 21, keyword
     return (24, keyword) if is_out_of_place(keyword, items[1:], place) else None
@@ -232,23 +241,34 @@ class Reader:
             self.faults.append(fault(refused[0], module, node.at, place.space, refused[1]))
             return None
         if made.keyword == b"block":
-            made.body = self.statements(module, made.inner, Place((*place.blocks, made), None))
+            made.body = self.statements(module, made.inner, Place((*place.blocks, made), None, None))
             made.is_abstract = any(each.keyword == b"blockabstract" for each in made.body)
         elif made.keyword == b"macro":
-            made.body = self.statements(module, made.inner, Place(place.blocks, made))
+            made.body = self.statements(module, made.inner, Place(place.blocks, made, None))
             made.faults += clashes_with_parameters(made)
+        elif made.keyword == b"optional":
+            made.body = self.statements(module, made.inner, Place(place.blocks, place.macro, made))
         self.faults += [fault(code, module, at, place.space, word) for code, at, word in made.faults]
         return made
 
 
+def declaring(body):
+    """The statements in a body, those in its optionals too, that declare a name."""
+    for each in body:
+        if each.keyword == b"optional":
+            yield from declaring(each.body)
+        elif each.name:
+            yield each
+
+
 def clashes_with_parameters(macro):
     names = {name.value for _, name in macro.parameters}
-    return [(27, each.name.at, each.name.value) for each in macro.body if each.name and each.name.value in names]
+    return [(27, each.name.at, each.name.value) for each in declaring(macro.body) if each.name.value in names]
 
 
 def written(trees):
     """The statements at the top of modules, or the faults of all."""
     reader = Reader()
-    top = [each for module, tree in enumerate(trees) for each in reader.statements(module, tree, Place((), None))]
+    top = [each for module, tree in enumerate(trees) for each in reader.statements(module, tree, Place((), None, None))]
     stop_at(reader.faults)
     return top
