@@ -59,7 +59,7 @@ impl Question for Listed {
         let mut out = String::new(alloc);
         for at in 0..instances.len() {
             let mut lists = Candidates::new(alloc);
-            add_candidates(alloc, &names, permissions, instances, at, &mut lists).ok()?;
+            add_candidates(alloc, &names, permissions, &*instances, at, &mut lists).ok()?;
             show_statement(alloc, &mut out, instances, &names, at, &lists)?;
         }
         Some(out)
