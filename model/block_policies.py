@@ -30,7 +30,7 @@ KINDS = [b"type", b"type", b"type", b"role", b"user", b"class", b"class", b"name
 WRONG_ARGUMENTS = [Quoted(b"a"), Quoted(b""), b"all", b"self", b"1x", b"a..b", b".", [], [b"a"], [[b"a"], Quoted(b"b")]]
 NOWHERE = [b"nobody", b"k.a", b".k", b"l.l.a", b"a.k"]
 RULES = {b"roletype": (b"role", b"type"), b"userrole": (b"user", b"role")}
-WORDS = [*FLAT, *sorted(shapes.IN_BLOCKS), b"call", b"filecon", *LATER, *UNKNOWN]
+WORDS = [*FLAT, *sorted(shapes.IN_BLOCKS), b"call", b"optional", b"filecon", *LATER, *UNKNOWN]
 
 MOST_MENDINGS = 12
 

@@ -16,7 +16,6 @@ import block_sessions
 import flat_sessions
 import model
 import optional_sessions
-import shapes
 
 KINDS = {
     each.__name__: each
@@ -27,8 +26,6 @@ KINDS = {
     )
 }
 
-# Kinds of sessions with what the program does not take yet. They are run where they are asked for by name.
-EARLY = {"optionals"}
 USUAL_COUNT = 200
 
 # So many sessions are given to a process at a time.
@@ -36,8 +33,7 @@ AT_A_TIME = 50
 
 
 def session(kind, number):
-    """The parts of a session. One number of a kind is one session. The model takes what the kind needs from then on."""
-    shapes.optionals_are_taken = kind in EARLY
+    """The parts of a session. One number of a kind is one session."""
     return KINDS[kind](random.Random(f"{kind} {number}"))
 
 
@@ -163,9 +159,8 @@ def arguments():
         epilog="Kinds of sessions: " + "; ".join(f"{kind}: {made.__doc__}" for kind, made in KINDS.items()),
     )
     parser.add_argument("words", nargs="*", help="PROGRAM is the built cilhost. KIND is a kind of sessions, or all, as"
-                        " without it: all that the program takes. COUNT is how many sessions of a kind (200; of"
-                        " long_texts, among all kinds, a twentieth). FIRST is the number of the first; one number is"
-                        " one session (0).")
+                        " without it. COUNT is how many sessions of a kind (200; of long_texts, among all kinds, a"
+                        " twentieth). FIRST is the number of the first; one number is one session (0).")
     parser.add_argument("--census", action="store_true", help="counts what the model replies, without the program")
     parser.add_argument("--jobs", type=int, default=1, help="how many processes run sessions at a time (1)")
     given = parser.parse_intermixed_args()
@@ -188,8 +183,7 @@ def main():
         counts = {given.kind: given.count}
     else:
         # A session of a long text takes more than a second.
-        kinds = [kind for kind in KINDS if kind not in EARLY]
-        counts = {kind: given.count // 20 if kind == "long_texts" else given.count for kind in kinds}
+        counts = {kind: given.count // 20 if kind == "long_texts" else given.count for kind in KINDS}
     is_alike = True
     for kind, count in counts.items():
         numbers = range(given.first, given.first + count)

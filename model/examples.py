@@ -7,7 +7,6 @@ examples of nearly a million instances, which take minutes.
 import sys
 
 import model
-import shapes
 
 FIRST = (
     b"(class file (open read))(user u)(role r)(type a)(type b)(userrole u r)(roletype r a)(roletype r b)"
@@ -169,7 +168,6 @@ def are_reasons(text, lines):
 
 
 def main():
-    shapes.optionals_are_taken = True
     examples = EXAMPLES + (LONG if sys.argv[1:] == ["--long"] else [])
     wrong = 0
     for shown, modules, asked in examples:

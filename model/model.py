@@ -1,6 +1,5 @@
 #!/usr/bin/env python3
 """The rules of `cilhost session` once more, for comparing: `model.py [FILE...]` answers a session as the program does.
-With `--optionals` before the files it takes optionals, which the program does not yet.
 
 It was written from the rules alone, by somebody who had not read the program. It is plain and slow, it keeps everything
 in memory, and nothing in it is proved. Statements and requests that are not supported yet are refused here too.
@@ -9,7 +8,6 @@ import hashlib
 import re
 import sys
 
-import shapes
 from faults import Refused
 from optionals import place_of
 from policy import Policy
@@ -178,9 +176,9 @@ def run(given, host):
         elif words == [b"QUIT"]:
             replies.append(b"OK\n")
             return replies, 0
-        elif words == [b"OPTIONALS"] and shapes.optionals_are_taken:
+        elif words == [b"OPTIONALS"]:
             replies += [host.optionals(), b"\n"]
-        elif words == [b"WHY"] and shapes.optionals_are_taken:
+        elif words == [b"WHY"]:
             replies += [host.why(), b"\n"]
         elif len(words) == 4 and words[0] == b"AV" and b"" not in words:
             replies.append(host.query(*words[1:]) + b"\n")
@@ -192,11 +190,7 @@ def run(given, host):
 
 def main():
     host = Host()
-    files = sys.argv[1:]
-    if files[:1] == ["--optionals"]:
-        shapes.optionals_are_taken = True
-        del files[0]
-    for file in files:
+    for file in sys.argv[1:]:
         try:
             with open(file, "rb") as opened:
                 text = opened.read(LONGEST_TEXT + 1)

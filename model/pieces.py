@@ -5,7 +5,7 @@ from texts import RESERVED
 BLANK = [b" ", b"\t", b"\n", b"\r"]
 NAMES = [b"a", b"b", b"c", b"_", b"a-b", b"A", b"file", b"process", b"type", b"in", b"object_r"]
 PERMISSIONS = [b"read", b"open", b"write", b"Read", b"_x", b"a-", b"aa"]
-LATER = sorted(shapes.REFUSED | {b"optional"})
+LATER = sorted(shapes.REFUSED)
 FLAT = [b"allow", b"class", b"role", b"roletype", b"type", b"user", b"userrole"]
 UNKNOWN = [b"foo", b"Type", b"types", b"allows", b"typ", b"inn", b"1type", b".type", b"-", b"attribute"]
 ODD = [
@@ -81,7 +81,7 @@ def lists_of(node):
     return [node] + [deep for inner in node if isinstance(inner, list) for deep in lists_of(inner)]
 
 
-def bent(rng, statement, keywords=(*LATER, *UNKNOWN, *FLAT)):
+def bent(rng, statement, keywords=(*LATER, *UNKNOWN, *FLAT, b"optional")):
     """The statement with one of its parts changed, taken out, doubled, wrapped, quoted or added."""
     chosen = rng.choice(lists_of(statement))
     at = rng.randrange(len(chosen) + 1)

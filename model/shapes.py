@@ -4,9 +4,6 @@ import collections
 from faults import fault, stop_at
 from texts import RESERVED, is_name, is_path
 
-# Whether optionals are taken. The program does not take them yet, so they are refused by name where nobody sets this.
-optionals_are_taken = False
-
 # Statements that may stand anywhere, and those that may not stand in a macro or an optional.
 ANYWHERE = set(b"type role user roletype userrole allow call optional".split())
 IN_BLOCKS = set(b"class block blockabstract blockinherit macro".split())
@@ -213,8 +210,6 @@ def refusal(node, place):
     if not items or items[0].kind != "word":
         return 23, b"-"
     keyword = items[0].value
-    if keyword == b"optional" and not optionals_are_taken:
-        return 22, keyword
     if keyword not in TAKEN:
         return 22 if keyword in REFUSED else 21, keyword
     return (24, keyword) if is_out_of_place(keyword, items[1:], place) else None

@@ -95,6 +95,7 @@ module _ (ws : List Written) where
   unfolding opened_parts
   opens_so_as s keywords.Block = block_so s (is_abstract ws s.statement)
   opens_so_as s keywords.BlockInherit = target_so s (target_of ws s.statement) refl
+  opens_so_as s keywords.Optional = refl
   opens_so_as s k = refl
 
   opens_so : (s : Standing) → opens ws s ≡ opened_parts s s.statement.statement.keyword (opened_of ws s.statement)

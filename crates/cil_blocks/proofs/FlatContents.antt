@@ -1,4 +1,4 @@
--- What stands in a policy without blocks and macros: each statement, once.
+-- What stands in a policy without blocks, macros and optionals: each statement, once.
 use Rattle.std.proofs.Common.{◌≡◌, true, false, List, [], ◌∷◌, length, map, refl, sym, ◌∙◌, subst, inl, inr, arith}
 use Rattle.std.specs.Prelude.{Contains}
 use Rattle.std.specs.List.Sorted.{IsStrictlySortedBy}
@@ -9,7 +9,7 @@ use Rattle.cil_syntax.specs.declared.fault.Fault.{Fault}
 use Rattle.cil_syntax.specs.Fails.{AreFaults}
 use Rattle.cil_syntax.specs.Laws.{Outcome, succeeds, fails}
 use Rattle.cil_syntax.specs.Written.{Written, written_cmp}
-use Rattle.cil_blocks.specs.Contents.{Standing, Stands, in_block, in_optional, inherited, is_block, is_inheriting, spot_cmp, standing_cmp, standing_top, top, spot_total}
+use Rattle.cil_blocks.specs.Contents.{Standing, Stands, in_block, in_optional, inherited, is_block, is_inheriting, is_optional, spot_cmp, standing_cmp, standing_top, top, spot_total}
 use Rattle.cil_blocks.specs.InheritFaults.{InheritFault, InheritStep, IsOver, cycle, limit_fault, most_instances, standing_twice, too_many, unresolved, written_twice}
 use Rattle.cil_blocks.specs.Laws.{HaveFlatContents, IsFlat}
 use Rattle.cil_blocks.proofs.InheritLemmas.{limit_alone, no_step, standing_total}
@@ -28,7 +28,9 @@ module _ (ws : List Written) (rising : IsStrictlySortedBy written_cmp ws) (flat 
   on_top s (in_block p w sp b a c u) =
       let t = on_top p sp in
       absurd (never (sym (subst (λ (q : Standing). is_block q.statement.statement.keyword ≡ true) (sym t.2) b) ∙ (flat t.0 t.1).no_block))
-  on_top s (in_optional p w sp o c u) = absurd (never (sym o))
+  on_top s (in_optional p w sp o c u) =
+      let t = on_top p sp in
+      absurd (never (sym (subst (λ (q : Standing). is_optional q.statement.statement.keyword ≡ true) (sym t.2) o) ∙ (flat t.0 t.1).no_optional))
   on_top s (inherited p b w sp i t c u) =
       let v = on_top p sp in
       absurd (never (sym (subst (λ (q : Standing). is_inheriting q.statement.statement.keyword ≡ true) (sym v.2) i) ∙ (flat v.0 v.1).no_inheritance))

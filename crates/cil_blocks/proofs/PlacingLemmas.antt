@@ -17,9 +17,10 @@ use Rattle.cil_syntax.specs.Scopes.{Namespace, apart, chain, tidy}
 use Rattle.cil_syntax.specs.Written.{Written}
 use Rattle.cil_blocks.specs.declared.entry.Entry.{Entry}
 use Rattle.cil_blocks.specs.declared.namespaces.Space.{Space}
-use Rattle.cil_blocks.specs.Contents.{Standing, is_inheriting, name_of}
+use Rattle.cil_blocks.specs.Contents.{Standing, is_inheriting, is_optional, name_of, standing_in_optional}
 use Rattle.cil_blocks.specs.Entries.{SaysOpened, opened_as, opened_of, opener_of, standing_as, standing_through, standing_under, standings_from, standings_of, statement_at, stepped}
 use Rattle.cil_blocks.specs.Named.{rank}
+use Rattle.cil_blocks.specs.Opens.{target_of}
 use Rattle.cil_blocks.specs.Namespaces.{AreNamespaces, IsGrown, IsNumber, space_at}
 use Rattle.cil_blocks.specs.Numbers.{AreWithin, chain_numbers, with_number, with_numbers}
 use Rattle.cil_blocks.specs.Places.{IsPlace, IsPlaced, Numbered, Reached, all_numbered, numbered, numbers_of, reached_through, reached_top}
@@ -173,15 +174,27 @@ module _ (ws : List Written) where
       (s : Standing) (w : Written) → s.statement ≡ statement_at ws number → IsPlace old s.space s.scope outer
       → IsPlace new (standing_under ws (Some s) w).space (standing_under ws (Some s) w).scope place
 
-  as_through : (s : Standing) (k : Keyword) (w : Written) → standing_as ws s k w ≡ standing_through s (inherited_as ws s.statement k) w
-  as_through s keywords.BlockInherit w = refl
-  as_through s k w = refl
+  as_through : (s : Standing) (k : Keyword) (w : Written) → is_optional k ≡ false → standing_as ws s k w ≡ standing_through s (inherited_as ws s.statement k) w
+  as_through s keywords.BlockInherit w e = refl
+  as_through s keywords.Optional w e = absurd (let f : true ≡ false = e in cc)
+  as_through s k w e = refl
 
-  inside_so : (old new : List Space) (outer place : Numbered) (number : ℕ) → IsPlaceThrough old new outer (statement_at ws number) (inherited_of ws (statement_at ws number)) place
-      → IsPlaceInside old new outer number place
-  inside_so old new outer place number f = λ s w same so.
+  inside_so : (old new : List Space) (outer place : Numbered) (number : ℕ) → is_optional (statement_at ws number).statement.keyword ≡ false
+      → IsPlaceThrough old new outer (statement_at ws number) (inherited_of ws (statement_at ws number)) place → IsPlaceInside old new outer number place
+  inside_so old new outer place number other f = λ s w same so.
       subst (λ (t : Standing). IsPlace new t.space t.scope place)
-      (sym (as_through s s.statement.statement.keyword w ∙ ap (λ x. standing_through s x w) (ap (inherited_of ws) same))) (f s w same so)
+      (sym (as_through s s.statement.statement.keyword w (ap (λ (x : Written). is_optional x.statement.keyword) same ∙ other)
+      ∙ ap (λ x. standing_through s x w) (ap (inherited_of ws) same))) (f s w same so)
+
+  -- what is in an optional has the place of the optional
+  as_optional : (s : Standing) (k : Keyword) (w : Written) → is_optional k ≡ true → standing_as ws s k w ≡ standing_in_optional s w
+  as_optional s keywords.Optional w e = refl
+  as_optional s k w e = absurd (let f : false ≡ true = e in cc)
+
+  optional_so : (ss : List Space) (place : Numbered) (number : ℕ) → is_optional (statement_at ws number).statement.keyword ≡ true → IsPlaceInside ss ss place number place
+  optional_so ss place number e = λ s w same so.
+      subst (λ (t : Standing). IsPlace ss t.space t.scope place)
+      (sym (as_optional s s.statement.statement.keyword w (ap (λ (x : Written). is_optional x.statement.keyword) same ∙ e))) so
 
   -- ---- what is inherited
 
@@ -337,12 +350,14 @@ module _ (ws : List Written) where
   through_alike ss p s None v w is = is
   through_alike ss p s (Some b) v w is = is
 
+  as_alike : (ss : List Space) (p : Numbered) (s : Standing) (k : Keyword) (v w : Written) → IsPlace ss (standing_as ws s k v).space (standing_as ws s k v).scope p
+      → IsPlace ss (standing_as ws s k w).space (standing_as ws s k w).scope p
+  as_alike ss p s keywords.BlockInherit v w is = through_alike ss p s (target_of ws s.statement) v w is
+  as_alike ss p s k v w is = is
+
   under_alike : (ss : List Space) (p : Numbered) (s : Standing) (v w : Written) → IsPlace ss (standing_under ws (Some s) v).space (standing_under ws (Some s) v).scope p
       → IsPlace ss (standing_under ws (Some s) w).space (standing_under ws (Some s) w).scope p
-  under_alike ss p s v w is =
-      subst (λ (t : Standing). IsPlace ss t.space t.scope p) (sym (as_through ws s s.statement.statement.keyword w))
-      (through_alike ss p s (inherited_of ws s.statement) v w
-      (subst (λ (t : Standing). IsPlace ss t.space t.scope p) (as_through ws s s.statement.statement.keyword v) is))
+  under_alike ss p s v w is = as_alike ss p s s.statement.statement.keyword v w is
 
   pub again_next : (ss : List Space) (es : List Entry) (e d : Entry) (k opener before : ℕ) (ps qs : List Numbered) → k < length es → e ≡ get_or es k d
       → IsLower e.opener k (Some opener) → IsRepeated es k opener before → AreFirstPlaces ws (take k es) ss ps
@@ -415,11 +430,27 @@ module _ (ws : List Written) where
       (again_next ss es e d k opener before (all_numbered ss rs) (all_numbered ss rs ++ numbered ss r.0 ∷ []) h is low again so.places
       (λ p at. ap (λ x. all_numbered ss rs ++ x ∷ []) (some_same (numbered ss r.0) p (sym (reached_get ss rs before r.0 r.1) ∙ at))))
 
+  -- in an optional: the place of the optional
+  pub reached_optional : (ss : List Space) (es : List Entry) (e x d : Entry) (k opener : ℕ) (rs qs : List Reached) → k < length es → e ≡ get_or es k d → x ≡ get_or es opener d
+      → IsLower e.opener k (Some opener) → is_optional (statement_at ws x.statement).statement.keyword ≡ true → AreFirstReached ws (take k es) ss rs
+      → ((r : Reached) → slice_get rs opener ≡ Some r → qs ≡ rs ++ r ∷ []) → AreFirstReached ws (take (k + 1) es) ss qs
+  reached_optional ss es e x d k opener rs qs h is opens low optional so f =
+      let l = so.places.as_many in
+      let m = length-take-le k es (omega (arith, h)) in
+      let n = length-map rs (numbered ss) in
+      let below = (lower_same e.opener k opener (Some opener) low refl).0 in
+      let r = some_at rs opener (omega (arith, l, m, n, below)) in
+      let p = numbered ss r.0 in
+      reached_more ss ss es k rs qs r.0 refl (none_added ss) so (f r.0 r.1) (so.within opener r.0 r.1)
+      (inside_next ss ss es e x d k opener (all_numbered ss rs) (all_numbered ss rs ++ p ∷ []) p p h is low so.places
+      (is_opener ss es (all_numbered ss rs) k opener x d h below opens so.places) (reached_get ss rs opener r.0 r.1) (none_added ss)
+      (optional_so ws ss p x.statement optional) refl)
+
   pub reached_inside : (old new : List Space) (es : List Entry) (e x d : Entry) (k opener outer : ℕ) (rs qs : List Reached) (r : Reached) (space : ℕ) (written : Option ℕ)
       → k < length es → e ≡ get_or es k d → x ≡ get_or es opener d → IsLower e.opener k (Some opener) → AreFirstReached ws (take k es) old rs → slice_get rs opener ≡ Some r → outer ≡ r.0
-      → AreNamespaces old → AreNamespaces new → IsGrown old new → IsInside ws old new outer x.statement space written → qs ≡ rs ++ reached_through r space written ∷ []
-      → AreFirstReached ws (take (k + 1) es) new qs
-  reached_inside old new es e x d k opener outer rs qs r space written h is opens low so at from before are g into same =
+      → is_optional (statement_at ws x.statement).statement.keyword ≡ false → AreNamespaces old → AreNamespaces new → IsGrown old new
+      → IsInside ws old new outer x.statement space written → qs ≡ rs ++ reached_through r space written ∷ [] → AreFirstReached ws (take (k + 1) es) new qs
+  reached_inside old new es e x d k opener outer rs qs r space written h is opens low so at from other before are g into same =
       let inside : IsInside ws old new r.0 x.statement space written = subst (λ n. IsInside ws old new n x.statement space written) from into in
       let all = so.within opener r at in
       let below = (lower_same e.opener k opener (Some opener) low refl).0 in
@@ -427,7 +458,7 @@ module _ (ws : List Written) where
       (through_within old new r (statement_at ws x.statement) (inherited_of ws (statement_at ws x.statement)) space written g all inside)
       (inside_next old new es e x d k opener (all_numbered old rs) (all_numbered old rs ++ numbered new (reached_through r space written) ∷ []) (numbered old r)
       (numbered new (reached_through r space written)) h is low so.places (is_opener old es (all_numbered old rs) k opener x d h below opens so.places) (reached_get old rs opener r at) g
-      (inside_so ws old new (numbered old r) (numbered new (reached_through r space written)) x.statement
+      (inside_so ws old new (numbered old r) (numbered new (reached_through r space written)) x.statement other
       (through_place old new r (statement_at ws x.statement) (inherited_of ws (statement_at ws x.statement)) space written before are g all inside)) refl)
 
   -- the opener of an entry has a place

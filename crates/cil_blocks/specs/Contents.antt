@@ -28,9 +28,9 @@ abbrev pub is_inheriting : Keyword → Bool
 is_inheriting keywords.BlockInherit = true
 is_inheriting k = false
 
--- a statement whose contents stand in the same namespace, and are there or not as a whole. No statement of this kind is
--- taken yet
+-- a statement whose contents stand in the same namespace, and are there or not as a whole
 abbrev pub is_optional : Keyword → Bool
+is_optional keywords.Optional = true
 is_optional k = false
 
 -- a block or a macro: what has a name among blocks and macros
@@ -84,7 +84,8 @@ pub record Target (ws : List Written) (w b : Written) : Type 0 where
 -- ---- contents
 
 -- a statement as it stands somewhere: in which namespace, through which blockinherits (the first one first), in which
--- scope, in which optionals, each by its path (the innermost first), and every statement through which it came, itself the last
+-- scope, in which optionals, each by its trail (the innermost first), and its own trail: every statement through which it came,
+-- itself the last
 pub record Standing : Type 0 where
   pub statement : Written
   pub space : Namespace
@@ -127,7 +128,7 @@ standing_in_optional s w = record {
   space = s.space;
   chain = s.chain;
   scope = s.scope;
-  round = path_of s ∷ s.round;
+  round = s.trail ∷ s.round;
   trail = s.trail ++ w.statement.at ∷ [];
 }
 

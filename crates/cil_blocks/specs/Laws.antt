@@ -10,7 +10,7 @@ use Rattle.cil_syntax.specs.Program.{IsNested, program_of}
 use Rattle.cil_syntax.specs.Scopes.{Namespace}
 use Rattle.cil_syntax.specs.Laws.{Outcome}
 use Rattle.cil_syntax.specs.Written.{Written, written_cmp}
-use Rattle.cil_blocks.specs.Contents.{Standing, Stands, Target, is_block, is_inheriting, is_named, path_of, standing_cmp}
+use Rattle.cil_blocks.specs.Contents.{Standing, Stands, Target, is_block, is_inheriting, is_named, is_optional, path_of, standing_cmp}
 use Rattle.cil_blocks.specs.InheritFaults.{Gives, InheritFault, InheritStep, IsOf}
 use Rattle.cil_blocks.specs.Leads.{IsCycle, IsShared}
 
@@ -60,16 +60,18 @@ StandsSomehow ws n w = (s : Standing) × Stands ws s × (s.statement ≡ w) × (
 -- a law: a block, a macro or a blockinherit stands in a namespace exactly where a body gives it to the namespace
 abbrev pub AreGiven : Type 0
 AreGiven =
-    (ws : List Written) (n : Namespace) (w : Written) → Contains ws w → stands_in_blocks w.statement.keyword ≡ true → StandsSomehow ws n w ↔ IsGiven ws n w
+    (ss : List Statement) (n : Namespace) (w : Written) → IsNested ss → Contains (program_of ss) w → stands_in_blocks w.statement.keyword ≡ true
+    → StandsSomehow (program_of ss) n w ↔ IsGiven (program_of ss) n w
 
--- a statement of a policy without blocks and macros
+-- a statement of a policy without blocks, macros and optionals
 pub record IsFlat (w : Written) : Type 0 where
   pub on_top : w.context.under ≡ None
   pub no_block : is_block w.statement.keyword ≡ false
   pub no_name : is_named w.statement.keyword ≡ false
   pub no_inheritance : is_inheriting w.statement.keyword ≡ false
+  pub no_optional : is_optional w.statement.keyword ≡ false
 
--- a law: a policy without blocks and macros has contents, or the fault of too many statements
+-- a law: a policy without blocks, macros and optionals has contents, or the fault of too many statements
 abbrev pub HaveFlatContents : Type 0
 HaveFlatContents =
     (ws : List Written) → IsStrictlySortedBy written_cmp ws → ((w : Written) → Contains ws w → IsFlat w)

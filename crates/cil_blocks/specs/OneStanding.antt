@@ -4,7 +4,8 @@ use Rattle.std.proofs.Common.{◌≡◌, ◌⊎◌, Bool, true, false, ◌&&◌,
 use Rattle.std.specs.Prelude.{Contains, Option, Some, None}
 use Rattle.std.specs.declared.cmp.Ordering.TheVariants.{Less}
 use Rattle.cil_syntax.specs.declared.kind.Keyword.{Keyword}
-use Rattle.cil_blocks.specs.Contents.{is_block, is_inheriting, IsIn, Target, Standing, path_of, standing_top, standing_in_block, standing_in_optional, standing_inherited, Stands, top, in_block, in_optional, inherited}
+use Rattle.cil_syntax.specs.declared.kind.Keyword.TheVariants as keywords
+use Rattle.cil_blocks.specs.Contents.{is_block, is_inheriting, is_optional, IsIn, Target, Standing, path_of, standing_top, standing_in_block, standing_in_optional, standing_inherited, Stands, top, in_block, in_optional, inherited}
 use Rattle.cil_syntax.specs.Written.{Written, written_cmp, written_total}
 use Rattle.cil_blocks.specs.Laws.{HasOneTarget}
 use Rattle.cil_sexpr.specs.Lists.{not_below_itself}
@@ -14,6 +15,11 @@ pub first_of_three : (a b c : Bool) → (a && b && c) ≡ true → a ≡ true
 first_of_three true b c e = refl
 first_of_three false true c e = e
 first_of_three false false c e = e
+
+-- a block is no optional
+no_block_optional : (k : Keyword) → is_block k ≡ true → is_optional k ≡ true → ⊥
+no_block_optional keywords.Block b o = let f : false ≡ true = o in cc
+no_block_optional k b o = let f : false ≡ true = b in cc
 
 -- ---- written statements
 
@@ -98,21 +104,23 @@ module _ (ws : List Written) (are_apart : AreApart ws) (one_target : HasOneTarge
   pub round_same : (v w p q : Written) → v ≡ w → Contains ws p → Contains ws q → IsIn v p → IsIn w q → p ≡ q
   round_same v w p q e cp cq x y = round_one v p q cp cq x (same_under v w e ∙ y)
 
-  -- no statement is an optional yet
-  never_optional : false ≡ true → ⊥
-  never_optional e = cc
+  -- of two statements that are one, none is a block while the other is an optional
+  not_block_and_optional : (p q : Written) → p ≡ q → is_block p.statement.keyword ≡ true → is_optional q.statement.keyword ≡ true → ⊥
+  not_block_and_optional p q e b o = no_block_optional q.statement.keyword (keyword_of p q e is_block b) o
 
   -- the law: one path, one standing
   pub one_standing : (s t : Standing) → Stands ws s → Stands ws t → path_of s ≡ path_of t → s ≡ t
   one_standing s t (top w c u) (top v d x) e = ap standing_top (same_statement s t (top w c u) (top v d x) e)
   one_standing s t (top w c u) (in_block q v sq l b d x) e =
       absurd (none_some _ _ u (same_under w v (same_statement s t (top w c u) (in_block q v sq l b d x) e) ∙ x))
-  one_standing s t (top w c u) (in_optional q v sq l d x) e = absurd (never_optional l)
+  one_standing s t (top w c u) (in_optional q v sq l d x) e =
+      absurd (none_some _ _ u (same_under w v (same_statement s t (top w c u) (in_optional q v sq l d x) e) ∙ x))
   one_standing s t (top w c u) (inherited q b v sq l k d x) e =
       absurd (none_some _ _ u (same_under w v (same_statement s t (top w c u) (inherited q b v sq l k d x) e) ∙ x))
   one_standing s t (in_block p w sp k a c u) (top v d x) e =
       absurd (none_some _ _ x (same_under v w (sym (same_statement s t (in_block p w sp k a c u) (top v d x) e)) ∙ u))
-  one_standing s t (in_optional p w sp k c u) (top v d x) e = absurd (never_optional k)
+  one_standing s t (in_optional p w sp k c u) (top v d x) e =
+      absurd (none_some _ _ x (same_under v w (sym (same_statement s t (in_optional p w sp k c u) (top v d x) e)) ∙ u))
   one_standing s t (inherited p b w sp k g c u) (top v d x) e =
       absurd (none_some _ _ x (same_under v w (sym (same_statement s t (inherited p b w sp k g c u) (top v d x) e)) ∙ u))
   one_standing s t (in_block p w sp k a c u) (in_block q v sq l b d x) e =
@@ -120,17 +128,33 @@ module _ (ws : List Written) (are_apart : AreApart ws) (one_target : HasOneTarge
       let round = round_same w v p.statement q.statement same (is_written p sp) (is_written q sq) u x in
       let one = one_standing p q sp sq (same_path p q (same_chain s t e) round) in
       λ i. standing_in_block (one i) (same i)
-  one_standing s t (in_block p w sp k a c u) (in_optional q v sq l d x) e = absurd (never_optional l)
-  one_standing s t (in_optional p w sp k c u) (in_block q v sq l b d x) e = absurd (never_optional k)
-  one_standing s t (in_optional p w sp k c u) (in_optional q v sq l d x) e = absurd (never_optional k)
+  one_standing s t (in_block p w sp k a c u) (in_optional q v sq l d x) e =
+      let same = same_statement s t (in_block p w sp k a c u) (in_optional q v sq l d x) e in
+      let round = round_same w v p.statement q.statement same (is_written p sp) (is_written q sq) u x in
+      absurd (not_block_and_optional p.statement q.statement round k l)
+  one_standing s t (in_optional p w sp k c u) (in_block q v sq l b d x) e =
+      let same = same_statement s t (in_optional p w sp k c u) (in_block q v sq l b d x) e in
+      let round = round_same w v p.statement q.statement same (is_written p sp) (is_written q sq) u x in
+      absurd (not_block_and_optional q.statement p.statement (sym round) l k)
+  one_standing s t (in_optional p w sp k c u) (in_optional q v sq l d x) e =
+      let same = same_statement s t (in_optional p w sp k c u) (in_optional q v sq l d x) e in
+      let round = round_same w v p.statement q.statement same (is_written p sp) (is_written q sq) u x in
+      let one = one_standing p q sp sq (same_path p q (same_chain s t e) round) in
+      λ i. standing_in_optional (one i) (same i)
   one_standing s t (in_block p w sp k a c u) (inherited q b v sq l g d x) e =
       let same = same_statement s t (in_block p w sp k a c u) (inherited q b v sq l g d x) e in
       absurd (not_both p q b sp sq (same_chain s t e) g (round_same w v p.statement b same (is_written p sp) g.is_written u x) (entered p sp))
   one_standing s t (inherited p b w sp k g c u) (in_block q v sq l a d x) e =
       let same = same_statement s t (inherited p b w sp k g c u) (in_block q v sq l a d x) e in
       absurd (not_both q p b sq sp (sym (same_chain s t e)) g (sym (round_same w v b q.statement same g.is_written (is_written q sq) u x)) (entered q sq))
-  one_standing s t (in_optional p w sp k c u) (inherited q b v sq l g d x) e = absurd (never_optional k)
-  one_standing s t (inherited p b w sp k g c u) (in_optional q v sq l d x) e = absurd (never_optional l)
+  one_standing s t (in_optional p w sp k c u) (inherited q b v sq l g d x) e =
+      let same = same_statement s t (in_optional p w sp k c u) (inherited q b v sq l g d x) e in
+      let round = round_same w v p.statement b same (is_written p sp) g.is_written u x in
+      absurd (not_block_and_optional b p.statement (sym round) (is_target_block q.statement b g) k)
+  one_standing s t (inherited p b w sp k g c u) (in_optional q v sq l d x) e =
+      let same = same_statement s t (inherited p b w sp k g c u) (in_optional q v sq l d x) e in
+      let round = round_same w v b q.statement same g.is_written (is_written q sq) u x in
+      absurd (not_block_and_optional b q.statement round (is_target_block p.statement b g) l)
   one_standing s t (inherited p b w sp k g c u) (inherited q f v sq l h d x) e =
       let same = same_statement s t (inherited p b w sp k g c u) (inherited q f v sq l h d x) e in
       let body = round_same w v b f same g.is_written h.is_written u x in

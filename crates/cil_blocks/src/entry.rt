@@ -5,6 +5,6 @@
 pub struct Entry {
     /// The number of the statement.
     pub statement: usize,
-    /// The place of the entry that opened it: a block, or a blockinherit; none at the top of a module.
+    /// The place of the entry that opened it: a block, an optional, or a blockinherit; none at the top of a module.
     pub opener: Option<usize>,
 }

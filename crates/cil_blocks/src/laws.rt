@@ -31,7 +31,7 @@ pub fn given()
     ensures { AreGiven }
 {}
 
-/// A policy without blocks and macros has contents, each statement once, or more of them than there may be.
+/// A policy without blocks, macros and optionals has contents, each statement once, or more of them than there may be.
 pub fn flat_contents()
     ensures { HaveFlatContents }
 {}

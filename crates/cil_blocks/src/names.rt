@@ -3,7 +3,7 @@
 
 ghost use Rattle.std.specs.Prelude.{◌≡◌, ◌<◌, ◌≤◌, ◌++◌, IfSome, None};
 ghost use Rattle.cil_syntax.specs.Program.{IsNested, program_of};
-ghost use Rattle.cil_blocks.specs.Contents.{is_block, is_inheriting, name_of};
+ghost use Rattle.cil_blocks.specs.Contents.{is_block, is_inheriting, is_optional, name_of};
 ghost use Rattle.cil_blocks.specs.Entries.{statement_at};
 ghost use Rattle.cil_blocks.specs.Named.{IsBlockAt, full_at, names_cmp, rank, space_in};
 
@@ -20,6 +20,16 @@ pub fn is_block_at(statements: &[Statement], number: usize) -> bool
     }
 }
 
+/// Whether a statement is an optional.
+pub fn is_optional_at(statements: &[Statement], number: usize) -> bool
+    ensures { IsNested statements.now → result ≡ is_optional (statement_at (program_of statements.now) number).statement.keyword }
+{
+    match statements.get(number) {
+        None => false,
+        Some(statement) => is_optional(statement.keyword),
+    }
+}
+
 pub fn is_block(keyword: Keyword) -> bool
     ensures { result ≡ is_block keyword }
 {
@@ -30,6 +40,12 @@ pub fn is_inheriting(keyword: Keyword) -> bool
     ensures { result ≡ is_inheriting keyword }
 {
     matches!(keyword, Keyword::BlockInherit)
+}
+
+pub fn is_optional(keyword: Keyword) -> bool
+    ensures { result ≡ is_optional keyword }
+{
+    matches!(keyword, Keyword::Optional)
 }
 
 /// The name that a statement declares; an empty one where it declares none.

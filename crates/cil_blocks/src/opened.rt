@@ -1,5 +1,5 @@
-//! What each statement opens where it stands: a block that is not abstract what is in it, a blockinherit what is in its
-//! target. A block costs a look at each statement directly in it.
+//! What each statement opens where it stands: an optional, and a block that is not abstract, what is in it; a blockinherit
+//! what is in its target. A block costs a look at each statement directly in it.
 
 ghost use Rattle.std.specs.Prelude.{◌≡◌, ◌<◌, IfOk, Some, length};
 ghost use Rattle.std.specs.List.{list_any};
@@ -10,7 +10,7 @@ ghost use Rattle.cil_blocks.specs.Entries.{AreOpened, AreParts, SaysOpened, firs
 ghost use Rattle.cil_blocks.specs.Laws.{HasOneTarget};
 ghost use Rattle.cil_blocks.specs.Named.{AreAllTargets};
 
-use crate::names::{is_block, is_inheriting};
+use crate::names::{is_block, is_inheriting, is_optional};
 use crate::parts::Parts;
 use crate::targets::Targets;
 use crate::walker::parts_at;
@@ -55,6 +55,9 @@ fn opened_at(
     }
     if is_inheriting(keyword) {
         return first_number(targets.at(number));
+    }
+    if is_optional(keyword) {
+        return Some(number);
     }
     None
 }

@@ -13,7 +13,7 @@ ghost use Rattle.cil_blocks.specs.Places.{ArePlaces, Reached, all_numbered, numb
 ghost use Rattle.cil_blocks.specs.Placing.{AreBehind, IsInherited, IsRepeated, numbers_left};
 
 use crate::entry::Entry;
-use crate::names::{block_above, is_inheriting, lower, name_at};
+use crate::names::{block_above, is_inheriting, is_optional_at, lower, name_at};
 use crate::namespaces::Namespaces;
 use crate::numbers::Numbers;
 use crate::scopes::ScopeList;
@@ -269,6 +269,11 @@ impl<'s, 'a> Source<'s, 'a> {
         };
         if let Some(before) = repeated(self.entries, rank, opener) {
             places.push_again(before)?;
+            return Ok(());
+        }
+        // What is in an optional stands where the optional does.
+        if is_optional_at(self.statements, self.entries[opener].statement) {
+            places.push_again(opener)?;
             return Ok(());
         }
         let Some(outer) = places.space(opener) else {

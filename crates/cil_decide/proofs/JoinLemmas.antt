@@ -1,23 +1,17 @@
--- The table of a policy by its parts, where no optional is enabled.
-use Rattle.std.specs.Prelude.{Bool}
-use Rattle.std.proofs.Common.{◌≡◌, ℕ, List, [], sym, ap, subst}
+-- The table of a policy by its parts.
+use Rattle.std.proofs.Common.{◌≡◌, ℕ, List, sym, subst}
 use Rattle.cil_sexpr.specs.Gives.{Gives}
 use Rattle.cil_sexpr.specs.Lists.{Lists, text_cmp}
 use Rattle.cil_syntax.specs.declared.kind.Keyword.TheVariants as keywords
 use Rattle.cil_syntax.specs.declared.kind.Kind.{Kind}
 use Rattle.cil_syntax.specs.declared.kind.Kind.TheVariants as kinds
 use Rattle.cil_names.specs.Declarations.{Declared}
-use Rattle.cil_names.specs.Entries.{is_in}
-use Rattle.cil_macros.specs.Item.{Item, OptSet, nobody}
+use Rattle.cil_macros.specs.Item.{Item, OptSet}
 use Rattle.cil_decide.specs.declared.tables.Class.{Class}
 use Rattle.cil_decide.specs.declared.tables.Link.{Link}
 use Rattle.cil_decide.specs.declared.tables.Rule.{Rule}
 use Rattle.cil_decide.specs.Compiled.{IsCase, IsLink, IsNameOf, IsRowOf, IsRuleOf, IsTable}
 use Rattle.cil_decide.specs.Table.{class_cmp, link_cmp, rule_cmp}
-
--- no optional is enabled
-pub none_enabled : (flags : List Bool) → flags ≡ [] → is_in flags ≡ nobody
-none_enabled flags off = ap is_in off
 
 -- the sections, as a table
 module _ (xs : List Item) (s : OptSet) (names : Kind → List (List ℕ)) (users roles types : List (List ℕ)) (classes : List Class) (user_roles role_types : List Link) (allow : List Rule) where

@@ -104,6 +104,7 @@ module _ (ws : List Written) (begun : AreBegun ws) where
     begins_with keywords.BlockInherit kind at name rest c e = absurd (contains_none kind c)
     begins_with keywords.Macro kind at name rest c e = e
     begins_with keywords.Call kind at name rest c e = absurd (contains_none kind c)
+    begins_with keywords.Optional kind at name rest c e = absurd (contains_none kind c)
     begins_with keywords.SetAside kind at name rest c e = absurd (contains_none kind c)
 
     says_name : (k : Keyword) (kind : Kind) → Contains (entry_of k).declares kind → says_as_written k ≡ true
@@ -120,12 +121,13 @@ module _ (ws : List Written) (begun : AreBegun ws) where
     says_name keywords.BlockInherit kind c = absurd (contains_none kind c)
     says_name keywords.Macro kind c = refl
     says_name keywords.Call kind c = absurd (contains_none kind c)
+    says_name keywords.Optional kind c = absurd (contains_none kind c)
     says_name keywords.SetAside kind c = refl
 
-    declared_well : (p : Placed) → IsPlaced ws ss p → (d : Declaration) → Contains (declared_by (item_of ws ss p)) d → AreNames (d.name ∷ d.space)
-    declared_well p is d c =
+    declared_well : (ps : List Placed) (p : Placed) → IsPlaced ws ss p → (d : Declaration) → Contains (declared_by (item_of ws ss ps p)) d → AreNames (d.name ∷ d.space)
+    declared_well ps p is d c =
         let well = placed_well p is in
-        let x = item_of ws ss p in
+        let x = item_of ws ss ps p in
         let kw = p.standing.statement.statement.keyword in
         let args = p.standing.statement.statement.args in
         let kind = of_own_kind x.space (entry_of x.keyword).declares x.args d c in
@@ -135,11 +137,11 @@ module _ (ws : List Written) (begun : AreBegun ws) where
         name_more d.name d.space (begins_with kw d.kind front.at d.name more kind (ap (is_begun kw) (sym e) ∙ begun p.standing.statement well.among))
         (subst AreNames (sym front.in_space) well.names)
 
-    pub are_named : (placed : List Placed) → Lists placed_cmp (IsPlaced ws ss) placed → AreNamed (map (item_of ws ss) placed)
+    pub are_named : (placed : List Placed) → Lists placed_cmp (IsPlaced ws ss) placed → AreNamed (map (item_of ws ss placed) placed)
     are_named placed are s d object = name_more d.name [] refl no_names
     are_named placed are s d (by x f c on declares) =
-        let (p, cp, e) = from_map (item_of ws ss) placed x c in
-        declared_well p ((are.members p).0 cp) d (subst (λ (y : Item). Contains (declared_by y) d) (sym e) declares)
+        let (p, cp, e) = from_map (item_of ws ss placed) placed x c in
+        declared_well placed p ((are.members p).0 cp) d (subst (λ (y : Item). Contains (declared_by y) d) (sym e) declares)
 
 -- ---- the names of entries
 

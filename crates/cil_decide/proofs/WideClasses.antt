@@ -45,6 +45,7 @@ class_keyword keywords.BlockAbstract c = absurd (lacks_class (entry_of keywords.
 class_keyword keywords.BlockInherit c = absurd (lacks_class (entry_of keywords.BlockInherit).declares refl c)
 class_keyword keywords.Macro c = absurd (lacks_class (entry_of keywords.Macro).declares refl c)
 class_keyword keywords.Call c = absurd (lacks_class (entry_of keywords.Call).declares refl c)
+class_keyword keywords.Optional c = absurd (lacks_class (entry_of keywords.Optional).declares refl c)
 class_keyword keywords.SetAside c = absurd (lacks_class (entry_of keywords.SetAside).declares refl c)
 
 -- a declaration of a statement is of a kind that its entry names

@@ -44,7 +44,7 @@ impl<'s, 'a> Known<'s, 'a> {
     pub fn is_enabled(&self, instances: &Instances, at: usize) -> bool
         ensures { result ≡ is_enabled (enabled_in self.now) (item_at instances.now at) }
     {
-        self.lookup.enabled.has_all(instances.round(at))
+        self.lookup.enabled.has_round(instances, at)
     }
 }
 

@@ -89,7 +89,7 @@ fn wide_class<'a>(
         (λ name. (f : AFault) → IsWide (is_in lookup.now.enabled.now) (items_in instances.now) (item_at instances.now at) f
         ↔ (f ≡ fault_at causes.ClassWide name.at (item_at instances.now at).space name.bytes.now)) }
 {
-    if !lookup.enabled.has_all(instances.round(at)) {
+    if !lookup.enabled.has_round(instances, at) {
         return None;
     }
     let Some(statement) = instances.statement_there(at) else {

@@ -15,8 +15,7 @@ use Rattle.cil_syntax.specs.declared.kind.Kind.TheVariants as kinds
 use Rattle.cil_decide.specs.declared.tables.Class.{Class}
 use Rattle.cil_decide.specs.Agrees.{Compiles}
 use Rattle.cil_names.specs.Declarations.{Declared}
-use Rattle.cil_decide.proofs.CompileLemmas.{one_items}
-use Rattle.cil_macros.specs.Item.{nobody}
+use Rattle.cil_decide.proofs.CompileLemmas.{policy_moved}
 use Rattle.cil_decide.specs.Meaning.{IsClassAt, IsPermissionAt}
 use Rattle.cil_names.specs.Resolves.{has_permission}
 use Rattle.cil_decide.specs.Table.{Table, class_cmp}
@@ -66,9 +65,10 @@ module _ (modules : List (List ℕ)) (t : Table) (compiles : Compiles modules t)
       let row : at.row ≡ is_class.row = some_is (sym at.is_row ∙ is_class.is_row) in
       record {
         items = compiles.items;
+        enabled = compiles.enabled;
         class_ = k.0;
         permissions = is_class.row.permissions;
-        are_items = compiles.are_items;
+        policy = compiles.policy;
         a_class = k.1;
         named = sym k.2.named ∙ is_class.named;
         of_class = k.2.permissions;
@@ -77,14 +77,14 @@ module _ (modules : List (List ℕ)) (t : Table) (compiles : Compiles modules t)
 
   pub permission_back : (p : List ℕ) → IsPermissionOf class_name bit p modules → IsPermissionAt t n bit p
   permission_back p of =
-      let same = one_items modules of.items compiles.items of.are_items compiles.are_items in
-      let declared = subst (λ xs. Declared xs nobody kinds.Class of.class_) same of.a_class in
+      let declared = policy_moved modules of.items compiles.items of.enabled compiles.enabled of.policy compiles.policy (λ xs s. Declared xs s kinds.Class of.class_) of.a_class in
       let row = compiles.table.classes.each of.class_ declared in
       let m = number_of t.classes row.0 row.2 in
       let one : row.0 ≡ is_class.row = one_row t.classes m.0 n row.0 is_class.row compiles.table.classes.rising m.1 is_class.is_row (row.1.named ∙ of.named ∙ sym is_class.named) in
       let lists : of.permissions ≡ row.0.permissions =
       one_list text_cmp nat_list_cmp_total (λ q. has_permission compiles.items of.class_ q ≡ true) of.permissions row.0.permissions
-      (subst (λ xs. Lists text_cmp (λ q. has_permission xs of.class_ q ≡ true) of.permissions) same of.of_class) row.1.permissions in
+      (policy_moved modules of.items compiles.items of.enabled compiles.enabled of.policy compiles.policy
+      (λ xs s. Lists text_cmp (λ q. has_permission xs of.class_ q ≡ true) of.permissions) of.of_class) row.1.permissions in
       record {
         row = is_class.row;
         is_row = is_class.is_row;
@@ -110,7 +110,7 @@ module _ (modules : List (List ℕ)) (t : Table) (compiles : Compiles modules t)
 -- a class with a permission is in the tables
 pub class_there : (modules : List (List ℕ)) (t : Table) (class_name : List ℕ) (bit : ℕ) (p : List ℕ) → Compiles modules t → IsPermissionOf class_name bit p modules → (n : ℕ) × IsClassAt t n class_name
 class_there modules t class_name bit p compiles of =
-    let same = one_items modules of.items compiles.items of.are_items compiles.are_items in
-    let row = compiles.table.classes.each of.class_ (subst (λ xs. Declared xs nobody kinds.Class of.class_) same of.a_class) in
+    let declared = policy_moved modules of.items compiles.items of.enabled compiles.enabled of.policy compiles.policy (λ xs s. Declared xs s kinds.Class of.class_) of.a_class in
+    let row = compiles.table.classes.each of.class_ declared in
     let m = number_of t.classes row.0 row.2 in
     (m.0, record { row = row.0; is_row = m.1; named = row.1.named ∙ of.named })

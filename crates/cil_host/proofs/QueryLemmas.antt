@@ -2,26 +2,51 @@
 use Rattle.std.specs.Prelude.{Option, Some, None, IfSome, IfNone}
 use Rattle.std.specs.Option.{option_map, unwrap_or}
 use Rattle.std.proofs.Common.{◌≡◌, ℕ, List, sym, ◌∙◌, ap, subst}
-use Rattle.cil_decide.specs.Agrees.{Compiles}
+use Rattle.cil_decide.specs.CompileAnswer.{IsCompiled}
+use Rattle.cil_decide.specs.Lines.{AreOptionalsOf, AreReasonsOf}
+use Rattle.cil_decide.specs.declared.lines.OptionalLine.{OptionalLine}
+use Rattle.cil_decide.specs.declared.lines.WhyLine.{WhyLine}
 use Rattle.cil_host.specs.declared.host.Policy.{Policy}
-use Rattle.cil_host.specs.Machine.{IsKept, OfLoaded, State}
+use Rattle.cil_host.specs.Machine.{Accepted, AreOptionalLines, AreWhyLines, IsKept, OfAccepted, OfLoaded, State, accepted_of}
 
-pub kept : (o : Option Policy) (p : Policy) → o ≡ Some p → IsKept o → Compiles p.modules p.tables
+pub kept : (o : Option Policy) (p : Policy) → o ≡ Some p → IsKept o → IsCompiled p.modules p.compiled
 kept o p e k = subst IsKept e k
 
-pub loaded_fact : (h : State) (m : List (List ℕ)) (o : Option Policy) (p : Policy) → h ≡ record { modules = m; loaded = option_map (λ q. q.modules) o } → o ≡ Some p
-    → (holds : List (List ℕ) → Type 0) → holds p.modules → OfLoaded h holds
-loaded_fact h m o p view is holds fact = record {
-  modules = p.modules;
-  is_loaded = ap (λ s. s.loaded) view ∙ ap (option_map (λ q. q.modules)) is;
+pub accepted_fact : (h : State) (m : List (List ℕ)) (o : Option Policy) (p : Policy) → h ≡ record { modules = m; loaded = option_map accepted_of o } → o ≡ Some p
+    → (holds : Accepted → Type 0) → holds (accepted_of p) → OfAccepted h holds
+accepted_fact h m o p view is holds fact = record {
+  accepted = accepted_of p;
+  is_loaded = ap (λ s. s.loaded) view ∙ ap (option_map accepted_of) is;
   fact = fact;
 }
 
-pub fact_loaded : (h : State) (m : List (List ℕ)) (o : Option Policy) (p : Policy) → h ≡ record { modules = m; loaded = option_map (λ q. q.modules) o } → o ≡ Some p
+pub loaded_fact : (h : State) (m : List (List ℕ)) (o : Option Policy) (p : Policy) → h ≡ record { modules = m; loaded = option_map accepted_of o } → o ≡ Some p
+    → (holds : List (List ℕ) → Type 0) → holds p.modules → OfLoaded h holds
+loaded_fact h m o p view is holds fact = accepted_fact h m o p view is (λ a. holds a.modules) fact
+
+pub fact_loaded : (h : State) (m : List (List ℕ)) (o : Option Policy) (p : Policy) → h ≡ record { modules = m; loaded = option_map accepted_of o } → o ≡ Some p
     → (holds : List (List ℕ) → Type 0) → OfLoaded h holds → holds p.modules
 fact_loaded h m o p view is holds of =
-    let one : Some of.modules ≡ Some p.modules = sym of.is_loaded ∙ ap (λ s. s.loaded) view ∙ ap (option_map (λ q. q.modules)) is in
-    subst holds (ap (λ q. unwrap_or q of.modules) one) of.fact
+    let one : Some of.accepted ≡ Some (accepted_of p) = sym of.is_loaded ∙ ap (λ s. s.loaded) view ∙ ap (option_map accepted_of) is in
+    subst (λ a. holds a.modules) (ap (λ q. unwrap_or q of.accepted) one) of.fact
+
+-- the kept lines are those of the modules
+pub optional_lines : (p : Policy) → IsCompiled p.modules p.compiled → (lines : List OptionalLine) → lines ≡ p.compiled.optionals.items → AreOptionalLines lines p.modules
+optional_lines p is lines same = record {
+  items = is.items;
+  enabled = is.enabled;
+  policy = is.policy;
+  are_lines = subst (AreOptionalsOf is.items is.enabled) (sym same) is.optionals;
+}
+
+pub why_lines : (p : Policy) → IsCompiled p.modules p.compiled → (lines : List WhyLine) → lines ≡ p.compiled.reasons.items → AreWhyLines lines (accepted_of p)
+why_lines p is lines same = record {
+  items = is.items;
+  enabled = is.enabled;
+  policy = is.policy;
+  right = is.right;
+  are_lines = subst (AreReasonsOf is.items p.compiled.why.items) (sym same) is.reasons;
+}
 
 pub if_some : {X : Type 0} {P Q : X → Type 0} (o : Option X) → ((x : X) → P x → Q x) → IfSome o P → IfSome o Q
 if_some (Some x) f p = f x p

@@ -1,38 +1,63 @@
--- The model host: its modules, and those of its last accepted load. This project's profile.
+-- The model host: its modules, and those of its last accepted load with the reasons why optionals of theirs are left out. This
+-- project's profile.
 use Rattle.std.specs.Prelude.{◌≡◌, ℕ, ◌≤◌, List, Option, Some, None, Result, Ok, Err, OnErr}
+use Rattle.std.specs.Global.{Vec}
+use Rattle.cil_macros.specs.Item.{Item, OptSet}
+use Rattle.cil_optionals.specs.declared.reason.Reason.{Reason}
+use Rattle.cil_optionals.specs.Certificate.{IsRight}
+use Rattle.cil_optionals.specs.Policy.{ArePolicy}
 use Rattle.cil_decide.specs.declared.decision.Decision.{Decision}
+use Rattle.cil_decide.specs.declared.lines.OptionalLine.{OptionalLine}
+use Rattle.cil_decide.specs.declared.lines.WhyLine.{WhyLine}
 use Rattle.cil_decide.specs.Agrees.{Compiles}
+use Rattle.cil_decide.specs.CompileAnswer.{IsCompiled}
 use Rattle.cil_decide.specs.Decides.{HasNoClass, HasNoContext, ModulesDecide}
+use Rattle.cil_decide.specs.Lines.{AreOptionalsOf, AreReasonsOf}
 use Rattle.cil_decide.specs.Table.{Table}
 use Rattle.cil_host.specs.declared.host.Policy.{Policy}
+use Rattle.cil_host.specs.declared.fault.HostError.{HostError}
+use Rattle.cil_host.specs.declared.fault.HostError.TheVariants as errors
 use Rattle.cil_host.specs.declared.fault.QueryFault.{QueryFault}
 use Rattle.cil_host.specs.declared.fault.QueryFault.TheVariants.{NoPolicy, BadSource, BadTarget, NoClass}
 
--- a host: the texts that it holds, and those that its policy was compiled from
+-- what was accepted: the modules, and the reasons why optionals of theirs are left out
+pub record Accepted : Type 0 where
+  pub modules : List (List ℕ)
+  pub reasons : List Reason
+
+-- a host: the texts that it holds, and what its policy was compiled from
 pub record State : Type 0 where
   pub modules : List (List ℕ)
-  pub loaded : Option (List (List ℕ))
+  pub loaded : Option Accepted
 
--- hosts with the same modules and the same loaded modules are one
+-- hosts with the same modules and the same accepted load are one
 pub same_state : (a b : State) → a.modules ≡ b.modules → a.loaded ≡ b.loaded → a ≡ b
 same_state a b m l = λ i. record { modules = m i; loaded = l i }
 
--- where an error leaves the modules and the loaded modules, it leaves the host
+-- where an error leaves the modules and the accepted load, it leaves the host
 pub unchanged : {X E : Type 0} (old new : State) (r : Result X E) → OnErr r (new.modules ≡ old.modules) → new.loaded ≡ old.loaded → OnErr r (new ≡ old)
 unchanged old new (Ok x) m l = tt
 unchanged old new (Err e) m l = same_state new old m l
 
--- the modules compile
-pub record CanLoad (modules : List (List ℕ)) : Type 0 where
+-- the modules compile, and the reasons show which optionals of theirs are in force
+pub record CanLoad (modules : List (List ℕ)) (reasons : List Reason) : Type 0 where
   pub table : Table
   pub compiles : Compiles modules table
+  pub items : List Item
+  pub enabled : OptSet
+  pub policy : ArePolicy modules items enabled
+  pub right : IsRight items enabled reasons
 
--- the kept tables are those of the kept modules
+-- what is kept of a load is what its modules compile to
 abbrev pub IsKept : Option Policy → Type 0
 IsKept None = Unit {0}
-IsKept (Some p) = Compiles p.modules p.tables
+IsKept (Some p) = IsCompiled p.modules p.compiled
 
--- what is true of every host: it keeps the tables of the loaded modules, and its cache may hold from 1 to 65,536 decisions
+-- what a load is in the model
+abbrev pub accepted_of : Policy → Accepted
+accepted_of p = record { modules = p.modules; reasons = p.compiled.why.items }
+
+-- what is true of every host: it keeps what the loaded modules compile to, and its cache may hold from 1 to 65,536 decisions
 pub record IsSound (policy : Option Policy) (capacity : ℕ) : Type 0 where
   pub kept : IsKept policy
   pub least : 1 ≤ capacity
@@ -40,11 +65,15 @@ pub record IsSound (policy : Option Policy) (capacity : ℕ) : Type 0 where
 
 -- ---- queries
 
+-- the accepted load, of which something holds
+pub record OfAccepted (h : State) (holds : Accepted → Type 0) : Type 0 where
+  pub accepted : Accepted
+  pub is_loaded : h.loaded ≡ Some accepted
+  pub fact : holds accepted
+
 -- the loaded modules, of which something holds
-pub record OfLoaded (h : State) (holds : List (List ℕ) → Type 0) : Type 0 where
-  pub modules : List (List ℕ)
-  pub is_loaded : h.loaded ≡ Some modules
-  pub fact : holds modules
+abbrev pub OfLoaded : State → (List (List ℕ) → Type 0) → Type 0
+OfLoaded h holds = OfAccepted h (λ a. holds a.modules)
 
 -- the text is a valid context: it is not so that it is none
 abbrev pub HasContext : List ℕ → List (List ℕ) → Type 0
@@ -67,3 +96,35 @@ Queries h source target class_name (Err NoPolicy) = h.loaded ≡ None
 Queries h source target class_name (Err BadSource) = OfLoaded h (λ modules. HasNoContext modules source)
 Queries h source target class_name (Err BadTarget) = OfLoaded h (LacksTarget source target)
 Queries h source target class_name (Err NoClass) = OfLoaded h (LacksClass source target class_name)
+
+-- ---- optionals
+
+-- the lines of the optionals of modules
+pub record AreOptionalLines (lines : List OptionalLine) (modules : List (List ℕ)) : Type 0 where
+  pub items : List Item
+  pub enabled : OptSet
+  pub policy : ArePolicy modules items enabled
+  pub are_lines : AreOptionalsOf items enabled lines
+
+-- the lines of the reasons why optionals of the accepted modules are left out
+pub record AreWhyLines (lines : List WhyLine) (a : Accepted) : Type 0 where
+  pub items : List Item
+  pub enabled : OptSet
+  pub policy : ArePolicy a.modules items enabled
+  pub right : IsRight items enabled a.reasons
+  pub are_lines : AreReasonsOf items a.reasons lines
+
+-- where there are no lines, no policy is loaded; want of memory says nothing
+abbrev pub TellsNothing : State → HostError → Type 0
+TellsNothing h (errors.Query fault) = (fault ≡ NoPolicy) × (h.loaded ≡ None)
+TellsNothing h errors.NoMemory = Unit {0}
+
+-- what a host tells of the optionals of its policy
+abbrev pub TellsOptionals : State → Result (Vec OptionalLine) HostError → Type 0
+TellsOptionals h (Ok lines) = OfLoaded h (AreOptionalLines lines.items)
+TellsOptionals h (Err error) = TellsNothing h error
+
+-- and why some are left out
+abbrev pub TellsWhy : State → Result (Vec WhyLine) HostError → Type 0
+TellsWhy h (Ok lines) = OfAccepted h (AreWhyLines lines.items)
+TellsWhy h (Err error) = TellsNothing h error

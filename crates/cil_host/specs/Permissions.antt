@@ -4,18 +4,19 @@ use Rattle.std.specs.declared.cmp.Ordering.TheVariants.{Less}
 use Rattle.cil_sexpr.specs.Lists.{Lists, text_cmp}
 use Rattle.cil_syntax.specs.declared.kind.Kind.TheVariants as kinds
 use Rattle.cil_names.specs.Declarations.{Declared, Symbol, name_of}
-use Rattle.cil_macros.specs.Item.{Item, nobody}
-use Rattle.cil_macros.specs.Items.{AreItems}
+use Rattle.cil_macros.specs.Item.{Item, OptSet}
 use Rattle.cil_names.specs.Resolves.{has_permission}
+use Rattle.cil_optionals.specs.Policy.{ArePolicy}
 use Rattle.cil_host.specs.Machine.{OfLoaded, State}
 
 -- the class of this name has this permission at this place of the byte order of its permissions
 pub record IsPermissionOf (class_name : List ℕ) (bit : ℕ) (permission : List ℕ) (modules : List (List ℕ)) : Type 0 where
   pub items : List Item
+  pub enabled : OptSet
   pub class_ : Symbol
   pub permissions : List (List ℕ)
-  pub are_items : AreItems modules items
-  pub a_class : Declared items nobody kinds.Class class_
+  pub policy : ArePolicy modules items enabled
+  pub a_class : Declared items enabled kinds.Class class_
   pub named : name_of class_ ≡ class_name
   pub of_class : Lists text_cmp (λ p. has_permission items class_ p ≡ true) permissions
   pub is_permission : slice_get permissions bit ≡ Some permission

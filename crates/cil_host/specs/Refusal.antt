@@ -1,6 +1,7 @@
 -- The result of a load, and the host after it. This project's profile.
-use Rattle.std.specs.Prelude.{◌≡◌, Some, Result, Ok, Err, replicate}
+use Rattle.std.specs.Prelude.{◌≡◌, List, Some, Result, Ok, Err, replicate}
 use Rattle.cil_syntax.specs.declared.failure.Failure.{Failure}
+use Rattle.cil_optionals.specs.declared.reason.Reason.{Reason}
 use Rattle.cil_decide.specs.CompileRefusal.{CompileFails}
 use Rattle.cil_host.specs.Machine.{State, CanLoad}
 use Rattle.cil_host.specs.declared.host.Loaded.{Loaded}
@@ -9,7 +10,10 @@ use Rattle.cil_host.specs.declared.host.Loaded.{Loaded}
 abbrev pub no_bytes : Loaded
 no_bytes = record { length = 0; digest = replicate 32 0 }
 
--- the policy is that of the modules, which are kept; or the faults are exactly theirs, and the host is unchanged
+-- the policy is that of the modules, which are kept with the reasons why optionals of theirs are left out; or the faults are
+-- exactly theirs, and the host is unchanged
 abbrev pub Loads : State → State → Result Loaded Failure → Type 0
-Loads old new (Ok loaded) = CanLoad old.modules × (loaded ≡ no_bytes) × (new ≡ record { modules = old.modules; loaded = Some old.modules })
+Loads old new (Ok loaded) =
+    (reasons : List Reason) × CanLoad old.modules reasons × (loaded ≡ no_bytes)
+    × (new ≡ record { modules = old.modules; loaded = Some record { modules = old.modules; reasons = reasons } })
 Loads old new (Err failure) = CompileFails old.modules failure × (new ≡ old)

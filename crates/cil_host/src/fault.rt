@@ -1,4 +1,4 @@
-//! Why a query has no answer.
+//! Why a host has no answer.
 
 use std::fmt;
 
@@ -13,6 +13,26 @@ pub enum QueryFault {
     BadTarget,
     /// There is no class of this name (73).
     NoClass,
+}
+
+/// What keeps a host from its answer.
+#[derive(Clone, Copy, Debug, PartialEq, Eq)]
+pub enum HostError {
+    /// The request is at fault, as that of a query.
+    Query(QueryFault),
+    /// The machine is at fault: the same call may succeed later.
+    NoMemory,
+}
+
+impl From<cil_modset::NoMemory> for HostError {
+    ghost use Rattle.std.specs.Prelude.{◌≡◌};
+    ghost use Rattle.cil_host.specs.declared.fault.HostError.TheVariants.{NoMemory};
+
+    ghost from_gives = { λ _ e. e ≡ NoMemory };
+
+    fn from(_error: cil_modset::NoMemory) -> HostError {
+        HostError::NoMemory
+    }
 }
 
 impl QueryFault {

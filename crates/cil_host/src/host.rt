@@ -3,14 +3,16 @@
 ghost use Rattle.std.specs.Prelude.{◌≡◌, ℕ, List, [], map, None, IfOk, IfNone, IfSome, ◌≤◌};
 ghost use Rattle.cil_modset.specs.Bundle.{bundle};
 ghost use Rattle.cil_modset.specs.Changes.{IsImported, IsInstalled};
-ghost use Rattle.cil_host.specs.Machine.{OfLoaded, Queries, State};
+ghost use Rattle.cil_host.specs.Machine.{OfLoaded, Queries, State, TellsOptionals, TellsWhy};
 ghost use Rattle.cil_host.specs.Permissions.{IsInOrder, IsPermissionOf};
 ghost use Rattle.cil_host.specs.Listed.{line_of};
 ghost use Rattle.cil_host.specs.Refusal.{Loads};
 
-use crate::fault::QueryFault;
+use crate::fault::{HostError, QueryFault};
+use crate::lines::{copied_optionals, copied_reasons};
 use cil_decide::{
-    Decision, Tables, class_named, compile, decide, laws, parse_context, permission_at,
+    Compiled, Decision, OptionalLine, WhyLine, class_named, compile, decide, laws, parse_context,
+    permission_at,
 };
 use cil_modset::{BundleError, Installed, ModuleSet, NoMemory};
 use cil_sexpr::ReadError;
@@ -31,11 +33,12 @@ pub struct Loaded {
 /// A policy, with the modules that it was compiled from.
 #[derive(Debug, Drop)]
 struct Policy {
-    tables: Tables,
+    compiled: Compiled,
     modules: ModuleSet,
 }
 
-/// A host. In contracts it is its modules, and the modules of its last accepted load.
+/// A host. In contracts it is its modules, and the modules of its last accepted load with the reasons why optionals of theirs are
+/// left out.
 #[derive(Debug, Drop)]
 pub struct Host<S: Drop> {
     modules: ModuleSet,
@@ -46,11 +49,11 @@ pub struct Host<S: Drop> {
 
 impl<S: Drop> Model for Host<S> {
     ghost use Rattle.std.specs.Option.{option_map};
-    ghost use Rattle.cil_host.specs.Machine.{IsSound, State};
+    ghost use Rattle.cil_host.specs.Machine.{IsSound, State, accepted_of};
 
     ghost Value = { State };
 
-    ghost view = { λ a. record { modules = a.modules; loaded = option_map (λ p. p.modules) a.policy } };
+    ghost view = { λ a. record { modules = a.modules; loaded = option_map accepted_of a.policy } };
 
     ghost invariant = { λ a. IsSound a.policy a.capacity };
 }
@@ -115,14 +118,38 @@ impl<S: Drop> Host<S> {
     {
         let compiled = compile(alloc, &self.modules)?;
         let modules = self.modules.try_clone(alloc)?;
-        self.policy = Some(Policy {
-            tables: compiled.tables,
-            modules,
-        });
+        self.policy = Some(Policy { compiled, modules });
         Ok(Loaded {
             length: 0,
             digest: [0; 32],
         })
+    }
+
+    /// A line for each optional of the loaded policy, with whether it is in force: by module, place, namespace and label.
+    ///
+    /// Errors: no policy is loaded, out of memory.
+    pub fn optionals(&self, alloc: Global) -> Result<Vec<OptionalLine>, HostError>
+        ensures { TellsOptionals self.now result }
+    {
+        let Some(loaded) = &self.policy else {
+            return Err(HostError::Query(QueryFault::NoPolicy));
+        };
+        let lines = copied_optionals(alloc, loaded.compiled.optionals.as_slice())?;
+        Ok(lines)
+    }
+
+    /// A line for each optional of the loaded policy that is left out, with the reason why. In this order they can be removed,
+    /// one after the other.
+    ///
+    /// Errors: no policy is loaded, out of memory.
+    pub fn why(&self, alloc: Global) -> Result<Vec<WhyLine>, HostError>
+        ensures { TellsWhy self.now result }
+    {
+        let Some(policy) = &self.policy else {
+            return Err(HostError::Query(QueryFault::NoPolicy));
+        };
+        let lines = copied_reasons(alloc, policy.compiled.reasons.as_slice())?;
+        Ok(lines)
     }
 
     /// What a source may do to a target of a class, by the loaded policy. A context is `user:role:type`, a class is given by its
@@ -143,16 +170,16 @@ impl<S: Drop> Host<S> {
         let Some(policy) = &self.policy else {
             return Err(QueryFault::NoPolicy);
         };
-        let Some(from) = parse_context(&policy.tables, source) else {
+        let Some(from) = parse_context(&policy.compiled.tables, source) else {
             return Err(QueryFault::BadSource);
         };
-        let Some(onto) = parse_context(&policy.tables, target) else {
+        let Some(onto) = parse_context(&policy.compiled.tables, target) else {
             return Err(QueryFault::BadTarget);
         };
-        let Some(class) = class_named(&policy.tables, class) else {
+        let Some(class) = class_named(&policy.compiled.tables, class) else {
             return Err(QueryFault::NoClass);
         };
-        Ok(decide(&policy.tables, &from, &onto, class))
+        Ok(decide(&policy.compiled.tables, &from, &onto, class))
     }
 
     /// The name of a permission of a class of the loaded policy, by its bit in the masks of decisions: its position among the
@@ -166,10 +193,10 @@ impl<S: Drop> Host<S> {
         let Some(policy) = &self.policy else {
             return None;
         };
-        let Some(class) = class_named(&policy.tables, class) else {
+        let Some(class) = class_named(&policy.compiled.tables, class) else {
             return None;
         };
-        permission_at(&policy.tables, class, bit)
+        permission_at(&policy.compiled.tables, class, bit)
     }
 }
 

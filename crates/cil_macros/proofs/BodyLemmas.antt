@@ -1,19 +1,26 @@
--- What is placed behind what stands is of the body of a call: with its statement, its arguments, its scope and its macros.
-use Rattle.std.proofs.Common.{◌≡◌, ℕ, zero, suc, ◌+◌, ◌<◌, List, [], ◌∷◌, ◌++◌, length, get_or, map, refl, sym, ◌∙◌, ap, arith, append_assoc}
+-- What is placed behind what stands is of the body of a call, in optionals or not: it has its statement, its arguments, its scope
+-- and its macros.
+use Rattle.std.proofs.Common.{◌≡◌, inl, inr, ℕ, zero, suc, ◌+◌, ◌<◌, List, [], ◌∷◌, ◌++◌, length, get_or, map, refl, sym, ◌∙◌, ap, arith, append_assoc}
 use Rattle.std.specs.Prelude.{Option, Some, None, slice_get}
 use Rattle.std.proofs.lemmas.List.{append-nil, length-append, length-map, map-append}
 use Rattle.cil_sexpr.specs.Places.{get_behind, get_in_front, in_range, is_there, none_some, some_same}
 use Rattle.cil_syntax.specs.Written.{Written}
-use Rattle.cil_blocks.specs.Contents.{Standing}
+use Rattle.cil_blocks.specs.Contents.{Standing, is_optional}
 use Rattle.cil_blocks.specs.Entries.{standings_of, statement_at}
 use Rattle.cil_blocks.specs.declared.entry.Entry.{Entry}
 use Rattle.cil_blocks.proofs.EntryLemmas.{mapped_at, standings_length, statements_from}
 use Rattle.cil_macros.specs.declared.entry.Body.{Body}
 use Rattle.cil_macros.specs.declared.entry.Called.{Called}
-use Rattle.cil_macros.specs.Calls.{Unfolded, placed_called, unfolded}
-use Rattle.cil_macros.specs.Entries.{AreBodies, IsBody, placed_by, placed_from, placed_of, placed_through, placed_under}
+use Rattle.cil_macros.specs.Calls.{Unfolded, placed_called, placed_in_optional, unfolded}
+use Rattle.cil_macros.specs.Entries.{AreBodies, IsBody, IsInBody, IsOf, IsOptionalOf, placed_by, placed_from, placed_of, placed_through, placed_under}
 use Rattle.cil_macros.specs.Opens.{starts}
 use Rattle.cil_macros.specs.Placed.{Placed, placed_standing}
+use Rattle.cil_macros.proofs.CalledMacros.{optional_opens_none}
+
+pub mapped_get : {X Y : Type 0} (f : X → Y) (xs : List X) (k : ℕ) (x : X) → slice_get xs k ≡ Some x → slice_get (map f xs) k ≡ Some (f x)
+mapped_get f [] k x e = absurd (none_some x e)
+mapped_get f (y ∷ ys) zero x e = ap (λ z. Some (f z)) (some_same y x e)
+mapped_get f (y ∷ ys) (suc k) x e = mapped_get f ys k x e
 
 module _ (ws : List Written) (ss : List Standing) where
   -- ---- places
@@ -52,11 +59,6 @@ module _ (ws : List Written) (ss : List Standing) where
   starts_length : length (starts ss) ≡ length ss
   starts_length = length-map ss placed_standing
 
-  mapped_get : {X Y : Type 0} (f : X → Y) (xs : List X) (k : ℕ) (x : X) → slice_get xs k ≡ Some x → slice_get (map f xs) k ≡ Some (f x)
-  mapped_get f [] k x e = absurd (none_some x e)
-  mapped_get f (y ∷ ys) zero x e = ap (λ z. Some (f z)) (some_same y x e)
-  mapped_get f (y ∷ ys) (suc k) x e = mapped_get f ys k x e
-
   -- what stands is placed first
   pub standing_at : (cs : List Called) (k : ℕ) (s : Standing) → slice_get ss k ≡ Some s → slice_get (placed_of ws ss cs) k ≡ Some (placed_standing s)
   standing_at cs k s e =
@@ -93,7 +95,7 @@ module _ (ws : List Written) (ss : List Standing) where
       (under_statement (slice_get done c.opener) (statement_at ws c.statement))
       ∙ append_assoc (map stated done) (statement_at ws c.statement ∷ []) (map (λ (x : Called). statement_at ws x.statement) cs)
 
-  called_statement : (cs : List Called) (j : ℕ) (c : Called) (p : Placed) → slice_get cs j ≡ Some c → slice_get (placed_of ws ss cs) (length ss + j) ≡ Some p
+  pub called_statement : (cs : List Called) (j : ℕ) (c : Called) (p : Placed) → slice_get cs j ≡ Some c → slice_get (placed_of ws ss cs) (length ss + j) ≡ Some p
       → stated p ≡ statement_at ws c.statement
   called_statement cs j c p e f =
       let l = starts_length in
@@ -107,30 +109,66 @@ module _ (ws : List Written) (ss : List Standing) where
   -- ---- bodies
 
   module _ (cs : List Called) (bs : List Body) (are_bodies : AreBodies ws ss cs bs) where
-    -- a statement that a call brings: its body, and as what it is placed
+    -- a statement that a call brings: its body, and what it has from that
     pub record IsBrought (at : ℕ) (c : Called) : Type 0 where
       pub body : Body
       pub is_body : slice_get bs c.body ≡ Some body
-      pub by_call : body.call ≡ c.opener
-      pub before : c.opener < at
+      pub before : body.call < at
       pub so : IsBody ws ss (placed_of ws ss cs) body
-      pub placed : slice_get (placed_of ws ss cs) at ≡ Some (placed_called so.call so.opened (statement_at ws c.statement))
+      pub there : Placed
+      pub placed : slice_get (placed_of ws ss cs) at ≡ Some there
+      pub is : IsInBody so.call so.opened there
 
-    pub is_brought : (j : ℕ) (c : Called) → slice_get cs j ≡ Some c → IsBrought (length ss + j) c
-    is_brought j c e =
-        let o = are_bodies.brought j c e in
-        let b = are_bodies.each c.body o.body o.is_body in
+    -- it is opened by the call of its body
+    by_call : (j : ℕ) (c : Called) (x : IsOf ws (length ss) cs bs (length ss + j) c) → slice_get cs j ≡ Some c → x.body.call ≡ c.opener → IsBrought (length ss + j) c
+    by_call j c x e same =
+        let b = are_bodies.each c.body x.body x.is_body in
+        let before = x.before in
         record {
-          body = o.body;
-          is_body = o.is_body;
-          by_call = o.by_call;
-          before = o.before;
+          body = x.body;
+          is_body = x.is_body;
+          before = omega (arith, before, same);
           so = b;
-          placed = brought_at cs j c e o.before
-              ∙ ap (λ k. Some (placed_under ws ss (slice_get (placed_of ws ss cs) k) (statement_at ws c.statement))) (sym o.by_call)
+          there = placed_called b.call b.opened (statement_at ws c.statement);
+          placed = brought_at cs j c e x.before
+              ∙ ap (λ k. Some (placed_under ws ss (slice_get (placed_of ws ss cs) k) (statement_at ws c.statement))) (sym same)
               ∙ ap (λ q. Some (placed_under ws ss q (statement_at ws c.statement))) b.is_call
               ∙ ap (λ q. Some (placed_through b.call q (statement_at ws c.statement))) b.is_opened;
+          is = record { space = refl; scope = refl; bounds = refl; body = refl; macros = refl };
         }
+
+    -- it is opened by an optional of its body
+    by_optional : (j : ℕ) (c : Called) → slice_get cs j ≡ Some c → c.opener < length ss + j → (x : IsOptionalOf ws cs (length ss) c.opener c.body)
+        → IsBrought (length ss + x.rank) x.called → IsBrought (length ss + j) c
+    by_optional j c e less x o =
+        let behind = x.behind in
+        let before = o.before in
+        let keyword = ap (λ (w : Written). is_optional w.statement.keyword) (called_statement cs x.rank x.called o.there x.is o.placed) ∙ x.optional in
+        record {
+          body = o.body;
+          is_body = ap (slice_get bs) (sym x.body) ∙ o.is_body;
+          before = omega (arith, behind, before, less);
+          so = o.so;
+          there = placed_in_optional o.there (statement_at ws c.statement);
+          placed = brought_at cs j c e less
+              ∙ ap (λ k. Some (placed_under ws ss (slice_get (placed_of ws ss cs) k) (statement_at ws c.statement))) x.behind
+              ∙ ap (λ q. Some (placed_under ws ss q (statement_at ws c.statement))) o.placed
+              ∙ ap (λ q. Some (placed_through o.there q (statement_at ws c.statement))) (optional_opens_none ws ss o.there keyword);
+          is = record { space = o.is.space; scope = o.is.scope; bounds = o.is.bounds; body = o.is.body; macros = o.is.macros };
+        }
+
+    brought_below : (n j : ℕ) (c : Called) → j < n → slice_get cs j ≡ Some c → IsBrought (length ss + j) c
+    brought_below zero j c less e = absurd (omega (arith, less))
+    brought_below (suc n) j c less e =
+        let x = are_bodies.brought j c e in
+        let before = x.before in
+        elim x.opened [
+          | inl same ↦ by_call j c x e same
+          | inr o ↦ let behind = o.behind in by_optional j c e x.before o (brought_below n o.rank o.called (omega (arith, less, before, behind)) o.is)
+        ]
+
+    pub is_brought : (j : ℕ) (c : Called) → slice_get cs j ≡ Some c → IsBrought (length ss + j) c
+    is_brought j c e = brought_below (suc j) j c (omega arith) e
 
 -- ---- the statement at a place
 

@@ -14,7 +14,7 @@ use Rattle.cil_macros.specs.declared.entry.Body as code
 use Rattle.cil_macros.specs.declared.meant.Meant.{Meant}
 use Rattle.cil_macros.specs.declared.openings.Opening.{Opening}
 use Rattle.cil_macros.specs.declared.scene.Scene.{Scene}
-use Rattle.cil_macros.specs.Calls.{home_of, placed_called}
+use Rattle.cil_macros.specs.Calls.{home_of}
 use Rattle.cil_macros.specs.Macros.{all_standing}
 use Rattle.cil_macros.specs.Meant.{AreArguments, meant_term, scope_there}
 use Rattle.cil_macros.specs.Openings.{IsNumbered, IsOpening}
@@ -85,12 +85,15 @@ module _ (s : Scene) (os : List Opening) (at : ℕ) (known : IsKnown s os at) (p
     pub number_below : number < length s.brought.now.bodies.items
     number_below = in_range s.brought.now.bodies.items number brought.body numbered_body
 
-    placed_here : p ≡ placed_called brought.so.call brought.so.opened (statement_at ws n.called.statement)
+    placed_here : p ≡ brought.there
     placed_here =
         let l = standings_length ws (entries_in s.spaces.now) in
         let behind = n.behind in
-        some_same p (placed_called brought.so.call brought.so.opened (statement_at ws n.called.statement))
+        some_same p brought.there
         (sym here ∙ ap (slice_get ps) (let e : at ≡ length ss + n.rank = omega (arith, l, behind) in e) ∙ brought.placed)
+
+    body_here : p.body ≡ Some record { macro = brought.so.opened.macro.statement; home = home_of brought.so.call.standing.scope brought.so.call.body }
+    body_here = ap (λ (q : Placed). q.body) placed_here ∙ brought.is.body
 
     module _ (b : code.Body) (e : slice_get s.brought.now.bodies.items number ≡ Some b) (o : Opening) (f : slice_get os number ≡ Some o) where
       same_body : brought.body ≡ b
@@ -106,7 +109,7 @@ module _ (s : Scene) (os : List Opening) (at : ℕ) (known : IsKnown s os at) (p
       macro_here = ap (λ (x : code.Body). slice_get ss x.called) (sym same_body) ∙ brought.so.is_macro
 
       pub body_home : scope_there (slice_get ps o.home) ≡ home_of p.standing.scope p.body
-      body_home = opening.home brought.so.call is_call ∙ sym (ap (λ (q : Placed). home_of p.standing.scope q.body) placed_here)
+      body_home = opening.home brought.so.call is_call ∙ sym (ap (home_of p.standing.scope) body_here)
 
       module _ (called : ℕ) (stated : (m : Standing) → slice_get ss b.called ≡ Some m → m.statement ≡ statement_at ws called) where
         macro_stated : brought.so.opened.macro.statement ≡ statement_at ws called
@@ -121,7 +124,7 @@ module _ (s : Scene) (os : List Opening) (at : ℕ) (known : IsKnown s os at) (p
         arguments_here =
             subst (λ (x : Written). AreArguments ps (macro_parameters x.statement.args) p.bounds o.arguments.items) macro_stated
             (subst (λ bs. AreArguments ps (macro_parameters brought.so.opened.macro.statement.statement.args) bs o.arguments.items)
-            (ap (λ (q : Placed). q.bounds) (sym placed_here))
+            (sym (ap (λ (q : Placed). q.bounds) placed_here ∙ brought.is.bounds))
             (opening.arguments brought.so.call brought.so.opened is_call brought.so.is_opened))
 
         pub argument_word : (w : Word) → (m : Meant) → IsArgument ps w p.bounds m → meant_term ps w.sign m ≡ meaning ws p w
@@ -133,7 +136,7 @@ module _ (s : Scene) (os : List Opening) (at : ℕ) (known : IsKnown s os at) (p
             ap (in_scope w) (opening.home brought.so.call is_call)
             ∙ sym (by_argument ws p w None none
             ∙ ap (in_scope w) (own_scope ws p w (record { macro = brought.so.opened.macro.statement; home = home_of brought.so.call.standing.scope brought.so.call.body }) true
-            (ap (λ (q : Placed). q.body) placed_here) (d ∙ ap (λ x. declares ws x w.bytes w.sign) (sym macro_stated))))
+            body_here (d ∙ ap (λ x. declares ws x w.bytes w.sign) (sym macro_stated))))
 
         pub place_word : (w : Word) → find (is_served w) p.bounds ≡ None → false ≡ declares ws (statement_at ws called) w.bytes w.sign
             → meant_term ps w.sign (kept_word w at) ≡ meaning ws p w
@@ -141,4 +144,4 @@ module _ (s : Scene) (os : List Opening) (at : ℕ) (known : IsKnown s os at) (p
             ap (in_scope w) scope_here
             ∙ sym (by_argument ws p w None none
             ∙ ap (in_scope w) (own_scope ws p w (record { macro = brought.so.opened.macro.statement; home = home_of brought.so.call.standing.scope brought.so.call.body }) false
-            (ap (λ (q : Placed). q.body) placed_here) (d ∙ ap (λ x. declares ws x w.bytes w.sign) (sym macro_stated))))
+            body_here (d ∙ ap (λ x. declares ws x w.bytes w.sign) (sym macro_stated))))

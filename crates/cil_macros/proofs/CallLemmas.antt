@@ -5,6 +5,7 @@ use Rattle.cil_sexpr.specs.Places.{in_range, some_at, some_same}
 use Rattle.cil_syntax.specs.declared.program.Statement.{Statement}
 use Rattle.cil_syntax.specs.Program.{IsNested, program_of}
 use Rattle.cil_syntax.specs.Said.{args_of}
+use Rattle.cil_syntax.specs.Scopes.{Namespace}
 use Rattle.cil_syntax.specs.Terms.{Terms}
 use Rattle.cil_syntax.specs.declared.term.Word.{Word}
 use Rattle.cil_syntax.specs.Written.{Written, is_macro}
@@ -17,7 +18,7 @@ use Rattle.cil_blocks.proofs.EntryLemmas.{standings_length}
 use Rattle.cil_blocks.proofs.NameLemmas.{args_some, at_none}
 use Rattle.cil_macros.specs.declared.entry.Body.{Body}
 use Rattle.cil_macros.specs.declared.entry.Called.{Called}
-use Rattle.cil_macros.specs.Calls.{Unfolded, bounds_of_call, called_macro, is_call, is_repeated, placed_called, unfolded, unfolded_by, unfolded_with}
+use Rattle.cil_macros.specs.Calls.{Unfolded, bounds_of_call, called_macro, is_call, is_repeated, unfolded, unfolded_by, unfolded_with}
 use Rattle.cil_macros.specs.Entries.{AreBodySpaces, IsBodyAt, placed_of}
 use Rattle.cil_macros.specs.Fits.{fits, fits_when}
 use Rattle.cil_macros.specs.Macros.{IsMacroAt, all_standing}
@@ -79,8 +80,8 @@ module _ (s : Standings) (cs : List Called) where
   pub brought_to : (bs : List Body) → AreBodySpaces (written_in s) (all_standing s) (spaces_in s) cs bs → (at : ℕ) (b : Body) → Contains bs b
       → IsBodyAt (written_in s) (all_standing s) cs at b → (p : Placed) → slice_get (placed_in s cs) at ≡ Some p → IsNumber (spaces_in s) p.standing.space b.space
   brought_to bs are at b c x p e =
-      let same = some_same p (placed_called x.so.call x.so.opened x.statement) (sym e ∙ x.placed) in
-      subst (λ (q : Placed). IsNumber (spaces_in s) q.standing.space b.space) (sym same) (are b x.so.call c x.so.is_call)
+      let same = ap (λ (q : Placed). q.standing.space) (some_same p x.there (sym e ∙ x.placed)) ∙ x.is.space in
+      subst (λ (n : Namespace). IsNumber (spaces_in s) n b.space) (sym same) (are b x.so.call c x.so.is_call)
 
 -- ---- arguments
 

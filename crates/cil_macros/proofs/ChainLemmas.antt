@@ -14,7 +14,6 @@ use Rattle.cil_blocks.proofs.EntryLemmas.{mapped_at, statements_from}
 use Rattle.cil_blocks.proofs.NameLemmas.{at_none, at_some}
 use Rattle.cil_macros.specs.declared.entry.Body.{Body}
 use Rattle.cil_macros.specs.declared.entry.Called.{Called}
-use Rattle.cil_macros.specs.Calls.{placed_called}
 use Rattle.cil_macros.specs.Entries.{AreBodies, IsBodyAt, placed_of}
 use Rattle.cil_macros.specs.Placed.{Placed, placed_standing}
 use Rattle.cil_macros.proofs.BodyLemmas.{is_brought, standing_at}
@@ -47,14 +46,14 @@ module _ (ws : List Written) (ss : List Standing) (cs : List Called) (bs : List 
     pub its_body : (x : Body) → slice_get bs d.body ≡ Some x → IsBodyAt ws ss cs at x
     its_body x e =
         let b = is_brought ws ss cs bs are_bodies j d its_place in
-        let call = b.by_call in
         let before = b.before in
         subst (IsBodyAt ws ss cs at) (some_same b.body x (sym b.is_body ∙ e))
         (record {
           so = b.so;
-          before = omega (arith, call, before, place);
-          statement = statement_at ws d.statement;
+          before = omega (arith, before, place);
+          there = b.there;
           placed = ap (slice_get (placed_of ws ss cs)) place ∙ b.placed;
+          is = b.is;
         })
 
 -- ---- the macros that were called
@@ -66,7 +65,7 @@ module _ (ws : List Written) (ss : List Standing) (cs : List Called) (spot : Spo
 
   at_macro : (at : ℕ) (b : Body) (x : IsBodyAt ws ss cs at b) (p : Placed) → slice_get (placed_of ws ss cs) at ≡ Some p
       → p.macros ≡ x.so.opened.macro.statement.statement.at ∷ x.so.call.macros
-  at_macro at b x p e = ap (λ (q : Placed). q.macros) (some_same p (placed_called x.so.call x.so.opened x.statement) (sym e ∙ x.placed))
+  at_macro at b x p e = ap (λ (q : Placed). q.macros) (some_same p x.there (sym e ∙ x.placed)) ∙ x.is.macros
 
   -- nothing is called round what stands
   pub came_not : (at : ℕ) → at < length ss → IsCame at false

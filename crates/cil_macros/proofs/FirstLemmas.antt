@@ -14,7 +14,6 @@ use Rattle.cil_sexpr.specs.Places.{get_in_front, get_so, in_range, none_some, so
 use Rattle.cil_syntax.specs.declared.term.Spot.{Spot}
 use Rattle.cil_syntax.specs.Written.{Written}
 use Rattle.cil_blocks.specs.Contents.{Standing, same_spot}
-use Rattle.cil_blocks.specs.Entries.{statement_at}
 use Rattle.cil_blocks.proofs.StandingWalk.{same_spots, spots_same}
 use Rattle.cil_macros.specs.declared.entry.Body.{Body}
 use Rattle.cil_macros.specs.declared.entry.Called.{Called}
@@ -87,15 +86,15 @@ module _ (ws : List Written) (ss : List Standing) (cs : List Called) (bs : List 
       → (b : Body) × (slice_get bs c.body ≡ Some b) × IsBodyAt ws ss cs at b
   its_body j at c e place =
       let b = is_brought ws ss cs bs are j c e in
-      let call = b.by_call in
       let before = b.before in (
         b.body,
         b.is_body,
         record {
           so = b.so;
-          before = omega (arith, call, before, place);
-          statement = statement_at ws c.statement;
+          before = omega (arith, before, place);
+          there = b.there;
           placed = ap (slice_get (placed_of ws ss cs)) place ∙ b.placed;
+          is = b.is;
         },
       )
 
@@ -199,6 +198,20 @@ module _ (ws : List Written) (ss : List Standing) (old new : Brought) (are : Are
 
   pub firsts_opened : AreFirsts ss new
   firsts_opened = record { first = its_first; in_turn = each_turn }
+
+-- an optional opens no body
+pub firsts_stay : (ws : List Written) (ss : List Standing) (old new : Brought) → AreBodies ws ss old.called.items old.bodies.items → AreFirsts ss old
+    → (more : List Called) → new.called.items ≡ old.called.items ++ more → new.bodies.items ≡ old.bodies.items → new.firsts ≡ old.firsts → AreFirsts ss new
+firsts_stay ws ss old new are firsts more called bodies same = record {
+  first = λ spot. ap (λ m. get same_key m (key_of spot)) same ∙ firsts.first spot ∙ ap (position (is_body_of ss spot)) (sym bodies);
+  in_turn = λ i j b c e f g.
+      let there = ap (λ xs. slice_get xs i) (sym bodies) ∙ e in
+      let x = are.each i b there in
+      let l = placed_length ws ss old.called.items in
+      let r = in_range (placed_of ws ss old.called.items) b.call x.call x.is_call in
+      firsts.in_turn i j b c there f
+      (sym (get_in_front old.called.items more j (omega (arith, l, r, f))) ∙ ap (λ xs. slice_get xs j) (sym called) ∙ g);
+}
 
 -- nothing is brought yet
 pub no_firsts : (ss : List Standing) (b : Brought) → b.bodies.items ≡ [] → b.firsts.entries ≡ [] → AreFirsts ss b

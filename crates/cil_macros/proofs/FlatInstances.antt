@@ -1,5 +1,5 @@
--- Where no macro stands, nothing is placed but what stands.
-use Rattle.std.proofs.Common.{◌≡◌, true, false, List, [], ◌∷◌, length, refl, sym, ◌∙◌, subst, inl, inr, arith}
+-- Where no macro stands, nothing is placed but what stands: nothing is in a body.
+use Rattle.std.proofs.Common.{◌≡◌, true, false, List, [], ◌∷◌, length, refl, sym, ◌∙◌, ap, subst, inl, inr, arith}
 use Rattle.std.specs.Prelude.{Contains, Option, Some, None}
 use Rattle.std.specs.List.Sorted.{IsStrictlySortedBy}
 use Rattle.std.proofs.lemmas.Bool.{cases_lt}
@@ -50,7 +50,9 @@ module _ (ws : List Written) (ss : List Standing) (rising : IsStrictlySortedBy w
   placed_stands : (p : Placed) → IsPlaced ws ss p → Contains (starts ss) p
   placed_stands p (stands s c) = contains_map placed_standing ss s c
   placed_stands p (called q u w iq e c i) = absurd (not_unfolded q u e)
-  placed_stands p (in_optional q b w iq e o c i) = absurd (never (sym o))
+  placed_stands p (in_optional q b w iq e o c i) =
+      let m = from_map placed_standing ss q (placed_stands q iq) in
+      absurd (none_some b (ap (λ (r : Placed). r.body) m.2 ∙ e))
 
   unfolds_calls : (p : Placed) (u : Unfolded) → unfolded ws ss p ≡ Some u → is_call p.standing.statement.statement.keyword ≡ true
   unfolds_calls p u e = absurd (not_unfolded p u e)

@@ -1,7 +1,6 @@
 -- The items of all that is placed, place by place.
 use Rattle.std.specs.Prelude.{Some, slice_get}
-use Rattle.std.specs.List.{flat_map}
-use Rattle.std.proofs.Common.{◌≡◌, ℕ, ◌+◌, ◌<◌, ◌≤◌, true, List, [], ◌∷◌, ◌++◌, map, length, take, drop, get_or, refl, sym, ◌∙◌, ap, subst, arith}
+use Rattle.std.proofs.Common.{◌≡◌, ℕ, ◌+◌, ◌<◌, true, List, [], ◌∷◌, ◌++◌, length, take, drop, get_or, refl, sym, ◌∙◌, ap, arith}
 use Rattle.std.proofs.lemmas.List.{get_or-map, length-map, take_more}
 use Rattle.cil_sexpr.specs.Places.{drop_at, is_there}
 use Rattle.cil_syntax.specs.declared.kind.Keyword.{Keyword}
@@ -21,7 +20,7 @@ use Rattle.cil_macros.specs.Walks.{written_in}
 
 -- as many are placed as there are items
 pub items_counted : (i : Kept) → length (items_in i) ≡ length (all_placed i)
-items_counted i = length-map (all_placed i) (item_of (written_in i.0) (all_standing i.0))
+items_counted i = length-map (all_placed i) (item_of (written_in i.0) (all_standing i.0) (all_placed i))
 
 module _ (i : Kept) (at : ℕ) (within : at < length (items_in i)) where
   among_placed : at < length (all_placed i)
@@ -33,7 +32,7 @@ module _ (i : Kept) (at : ℕ) (within : at < length (items_in i)) where
 
   -- the item that is there
   pub item_got : (d : Item) → item_at i at ≡ get_or (items_in i) at d
-  item_got d = sym (get_or-map (item_of (written_in i.0) (all_standing i.0)) (all_placed i) at (placed_standing (standing_top nothing)) d among_placed)
+  item_got d = sym (get_or-map (item_of (written_in i.0) (all_standing i.0) (all_placed i)) (all_placed i) at (placed_standing (standing_top nothing)) d among_placed)
 
   pub item_there : slice_get (items_in i) at ≡ Some (item_at i at)
   item_there = is_there (items_in i) at (item_at i at) within ∙ ap Some (sym (item_got (item_at i at)))
@@ -63,6 +62,7 @@ said_as_written ws ss p keywords.BlockAbstract args e = absurd cc
 said_as_written ws ss p keywords.BlockInherit args e = absurd cc
 said_as_written ws ss p keywords.Macro args e = refl
 said_as_written ws ss p keywords.Call args e = absurd cc
+said_as_written ws ss p keywords.Optional args e = refl
 said_as_written ws ss p keywords.SetAside args e = refl
 
 module _ (ws : List Written) (ss : List Standing) (p : Placed) (args : Terms Word) where

@@ -20,10 +20,13 @@ pub mod MacroLemmas
 pub mod MacroScope
 pub mod MeaningLemmas
 pub mod NearestLemmas
+pub mod NestingLemmas
 pub mod OneInstance
 pub mod OpeningLemmas
+pub mod OptionalLemmas
 pub mod PlacedLemmas
 pub mod PlacedWalk
+pub mod RoundLemmas
 pub mod SameParameters
 pub mod ScopeLemmas
 pub mod ServingLemmas

@@ -47,6 +47,7 @@ inside_by keywords.BlockAbstract c own may so here = so here
 inside_by keywords.BlockInherit c own may so here = so here
 inside_by keywords.Macro c own may so here = absurd (let f : false ≡ true = here in cc)
 inside_by keywords.Call c own may so here = so here
+inside_by keywords.Optional c own may so here = absurd (let f : false ≡ true = here in cc)
 inside_by keywords.SetAside c own may so here = so here
 
 module _ (ss : List Statement) (nested : IsNested ss) where
@@ -93,6 +94,7 @@ declares_none m keywords.BlockAbstract c named may so = and_false (is_in_body m 
 declares_none m keywords.BlockInherit c named may so = and_false (is_in_body m c.macro)
 declares_none m keywords.Macro c named may so = ap (λ (o : Option Enclosing). is_in_body m o && named) (so (both_left (allows c.nesting nestings.InBlock) true may))
 declares_none m keywords.Call c named may so = and_false (is_in_body m c.macro)
+declares_none m keywords.Optional c named may so = and_false (is_in_body m c.macro)
 declares_none m keywords.SetAside c named may so = and_false (is_in_body m c.macro)
 
 none_declare : (m : Written) (bytes : List ℕ) (vs : List Written)

@@ -2,7 +2,7 @@
 use Rattle.std.proofs.Common.{◌≡◌, ℕ, ◌+◌, ◌<◌, ◌≤◌, List, [], length, refl, sym, ◌∙◌, ap, subst, arith}
 use Rattle.std.specs.Prelude.{Some, None, slice_get}
 use Rattle.std.proofs.lemmas.List.{get_or_past, length-map}
-use Rattle.cil_sexpr.specs.Places.{is_there, not_there, some_same}
+use Rattle.cil_sexpr.specs.Places.{is_there, not_there}
 use Rattle.cil_sexpr.specs.Lists.{contains_none}
 use Rattle.cil_syntax.specs.declared.program.Statement.{Statement}
 use Rattle.cil_syntax.specs.declared.term.Word.{Word}
@@ -33,7 +33,7 @@ module _ (i : Kept) where
       omega (arith, l, m)
 
   pub items_many : length (items_in i) ≡ length (entries_in i.0) + length i.1
-  items_many = length-map (all_placed i) (item_of (written_in i.0) (all_standing i.0)) ∙ placed_many
+  items_many = length-map (all_placed i) (item_of (written_in i.0) (all_standing i.0) (all_placed i)) ∙ placed_many
 
   -- a place of an item is one of what is placed
   pub is_place : (at : ℕ) → at < length (items_in i) → at < length (entries_in i.0) + length i.1

@@ -22,13 +22,13 @@ use Rattle.cil_macros.specs.Calls.{IsPlaced, Unfolded, called, in_optional, is_c
 use Rattle.cil_macros.specs.Opens.{opens_call, opens_inside, opens_placed, starts}
 use Rattle.cil_macros.specs.Placed.{Body, Placed, placed_standing}
 
-chosen_true : {X : Type 0} (b : Bool) (x y : X) → b ≡ true → (if b then x else y) ≡ x
+pub chosen_true : {X : Type 0} (b : Bool) (x y : X) → b ≡ true → (if b then x else y) ≡ x
 chosen_true b x y e = rw e refl
 
-chosen_false : {X : Type 0} (b : Bool) (x y : X) → b ≡ false → (if b then x else y) ≡ y
+pub chosen_false : {X : Type 0} (b : Bool) (x y : X) → b ≡ false → (if b then x else y) ≡ y
 chosen_false b x y e = rw e refl
 
-call_no_optional : (k : Keyword) → is_call k ≡ true → is_optional k ≡ false
+pub call_no_optional : (k : Keyword) → is_call k ≡ true → is_optional k ≡ false
 call_no_optional keywords.Call e = refl
 call_no_optional k e = absurd (let f : false ≡ true = e in cc)
 

@@ -15,7 +15,6 @@ use Rattle.cil_blocks.proofs.NumberLemmas.{all_apart, all_pushed, all_within, cl
 use Rattle.cil_blocks.proofs.OnceLemmas.{more_numbers, no_global, scope_again}
 use Rattle.cil_macros.specs.declared.entry.Body.{Body}
 use Rattle.cil_macros.specs.declared.entry.Called.{Called}
-use Rattle.cil_macros.specs.Calls.{placed_called}
 use Rattle.cil_macros.specs.Entries.{IsBodyAt}
 use Rattle.cil_macros.specs.Macros.{all_standing}
 use Rattle.cil_macros.specs.Placed.{Placed}
@@ -76,11 +75,11 @@ module _ (s : Standings) (are : AreStandings s) (spaces : AreNamespaces (spaces_
           → (ms : List ℕ) × (new ≡ with_numbers cur ms) × IsScope (spaces_in s) p.standing.scope (with_numbers (with_numbers [] ms) ns ++ 0 ∷ [])
       added_at p q ns e f is =
           let (n, at_n, scope) = standing_scope b.called x.so.opened.macro x.so.is_macro in
-          let same = some_same p (placed_called x.so.call x.so.opened x.statement) (sym e ∙ x.placed) in
+          let same = ap (λ (r : Placed). r.standing.scope) (some_same p x.there (sym e ∙ x.placed)) ∙ x.is.scope in
           let call = some_same q x.so.call (sym f ∙ x.so.is_call) in (
             n.1,
             added n at_n,
-            subst (λ (r : Placed). IsScope (spaces_in s) r.standing.scope (with_numbers (with_numbers [] n.1) ns ++ 0 ∷ [])) (sym same)
+            subst (λ (l : Scope). IsScope (spaces_in s) l (with_numbers (with_numbers [] n.1) ns ++ 0 ∷ [])) (sym same)
                 (joined_scope (spaces_in s) spaces x.so.opened.macro.scope x.so.call.standing.scope n.1 ns scope
                 (subst (λ (r : Placed). IsScope (spaces_in s) r.standing.scope ns) call is)),
           )
@@ -136,7 +135,8 @@ module _ (s : Standings) (cs : List Called) where
   body_place at b x from so = record {
     near = let before = x.before in let near = so.near in omega (arith, before, near);
     same = λ p q e f.
-        ap (λ (r : Placed). r.standing.scope) (some_same p (placed_called x.so.call x.so.opened x.statement) (sym e ∙ x.placed))
+        ap (λ (r : Placed). r.standing.scope) (some_same p x.there (sym e ∙ x.placed))
+        ∙ x.is.scope
         ∙ so.same x.so.call q x.so.opened.macro x.so.is_call f x.so.is_macro;
   }
 

@@ -38,6 +38,18 @@ module _ (s : Standings) where
         ];
   }
 
+  -- so it stays when more is placed
+  pub turn_stays : (cs new : List Called) (bs : List Body) (at : ℕ) (more : List Placed) → at ≤ length (entries_in s) + length cs → placed_in s new ≡ placed_in s cs ++ more
+      → AreInTurn s cs bs at → AreInTurn s new bs at
+  turn_stays cs new bs at more within placed turn = record {
+    rising = turn.rising;
+    before = turn.before;
+    all = λ k p u h f g.
+        let l = placed_length (written_in s) (all_standing s) cs in
+        let m = standings_length (written_in s) (entries_in s) in
+        turn.all k p u h (sym (get_in_front (placed_in s cs) more k (omega (arith, h, within, l, m))) ∙ ap (λ ps. slice_get ps k) (sym placed) ∙ f) g;
+  }
+
   module _ (cs new : List Called) (bs : List Body) (at : ℕ) (body : Body) (turn : AreInTurn s cs bs at) (more : List Placed)
       (within : at < length (entries_in s) + length cs) (placed : placed_in s new ≡ placed_in s cs ++ more) (by_call : body.call ≡ at) where
     each_rises : (i j : ℕ) (a b : Body) → i < j → (slice_get bs i ≡ Some a) ⊎ ((i ≡ length bs) × (body ≡ a)) → (slice_get bs j ≡ Some b) ⊎ ((j ≡ length bs) × (body ≡ b))

@@ -5,7 +5,7 @@ use Rattle.std.proofs.lemmas.List.{append-nil, map-append, take_more}
 use Rattle.std.proofs.lemmas.List.Elements.{Contains-append_cases}
 use Rattle.cil_sexpr.specs.Lists.{contains_cases, contains_none}
 use Rattle.cil_sexpr.specs.Places.{get_behind, get_in_front, in_range, is_there, none_some, some_same}
-use Rattle.cil_blocks.specs.Contents.{Standing}
+use Rattle.cil_blocks.specs.Contents.{Standing, is_optional}
 use Rattle.cil_blocks.specs.declared.namespaces.Space.{Space}
 use Rattle.cil_blocks.specs.declared.parts.Parts.{Parts}
 use Rattle.cil_blocks.specs.Entries.{AreParts, parts_at, standings_of, statement_at}
@@ -16,16 +16,17 @@ use Rattle.cil_syntax.specs.Written.{Written, is_macro}
 use Rattle.cil_macros.specs.declared.entry.Body.{Body}
 use Rattle.cil_macros.specs.declared.entry.Called.{Called}
 use Rattle.cil_macros.specs.Calls.{IsPlaced, Unfolded, is_call, placed_cmp, unfolded}
-use Rattle.cil_macros.specs.Entries.{AreBodies, AreBodySpaces, IsBody, IsOf, placed_by, placed_from, placed_of, placed_under}
+use Rattle.cil_macros.specs.Entries.{AreBodies, AreBodySpaces, IsBody, IsOf, IsOptionalOf, placed_by, placed_from, placed_of, placed_under}
 use Rattle.cil_macros.specs.Opens.{opens_placed, starts}
 use Rattle.cil_macros.specs.Placed.{Placed}
 use Rattle.cil_macros.specs.Walks.{AreBodyScopes, IsBodyScope, IsUnfoldedAt, called_by, placed_in, written_in}
 use Rattle.cil_macros.specs.Macros.{all_standing}
-use Rattle.cil_macros.proofs.EntryLemmas.{AreSoFar, all_placed, opens_so, placed_length, started, too_many, went_on}
+use Rattle.cil_macros.proofs.EntryLemmas.{AreSoFar, all_placed, opens_so, opens_within, placed_length, started, too_many, went_on}
 use Rattle.cil_macros.proofs.CallLemmas.{placed_there}
 use Rattle.cil_sexpr.specs.Lists.{Lists}
 use Rattle.cil_sexpr.specs.Rising.{IsOver}
-use Rattle.cil_macros.proofs.CalledMacros.{is_macro_call}
+use Rattle.cil_macros.proofs.BodyLemmas.{called_statement, is_brought}
+use Rattle.cil_macros.proofs.CalledMacros.{is_macro_call, optional_opens_none}
 
 get_of_contains : {X : Type 0} (xs : List X) (x : X) → Contains xs x → (i : ℕ) × (slice_get xs i ≡ Some x)
 get_of_contains xs x (k, h, e) = (k, is_there xs k x h ∙ ap Some e)
@@ -45,6 +46,19 @@ pub number_of_macro : (ws : List Written) (k : ℕ) → is_macro (statement_at w
 number_of_macro [] k e = let f : false ≡ true = e in cc
 number_of_macro (w ∷ ws) zero e = omega arith
 number_of_macro (w ∷ ws) (suc k) e = let h = number_of_macro ws k e in omega (arith, h)
+
+-- so is an optional
+pub number_of_optional : (ws : List Written) (k : ℕ) → is_optional (statement_at ws k).statement.keyword ≡ true → k < length ws
+number_of_optional [] k e = let f : false ≡ true = e in cc
+number_of_optional (w ∷ ws) zero e = omega arith
+number_of_optional (w ∷ ws) (suc k) e = let h = number_of_optional ws k e in omega (arith, h)
+
+-- what each statement that is brought together has
+called_one : (opener body : ℕ) (ns : List ℕ) (j : ℕ) (c : Called) → slice_get (map (called_by opener body) ns) j ≡ Some c → (c.body ≡ body) × (c.opener ≡ opener)
+called_one opener body [] j c e = absurd (none_some c e)
+called_one opener body (n ∷ ns) zero c e =
+    let same = some_same (called_by opener body n) c e in (ap (λ (x : Called). x.body) (sym same), ap (λ (x : Called). x.opener) (sym same))
+called_one opener body (n ∷ ns) (suc j) c e = called_one opener body ns j c e
 
 module _ (ws : List Written) (ss : List Standing) where
   -- ---- what is placed when some more are brought
@@ -90,6 +104,37 @@ module _ (ws : List Written) (ss : List Standing) where
     is_macro = x.is_macro;
   }
 
+  -- what was placed stays where it is
+  pub stood_before : (cs new : List Called) (more : List Placed) → placed_of ws ss new ≡ placed_of ws ss cs ++ more → (k : ℕ) (p : Placed) → k < length (placed_of ws ss cs)
+      → slice_get (placed_of ws ss new) k ≡ Some p → slice_get (placed_of ws ss cs) k ≡ Some p
+  stood_before cs new more placed k p h g = sym (get_in_front (placed_of ws ss cs) more k h) ∙ ap (λ ps. slice_get ps k) (sym placed) ∙ g
+
+  scope_stays : (cs new : List Called) (more : List Placed) → placed_of ws ss new ≡ placed_of ws ss cs ++ more → (call called : ℕ) (o : Option ℕ)
+      → call < length (placed_of ws ss cs) → IfSome o (IsBodyScope ss (placed_of ws ss cs) call called) → IfSome o (IsBodyScope ss (placed_of ws ss new) call called)
+  scope_stays cs new more placed call called None h y = y
+  scope_stays cs new more placed call called (Some from) h y = record {
+    near = y.near;
+    same = λ p q m f g k.
+        let near = y.near in
+        y.same p q m (stood_before cs new more placed call p h f) (stood_before cs new more placed from q (omega (arith, h, near)) g) k;
+  }
+
+  -- so does an optional of a body
+  optional_stays : (cs more : List Called) (at number : ℕ) → IsOptionalOf ws cs (length ss) at number → IsOptionalOf ws (cs ++ more) (length ss) at number
+  optional_stays cs more at number x = record {
+    rank = x.rank;
+    behind = x.behind;
+    called = x.called;
+    is = get_in_front cs more x.rank (in_range cs x.rank x.called x.is) ∙ x.is;
+    body = x.body;
+    optional = x.optional;
+  }
+
+  opened_stays : (cs more : List Called) (b : Body) (c : Called) → (b.call ≡ c.opener) ⊎ IsOptionalOf ws cs (length ss) c.opener c.body
+      → (b.call ≡ c.opener) ⊎ IsOptionalOf ws (cs ++ more) (length ss) c.opener c.body
+  opened_stays cs more b c (inl e) = inl e
+  opened_stays cs more b c (inr x) = inr (optional_stays cs more c.opener c.body x)
+
   -- what is at a place of two lists is of the first or of the second
   pub either_at : {X : Type 0} (xs ys : List X) (i : ℕ) (x : X) → slice_get (xs ++ ys) i ≡ Some x
       → ((i < length xs) × (slice_get xs i ≡ Some x)) ⊎ ((j : ℕ) × (i ≡ length xs + j) × (slice_get ys j ≡ Some x))
@@ -121,28 +166,23 @@ module _ (ws : List Written) (ss : List Standing) where
         by (inr (zero, f, g)) = subst (IsBody ws ss (placed_of ws ss cs)) (some_same b x g) is
         by (inr (suc j, f, g)) = absurd (none_some x g)
 
-    of_old : (count : ℕ) (c : Called) → IsOf bs count c → IsOf (bs ++ b ∷ []) count c
+    of_old : (count : ℕ) (c : Called) → IsOf ws (length ss) cs bs count c → IsOf ws (length ss) new (bs ++ b ∷ []) count c
     of_old count c x = record {
       body = x.body;
       is_body = get_in_front bs (b ∷ []) c.body (in_range bs c.body x.body x.is_body) ∙ x.is_body;
-      by_call = x.by_call;
       before = x.before;
+      opened = opened_stays cs (map (called_by b.call (length bs)) numbers) x.body c x.opened;
     }
 
-    one_of : (ns : List ℕ) (j : ℕ) (c : Called) → slice_get (map (called_by b.call (length bs)) ns) j ≡ Some c → (c.body ≡ length bs) × (c.opener ≡ b.call)
-    one_of [] j c e = absurd (none_some c e)
-    one_of (n ∷ ns) zero c e = let same = some_same (called_by b.call (length bs) n) c e in (ap (λ (x : Called). x.body) (sym same), ap (λ (x : Called). x.opener) (sym same))
-    one_of (n ∷ ns) (suc j) c e = one_of ns j c e
-
-    of_new : (j k : ℕ) (c : Called) → j ≡ length cs + k → slice_get (map (called_by b.call (length bs)) numbers) k ≡ Some c → IsOf (bs ++ b ∷ []) (length ss + j) c
+    of_new : (j k : ℕ) (c : Called) → j ≡ length cs + k → slice_get (map (called_by b.call (length bs)) numbers) k ≡ Some c → IsOf ws (length ss) new (bs ++ b ∷ []) (length ss + j) c
     of_new j k c f e =
-        let o = one_of numbers k c e in
+        let o = called_one b.call (length bs) numbers k c e in
         let same = o.1 in
         record {
           body = b;
           is_body = ap (slice_get (bs ++ b ∷ [])) o.0 ∙ get_behind bs (b ∷ []) 0 (length bs) (omega arith);
-          by_call = sym o.1;
           before = omega (arith, within, f, same);
+          opened = inl (sym o.1);
         }
 
     -- the bodies are those of what was brought, with this one
@@ -153,7 +193,7 @@ module _ (ws : List Written) (ss : List Standing) where
     }
       where
         by : (j : ℕ) (c : Called) → ((j < length cs) × (slice_get cs j ≡ Some c)) ⊎ ((k : ℕ) × (j ≡ length cs + k) × (slice_get (map (called_by b.call (length bs)) numbers) k ≡ Some c))
-            → IsOf (bs ++ b ∷ []) (length ss + j) c
+            → IsOf ws (length ss) new (bs ++ b ∷ []) (length ss + j) c
         by j c (inl h) = of_old (length ss + j) c (are.brought j c h.1)
         by j c (inr (k, f, g)) = of_new j k c f g
 
@@ -165,7 +205,7 @@ module _ (ws : List Written) (ss : List Standing) where
       where
         -- the call of a body stands where it stood
         before : (y : Body) → y.call < length (placed_of ws ss cs) → slice_get (placed_of ws ss new) y.call ≡ Some p → slice_get (placed_of ws ss cs) y.call ≡ Some p
-        before y h g = sym (get_in_front (placed_of ws ss cs) more y.call h) ∙ ap (λ ps. slice_get ps y.call) (sym placed_more) ∙ g
+        before y h g = stood_before cs new more placed_more y.call p h g
 
         its : (y : Body) → y ≡ x → slice_get (placed_of ws ss new) y.call ≡ Some p
         its y d = ap (λ (z : Body). slice_get (placed_of ws ss new) z.call) d ∙ e
@@ -186,20 +226,9 @@ module _ (ws : List Written) (ss : List Standing) where
         → AreBodyScopes ss (placed_of ws ss new) (bs ++ b ∷ [])
     scopes_more old so x c = by (Contains-append_cases bs (b ∷ []) x c)
       where
-        old_place : (k : ℕ) (p : Placed) → k < length (placed_of ws ss cs) → slice_get (placed_of ws ss new) k ≡ Some p → slice_get (placed_of ws ss cs) k ≡ Some p
-        old_place k p h g = sym (get_in_front (placed_of ws ss cs) more k h) ∙ ap (λ ps. slice_get ps k) (sym placed_more) ∙ g
-
-        stays : (call called from : ℕ) → call < length (placed_of ws ss cs) → IsBodyScope ss (placed_of ws ss cs) call called from
-            → IsBodyScope ss (placed_of ws ss new) call called from
-        stays call called from h y = record {
-          near = y.near;
-          same = λ p q m f g k. let near = y.near in y.same p q m (old_place call p h f) (old_place from q (omega (arith, h, near)) g) k;
-        }
-
         all_stay : (call called : ℕ) (o : Option ℕ) → call < length (placed_of ws ss cs) → IfSome o (IsBodyScope ss (placed_of ws ss cs) call called)
             → IfSome o (IsBodyScope ss (placed_of ws ss new) call called)
-        all_stay call called None h y = y
-        all_stay call called (Some from) h y = stays call called from h y
+        all_stay call called o h y = scope_stays cs new more placed_more call called o h y
 
         by : (Contains bs x ⊎ Contains (b ∷ []) x) → IfSome x.scope (IsBodyScope ss (placed_of ws ss new) x.call x.called)
         by (inl d) =
@@ -211,6 +240,66 @@ module _ (ws : List Written) (ss : List Standing) where
               (all_stay b.call b.called b.scope (in_range (placed_of ws ss cs) b.call is.call is.is_call) so)
           | inr none ↦ absurd (contains_none x none)
         ]
+
+  -- ---- what is in an optional of a body
+
+  module _ (cs : List Called) (bs : List Body) (at number : ℕ) (numbers : List ℕ) (are : AreBodies ws ss cs bs) (x : IsOptionalOf ws cs (length ss) at number) where
+    abbrev inside : List Called
+    inside = cs ++ map (called_by at number) numbers
+
+    abbrev within : List Placed
+    within = map (placed_by ws ss (placed_of ws ss cs) at) numbers
+
+    pub optional_below : at < length ss + length cs
+    optional_below = let h = in_range cs x.rank x.called x.is in let e = x.behind in omega (arith, h, e)
+
+    pub placed_within : placed_of ws ss inside ≡ placed_of ws ss cs ++ within
+    placed_within = all_brought cs at number numbers optional_below
+
+    call_below : (b : Body) → Contains bs b → b.call < length (placed_of ws ss cs)
+    call_below b c =
+        let i = get_of_contains bs b c in
+        let y = are.each i.0 b i.1 in
+        in_range (placed_of ws ss cs) b.call y.call y.is_call
+
+    -- it is of the body of the optional
+    of_optional : (j k : ℕ) (c : Called) → j ≡ length cs + k → slice_get (map (called_by at number) numbers) k ≡ Some c → IsOf ws (length ss) inside bs (length ss + j) c
+    of_optional j k c f e =
+        let o = called_one at number numbers k c e in
+        let same = o.1 in
+        let y = are.brought x.rank x.called x.is in
+        let below = optional_below in
+        record {
+          body = y.body;
+          is_body = ap (slice_get bs) (o.0 ∙ sym x.body) ∙ y.is_body;
+          before = omega (arith, below, f, same);
+          opened = inr (optional_stays cs (map (called_by at number) numbers) c.opener c.body
+              (record { rank = x.rank; behind = o.1 ∙ x.behind; called = x.called; is = x.is; body = x.body ∙ sym o.0; optional = x.optional }));
+        }
+
+    pub bodies_within : AreBodies ws ss inside bs
+    bodies_within = record {
+      each = λ i b e. subst (λ ps. IsBody ws ss ps b) (sym placed_within) (body_stays (placed_of ws ss cs) within b (are.each i b e));
+      brought = λ j c e. by j c (either_at cs (map (called_by at number) numbers) j c e);
+    }
+      where
+        by : (j : ℕ) (c : Called) → ((j < length cs) × (slice_get cs j ≡ Some c)) ⊎ ((k : ℕ) × (j ≡ length cs + k) × (slice_get (map (called_by at number) numbers) k ≡ Some c))
+            → IsOf ws (length ss) inside bs (length ss + j) c
+        by j c (inl h) =
+            let y = are.brought j c h.1 in
+            record {
+              body = y.body;
+              is_body = y.is_body;
+              before = y.before;
+              opened = opened_stays cs (map (called_by at number) numbers) y.body c y.opened;
+            }
+        by j c (inr (k, f, g)) = of_optional j k c f g
+
+    pub spaces_within : (spaces : List Space) → AreBodySpaces ws ss spaces cs bs → AreBodySpaces ws ss spaces inside bs
+    spaces_within spaces old b p c e = old b p c (stood_before cs inside within placed_within b.call p (call_below b c) e)
+
+    pub scopes_within : AreBodyScopes ss (placed_of ws ss cs) bs → AreBodyScopes ss (placed_of ws ss inside) bs
+    scopes_within old b c = scope_stays cs inside within placed_within b.call b.called b.scope (call_below b c) (old b c)
 
 -- ---- a step of the walk
 
@@ -268,6 +357,45 @@ module _ (s : Standings) (cs : List Called) (bs : List Body) (at called : ℕ) (
 
       keyword : is_macro (statement_at (written_in s) k).statement.keyword ≡ true
       keyword = ap (λ (w : Written). is_macro w.statement.keyword) (sym same) ∙ (is_macro_call (written_in s) (all_standing s) p u.opened u.is).macro
+
+-- where the statement is an optional of a body
+module _ (s : Standings) (cs : List Called) (bs : List Body) (at number : ℕ) (numbers : List ℕ) (new : List Called) (e : new ≡ cs ++ map (called_by at number) numbers)
+    (are : AreBodies (written_in s) (all_standing s) cs bs) (x : IsOptionalOf (written_in s) cs (length (all_standing s)) at number) where
+  abbrev ws : List Written
+  ws = written_in s
+
+  abbrev ss : List Standing
+  ss = all_standing s
+
+  pub bodies_inside : AreBodies ws ss new bs
+  bodies_inside = subst (λ xs. AreBodies ws ss xs bs) (sym e) (bodies_within ws ss cs bs at number numbers are x)
+
+  pub spaces_inside : AreBodySpaces ws ss (spaces_in s) cs bs → AreBodySpaces ws ss (spaces_in s) new bs
+  spaces_inside old = subst (λ xs. AreBodySpaces ws ss (spaces_in s) xs bs) (sym e) (spaces_within ws ss cs bs at number numbers are x (spaces_in s) old)
+
+  pub scopes_inside : AreBodyScopes ss (placed_in s cs) bs → AreBodyScopes ss (placed_in s new) bs
+  scopes_inside old = subst (λ xs. AreBodyScopes ss (placed_in s xs) bs) (sym e) (scopes_within ws ss cs bs at number numbers are x old)
+
+  -- what is placed is what was placed, and what is in the optional
+  pub placed_inside : (ps : Parts) → AreParts ws ps → (k : ℕ) → ((p : Placed) → slice_get (placed_in s cs) at ≡ Some p → p.standing.statement ≡ statement_at ws k)
+      → numbers ≡ parts_at ps k → (p : Placed) → slice_get (placed_in s cs) at ≡ Some p → placed_in s new ≡ placed_in s cs ++ opens_placed ws ss p
+  placed_inside ps are_parts k stated n p here =
+      let b = is_brought ws ss cs bs are x.rank x.called x.is in
+      let there : p ≡ b.there = some_same p b.there (sym here ∙ ap (slice_get (placed_in s cs)) x.behind ∙ b.placed) in
+      let said = called_statement ws ss cs x.rank x.called p x.is (ap (slice_get (placed_in s cs)) (sym x.behind) ∙ here) in
+      let optional = ap (λ (w : Written). is_optional w.statement.keyword) said ∙ x.optional in
+      ap (placed_in s) e
+      ∙ placed_within ws ss cs bs at number numbers are x
+      ∙ ap (λ ks. placed_in s cs ++ map (placed_by ws ss (placed_in s cs) at) ks) n
+      ∙ ap (λ xs. placed_in s cs ++ xs)
+      (opens_within ws ss ps are_parts (placed_in s cs) at k p _ here (ap (λ (q : Placed). q.body) there ∙ b.is.body) optional
+      (number_of_optional ws k (ap (λ (w : Written). is_optional w.statement.keyword) (sym (stated p here)) ∙ optional)) (stated p here))
+
+  -- it is no call
+  pub optional_unfolds_none : (p : Placed) → slice_get (placed_in s cs) at ≡ Some p → unfolded ws ss p ≡ None
+  optional_unfolds_none p here =
+      optional_opens_none ws ss p
+      (ap (λ (w : Written). is_optional w.statement.keyword) (called_statement ws ss cs x.rank x.called p x.is (ap (slice_get (placed_in s cs)) (sym x.behind) ∙ here)) ∙ x.optional)
 
 -- ---- the whole walk
 

@@ -1,14 +1,15 @@
 -- What is placed, as it is kept: what stands, and then each statement that a call brings, by its number, with the place of the
 -- one that opened it.
-use Rattle.std.specs.Prelude.{◌≡◌, ℕ, ◌+◌, ◌<◌, List, [], ◌∷◌, ◌++◌, length, Contains, Option, Some, None, slice_get}
+use Rattle.std.specs.Prelude.{◌≡◌, ◌⊎◌, ℕ, ◌+◌, ◌<◌, true, List, [], ◌∷◌, ◌++◌, length, Contains, Option, Some, None, slice_get}
+use Rattle.cil_syntax.specs.Scopes.{tidy}
 use Rattle.cil_syntax.specs.Written.{Written}
-use Rattle.cil_blocks.specs.Contents.{Standing, standing_top}
+use Rattle.cil_blocks.specs.Contents.{Standing, is_optional, standing_top}
 use Rattle.cil_blocks.specs.declared.namespaces.Space.{Space}
 use Rattle.cil_blocks.specs.Entries.{statement_at}
 use Rattle.cil_blocks.specs.Namespaces.{IsNumber}
 use Rattle.cil_macros.specs.declared.entry.Body.{Body}
 use Rattle.cil_macros.specs.declared.entry.Called.{Called}
-use Rattle.cil_macros.specs.Calls.{Unfolded, placed_called, placed_in_optional, unfolded}
+use Rattle.cil_macros.specs.Calls.{Unfolded, home_of, placed_called, placed_in_optional, unfolded}
 use Rattle.cil_macros.specs.Opens.{starts}
 use Rattle.cil_macros.specs.Placed.{Placed, placed_standing}
 
@@ -45,24 +46,43 @@ pub record IsBody (ws : List Written) (ss : List Standing) (ps : List Placed) (b
   pub is_opened : unfolded ws ss call ≡ Some opened
   pub is_macro : slice_get ss b.called ≡ Some opened.macro
 
--- a statement that a call brings is of the body of that call, which stands before it
-pub record IsOf (bs : List Body) (count : ℕ) (c : Called) : Type 0 where
+-- what is placed there is an optional in the body of this number
+pub record IsOptionalOf (ws : List Written) (cs : List Called) (standing at number : ℕ) : Type 0 where
+  pub rank : ℕ
+  pub behind : at ≡ standing + rank
+  pub called : Called
+  pub is : slice_get cs rank ≡ Some called
+  pub body : called.body ≡ number
+  pub optional : is_optional (statement_at ws called.statement).statement.keyword ≡ true
+
+-- a statement that a call brings is of one body: what opened it stands before it, and is the call of that body or an optional
+-- in it
+pub record IsOf (ws : List Written) (standing : ℕ) (cs : List Called) (bs : List Body) (count : ℕ) (c : Called) : Type 0 where
   pub body : Body
   pub is_body : slice_get bs c.body ≡ Some body
-  pub by_call : body.call ≡ c.opener
   pub before : c.opener < count
+  pub opened : (body.call ≡ c.opener) ⊎ IsOptionalOf ws cs standing c.opener c.body
 
 -- all that calls have brought so far
 pub record AreBodies (ws : List Written) (ss : List Standing) (cs : List Called) (bs : List Body) : Type 0 where
   pub each : (i : ℕ) (b : Body) → slice_get bs i ≡ Some b → IsBody ws ss (placed_of ws ss cs) b
-  pub brought : (j : ℕ) (c : Called) → slice_get cs j ≡ Some c → IsOf bs (length ss + j) c
+  pub brought : (j : ℕ) (c : Called) → slice_get cs j ≡ Some c → IsOf ws (length ss) cs bs (length ss + j) c
+
+-- what all statements of a body have from its call
+pub record IsInBody (call : Placed) (u : Unfolded) (p : Placed) : Type 0 where
+  pub space : p.standing.space ≡ call.standing.space
+  pub scope : p.standing.scope ≡ tidy (u.macro.scope ++ call.standing.scope)
+  pub bounds : p.bounds ≡ u.bounds
+  pub body : p.body ≡ Some record { macro = u.macro.statement; home = home_of call.standing.scope call.body }
+  pub macros : p.macros ≡ u.macro.statement.statement.at ∷ call.macros
 
 -- what is placed there was brought by a call: a statement of this body
 pub record IsBodyAt (ws : List Written) (ss : List Standing) (cs : List Called) (at : ℕ) (b : Body) : Type 0 where
   pub so : IsBody ws ss (placed_of ws ss cs) b
   pub before : b.call < at
-  pub statement : Written
-  pub placed : slice_get (placed_of ws ss cs) at ≡ Some (placed_called so.call so.opened statement)
+  pub there : Placed
+  pub placed : slice_get (placed_of ws ss cs) at ≡ Some there
+  pub is : IsInBody so.call so.opened there
 
 -- the number of a body is that of the namespace of its statements, which is that of the call
 abbrev pub AreBodySpaces : List Written → List Standing → List Space → List Called → List Body → Type 0

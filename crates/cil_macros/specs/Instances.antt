@@ -1,5 +1,5 @@
 -- All instances, as they are kept: what stands, what calls bring, and what the words of both mean. This project's profile.
-use Rattle.std.specs.Prelude.{◌≡◌, ◌≤◌, ◌+◌, length, List}
+use Rattle.std.specs.Prelude.{◌≡◌, ◌≤◌, ◌+◌, ℕ, length, List}
 use Rattle.cil_sexpr.specs.Lists.{Lists}
 use Rattle.cil_syntax.specs.declared.fault.Fault.{Fault}
 use Rattle.cil_blocks.specs.InheritFaults.{most_instances}
@@ -11,6 +11,7 @@ use Rattle.cil_macros.specs.Calls.{IsPlaced, placed_cmp}
 use Rattle.cil_macros.specs.DeclaredInBodies.{AreDeclared}
 use Rattle.cil_macros.specs.ExpandFaults.{ExpandFault}
 use Rattle.cil_macros.specs.Macros.{all_standing}
+use Rattle.cil_macros.specs.Nesting.{AreInnermost}
 use Rattle.cil_macros.specs.Openings.{AreOpenings}
 use Rattle.cil_macros.specs.Walks.{AreBrought, AreInTurn, placed_in, written_in}
 
@@ -28,3 +29,7 @@ pub record AreMeant (s : Standings) (b : Brought) (d : Declared) (os : List Open
   pub declared : AreDeclared (written_in s) d
   pub openings : AreOpenings (written_in s) (all_standing s) (placed_in s b.called.items) b.bodies.items os
   pub many : length os ≡ length b.bodies.items
+
+-- and which optionals are round it
+abbrev pub HasRounds : Standings → Brought → List ℕ → Type 0
+HasRounds s b numbers = AreInnermost (placed_in s b.called.items) (length (placed_in s b.called.items)) numbers

@@ -18,10 +18,11 @@ use Rattle.cil_blocks.specs.Places.{Standings, spaces_in}
 use Rattle.cil_macros.specs.declared.entry.Called.{Called}
 use Rattle.cil_macros.specs.declared.placed_word.PlacedWord.{PlacedWord}
 use Rattle.cil_macros.specs.Calls.{IsPlaced, Unfolded, placed_cmp, unfolded}
-use Rattle.cil_macros.specs.Item.{Item, all_replaced, replaced}
+use Rattle.cil_macros.specs.Item.{Item, all_replaced}
 use Rattle.cil_macros.specs.Macros.{all_standing}
 use Rattle.cil_macros.specs.Meant.{scope_there}
 use Rattle.cil_macros.specs.Placed.{Bound, Placed, meaning, placed_standing}
+use Rattle.cil_macros.specs.Rounds.{round_of}
 use Rattle.cil_macros.specs.Walks.{placed_in, written_in}
 
 -- ---- words
@@ -92,14 +93,14 @@ says_as_written keywords.BlockAbstract = false
 says_as_written keywords.Call = false
 says_as_written keyword = true
 
--- a placed statement as it takes part in a policy. Until there are optionals it stands in none
-abbrev pub item_of : List Written → List Standing → Placed → Item
-item_of ws ss p = record {
+-- a placed statement as it takes part in a policy, among all that is placed
+abbrev pub item_of : List Written → List Standing → List Placed → Placed → Item
+item_of ws ss ps p = record {
   keyword = p.standing.statement.statement.keyword;
   at = p.standing.statement.statement.at;
   space = p.standing.space;
   args = says ws ss p p.standing.statement.statement.keyword p.standing.statement.statement.args;
-  round = [];
+  round = round_of ps p;
 }
 
 -- the items of modules: those of all that is placed, in order
@@ -110,7 +111,7 @@ pub record AreItems (modules : List (List ℕ)) (xs : List Item) : Type 0 where
   pub are_standings : Lists standing_cmp (Stands program) standings
   pub placed : List Placed
   pub are_placed : Lists placed_cmp (IsPlaced program standings) placed
-  pub items : xs ≡ map (item_of program standings) placed
+  pub items : xs ≡ map (item_of program standings placed) placed
 
 -- ---- the same of what is kept: all that stands, and what calls bring
 
@@ -128,10 +129,10 @@ abbrev pub placed_at : Kept → ℕ → Placed
 placed_at i k = get_or (all_placed i) k (placed_standing (standing_top nothing))
 
 abbrev pub items_in : Kept → List Item
-items_in i = map (item_of (written_in i.0) (all_standing i.0)) (all_placed i)
+items_in i = map (item_of (written_in i.0) (all_standing i.0) (all_placed i)) (all_placed i)
 
 abbrev pub item_at : Kept → ℕ → Item
-item_at i k = item_of (written_in i.0) (all_standing i.0) (placed_at i k)
+item_at i k = item_of (written_in i.0) (all_standing i.0) (all_placed i) (placed_at i k)
 
 -- what a word of the statement at a place says there
 abbrev pub word_at : Kept → ℕ → Word → ScopedWord

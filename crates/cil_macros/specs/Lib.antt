@@ -13,9 +13,11 @@ pub mod Laws
 pub mod Macros
 pub mod Meant
 pub mod Nearest
+pub mod Nesting
 pub mod Openings
 pub mod Opens
 pub mod Parameters
 pub mod Placed
+pub mod Rounds
 pub mod Scene
 pub mod Walks

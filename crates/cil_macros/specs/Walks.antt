@@ -17,6 +17,7 @@ use Rattle.cil_macros.specs.Calls.{Unfolded, called_macro, unfolded}
 use Rattle.cil_macros.specs.Entries.{AreBodies, AreBodySpaces, placed_of}
 use Rattle.cil_macros.specs.Firsts.{AreFirsts}
 use Rattle.cil_macros.specs.Macros.{AreMacros, IsMacroAt, all_standing}
+use Rattle.cil_macros.specs.Opens.{opens_call, opens_placed}
 use Rattle.cil_macros.specs.Placed.{Placed}
 
 abbrev pub written_in : Standings → List Written
@@ -62,6 +63,12 @@ pub record AreBrought (s : Standings) (b : Brought) : Type 0 where
   pub spaces : AreBodySpaces (written_in s) (all_standing s) (spaces_in s) b.called.items b.bodies.items
   pub scopes : AreBodyScopes (all_standing s) (placed_in s b.called.items) b.bodies.items
   pub firsts : AreFirsts (all_standing s) b
+
+-- what is placed there opens what a call opens: it is no optional of a body
+abbrev pub OpensAsCall : Standings → List Called → ℕ → Type 0
+OpensAsCall s cs at =
+    (p : Placed) → slice_get (placed_in s cs) at ≡ Some p
+    → opens_placed (written_in s) (all_standing s) p ≡ opens_call (written_in s) p (unfolded (written_in s) (all_standing s) p)
 
 -- the body of this number is that of the call at a place
 pub record IsBodyOf (bs : List Body) (at number : ℕ) : Type 0 where

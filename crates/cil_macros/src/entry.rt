@@ -5,7 +5,8 @@
 pub struct Called {
     /// The number of the statement.
     pub statement: usize,
-    /// The place of the call that brings it, among all that is placed: first what stands, and then what calls bring.
+    /// The place of the one that opened it, the call that brings it or an optional that such a call brings, among all that is
+    /// placed: first what stands, and then what calls bring.
     pub opener: usize,
     /// The number of the body that it belongs to.
     pub body: usize,

@@ -10,6 +10,7 @@ use crate::declared_names::declared_in_bodies;
 use crate::faults::call_faults;
 use crate::instances::Instances;
 use crate::macros::macros_of;
+use crate::nesting::innermost_of;
 use crate::openings::openings_of;
 use crate::scene::Scene;
 use crate::source::Source;
@@ -52,10 +53,12 @@ pub fn expand<'s, 'p, 'a>(
         declared: &declared,
     };
     let openings = openings_of(alloc, &scene)?;
+    let innermost = innermost_of(alloc, spaces, &brought)?;
     Ok(Instances {
         spaces,
         brought,
         declared,
         openings,
+        innermost,
     })
 }

@@ -9,9 +9,11 @@ use crate::declared_names::Declared;
 use crate::entry::Called;
 use crate::meaning::meaning_at;
 use crate::meant::Meant;
+use crate::nesting::innermost_at;
 use crate::openings::Opening;
 use crate::placed_word::{PlacedWord, placed_word};
 use crate::scene::Scene;
+use cil_blocks::numbers::Numbers;
 use cil_blocks::{Namespaces, ScopeList, Spaces};
 use cil_modset::NoMemory;
 use cil_syntax::{Statement, Word};
@@ -26,6 +28,7 @@ pub struct Instances<'s, 'p, 'a> {
     pub(crate) brought: Brought,
     pub(crate) declared: Declared<'a>,
     pub(crate) openings: Vec<Opening<'a>>,
+    pub(crate) innermost: Numbers,
 }
 
 impl<'s, 'p, 'a> Model for Instances<'s, 'p, 'a> {
@@ -33,7 +36,7 @@ impl<'s, 'p, 'a> Model for Instances<'s, 'p, 'a> {
     ghost use Rattle.cil_syntax.specs.contracts.term.Term as term;
     ghost use Rattle.cil_blocks.specs.Places.{Standings};
     ghost use Rattle.cil_macros.specs.declared.entry.Called.{Called};
-    ghost use Rattle.cil_macros.specs.Instances.{AreInstances, AreMeant};
+    ghost use Rattle.cil_macros.specs.Instances.{AreInstances, AreMeant, HasRounds};
     ghost use Rattle.std.specs.Coded.{codes};
     ghost use denote.Signature.{static_lft};
 
@@ -43,11 +46,11 @@ impl<'s, 'p, 'a> Model for Instances<'s, 'p, 'a> {
 
     ghost view = { λ i. (i.spaces.now, i.brought.called.items) };
 
-    ghost invariant = { λ i. AreInstances i.spaces.now i.brought × AreMeant i.spaces.now i.brought i.declared i.openings.items };
+    ghost invariant = { λ i. AreInstances i.spaces.now i.brought × AreMeant i.spaces.now i.brought i.declared i.openings.items × HasRounds i.spaces.now i.brought i.innermost };
 }
 
 impl<'s, 'p, 'a> Instances<'s, 'p, 'a> {
-    ghost use Rattle.std.specs.Prelude.{◌≡◌, ◌+◌, ◌<◌, ◌≤◌, IfOk, MatchOption, OnOk, Some, length, map, slice_get, true};
+    ghost use Rattle.std.specs.Prelude.{◌≡◌, ◌↔◌, ◌+◌, ◌<◌, ◌≤◌, ◌∷◌, [], IfOk, IfSome, IsTrue, MatchOption, OnOk, Some, length, map, slice_get, true};
     ghost use Rattle.cil_sexpr.specs.Lists.{Lists};
     ghost use Rattle.cil_syntax.specs.Program.{statement_of};
     ghost use Rattle.cil_blocks.specs.Entries.{nothing};
@@ -58,7 +61,9 @@ impl<'s, 'p, 'a> Instances<'s, 'p, 'a> {
     ghost use Rattle.cil_macros.specs.Calls.{IsPlaced, is_call, placed_cmp};
     ghost use Rattle.cil_macros.specs.Macros.{all_standing};
     ghost use Rattle.cil_blocks.specs.Entries.{statement_at};
+    ghost use Rattle.cil_macros.specs.Item.{innermost};
     ghost use Rattle.cil_macros.specs.Meant.{meant_term};
+    ghost use Rattle.cil_macros.specs.Rounds.{AreNested};
     ghost use Rattle.cil_macros.specs.Placed.{Placed, meaning};
     ghost use Rattle.cil_macros.specs.Walks.{IsScope, placed_in, written_in};
 
@@ -118,12 +123,41 @@ impl<'s, 'p, 'a> Instances<'s, 'p, 'a> {
         space_at(self.spaces, &self.brought, at)
     }
 
-    /// The numbers of the optionals round the statement at a place, the innermost first. Until there are optionals it is in
-    /// none.
-    pub fn round(&self, at: usize) -> &[usize]
-        ensures { result.now ≡ (item_at self.now at).round }
+    /// The number of the innermost optional round the statement at a place: the place of that optional, which is a lower one;
+    /// none where it is in no optional. It costs one step.
+    pub fn innermost(&self, at: usize) -> Option<usize>
+        ensures value { result ≡ innermost (item_at self.now at) }
+        ensures round { MatchOption result ((item_at self.now at).round ≡ []) (λ o. (item_at self.now at).round ≡ o ∷ (item_at self.now o).round) }
+        ensures lower { IfSome result (λ optional. optional < at) }
     {
-        &[]
+        innermost_at(&self.innermost, at)
+    }
+
+    /// Whether the statement at a place is in no optional.
+    pub fn is_outside(&self, at: usize) -> bool
+        ensures { IsTrue result ↔ ((item_at self.now at).round ≡ []) }
+    {
+        self.innermost(at).is_none()
+    }
+
+    /// The numbers of the optionals round the statement at a place, the innermost first. It costs a step for each.
+    pub fn round(&self, alloc: Global, at: usize) -> Result<Vec<usize>, NoMemory>
+        ensures { IfOk result (λ round. round.items ≡ (item_at self.now at).round) }
+    {
+        let mut round = Vec::new(alloc);
+        let mut place = at;
+        while let Some(optional) = self.innermost(place) {
+            round.push(optional)?;
+            place = optional;
+        }
+        Ok(round)
+    }
+
+    /// Each optional round a statement is an optional of these instances, and round it are the others. The call does nothing.
+    pub fn are_nested(&self)
+        ensures nested { AreNested (items_in self.now) }
+    {
+        let _ = &self.spaces;
     }
 
     /// Fills a list with the scope of a place: the namespaces in which its words are looked up, by their numbers. It is empty

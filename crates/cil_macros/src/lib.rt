@@ -21,6 +21,7 @@ mod macros;
 mod meaning;
 pub mod meant;
 mod nearest;
+mod nesting;
 pub mod openings;
 pub mod placed_word;
 pub mod scene;

@@ -97,7 +97,7 @@ fn came_through(statements: &[Statement], entries: &[Entry], at: usize) -> Optio
 }
 
 /// The rank of the entry that opened another one; none at the top of a module.
-fn opener_of(entries: &[Entry], at: usize) -> Option<usize>
+pub fn opener_of(entries: &[Entry], at: usize) -> Option<usize>
     ensures lower { IfSome result (λ k. k < at) }
     ensures opened { (ws : List Written) (s : Standing) → slice_get (standings_of ws entries.now) at ≡ Some s → IsOpenedBy ws (standings_of ws entries.now) s result }
 {

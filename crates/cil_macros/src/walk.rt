@@ -12,10 +12,11 @@ ghost use Rattle.cil_macros.specs.Walks.{AreBrought, AreInTurn, IsSource, called
 
 use crate::body_scope::body_scope;
 use crate::calls::{space_at, unfolded_at};
-use crate::chain::{Brought, keep_first, spot_of, standing_statement};
+use crate::chain::{Brought, keep_first, spot_of, standing_statement, statement_at};
 use crate::entry::{Body, Called};
 use crate::source::Source;
 use cil_blocks::ScopeList;
+use cil_blocks::names::is_optional_at;
 use cil_blocks::walker::parts_at;
 use cil_modset::NoMemory;
 use indexmap::IndexMap;
@@ -50,14 +51,16 @@ pub fn walk(alloc: Global, source: &Source, limit: usize) -> Result<Option<Broug
 }
 
 impl Brought {
-    ghost use Rattle.std.specs.Prelude.{◌≡◌, ◌+◌, ◌<◌, ◌++◌, OnOk, Some, length, map, slice_get};
+    ghost use Rattle.std.specs.Prelude.{◌≡◌, ◌+◌, ◌<◌, ◌++◌, MatchOption, OnOk, Some, length, map, slice_get};
     ghost use Rattle.cil_blocks.specs.Places.{entries_in};
+    ghost use Rattle.cil_macros.specs.Entries.{IsOptionalOf};
     ghost use Rattle.cil_macros.specs.Macros.{all_standing};
     ghost use Rattle.cil_macros.specs.Opens.{opens_placed};
     ghost use Rattle.cil_macros.specs.Placed.{Placed};
-    ghost use Rattle.cil_macros.specs.Walks.{AreBrought, AreInTurn, IsSource, called_by, placed_in, written_in};
+    ghost use Rattle.cil_macros.specs.Walks.{AreBrought, AreInTurn, IsSource, OpensAsCall, called_by, placed_in, written_in};
 
-    /// Adds what the statement at a place opens: where it is a call that is unfolded, the statements directly in its macro.
+    /// Adds what the statement at a place opens: where it is an optional that a call brings, the statements directly in it;
+    /// where it is a call that is unfolded, those directly in its macro.
     fn open(
         &mut self,
         alloc: Global,
@@ -70,6 +73,47 @@ impl Brought {
         requires brought { AreBrought source.now.spaces.now self.old }
         requires turn { AreInTurn source.now.spaces.now self.old.called.items self.old.bodies.items at }
         requires within { at < length (entries_in source.now.spaces.now) + length self.old.called.items }
+        ensures brought { OnOk result (AreBrought source.now.spaces.now self.new) }
+        ensures turn { OnOk result (AreInTurn source.now.spaces.now self.new.called.items self.new.bodies.items (at + 1)) }
+        ensures opened { OnOk result ((p : Placed) → slice_get (placed_in source.now.spaces.now self.old.called.items) at ≡ Some p
+            → placed_in source.now.spaces.now self.new.called.items ≡ placed_in source.now.spaces.now self.old.called.items ++ opens_placed (written_in source.now.spaces.now) (all_standing source.now.spaces.now) p) }
+    {
+        match self.optional_body(source, at) {
+            None => self.open_call(alloc, source, at, scope, own),
+            Some(body) => self.open_optional(source, at, body),
+        }
+    }
+
+    /// Adds the statements directly in an optional, which belong to the same body.
+    fn open_optional(&mut self, source: &Source, at: usize, body: usize) -> Result<(), NoMemory>
+        requires source { IsSource source.now }
+        requires brought { AreBrought source.now.spaces.now self.old }
+        requires turn { AreInTurn source.now.spaces.now self.old.called.items self.old.bodies.items at }
+        requires optional { IsOptionalOf (written_in source.now.spaces.now) self.old.called.items (length (all_standing source.now.spaces.now)) at body }
+        ensures brought { OnOk result (AreBrought source.now.spaces.now self.new) }
+        ensures turn { OnOk result (AreInTurn source.now.spaces.now self.new.called.items self.new.bodies.items (at + 1)) }
+        ensures opened { OnOk result ((p : Placed) → slice_get (placed_in source.now.spaces.now self.old.called.items) at ≡ Some p
+            → placed_in source.now.spaces.now self.new.called.items ≡ placed_in source.now.spaces.now self.old.called.items ++ opens_placed (written_in source.now.spaces.now) (all_standing source.now.spaces.now) p) }
+    {
+        let number = statement_at(source.spaces.entries(), self.called.as_slice(), at);
+        push_called(&mut self.called, parts_at(source.parts, number), at, body)?;
+        Ok(())
+    }
+
+    /// Adds the statements directly in the macro of the call at a place, if it is a call that is unfolded.
+    fn open_call(
+        &mut self,
+        alloc: Global,
+        source: &Source,
+        at: usize,
+        scope: &mut ScopeList,
+        own: &mut ScopeList,
+    ) -> Result<(), NoMemory>
+        requires source { IsSource source.now }
+        requires brought { AreBrought source.now.spaces.now self.old }
+        requires turn { AreInTurn source.now.spaces.now self.old.called.items self.old.bodies.items at }
+        requires within { at < length (entries_in source.now.spaces.now) + length self.old.called.items }
+        requires as_call { OpensAsCall source.now.spaces.now self.old.called.items at }
         ensures brought { OnOk result (AreBrought source.now.spaces.now self.new) }
         ensures turn { OnOk result (AreInTurn source.now.spaces.now self.new.called.items self.new.bodies.items (at + 1)) }
         ensures opened { OnOk result ((p : Placed) → slice_get (placed_in source.now.spaces.now self.old.called.items) at ≡ Some p
@@ -102,9 +146,24 @@ impl Brought {
         push_called(&mut self.called, parts_at(source.parts, number), at, body)?;
         Ok(())
     }
+
+    /// The body to which the statement at a place belongs, where that is an optional that a call brings.
+    fn optional_body(&self, source: &Source, at: usize) -> Option<usize>
+        requires { IsSource source.now }
+        ensures { MatchOption result (OpensAsCall source.now.spaces.now self.now.called.items at)
+            (IsOptionalOf (written_in source.now.spaces.now) self.now.called.items (length (all_standing source.now.spaces.now)) at) }
+    {
+        let before = at.checked_sub(source.spaces.entries().len())?;
+        let called = self.called.get(before)?;
+        if is_optional_at(source.spaces.statements(), called.statement) {
+            Some(called.body)
+        } else {
+            None
+        }
+    }
 }
 
-/// Adds the statements that a call brings.
+/// Adds the statements that a call brings, or those in an optional of its body.
 fn push_called(
     called: &mut Vec<Called>,
     numbers: &[usize],

@@ -1,5 +1,5 @@
 -- What look-up answers is what a word names.
-use Rattle.std.proofs.Common.{◌≡◌, ℕ, zero, suc, ◌&&◌, ◌||◌, Bool, true, false, cond, List, [], ◌∷◌, ◌++◌, refl, sym, ◌∙◌, ap, subst, inl, inr}
+use Rattle.std.proofs.Common.{◌≡◌, ℕ, zero, suc, ◌&&◌, ◌||◌, Bool, true, false, cond, List, [], ◌∷◌, ◌++◌, get_or, map, refl, sym, ◌∙◌, ap, subst, inl, inr}
 use Rattle.std.specs.Prelude.{IfSome, ◌<◌, length, Option, Some, None, MatchOption, find, slice_get}
 use Rattle.std.specs.List.{flat_map, list_any}
 use Rattle.std.specs.Option.{option_map, option_map_or}
@@ -13,7 +13,7 @@ use Rattle.cil_syntax.specs.Scopes.{Namespace, asked, spaces_asked, ScopedWord}
 use Rattle.std.proofs.Math.Bool.{or-false}
 use Rattle.cil_names.specs.declared.entry.Entry.{Entry}
 use Rattle.cil_blocks.specs.declared.namespaces.Space.{Space}
-use Rattle.cil_names.specs.Entries.{AreEntries, AreOrdered, IsAnswer, IsNamed, candidate, candidates_of, is_declared_at, is_declared_in, is_entry_of, key_cmp, key_of, listed, place_where, rank}
+use Rattle.cil_names.specs.Entries.{AreEntries, AreOrdered, IsAnswer, IsNamed, candidate, candidates_of, is_declared_at, is_declared_in, is_entry_of, is_in, key_cmp, key_of, listed, place_where, rank}
 use Rattle.cil_macros.specs.Item.{Item, OptSet}
 use Rattle.cil_names.specs.Resolves.{found_in, has}
 use Rattle.cil_syntax.specs.Kinds.{is_wanted}
@@ -192,14 +192,14 @@ module _ (ss : List Space) (are : AreNamespaces ss) (xs : List Item) (es : List 
   abbrev live : ℕ → Bool
   live d = is_declared_at s es d
 
-  known_live : (n : Namespace) (d : ℕ) → known n ≡ Some d → there n ≡ live d
+  pub known_live : (n : Namespace) (d : ℕ) → known n ≡ Some d → there n ≡ live d
   known_live n d k =
       let (x, at, t) = place_is (is_entry_of ss name sign n) es d k in
       has_as ss xs es entries s name sign n
       ∙ both_at (is_entry_of ss name sign n) (is_declared_in s) es (one_entry ss are es entries.ordered name sign n) d x at t
       ∙ ap (λ o. option_map_or (is_declared_in s) o false) (sym at)
 
-  unknown_gone : (n : Namespace) → known n ≡ None → there n ≡ false
+  pub unknown_gone : (n : Namespace) → known n ≡ None → there n ≡ false
   unknown_gone n k = has_as ss xs es entries s name sign n ∙ none_of (is_entry_of ss name sign n) (is_declared_in s) es (none_where (is_entry_of ss name sign n) es k)
 
   abbrev Found : List Namespace → Option ℕ → Type 0
@@ -262,3 +262,14 @@ module _ (s : OptSet) (es : List Entry) where
         | inl t ↦ subst (λ b. IfSome (cond b (Some d) (find (is_declared_at s es) ds)) (λ k. k < length es)) (sym t) (there_within d (slice_get es d) refl t)
         | inr f ↦ subst (λ b. IfSome (cond b (Some d) (find (is_declared_at s es) ds)) (λ k. k < length es)) (sym f) (found_within ds)
       ]
+
+-- ---- flags for entries
+
+pub by_place : (s : OptSet) (es : List Entry) (d : ℕ) → get_or (map (is_declared_in s) es) d false ≡ is_declared_at s es d
+by_place s [] d = refl
+by_place s (e ∷ es) zero = refl
+by_place s (e ∷ es) (suc d) = by_place s es d
+
+-- with a flag for each entry, what is found is what is found by the optionals
+pub found_flagged : (s : OptSet) (es : List Entry) (flags : List Bool) → flags ≡ map (is_declared_in s) es → (ds : List ℕ) → find (is_in flags) ds ≡ find (is_declared_at s es) ds
+found_flagged s es flags e ds = ap (λ l. find (is_in l) ds) e ∙ (λ i. find (λ d. by_place s es d i) ds)

@@ -1,5 +1,5 @@
 -- The entries of runs, one after another.
-use Rattle.std.proofs.Common.{◌≡◌, ℕ, ◌+◌, ◌<◌, ◌≤◌, Bool, true, false, List, [], ◌∷◌, ◌++◌, map, length, take, get_or, sym, ◌∙◌, ap}
+use Rattle.std.proofs.Common.{◌≡◌, ◌↔◌, ℕ, ◌+◌, ◌<◌, ◌≤◌, Bool, true, false, List, [], ◌∷◌, ◌++◌, map, length, take, get_or, refl, sym, ◌∙◌, ap}
 use Rattle.std.proofs.lemmas.List.{append-nil, map-append, take_all, take_more}
 use Rattle.std.specs.Global.{Vec}
 use Rattle.cil_macros.specs.Items.{Kept}
@@ -7,10 +7,17 @@ use Rattle.cil_names.specs.declared.entry.Entry.{Entry}
 use Rattle.cil_names.specs.declared.row.Row.{Row}
 use Rattle.cil_names.specs.declared.run.Run.{Run}
 use Rattle.cil_names.specs.DeclareRows.{round_at}
-use Rattle.cil_names.specs.DeclareRuns.{entry_of_run, is_always, listed_unless, rounds_by, said_by}
+use Rattle.cil_names.specs.DeclareRuns.{entry_of_run, has_none, is_always, listed_unless, rounds_by, said_by}
 
 abbrev pub lists_of_rounds : List (Vec ℕ) → List (List ℕ)
 lists_of_rounds rounds = map (λ (round : Vec ℕ). round.items) rounds
+
+-- a list is told to be empty where it is
+pub none_told : (xs : List ℕ) (b : Bool) → ((b ≡ true) ↔ (xs ≡ [])) → b ≡ has_none xs
+none_told [] true e = refl
+none_told [] false e = e.1 refl
+none_told (x ∷ xs) true e = absurd (let f : x ∷ xs ≡ [] = e.0 refl in cc)
+none_told (x ∷ xs) false e = refl
 
 module _ (kept : Kept) (r : Row) where
   pub no_round : (rounds : List (Vec ℕ)) (always : Bool) → always ≡ is_always kept r → always ≡ true → lists_of_rounds rounds ≡ lists_of_rounds rounds ++ rounds_by kept r

@@ -37,6 +37,7 @@ declares_written keywords.BlockAbstract kind c = absurd (contains_none kind c)
 declares_written keywords.BlockInherit kind c = absurd (contains_none kind c)
 declares_written keywords.Macro kind c = refl
 declares_written keywords.Call kind c = absurd (contains_none kind c)
+declares_written keywords.Optional kind c = absurd (contains_none kind c)
 declares_written keywords.SetAside kind c = refl
 
 is_no_block : Kind → Bool
@@ -57,6 +58,7 @@ no_blocks keywords.BlockAbstract = refl
 no_blocks keywords.BlockInherit = refl
 no_blocks keywords.Macro = refl
 no_blocks keywords.Call = refl
+no_blocks keywords.Optional = refl
 no_blocks keywords.SetAside = refl
 
 holds_of : {X : Type 0} (p : X → Bool) (xs : List X) (x : X) → Contains xs x → list_all p xs ≡ true → p x ≡ true

@@ -28,6 +28,7 @@ pub mod Qualified
 pub mod ReadingLemmas
 pub mod ResolvesLemmas
 pub mod RisingLemmas
+pub mod RoundLemmas
 pub mod RowLemmas
 pub mod ScopeLemmas
 pub mod SearchLemmas

@@ -137,6 +137,7 @@ class_keyword keywords.BlockAbstract kind c wanted = absurd (contains_none kind 
 class_keyword keywords.BlockInherit kind c wanted = absurd (contains_none kind c)
 class_keyword keywords.Macro kind c wanted = absurd (elim (contains_cases kind kinds.Macro [] c) [ inl e ↦ true≢false (sym wanted ∙ ap (is_wanted signs.Classes) (sym e)) | inr n ↦ contains_none kind n ])
 class_keyword keywords.Call kind c wanted = absurd (contains_none kind c)
+class_keyword keywords.Optional kind c wanted = absurd (contains_none kind c)
 class_keyword keywords.SetAside kind c wanted = absurd (contains_none kind c)
 
 pub class_declares : (entry_of keywords.Class).declares ≡ kinds.Class ∷ []

@@ -45,7 +45,7 @@ none_rounds s (r ∷ rs) e =
       | inr f ↦ or_second (list_all s r.items) _ (none_rounds s rs (sym (ap (λ b. b || list_any (λ r. list_all nobody r.items) rs) f) ∙ e))
     ]
 
-always_declared : (s : OptSet) (always : Bool) (rs : List (Vec ℕ)) → (always || list_any (λ r. list_all nobody r.items) rs) ≡ true
+pub always_declared : (s : OptSet) (always : Bool) (rs : List (Vec ℕ)) → (always || list_any (λ r. list_all nobody r.items) rs) ≡ true
     → (always || list_any (λ r. list_all s r.items) rs) ≡ true
 always_declared s true rs e = refl
 always_declared s false rs e = none_rounds s rs e

@@ -82,6 +82,7 @@ says_nothing ws ss p keywords.BlockAbstract args c e = abstract_says ws ss p arg
 says_nothing ws ss p keywords.BlockInherit args c e = inherit_says ws ss p args
 says_nothing ws ss p keywords.Macro args c e = absurd cc
 says_nothing ws ss p keywords.Call args c e = absurd cc
+says_nothing ws ss p keywords.Optional args c e = absurd cc
 says_nothing ws ss p keywords.SetAside args c e = absurd cc
 
 -- where there is no statement nothing is said

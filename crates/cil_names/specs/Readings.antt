@@ -1,5 +1,5 @@
 -- How the words of a placed statement are looked up. No other crate needs these words.
-use Rattle.std.specs.Prelude.{◌≡◌, ◌<◌, ℕ, List, Option, Some, length}
+use Rattle.std.specs.Prelude.{◌≡◌, ◌<◌, ℕ, List, Option, Some, length, map}
 use Rattle.cil_syntax.specs.declared.term.Word.{Word}
 use Rattle.cil_syntax.specs.Program.{statement_of}
 use Rattle.cil_syntax.specs.Scopes.{ScopedWord}
@@ -12,7 +12,7 @@ use Rattle.cil_names.specs.declared.reading.Reading.{Reading}
 use Rattle.cil_names.specs.declared.reading.ScopeNumbers.{ScopeNumbers}
 use Rattle.cil_names.specs.declared.reading.ScopeNumbers.TheVariants as numbers
 use Rattle.cil_names.specs.declared.table.Filling.{Filling}
-use Rattle.cil_names.specs.Entries.{AreOrdered, is_in}
+use Rattle.cil_names.specs.Entries.{AreOrdered, is_declared_in, is_in}
 use Rattle.cil_names.specs.Meanings.{meant}
 
 -- ---- a placed statement
@@ -48,11 +48,12 @@ numbers_in (numbers.Other scope) = scope
 
 -- ---- what its words mean
 
--- the look-up is that of all that is placed
+-- the look-up is that of all that is placed, and the flags tell which names are declared
 pub record IsFilling (f : Filling) : Type 0 where
   pub reading : IsReading f.reading
   pub spaces : f.lookup.spaces.now ≡ namespaces_in f.reading.instances.now
   pub ordered : AreOrdered f.lookup.spaces.now f.lookup.names.now
+  pub declared : f.declared.now ≡ map (is_declared_in (is_in f.lookup.enabled.now)) f.lookup.names.now
 
 abbrev pub enabled_by : Filling → OptSet
 enabled_by f = is_in f.lookup.enabled.now

@@ -9,7 +9,7 @@ ghost use Rattle.cil_syntax.specs.Refusal.{Answers};
 ghost use Rattle.cil_macros.specs.Item.{Item};
 ghost use Rattle.cil_macros.specs.Items.{all_placed, item_at, items_in, namespaces_in, scope_by};
 ghost use Rattle.cil_macros.specs.Walks.{IsScope};
-ghost use Rattle.cil_names.specs.Entries.{AreEntries, AreOrdered, is_in};
+ghost use Rattle.cil_names.specs.Entries.{AreEntries, AreOrdered, is_declared_in, is_in};
 ghost use Rattle.cil_names.specs.Faults.{ResolveFault};
 ghost use Rattle.cil_names.specs.Meanings.{meanings};
 ghost use Rattle.cil_names.specs.Rows.{IsTableOf};
@@ -17,6 +17,7 @@ ghost use Rattle.cil_names.specs.Unresolved.{ArePermissions, faults_in};
 
 use crate::count::count_words;
 use crate::judge::Judge;
+use crate::look::flags_of;
 use crate::meaning::Meaning;
 use crate::reading::Reading;
 use crate::table::{Filling, Lookup, Words};
@@ -28,7 +29,7 @@ use std::alloc::Global;
 
 /// The table of the words of all that is placed; or, where words of statements outside all optionals name nothing, their
 /// faults. Permissions are given as a list in byte order for each entry that is a class. Each word costs one look-up, and each
-/// class word of a list of permissions two more.
+/// class word of a list of permissions two more; which names are declared is found once.
 ///
 /// Errors: the faults, or out of memory.
 pub fn words_of<'a>(
@@ -43,9 +44,11 @@ pub fn words_of<'a>(
     ensures { Answers (IsTableOf (map (meanings lookup.now.spaces.now lookup.now.names.now (is_in lookup.now.enabled.now)) (items_in instances.now)))
         (ResolveFault (is_in lookup.now.enabled.now) (items_in instances.now)) result }
 {
+    let declared = flags_of(alloc, lookup.names.entries(), lookup.enabled.as_slice())?;
     let check = Check {
         alloc,
         lookup: *lookup,
+        declared: declared.as_slice(),
         permissions,
         instances,
     };
@@ -68,6 +71,7 @@ pub fn words_of<'a>(
 struct Check<'r, 's, 'p, 'a> {
     alloc: Global,
     lookup: Lookup<'r, 'a>,
+    declared: &'r [bool],
     permissions: &'r [Vec<Bytes>],
     instances: &'r Instances<'s, 'p, 'a>,
 }
@@ -83,6 +87,7 @@ impl<'r, 's, 'p, 'a> Check<'r, 's, 'p, 'a> {
     ) -> Result<(), NoMemory>
         requires spaces { self.now.lookup.spaces.now ≡ namespaces_in self.now.instances.now }
         requires ordered { AreOrdered self.now.lookup.spaces.now self.now.lookup.names.now }
+        requires declared { self.now.declared.now ≡ map (is_declared_in (is_in self.now.lookup.enabled.now)) self.now.lookup.names.now }
         requires rising { (v : Vector Text) → Contains self.now.permissions.now v → IsStrictlySortedBy text_cmp v.items }
         requires within { at < length (items_in self.now.instances.now) }
         requires scope { IsScope (namespaces_in self.now.instances.now) (scope_by (all_placed self.now.instances.now) (Some at)) scope.now }
@@ -102,9 +107,10 @@ impl<'r, 's, 'p, 'a> Check<'r, 's, 'p, 'a> {
                 statement,
                 scope,
             },
+            declared: self.declared,
             alloc: self.alloc,
         };
-        if !self.instances.round(at).is_empty() {
+        if !self.instances.is_outside(at) {
             filling.statement(words)?;
             return Ok(());
         }

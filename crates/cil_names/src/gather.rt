@@ -79,10 +79,7 @@ fn any_always(instances: &Instances, rows: &[Row]) -> bool
 fn is_always(instances: &Instances, row: &Row) -> bool
     ensures { result ≡ is_always instances.now row.now }
 {
-    match row.round(instances) {
-        [] => true,
-        [_, ..] => false,
-    }
+    row.is_outside(instances)
 }
 
 /// The optionals round the declarations of rows, where there are some.
@@ -111,6 +108,6 @@ fn push_round(
     if is_always(instances, row) {
         return Ok(());
     }
-    rounds.push(Vec::from_slice(alloc, row.round(instances))?)?;
+    rounds.push(row.round(alloc, instances)?)?;
     Ok(())
 }

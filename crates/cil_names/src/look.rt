@@ -1,17 +1,17 @@
 //! Look-up, over namespaces and a slice of entries.
 
-ghost use Rattle.std.specs.Prelude.{◌≡◌, ◌↔◌, ◌∷◌, List, MatchOption, length, ℕ, ◌≤◌, ◌++◌, All, IfOk, OnOk, IsTrue, find};
+ghost use Rattle.std.specs.Prelude.{◌≡◌, ◌↔◌, ◌∷◌, List, MatchOption, length, ℕ, ◌≤◌, ◌++◌, All, IfOk, OnOk, IsTrue, find, map};
 ghost use Rattle.std.specs.List.{list_all, list_any};
 ghost use Rattle.std.specs.List.Sorted.{IsStrictlySortedBy};
 ghost use Rattle.std.specs.Ordering.{on};
 ghost use Rattle.cil_syntax.specs.Scopes.{IsDotless, names_backwards};
-ghost use Rattle.cil_names.specs.Entries.{AreOrdered, HasNoEntry, IsEntryAt, candidate, candidates_of, is_declared_at, is_declared_in, is_in, key_cmp, key_of, listed, scoped};
+ghost use Rattle.cil_names.specs.Entries.{AreOrdered, HasNoEntry, IsEntryAt, candidate, candidates_of, is_declared_in, is_in, is_known, key_cmp, key_of, listed, scoped};
 ghost use Rattle.cil_names.specs.Found.{IsFound, IsMissing};
 ghost use Rattle.cil_blocks.specs.Namespaces.{space_at};
 
 use crate::entry::Entry;
 use crate::kinds::{rank_of, rank_wanted, wants};
-use crate::opt_set::are_set;
+use crate::opt_set::{are_set, is_set};
 use crate::path::{asked_in, asked_scope};
 use cil_blocks::Namespaces;
 use cil_modset::NoMemory;
@@ -128,27 +128,49 @@ pub fn push_listed(found: &mut Vec<usize>, named: Option<usize>) -> Result<(), N
     Ok(())
 }
 
-/// The number of the entry that a word names where these optionals are enabled.
+/// How it is known which entries are declared.
+#[derive(Clone, Copy)]
+pub enum Known<'r> {
+    /// By the flags of the optionals that are enabled. It costs a step for each statement that declares an entry, until
+    /// one is enabled.
+    Enabled(&'r [bool]),
+    /// By a flag for each entry.
+    Flagged(&'r [bool]),
+}
+
+/// The number of the entry that a word names: the first that it could name and that is declared.
 pub fn resolve(
     spaces: &Namespaces,
     entries: &[Entry],
-    enabled: &[bool],
+    known: Known<'_>,
     word: &Word,
     scope: &[usize],
 ) -> Option<usize>
     requires entries { AreOrdered spaces.now entries.now }
     requires within { All (λ k. k ≤ length spaces.now) scope.now }
-    ensures { result ≡ find (is_declared_at (is_in enabled.now) entries.now) (candidates_of spaces.now entries.now (scoped spaces.now scope.now word.now)) }
+    ensures { result ≡ find (is_known known.entry entries.now) (candidates_of spaces.now entries.now (scoped spaces.now scope.now word.now)) }
 {
     let path = path_of(word.bytes.as_slice());
     for from in asked_scope(path.global, scope) {
         let named = named_in(spaces, entries, *from, &path, word.sign);
-        let declared = where_declared(enabled, entries, named);
+        let declared = where_declared(known, entries, named);
         if declared.is_some() {
             return declared;
         }
     }
     None
+}
+
+/// For each entry whether it is declared where these optionals are enabled. It costs a step for each statement that
+/// declares an entry.
+pub fn flags_of(alloc: Global, entries: &[Entry], enabled: &[bool]) -> Result<Vec<bool>, NoMemory>
+    ensures { IfOk result (λ flags. flags.items ≡ map (is_declared_in (is_in enabled.now)) entries.now) }
+{
+    let mut flags = Vec::with_capacity(alloc, entries.len())?;
+    for entry in entries {
+        flags.push(is_declared(enabled, entry))?;
+    }
+    Ok(flags)
 }
 
 /// Whether an entry is declared where these optionals are enabled. It costs a step for each statement that declares it,
@@ -171,22 +193,25 @@ fn has_one(enabled: &[bool], rounds: &[Vec<usize>]) -> bool
         .any(|round| are_set(enabled, round.as_slice()))
 }
 
-/// Whether the entry of this number is declared where these optionals are enabled.
-fn has_declared(enabled: &[bool], entries: &[Entry], d: usize) -> bool
-    ensures { result ≡ is_declared_at (is_in enabled.now) entries.now d }
+/// Whether the entry of this number is declared.
+fn has_declared(known: Known<'_>, entries: &[Entry], d: usize) -> bool
+    ensures { result ≡ is_known known.entry entries.now d }
 {
-    match entries.get(d) {
-        Some(entry) => is_declared(enabled, entry),
-        None => false,
+    match known {
+        Known::Flagged(flags) => is_set(flags, d),
+        Known::Enabled(enabled) => match entries.get(d) {
+            Some(entry) => is_declared(enabled, entry),
+            None => false,
+        },
     }
 }
 
-/// The number, where its entry is declared where these optionals are enabled.
-fn where_declared(enabled: &[bool], entries: &[Entry], named: Option<usize>) -> Option<usize>
-    ensures { result ≡ find (is_declared_at (is_in enabled.now) entries.now) (listed named) }
+/// The number, where its entry is declared.
+fn where_declared(known: Known<'_>, entries: &[Entry], named: Option<usize>) -> Option<usize>
+    ensures { result ≡ find (is_known known.entry entries.now) (listed named) }
 {
     let d = named?;
-    if has_declared(enabled, entries, d) {
+    if has_declared(known, entries, d) {
         Some(d)
     } else {
         None

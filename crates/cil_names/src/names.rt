@@ -16,7 +16,7 @@ ghost use Rattle.cil_names.specs.Unresolved.{ArePermissions};
 
 use crate::entry::Entry;
 use crate::kinds::rank_of;
-use crate::look;
+use crate::look::{self, Known};
 use crate::opt_set::OptSet;
 use crate::permission_word::class_with;
 use cil_blocks::Namespaces;
@@ -130,7 +130,7 @@ impl<'a> Names<'a> {
         look::resolve(
             spaces,
             self.entries.as_slice(),
-            enabled.as_slice(),
+            Known::Enabled(enabled.as_slice()),
             word,
             scope,
         )

@@ -2,8 +2,11 @@
 
 ghost use Rattle.std.specs.Prelude.{◌≡◌};
 ghost use Rattle.std.specs.List.{list_all};
+ghost use Rattle.cil_macros.specs.Item.{is_enabled};
+ghost use Rattle.cil_macros.specs.Items.{item_at};
 ghost use Rattle.cil_names.specs.Entries.{is_in};
 
+use cil_macros::Instances;
 use std::marker::Model;
 
 /// A set of optionals: a flag for each number, and a number without one is not in it. Contracts see it as these flags.
@@ -42,16 +45,23 @@ impl OptSet {
         is_set(self.flags.as_slice(), optional)
     }
 
-    /// Whether all of these optionals are in the set.
-    pub fn has_all(&self, round: &[usize]) -> bool
-        ensures { result ≡ list_all (is_in self.now) round.now }
+    /// Whether all optionals round the statement at a place are in the set. It costs a step for each of them.
+    pub fn has_round(&self, instances: &Instances, at: usize) -> bool
+        ensures { result ≡ is_enabled (is_in self.now) (item_at instances.now at) }
     {
-        are_set(self.flags.as_slice(), round)
+        let mut place = at;
+        while let Some(optional) = instances.innermost(place) {
+            if !self.has(optional) {
+                return false;
+            }
+            place = optional;
+        }
+        true
     }
 }
 
 /// Whether the flag of an optional is true; a number without a flag has none.
-fn is_set(flags: &[bool], optional: usize) -> bool
+pub fn is_set(flags: &[bool], optional: usize) -> bool
     ensures { result ≡ is_in flags.now optional }
 {
     match flags.get(optional) {

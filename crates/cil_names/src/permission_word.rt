@@ -17,7 +17,7 @@ ghost use Rattle.cil_blocks.specs.Namespaces.{AreNamespaces};
 ghost use Rattle.cil_names.specs.Unresolved.{ArePermissions, listed_at as listed_for};
 
 use crate::entry::Entry;
-use crate::look::{entry_in, resolve};
+use crate::look::{Known, entry_in, resolve};
 use crate::numbers::place_among;
 use cil_blocks::Namespaces;
 use cil_syntax::{Bytes, Sign, Word};
@@ -35,7 +35,7 @@ pub fn class_named(
     ensures value { result ≡ meant spaces.now entries.now nobody (scoped spaces.now scope.now class.now) }
     ensures within { IfSome result (λ d. d < length entries.now) }
 {
-    resolve(spaces, entries, &[], class, scope)
+    resolve(spaces, entries, Known::Enabled(&[]), class, scope)
 }
 
 /// The permissions of the class that has the name of an entry, in byte order; none where no class has it. They are given

@@ -68,7 +68,7 @@ fn add_listed(
 {
     // What is known of the numbers of namespaces.
     instances.namespaces();
-    if !is_outside(instances.round(at)) {
+    if !instances.is_outside(at) {
         return Ok(());
     }
     let Some(statement) = instances.statement_there(at) else {
@@ -86,16 +86,6 @@ fn add_listed(
     let listed = mem::replace(&mut lists[class], Vec::new(alloc));
     lists[class] = with_names(alloc, listed, items)?;
     Ok(())
-}
-
-/// Whether there are no optionals.
-fn is_outside(round: &[usize]) -> bool
-    ensures { IsTrue result ↔ (round.now ≡ []) }
-{
-    match round {
-        [] => true,
-        [_, ..] => false,
-    }
 }
 
 /// Some names and those among terms, in byte order, each once.

@@ -1,6 +1,6 @@
 //! The rows from which the declared names are gathered: one for each declaration of an instance, and one for object_r.
 
-ghost use Rattle.std.specs.Prelude.{◌≡◌, ◌+◌, ◌<◌, IfOk, OnOk, length};
+ghost use Rattle.std.specs.Prelude.{◌≡◌, ◌↔◌, ◌+◌, ◌<◌, [], IfOk, IsTrue, OnOk, length};
 ghost use Rattle.cil_macros.specs.Items.{items_in};
 ghost use Rattle.cil_names.specs.DeclareRows.{AreAllRows, AreRowsUpTo, object_row, round_at, row_key};
 ghost use Rattle.cil_names.specs.Entries.{key_cmp};
@@ -90,13 +90,23 @@ impl Row<'_> {
             .then(rank_of(self.kind).cmp(&rank_of(other.kind)))
     }
 
-    /// The numbers of the optionals round the declaring instance.
-    pub fn round<'i>(&self, instances: &'i Instances) -> &'i [usize]
-        ensures { result.now ≡ round_at instances.now self.now.at }
+    /// Whether the declaring instance is in no optional.
+    pub fn is_outside(&self, instances: &Instances) -> bool
+        ensures { IsTrue result ↔ (round_at instances.now self.now.at ≡ []) }
     {
         match self.at {
-            Some(at) => instances.round(at),
-            None => &[],
+            Some(at) => instances.is_outside(at),
+            None => true,
+        }
+    }
+
+    /// The numbers of the optionals round the declaring instance.
+    pub fn round(&self, alloc: Global, instances: &Instances) -> Result<Vec<usize>, NoMemory>
+        ensures { IfOk result (λ round. round.items ≡ round_at instances.now self.now.at) }
+    {
+        match self.at {
+            Some(at) => instances.round(alloc, at),
+            None => Ok(Vec::new(alloc)),
         }
     }
 }

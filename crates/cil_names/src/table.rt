@@ -8,6 +8,7 @@ ghost use Rattle.cil_macros.specs.Item.{Item, all_words_in, words_in};
 ghost use Rattle.cil_names.specs.Readings.{IsFilling, enabled_by, item_read, meant_by, meant_there, module_of, scoped_there};
 ghost use Rattle.cil_names.specs.Rows.{IsTableOf};
 
+use crate::look::{Known, resolve};
 use crate::meaning::Meaning;
 use crate::names::Names;
 use crate::opt_set::OptSet;
@@ -36,6 +37,8 @@ pub struct Filling<'r, 's, 'p, 'a> {
     pub lookup: Lookup<'r, 'a>,
     /// The statement.
     pub reading: Reading<'r, 's, 'p, 'a>,
+    /// For each declared name whether it is declared where these optionals are enabled.
+    pub declared: &'r [bool],
     pub alloc: Global,
 }
 
@@ -116,11 +119,13 @@ impl<'r, 's, 'p, 'a> Filling<'r, 's, 'p, 'a> {
     {
         let scope = self.reading.scope_of(self.alloc, word)?;
         let lookup = &self.lookup;
-        let named = lookup.names.resolve(
+        lookup.spaces.are_namespaces();
+        let named = resolve(
             lookup.spaces,
+            lookup.names.entries(),
+            Known::Flagged(self.declared),
             &word.word,
             scope.as_slice(),
-            lookup.enabled,
         );
         Ok(named)
     }

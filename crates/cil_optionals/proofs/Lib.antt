@@ -1,4 +1,12 @@
+pub mod BoolLemmas
+pub mod CountLemmas
+pub mod DeclareLemmas
 mod Examples
 pub mod GreatestLemmas
 pub mod KeepLemmas
+pub mod PartLemmas
 pub mod PolicyLemmas
+pub mod RemovalLemmas
+pub mod RemovedLemmas
+pub mod ShownLemmas
+pub mod TimeLemmas

@@ -24,7 +24,7 @@ one_items modules xs ys a b =
     one_list placed_cmp placed_total (IsPlaced b.program b.standings) a.placed b.placed
     (subst (λ ss. Lists placed_cmp (IsPlaced b.program ss) a.placed) standings (subst (λ ws. Lists placed_cmp (IsPlaced ws a.standings) a.placed) program a.are_placed))
     b.are_placed in
-    a.items ∙ (λ i. map (item_of (program i) (standings i)) (placed i)) ∙ sym b.items
+    a.items ∙ (λ i. map (item_of (program i) (standings i) (placed i)) (placed i)) ∙ sym b.items
 
 pub one_policy : (modules : List (List ℕ)) (xs ys : List Item) (s t : OptSet) → ArePolicy modules xs s → ArePolicy modules ys t → (xs ≡ ys) × (s ≡ t)
 one_policy modules xs ys s t a b =

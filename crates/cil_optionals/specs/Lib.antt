@@ -1,4 +1,9 @@
 pub mod Certificate
+pub mod Counts
 pub mod Greatest
 pub mod Laws
+pub mod PartCounts
+pub mod Parts
 pub mod Policy
+pub mod Removals
+pub mod Times

@@ -2,11 +2,20 @@
 //!
 //! Start at `specs/Greatest.antt`, which says what set of optionals is the right one, over items as `Item.antt` of cil_macros
 //! has them; `specs/Certificate.antt` says what shows that a set is it; `specs/Policy.antt` what a policy is: the
-//! statements of modules with this set. `laws.rt` says that there is one such set and one such policy. How the set is found is
-//! not here yet.
+//! statements of modules with this set. `laws.rt` says that there is one such set and one such policy. `chosen.rt` finds it, and
+//! checks whether a set is it. `specs/Counts.antt` says how many steps that takes, and `counts.rt` counts them.
 #![tactic(auto)]
 
+mod checking;
+pub mod chosen;
+mod counts;
+mod declared;
+pub mod guesses;
 pub mod laws;
+mod part;
 mod reason;
+mod removal;
+mod times;
 
+pub use chosen::{Chosen, Counted, check, greatest, greatest_counted};
 pub use reason::Reason;

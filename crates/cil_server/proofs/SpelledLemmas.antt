@@ -12,11 +12,11 @@ use Rattle.std.proofs.lemmas.List.Sums.{fold-append}
 use Rattle.cil_sexpr.specs.Lists.{contains_cases, contains_none}
 use Rattle.cil_syntax.specs.Spelling.{same_bytes}
 use Rattle.cil_server.specs.Asked.{Line, alone, announced, asked, bodied, by_words, is_decimal, is_digit, longest_body, queried, value_of, words_of}
-use Rattle.cil_server.specs.Asked.Line.{Export, List_, Load, Quit, Ask, Install, Import, TooBig, Unknown}
+use Rattle.cil_server.specs.Asked.Line.{Export, List_, Load, Optionals, Quit, Why, Ask, Install, Import, TooBig, Unknown}
 use Rattle.cil_server.specs.Laws.{AskedAsSpelled, ReadAsWritten}
 use Rattle.cil_server.specs.Lines.{IsDecimal, IsWord, IsSpelled}
 use Rattle.cil_server.specs.Lines.IsDecimal.{digit, more}
-use Rattle.cil_server.specs.Lines.IsSpelled.{export, list, load, quit, install, import_, install_too_big, import_too_big, ask}
+use Rattle.cil_server.specs.Lines.IsSpelled.{export, list, load, optionals, quit, why, install, import_, install_too_big, import_too_big, ask}
 
 -- ---- numbers
 
@@ -167,7 +167,9 @@ unfolding asked alone
 spelled_asked line said export = refl
 spelled_asked line said list = refl
 spelled_asked line said load = refl
+spelled_asked line said optionals = refl
 spelled_asked line said quit = refl
+spelled_asked line said why = refl
 spelled_asked line said (install digits n is h) = install_asked digits n is ∙ body_fits Install n h
 spelled_asked line said (import_ digits n is h) = import_asked digits n is ∙ body_fits Import n h
 spelled_asked line said (install_too_big digits n is h) = install_asked digits n is ∙ body_too_big Install n h
@@ -187,7 +189,9 @@ alone_told w =
     choose w w (codes "EXPORT") Export _ (λ e. inr (subst (λ l. IsSpelled l Export) (sym e) export))
     (choose w w (codes "LIST") List_ _ (λ e. inr (subst (λ l. IsSpelled l List_) (sym e) list))
     (choose w w (codes "LOAD") Load _ (λ e. inr (subst (λ l. IsSpelled l Load) (sym e) load))
-    (choose w w (codes "QUIT") Quit _ (λ e. inr (subst (λ l. IsSpelled l Quit) (sym e) quit)) (inl refl))))
+    (choose w w (codes "OPTIONALS") Optionals _ (λ e. inr (subst (λ l. IsSpelled l Optionals) (sym e) optionals))
+    (choose w w (codes "QUIT") Quit _ (λ e. inr (subst (λ l. IsSpelled l Quit) (sym e) quit))
+    (choose w w (codes "WHY") Why _ (λ e. inr (subst (λ l. IsSpelled l Why) (sym e) why)) (inl refl))))))
 
 body_told : (line : List ℕ) (form : ℕ → Line) (n : ℕ) → (n ≤ longest_body → IsSpelled line (form n)) → (longest_body < n → IsSpelled line TooBig)
     → IsToldBy line (bodied form n)

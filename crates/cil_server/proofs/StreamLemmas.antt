@@ -226,5 +226,10 @@ module _ {X : Type 0} (f : X → List ℕ) (front : List ℕ) (items : List X) (
       subst (Tells w u) (append_assoc front (flat_map f (take i items)) (f (get_or items i d)) ∙ ap (λ z. front ++ z) (sym all))
       (tells_both w v u (front ++ flat_map f (take i items)) (f (get_or items i d)) told more)
 
+  -- the same, for an item that stands there
+  pub items_next : (u : OutputState) (i : ℕ) (x : X) → i < length items → x ≡ get_or items i x → Tells w v (front ++ flat_map f (take i items)) → Tells v u (f x)
+      → Tells w u (front ++ flat_map f (take (i + 1) items))
+  items_next u i x within is told more = items_more u i x within told (subst (λ z. Tells v u (f z)) is more)
+
   pub items_all : (i : ℕ) → length items ≤ i → Tells w v (front ++ flat_map f (take i items)) → Tells w v (front ++ flat_map f items)
   items_all i over told = subst (λ z. Tells w v (front ++ flat_map f z)) (take_all i items over) told

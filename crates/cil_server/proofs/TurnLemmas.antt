@@ -11,11 +11,17 @@ use Rattle.cil_host.specs.declared.fault.QueryFault.{QueryFault}
 use Rattle.cil_host.specs.declared.host.ListLine.{ListLine}
 use Rattle.cil_host.specs.declared.host.Loaded.{Loaded}
 use Rattle.cil_host.specs.Listed.{line_of}
-use Rattle.cil_host.specs.Machine.{Queries, State}
+use Rattle.std.specs.Global.{Vec}
+use Rattle.cil_decide.specs.declared.lines.OptionalLine.{OptionalLine}
+use Rattle.cil_decide.specs.declared.lines.WhyLine.{WhyLine}
+use Rattle.cil_host.specs.declared.fault.HostError.{HostError}
+use Rattle.cil_host.specs.declared.fault.HostError.TheVariants as errors
+use Rattle.cil_host.specs.Machine.{Queries, State, TellsNothing, TellsOptionals, TellsWhy}
 use Rattle.cil_host.specs.Refusal.{Loads as LoadsHost}
-use Rattle.cil_server.specs.Asked.Request.{Asks, Exports, Lists, Loads}
-use Rattle.cil_server.specs.Replies.{newline, no_memory, of_decision, of_export, of_list, of_query_fault, ok, spaced}
-use Rattle.cil_server.specs.Step.{MayLack, Step}
+use Rattle.cil_server.specs.Asked.{Request}
+use Rattle.cil_server.specs.Asked.Request.{Asks, AsksOptionals, AsksWhy, Exports, Lists, Loads}
+use Rattle.cil_server.specs.Replies.{newline, no_memory, of_decision, of_export, of_host_error, of_list, of_optionals, of_query_fault, of_why, ok, refused, spaced}
+use Rattle.cil_server.specs.Step.{MayLack, NeedsPolicy, Step}
 use Rattle.cil_server.specs.Turns.{IsAnswered, TellsDecision}
 
 -- ---- replies
@@ -48,6 +54,33 @@ module _ (tells : List ℕ → Type 0) where
   load_lacks old new failure r e l told =
       let same : LoadsHost old new (Err failure) = subst (LoadsHost old new) e l in
       record { reply = no_memory; step = subst (λ h. Step old Loads no_memory h) (sym same.1) (Step.lack MayLack.loads); told = told }
+
+  -- no policy is loaded, or there is no memory
+  pub declined_by_host : (h : State) (request : Request) (e : HostError) → NeedsPolicy request → MayLack request → TellsNothing h e → tells (of_host_error e)
+      → IsAnswered h request h tells
+  declined_by_host h request (errors.Query fault) needs lacks none told =
+      record { reply = refused 71; step = Step.no_policy needs none.1; told = subst (λ f. tells (of_query_fault f)) none.0 told }
+  declined_by_host h request errors.NoMemory needs lacks none told = record { reply = no_memory; step = Step.lack lacks; told = told }
+
+  pub optionals_told : (h : State) (r : Result (Vec OptionalLine) HostError) (v : Vec OptionalLine) (lines : List OptionalLine) → r ≡ Ok v → lines ≡ v.items → TellsOptionals h r
+      → tells (of_optionals lines) → IsAnswered h AsksOptionals h tells
+  optionals_told h r v lines is same there told = record {
+    reply = of_optionals v.items;
+    step = Step.optionals v.items (subst (TellsOptionals h) is there);
+    told = subst (λ z. tells (of_optionals z)) same told;
+  }
+
+  pub optionals_declined : (h : State) (r : Result (Vec OptionalLine) HostError) (e : HostError) → r ≡ Err e → TellsOptionals h r → tells (of_host_error e)
+      → IsAnswered h AsksOptionals h tells
+  optionals_declined h r e is there told = declined_by_host h AsksOptionals e NeedsPolicy.optionals MayLack.optionals (subst (TellsOptionals h) is there) told
+
+  pub why_told : (h : State) (r : Result (Vec WhyLine) HostError) (v : Vec WhyLine) (lines : List WhyLine) → r ≡ Ok v → lines ≡ v.items → TellsWhy h r
+      → tells (of_why lines) → IsAnswered h AsksWhy h tells
+  why_told h r v lines is same there told =
+      record { reply = of_why v.items; step = Step.why v.items (subst (TellsWhy h) is there); told = subst (λ z. tells (of_why z)) same told }
+
+  pub why_declined : (h : State) (r : Result (Vec WhyLine) HostError) (e : HostError) → r ≡ Err e → TellsWhy h r → tells (of_host_error e) → IsAnswered h AsksWhy h tells
+  why_declined h r e is there told = declined_by_host h AsksWhy e NeedsPolicy.why MayLack.why (subst (TellsWhy h) is there) told
 
   pub decided : (old new : State) (source target class_name : List ℕ) (d : Decision) (r : Result Decision QueryFault) → r ≡ Ok d → Queries old source target class_name r
       → new ≡ old → TellsDecision new class_name d tells → IsAnswered old (Asks source target class_name) new tells

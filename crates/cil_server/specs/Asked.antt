@@ -13,7 +13,7 @@ longest_body = 67108864
 
 -- what a line asks for: by itself, or with so many bytes that follow it
 pub data Line : Type 0 where
-  Export List_ Load Quit : Line
+  Export List_ Load Optionals Quit Why : Line
   Ask : List ℕ → List ℕ → List ℕ → Line
   Install Import : ℕ → Line
   TooBig : Line
@@ -44,7 +44,8 @@ words_of = slice_split (λ b. b == 32)
 unfoldable pub alone : List ℕ → Line
 alone word =
     if same_bytes word (codes "EXPORT") then Export else (if same_bytes word (codes "LIST") then List_ else (if same_bytes word (codes "LOAD") then Load else
-    (if same_bytes word (codes "QUIT") then Quit else Unknown)))
+    (if same_bytes word (codes "OPTIONALS") then Optionals else (if same_bytes word (codes "QUIT") then Quit else
+    (if same_bytes word (codes "WHY") then Why else Unknown)))))
 
 -- a body of so many bytes
 abbrev pub bodied : (ℕ → Line) → ℕ → Line
@@ -79,7 +80,7 @@ asked line = by_words (words_of line)
 -- a whole request, its body included
 pub data Request : Type 0 where
   Installs Imports : List ℕ → Request
-  Exports Lists Loads Unasked : Request
+  Exports Lists Loads AsksOptionals AsksWhy Unasked : Request
   Asks : List ℕ → List ℕ → List ℕ → Request
 
 -- how many bytes of body follow
@@ -89,7 +90,9 @@ body_of (Import n) = n
 body_of Export = 0
 body_of List_ = 0
 body_of Load = 0
+body_of Optionals = 0
 body_of Quit = 0
+body_of Why = 0
 body_of (Ask s t c) = 0
 body_of TooBig = 0
 body_of Unknown = 0
@@ -101,6 +104,8 @@ request_of (Import n) body = Some (Imports body)
 request_of Export body = Some Exports
 request_of List_ body = Some Lists
 request_of Load body = Some Loads
+request_of Optionals body = Some AsksOptionals
+request_of Why body = Some AsksWhy
 request_of (Ask s t c) body = Some (Asks s t c)
 request_of Unknown body = Some Unasked
 request_of Quit body = None

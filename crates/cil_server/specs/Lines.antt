@@ -1,7 +1,7 @@
 -- The lines of a session as they are spelled: words parted by one space, and numbers in decimal. This project's profile.
 use Rattle.std.specs.Prelude.{ℕ, ◌+◌, ◌*◌, ◌<◌, ◌≤◌, List, [], ◌∷◌, ◌++◌, length, Contains, codes}
 use Rattle.cil_server.specs.Asked.{Line, longest_body}
-use Rattle.cil_server.specs.Asked.Line.{Export, List_, Load, Quit, Ask, Install, Import, TooBig}
+use Rattle.cil_server.specs.Asked.Line.{Export, List_, Load, Optionals, Quit, Why, Ask, Install, Import, TooBig}
 
 -- the digits are the decimal of the number, without needless zeros: one digit, or the decimal of a number that is not 0
 -- and one digit more. The byte of the digit 0 is 48
@@ -19,7 +19,9 @@ pub data IsSpelled : List ℕ → Line → Type 0 where
   export : IsSpelled (codes "EXPORT") Export
   list : IsSpelled (codes "LIST") List_
   load : IsSpelled (codes "LOAD") Load
+  optionals : IsSpelled (codes "OPTIONALS") Optionals
   quit : IsSpelled (codes "QUIT") Quit
+  why : IsSpelled (codes "WHY") Why
   -- a number of bytes that follow the line
   install : (digits : List ℕ) (n : ℕ) → IsDecimal digits n → n ≤ longest_body → IsSpelled (codes "INSTALL " ++ digits) (Install n)
   import_ : (digits : List ℕ) (n : ℕ) → IsDecimal digits n → n ≤ longest_body → IsSpelled (codes "IMPORT " ++ digits) (Import n)

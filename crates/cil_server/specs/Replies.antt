@@ -1,5 +1,5 @@
 -- The replies of a session, with the newline that ends each. This project's profile.
-use Rattle.std.specs.Prelude.{ℕ, List, [], ◌∷◌, ◌++◌, length, Result, Ok, Err, codes, decimal}
+use Rattle.std.specs.Prelude.{ℕ, Bool, true, false, List, [], ◌∷◌, ◌++◌, length, Option, Some, None, Result, Ok, Err, codes, decimal}
 use Rattle.std.specs.List.{flat_map}
 use Rattle.hex.specs.Hex.{encode_lower}
 use Rattle.cil_sexpr.specs.declared.fault.ReadError.{ReadError}
@@ -16,7 +16,11 @@ use Rattle.cil_modset.specs.Faults.{number_of as bundle_number}
 use Rattle.cil_syntax.specs.declared.failure.Failure.{Failure}
 use Rattle.cil_syntax.specs.declared.failure.Failure.TheVariants as failures
 use Rattle.cil_syntax.specs.declared.fault.Fault.{Fault}
-use Rattle.cil_syntax.specs.Printed.{printed}
+use Rattle.cil_syntax.specs.Printed.{printed, printed_space}
+use Rattle.cil_decide.specs.declared.lines.OptionalLine.{OptionalLine}
+use Rattle.cil_decide.specs.declared.lines.WhyLine.{WhyLine}
+use Rattle.cil_host.specs.declared.fault.HostError.{HostError}
+use Rattle.cil_host.specs.declared.fault.HostError.TheVariants as errors
 use Rattle.cil_host.specs.declared.fault.QueryFault.{QueryFault}
 use Rattle.cil_host.specs.declared.fault.QueryFault.TheVariants as query
 use Rattle.cil_host.specs.declared.host.ListLine.{ListLine}
@@ -81,6 +85,32 @@ of_line line = encode_lower line.digest ++ spaced line.length ++ newline
 abbrev pub of_list : List ListLine → List ℕ
 of_list lines = ok_number (length lines) ++ flat_map of_line lines
 
+-- an optional: the number of its module, its place there, its namespace and its label
+abbrev pub of_optional : ℕ → ℕ → List ℕ → List ℕ → List ℕ
+of_optional number at space label = decimal number ++ spaced at ++ (32 ∷ printed_space space) ++ (32 ∷ label)
+
+-- whether an optional is in force
+abbrev pub of_standing : Bool → List ℕ
+of_standing true = codes " in" ++ newline
+of_standing false = codes " out" ++ newline
+
+abbrev pub of_optional_line : OptionalLine → List ℕ
+of_optional_line line = of_optional line.«module» line.at line.space line.label ++ of_standing line.enabled
+
+abbrev pub of_optionals : List OptionalLine → List ℕ
+of_optionals lines = ok_number (length lines) ++ flat_map of_optional_line lines
+
+-- why an optional is left out: a word names nothing, or the optional round it is left out
+abbrev pub of_reason : Option (List ℕ) → List ℕ
+of_reason None = codes " parent" ++ newline
+of_reason (Some word) = codes " missing" ++ (32 ∷ word) ++ newline
+
+abbrev pub of_why_line : WhyLine → List ℕ
+of_why_line line = of_optional line.«module» line.at line.space line.label ++ of_reason line.missing
+
+abbrev pub of_why : List WhyLine → List ℕ
+of_why lines = ok_number (length lines) ++ flat_map of_why_line lines
+
 abbrev pub of_faults : List Fault → List ℕ
 of_faults faults = codes "FAULTS" ++ spaced (length faults) ++ newline ++ printed faults
 
@@ -106,3 +136,7 @@ of_query_fault query.NoPolicy = refused 71
 of_query_fault query.BadSource = refused_at 72 1
 of_query_fault query.BadTarget = refused_at 72 2
 of_query_fault query.NoClass = refused 73
+
+abbrev pub of_host_error : HostError → List ℕ
+of_host_error (errors.Query fault) = of_query_fault fault
+of_host_error errors.NoMemory = no_memory

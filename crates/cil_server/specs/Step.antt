@@ -1,25 +1,24 @@
 -- One request of the model host: its reply, and the host that it leaves. This project's profile.
-use Rattle.std.specs.Prelude.{◌≡◌, ◌↔◌, ◌<◌, ℕ, List, [], ◌∷◌, ◌+◌, map, length, Contains, Result, Ok, Err, IfErr, IfOk, OnErr, OnOk, IsBitSet}
+use Rattle.std.specs.Prelude.{◌≡◌, ◌<◌, ℕ, List, map, None, Result, Ok, Err, IsBitSet}
 use Rattle.cil_sexpr.specs.declared.fault.ReadError.{ReadError}
 use Rattle.cil_sexpr.specs.Lists.{Lists as ListsOf, text_cmp}
-use Rattle.cil_sexpr.specs.Refusal.{Refuses}
-use Rattle.cil_sexpr.specs.Text.{IsReadable}
 use Rattle.cil_modset.specs.Bundle.{bundle}
 use Rattle.cil_modset.specs.Changes.{IsImported, IsInstalled}
 use Rattle.cil_modset.specs.declared.error.BundleError.{BundleError}
 use Rattle.cil_modset.specs.declared.set.Installed.{Installed}
-use Rattle.cil_modset.specs.declared.set.Installed.TheVariants as installed
 use Rattle.cil_syntax.specs.declared.failure.Failure.{Failure}
 use Rattle.cil_decide.specs.declared.decision.Decision.{Decision}
 use Rattle.cil_host.specs.declared.fault.QueryFault.{QueryFault}
 use Rattle.cil_host.specs.declared.host.Loaded.{Loaded}
 use Rattle.cil_host.specs.Listed.{line_of}
-use Rattle.cil_host.specs.Machine.{OfLoaded, Queries, State}
+use Rattle.cil_decide.specs.declared.lines.OptionalLine.{OptionalLine}
+use Rattle.cil_decide.specs.declared.lines.WhyLine.{WhyLine}
+use Rattle.cil_host.specs.Machine.{AreOptionalLines, AreWhyLines, OfAccepted, OfLoaded, Queries, State}
 use Rattle.cil_host.specs.Permissions.{IsPermissionOf}
 use Rattle.cil_host.specs.Refusal.{Loads as LoadsHost}
 use Rattle.cil_server.specs.Asked.{Request}
-use Rattle.cil_server.specs.Asked.Request.{Installs, Imports, Exports, Lists, Loads, Unasked, Asks}
-use Rattle.cil_server.specs.Replies.{no_memory, of_decision, of_export, of_import, of_install, of_list, of_load, of_query_fault, refused}
+use Rattle.cil_server.specs.Asked.Request.{Installs, Imports, Exports, Lists, Loads, AsksOptionals, AsksWhy, Unasked, Asks}
+use Rattle.cil_server.specs.Replies.{no_memory, of_decision, of_export, of_import, of_install, of_list, of_load, of_optionals, of_query_fault, of_why, refused}
 
 -- ---- names of masks
 
@@ -47,6 +46,13 @@ pub data MayLack : Request → Type 0 where
   exports : MayLack Exports
   lists : MayLack Lists
   loads : MayLack Loads
+  optionals : MayLack AsksOptionals
+  why : MayLack AsksWhy
+
+-- the requests that are of the loaded policy, and have no other faults
+pub data NeedsPolicy : Request → Type 0 where
+  optionals : NeedsPolicy AsksOptionals
+  why : NeedsPolicy AsksWhy
 
 -- from a host, a request may get this reply and leave that host
 pub data Step : State → Request → List ℕ → State → Type 0 where
@@ -57,6 +63,9 @@ pub data Step : State → Request → List ℕ → State → Type 0 where
   export_ : {h : State} → Step h Exports (of_export (bundle h.modules)) h
   list : {h : State} → Step h Lists (of_list (map line_of h.modules)) h
   load : {old new : State} (result : Result Loaded Failure) → LoadsHost old new result → Step old Loads (of_load result) new
+  optionals : {h : State} (lines : List OptionalLine) → OfLoaded h (AreOptionalLines lines) → Step h AsksOptionals (of_optionals lines) h
+  why : {h : State} (lines : List WhyLine) → OfAccepted h (AreWhyLines lines) → Step h AsksWhy (of_why lines) h
+  no_policy : {h : State} {request : Request} → NeedsPolicy request → h.loaded ≡ None → Step h request (refused 71) h
   decide : {h : State} {source target class_name : List ℕ} (d : Decision) (allowed auditallow auditdeny : List (List ℕ))
       → Queries h source target class_name (Ok d) → NamesOf h class_name d.allowed allowed → NamesOf h class_name d.auditallow auditallow
       → NamesOf h class_name d.auditdeny auditdeny → Step h (Asks source target class_name) (of_decision allowed auditallow auditdeny) h

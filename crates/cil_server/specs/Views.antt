@@ -3,7 +3,7 @@ use Rattle.std.specs.Prelude.{◌≡◌, ℕ, suc, ◌<◌, ◌≤◌, List, [],
 use Rattle.cil_server.specs.Asked.{Line, by_words, longest_body, longest_line}
 use Rattle.cil_server.specs.Streams.{buffer_size}
 use Rattle.cil_server.specs.declared.session.Buffers.{Buffers}
-use Rattle.cil_server.specs.Asked.Line.{Export, List_, Load, Quit, Ask, Install, Import, TooBig, Unknown}
+use Rattle.cil_server.specs.Asked.Line.{Export, List_, Load, Optionals, Quit, Why, Ask, Install, Import, TooBig, Unknown}
 use Rattle.cil_server.specs.declared.line.Line.{Line as Read}
 use Rattle.cil_server.specs.declared.line.Line.TheVariants as read
 use Rattle.cil_server.specs.declared.line.Words.{Words}
@@ -13,7 +13,9 @@ abbrev pub line_of : Read → Line
 line_of read.Export = Export
 line_of read.List = List_
 line_of read.Load = Load
+line_of read.Optionals = Optionals
 line_of read.Quit = Quit
+line_of read.Why = Why
 line_of (read.Ask q) = Ask q.source.now q.target.now q.class.now
 line_of (read.Install n) = Install n
 line_of (read.Import n) = Import n

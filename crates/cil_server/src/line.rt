@@ -11,7 +11,9 @@ pub(crate) enum Line<'a> {
     Export,
     List,
     Load,
+    Optionals,
     Quit,
+    Why,
     Ask(Query<'a>),
     /// INSTALL, and how many bytes of body follow.
     Install(usize),
@@ -95,8 +97,14 @@ fn alone(word: &[u8]) -> Line<'static>
     if word == b"LOAD".as_slice() {
         return Line::Load;
     }
+    if word == b"OPTIONALS".as_slice() {
+        return Line::Optionals;
+    }
     if word == b"QUIT".as_slice() {
         return Line::Quit;
+    }
+    if word == b"WHY".as_slice() {
+        return Line::Why;
     }
     Line::Unknown
 }

@@ -1,27 +1,35 @@
 //! The replies, written piece by piece, so that none of them needs memory.
 
-ghost use Rattle.std.specs.Prelude.{◌<◌, ◌++◌, ℕ, List, MatchOption, codes};
+ghost use Rattle.std.specs.Prelude.{◌≡◌, ◌<◌, ◌++◌, ◌∷◌, ℕ, List, MatchOption, codes, decimal};
 ghost use Rattle.hex.specs.Hex.{encode_lower};
-ghost use Rattle.cil_server.specs.Replies.{newline, of_bundle_fault, of_export, of_import, of_install, of_line, of_list, of_query_fault, ok_number, refused, refused_at, spaced};
+ghost use Rattle.cil_syntax.specs.Printed.{printed_space};
+ghost use Rattle.cil_server.specs.Replies.{newline, of_bundle_fault, of_export, of_host_error, of_import, of_install, of_line, of_list, of_optional, of_optional_line, of_optionals, of_query_fault, of_reason, of_standing, of_why, of_why_line, ok_number, refused, refused_at, spaced};
 ghost use Rattle.cil_server.specs.Step.{IsNamed};
 ghost use Rattle.cil_server.specs.Streams.{Tells};
 ghost use Rattle.cil_server.specs.Turns.{IsPlaced, TellsDecision, TellsName, TellsNames};
 
 use crate::devices::Sink;
 use crate::output::Output;
-use cil_decide::Decision;
-use cil_host::{Host, ListLine, QueryFault};
+use cil_decide::{Decision, OptionalLine, WhyLine};
+use cil_host::{Host, HostError, ListLine, QueryFault};
 use cil_modset::{BundleError, BundleFault, Installed};
 use cil_sexpr::ReadError;
+use cil_syntax::Bytes;
 use itoa::Buffer;
+
+fn put_decimal<W: Sink>(output: &mut Output<'_, W>, number: u64)
+    ensures { Tells output.old output.new (decimal number) }
+{
+    let mut buffer = Buffer::new();
+    output.put(buffer.format(number).as_bytes());
+}
 
 /// A number behind a space.
 fn put_number<W: Sink>(output: &mut Output<'_, W>, number: u64)
     ensures { Tells output.old output.new (spaced number) }
 {
     output.put(b" ");
-    let mut buffer = Buffer::new();
-    output.put(buffer.format(number).as_bytes());
+    put_decimal(output, number);
 }
 
 pub(crate) fn put_ok_number<W: Sink>(output: &mut Output<'_, W>, number: u64)
@@ -129,6 +137,97 @@ fn put_digest<W: Sink>(output: &mut Output<'_, W>, digest: [u8; 32])
     output.put(&digits);
 }
 
+pub(crate) fn put_optionals<W: Sink>(output: &mut Output<'_, W>, lines: &[OptionalLine])
+    ensures { Tells output.old output.new (of_optionals lines.now) }
+{
+    put_ok_number(output, lines.len() as u64);
+    for line in lines {
+        put_optional_line(output, line);
+    }
+}
+
+fn put_optional_line<W: Sink>(output: &mut Output<'_, W>, line: &OptionalLine)
+    ensures { Tells output.old output.new (of_optional_line line.now) }
+{
+    put_optional(output, line.module, line.at, &line.space, &line.label);
+    put_standing(output, line.enabled);
+}
+
+/// Whether an optional is in force.
+fn put_standing<W: Sink>(output: &mut Output<'_, W>, enabled: bool)
+    ensures { Tells output.old output.new (of_standing enabled) }
+{
+    if enabled {
+        output.put(b" in\n");
+    } else {
+        output.put(b" out\n");
+    }
+}
+
+pub(crate) fn put_why<W: Sink>(output: &mut Output<'_, W>, lines: &[WhyLine])
+    ensures { Tells output.old output.new (of_why lines.now) }
+{
+    put_ok_number(output, lines.len() as u64);
+    for line in lines {
+        put_why_line(output, line);
+    }
+}
+
+fn put_why_line<W: Sink>(output: &mut Output<'_, W>, line: &WhyLine)
+    ensures { Tells output.old output.new (of_why_line line.now) }
+{
+    put_optional(output, line.module, line.at, &line.space, &line.label);
+    put_reason(output, &line.missing);
+}
+
+/// Why an optional is left out.
+fn put_reason<W: Sink>(output: &mut Output<'_, W>, missing: &Option<Bytes>)
+    ensures { Tells output.old output.new (of_reason missing.now) }
+{
+    match missing {
+        None => output.put(b" parent\n"),
+        Some(word) => {
+            output.put(b" missing");
+            put_word(output, word.as_slice());
+            output.put(b"\n");
+        }
+    }
+}
+
+/// An optional, by the number of its module, its place there, its namespace and its label.
+fn put_optional<W: Sink>(
+    output: &mut Output<'_, W>,
+    number: u64,
+    at: u64,
+    space: &Bytes,
+    label: &Bytes,
+)
+    ensures { Tells output.old output.new (of_optional number at space.now label.now) }
+{
+    put_decimal(output, number);
+    put_number(output, at);
+    put_word(output, printed_space(space.as_slice()));
+    put_word(output, label.as_slice());
+}
+
+/// A word behind a space.
+fn put_word<W: Sink>(output: &mut Output<'_, W>, word: &[u8])
+    ensures { Tells output.old output.new (32 ∷ word.now) }
+{
+    output.put(b" ");
+    output.put(word);
+}
+
+/// A namespace as it is printed: a dot for the global one.
+fn printed_space(space: &[u8]) -> &[u8]
+    ensures { result.now ≡ printed_space space.now }
+{
+    match space {
+        [] => b".".as_slice(),
+        names => names,
+    }
+}
+
 /// The lines of some faults, and how many there are.
 pub(crate) fn put_faults<W: Sink>(output: &mut Output<'_, W>, count: usize, lines: &[u8])
     ensures { Tells output.old output.new (codes "FAULTS" ++ spaced count ++ newline ++ lines.now) }
@@ -137,6 +236,15 @@ pub(crate) fn put_faults<W: Sink>(output: &mut Output<'_, W>, count: usize, line
     put_number(output, count as u64);
     output.put(b"\n");
     output.put(lines);
+}
+
+pub(crate) fn put_host_error<W: Sink>(output: &mut Output<'_, W>, error: HostError)
+    ensures { Tells output.old output.new (of_host_error error) }
+{
+    match error {
+        HostError::Query(fault) => put_query_fault(output, fault),
+        HostError::NoMemory => put_refused(output, 0),
+    }
 }
 
 pub(crate) fn put_query_fault<W: Sink>(output: &mut Output<'_, W>, fault: QueryFault)

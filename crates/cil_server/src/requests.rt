@@ -1,15 +1,15 @@
 //! The requests, each asked of the host and answered. None is begun once the writer has failed.
 
 ghost use Rattle.std.specs.Prelude.{◌≡◌, false};
-ghost use Rattle.cil_server.specs.Asked.Request.{Asks, Exports, Imports, Installs, Lists, Loads};
+ghost use Rattle.cil_server.specs.Asked.Request.{Asks, Exports, Imports, Installs, Lists, Loads, AsksOptionals, AsksWhy};
 ghost use Rattle.cil_server.specs.Streams.{Tells};
 ghost use Rattle.cil_server.specs.Turns.{IsAnswered};
 
 use crate::devices::Sink;
 use crate::output::Output;
 use crate::replies::{
-    put_bundle, put_decision, put_faults, put_imported, put_installed, put_lines, put_query_fault,
-    put_refused,
+    put_bundle, put_decision, put_faults, put_host_error, put_imported, put_installed, put_lines,
+    put_optionals, put_query_fault, put_refused, put_why,
 };
 use cil_host::Host;
 use cil_modset::NoMemory;
@@ -78,6 +78,28 @@ pub(crate) fn load<S: Drop, W: Sink>(alloc: Global, host: &mut Host<S>, output: 
             Err(NoMemory) => put_refused(output, 0),
         },
         Err(Failure::NoMemory) => put_refused(output, 0),
+    }
+}
+
+/// OPTIONALS: tells a line for each optional of the loaded policy.
+pub(crate) fn optionals<S: Drop, W: Sink>(alloc: Global, host: &Host<S>, output: &mut Output<'_, W>)
+    requires { output.old.has_failed ≡ false }
+    ensures { IsAnswered host.now AsksOptionals host.now (Tells output.old output.new) }
+{
+    match host.optionals(alloc) {
+        Ok(lines) => put_optionals(output, lines.as_slice()),
+        Err(error) => put_host_error(output, error),
+    }
+}
+
+/// WHY: tells a line for each optional that is left out.
+pub(crate) fn why<S: Drop, W: Sink>(alloc: Global, host: &Host<S>, output: &mut Output<'_, W>)
+    requires { output.old.has_failed ≡ false }
+    ensures { IsAnswered host.now AsksWhy host.now (Tells output.old output.new) }
+{
+    match host.why(alloc) {
+        Ok(lines) => put_why(output, lines.as_slice()),
+        Err(error) => put_host_error(output, error),
     }
 }
 

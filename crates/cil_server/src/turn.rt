@@ -15,7 +15,7 @@ ghost use Rattle.cil_server.specs.declared.turn.Turn.{Turn};
 use crate::devices::{Sink, Source};
 use crate::line::{Line, Query};
 use crate::replies::put_refused;
-use crate::requests::{ask, export, import, install, list, load};
+use crate::requests::{ask, export, import, install, list, load, optionals, why};
 use crate::served::Served;
 use crate::streams::{Body, Streams};
 use cil_host::Host;
@@ -55,6 +55,8 @@ impl<'r, 'w, R: Source, W: Sink> Streams<'r, 'w, R, W> {
             Line::Export => export(alloc, host, &mut self.output),
             Line::List => list(alloc, host, &mut self.output),
             Line::Load => load(alloc, host, &mut self.output),
+            Line::Optionals => optionals(alloc, host, &mut self.output),
+            Line::Why => why(alloc, host, &mut self.output),
             Line::Ask(
                 Query {
                     source,

@@ -173,11 +173,12 @@ declared_in_macro = (refl, refl, refl)
 abbrev of_word : List ℕ → Node
 of_word first = list 0 (next (word 1 first) (next (string 30) none))
 
--- `(filecon "a")` on top and in a macro, `(block "a")` on top, `(macro "a")` in a macro, and `(optional "a")`, which is not taken yet
+-- `(filecon "a")` on top and in a macro, `(block "a")` on top, `(macro "a")` in a macro, `(optional "a")` in a macro, and `(booleanif "a")`, which is not taken yet
 by_first_word : (verdict_of 7 at_top (of_word (codes "filecon")) ≡ Shaped (record { keyword = keywords.SetAside; at = spot 0; args = nil }) [])
     × (verdict_of 7 in_macro (of_word (codes "filecon")) ≡ Refused (fault causes.BadPlace 0 (codes "filecon")))
     × (verdict_of 7 at_top (of_word (codes "block")) ≡ Refused (fault causes.BadShape 0 (codes "block")))
     × (verdict_of 7 in_macro (of_word (codes "macro")) ≡ Refused (fault causes.BadPlace 0 (codes "macro")))
-    × (verdict_of 7 at_top (of_word (codes "optional")) ≡ Refused (fault causes.Unsupported 0 (codes "optional")))
+    × (verdict_of 7 in_macro (of_word (codes "optional")) ≡ Refused (fault causes.BadShape 0 (codes "optional")))
+    × (verdict_of 7 at_top (of_word (codes "booleanif")) ≡ Refused (fault causes.Unsupported 0 (codes "booleanif")))
 unfolding verdict_of cells_of cell_of read_row read_word read_string read_list effective entry_of set_aside_words later_words left_out_words
-by_first_word = (refl, refl, refl, refl, refl)
+by_first_word = (refl, refl, refl, refl, refl, refl)

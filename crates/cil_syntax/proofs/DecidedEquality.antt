@@ -47,7 +47,8 @@ keyword_number keywords.BlockAbstract = 8
 keyword_number keywords.BlockInherit = 9
 keyword_number keywords.Macro = 10
 keyword_number keywords.Call = 11
-keyword_number keywords.SetAside = 12
+keyword_number keywords.Optional = 12
+keyword_number keywords.SetAside = 13
 
 keyword_at : ℕ → Keyword
 keyword_at n =
@@ -63,7 +64,8 @@ keyword_at n =
     else (if n == 9 then keywords.BlockInherit
     else (if n == 10 then keywords.Macro
     else (if n == 11 then keywords.Call
-    else keywords.SetAside)))))))))))
+    else (if n == 12 then keywords.Optional
+    else keywords.SetAside))))))))))))
 
 keyword_back : (k : Keyword) → keyword_at (keyword_number k) ≡ k
 unfolding keyword_number keyword_at
@@ -79,6 +81,7 @@ keyword_back keywords.BlockAbstract = refl
 keyword_back keywords.BlockInherit = refl
 keyword_back keywords.Macro = refl
 keyword_back keywords.Call = refl
+keyword_back keywords.Optional = refl
 keyword_back keywords.SetAside = refl
 
 pub keyword_is : (a b : Keyword) → Decided (a ≡ b)

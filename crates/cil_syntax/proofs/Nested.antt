@@ -45,6 +45,7 @@ begun keywords.BlockInherit m ns ts fit = word_begun m _ _ ns ts fit
 begun keywords.Macro m ns ts fit = name_begun m _ ns ts fit
 begun keywords.Call m ns ts (as_many count first second xs us long fit) = word_begun m _ _ ns ts fit
 begun keywords.Call m ns ts (not_as_many count first second xs us other fit) = word_begun m _ _ ns ts fit
+begun keywords.Optional m ns ts fit = name_begun m _ ns ts fit
 begun keywords.SetAside m ns ts fit = refl
 
 -- ---- entries and keywords
@@ -68,6 +69,7 @@ keyword_is keywords.BlockAbstract = refl
 keyword_is keywords.BlockInherit = refl
 keyword_is keywords.Macro = refl
 keyword_is keywords.Call = refl
+keyword_is keywords.Optional = refl
 keyword_is keywords.SetAside = refl
 
 own_entry : (k : Keyword) → IsOwn (entry_of k)
@@ -91,7 +93,7 @@ own_in entry c =
     elim (Contains-append_cases effective (map set_aside set_aside_words) entry c) [
       | inl d ↦ of_mapped entry_of IsOwn own_entry
           (keywords.Type_ ∷ keywords.Role ∷ keywords.User ∷ keywords.Class ∷ keywords.RoleType ∷ keywords.UserRole ∷ keywords.Allow
-          ∷ keywords.Block ∷ keywords.BlockAbstract ∷ keywords.BlockInherit ∷ keywords.Macro ∷ keywords.Call ∷ []) entry d
+          ∷ keywords.Block ∷ keywords.BlockAbstract ∷ keywords.BlockInherit ∷ keywords.Macro ∷ keywords.Call ∷ keywords.Optional ∷ []) entry d
       | inr d ↦ of_mapped set_aside IsOwn own_aside set_aside_words entry d
     ]
 

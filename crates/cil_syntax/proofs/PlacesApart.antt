@@ -85,6 +85,7 @@ behind_word c keywords.BlockAbstract = tt
 behind_word c keywords.BlockInherit = tt
 behind_word c keywords.Macro = omega arith
 behind_word c keywords.Call = tt
+behind_word c keywords.Optional = omega arith
 behind_word c keywords.SetAside = tt
 
 pub behind_verdict : (c : Context) (v : Verdict) → IsBehind (opening_of c v)

@@ -82,7 +82,7 @@ effective_plain = (
             (tt, (tt, tt)),
             (
               (tt, ((tt, (tt, (tt, tt))), ((tt, ((λ e. cc), (tt, (tt, tt)))), tt))),
-              ((tt, tt), ((tt, tt), ((tt, tt), ((tt, (((λ e. cc), ((λ e. cc), ((tt, (tt, (tt, (tt, (tt, (tt, tt)))))), (tt, tt)))), tt)), (((tt, tt), (tt, (((λ e. cc), tt), tt))), tt))))),
+              ((tt, tt), ((tt, tt), ((tt, tt), ((tt, (((λ e. cc), ((λ e. cc), ((tt, (tt, (tt, (tt, (tt, (tt, tt)))))), (tt, tt)))), tt)), (((tt, tt), (tt, (((λ e. cc), tt), tt))), ((tt, tt), tt)))))),
             ),
           ),
         ),

@@ -84,6 +84,7 @@ is_begun keywords.BlockAbstract args = begins_with_word args
 is_begun keywords.BlockInherit args = begins_with_word args
 is_begun keywords.Macro args = begins_with_name args
 is_begun keywords.Call args = begins_with_word args
+is_begun keywords.Optional args = begins_with_name args
 is_begun keywords.SetAside args = true
 
 -- the statements rise by module and place; each stands in an earlier one that has a body, and where it may

@@ -7,7 +7,7 @@ ghost use Rattle.cil_syntax.specs.Table.{is_unsupported, later_words, left_out_w
 use crate::spelling;
 
 /// The statements that are to be supported, and are not yet.
-const LATER_WORDS: [&[u8]; 45] = [
+const LATER_WORDS: [&[u8]; 44] = [
     b"common",
     b"classcommon",
     b"classmap",
@@ -22,7 +22,6 @@ const LATER_WORDS: [&[u8]; 45] = [
     b"categoryaliasactual",
     b"categoryorder",
     b"categoryset",
-    b"optional",
     b"booleanif",
     b"typealias",
     b"typealiasactual",

@@ -191,6 +191,18 @@ fn has_tables(alloc: Global) -> bool {
     }
 }
 
+/// Whether a policy with three optionals, of which one is in force, has a line for each, and two reasons.
+fn has_optionals(alloc: Global) -> bool {
+    let optionals =
+        "(optional o (allow b x (file (read))))(optional p (type x)(roletype r nobody))(optional q (allow b a (file (open))))";
+    match compiled_at_last(alloc, &[FIRST, optionals]) {
+        Some(Ok(compiled)) => {
+            answers(&compiled) && compiled.optionals.len() == 3 && compiled.reasons.len() == 2
+        }
+        _ => false,
+    }
+}
+
 /// Whether a policy with two faults has both.
 fn has_faults(alloc: Global) -> bool {
     match compiled_at_last(alloc, &["(class w (p))(class w (q))"]) {
@@ -202,6 +214,7 @@ fn has_faults(alloc: Global) -> bool {
 #[test]
 fn a_refused_growth_is_no_fault_of_a_policy(rt: HostRuntime) {
     assert!(rt; has_tables(rt.alloc()));
+    assert!(rt; has_optionals(rt.alloc()));
     assert!(rt; has_faults(rt.alloc()));
 }
 
@@ -278,9 +291,25 @@ const REQUESTS: &[(&[u8], &[u8])] = &[
     ),
     (b"LOAD\n", b"OK\n"),
     (b"AV u:r:a u:r:b file\n", b"OK read - open,read\n"),
+    (
+        b"INSTALL 78\n(optional o (allow b x (file (read))))(optional p (type x)(roletype r nobody))",
+        b"OK new\n",
+    ),
+    (b"LOAD\n", b"OK\n"),
+    (b"OPTIONALS\n", b"OK 2\n1 0 . o out\n1 38 . p out\n"),
+    (
+        b"WHY\n",
+        b"OK 2\n1 38 . p missing nobody\n1 0 . o missing x\n",
+    ),
+    (b"AV u:r:b u:r:a file\n", b"OK - - open,read\n"),
     (b"INSTALL 11\n(allow a a)", b"OK new\n"),
     (b"LOAD\n", b"FAULTS 1\n23 0 0 . allow\n"),
     (b"AV u:r:a u:r:b file\n", b"OK read - open,read\n"),
+    (b"OPTIONALS\n", b"OK 2\n1 0 . o out\n1 38 . p out\n"),
+    (
+        b"WHY\n",
+        b"OK 2\n1 38 . p missing nobody\n1 0 . o missing x\n",
+    ),
 ];
 
 #[test]

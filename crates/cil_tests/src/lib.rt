@@ -49,6 +49,12 @@ mod merged_hosts;
 #[cfg(test)]
 mod module_sets;
 #[cfg(test)]
+mod optional_choices;
+#[cfg(test)]
+mod optional_requests;
+#[cfg(test)]
+mod optional_sessions;
+#[cfg(test)]
 mod permission_words;
 #[cfg(test)]
 mod placed_words;

@@ -84,8 +84,13 @@ const SHAPES: &[(&str, &str)] = &[
     ("(typepermissive)", "22 0 0 . typepermissive\n"),
     ("(foo 1x (not))", "21 0 0 . foo\n"),
     ("(foo)", "21 0 0 . foo\n"),
-    // Statements that have not come yet are not looked into; those of a block are, and those without effect have any contents.
-    ("(optional 1x (foo))", "22 0 0 . optional\n"),
+    // Statements that have not come yet are not looked into; those of a block or an optional are, and those without effect have any contents.
+    ("(booleanif 1x (foo))", "22 0 0 . booleanif\n"),
+    ("(optional 1x (foo))", "21 0 13 . foo\n25 0 10 . 1x\n"),
+    (
+        "(optional)(optional \"x\")(optional o x)",
+        "23 0 0 . optional\n23 0 10 . optional\n23 0 24 . optional\n",
+    ),
     ("(block 1x (foo))", "21 0 10 1x foo\n25 0 7 . 1x\n"),
     ("(filecon \"/x\" file ())", "written\n"),
     // Where the first item is no word, none is told.

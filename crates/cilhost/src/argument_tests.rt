@@ -57,7 +57,7 @@ const HELP: &[(&[&str], &str)] = &[
     ),
     (
         &["--help"],
-        "block, blockabstract, blockinherit, macro and call",
+        "block, blockabstract, blockinherit, macro, call and optional",
     ),
     (&["help"], "Example:"),
     (&["session", "-h"], "Usage: cilhost session [FILE]..."),
@@ -66,7 +66,10 @@ const HELP: &[(&[&str], &str)] = &[
         &["session", "--help"],
         "32  a blockinherit that names no block",
     ),
-    (&["session", "--help"], "41  a word that names nothing"),
+    (
+        &["session", "--help"],
+        "41  a word outside optionals that names nothing",
+    ),
     (
         &["session", "--help"],
         "22  a statement or form that cilhost does not support",

@@ -11,9 +11,9 @@ modules, compiles them into a policy, and then answers which permissions a proce
 context has on an object in another. The answers do not depend on the order of the modules.
 
 The statements that cilhost accepts are type, class, role, user, roletype, userrole and allow, and
-block, blockabstract, blockinherit, macro and call. Statements that label files, ports and the like,
-such as filecon, are accepted and have no effect. For now it refuses everything else in CIL by name,
-with fault 22.";
+block, blockabstract, blockinherit, macro, call and optional. Statements that label files, ports and
+the like, such as filecon, are accepted and have no effect. For now it refuses everything else in
+CIL by name, with fault 22.";
 
 /// How the program is called.
 pub const EXAMPLE: &str = "Example:
@@ -32,9 +32,9 @@ The FILEs are installed from left to right. Then requests are read from standard
 and each reply is written to standard output, until QUIT or the end of the input.
 
 The statements that a FILE may have are type, class, role, user, roletype, userrole and allow, and
-block, blockabstract, blockinherit, macro and call. Statements that label files, ports and the like,
-such as filecon, are accepted and have no effect. For now LOAD refuses everything else in CIL by
-name, with fault 22.";
+block, blockabstract, blockinherit, macro, call and optional. Statements that label files, ports and
+the like, such as filecon, are accepted and have no effect. For now LOAD refuses everything else in
+CIL by name, with fault 22.";
 
 /// What a file of a session is.
 pub const FILE: &str = "A module, as text in CIL, of at most 4194304 bytes";
@@ -50,6 +50,13 @@ pub const REQUESTS: &str = "Requests:
                           in the context target. A context is user:role:type, where a type t of
                           block b is b.t. Reply: OK, then the permissions that are allowed, those
                           audited when allowed, and those audited when denied (- for none), or ERR
+  OPTIONALS               Which optionals of the policy are in force. Reply: OK with their number;
+                          for each its module, place, namespace and label, as of a fault below, and
+                          in where it is in force, else out; or ERR
+  WHY                     Why optionals of the policy are out, in an order in which they were taken
+                          out. Reply: OK with their number; for each its module, place, namespace
+                          and label, and then parent where the optional round it is out, or missing
+                          and a word that names nothing; or ERR
   LIST                    Reply: OK with the number of modules; for each its SHA-256 and its length
   EXPORT                  Reply: OK n, then n bytes: all modules, for IMPORT on another host
   IMPORT n                Install the modules of such n bytes after this line. Reply: OK with the
@@ -64,7 +71,7 @@ Faults of a policy, one a line after FAULTS: NUMBER MODULE PLACE NAMESPACE WORD
   21  an unknown statement
   22  a statement or form that cilhost does not support
   23  a statement of another shape
-  24  a statement in a wrong place, such as a class in a macro
+  24  a statement in a wrong place, such as a class in a macro or in an optional
   25  a word that is not a name
   26  a reserved word in place of a name
   27  a parameter of a macro whose name is used again, by another one or by a declaration
@@ -76,7 +83,7 @@ Faults of a policy, one a line after FAULTS: NUMBER MODULE PLACE NAMESPACE WORD
   36  a name with two different declarations
   38  more than 1000000 statements, with those that are inherited or come by calls. It is reported
       alone, with module 0, place 0 and - as the word
-  41  a word that names nothing
+  41  a word outside optionals that names nothing
   55  a class of more than 32 permissions
 
 From MODULE and PLACE to a file and a line:
@@ -96,8 +103,8 @@ Other numbers, after ERR:
             does not come after the one before it in byte order. 14: a module cannot be read; its
             number, from 0, and the number and place of its text's fault follow. 15: bytes follow
             its last module
-  71 to 73  A query has no answer. 71: no policy is loaded. 72 1: the source is not a valid
-            context. 72 2: the target is not. 73: there is no such class
+  71 to 73  A query has no answer. 71: no policy is loaded, for AV, OPTIONALS or WHY. 72 1: the
+            source is not a valid context. 72 2: the target is not. 73: there is no such class
   81        There is no such request; the session goes on
   82 to 85  The session ends. 82: a line has more than 4096 bytes. 83: the input ends in a line, or
             in the bytes after one. 84: more than 67108864 bytes are announced. 85: it has had

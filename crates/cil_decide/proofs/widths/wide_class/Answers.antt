@@ -1,4 +1,3 @@
-use Rattle.std.specs.List.{list_all}
 use Rattle.std.specs.Prelude.{length}
 use Rattle.std.proofs.Common.{◌≡◌, ◌<◌, ◌≤◌, ◌∙◌, ap, rules, subst, sym}
 use Rattle.cil_sexpr.specs.Places.{get_contains}
@@ -19,10 +18,10 @@ entry-requires-clause-ordered c = c.requires.entries.ordered
 pub entry-requires-clause-within : goal.entry-requires-clause-within
 entry-requires-clause-within c = subst (λ ss. c.space-space.result ≤ length ss) (sym c.requires.spaces) c.space-space.ensures.within
 
-pub returns-then-not-has_all : goal.returns-then-not-has_all
-returns-then-not-has_all c =
+pub returns-then-not-has_round : goal.returns-then-not-has_round
+returns-then-not-has_round c =
     not_enabled (items_in c.args.instances.now) (is_in c.args.lookup.now.enabled.now) (item_at c.args.instances.now c.args.at)
-    (ap (list_all (is_in c.args.lookup.now.enabled.now)) (sym c.round.ensures) ∙ sym c.has_all.ensures ∙ c.if-not-has_all.true)
+    (sym c.has_round.ensures ∙ c.if-not-has_round.true)
 
 pub returns-in_default : goal.returns-in_default
 returns-in_default c =
@@ -72,4 +71,4 @@ returns c =
     many ss (items_in i) c.args.lookup.now.names.now (is_in c.args.lookup.now.enabled.now) x s (word_at i c.args.at) (is_said i c.args.at s c.in-Some.ensures) name.at name.bytes.now
     c.in-Some-declared_class.ensures c.requires.entries (get_contains (items_in i) c.args.at x (item_there i c.args.at c.requires.within)) c.args.permissions.now c.requires.permissions c.in-Some-entry.class
     (subst (λ n. IsEntryIn ss c.args.lookup.now.names.now name.bytes.now signs.Classes n c.in-Some-entry.class) space c.in-Some-entry.ensures)
-    (ap (list_all (is_in c.args.lookup.now.enabled.now)) (sym c.round.ensures) ∙ sym c.has_all.ensures ∙ c.if-not-has_all.false) big
+    (sym c.has_round.ensures ∙ c.if-not-has_round.false) big

@@ -44,6 +44,7 @@ invariant_of-result c =
         openings = c.in_ok-openings.ensures.each;
         many = c.in_ok-openings.ensures.many;
       },
+      c.in_ok-innermost.ensures,
     )
 
 pub returns : goal.returns

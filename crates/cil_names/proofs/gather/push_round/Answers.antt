@@ -1,3 +1,4 @@
+use Rattle.std.proofs.Common.{refl}
 use Rattle.cil_names.proofs.DeclareEntryLemmas.{no_round, one_round}
 use Rattle.cil_names.proofs.gather.push_round.Goals as goal
 
@@ -6,4 +7,4 @@ returns-then-is_always c = no_round c.args.instances.now c.args.row.now _ _ c.is
 
 pub returns : goal.returns
 returns c =
-    one_round c.args.instances.now c.args.row.now _ _ _ _ _ c.is_always.ensures c.if-is_always.false c.round.ensures c.in_ok-from_slice.ensures.items c.in_ok-push.ensures.items
+    one_round c.args.instances.now c.args.row.now _ _ _ _ _ c.is_always.ensures c.if-is_always.false c.in_ok-round.ensures refl c.in_ok-push.ensures.items

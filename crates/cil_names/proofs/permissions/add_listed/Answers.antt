@@ -1,11 +1,24 @@
 use Rattle.std.specs.Prelude.{Some}
-use Rattle.std.proofs.Common.{refl, sym, ◌∙◌, ap, subst}
+use Rattle.std.proofs.Common.{rules, refl, sym, true≢false, ◌∙◌, ap, subst}
 use Rattle.std.proofs.lemmas.Option.{slice_get_read}
 use Rattle.cil_blocks.specs.Namespaces.{AreNamespaces}
 use Rattle.cil_macros.specs.Items.{item_at, namespaces_in, word_at}
 use Rattle.cil_syntax.specs.Said.{args_of}
 use Rattle.cil_names.proofs.PermissionLemmas.{added, class_within, kept_unknown, kept_unlisted, kept_without, none_declared, none_of_nothing, one_declared, said_by_class}
 use Rattle.cil_names.proofs.permissions.add_listed.Goals as goal
+
+-- a statement in an optional lists nothing
+pub returns-then-not-is_outside-clause-listed : goal.returns-then-not-is_outside-clause-listed
+returns-then-not-is_outside-clause-listed c = λ xs ordered are.
+    let i = c.args.instances.now in
+    kept_without (namespaces_in i) c.args.entries.now xs (item_at i c.args.at) c.args.lists.now.items
+    (λ name d. true≢false (sym (c.is_outside.ensures.1 d.outside) ∙ c.if-not-is_outside.true)) are
+
+pub index_mut-requires : goal.index_mut-requires
+index_mut-requires c = let h = class_within _ _ _ _ _ _ c.requires.len c.in-Some-entry_in.ensures in search (h, rules)
+
+pub index_mut-requires-2 : goal.index_mut-requires-2
+index_mut-requires-2 c = let h = class_within _ _ _ _ _ _ c.requires.len c.in-Some-entry_in.ensures in search (h, rules)
 
 pub returns-in_default-clause-listed : goal.returns-in_default-clause-listed
 returns-in_default-clause-listed c = λ xs ordered are.
@@ -23,7 +36,7 @@ returns-in_default-entry_in-clause-listed c = λ xs ordered are.
     let i = c.args.instances.now in
     let name = c.in-Some-declared_class.name in
     kept_unknown (namespaces_in i) c.args.entries.now xs (item_at i c.args.at) (subst AreNamespaces c.namespaces.ensures.value c.namespaces.ensures.once) ordered c.space.result c.space.ensures name.bytes.now
-    (one_declared i c.args.at c.in-Some.statement.now c.in-Some.ensures name.at name.bytes.now c.in-Some-declared_class.ensures refl) c.args.lists.now.items
+    (one_declared i c.args.at c.in-Some.statement.now c.in-Some.ensures name.at name.bytes.now c.in-Some-declared_class.ensures (c.is_outside.ensures.0 c.if-not-is_outside.false)) c.args.lists.now.items
     c.in_default-entry_in.ensures are
 
 pub returns-in_default-listed_behind_name-clause-listed : goal.returns-in_default-listed_behind_name-clause-listed
@@ -31,7 +44,7 @@ returns-in_default-listed_behind_name-clause-listed c = λ xs ordered are.
     let i = c.args.instances.now in
     let name = c.in-Some-declared_class.name in
     kept_unlisted (namespaces_in i) c.args.entries.now xs (item_at i c.args.at) (subst AreNamespaces c.namespaces.ensures.value c.namespaces.ensures.once) ordered c.space.result c.space.ensures name.bytes.now
-    (one_declared i c.args.at c.in-Some.statement.now c.in-Some.ensures name.at name.bytes.now c.in-Some-declared_class.ensures refl)
+    (one_declared i c.args.at c.in-Some.statement.now c.in-Some.ensures name.at name.bytes.now c.in-Some-declared_class.ensures (c.is_outside.ensures.0 c.if-not-is_outside.false))
     (word_at i c.args.at) (args_of c.in-Some.statement.now)
     (said_by_class i c.args.at c.in-Some.statement.now c.in-Some.ensures name.at name.bytes.now c.in-Some-declared_class.ensures) c.args.lists.now.items
     c.in_default-listed_behind_name.ensures are
@@ -42,7 +55,7 @@ returns-clause-listed c = λ xs ordered are.
     let name = c.in-Some-declared_class.name in
     let s = c.in-Some.statement.now in
     added (namespaces_in i) c.args.entries.now xs (item_at i c.args.at) (subst AreNamespaces c.namespaces.ensures.value c.namespaces.ensures.once) ordered c.space.result c.space.ensures name.bytes.now
-    (one_declared i c.args.at s c.in-Some.ensures name.at name.bytes.now c.in-Some-declared_class.ensures refl)
+    (one_declared i c.args.at s c.in-Some.ensures name.at name.bytes.now c.in-Some-declared_class.ensures (c.is_outside.ensures.0 c.if-not-is_outside.false))
     (word_at i c.args.at) (args_of s)
     (said_by_class i c.args.at s c.in-Some.ensures name.at name.bytes.now c.in-Some-declared_class.ensures) c.args.lists.now.items c.in-Some-entry_in.class
     c.in-Some-entry_in.ensures c.replace-listed.result c.replace-listed.new.dest c.in_ok-lists.field-0 s.at.«module»

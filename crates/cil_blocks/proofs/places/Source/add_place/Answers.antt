@@ -1,8 +1,8 @@
-use Rattle.std.proofs.Common.{get_or, refl}
+use Rattle.std.proofs.Common.{get_or, refl, sym, ◌∙◌}
 use Rattle.std.specs.Prelude.{None}
 use Rattle.cil_syntax.specs.Program.{program_of}
 use Rattle.cil_blocks.specs.declared.entry.Entry.{Entry}
-use Rattle.cil_blocks.proofs.PlacingLemmas.{opener_reached, reached_again, reached_global, reached_inside, reached_space}
+use Rattle.cil_blocks.proofs.PlacingLemmas.{opener_reached, reached_again, reached_global, reached_inside, reached_optional, reached_space}
 use Rattle.cil_blocks.proofs.places.Source.add_place.Goals as goal
 
 abbrev no_entry : Entry
@@ -23,6 +23,14 @@ returns-in-Some-repeated c =
     c.args.places.now c.push_again.new.self c.requires.next refl (record { lower = low.lower; same = low.same; higher = low.higher }) c.in-Some-repeated.ensures c.requires.first
     c.in_ok-push_again.ensures
 
+pub returns-then-is_optional_at : goal.returns-then-is_optional_at
+returns-then-is_optional_at c =
+    let es = c.args.self.now.entries.now in
+    let low = c.in-Some.ensures in
+    reached_optional (program_of c.args.self.now.statements.now) c.args.namespaces.now es (get_or es c.args.rank no_entry) (get_or es c.in-Some.opener no_entry) no_entry c.args.rank
+    c.in-Some.opener c.args.places.now c.push_again-then-is_optional_at.new.self c.requires.next refl refl (record { lower = low.lower; same = low.same; higher = low.higher })
+    (sym (c.is_optional_at.ensures c.requires.nested) ∙ c.if-is_optional_at.true) c.requires.first c.in_ok-push_again-2.ensures
+
 pub returns-in_default-space : goal.returns-in_default-space
 returns-in_default-space c =
     absurd (opener_reached (program_of c.args.self.now.statements.now) c.args.namespaces.now c.args.self.now.entries.now c.args.rank c.in-Some.opener c.args.places.now c.requires.next
@@ -42,4 +50,5 @@ returns c =
     let so = c.in_ok-inside.ensures in
     reached_inside (program_of c.args.self.now.statements.now) c.args.namespaces.now c.inside.new.namespaces es (get_or es c.args.rank no_entry) (get_or es c.in-Some.opener no_entry) no_entry
     c.args.rank c.in-Some.opener c.in-Some-space.outer c.args.places.now c.push_inside.new.self r c.in_ok-inside.inside.space c.in_ok-inside.inside.written c.requires.next refl refl
-    (record { lower = low.lower; same = low.same; higher = low.higher }) c.requires.first at same so.once.0 so.once.1 so.grown so.inside (c.in_ok-push_inside.ensures r at)
+    (record { lower = low.lower; same = low.same; higher = low.higher }) c.requires.first at same
+    (sym (c.is_optional_at.ensures c.requires.nested) ∙ c.if-is_optional_at.false) so.once.0 so.once.1 so.grown so.inside (c.in_ok-push_inside.ensures r at)

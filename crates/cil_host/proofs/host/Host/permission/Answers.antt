@@ -7,27 +7,27 @@ use Rattle.cil_host.proofs.host.Host.permission.Goals as goal
 pub returns-in_default-class_named-clause-none : goal.returns-in_default-class_named-clause-none
 returns-in_default-class_named-clause-none g c = λ name of.
     let there = fact_loaded _ _ _ _ (sym c.self.view_is) c.in-Some.is (IsPermissionOf c.args.class.now c.args.bit name) of in
-    let known = class_there _ _ _ _ name (kept _ _ c.in-Some.is c.self.invariant.kept) there in
+    let known = class_there _ _ _ _ name (kept _ _ c.in-Some.is c.self.invariant.kept).compiles there in
     c.in_default-class_named.ensures.none known.0 known.1
 
 pub returns-clause-found : goal.returns-clause-found
 returns-clause-found g c =
     if_some c.permission_at.result (λ name at.
     loaded_fact _ _ _ _ (sym c.self.view_is) c.in-Some.is (IsPermissionOf c.args.class.now c.args.bit name.now)
-    (permission_there _ _ (kept _ _ c.in-Some.is c.self.invariant.kept) _ _ _ c.in-Some-class_named.ensures.found name.now at))
+    (permission_there _ _ (kept _ _ c.in-Some.is c.self.invariant.kept).compiles _ _ _ c.in-Some-class_named.ensures.found name.now at))
     c.permission_at.ensures.found
 
 pub returns-clause-none : goal.returns-clause-none
 returns-clause-none g c =
     if_none c.permission_at.result (λ none name of.
     let there = fact_loaded _ _ _ _ (sym c.self.view_is) c.in-Some.is (IsPermissionOf c.args.class.now c.args.bit name) of in
-    none name (permission_back _ _ (kept _ _ c.in-Some.is c.self.invariant.kept) _ _ _ c.in-Some-class_named.ensures.found name there))
+    none name (permission_back _ _ (kept _ _ c.in-Some.is c.self.invariant.kept).compiles _ _ _ c.in-Some-class_named.ensures.found name there))
     c.permission_at.ensures.none
 
 pub returns-clause-order : goal.returns-clause-order
 returns-clause-order g c =
     if_some c.permission_at.result (λ name at.
-    let compiles = kept _ _ c.in-Some.is c.self.invariant.kept in
+    let compiles = (kept _ _ c.in-Some.is c.self.invariant.kept).compiles in
     let is_class = c.in-Some-class_named.ensures.found in
     record {
       only = λ other of. permission_only _ _ compiles _ _ _ is_class name.now at other

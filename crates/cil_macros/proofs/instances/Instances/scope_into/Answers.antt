@@ -1,4 +1,4 @@
-use Rattle.std.proofs.Common.{List, arith, subst, sym, ℕ}
+use Rattle.std.proofs.Common.{arith, subst, sym, ℕ}
 use Rattle.std.specs.Prelude.{Option}
 use Rattle.cil_macros.specs.Items.{all_placed, namespaces_in, scope_by}
 use Rattle.cil_macros.specs.Walks.{IsScope}

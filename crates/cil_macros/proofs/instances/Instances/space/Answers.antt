@@ -1,8 +1,6 @@
-use Rattle.std.proofs.Common.{arith, subst, sym}
-use Rattle.cil_blocks.specs.Namespaces.{IsNumber}
+use Rattle.std.proofs.Common.{arith}
 use Rattle.cil_macros.specs.Items.{placed_at}
-use Rattle.cil_macros.specs.Placed.{Placed}
-use Rattle.cil_macros.proofs.PlacedLemmas.{global_number, placed_beyond, placed_so}
+use Rattle.cil_macros.proofs.PlacedLemmas.{global_number, placed_so}
 use Rattle.cil_macros.proofs.instances.Instances.space.Goals as goal
 
 pub returns-then-at-len : goal.returns-then-at-len

@@ -1,5 +1,4 @@
-use Rattle.std.proofs.Common.{◌∙◌, ap}
-use Rattle.cil_syntax.specs.Scopes.{ScopedWord}
+use Rattle.std.proofs.Common.{◌∙◌}
 use Rattle.cil_macros.specs.Items.{all_placed}
 use Rattle.cil_macros.proofs.PlacedLemmas.{is_place, placed_so, word_so}
 use Rattle.cil_macros.specs.Items.{placed_at}

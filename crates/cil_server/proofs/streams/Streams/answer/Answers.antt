@@ -1,6 +1,6 @@
 use Rattle.std.proofs.Common.{ap, refl, subst}
 use Rattle.cil_server.specs.Asked.{Line as said}
-use Rattle.cil_server.specs.Asked.Request.{Exports, Imports, Installs, Lists, Loads, Unasked}
+use Rattle.cil_server.specs.Asked.Request.{AsksOptionals, AsksWhy, Exports, Imports, Installs, Lists, Loads, Unasked}
 use Rattle.cil_server.specs.Replies.{refused}
 use Rattle.cil_server.specs.Step.{Step}
 use Rattle.cil_server.specs.Streams.{Tells, unread}
@@ -72,6 +72,20 @@ returns-in-Load-clause-answers g c =
     said.Load turns.Next (ap line_of c.in-Load.is)
     (alone (unread c.args.self.now.input) (unread c.args.self.now.input) c.args.host.now c.load.new.host (Tells c.args.self.now.output c.load.new.output) said.Load Loads refl refl refl
     c.load.ensures)
+
+pub returns-in-Optionals-clause-answers : goal.returns-in-Optionals-clause-answers
+returns-in-Optionals-clause-answers g c =
+    answered_as (unread c.args.self.now.input) (unread c.args.self.now.input) c.args.host.now c.args.host.now (Tells c.args.self.now.output c.optionals.new.output) (line_of c.args.line)
+    said.Optionals turns.Next (ap line_of c.in-Optionals.is)
+    (alone (unread c.args.self.now.input) (unread c.args.self.now.input) c.args.host.now c.args.host.now (Tells c.args.self.now.output c.optionals.new.output) said.Optionals AsksOptionals refl refl refl
+    c.optionals.ensures)
+
+pub returns-in-Why-clause-answers : goal.returns-in-Why-clause-answers
+returns-in-Why-clause-answers g c =
+    answered_as (unread c.args.self.now.input) (unread c.args.self.now.input) c.args.host.now c.args.host.now (Tells c.args.self.now.output c.why.new.output) (line_of c.args.line)
+    said.Why turns.Next (ap line_of c.in-Why.is)
+    (alone (unread c.args.self.now.input) (unread c.args.self.now.input) c.args.host.now c.args.host.now (Tells c.args.self.now.output c.why.new.output) said.Why AsksWhy refl refl refl
+    c.why.ensures)
 
 pub returns-in-Unknown-clause-answers : goal.returns-in-Unknown-clause-answers
 returns-in-Unknown-clause-answers g c =

@@ -1,19 +1,14 @@
-use Rattle.std.proofs.Common.{◌∙◌, List, subst, sym}
-use Rattle.cil_syntax.specs.declared.fault.Fault.{Fault}
-use Rattle.cil_syntax.specs.Refusal.{Fails}
+use Rattle.std.proofs.Common.{List, inr, refl, subst, sym}
 use Rattle.cil_blocks.specs.declared.namespaces.Space.{Space}
-use Rattle.cil_macros.specs.Item.{OptSet}
 use Rattle.cil_macros.specs.Items.{items_in, namespaces_in}
-use Rattle.cil_names.specs.Entries.{AreEntries}
-use Rattle.cil_names.specs.Faults.{ResolveFault}
+use Rattle.cil_names.specs.Entries.{AreEntries, is_in}
 use Rattle.cil_names.specs.Numbers.{ArePlainNames}
 use Rattle.cil_names.specs.Unresolved.{ArePermissions}
+use Rattle.cil_optionals.specs.declared.reason.Reason.{Reason}
 use Rattle.cil_decide.specs.CompileRefusal.{ItemsFail}
-use Rattle.cil_decide.specs.Compiled.{IsTable}
-use Rattle.cil_decide.specs.Faults.{ClassFault}
-use Rattle.cil_decide.proofs.CompileLemmas.{clash_first, handed_on, none_first, widths_first, words_first}
-use Rattle.cil_decide.proofs.JoinLemmas.{none_enabled}
-use Rattle.cil_decide.proofs.compiler.placed_tables.Goals as goal
+use Rattle.cil_decide.specs.Lines.{AreReasonsOf}
+use Rattle.cil_decide.proofs.CompileLemmas.{clash_first, handed_on, widths_first, words_first}
+use Rattle.cil_decide.proofs.compiler.placed_policy.Goals as goal
 
 pub permissions_of-requires : goal.permissions_of-requires
 permissions_of-requires c = record { ordered = c.in_ok-names.ensures.0.ordered }
@@ -61,21 +56,22 @@ returns-in_err-names-clause-faults c = handed_on (ItemsFail (items_in c.args.ins
 pub returns-in_err-words-clause-faults : goal.returns-in_err-words-clause-faults
 returns-in_err-words-clause-faults c =
     handed_on (ItemsFail (items_in c.args.instances.now)) _ _ c.from_residual-in_err-words.ensures.1
-    (words_first (items_in c.args.instances.now) c.in_ok-names.ensures.1 _
-    (subst (λ (s : OptSet). Fails (ResolveFault s (items_in c.args.instances.now)) c.in_err-words.field-0.0) (none_enabled c.of-enabled.result (c.of-enabled.ensures ∙ c.new.ensures.items)) c.in_err-words.ensures))
+    (words_first (items_in c.args.instances.now) c.in_ok-names.ensures.1 (is_in c.in_ok-chosen.chosen.enabled) c.in_ok-chosen.ensures.greatest _ c.in_err-words.ensures)
 
 pub returns-in_err-check_widths-clause-faults : goal.returns-in_err-check_widths-clause-faults
 returns-in_err-check_widths-clause-faults c =
     handed_on (ItemsFail (items_in c.args.instances.now)) _ _ c.from_residual-in_err-check_widths.ensures.1
-    (widths_first (items_in c.args.instances.now) c.in_ok-names.ensures.1
-    (subst (λ (s : OptSet). (f : Fault) → ResolveFault s (items_in c.args.instances.now) f → ⊥) (none_enabled c.of-enabled.result (c.of-enabled.ensures ∙ c.new.ensures.items)) c.in_ok-words.ensures.1) _
-    (subst (λ (s : OptSet). Fails (ClassFault s (items_in c.args.instances.now)) c.in_err-check_widths.field-0.0) (none_enabled c.of-enabled.result (c.of-enabled.ensures ∙ c.new.ensures.items)) c.in_err-check_widths.ensures))
+    (widths_first (items_in c.args.instances.now) c.in_ok-names.ensures.1 (is_in c.in_ok-chosen.chosen.enabled) c.in_ok-chosen.ensures.greatest c.in_ok-words.ensures.1 _
+    c.in_err-check_widths.ensures)
 
-pub returns-clause-tables : goal.returns-clause-tables
-returns-clause-tables c = subst (λ (s : OptSet). IsTable (items_in c.args.instances.now) s c.in_ok-tables.tables) (none_enabled c.of-enabled.result (c.of-enabled.ensures ∙ c.new.ensures.items)) c.in_ok-tables.ensures
-
-pub returns-clause-right : goal.returns-clause-right
-returns-clause-right c =
-    none_first (items_in c.args.instances.now) c.in_ok-names.ensures.1
-    (subst (λ (s : OptSet). (f : Fault) → ResolveFault s (items_in c.args.instances.now) f → ⊥) (none_enabled c.of-enabled.result (c.of-enabled.ensures ∙ c.new.ensures.items)) c.in_ok-words.ensures.1)
-    (subst (λ (s : OptSet). (f : Fault) → ClassFault s (items_in c.args.instances.now) f → ⊥) (none_enabled c.of-enabled.result (c.of-enabled.ensures ∙ c.new.ensures.items)) c.in_ok-check_widths.ensures.1)
+pub returns-clause-compiled : goal.returns-clause-compiled
+returns-clause-compiled c = record {
+  enabled = is_in c.in_ok-chosen.chosen.enabled;
+  greatest = c.in_ok-chosen.ensures.greatest;
+  apart = c.in_ok-names.ensures.1;
+  no_faults = inr (c.in_ok-words.ensures.1, inr (c.in_ok-check_widths.ensures.1, refl));
+  table = c.in_ok-tables.ensures;
+  optionals = c.in_ok-optionals.ensures;
+  right = c.in_ok-chosen.ensures.right;
+  reasons = subst (λ (rs : List Reason). AreReasonsOf (items_in c.args.instances.now) rs c.in_ok-reasons.reasons.items) c.as_slice.ensures.value c.in_ok-reasons.ensures;
+}

@@ -17,13 +17,13 @@ use Rattle.cil_macros.proofs.EntryLemmas.{opens_nothing}
 use Rattle.cil_macros.proofs.FirstLemmas.{firsts_opened}
 use Rattle.cil_macros.proofs.TurnLemmas.{opened_in_turn, passed_in_turn}
 use Rattle.cil_macros.proofs.WalkLemmas.{bodies_opened, placed_opened, scopes_opened, spaces_opened}
-use Rattle.cil_macros.proofs.chain.Brought.open.Goals as goal
+use Rattle.cil_macros.proofs.chain.Brought.open_call.Goals as goal
 
 pub returns-in_default-clause-opened : goal.returns-in_default-clause-opened
 returns-in_default-clause-opened c = λ p e.
     let s = c.args.source.now.spaces.now in
     let old = placed_in s c.args.self.now.called.items in
-    sym (append-nil old) ∙ ap (λ xs. old ++ xs) (sym (opens_nothing (written_in s) (all_standing s) p (not_unfolded s c.args.self.now.called.items c.args.at c.in_ok-called.field-0 c.in_default.is c.in_ok-called.ensures.unfolded p e)))
+    sym (append-nil old) ∙ ap (λ xs. old ++ xs) (sym (opens_nothing (written_in s) (all_standing s) p (c.requires.as_call p e) (not_unfolded s c.args.self.now.called.items c.args.at c.in_ok-called.field-0 c.in_default.is c.in_ok-called.ensures.unfolded p e)))
 
 pub standing_statement-number-requires : goal.standing_statement-number-requires
 standing_statement-number-requires c =

@@ -1,0 +1,35 @@
+-- What the compiler answers where modules have a policy. This project's profile.
+use Rattle.std.specs.Prelude.{ℕ, List, []}
+use Rattle.cil_syntax.specs.declared.fault.Fault.{Fault}
+use Rattle.cil_macros.specs.Item.{Item, OptSet}
+use Rattle.cil_names.specs.Faults.{ClashFault}
+use Rattle.cil_optionals.specs.Certificate.{IsRight}
+use Rattle.cil_optionals.specs.Greatest.{IsGreatest}
+use Rattle.cil_optionals.specs.Policy.{ArePolicy}
+use Rattle.cil_decide.specs.declared.compiler.Compiled.{Compiled}
+use Rattle.cil_decide.specs.Agrees.{Compiles}
+use Rattle.cil_decide.specs.CompileRefusal.{set_steps}
+use Rattle.cil_decide.specs.Compiled.{IsTable}
+use Rattle.cil_decide.specs.Faults.{AreFirst}
+use Rattle.cil_decide.specs.Lines.{AreOptionalsOf, AreReasonsOf}
+
+-- the tables of the modules, the lines of their optionals, and the reasons why some are left out, with their lines
+pub record IsCompiled (modules : List (List ℕ)) (c : Compiled) : Type 0 where
+  pub items : List Item
+  pub enabled : OptSet
+  pub policy : ArePolicy modules items enabled
+  pub compiles : Compiles modules c.tables
+  pub optionals : AreOptionalsOf items enabled c.optionals.items
+  pub right : IsRight items enabled c.why.items
+  pub reasons : AreReasonsOf items c.why.items c.reasons.items
+
+-- the same of items alone
+pub record IsCompiledOf (xs : List Item) (c : Compiled) : Type 0 where
+  pub enabled : OptSet
+  pub greatest : IsGreatest xs enabled
+  pub apart : (f : Fault) → ClashFault xs f → ⊥
+  pub no_faults : AreFirst (set_steps xs enabled) []
+  pub table : IsTable xs enabled c.tables
+  pub optionals : AreOptionalsOf xs enabled c.optionals.items
+  pub right : IsRight xs enabled c.why.items
+  pub reasons : AreReasonsOf xs c.why.items c.reasons.items

@@ -1,0 +1,319 @@
+//! A guess at the greatest set: the walk of cil_settle over optionals, entries and words. It costs n log n steps, where n counts
+//! words, what they could name, and the optionals round declarations. Nothing is promised of a guess; `checking.rt` tries it.
+
+ghost use Rattle.std.specs.Prelude.{All, IsTrue};
+ghost use Rattle.cil_macros.specs.Items.{items_in, namespaces_in};
+ghost use Rattle.cil_names.specs.Entries.{AreEntries};
+ghost use Rattle.cil_names.specs.Unresolved.{ArePermissions};
+ghost use Rattle.cil_settle.specs.Settled.{leads_within};
+
+use crate::chosen::Chosen;
+use crate::declared::is_set;
+use crate::part::{Part, parts_of};
+use crate::reason::Reason;
+use crate::removal::{optionals_of, small};
+use cil_macros::Instances;
+use cil_modset::NoMemory;
+use cil_names::{Entry, Names, OptSet};
+use cil_settle::{Edge, Settled, settle, sort_edges};
+use cil_syntax::Bytes;
+use std::alloc::Global;
+
+/// A guess at the greatest set of optionals. Error: out of memory.
+pub fn guess<'r, 'a>(
+    alloc: Global,
+    instances: &'r Instances<'_, '_, 'a>,
+    names: &'r Names<'a>,
+    permissions: &'r [Vec<Bytes>],
+) -> Result<Walk, NoMemory>
+    requires entries { AreEntries (namespaces_in instances.now) (items_in instances.now) names.now }
+    requires permissions { ArePermissions (namespaces_in instances.now) names.now (items_in instances.now) permissions.now }
+{
+    let parts = parts_of(alloc, instances, names, permissions)?;
+    let walk = guess_by(alloc, parts.as_slice(), names.entries())?;
+    Ok(walk)
+}
+
+/// A guess by the parts of all statements.
+pub(crate) fn guess_by(
+    alloc: Global,
+    parts: &[Part],
+    entries: &[Entry],
+) -> Result<Walk, NoMemory> {
+    let mut graph = Graph {
+        edges: Vec::new(alloc),
+        need: Vec::new(alloc),
+        words: Vec::new(alloc),
+    };
+    graph.add_statements(parts)?;
+    graph.add_entries(parts.len(), entries)?;
+    graph.add_all_words(parts)?;
+    let Graph { edges, need, words } = graph;
+    let Settled { order, lookups } = settled(alloc, edges, need)?;
+    let first_word = parts.len().saturating_add(entries.len());
+    let chosen = chosen_from(alloc, parts, words.as_slice(), first_word, order.as_slice())?;
+    Ok(Walk { chosen, lookups })
+}
+
+/// A choice of optionals, and the look-ups of the walk that made it.
+#[derive(Drop)]
+pub struct Walk {
+    /// The choice.
+    pub chosen: Chosen,
+    /// How many look-ups it took: visits of an entry from a declaring statement that goes out, and of a word from an entry that
+    /// goes out.
+    pub lookups: usize,
+}
+
+/// Optionals, entries and words as nodes: a node for each statement, then for each entry, then for each word in an optional. An
+/// optional goes out with its parent or with a word, an entry with all statements that declare it, and a word with all entries
+/// that it could name.
+#[derive(Drop)]
+struct Graph {
+    edges: Vec<Edge>,
+    need: Vec<usize>,
+    words: Vec<OwnWord>,
+}
+
+/// A word of a statement in an optional.
+#[derive(Clone, Copy)]
+struct OwnWord {
+    optional: usize,
+    instance: usize,
+    word: usize,
+}
+
+impl Graph {
+    fn edge(&mut self, from: usize, to: usize, counted: bool) -> Result<(), NoMemory> {
+        self.edges.push(Edge { from, to, counted })?;
+        Ok(())
+    }
+
+    fn add_statements(&mut self, parts: &[Part]) -> Result<(), NoMemory> {
+        for at in 0..parts.len() {
+            self.need.push(1)?;
+            if let Some(parent) = parent_of(&parts[at]) {
+                self.edge(parent, at, false)?;
+            }
+        }
+        Ok(())
+    }
+
+    fn add_entries(&mut self, first: usize, entries: &[Entry]) -> Result<(), NoMemory> {
+        for number in 0..entries.len() {
+            self.add_entry(first.saturating_add(number), &entries[number])?;
+        }
+        Ok(())
+    }
+
+    fn add_entry(&mut self, node: usize, entry: &Entry) -> Result<(), NoMemory> {
+        self.need.push(declarations_to_lose(entry))?;
+        for round in entry.rounds.as_slice() {
+            self.add_round(node, round.as_slice())?;
+        }
+        Ok(())
+    }
+
+    fn add_round(&mut self, node: usize, round: &[usize]) -> Result<(), NoMemory> {
+        if let Some(innermost) = round.first() {
+            self.edge(*innermost, node, true)?;
+        }
+        Ok(())
+    }
+
+    fn add_all_words(&mut self, parts: &[Part]) -> Result<(), NoMemory> {
+        for instance in 0..parts.len() {
+            if let Some(optional) = parts[instance].inside {
+                self.add_words(optional, instance, &parts[instance], parts.len())?;
+            }
+        }
+        Ok(())
+    }
+
+    fn add_words(
+        &mut self,
+        optional: usize,
+        instance: usize,
+        part: &Part,
+        first_entry: usize,
+    ) -> Result<(), NoMemory> {
+        for word in 0..part.asked.len() {
+            self.add_word(
+                OwnWord {
+                    optional,
+                    instance,
+                    word,
+                },
+                part.asked.row(word),
+                first_entry,
+            )?;
+        }
+        Ok(())
+    }
+
+    fn add_word(
+        &mut self,
+        word: OwnWord,
+        candidates: &[usize],
+        first_entry: usize,
+    ) -> Result<(), NoMemory> {
+        let node = self.need.len();
+        self.need.push(candidates.len())?;
+        self.words.push(word)?;
+        self.edge(node, word.optional, false)?;
+        for entry in candidates {
+            self.edge(first_entry.saturating_add(*entry), node, true)?;
+        }
+        Ok(())
+    }
+}
+
+/// The optional round an optional.
+fn parent_of(part: &Part) -> Option<usize> {
+    if part.optional { part.inside } else { None }
+}
+
+/// How many declaring statements have to go out before an entry does: more than there are, if one is in no optional.
+fn declarations_to_lose(entry: &Entry) -> usize {
+    if entry.always {
+        usize::MAX
+    } else {
+        entry.rounds.len()
+    }
+}
+
+/// The nodes that go out, in order, and the look-ups that this took.
+fn settled(alloc: Global, mut edges: Vec<Edge>, need: Vec<usize>) -> Result<Settled, NoMemory> {
+    sort_edges(edges.as_mut_slice());
+    if !lead_within(edges.as_slice(), need.len()) {
+        return Ok(Settled {
+            order: Vec::new(alloc),
+            lookups: 0,
+        });
+    }
+    settle(alloc, edges.as_slice(), need)
+}
+
+/// Whether all edges lead to nodes, of which there are so many.
+fn lead_within(edges: &[Edge], count: usize) -> bool
+    ensures { IsTrue result → All (leads_within count) edges.now }
+{
+    edges.iter().all(|edge| edge.to < count)
+}
+
+/// The optionals that are in none of the nodes that go out, and for each other one a reason that holds when its turn comes.
+fn chosen_from(
+    alloc: Global,
+    parts: &[Part],
+    words: &[OwnWord],
+    first_word: usize,
+    order: &[usize],
+) -> Result<Chosen, NoMemory> {
+    let mut removal = Removal {
+        left: optionals_of(alloc, parts)?,
+        causes: vec![in alloc; None; parts.len()]?,
+        reasons: Vec::new(alloc),
+    };
+    for node in order {
+        removal.put_out(parts, words, first_word, *node)?;
+    }
+    let Removal {
+        left,
+        causes: _,
+        reasons,
+    } = removal;
+    Ok(Chosen {
+        enabled: OptSet::of(left),
+        reasons,
+    })
+}
+
+/// What is known on the way through the nodes that go out.
+#[derive(Drop)]
+struct Removal {
+    /// For each statement whether it is an optional that is left.
+    left: Vec<bool>,
+    /// For each statement, if it is an optional, the first of its words that is out.
+    causes: Vec<Option<usize>>,
+    reasons: Vec<Reason>,
+}
+
+impl Removal {
+    fn put_out(
+        &mut self,
+        parts: &[Part],
+        words: &[OwnWord],
+        first_word: usize,
+        node: usize,
+    ) -> Result<(), NoMemory> {
+        if node >= first_word {
+            self.note_word(words, node - first_word);
+            return Ok(());
+        }
+        if !is_set(self.left.as_slice(), node) {
+            return Ok(());
+        }
+        let Some(reason) = self.reason(parts, words, node)? else {
+            return Ok(());
+        };
+        self.reasons.push(reason)?;
+        if node < self.left.len() {
+            self.left[node] = false;
+        }
+        Ok(())
+    }
+
+    /// Notes that a word is out.
+    fn note_word(&mut self, words: &[OwnWord], number: usize) {
+        let Some(word) = words.get(number) else {
+            return;
+        };
+        if word.optional < self.causes.len() && self.causes[word.optional].is_none() {
+            self.causes[word.optional] = Some(number);
+        }
+    }
+
+    /// Why an optional goes out now.
+    fn reason(
+        &self,
+        parts: &[Part],
+        words: &[OwnWord],
+        optional: usize,
+    ) -> Result<Option<Reason>, NoMemory> {
+        let Some(part) = parts.get(optional) else {
+            return Ok(None);
+        };
+        if self.is_out(part.inside) {
+            return Ok(Some(Reason::ParentOut {
+                optional: small(optional)?,
+            }));
+        }
+        missing(words, self.cause(optional))
+    }
+
+    fn is_out(&self, parent: Option<usize>) -> bool {
+        match parent {
+            Some(optional) => !is_set(self.left.as_slice(), optional),
+            None => false,
+        }
+    }
+
+    fn cause(&self, optional: usize) -> Option<usize> {
+        *self.causes.get(optional)?
+    }
+}
+
+/// The reason that a word gives.
+fn missing(words: &[OwnWord], number: Option<usize>) -> Result<Option<Reason>, NoMemory> {
+    let Some(at) = number else {
+        return Ok(None);
+    };
+    let Some(word) = words.get(at) else {
+        return Ok(None);
+    };
+    Ok(Some(Reason::Missing {
+        optional: small(word.optional)?,
+        instance: small(word.instance)?,
+        word: small(word.word)?,
+    }))
+}

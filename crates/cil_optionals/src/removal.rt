@@ -1,0 +1,147 @@
+//! The greatest set of optionals by removal: an optional for which there is a reason is taken out, until there is none. It costs
+//! a pass over the words of all optionals for each turn, and there may be as many turns as optionals.
+
+ghost use Rattle.std.specs.Prelude.{◌≡◌, [], IfOk, MatchOption, OnOk, length, slice_get, Some, true, map, set, false, ◌++◌, ◌∷◌};
+ghost use Rattle.std.specs.List.{list_all};
+ghost use Rattle.cil_names.specs.Entries.{is_in};
+ghost use Rattle.cil_optionals.specs.Certificate.{left_out};
+ghost use Rattle.cil_optionals.specs.Parts.{IsShown, lacks, names_one};
+ghost use Rattle.cil_optionals.specs.Removals.{IsPassed, IsReasonNow, IsTaken, IsTurned, IsWellAt};
+ghost use Rattle.cil_optionals.specs.declared.reason.Reason.TheVariants.{ParentOut};
+ghost use Rattle.cil_optionals.specs.declared.part.Part.{Part as ThePart};
+
+use crate::chosen::Chosen;
+use crate::declared::{is_set, names_one};
+use crate::part::Part;
+use crate::reason::Reason;
+use cil_modset::NoMemory;
+use cil_names::{Candidates, Entry, OptSet};
+use std::alloc::Global;
+
+/// The greatest set, by passes over all statements until one takes nothing out.
+pub fn by_removal(alloc: Global, parts: &[Part], entries: &[Entry]) -> Result<Chosen, NoMemory>
+    ensures { IfOk result (λ c. IsShown parts.now entries.now (is_in c.enabled) c.reasons.items) }
+{
+    let mut left = optionals_of(alloc, parts)?;
+    let mut reasons = Vec::new(alloc);
+    let mut taken = true;
+    while taken {
+        taken = pass(parts, entries, &mut left, &mut reasons)?;
+    }
+    Ok(Chosen {
+        enabled: OptSet::of(left),
+        reasons,
+    })
+}
+
+/// A flag for each statement: whether it is an optional.
+pub(crate) fn optionals_of(alloc: Global, parts: &[Part]) -> Result<Vec<bool>, NoMemory>
+    ensures { IfOk result (λ left. left.items ≡ map (λ (p : ThePart). p.optional) parts.now) }
+{
+    let mut left = Vec::new(alloc);
+    for part in parts {
+        left.push(part.optional)?;
+    }
+    Ok(left)
+}
+
+/// Judges all statements, each by what is left when its turn comes. It returns whether an optional was taken out.
+fn pass(
+    parts: &[Part],
+    entries: &[Entry],
+    left: &mut Vec<bool>,
+    reasons: &mut Vec<Reason>,
+) -> Result<bool, NoMemory>
+    requires { IsTaken parts.now entries.now left.old.items reasons.old.items }
+    ensures steps { OnOk result (IsTaken parts.now entries.now left.new.items reasons.new.items) }
+    ensures passed { IfOk result (λ taken. IsPassed parts.now entries.now (length parts.now) left.old.items left.new.items taken) }
+{
+    let mut taken = false;
+    for at in 0..parts.len() {
+        let out = turn(parts, entries, left, reasons, at)?;
+        taken |= out;
+    }
+    Ok(taken)
+}
+
+/// Judges the statement at a place, and takes out an optional if the statement is a reason to. It returns whether it did.
+fn turn(
+    parts: &[Part],
+    entries: &[Entry],
+    left: &mut Vec<bool>,
+    reasons: &mut Vec<Reason>,
+    at: usize,
+) -> Result<bool, NoMemory>
+    requires { IsTaken parts.now entries.now left.old.items reasons.old.items }
+    ensures steps { OnOk result (IsTaken parts.now entries.now left.new.items reasons.new.items) }
+    ensures turned { IfOk result (λ taken. IsTurned parts.now entries.now at left.old.items left.new.items taken) }
+{
+    let Some(reason) = judged(parts, entries, left.as_slice(), at)? else {
+        return Ok(false);
+    };
+    reasons.push(reason)?;
+    left[reason.left_out() as usize] = false;
+    Ok(true)
+}
+
+/// The reason to take out an optional that the statement at a place gives; none where all is well with it.
+fn judged(
+    parts: &[Part],
+    entries: &[Entry],
+    left: &[bool],
+    at: usize,
+) -> Result<Option<Reason>, NoMemory>
+    ensures { IfOk result (λ r. MatchOption r (IsWellAt parts.now entries.now left.now at) (IsReasonNow parts.now entries.now left.now)) }
+{
+    let Some(part) = parts.get(at) else {
+        return Ok(None);
+    };
+    let Some(optional) = part.inside else {
+        return Ok(None);
+    };
+    if !is_set(left, optional) {
+        return parent_out(left, at);
+    }
+    let Some(word) = first_lacking(&part.asked, entries, left) else {
+        return Ok(None);
+    };
+    Ok(Some(Reason::Missing {
+        optional: small(optional)?,
+        instance: small(at)?,
+        word: small(word)?,
+    }))
+}
+
+/// The reason to take out the statement at a place, if it is an optional that is left. That round it is out.
+fn parent_out(left: &[bool], at: usize) -> Result<Option<Reason>, NoMemory>
+    ensures { IfOk result (λ r. MatchOption r (is_in left.now at ≡ false) (λ reason. (reason ≡ ParentOut at) × (is_in left.now at ≡ true))) }
+{
+    if !is_set(left, at) {
+        return Ok(None);
+    }
+    Ok(Some(Reason::ParentOut {
+        optional: small(at)?,
+    }))
+}
+
+/// The number of the first word that names nothing.
+fn first_lacking(asked: &Candidates, entries: &[Entry], left: &[bool]) -> Option<usize>
+    ensures { MatchOption result (list_all (names_one entries.now (is_in left.now)) asked.now ≡ true) (λ j. lacks (names_one entries.now (is_in left.now)) asked.now j ≡ true) }
+{
+    for word in 0..asked.len() {
+        if !names_one(entries, left, asked.row(word)) {
+            return Some(word);
+        }
+    }
+    None
+}
+
+/// The same number in four bytes. Out of memory where it does not fit.
+pub(crate) fn small(number: usize) -> Result<u32, NoMemory>
+    ensures { IfOk result (λ same. same ≡ number) }
+{
+    if number > u32::MAX as usize {
+        return Err(NoMemory);
+    }
+    Ok(number as u32)
+}

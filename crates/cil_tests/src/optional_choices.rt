@@ -1,0 +1,519 @@
+//! Choices of optionals, right and wrong: what `check` says of them, and that what is chosen is right.
+
+use crate::answers::{Question, answer_to};
+use crate::policies::FIRST;
+use cil_macros::Instances;
+use cil_names::{OptSet, declare, permissions_of};
+use cil_optionals::guesses::guess;
+use cil_optionals::laws::greatest_in_rounds;
+use cil_optionals::{Chosen, Reason, check, greatest_counted};
+use std::alloc::Global;
+
+// The first policy has the statements 0 to 8. Those of the module behind it have the numbers from 9 on: first those that are
+// in no optional, then what is in each of these.
+
+/// The optional 9 has the rule 11, the optional 10 the type 12 and the rule 13.
+const CHAIN: &str =
+    "(optional A (allow a x (file (read))))(optional B (type x)(allow x nobody (file (read))))";
+
+const NOBODY: Reason = Reason::Missing {
+    optional: 10,
+    instance: 13,
+    word: 1,
+};
+
+const NO_X: Reason = Reason::Missing {
+    optional: 9,
+    instance: 11,
+    word: 1,
+};
+
+/// The optional 9 has the type 11 and the rule 12, the optional 10 the type 13 and the rule 14.
+const MUTUAL: &str =
+    "(optional A (type x)(allow x y (file (read))))(optional B (type y)(allow y x (file (read))))";
+
+/// The optional 9 has the statement 10, and the optional 11 with the type 12.
+const NESTED: &str = "(optional A (roletype r nobody)(optional B (type z)))";
+
+const OUTER_OUT: Reason = Reason::Missing {
+    optional: 9,
+    instance: 10,
+    word: 1,
+};
+
+const PARENT_OUT: Reason = Reason::ParentOut { optional: 11 };
+
+/// What a choice is about, the module behind the first policy, the optionals that are in, the reasons of the others, and
+/// whether that is right.
+const CHOICES: &[(&str, &str, &[usize], &[Reason], bool)] = &[
+    ("a chain", CHAIN, &[], &[NOBODY, NO_X], true),
+    (
+        "a chain, the other order",
+        CHAIN,
+        &[],
+        &[NO_X, NOBODY],
+        false,
+    ),
+    (
+        "a chain, one without a reason",
+        CHAIN,
+        &[],
+        &[NOBODY],
+        false,
+    ),
+    ("a chain, no reasons", CHAIN, &[], &[], false),
+    ("a chain, all are in", CHAIN, &[9, 10], &[], false),
+    (
+        "a chain, one is in whose word names nothing",
+        CHAIN,
+        &[9],
+        &[NOBODY],
+        false,
+    ),
+    (
+        "a chain, one twice",
+        CHAIN,
+        &[],
+        &[NOBODY, NOBODY, NO_X],
+        false,
+    ),
+    (
+        "a chain, one twice at the end",
+        CHAIN,
+        &[],
+        &[NOBODY, NO_X, NO_X],
+        false,
+    ),
+    (
+        "a chain, one is in and out",
+        CHAIN,
+        &[10],
+        &[NOBODY, NO_X],
+        false,
+    ),
+    (
+        "a word that its own optional declares",
+        CHAIN,
+        &[],
+        &[
+            Reason::Missing {
+                optional: 10,
+                instance: 13,
+                word: 0,
+            },
+            NO_X,
+        ],
+        false,
+    ),
+    (
+        "a permission that is there",
+        CHAIN,
+        &[],
+        &[
+            NOBODY,
+            Reason::Missing {
+                optional: 9,
+                instance: 11,
+                word: 3,
+            },
+        ],
+        false,
+    ),
+    (
+        "a word that is not there",
+        CHAIN,
+        &[],
+        &[
+            Reason::Missing {
+                optional: 10,
+                instance: 13,
+                word: 4,
+            },
+            NO_X,
+        ],
+        false,
+    ),
+    (
+        "the word of another optional",
+        CHAIN,
+        &[],
+        &[
+            NOBODY,
+            Reason::Missing {
+                optional: 9,
+                instance: 13,
+                word: 1,
+            },
+        ],
+        false,
+    ),
+    (
+        "the word of a statement outside",
+        CHAIN,
+        &[],
+        &[
+            NOBODY,
+            Reason::Missing {
+                optional: 9,
+                instance: 8,
+                word: 1,
+            },
+        ],
+        false,
+    ),
+    (
+        "no optional is round it",
+        CHAIN,
+        &[],
+        &[NOBODY, Reason::ParentOut { optional: 9 }],
+        false,
+    ),
+    (
+        "numbers of nothing",
+        CHAIN,
+        &[],
+        &[
+            NOBODY,
+            NO_X,
+            Reason::Missing {
+                optional: 4294967295,
+                instance: 4294967295,
+                word: 4294967295,
+            },
+        ],
+        false,
+    ),
+    (
+        "a statement of no number",
+        CHAIN,
+        &[],
+        &[
+            Reason::Missing {
+                optional: 10,
+                instance: 4294967295,
+                word: 1,
+            },
+            NO_X,
+        ],
+        false,
+    ),
+    (
+        "the parent of no number",
+        CHAIN,
+        &[],
+        &[NOBODY, NO_X, Reason::ParentOut { optional: 14 }],
+        false,
+    ),
+    (
+        "a reason for what is no optional",
+        CHAIN,
+        &[],
+        &[
+            NOBODY,
+            NO_X,
+            Reason::Missing {
+                optional: 11,
+                instance: 11,
+                word: 1,
+            },
+        ],
+        false,
+    ),
+    (
+        "a number of nothing is in",
+        CHAIN,
+        &[14],
+        &[NOBODY, NO_X],
+        false,
+    ),
+    (
+        "a number far from all is in",
+        CHAIN,
+        &[30],
+        &[NOBODY, NO_X],
+        false,
+    ),
+    (
+        "what is no optional is in",
+        CHAIN,
+        &[11],
+        &[NOBODY, NO_X],
+        false,
+    ),
+    ("two that need each other", MUTUAL, &[9, 10], &[], true),
+    (
+        "two that need each other are out: a good set that is not the greatest",
+        MUTUAL,
+        &[],
+        &[
+            Reason::Missing {
+                optional: 9,
+                instance: 12,
+                word: 1,
+            },
+            Reason::Missing {
+                optional: 10,
+                instance: 14,
+                word: 1,
+            },
+        ],
+        false,
+    ),
+    (
+        "one of two that need each other is out",
+        MUTUAL,
+        &[9],
+        &[Reason::Missing {
+            optional: 10,
+            instance: 14,
+            word: 1,
+        }],
+        false,
+    ),
+    (
+        "an optional in another",
+        NESTED,
+        &[],
+        &[OUTER_OUT, PARENT_OUT],
+        true,
+    ),
+    (
+        "the inner one first",
+        NESTED,
+        &[],
+        &[PARENT_OUT, OUTER_OUT],
+        false,
+    ),
+    ("the inner one stays", NESTED, &[11], &[OUTER_OUT], false),
+    (
+        "the word of an inner optional, which has none",
+        NESTED,
+        &[],
+        &[
+            OUTER_OUT,
+            Reason::Missing {
+                optional: 11,
+                instance: 12,
+                word: 0,
+            },
+        ],
+        false,
+    ),
+    (
+        "a word of the outer optional for the inner one",
+        NESTED,
+        &[],
+        &[
+            OUTER_OUT,
+            Reason::Missing {
+                optional: 11,
+                instance: 10,
+                word: 1,
+            },
+        ],
+        false,
+    ),
+    ("no optionals", "(type z)", &[], &[], true),
+    ("no optionals, and one is in", "(type z)", &[9], &[], false),
+    (
+        "no optionals, and one is out",
+        "(type z)",
+        &[],
+        &[Reason::ParentOut { optional: 0 }],
+        false,
+    ),
+];
+
+/// What `check` says of a choice.
+#[derive(Drop)]
+struct Checked {
+    enabled: &'static [usize],
+    reasons: &'static [Reason],
+}
+
+/// More flags than the policies have statements.
+const FLAGS: usize = 32;
+
+/// A choice. None where there is no memory.
+fn choice(alloc: Global, enabled: &[usize], reasons: &[Reason]) -> Option<Chosen> {
+    let mut flags = Vec::new(alloc);
+    for number in 0..FLAGS {
+        flags.push(enabled.iter().any(|one| *one == number)).ok()?;
+    }
+    let mut listed = Vec::new(alloc);
+    for reason in reasons {
+        listed.push(*reason).ok()?;
+    }
+    Some(Chosen {
+        enabled: OptSet::of(flags),
+        reasons: listed,
+    })
+}
+
+impl Question for Checked {
+    fn answer(&self, alloc: Global, instances: &Instances) -> Option<String> {
+        let Ok(names) = declare(alloc, instances) else {
+            return None;
+        };
+        let Ok(permissions) = permissions_of(alloc, &names, instances) else {
+            return None;
+        };
+        let permissions = permissions.as_slice();
+        let chosen = choice(alloc, self.enabled, self.reasons)?;
+        let is_right = check(alloc, &*instances, &names, permissions, &chosen).ok()?;
+        let mut out = String::new(alloc);
+        write!(out, "{is_right}").ok()?;
+        Some(out)
+    }
+}
+
+#[test]
+fn choices_of_optionals_are_checked(rt: HostRuntime) {
+    for &(about, text, enabled, reasons, want) in CHOICES {
+        let answer = answer_to(rt.alloc(), &[FIRST, text], &Checked { enabled, reasons });
+        let want = if want { "true" } else { "false" };
+        assert!(rt; answer.is_some_and(|got| got.as_str() == want), "{about}");
+    }
+}
+
+/// What `check` says of what is chosen, how many optionals that removed and the look-ups it took; the same of what is guessed; and
+/// whether rounds leave out as many.
+struct Picked;
+
+impl Question for Picked {
+    fn answer(&self, alloc: Global, instances: &Instances) -> Option<String> {
+        let Ok(names) = declare(alloc, instances) else {
+            return None;
+        };
+        let Ok(permissions) = permissions_of(alloc, &names, instances) else {
+            return None;
+        };
+        let permissions = permissions.as_slice();
+        let counted = greatest_counted(alloc, &*instances, &names, permissions).ok()?;
+        let (removals, lookups) = (counted.removals, counted.lookups);
+        let is_right = check(alloc, &*instances, &names, permissions, &counted.chosen).ok()?;
+        let walk = guess(alloc, &*instances, &names, permissions).ok()?;
+        let is_guessed = check(alloc, &*instances, &names, permissions, &walk.chosen).ok()?;
+        let (guessed_out, guessed_lookups) = (walk.chosen.reasons.len(), walk.lookups);
+        let rounds = greatest_in_rounds(alloc, &*instances, &names, permissions).ok()?;
+        let out_in_rounds = rounds.reasons.len();
+        let mut answer = String::new(alloc);
+        write!(answer, "{is_right} {removals} {lookups}, ").ok()?;
+        write!(answer, "{is_guessed} {guessed_out} {guessed_lookups}, ").ok()?;
+        write!(answer, "{out_in_rounds}").ok()?;
+        Some(answer)
+    }
+}
+
+/// Modules behind the first policy, how many optionals are left out, and how many look-ups that takes.
+const PICKED: &[(&str, u64, u64)] = &[
+    ("(type z)", 0, 0),
+    // The type `x`, and the word `x` in both.
+    (CHAIN, 2, 3),
+    (MUTUAL, 0, 0),
+    // The type `z`.
+    (NESTED, 2, 1),
+    // In an optional that is in, one is out; another has what that declares: the type `y`, and the word `y`.
+    (
+        "(optional A (type z)(optional B (type y)(roletype r nobody)))(optional C (roletype r z))(optional D (roletype r y))",
+        2,
+        2,
+    ),
+    // One name in three optionals, of which one is in: two types `x`, and no word, since the name is declared.
+    (
+        "(optional o (type x)(roletype r nobody))(optional o (type x)(roletype r x))(optional o (type x)(roletype r none))(optional p (roletype r x))",
+        2,
+        2,
+    ),
+    // The same, and none is in: two types `x`, and a word.
+    (
+        "(optional o (type x)(roletype r nobody))(optional o (type x)(roletype r none))(optional p (roletype r x))",
+        3,
+        3,
+    ),
+    // A name that is declared outside too: one type, and no word.
+    (
+        "(type z)(optional o (type z)(roletype r nobody))(optional p (roletype r z))",
+        1,
+        1,
+    ),
+    // One word twice: the type, and twice the word.
+    (
+        "(optional o (type x)(roletype r nobody))(optional p (allow x x (file (read))))",
+        2,
+        3,
+    ),
+    // A word outside all optionals is not looked at.
+    ("(optional o (role x)(roletype r nobody))(type x)(roletype r x)", 1, 1),
+    // A class that is missing, a permission that is, and a macro.
+    (
+        "(optional o (allow a b (dir (read))))(optional p (allow a b (file (write))))(optional q (call m (a)))",
+        3,
+        0,
+    ),
+    // A macro that is called twice, once where its name is there.
+    (
+        "(macro m () (optional o (allow a x (file (open)))))(call m)(block n (type x)(roletype .r x)(call m))",
+        1,
+        0,
+    ),
+    // A template that is inherited twice, and a nearer name that is out: the types `k.x` and `n.x`, and a word for each.
+    (
+        "(block t (blockabstract t)(optional o (type x)(roletype .r nobody))(optional p (roletype .r x)))(block k (blockinherit t))(block n (blockinherit t))(type x)",
+        2,
+        4,
+    ),
+    // Three in a ring, of which one has a name that is missing.
+    (
+        "(optional o (type x)(roletype r y))(optional p (type y)(roletype r z))(optional q (type z)(roletype r x)(roletype r nobody))",
+        3,
+        6,
+    ),
+    // Optionals in one another, of which the middle one is out.
+    (
+        "(optional o (type x)(optional p (roletype r nobody)(optional q (roletype r x)(optional s))))(optional t (roletype r x))",
+        3,
+        0,
+    ),
+];
+
+/// How `Picked` answers where so many optionals are left out and so many look-ups belong to that.
+fn picked(alloc: Global, removals: u64, lookups: u64) -> Option<String> {
+    let mut answer = String::new(alloc);
+    write!(answer, "true {removals} {lookups}, true {removals} {lookups}, {removals}").ok()?;
+    Some(answer)
+}
+
+#[test]
+fn what_is_chosen_is_right(rt: HostRuntime) {
+    for &(text, removals, lookups) in PICKED {
+        let answer = answer_to(rt.alloc(), &[FIRST, text], &Picked);
+        let want = picked(rt.alloc(), removals, lookups);
+        assert!(rt; answer.is_some_and(|got| want.is_some_and(|want| got.as_str() == want.as_str())), "{text}");
+    }
+}
+
+/// A chain of 1,000 optionals, each of which declares a type and wants that of the next. The name of the last is that of this
+/// number, which no optional declares or the first.
+fn chain(alloc: Global, last: u32) -> Option<String> {
+    let mut text = String::new(alloc);
+    for number in 0..1000_u32 {
+        let wanted = if number == 999 { last } else { number + 1 };
+        write!(text, "(optional o{number} (type x{number})(roletype r x{wanted}))").ok()?;
+    }
+    Some(text)
+}
+
+#[test]
+fn a_chain_takes_a_look_up_for_each_type_and_each_word(rt: HostRuntime) {
+    // All are out: 1,000 types, and 999 words, since nothing declares the last.
+    for &(last, removals, lookups) in &[(1000, 1000, 1999), (0, 0, 0)] {
+        let Some(text) = chain(rt.alloc(), last) else {
+            assert!(rt; false, "no memory");
+            return;
+        };
+        let answer = answer_to(rt.alloc(), &[FIRST, text.as_str()], &Picked);
+        let want = picked(rt.alloc(), removals, lookups);
+        assert!(rt; answer.is_some_and(|got| want.is_some_and(|want| got.as_str() == want.as_str())), "{last}");
+    }
+}
