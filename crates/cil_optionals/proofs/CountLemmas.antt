@@ -18,7 +18,7 @@ use Rattle.cil_names.proofs.AnswerLemmas.{by_place, known_live, unknown_gone}
 use Rattle.cil_names.proofs.CandidateLemmas.{place_is}
 use Rattle.cil_names.proofs.PermissionWordLemmas.{always_declared, permission_answer}
 use Rattle.cil_optionals.specs.declared.part.Part.{Part}
-use Rattle.cil_optionals.specs.Counts.{lookups, lost_candidates, lost_in}
+use Rattle.cil_optionals.specs.Counts.{is_lost, lookups, lost_candidates, lost_in}
 use Rattle.cil_optionals.specs.PartCounts.{AreLookups, lost_among, lost_by, lost_of}
 use Rattle.cil_optionals.specs.Parts.{ArePartsOf, asked_by, part_of}
 
@@ -110,4 +110,4 @@ module _ (ss : List Space) (are : AreNamespaces ss) (xs : List Item) (es : List 
 pub lookups_are : (ss : List Space) (es : List Entry) (xs : List Item) (ps : List Part) → ArePartsOf ss es xs ps → (s : OptSet) (n : ℕ) → AreLookups xs ps es s n
     → n ≡ lookups xs s
 unfolding lookups
-lookups_are ss es xs ps of s n e = e ∙ ap (λ m. count_by _ xs + m) (lost_parts ss of.namespaces xs es of.entries s ps of.parts)
+lookups_are ss es xs ps of s n e = e ∙ ap (λ m. count_by (is_lost s) xs + m) (lost_parts ss of.namespaces xs es of.entries s ps of.parts)

@@ -9,6 +9,7 @@ use Rattle.cil_syntax.specs.Forms.{BeginsWithName, name_in_front}
 use Rattle.cil_syntax.specs.Program.{statement_of}
 use Rattle.cil_syntax.specs.Said.{args_of}
 use Rattle.cil_syntax.specs.Table.{entry_of}
+use Rattle.cil_syntax.specs.Terms.{Name, cons}
 use Rattle.cil_blocks.specs.Entries.{nothing}
 use Rattle.cil_macros.specs.Item.{Item}
 use Rattle.cil_macros.specs.Items.{Kept, item_at, items_in, placed_at, says_as_written}
@@ -46,5 +47,7 @@ module _ (i : Kept) (k : ℕ) where
       pub declares_one : (at : Spot) (name : List ℕ) → BeginsWithName (args_of s) at name → true ≡ declares (item_at i k)
       declares_one at name begins =
           let here = begins_there i k s is written at name begins in
-          sym (ap is_some_of (ap (declarations (item_at i k).space (entry_of (item_at i k).keyword).declares) here.1))
-          ∙ ap (λ ks. is_some_of (declarations (item_at i k).space ks _)) (sym kind_there)
+          sym (
+          ap (λ args. is_some_of (declarations (item_at i k).space (entry_of (item_at i k).keyword).declares args)) here.1
+          ∙ ap (λ ks. is_some_of (declarations (item_at i k).space ks (cons (Name at name) here.0))) kind_there
+          )

@@ -40,8 +40,8 @@ one_removed n zero s t (x ∷ xs) there in_s out e =
 one_removed n (suc q) s t (x ∷ xs) there in_s out e =
     let same : n + suc q ≡ suc n + q = omega arith in
     let rest =
-      one_removed (suc n) q s t xs there (subst (λ k. s k ≡ true) same in_s) (subst (λ k. t k ≡ false) same out)
-      (λ o d. e o (ap (λ k. k == o) same ∙ d)) in
+    one_removed (suc n) q s t xs there (subst (λ k. s k ≡ true) same in_s) (subst (λ k. t k ≡ false) same out)
+    (λ o d. e o (ap (λ k. k == o) same ∙ d)) in
     let here : s n ≡ t n = e n (let d : (n + suc q == n) ≡ false = grind (arith, nat_tests) in d) in
     later (cond (is_one x && not (s n)) 1 0) (cond (is_one x && not (t n)) 1 0) _ _ (ap (λ b. cond (is_one x && not b) 1 0) here) rest
   where
@@ -57,9 +57,9 @@ none_removed n s (x ∷ xs) all =
     (none_removed (suc n) s xs (λ q h. subst (λ k. s k ≡ true) (let z : n + suc q ≡ suc n + q = omega arith in z) (all (suc q) h)))
   where
     none : (a b : Bool) (k : ℕ) → (a ≡ true → b ≡ true) → k ≡ 0 → cond (a && not b) 1 0 + k ≡ 0
-    none true true k f e = e
+    none true true k f e = omega (arith, e)
     none true false k f e = absurd (let g : false ≡ true = f refl in cc)
-    none false b k f e = e
+    none false b k f e = omega (arith, e)
 
 -- ---- one reason after another
 
@@ -105,9 +105,11 @@ module _ (xs : List Item) where
   -- one more is out
   push : (out : List ℕ) (q : ℕ) → is_optional_at xs q ≡ true → among out q ≡ false → removals xs (all_but xs (q ∷ out)) ≡ removals xs (all_but xs out) + 1
   push out q optional fresh =
-      one_removed 0 q (all_but xs out) (all_but xs (q ∷ out)) xs optional (there (is_optional_at xs q) (among out q) optional fresh)
-      (gone (is_optional_at xs q) ((q == q) || among out q) (or_left (q == q) (among out q) (is_self q)))
-      (λ o d. sym (ap (λ b. is_optional_at xs o && not (b || among out o)) d))
+      let same : q ≡ 0 + q = omega arith in
+      one_removed 0 q (all_but xs out) (all_but xs (q ∷ out)) xs optional
+      (subst (λ k. all_but xs out k ≡ true) same (there (is_optional_at xs q) (among out q) optional fresh))
+      (subst (λ k. all_but xs (q ∷ out) k ≡ false) same (gone (is_optional_at xs q) ((q == q) || among out q) (or_left (q == q) (among out q) (is_self q))))
+      (λ o d. sym (ap (λ b. is_optional_at xs o && not (b || among out o)) (ap (λ k. k == o) same ∙ d)))
 
   counted : (out : List ℕ) (rs : List Reason) → InOrder xs out rs → AreOptionals rs → removals xs (after out rs) ≡ removals xs (all_but xs out) + length rs
   counted out [] order optional =
@@ -115,7 +117,7 @@ module _ (xs : List Item) where
   counted out (r ∷ rs) (one_more o q qs fresh holds order) optional =
       let rest = counted (left_out r ∷ out) rs order (λ p h. optional p (or_right (left_out r == p) (among (map left_out rs) p) h)) in
       let same : removals xs (after out (r ∷ rs)) ≡ removals xs (after (left_out r ∷ out) rs) =
-        ap (removals xs) (λ i p. is_optional_at xs p && not (or_over (among out p) (left_out r == p) (among (map left_out rs) p) i)) in
+      ap (removals xs) (λ i p. is_optional_at xs p && not (or_over (among out p) (left_out r == p) (among (map left_out rs) p) i)) in
       let one = push out (left_out r) (optional (left_out r) (or_left (left_out r == left_out r) (among (map left_out rs) (left_out r)) (is_self (left_out r)))) fresh in
       omega (arith, rest, same, one)
 
@@ -131,5 +133,5 @@ module _ (xs : List Item) where
       let all = counted [] rs right.order optional in
       let none = none_removed 0 (all_but xs []) xs (λ q h. there (is_optional_at xs q) false h refl) in
       let same : removals xs enabled ≡ removals xs (after [] rs) =
-        ap (removals xs) (λ i o. left_by (is_optional_at xs o) (enabled o) (among (map left_out rs) o) (right.each o) (right.apart o) i) in
+      ap (removals xs) (λ i o. left_by (is_optional_at xs o) (enabled o) (among (map left_out rs) o) (right.each o) (right.apart o) i) in
       omega (arith, all, none, same)

@@ -71,7 +71,13 @@ fn declares(instances: &Instances, at: usize) -> bool
     let Some(statement) = instances.statement_there(at) else {
         return false;
     };
-    statement.keyword.declares().is_some() && statement.declared_name().is_some()
+    let Some(_kind) = statement.keyword.declares() else {
+        return false;
+    };
+    let Some(_name) = statement.declared_name() else {
+        return false;
+    };
+    true
 }
 
 /// How many entries that are not declared the words in optionals could name, each word by itself.

@@ -35,11 +35,7 @@ pub fn guess<'r, 'a>(
 }
 
 /// A guess by the parts of all statements.
-pub(crate) fn guess_by(
-    alloc: Global,
-    parts: &[Part],
-    entries: &[Entry],
-) -> Result<Walk, NoMemory> {
+pub(crate) fn guess_by(alloc: Global, parts: &[Part], entries: &[Entry]) -> Result<Walk, NoMemory> {
     let mut graph = Graph {
         edges: Vec::new(alloc),
         need: Vec::new(alloc),

@@ -444,7 +444,11 @@ const PICKED: &[(&str, u64, u64)] = &[
         3,
     ),
     // A word outside all optionals is not looked at.
-    ("(optional o (role x)(roletype r nobody))(type x)(roletype r x)", 1, 1),
+    (
+        "(optional o (role x)(roletype r nobody))(type x)(roletype r x)",
+        1,
+        1,
+    ),
     // A class that is missing, a permission that is, and a macro.
     (
         "(optional o (allow a b (dir (read))))(optional p (allow a b (file (write))))(optional q (call m (a)))",
@@ -480,7 +484,11 @@ const PICKED: &[(&str, u64, u64)] = &[
 /// How `Picked` answers where so many optionals are left out and so many look-ups belong to that.
 fn picked(alloc: Global, removals: u64, lookups: u64) -> Option<String> {
     let mut answer = String::new(alloc);
-    write!(answer, "true {removals} {lookups}, true {removals} {lookups}, {removals}").ok()?;
+    write!(
+        answer,
+        "true {removals} {lookups}, true {removals} {lookups}, {removals}"
+    )
+    .ok()?;
     Some(answer)
 }
 
@@ -489,7 +497,10 @@ fn what_is_chosen_is_right(rt: HostRuntime) {
     for &(text, removals, lookups) in PICKED {
         let answer = answer_to(rt.alloc(), &[FIRST, text], &Picked);
         let want = picked(rt.alloc(), removals, lookups);
-        assert!(rt; answer.is_some_and(|got| want.is_some_and(|want| got.as_str() == want.as_str())), "{text}");
+        assert!(rt;
+            answer.is_some_and(|got| want.is_some_and(|want| got.as_str() == want.as_str())),
+            "{text}"
+        );
     }
 }
 
@@ -499,7 +510,11 @@ fn chain(alloc: Global, last: u32) -> Option<String> {
     let mut text = String::new(alloc);
     for number in 0..1000_u32 {
         let wanted = if number == 999 { last } else { number + 1 };
-        write!(text, "(optional o{number} (type x{number})(roletype r x{wanted}))").ok()?;
+        write!(
+            text,
+            "(optional o{number} (type x{number})(roletype r x{wanted}))"
+        )
+        .ok()?;
     }
     Some(text)
 }
@@ -514,6 +529,9 @@ fn a_chain_takes_a_look_up_for_each_type_and_each_word(rt: HostRuntime) {
         };
         let answer = answer_to(rt.alloc(), &[FIRST, text.as_str()], &Picked);
         let want = picked(rt.alloc(), removals, lookups);
-        assert!(rt; answer.is_some_and(|got| want.is_some_and(|want| got.as_str() == want.as_str())), "{last}");
+        assert!(rt;
+            answer.is_some_and(|got| want.is_some_and(|want| got.as_str() == want.as_str())),
+            "{last}"
+        );
     }
 }

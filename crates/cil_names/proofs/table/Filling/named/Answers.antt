@@ -16,7 +16,7 @@ returns-clause-first c =
     let f = c.args.self.now in
     let told = rw c.entries.ensures.value at c.resolve-named.ensures in
     let is : c.resolve-named.result
-        ≡ find (is_declared_at (enabled_by f) f.lookup.names.now) (candidates_of f.lookup.spaces.now f.lookup.names.now (scoped f.lookup.spaces.now c.as_slice.result.now c.args.word.now.word)) =
+    ≡ find (is_declared_at (enabled_by f) f.lookup.names.now) (candidates_of f.lookup.spaces.now f.lookup.names.now (scoped f.lookup.spaces.now c.as_slice.result.now c.args.word.now.word)) =
     told ∙ found_flagged (enabled_by f) f.lookup.names.now f.declared.now c.requires.declared _ in search (rules, is)
 
 pub returns-clause-within : goal.returns-clause-within
