@@ -34,17 +34,9 @@ use Rattle.cil_blocks.proofs.EntryLemmas.{standings_length}
 use Rattle.cil_sexpr.specs.Places.{none_some}
 use Rattle.cil_blocks.proofs.ReportLemmas.{told_so}
 use Rattle.cil_sexpr.specs.Rising.{not_over}
+use Rattle.cil_syntax.proofs.RefusalLemmas.{faults_alike}
 
 -- ---- lists of faults
-
-pub faults_alike : (P Q : Fault → Type 0) (l : List Fault) → ((f : Fault) → P f → Q f) → ((f : Fault) → Q f → P f) → AreFaults P l → AreFaults Q l
-faults_alike P Q l to back h = record {
-  listed = record {
-    rising = h.listed.rising;
-    members = λ f. ((λ c. to f ((h.listed.members f).0 c)), (λ q. (h.listed.members f).1 (back f q)));
-  };
-  some = h.some;
-}
 
 pub all_alike : (P Q : Fault → Type 0) (o : Option (List Fault)) → ((f : Fault) → P f → Q f) → ((f : Fault) → Q f → P f) → AreAllFaults P o → AreAllFaults Q o
 all_alike P Q None to back h = λ f q. h f (back f q)
@@ -249,11 +241,6 @@ limit_listed l none faults space word n e f is h =
       alone g c = elim (contains_cases g given [] c) [ inl e' ↦ sym e' ∙ limit_is space word e f | inr d ↦ absurd (contains_none g d) ]
 
 -- ---- what is handed on
-
-pub refused : {X : Type 0} (P : X → Type 0) (step : Fault → Type 0) (r : Result X Failure) (failure : Failure) → IsErrAnd r (λ e. e ≡ failure) → Fails step failure
-    → Answers P step r
-refused P step (Ok x) failure is h = absurd is
-refused P step (Err e) failure is h = subst (Fails step) (sym is) h
 
 pub is_none : {X : Type 0} (P : Type 0) (o : Option X) → o ≡ None → IfNone o P → P
 is_none P None e h = h

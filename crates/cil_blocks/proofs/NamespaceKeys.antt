@@ -4,7 +4,7 @@ use Rattle.std.specs.Prelude.{◌&&◌, Some, slice_get}
 use Rattle.std.specs.List.{list_any}
 use Rattle.std.specs.Cmp.Lexicographic.{same_text}
 use Rattle.std.proofs.Math.Dec.{eqb}
-use Rattle.std.proofs.lemmas.Bool.{eqb-true}
+use Rattle.std.proofs.lemmas.Bool.{eqb-true, and_parts}
 use Rattle.std.proofs.lemmas.List.{append-nil, length-append, map-append}
 use Rattle.std.proofs.lemmas.List.Folds.{list_any_at}
 use Rattle.indexmap.specs.IndexSet.{insert_key}
@@ -21,16 +21,12 @@ use Rattle.cil_blocks.proofs.StandingWalk.{text_true}
 abbrev pub same_key : Key → Key → Bool
 same_key a b = eqb a.0 b.0 && same_bytes a.1.now b.1.now
 
-both_true : (a b : Bool) → (a && b) ≡ true → (a ≡ true) × (b ≡ true)
-both_true true b e = (refl, e)
-both_true false b e = absurd (let f : false ≡ true = e in cc)
-
 eqb_itself : (n : ℕ) → eqb n n ≡ true
 eqb_itself n = grind arith
 
 pub key_same : (a b : Key) → same_key a b ≡ true → (a.0 ≡ b.0) × (a.1.now ≡ b.1.now)
 key_same a b e =
-    let t = both_true (eqb a.0 b.0) (same_bytes a.1.now b.1.now) e in
+    let t = and_parts (eqb a.0 b.0) (same_bytes a.1.now b.1.now) e in
     (eqb-true a.0 b.0 t.0, same_text a.1.now b.1.now (sym t.1))
 
 pub key_true : (a b : Key) → a.0 ≡ b.0 → a.1.now ≡ b.1.now → same_key a b ≡ true

@@ -3,7 +3,7 @@ use Rattle.std.proofs.Common.{◌≡◌, ℕ, zero, suc, ◌+◌, ◌<◌, ◌�
 use Rattle.std.specs.Prelude.{Some, slice_get}
 use Rattle.std.proofs.lemmas.List.{get_or_append_left, length-append}
 use Rattle.std.proofs.Math.Seq.{get_or-append_seam}
-use Rattle.cil_sexpr.specs.Places.{in_range, some_at, some_same}
+use Rattle.cil_sexpr.specs.Places.{in_range, some_at, some_same, cons_head, cons_tail}
 use Rattle.cil_syntax.specs.Scopes.{Namespace}
 use Rattle.cil_blocks.specs.declared.namespaces.Space.{Space}
 use Rattle.cil_blocks.specs.Namespaces.{AreNamespaces, HasNoNumber, IsGrown, IsNumber, space_at, spaces_from}
@@ -72,12 +72,6 @@ number_stays old new n k g is = record {
 
 -- ---- lists
 
-heads : (x y : List ℕ) (m n : Namespace) → x ∷ m ≡ y ∷ n → x ≡ y
-heads x y m n e = cc
-
-tails : (x y : List ℕ) (m n : Namespace) → x ∷ m ≡ y ∷ n → m ≡ n
-tails x y m n e = cc
-
 never_empty : (x : List ℕ) (n : Namespace) → x ∷ n ≡ [] → ⊥
 never_empty x n e = cc
 
@@ -123,10 +117,10 @@ module _ (ss : List Space) (are : AreNamespaces ss) where
       let low = a.behind in
       let high = b.behind in
       let outer = same_number n a.space.outer b.space.outer
-      (record { within = omega (arith, low, one); is = tails a.space.name x (space_at ss a.space.outer) n a.is })
-      (record { within = omega (arith, high, other); is = tails b.space.name x (space_at ss b.space.outer) n b.is }) in
+      (record { within = omega (arith, low, one); is = cons_tail a.space.name x (space_at ss a.space.outer) n a.is })
+      (record { within = omega (arith, high, other); is = cons_tail b.space.name x (space_at ss b.space.outer) n b.is }) in
       ap suc (are.once i j a.space b.space a.at b.at outer
-      (heads a.space.name x (space_at ss a.space.outer) n a.is ∙ sym (heads b.space.name x (space_at ss b.space.outer) n b.is)))
+      (cons_head a.space.name x (space_at ss a.space.outer) n a.is ∙ sym (cons_head b.space.name x (space_at ss b.space.outer) n b.is)))
 
   -- numbers of one namespace are one, and so different numbers are of different namespaces
   pub one_to_one : (i j : ℕ) → i ≤ length ss → j ≤ length ss → space_at ss i ≡ space_at ss j → i ≡ j
@@ -141,8 +135,8 @@ module _ (ss : List Space) (are : AreNamespaces ss) where
       let most = p.within in
       let low = a.behind in
       none i a.space a.at
-      (one_to_one a.space.outer outer (omega (arith, most, low)) within (tails a.space.name name (space_at ss a.space.outer) (space_at ss outer) a.is))
-      (heads a.space.name name (space_at ss a.space.outer) (space_at ss outer) a.is)
+      (one_to_one a.space.outer outer (omega (arith, most, low)) within (cons_tail a.space.name name (space_at ss a.space.outer) (space_at ss outer) a.is))
+      (cons_head a.space.name name (space_at ss a.space.outer) (space_at ss outer) a.is)
 
 -- ---- one more namespace
 

@@ -5,7 +5,7 @@ use Rattle.std.specs.Prelude.{◌&&◌, Contains, Option, Some, None, slice_get}
 use Rattle.std.specs.Option.{option_eq}
 use Rattle.std.specs.List.{list_any}
 use Rattle.std.proofs.Math.Dec.{eqb}
-use Rattle.std.proofs.lemmas.Bool.{eqb-true}
+use Rattle.std.proofs.lemmas.Bool.{eqb-true, and_parts}
 use Rattle.std.proofs.lemmas.List.{append-nil, length-append, take_more, take_all}
 use Rattle.std.proofs.lemmas.List.Elements.{Contains-append_left, Contains-append_right, Contains-append_cases}
 use Rattle.indexmap.specs.IndexSet.{insert_key}
@@ -27,13 +27,9 @@ same_body (Some x) (Some y) e = ap Some (eqb-true x y e)
 abbrev pub pair_eq : Pair → Pair → Bool
 pair_eq p q = option_eq eqb p.0 q.0 && option_eq eqb p.1 q.1
 
-both_true : (a b : Bool) → (a && b) ≡ true → (a ≡ true) × (b ≡ true)
-both_true true b e = (refl, e)
-both_true false b e = absurd (let f : false ≡ true = e in cc)
-
 pub same_pair : (p q : Pair) → pair_eq p q ≡ true → p ≡ q
 same_pair p q e =
-    let b = both_true (option_eq eqb p.0 q.0) (option_eq eqb p.1 q.1) e in
+    let b = and_parts (option_eq eqb p.0 q.0) (option_eq eqb p.1 q.1) e in
     let x = same_body p.0 q.0 b.0 in
     let y = same_body p.1 q.1 b.1 in
     λ i. (x i, y i)

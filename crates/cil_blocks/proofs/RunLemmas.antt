@@ -15,31 +15,7 @@ use Rattle.std.proofs.lemmas.List.Elements.{Contains-append_left, Contains-appen
 use Rattle.std.proofs.lemmas.List.Sorted.{ranks_by, sorted_far}
 use Rattle.cil_sexpr.specs.Lists.{text_cmp, contains_cases, contains_none}
 use Rattle.cil_blocks.specs.Named.{names_cmp}
-
--- ---- the first items of a list, and the others
-
-module _ {X : Type 0} (P : X → Type 0) where
-  in_take : (n : ℕ) (xs : List X) → ((k : ℕ) (d : X) → k < n → k < length xs → P (get_or xs k d)) → (x : X) → Contains (take n xs) x → P x
-  in_take zero xs all x c = absurd (contains_none x c)
-  in_take (suc n) [] all x c = absurd (contains_none x c)
-  in_take (suc n) (y ∷ ys) all x c =
-      elim (contains_cases x y (take n ys) c) [
-        | inl e ↦ subst P e (all 0 y (omega arith) (omega arith))
-        | inr d ↦ in_take n ys (λ k e a b. all (suc k) e (omega (arith, a)) (omega (arith, b))) x d
-      ]
-
-  in_drop : (n : ℕ) (xs : List X) → ((k : ℕ) (d : X) → n ≤ k → k < length xs → P (get_or xs k d)) → (x : X) → Contains (drop n xs) x → P x
-  in_drop n [] all x c = absurd (contains_none x (none n c))
-    where
-      none : (m : ℕ) → Contains (drop m []) x → Contains [] x
-      none zero d = d
-      none (suc m) d = d
-  in_drop zero (y ∷ ys) all x c =
-      elim (contains_cases x y ys c) [
-        | inl e ↦ subst P e (all 0 y (omega arith) (omega arith))
-        | inr d ↦ in_drop zero ys (λ k e a b. all (suc k) e (omega arith) (omega (arith, b))) x d
-      ]
-  in_drop (suc n) (y ∷ ys) all x c = in_drop n ys (λ k e a b. all (suc k) e (omega (arith, a)) (omega (arith, b))) x c
+use Rattle.cil_sexpr.specs.Places.{in_drop, in_take}
 
 -- ---- names
 

@@ -9,6 +9,7 @@ use Rattle.cil_syntax.specs.Scopes.{IsDotless, IsParted, IsTaken, Namespace, apa
 use Rattle.cil_syntax.specs.Spelling.{same_bytes}
 use Rattle.cil_syntax.specs.Written.{Written}
 use Rattle.cil_blocks.specs.Named.{AreFirstNamed, AreOfName, HasNoneNamed, IsAsked}
+use Rattle.cil_syntax.proofs.AskedLemmas.{is_global, is_parted}
 
 -- ---- a scope of the place of writing is the chain
 
@@ -65,25 +66,8 @@ pub last_taken : (path rest : List ℕ) (before now : List (List ℕ)) → IsDot
 last_taken path rest before now p so e =
     ap reverse (e ∙ sym (so ∙ ap (λ xs. before ++ xs) (slice_split_none is_dot rest p)))
 
-some_names : (path : List ℕ) → names_backwards path ≡ [] → ⊥
-some_names path e =
-    let l = length-slice_split is_dot path in
-    let r = length-reverse (slice_split is_dot path) in
-    let f = ap length e in omega (arith, l, r, f)
-
-by_parts : (global : Bool) (backwards : List (List ℕ)) → (backwards ≡ [] → ⊥) → (asked_by global backwards).name ∷ (asked_by global backwards).inner ≡ backwards
-by_parts global [] none = absurd (none refl)
-by_parts global (x ∷ xs) none = refl
-
-global_by : (global : Bool) (backwards : List (List ℕ)) → (asked_by global backwards).global ≡ global
-global_by global [] = refl
-global_by global (x ∷ xs) = refl
-
 pub is_asked : (word path : List ℕ) (global : Bool) (names : List (List ℕ)) → IsTaken word global path → names ≡ names_backwards path → IsAsked word global names
-is_asked word path global names t e = (
-  ap (λ a. a.global) t.asks ∙ global_by global (names_backwards path),
-  ap (λ a. a.name ∷ a.inner) t.asks ∙ by_parts global (names_backwards path) (some_names path) ∙ sym e,
-)
+is_asked word path global names t e = (is_global word global path t, sym (is_parted word global path t) ∙ sym e)
 
 -- ---- the first namespace that has a block of some names
 

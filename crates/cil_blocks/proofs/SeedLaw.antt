@@ -15,7 +15,7 @@ use Rattle.cil_blocks.specs.Named.{AreAllTargets, full_name}
 use Rattle.cil_blocks.specs.Seeds.{StandsTwice, body_of, body_parts}
 use Rattle.cil_blocks.proofs.CycleLemmas.{is_shared}
 use Rattle.cil_blocks.proofs.Kept.{grown}
-use Rattle.cil_sexpr.specs.Places.{get_at, get_so}
+use Rattle.cil_sexpr.specs.Places.{get_at, get_so, cons_head, cons_tail}
 use Rattle.cil_blocks.proofs.MemberLemmas.{named_below}
 use Rattle.cil_blocks.proofs.ProgramLemmas.{program_length}
 use Rattle.cil_blocks.proofs.SeedsShare.{both_reached, have_seeds, number_of, one_number, part_below, part_of, same_number, seeds_share, sharing, written}
@@ -67,14 +67,12 @@ module _ (ss : List Statement) (nested : IsNested ss) (ps : Parts) (ts : Targets
         },
       )
 
-  heads : (x y : List ℕ) (xs ys : Namespace) → x ∷ xs ≡ y ∷ ys → (x ≡ y) × (xs ≡ ys)
-  heads x y xs ys e = ((cc), (cc))
-
   written_doubled : (n i : ℕ) → n ≡ length ws → IsWrittenTwice ws n i → IsDoubled ws (statement_at ws i)
   written_doubled n i l t =
       let h = t.other_within in
-      let e = heads (name_of (statement_at ws t.other)) (name_of (statement_at ws i)) (statement_at ws t.other).context.space (statement_at ws i).context.space t.one_name in
-      in_writing (statement_at ws t.other) (written ss nested ps ts are_parts are_targets t.other (omega (arith, h, l))) (named_twice i t.other t.is_one t.is_other e.0 t.differ) (sym e.1)
+      let one = cons_head (name_of (statement_at ws t.other)) (name_of (statement_at ws i)) (statement_at ws t.other).context.space (statement_at ws i).context.space t.one_name in
+      let same = cons_tail (name_of (statement_at ws t.other)) (name_of (statement_at ws i)) (statement_at ws t.other).context.space (statement_at ws i).context.space t.one_name in
+      in_writing (statement_at ws t.other) (written ss nested ps ts are_parts are_targets t.other (omega (arith, h, l))) (named_twice i t.other t.is_one t.is_other one t.differ) (sym same)
 
   writing_told : (n i : ℕ) → n ≡ length ws → i < n → (w : Written) → Contains ws w → IsNamedTwice (statement_at ws i) w
       → (statement_at ws i).context.space ≡ w.context.space → IsWrittenTwice ws n i

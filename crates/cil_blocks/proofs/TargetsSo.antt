@@ -14,7 +14,7 @@ use Rattle.cil_blocks.specs.Contents.{block_space, first_word, has_block, is_blo
 use Rattle.cil_blocks.specs.Entries.{AreBelow, nothing, statement_at}
 use Rattle.cil_blocks.specs.Named.{AreBlocks, AreFirstNamed, AreOfName, AreTargets, HasNoneNamed, IsAsked, asked_space, space_in}
 use Rattle.cil_sexpr.specs.MadeLists.{contains_map, from_map}
-use Rattle.cil_sexpr.specs.Places.{get_at, get_contains, get_so, is_there, none_some, some_same}
+use Rattle.cil_sexpr.specs.Places.{get_at, get_contains, get_so, is_there, none_some, some_same, cons_head, cons_tail}
 use Rattle.cil_blocks.proofs.NameLemmas.{block_space_in}
 use Rattle.cil_blocks.proofs.OneTarget.{same_spaces, three}
 use Rattle.cil_blocks.proofs.ScopeLemmas.{scope_global}
@@ -42,22 +42,6 @@ any_by p y ys false is e rest = let r = rest e in (r.0, contains_later r.0 y ys 
 any_from : {X : Type 0} (p : X → Bool) (xs : List X) → list_any p xs ≡ true → (x : X) × Contains xs x × (p x ≡ true)
 any_from p [] e = absurd (let f : false ≡ true = e in cc)
 any_from p (y ∷ ys) e = any_by p y ys (p y) refl e (λ r. any_from p ys r)
-
-head_or : {X : Type 0} → X → List X → X
-head_or d [] = d
-head_or d (x ∷ xs) = x
-
-tail_of : {X : Type 0} → List X → List X
-tail_of [] = []
-tail_of (x ∷ xs) = xs
-
-heads : {X : Type 0} (x y : X) (xs ys : List X) → x ∷ xs ≡ y ∷ ys → x ≡ y
-unfolding head_or
-heads x y xs ys e = ap (head_or x) e
-
-tails : {X : Type 0} (x y : X) (xs ys : List X) → x ∷ xs ≡ y ∷ ys → xs ≡ ys
-unfolding tail_of
-tails x y xs ys e = ap tail_of e
 
 same_itself : (x : List ℕ) → same_bytes x x ≡ true
 same_itself x = text_true x x (same_bytes x x) refl refl
@@ -98,8 +82,8 @@ module _ (ws : List Written) (blocks : List ℕ) (are_blocks : AreBlocks ws bloc
       let kind = ((are_blocks.members j).0 c).1 in
       let full : name_of w ∷ w.context.space ≡ name ∷ m = sym (block_space_in ws j kind) ∙ e in
       all_three (is_block w.statement.keyword) (same_bytes (name_of w) name) (same_space w.context.space m) kind
-      (subst (λ x. same_bytes (name_of w) x ≡ true) (heads (name_of w) name w.context.space m full) (same_itself (name_of w)))
-      (subst (λ x. same_space w.context.space x ≡ true) (tails (name_of w) name w.context.space m full) (space_itself w.context.space))
+      (subst (λ x. same_bytes (name_of w) x ≡ true) (cons_head (name_of w) name w.context.space m full) (same_itself (name_of w)))
+      (subst (λ x. same_space w.context.space x ≡ true) (cons_tail (name_of w) name w.context.space m full) (space_itself w.context.space))
 
   block_there : (j : ℕ) → Contains blocks j → Contains ws (statement_at ws j)
   block_there j c = get_contains ws j (statement_at ws j) (is_there ws j nothing ((are_blocks.members j).0 c).0)

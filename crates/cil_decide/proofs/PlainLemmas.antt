@@ -31,7 +31,7 @@ use Rattle.cil_names.specs.Declarations.{Declaration, Declared, IsDeclaration, S
 use Rattle.cil_names.specs.Entries.{AreEntries}
 use Rattle.cil_names.specs.Numbers.{ArePlain, ArePlainNames}
 use Rattle.cil_names.proofs.DeclareDecided.{symbol_by}
-use Rattle.cil_names.proofs.Qualified.{plain_name, spelled_one}
+use Rattle.cil_names.proofs.Qualified.{plain_name, spelled_one, turned_plain}
 use Rattle.cil_decide.proofs.WideClasses.{in_front, of_own_kind}
 use Rattle.cil_decide.proofs.WidthLemmas.{said_front}
 
@@ -158,19 +158,10 @@ plain_names ss xs es well entries = record {
 
 -- ---- symbols
 
-turned : (l : List (List ℕ)) → ArePlain l → ArePlain (reverse l)
-turned [] p = p
-turned (x ∷ l) p =
-    λ y c.
-    elim (Contains-append_cases (reverse l) (x ∷ []) y (subst (λ r. Contains r y) (reverse-append (x ∷ []) l) c)) [
-      | inl d ↦ turned l (λ z k. p z (contains_later z x l k)) y d
-      | inr d ↦ elim (contains_cases y x [] d) [ inl e ↦ p y (subst (λ z. Contains (x ∷ l) z) e (contains_here x l)) | inr k ↦ absurd (contains_none y k) ]
-    ]
-
 module _ (xs : List Item) (well : AreNamed xs) (s : OptSet) where
   plain_symbol : (kind : Kind) (t : Symbol) → Declared xs s kind t → ArePlain (reverse (t.name ∷ t.space))
   plain_symbol kind t d =
-      turned (t.name ∷ t.space) (λ x c. plain_name x (well s d.declaration d.declares x
+      turned_plain (t.name ∷ t.space) (λ x c. plain_name x (well s d.declaration d.declares x
       (subst (λ (u : Symbol). Contains (u.name ∷ u.space) x) (sym (symbol_by (record { space = d.declaration.space; name = d.declaration.name }) t d.in_space d.of_name)) c)))
 
   -- symbols of one name are one

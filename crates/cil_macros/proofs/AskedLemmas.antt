@@ -9,6 +9,8 @@ use Rattle.cil_blocks.specs.declared.namespaces.Space.{Space}
 use Rattle.cil_blocks.specs.Namespaces.{AreNamespaces, HasNoNumber, IsNumber, space_at}
 use Rattle.cil_blocks.proofs.NamespaceLemmas.{global_at, inner_of}
 use Rattle.cil_macros.specs.Asked.{IsAskedAt, IsAskedNowhere}
+use Rattle.cil_sexpr.specs.Places.{cons_tail, never_cons}
+use Rattle.cil_syntax.proofs.AskedLemmas.{last_name, never_none, one_name, parted_backwards}
 
 -- the names in front lead to the namespace of this number, and these are left
 pub record IsAskedUpTo (ss : List Space) (from : ℕ) (names : List ℕ) (space : ℕ) (rest : List ℕ) : Type 0 where
@@ -23,63 +25,17 @@ at_start ss from names within = record {
   numbered = record { within = within; is = refl };
 }
 
--- ---- the list of names
-
-abbrev is_dot : ℕ → Bool
-is_dot b = b == 46
-
-parts_of : (names first rest : List ℕ) → IsParted names first rest → names_backwards names ≡ names_backwards rest ++ first ∷ []
-parts_of names first rest p =
-    ap names_backwards p.whole ∙ ap reverse (slice_split_at is_dot first 46 rest p.dotless refl) ∙ reverse-append (first ∷ []) (slice_split is_dot rest)
-
-one_name : (names : List ℕ) → IsDotless names → names_backwards names ≡ names ∷ []
-one_name names plain = ap reverse (slice_split_none is_dot names plain)
-
-some_last : (xs : List (List ℕ)) → (xs ≡ [] → ⊥) → (y : List ℕ) × (ys : Namespace) × (xs ≡ y ∷ ys)
-some_last [] none = absurd (none refl)
-some_last (x ∷ xs) none = (x, xs, refl)
-
--- a split has a part
-never_none : (names : List ℕ) → names_backwards names ≡ [] → ⊥
-never_none names e =
-    let l = length-slice_split is_dot names in
-    let r = length-reverse (slice_split is_dot names) in
-    let f = ap length e in omega (arith, l, r, f)
-
-tails : (x y : List ℕ) (m n : Namespace) → x ∷ m ≡ y ∷ n → m ≡ n
-tails x y m n e = cc
-
-never_empty : (x : List ℕ) (n : Namespace) → x ∷ n ≡ [] → ⊥
-never_empty x n e = cc
-
--- ---- the word taken apart
-
-by_parts : (global : Bool) (backwards : List (List ℕ)) → (backwards ≡ [] → ⊥) → backwards ≡ (asked_by global backwards).name ∷ (asked_by global backwards).inner
-by_parts global [] none = absurd (none refl)
-by_parts global (x ∷ xs) none = refl
-
-global_by : (global : Bool) (backwards : List (List ℕ)) → (asked_by global backwards).global ≡ global
-global_by global [] = refl
-global_by global (x ∷ xs) = refl
-
-module _ (word : List ℕ) (global : Bool) (names : List ℕ) (taken : IsTaken word global names) where
-  pub is_parted : names_backwards names ≡ (asked word).name ∷ (asked word).inner
-  is_parted = by_parts global (names_backwards names) (never_none names) ∙ ap (λ a. a.name ∷ a.inner) (sym taken.asks)
-
-  pub is_global : (asked word).global ≡ global
-  is_global = ap (λ a. a.global) taken.asks ∙ global_by global (names_backwards names)
-
 -- ---- the steps
 
 module _ (ss : List Space) (are : AreNamespaces ss) where
   -- a namespace with a number lies in one with a number
   outer_of : (x : List ℕ) (n : Namespace) (k : ℕ) → IsNumber ss (x ∷ n) k → (j : ℕ) × IsNumber ss n j
-  outer_of x n zero p = absurd (never_empty x n (sym p.is ∙ global_at ss))
+  outer_of x n zero p = absurd (never_cons x n (sym (global_at ss) ∙ p.is))
   outer_of x n (suc i) p =
       let a = inner_of ss are (x ∷ n) i p in
       let low = a.behind in
       let most = p.within in
-      (a.space.outer, record { within = omega (arith, low, most); is = tails a.space.name x (space_at ss a.space.outer) n a.is })
+      (a.space.outer, record { within = omega (arith, low, most); is = cons_tail a.space.name x (space_at ss a.space.outer) n a.is })
 
   outers_of : (m n : Namespace) (k : ℕ) → IsNumber ss (m ++ n) k → (j : ℕ) × IsNumber ss n j
   outers_of [] n k p = (k, p)
@@ -88,7 +44,7 @@ module _ (ss : List Space) (are : AreNamespaces ss) where
   module _ (from : ℕ) (names : List ℕ) (space : ℕ) (rest : List ℕ) (so : IsAskedUpTo ss from names space rest) where
     module _ (first behind : List ℕ) (p : IsParted rest first behind) where
       deeper : names_backwards names ≡ names_backwards behind ++ first ∷ so.inner
-      deeper = so.backwards ∙ ap (λ l. l ++ so.inner) (parts_of rest first behind p) ∙ append_assoc (names_backwards behind) (first ∷ []) so.inner
+      deeper = so.backwards ∙ ap (λ l. l ++ so.inner) (parted_backwards rest first behind p) ∙ append_assoc (names_backwards behind) (first ∷ []) so.inner
 
       pub one_more : (k : ℕ) → IsNumber ss (first ∷ space_at ss space) k → IsAskedUpTo ss from names k behind
       one_more k is = record {
@@ -100,15 +56,12 @@ module _ (ss : List Space) (are : AreNamespaces ss) where
       -- a namespace that is not there has none in it
       pub none_there : HasNoNumber ss (first ∷ space_at ss space) → IsAskedNowhere ss from names
       none_there none name inner backwards k is =
-          let (y, ys, e) = some_last (names_backwards behind) (never_none behind) in
+          let (y, ys, e) = last_name behind in
           let whole : name ∷ inner ≡ y ∷ (ys ++ first ∷ so.inner) = sym backwards ∙ deeper ∙ ap (λ l. l ++ first ∷ so.inner) e in
           let there : IsNumber ss (ys ++ first ∷ (so.inner ++ space_at ss from)) k =
-          subst (λ n. IsNumber ss n k) (ap (λ n. n ++ space_at ss from) (tails name y inner (ys ++ first ∷ so.inner) whole) ∙ append_assoc ys (first ∷ so.inner) (space_at ss from)) is in
+          subst (λ n. IsNumber ss n k) (ap (λ n. n ++ space_at ss from) (cons_tail name y inner (ys ++ first ∷ so.inner) whole) ∙ append_assoc ys (first ∷ so.inner) (space_at ss from)) is in
           let lower = outers_of ys (first ∷ (so.inner ++ space_at ss from)) k there in
           none lower.0 (subst (λ n. IsNumber ss (first ∷ n) lower.0) (sym so.numbered.is) lower.1)
-
-      pub shorter : length behind < length rest
-      shorter = let e = ap length p.whole in let l = length-append first (46 ∷ behind) in omega (arith, e, l)
 
     -- without a dot, what is left is the name
     pub no_more : IsDotless rest → IsAskedAt ss from names space rest

@@ -2,7 +2,7 @@
 use Rattle.std.proofs.Common.{◌≡◌, ℕ, suc, ◌+◌, ◌<◌, ◌≤◌, ◌==◌, ◌&&◌, ◌||◌, Bool, true, false, cond, if◌then◌else◌, List, [], ◌∷◌, length, get_or, map, take, drop, refl, sym, ◌∙◌, ap, arith, drop-cons}
 use Rattle.std.specs.Prelude.{Contains, Option, Some, None, nat_eq, slice_get}
 use Rattle.std.specs.List.{list_any}
-use Rattle.std.proofs.lemmas.Bool.{eqb-true}
+use Rattle.std.proofs.lemmas.Bool.{eqb-true, and_parts}
 use Rattle.std.proofs.lemmas.List.{drop_all, take_all, take_more}
 use Rattle.std.proofs.lemmas.List.Folds.{list_any-append}
 use Rattle.indexmap.specs.IndexSet.{contains}
@@ -35,10 +35,6 @@ both_ways : (a b : Bool) → (a ≡ true → b ≡ true) → (b ≡ true → a �
 both_ways true b f g = sym (f refl)
 both_ways false true f g = g refl
 both_ways false false f g = refl
-
-both_true : (a b : Bool) → (a && b) ≡ true → (a ≡ true) × (b ≡ true)
-both_true true b e = (refl, e)
-both_true false b e = absurd (let f : false ≡ true = e in cc)
 
 true_both : (a b : Bool) → a ≡ true → b ≡ true → (a && b) ≡ true
 true_both true b e f = f
@@ -199,8 +195,8 @@ module _ (ws : List Written) (d : Declared) (are : AreDeclared ws d) (number : �
   one_kind : (v : Written) (kind : ℕ) → Contains wanted kind → is_declared_by ws (number, kind, name) v ≡ true
       → (is_in_body (statement_at ws number) v.context.macro && declares_name name.now sign v) ≡ true
   one_kind v kind c e =
-      let t = both_true (is_in_body (statement_at ws number) v.context.macro) (list_any (λ x. nat_eq (kind_number x) kind) (entry_of v.statement.keyword).declares && same_bytes (name_of v) name.now) e in
-      let u = both_true (list_any (λ x. nat_eq (kind_number x) kind) (entry_of v.statement.keyword).declares) (same_bytes (name_of v) name.now) t.1 in
+      let t = and_parts (is_in_body (statement_at ws number) v.context.macro) (list_any (λ x. nat_eq (kind_number x) kind) (entry_of v.statement.keyword).declares && same_bytes (name_of v) name.now) e in
+      let u = and_parts (list_any (λ x. nat_eq (kind_number x) kind) (entry_of v.statement.keyword).declares) (same_bytes (name_of v) name.now) t.1 in
       let x = any_true (λ y. nat_eq (kind_number y) kind) (entry_of v.statement.keyword).declares u.0 in
       let q = from_map kind_number (kinds_of sign) kind c in
       true_both (is_in_body (statement_at ws number) v.context.macro) (declares_name name.now sign v) t.0
@@ -213,8 +209,8 @@ module _ (ws : List Written) (d : Declared) (are : AreDeclared ws d) (number : �
   some_kind : (v : Written) → (is_in_body (statement_at ws number) v.context.macro && declares_name name.now sign v) ≡ true
       → (kind : ℕ) × Contains wanted kind × (is_declared_by ws (number, kind, name) v ≡ true)
   some_kind v e =
-      let t = both_true (is_in_body (statement_at ws number) v.context.macro) (declares_name name.now sign v) e in
-      let u = both_true (list_any (is_wanted sign) (entry_of v.statement.keyword).declares) (same_bytes (name_of v) name.now) t.1 in
+      let t = and_parts (is_in_body (statement_at ws number) v.context.macro) (declares_name name.now sign v) e in
+      let u = and_parts (list_any (is_wanted sign) (entry_of v.statement.keyword).declares) (same_bytes (name_of v) name.now) t.1 in
       let x = any_true (is_wanted sign) (entry_of v.statement.keyword).declares u.0 in
       let q = any_true (λ y. nat_eq (kind_number y) (kind_number x.0)) (kinds_of sign) x.2 in (
         kind_number q.0,

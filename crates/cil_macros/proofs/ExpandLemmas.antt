@@ -18,7 +18,6 @@ use Rattle.cil_syntax.specs.Scopes.{Namespace}
 use Rattle.cil_syntax.specs.Written.{Written}
 use Rattle.cil_blocks.specs.Contents.{Standing, first_word, spot_total}
 use Rattle.cil_blocks.specs.InheritFaults.{limit_fault, most_instances}
-use Rattle.cil_blocks.proofs.InheritLemmas.{faults_alike}
 use Rattle.cil_blocks.specs.Places.{Standings, entries_in}
 use Rattle.cil_blocks.proofs.EntryLemmas.{standings_length}
 use Rattle.cil_macros.specs.declared.entry.Called.{Called}
@@ -29,6 +28,7 @@ use Rattle.cil_macros.specs.Macros.{all_standing}
 use Rattle.cil_macros.specs.Placed.{Placed}
 use Rattle.cil_macros.specs.Walks.{placed_in, written_in}
 use Rattle.cil_macros.proofs.EntryLemmas.{placed_length}
+use Rattle.cil_syntax.proofs.RefusalLemmas.{faults_alike}
 
 pub placed_total : IsTotalOrder placed_cmp
 placed_total = then_total (on_total (λ p. p.steps) nat_cmp_total) (on_total (λ p. p.standing.trail) (then_total (on_total length nat_cmp_total) (lists_total spot_total)))

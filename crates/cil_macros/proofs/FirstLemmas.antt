@@ -5,7 +5,7 @@ use Rattle.std.specs.Prelude.{Option, Some, None, is_some, slice_get}
 use Rattle.std.specs.List.{position, position_or_len}
 use Rattle.std.specs.Map.{lookup}
 use Rattle.std.specs.Option.{option_or}
-use Rattle.std.proofs.lemmas.Bool.{eqb-true}
+use Rattle.std.proofs.lemmas.Bool.{eqb-true, and_parts}
 use Rattle.std.proofs.lemmas.List.{length-append}
 use Rattle.std.proofs.lemmas.List.Folds.{position_or_len_push}
 use Rattle.std.proofs.lemmas.List.Sums.{fails_before_first}
@@ -27,12 +27,8 @@ use Rattle.cil_macros.proofs.WalkLemmas.{either_at}
 
 -- ---- keys
 
-both_true : (a b : Bool) → (a && b) ≡ true → (a ≡ true) × (b ≡ true)
-both_true true b e = (refl, e)
-both_true false b e = absurd (let f : false ≡ true = e in cc)
-
 key_same : (a b : Key) → same_key a b ≡ true → (a.0 ≡ b.0) × (a.1 ≡ b.1)
-key_same a b e = let t = both_true (a.0 == b.0) (a.1 == b.1) e in (eqb-true a.0 b.0 t.0, eqb-true a.1 b.1 t.1)
+key_same a b e = let t = and_parts (a.0 == b.0) (a.1 == b.1) e in (eqb-true a.0 b.0 t.0, eqb-true a.1 b.1 t.1)
 
 -- ---- one number more
 

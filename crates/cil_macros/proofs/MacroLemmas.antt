@@ -5,11 +5,11 @@ use Rattle.std.specs.List.{list_any}
 use Rattle.std.specs.Option.{is_some, option_or, option_map}
 use Rattle.std.specs.Map.{lookup}
 use Rattle.std.specs.Cmp.Lexicographic.{same_text}
-use Rattle.std.proofs.lemmas.Bool.{eqb-true}
+use Rattle.std.proofs.lemmas.Bool.{eqb-true, and_parts}
 use Rattle.std.proofs.lemmas.List.{drop_all}
 use Rattle.std.proofs.lemmas.List.Elements.{Contains-get_or}
 use Rattle.indexmap.specs.IndexMap.{get}
-use Rattle.cil_sexpr.specs.Places.{get_so, in_range, none_some, some_same}
+use Rattle.cil_sexpr.specs.Places.{get_so, in_range, none_some, some_same, cons_head, cons_tail}
 use Rattle.cil_syntax.specs.declared.term.Word.{Word}
 use Rattle.cil_syntax.specs.Program.{program_of}
 use Rattle.cil_syntax.specs.Scopes.{Namespace, asked, names_backwards, same_space}
@@ -36,10 +36,6 @@ use Rattle.cil_macros.specs.Placed.{Placed}
 
 -- ---- truth values
 
-both_true : (a b : Bool) → (a && b) ≡ true → (a ≡ true) × (b ≡ true)
-both_true true b e = (refl, e)
-both_true false b e = absurd (let f : false ≡ true = e in cc)
-
 three_true : (a b c : Bool) → a ≡ true → b ≡ true → c ≡ true → (a && b && c) ≡ true
 three_true true true c e f g = g
 three_true true false c e f g = absurd (let h : false ≡ true = f in cc)
@@ -61,7 +57,7 @@ number_itself n = grind arith
 
 key_same : (a b : Key) → same_key a b ≡ true → (a.0 ≡ b.0) × (a.1.now ≡ b.1.now)
 key_same a b e =
-    let t = both_true (a.0 == b.0) (same_bytes a.1.now b.1.now) e in
+    let t = and_parts (a.0 == b.0) (same_bytes a.1.now b.1.now) e in
     (eqb-true a.0 b.0 t.0, same_text a.1.now b.1.now (sym t.1))
 
 key_true : (a b : Key) → a.0 ≡ b.0 → a.1.now ≡ b.1.now → same_key a b ≡ true
@@ -304,14 +300,9 @@ pub said_of : (s : Standings) (from : ℕ) (names : List ℕ) (k : ℕ) (given :
     → SaysOf (all_standing s) (macro_in (all_standing s) name (Some (inner ++ space_at (spaces_in s) from))) r
 said_of s from names k given at r so name inner e =
     let both : given ∷ at.inner ≡ name ∷ inner = sym at.taken ∙ e in
-    subst (λ n. SaysOf (all_standing s) (macro_in (all_standing s) name (Some (n ++ space_at (spaces_in s) from))) r) (tails given name at.inner inner both)
-    (subst (λ x. SaysOf (all_standing s) (macro_in (all_standing s) x (Some (at.inner ++ space_at (spaces_in s) from))) r) (heads given name at.inner inner both)
-    (subst (λ n. SaysOf (all_standing s) (macro_in (all_standing s) given (Some n)) r) at.numbered.is so)) where
-      heads : (x y : List ℕ) (m n : Namespace) → x ∷ m ≡ y ∷ n → x ≡ y
-      heads x y m n p = cc
-
-      tails : (x y : List ℕ) (m n : Namespace) → x ∷ m ≡ y ∷ n → m ≡ n
-      tails x y m n p = cc
+    subst (λ n. SaysOf (all_standing s) (macro_in (all_standing s) name (Some (n ++ space_at (spaces_in s) from))) r) (cons_tail given name at.inner inner both)
+    (subst (λ x. SaysOf (all_standing s) (macro_in (all_standing s) x (Some (at.inner ++ space_at (spaces_in s) from))) r) (cons_head given name at.inner inner both)
+    (subst (λ n. SaysOf (all_standing s) (macro_in (all_standing s) given (Some n)) r) at.numbered.is so))
 
 -- ---- calls
 

@@ -31,12 +31,9 @@ use Rattle.cil_macros.proofs.BodyLemmas.{mapped_get}
 use Rattle.cil_macros.proofs.CalledMacros.{is_macro_call}
 use Rattle.cil_macros.proofs.ExpandLemmas.{placed_total}
 use Rattle.cil_macros.proofs.FlatInstances.{stands_written}
+use Rattle.std.proofs.lemmas.Bool.{and_parts}
 
 -- ---- trails that are one
-
-both_true : (a b : Bool) → (a && b) ≡ true → (a ≡ true) × (b ≡ true)
-both_true true b e = (refl, e)
-both_true false b e = absurd (let f : false ≡ true = e in cc)
 
 trails_same : (ps qs : List Spot) → same_trail ps qs ≡ true → ps ≡ qs
 unfolding same_trail
@@ -44,7 +41,7 @@ trails_same [] [] e = refl
 trails_same [] (q ∷ qs) e = absurd (let f : false ≡ true = e in cc)
 trails_same (p ∷ ps) [] e = absurd (let f : false ≡ true = e in cc)
 trails_same (p ∷ ps) (q ∷ qs) e =
-    let b = both_true (same_spot p q) (same_trail ps qs) e in
+    let b = and_parts (same_spot p q) (same_trail ps qs) e in
     let first = same_spots p q b.0 in
     let rest = trails_same ps qs b.1 in
     λ i. first i ∷ rest i

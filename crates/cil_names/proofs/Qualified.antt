@@ -79,16 +79,16 @@ plain_name (b ∷ bs) e =
 
 -- ---- the names of entries and namespaces
 
-module _ (ss : List Space) (are : AreNamespaces ss) (es : List Entry) (ordered : AreOrdered ss es) (plain : ArePlainNames ss es) where
-  turned_plain : (l : List (List ℕ)) → ArePlain l → ArePlain (reverse l)
-  turned_plain [] p = p
-  turned_plain (x ∷ l) p =
-      λ y c.
-      elim (Contains-append_cases (reverse l) (x ∷ []) y (subst (λ r. Contains r y) (reverse-append (x ∷ []) l) c)) [
-        | inl d ↦ turned_plain l (λ z k. p z (contains_later z x l k)) y d
-        | inr d ↦ elim (contains_cases y x [] d) [ inl e ↦ p y (subst (λ z. Contains (x ∷ l) z) e (contains_here x l)) | inr k ↦ absurd (contains_none y k) ]
-      ]
+pub turned_plain : (l : List (List ℕ)) → ArePlain l → ArePlain (reverse l)
+turned_plain [] p = p
+turned_plain (x ∷ l) p =
+    λ y c.
+    elim (Contains-append_cases (reverse l) (x ∷ []) y (subst (λ r. Contains r y) (reverse-append (x ∷ []) l) c)) [
+      | inl d ↦ turned_plain l (λ z k. p z (contains_later z x l k)) y d
+      | inr d ↦ elim (contains_cases y x [] d) [ inl e ↦ p y (subst (λ z. Contains (x ∷ l) z) e (contains_here x l)) | inr k ↦ absurd (contains_none y k) ]
+    ]
 
+module _ (ss : List Space) (are : AreNamespaces ss) (es : List Entry) (ordered : AreOrdered ss es) (plain : ArePlainNames ss es) where
   plain_symbol : (e : Entry) → Contains es e → ArePlain (reverse (e.name ∷ space_at ss e.space))
   plain_symbol e c =
       turned_plain (e.name ∷ space_at ss e.space)

@@ -3,17 +3,8 @@
 use Rattle.std.specs.Prelude.{◌≡◌, ◌↔◌, ℕ, Bool, true, false, List, [], ◌∷◌, Option, Some, None, slice_get}
 use Rattle.std.specs.Option.{option_map_or}
 use Rattle.cil_blocks.specs.Contents.{is_optional}
-use Rattle.cil_macros.specs.Item.{Item, OptSet}
+use Rattle.cil_macros.specs.Item.{Item, OptSet, innermost}
 use Rattle.cil_names.specs.Resolves.{Wanted, words_of, resolves}
-
--- the first of some optionals
-abbrev pub front : List ℕ → Option ℕ
-front [] = None
-front (o ∷ os) = Some o
-
--- the innermost optional round a statement
-abbrev pub innermost : Item → Option ℕ
-innermost x = front x.round
 
 -- the statement of this number is an optional
 abbrev pub is_optional_at : List Item → ℕ → Bool

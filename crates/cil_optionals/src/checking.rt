@@ -10,12 +10,11 @@ ghost use Rattle.cil_optionals.specs.declared.reason.Reason.TheVariants.{Missing
 ghost use Rattle.cil_optionals.specs.Times.{AreSteps, AreWell, IsEnabledAfter};
 
 use crate::chosen::Chosen;
-use crate::declared::is_set;
 use crate::part::Part;
 use crate::reason::Reason;
 use crate::times::{entry_times, is_after, names_after, times_of};
 use cil_modset::NoMemory;
-use cil_names::{Candidates, Entry, OptSet};
+use cil_names::{Candidates, Entry, OptSet, is_set};
 use std::alloc::Global;
 
 /// Whether a choice is right.

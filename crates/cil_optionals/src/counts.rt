@@ -1,17 +1,16 @@
 //! How many look-ups the choice of optionals takes, by what it leaves out. It costs a step for each statement, each optional round
 //! a declaration, and each entry that a word in an optional could name.
 
-ghost use Rattle.std.specs.Prelude.{◌≡◌, ◌+◌, ◌<◌, IfOk, count_by, length, map, not, sum_by};
+ghost use Rattle.std.specs.Prelude.{◌≡◌, ◌+◌, ◌<◌, IfOk, count_by, length, sum_by};
 ghost use Rattle.cil_macros.specs.Items.{item_at, items_in};
-ghost use Rattle.cil_names.specs.Entries.{is_declared_in, is_in};
+ghost use Rattle.cil_names.specs.Entries.{is_in};
 ghost use Rattle.cil_optionals.specs.Counts.{declares as declares_item, is_lost as is_lost_item};
 ghost use Rattle.cil_optionals.specs.PartCounts.{AreLookups, lost_among, lost_of};
 
-use crate::declared::{is_declared, is_set};
 use crate::part::Part;
 use cil_macros::Instances;
 use cil_modset::NoMemory;
-use cil_names::{Candidates, Entry, OptSet};
+use cil_names::{Candidates, Entry, OptSet, flags_of, is_set};
 use std::alloc::Global;
 
 /// How many look-ups it takes to choose these optionals: one for each declaring statement that is left out, and one for each word
@@ -25,21 +24,10 @@ pub fn lookups_of(
 ) -> Result<usize, NoMemory>
     ensures { IfOk result (λ n. AreLookups (items_in instances.now) parts.now entries.now (is_in enabled.now) n) }
 {
-    let declared = declared_of(alloc, entries, enabled.as_slice())?;
+    let declared = flags_of(alloc, entries, enabled.as_slice())?;
     let statements = lost_statements(instances, enabled)?;
     let candidates = lost_candidates(parts, declared.as_slice())?;
     sum(statements, candidates)
-}
-
-/// For each entry whether it is declared.
-fn declared_of(alloc: Global, entries: &[Entry], flags: &[bool]) -> Result<Vec<bool>, NoMemory>
-    ensures { IfOk result (λ declared. declared.items ≡ map (is_declared_in (is_in flags.now)) entries.now) }
-{
-    let mut declared = Vec::new(alloc);
-    for entry in entries {
-        declared.push(is_declared(entry, flags))?;
-    }
-    Ok(declared)
 }
 
 /// How many declaring statements are left out.

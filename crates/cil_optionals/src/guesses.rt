@@ -8,13 +8,12 @@ ghost use Rattle.cil_names.specs.Unresolved.{ArePermissions};
 ghost use Rattle.cil_settle.specs.Settled.{leads_within};
 
 use crate::chosen::Chosen;
-use crate::declared::is_set;
 use crate::part::{Part, parts_of};
 use crate::reason::Reason;
 use crate::removal::{optionals_of, small};
 use cil_macros::Instances;
 use cil_modset::NoMemory;
-use cil_names::{Entry, Names, OptSet};
+use cil_names::{Entry, Names, OptSet, is_set};
 use cil_settle::{Edge, Settled, settle, sort_edges};
 use cil_syntax::Bytes;
 use std::alloc::Global;

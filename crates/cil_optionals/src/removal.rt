@@ -11,11 +11,11 @@ ghost use Rattle.cil_optionals.specs.declared.reason.Reason.TheVariants.{ParentO
 ghost use Rattle.cil_optionals.specs.declared.part.Part.{Part as ThePart};
 
 use crate::chosen::Chosen;
-use crate::declared::{is_set, names_one};
+use crate::declared::names_one;
 use crate::part::Part;
 use crate::reason::Reason;
 use cil_modset::NoMemory;
-use cil_names::{Candidates, Entry, OptSet};
+use cil_names::{Candidates, Entry, OptSet, is_set};
 use std::alloc::Global;
 
 /// The greatest set, by passes over all statements until one takes nothing out.

@@ -1,5 +1,5 @@
 use Rattle.std.proofs.Common.{◌≡◌, List, refl}
-use Rattle.cil_blocks.proofs.InheritLemmas.{is_none, is_some, refused}
+use Rattle.cil_blocks.proofs.InheritLemmas.{is_none, is_some}
 use Rattle.cil_blocks.specs.Places.{Standings}
 use Rattle.cil_macros.specs.declared.entry.Called.{Called}
 use Rattle.cil_macros.specs.ExpandFaults.{ExpandStep}
@@ -7,6 +7,7 @@ use Rattle.cil_macros.specs.Macros.{all_standing}
 use Rattle.cil_macros.specs.Walks.{placed_in, written_in}
 use Rattle.cil_macros.proofs.ExpandLemmas.{no_fault, no_step, over_so, placed_few, refused_calls}
 use Rattle.cil_macros.proofs.expansion.expand.Goals as goal
+use Rattle.cil_syntax.proofs.RefusalLemmas.{refused}
 
 pub returns-in_default : goal.returns-in_default
 returns-in_default c =

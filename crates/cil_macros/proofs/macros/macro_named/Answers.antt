@@ -3,7 +3,7 @@ use Rattle.cil_syntax.specs.Scopes.{IsTaken, asked}
 use Rattle.cil_blocks.specs.Numbers.{AreWithin}
 use Rattle.cil_blocks.specs.Places.{spaces_in}
 use Rattle.cil_macros.specs.Macros.{SaysOf, all_standing}
-use Rattle.cil_macros.proofs.AskedLemmas.{is_global, is_parted}
+use Rattle.cil_syntax.proofs.AskedLemmas.{is_global, is_parted}
 use Rattle.cil_macros.proofs.MacroLemmas.{asked_here, asked_later, first_in, never_asked, next_asked, one_within, whole, within_asked}
 use Rattle.cil_macros.proofs.macros.macro_named.Goals as goal
 

@@ -1,6 +1,0 @@
-use Rattle.std.specs.Prelude.{◌≡◌, map, take}
-use Rattle.cil_names.specs.Entries.{is_declared_in, is_in}
-use Rattle.cil_optionals.proofs.counts.declared_of.Given as goal
-
-abbrev pub invariant-loop-entry : goal.invariant-loop-entry
-invariant-loop-entry l = l.declared.items ≡ map (is_declared_in (is_in l.flags)) (take l.entry-index l.entries)
