@@ -2,14 +2,16 @@
 use Rattle.std.specs.Prelude.{Option, Some, None, Contains, cond, is_some, map, count_by, sum_by, not, slice_get}
 use Rattle.std.specs.List.{flat_map}
 use Rattle.std.specs.Option.{option_map_or}
-use Rattle.std.proofs.Common.{◌≡◌, ℕ, ◌+◌, Bool, true, false, ◌&&◌, List, [], ◌∷◌, refl, sym, ap, subst, ◌∙◌, arith}
+use Rattle.std.proofs.Common.{◌≡◌, ℕ, ◌+◌, ◌<◌, Bool, true, false, ◌&&◌, List, [], ◌∷◌, length, take, refl, sym, ap, subst, ◌∙◌, arith}
 use Rattle.std.proofs.lemmas.List.Sums.{sum_by-cons}
-use Rattle.cil_settle.specs.Counts.{count_cons, count_flat}
+use Rattle.cil_settle.specs.Counts.{count_append, count_cons, count_flat}
 use Rattle.cil_syntax.specs.declared.kind.Sign.{Sign}
 use Rattle.cil_syntax.specs.Scopes.{Namespace, ScopedWord, asked, spaces_asked}
 use Rattle.cil_blocks.specs.Namespaces.{AreNamespaces}
 use Rattle.cil_blocks.specs.declared.namespaces.Space.{Space}
 use Rattle.cil_macros.specs.Item.{Item, OptSet, everybody, innermost}
+use Rattle.cil_macros.specs.Items.{Kept, item_at, items_in}
+use Rattle.cil_macros.proofs.ItemLemmas.{items_taken}
 use Rattle.cil_names.specs.declared.entry.Entry.{Entry}
 use Rattle.cil_names.specs.Entries.{AreEntries, candidate, candidates_of, is_declared_at, is_declared_in, is_entry_of, is_in, listed}
 use Rattle.cil_names.specs.PermissionWords.{IsAnswerFor, class_with, wanted_candidates}
@@ -111,3 +113,20 @@ pub lookups_are : (ss : List Space) (es : List Entry) (xs : List Item) (ps : Lis
     → n ≡ lookups xs s
 unfolding lookups
 lookups_are ss es xs ps of s n e = e ∙ ap (λ m. count_by (is_lost s) xs + m) (lost_parts ss of.namespaces xs es of.entries s ps of.parts)
+
+-- ---- what a pass counts
+
+-- one statement more
+pub lost_more : (i : Kept) (s : OptSet) (at : ℕ) → at < length (items_in i)
+    → count_by (is_lost s) (take (at + 1) (items_in i)) ≡ count_by (is_lost s) (take at (items_in i)) + cond (is_lost s (item_at i at)) 1 0
+lost_more i s at within =
+    ap (count_by (is_lost s)) (items_taken i at within)
+    ∙ count_append (is_lost s) (take at (items_in i)) (item_at i at ∷ [])
+    ∙ ap (λ n. count_by (is_lost s) (take at (items_in i)) + n) (one_or_none (is_lost s) (item_at i at))
+
+-- the sum of both counts, by flags for the entries
+pub counted_so : (xs : List Item) (ps : List Part) (es : List Entry) (s : OptSet) (flags : List Bool) (a b n : ℕ) → flags ≡ map (is_declared_in s) es
+    → a ≡ count_by (is_lost s) xs → b ≡ sum_by (λ (p : Part). lost_among flags p.asked) ps → n ≡ a + b → AreLookups xs ps es s n
+unfolding lost_by
+counted_so xs ps es s flags a b n f e g h =
+    h ∙ (λ i. e i + (g ∙ ap (λ (l : List Bool). sum_by (λ (p : Part). lost_among l p.asked) ps) f) i)
