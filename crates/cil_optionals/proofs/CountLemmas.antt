@@ -124,9 +124,13 @@ lost_more i s at within =
     ∙ count_append (is_lost s) (take at (items_in i)) (item_at i at ∷ [])
     ∙ ap (λ n. count_by (is_lost s) (take at (items_in i)) + n) (one_or_none (is_lost s) (item_at i at))
 
+pub lost_step : (i : Kept) (s : OptSet) (at : ℕ) → at < length (items_in i) → (b : Bool) → b ≡ is_lost s (item_at i at) → (old new : ℕ)
+    → old ≡ count_by (is_lost s) (take at (items_in i)) → new ≡ old + cond b 1 0 → new ≡ count_by (is_lost s) (take (at + 1) (items_in i))
+lost_step i s at within b is old new so one = one ∙ (λ j. so j + cond (is j) 1 0) ∙ sym (lost_more i s at within)
+
 -- the sum of both counts, by flags for the entries
-pub counted_so : (xs : List Item) (ps : List Part) (es : List Entry) (s : OptSet) (flags : List Bool) (a b n : ℕ) → flags ≡ map (is_declared_in s) es
-    → a ≡ count_by (is_lost s) xs → b ≡ sum_by (λ (p : Part). lost_among flags p.asked) ps → n ≡ a + b → AreLookups xs ps es s n
+pub counted_so : (xs : List Item) (ps : List Part) (es : List Entry) (s : OptSet) (fs : List Bool) (a b n : ℕ) → fs ≡ map (is_declared_in s) es
+    → a ≡ count_by (is_lost s) xs → b ≡ sum_by (λ (p : Part). lost_among fs p.asked) ps → n ≡ a + b → AreLookups xs ps es s n
 unfolding lost_by
-counted_so xs ps es s flags a b n f e g h =
+counted_so xs ps es s fs a b n f e g h =
     h ∙ (λ i. e i + (g ∙ ap (λ (l : List Bool). sum_by (λ (p : Part). lost_among l p.asked) ps) f) i)

@@ -131,7 +131,8 @@ module _ (xs : List Item) where
   removals_are enabled rs right =
       let optional : AreOptionals rs = λ o h. right.each o ∙ or_right (enabled o) (among (map left_out rs) o) h in
       let all = counted [] rs right.order optional in
-      let none = none_removed 0 (all_but xs []) xs (λ q h. there (is_optional_at xs q) false h refl) in
+      let none = none_removed 0 (all_but xs []) xs
+      (λ q h. subst (λ k. all_but xs [] k ≡ true) (let z : q ≡ 0 + q = omega arith in z) (there (is_optional_at xs q) false h refl)) in
       let same : removals xs enabled ≡ removals xs (after [] rs) =
       ap (removals xs) (λ i o. left_by (is_optional_at xs o) (enabled o) (among (map left_out rs) o) (right.each o) (right.apart o) i) in
       omega (arith, all, none, same)

@@ -27,7 +27,8 @@ pub fn lookups_of(
     let declared = flags_of(alloc, entries, enabled.as_slice())?;
     let statements = lost_statements(instances, enabled)?;
     let candidates = lost_candidates(parts, declared.as_slice())?;
-    sum(statements, candidates)
+    let lookups = sum(statements, candidates)?;
+    Ok(lookups)
 }
 
 /// How many declaring statements are left out.

@@ -1,5 +1,5 @@
 use Rattle.std.specs.Prelude.{List}
-use Rattle.std.proofs.Common.{subst, ◌∙◌}
+use Rattle.std.proofs.Common.{subst, ◌∙◌, arith}
 use Rattle.cil_macros.specs.Items.{items_in, namespaces_in}
 use Rattle.cil_blocks.specs.Namespaces.{AreNamespaces}
 use Rattle.cil_names.specs.declared.entry.Entry.{Entry}
@@ -30,7 +30,10 @@ returns-clause-greatest c =
 
 pub returns-clause-removals : goal.returns-clause-removals
 returns-clause-removals c =
-    removals_are (items_in c.args.instances.now) (is_in c.in_ok-walk.walk.chosen.enabled) c.in_ok-walk.walk.chosen.reasons.items (returns-clause-right c)
+    let counted = removals_are (items_in c.args.instances.now) (is_in c.in_ok-walk.walk.chosen.enabled) c.in_ok-walk.walk.chosen.reasons.items (returns-clause-right c) in
+    let length = c.len.ensures in
+    let whole = c.in_ok-walk.walk.chosen.reasons.ok in
+    omega (arith, counted, length, whole)
 
 pub returns-clause-lookups : goal.returns-clause-lookups
 returns-clause-lookups c =

@@ -13,5 +13,5 @@ returns-in_default-declared_name c =
 
 pub returns : goal.returns
 returns c =
-    declares_one c.args.instances.now c.args.at c.in-Some.statement.now c.in-Some.ensures _ c.in-Some-declares.ensures c.in-Some-declared_name.name.at _
+    declares_one c.args.instances.now c.args.at c.in-Some.statement.now c.in-Some.ensures _ c.in-Some-declares.ensures c.in-Some-declared_name._name.at _
     c.in-Some-declared_name.ensures
