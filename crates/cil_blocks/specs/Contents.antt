@@ -143,8 +143,8 @@ standing_inherited s b w = record {
   trail = s.trail ++ w.statement.at ∷ [];
 }
 
--- what stands: a top statement; what is directly in a block that stands and is not abstract; what is directly in a target
--- of a blockinherit that stands
+-- what stands: a top statement; what is directly in a block that stands and is not abstract; what is directly in an optional
+-- that stands; what is directly in a target of a blockinherit that stands
 pub data Stands (ws : List Written) : Standing → Type 0 where
   top : (w : Written) → Contains ws w → w.context.under ≡ None → Stands ws (standing_top w)
   in_block : (s : Standing) (w : Written) → Stands ws s → is_block s.statement.statement.keyword ≡ true → is_abstract ws s.statement ≡ false

@@ -1,8 +1,8 @@
 //! Macros: what each call brings, with its arguments put in, or all that is wrong with the calls of a program.
 //!
-//! `specs/Parameters.antt` says what parameters and arguments are, `specs/Placed.antt` what the words of a placed statement
-//! mean, `specs/Calls.antt` which macro a call names and what is placed, `specs/ExpandFaults.antt` what is wrong with calls;
-//! `laws.rt` has laws of these.
+//! Start at `expansion.rt` (`expand`), and at `instances.rt` for what it answers. `specs/Parameters.antt` says what parameters and
+//! arguments are, `specs/Placed.antt` what the words of a placed statement mean, `specs/Calls.antt` which macro a call names and
+//! what is placed, `specs/ExpandFaults.antt` what is wrong with calls; `laws.rt` has laws of these.
 #![tactic(auto)]
 
 mod arguments;

@@ -47,7 +47,7 @@ pub fn joined(alloc: Global, names: &[&[u8]]) -> Result<Vec<u8>, NoMemory>
 }
 
 impl Nesting {
-    /// How many statements that are no blocks are round it.
+    /// Its rank, by what is round it: 0 with nothing but blocks, 1 with an optional too, 2 with a branch.
     fn depth(self) -> u8
         ensures { result ≡ depth_of self }
     {
