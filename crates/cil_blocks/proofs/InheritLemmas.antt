@@ -1,6 +1,6 @@
 -- The faults of blocks, told at their statements, are the faults of the step.
 use Rattle.std.proofs.Common.{◌≡◌, ◌⊎◌, ℕ, ◌+◌, ◌<◌, ◌≤◌, Bool, true, false, List, [], ◌∷◌, ◌++◌, length, refl, sym, ◌∙◌, ap, subst, inl, inr, arith}
-use Rattle.std.specs.Prelude.{◌↔◌, Contains, IfNone, IfSome, IsErrAnd, IsNone, IsTrue, Option, Some, None, Result, Ok, Err}
+use Rattle.std.specs.Prelude.{◌↔◌, Contains, IfNone, IfSome, IsNone, IsTrue, Option, Some, None}
 use Rattle.std.specs.Cmp.{IsTotalOrder}
 use Rattle.std.specs.Cmp.Lexicographic.{lists_total}
 use Rattle.std.specs.List.{flat_map}
@@ -16,7 +16,7 @@ use Rattle.cil_syntax.specs.declared.program.Statement.{Statement}
 use Rattle.cil_syntax.specs.declared.term.Word.{Word}
 use Rattle.cil_syntax.specs.Fails.{AreFaults}
 use Rattle.cil_syntax.specs.Program.{IsNested, program_of}
-use Rattle.cil_syntax.specs.Refusal.{Answers, Fails}
+use Rattle.cil_syntax.specs.Refusal.{Fails}
 use Rattle.cil_syntax.specs.Reported.{fault_at}
 use Rattle.cil_syntax.specs.Scopes.{Namespace}
 use Rattle.cil_syntax.specs.Written.{Named, Written, named_in_front}

@@ -1,6 +1,6 @@
 -- The items of one key among sorted ones: they stand between two partition points.
 use Rattle.std.specs.Prelude.{Contains, not, ◌↔◌}
-use Rattle.std.proofs.Common.{◌≡◌, ℕ, zero, suc, ◌+◌, ◌<◌, ◌≤◌, Bool, true, false, is_lt, List, [], ◌∷◌, ◌++◌, length, take, drop, get_or, refl, sym, ◌∙◌, ap, subst, inl, inr, arith}
+use Rattle.std.proofs.Common.{◌≡◌, ℕ, ◌+◌, ◌<◌, ◌≤◌, Bool, true, false, is_lt, List, [], ◌∷◌, ◌++◌, length, take, drop, get_or, refl, sym, ◌∙◌, ap, subst, inl, inr, arith}
 use Rattle.std.specs.declared.cmp.Ordering.{Ordering}
 use Rattle.std.specs.declared.cmp.Ordering.TheVariants.{Less, Equal, Greater}
 use Rattle.std.specs.Ordering.{is_gt, ordering_reverse}
@@ -13,7 +13,7 @@ use Rattle.std.proofs.lemmas.Bool.{false≢true, not-true, not-false, true≢fal
 use Rattle.std.proofs.lemmas.List.{get_or-drop, length-drop, take-append-drop}
 use Rattle.std.proofs.lemmas.List.Elements.{Contains-append_left, Contains-append_right, Contains-append_cases}
 use Rattle.std.proofs.lemmas.List.Sorted.{ranks_by, sorted_far}
-use Rattle.cil_sexpr.specs.Lists.{text_cmp, contains_cases, contains_none}
+use Rattle.cil_sexpr.specs.Lists.{text_cmp}
 use Rattle.cil_blocks.specs.Named.{names_cmp}
 use Rattle.cil_sexpr.specs.Places.{in_drop, in_take}
 

@@ -2,10 +2,10 @@
 use Rattle.std.proofs.Common.{◌≡◌, ◌⊎◌, ℕ, ◌<◌, ◌==◌, Bool, true, false, ◌&&◌, not, if◌then◌else◌, List, [], ◌∷◌, ◌++◌, length, refl, sym, ◌∙◌, ap, subst, inl, inr, arith, append_assoc}
 use Rattle.std.specs.Prelude.{Contains, filter, reverse}
 use Rattle.std.specs.List.{slice_split}
-use Rattle.std.proofs.lemmas.List.{length-append, length-reverse}
-use Rattle.std.proofs.lemmas.List.Splits.{length-slice_split, slice_split_at, slice_split_none}
+use Rattle.std.proofs.lemmas.List.{length-append}
+use Rattle.std.proofs.lemmas.List.Splits.{slice_split_at, slice_split_none}
 use Rattle.cil_sexpr.specs.Lists.{contains_none}
-use Rattle.cil_syntax.specs.Scopes.{IsDotless, IsParted, IsTaken, Namespace, apart, asked_by, chain, names_backwards, same_space, scope_at}
+use Rattle.cil_syntax.specs.Scopes.{IsDotless, IsParted, IsTaken, Namespace, apart, chain, names_backwards, same_space, scope_at}
 use Rattle.cil_syntax.specs.Spelling.{same_bytes}
 use Rattle.cil_syntax.specs.Written.{Written}
 use Rattle.cil_blocks.specs.Named.{AreFirstNamed, AreOfName, HasNoneNamed, IsAsked}
