@@ -31,6 +31,7 @@ use Rattle.cil_names.specs.Declarations.{Declaration, Declared, IsDeclaration, S
 use Rattle.cil_names.specs.Entries.{AreEntries}
 use Rattle.cil_names.specs.Numbers.{ArePlain, ArePlainNames}
 use Rattle.cil_names.proofs.DeclareDecided.{symbol_by}
+use Rattle.cil_names.proofs.DeclareRowLemmas.{declares_written}
 use Rattle.cil_names.proofs.Qualified.{plain_name, spelled_one, turned_plain}
 use Rattle.cil_decide.proofs.WideClasses.{in_front, of_own_kind}
 use Rattle.cil_decide.proofs.WidthLemmas.{said_front}
@@ -107,23 +108,6 @@ module _ (ws : List Written) (begun : AreBegun ws) where
     begins_with keywords.Optional kind at name rest c e = absurd (contains_none kind c)
     begins_with keywords.SetAside kind at name rest c e = absurd (contains_none kind c)
 
-    says_name : (k : Keyword) (kind : Kind) → Contains (entry_of k).declares kind → says_as_written k ≡ true
-    unfolding entry_of
-    says_name keywords.Type_ kind c = refl
-    says_name keywords.Role kind c = refl
-    says_name keywords.User kind c = refl
-    says_name keywords.Class kind c = refl
-    says_name keywords.RoleType kind c = refl
-    says_name keywords.UserRole kind c = refl
-    says_name keywords.Allow kind c = refl
-    says_name keywords.Block kind c = refl
-    says_name keywords.BlockAbstract kind c = absurd (contains_none kind c)
-    says_name keywords.BlockInherit kind c = absurd (contains_none kind c)
-    says_name keywords.Macro kind c = refl
-    says_name keywords.Call kind c = absurd (contains_none kind c)
-    says_name keywords.Optional kind c = absurd (contains_none kind c)
-    says_name keywords.SetAside kind c = refl
-
     declared_well : (ps : List Placed) (p : Placed) → IsPlaced ws ss p → (d : Declaration) → Contains (declared_by (item_of ws ss ps p)) d → AreNames (d.name ∷ d.space)
     declared_well ps p is d c =
         let well = placed_well p is in
@@ -132,7 +116,7 @@ module _ (ws : List Written) (begun : AreBegun ws) where
         let args = p.standing.statement.statement.args in
         let kind = of_own_kind x.space (entry_of x.keyword).declares x.args d c in
         let front = in_front x.space (entry_of x.keyword).declares x.args d c in
-        let says = said_as_written ws ss p kw args (says_name kw d.kind kind) in
+        let says = said_as_written ws ss p kw args (declares_written kw d.kind kind) in
         let (more, e) = said_front (word_of ws p) args front.at d.name front.rest (sym says ∙ front.says) in
         name_more d.name d.space (begins_with kw d.kind front.at d.name more kind (ap (is_begun kw) (sym e) ∙ begun p.standing.statement well.among))
         (subst AreNames (sym front.in_space) well.names)

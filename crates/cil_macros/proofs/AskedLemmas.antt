@@ -1,16 +1,12 @@
 -- What the names of a word ask, name by name.
-use Rattle.std.proofs.Common.{◌≡◌, ℕ, zero, suc, Bool, ◌==◌, ◌≤◌, ◌<◌, List, [], ◌∷◌, ◌++◌, length, refl, sym, ◌∙◌, ap, subst, arith, append_assoc, append-nil}
-use Rattle.std.specs.Prelude.{reverse}
-use Rattle.std.specs.List.{slice_split}
-use Rattle.std.proofs.lemmas.List.Splits.{length-slice_split, slice_split_at, slice_split_none}
-use Rattle.std.proofs.lemmas.List.{length-append, length-reverse, reverse-append}
-use Rattle.cil_syntax.specs.Scopes.{IsDotless, IsParted, IsTaken, Namespace, asked, asked_by, names_backwards}
+use Rattle.std.proofs.Common.{◌≡◌, ℕ, zero, suc, ◌≤◌, List, [], ◌∷◌, ◌++◌, length, refl, sym, ◌∙◌, ap, subst, arith, append_assoc, append-nil}
+use Rattle.cil_syntax.specs.Scopes.{IsDotless, IsParted, Namespace, names_backwards}
 use Rattle.cil_blocks.specs.declared.namespaces.Space.{Space}
 use Rattle.cil_blocks.specs.Namespaces.{AreNamespaces, HasNoNumber, IsNumber, space_at}
 use Rattle.cil_blocks.proofs.NamespaceLemmas.{global_at, inner_of}
 use Rattle.cil_macros.specs.Asked.{IsAskedAt, IsAskedNowhere}
 use Rattle.cil_sexpr.specs.Places.{cons_tail, never_cons}
-use Rattle.cil_syntax.proofs.AskedLemmas.{last_name, never_none, one_name, parted_backwards}
+use Rattle.cil_syntax.proofs.AskedLemmas.{last_name, one_name, parted_backwards}
 
 -- the names in front lead to the namespace of this number, and these are left
 pub record IsAskedUpTo (ss : List Space) (from : ℕ) (names : List ℕ) (space : ℕ) (rest : List ℕ) : Type 0 where

@@ -4,8 +4,10 @@
 //! has them; `specs/Certificate.antt` says what shows that a set is it; `specs/Policy.antt` what a policy is: the
 //! statements of modules with this set. `laws.rt` says that there is one such set and one such policy. `chosen.rt` finds it, and
 //! checks whether a set is it. `specs/Counts.antt` says how many steps that takes, and `counts.rt` counts them.
+//! `base.rt` tells which words outside all optionals name nothing.
 #![tactic(auto)]
 
+mod base;
 mod checking;
 pub mod chosen;
 mod counts;
@@ -17,5 +19,6 @@ mod reason;
 mod removal;
 mod times;
 
+pub use base::base_faults;
 pub use chosen::{Chosen, Counted, check, greatest, greatest_counted};
 pub use reason::Reason;
