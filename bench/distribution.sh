@@ -1,10 +1,59 @@
 #!/usr/bin/env bash
 # Times a session of the program cilhost that loads a policy as large as the flat part of a distribution's policy, which
 # distribution.py writes. With --blocks it also times one that loads the same policy in blocks, with inheritance and
-# calls of macros, and compares the answers of both. README.md says how to read the table.
-# usage: bench/distribution.sh [--blocks]
-[ $# -eq 0 ] || [ "$*" = --blocks ] || { echo "usage: bench/distribution.sh [--blocks]" >&2; exit 2; }
+# calls of macros, and compares the answers of both. With --optionals it times sessions that load a policy of the shape
+# of a whole distribution's, with 10,000 optionals, and half of it. README.md says how to read the tables.
+# usage: bench/distribution.sh [--blocks | --optionals]
+case "$#,$*" in
+    0, | 1,--blocks | 1,--optionals) ;;
+    *) echo "usage: bench/distribution.sh [--blocks | --optionals]" >&2; exit 2 ;;
+esac
 . "$(dirname "$0")/session_common.sh"
+
+# A row for the $1-th part of the policy with optionals. LOAD alone goes to $work/load_us, the number of queries to
+# $work/queries. Each optional has to be in or out, and each reply to a query has to be, as distribution.py says.
+row_with_optionals() {
+    local policy=$work/optionals$1 installed loaded peak out
+    "$here/distribution.py" --optionals --scale "$1" "$policy"
+    for module in "$policy"/*.cil; do install_request "$module"; done >"$work/installed"
+    { cat "$work/installed"; echo LOAD; } >"$work/loaded"
+    { cat "$work/loaded"; printf 'OPTIONALS\nWHY\n'; cat "$policy/queries"; } >"$work/asked"
+    out=$(grep -c ' out$' "$policy/optionals")
+    wc -l <"$policy/queries" >"$work/queries"
+
+    measure "$work/installed"; expect_no_refusal; installed=$(cat "$work/us")
+    measure "$work/loaded"; expect_no_refusal; loaded=$(cat "$work/us"); peak=$(cat "$work/peak")
+    echo $((loaded - installed)) >"$work/load_us"
+
+    "$program" session <"$work/asked" >"$work/replies"
+    awk '/ (in|out)$/ { print $3, $4, $5 }' "$work/replies" | LC_ALL=C sort >"$work/told"
+    tail -n "$(cat "$work/queries")" "$work/replies" >"$work/answers"
+    if ! cmp "$work/told" "$policy/optionals" >&2 || ! cmp "$work/answers" "$policy/answers" >&2 ||
+        [ "$(grep -cE ' (parent|missing [^ ]+)$' "$work/replies")" -ne "$out" ]; then
+        echo "the replies to OPTIONALS, WHY or AV are not as they should be" >&2
+        exit 1
+    fi
+
+    awk -v statements="$(awk '$1 == "statements" { print $2 }' "$policy/counts")" \
+        -v optionals="$(wc -l <"$policy/optionals")" -v out="$out" -v bytes="$(cat "$policy"/*.cil | wc -c)" \
+        -v us="$(cat "$work/load_us")" -v peak="$peak" 'BEGIN {
+        printf "%10d %9d %5d %9d %8.1f %8.1f %12.1f\n", statements, optionals, out, bytes, us / 1000,
+            peak * 1024 / 1000000, peak * 1024 / bytes
+    }'
+}
+
+if [ "$*" = --optionals ]; then
+    printf '%10s %9s %5s %9s %8s %8s %12s\n' statements optionals out bytes 'LOAD ms' 'peak MB' 'peak / bytes'
+    row_with_optionals 2
+    half=$(cat "$work/load_us")
+    row_with_optionals 1
+    echo "which optionals are in, and $(cat "$work/queries") answers of each policy, are as they should be"
+    awk -v half="$half" -v whole="$(cat "$work/load_us")" 'BEGIN {
+        growth = whole / half
+        printf "LOAD of the whole takes %.2f times as long as that of half: %s\n", growth,
+            growth <= 2.4 ? "at most 2.4" : "MORE THAN 2.4" }'
+    exit
+fi
 
 # A query for every 50th rule, and what the rule allows.
 "$here/distribution.py" "$work/flat"
@@ -46,7 +95,7 @@ paste -d ' ' "$work/replies_of_flat" "$work/rules" | awk '{
 }' >&2
 
 # The same queries, with the names that the types have in blocks, must have the same replies.
-if [ $# -eq 1 ]; then
+if [ "$*" = --blocks ]; then
     "$here/distribution.py" --blocks "$work/blocks"
     awk 'NR == FNR { name[$1] = $2; next }
         { split($2, source, ":"); split($3, target, ":")
