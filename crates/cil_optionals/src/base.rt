@@ -1,6 +1,5 @@
 //! The words outside all optionals that name nothing.
 
-ghost use Rattle.std.specs.Prelude.{Unit};
 ghost use Rattle.cil_syntax.specs.Refusal.{Answers};
 ghost use Rattle.cil_macros.specs.Items.{items_in, namespaces_in};
 ghost use Rattle.cil_names.specs.Entries.{AreEntries, is_in};
