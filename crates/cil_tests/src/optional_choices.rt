@@ -1,12 +1,13 @@
 //! Choices of optionals, right and wrong: what `check` says of them, and that what is chosen is right.
 
-use crate::answers::{Question, answer_to};
+use crate::answers::{Question, answer_to, lines};
 use crate::policies::FIRST;
 use cil_macros::Instances;
 use cil_names::{OptSet, declare, permissions_of};
 use cil_optionals::guesses::guess;
 use cil_optionals::laws::greatest_in_rounds;
-use cil_optionals::{Chosen, Reason, check, greatest_counted};
+use cil_optionals::{Chosen, Reason, base_faults, check, greatest_counted};
+use cil_syntax::Failure;
 use std::alloc::Global;
 
 // The first policy has the statements 0 to 8. Those of the module behind it have the numbers from 9 on: first those that are
@@ -533,5 +534,47 @@ fn a_chain_takes_a_look_up_for_each_type_and_each_word(rt: HostRuntime) {
             answer.is_some_and(|got| want.is_some_and(|want| got.as_str() == want.as_str())),
             "{last}"
         );
+    }
+}
+
+/// The faults of words outside all optionals, where these are in force.
+#[derive(Drop)]
+struct Judged {
+    enabled: &'static [usize],
+}
+
+impl Question for Judged {
+    fn answer(&self, alloc: Global, instances: &Instances) -> Option<String> {
+        let Ok(names) = declare(alloc, instances) else {
+            return None;
+        };
+        let Ok(permissions) = permissions_of(alloc, &names, instances) else {
+            return None;
+        };
+        let permissions = permissions.as_slice();
+        let chosen = choice(alloc, self.enabled, &[])?;
+        match base_faults(alloc, &*instances, &names, permissions, &chosen) {
+            Ok(()) => Some(String::new(alloc)),
+            Err(Failure::Faults(faults)) => lines(alloc, &faults),
+            Err(Failure::NoMemory) => None,
+        }
+    }
+}
+
+/// A module behind the first policy, in which `x` is declared in the optional 9 alone, and a word in it names nothing.
+const OUTSIDE: &str = "(optional o (type x)(roletype r nobody))(roletype r x)(roletype r y)";
+
+/// The optionals that are in force, and the faults.
+const BASE: &[(&[usize], &str)] = &[
+    (&[], "41 1 52 . x\n41 1 66 . y\n"),
+    (&[9], "41 1 66 . y\n"),
+    (&[10], "41 1 52 . x\n41 1 66 . y\n"),
+];
+
+#[test]
+fn words_outside_optionals_are_judged_by_any_choice(rt: HostRuntime) {
+    for &(enabled, want) in BASE {
+        let answer = answer_to(rt.alloc(), &[FIRST, OUTSIDE], &Judged { enabled });
+        assert!(rt; answer.is_some_and(|got| got.as_str() == want), "{want}");
     }
 }
