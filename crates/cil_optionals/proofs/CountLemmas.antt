@@ -1,8 +1,8 @@
 -- The look-ups by the parts of statements are those of the statements themselves.
-use Rattle.std.specs.Prelude.{Option, Some, None, Contains, cond, is_some, map, count_by, sum_by, not, slice_get}
+use Rattle.std.specs.Prelude.{Option, Some, None, cond, is_some, map, count_by, sum_by, not}
 use Rattle.std.specs.List.{flat_map}
 use Rattle.std.specs.Option.{option_map_or}
-use Rattle.std.proofs.Common.{◌≡◌, ℕ, ◌+◌, ◌<◌, Bool, true, false, ◌&&◌, List, [], ◌∷◌, length, take, refl, sym, ap, subst, ◌∙◌, arith}
+use Rattle.std.proofs.Common.{◌≡◌, ℕ, ◌+◌, ◌<◌, Bool, true, false, ◌&&◌, List, [], ◌∷◌, length, take, refl, sym, ap, ◌∙◌, arith}
 use Rattle.std.proofs.lemmas.List.Sums.{sum_by-cons}
 use Rattle.cil_settle.specs.Counts.{count_append, count_cons, count_flat}
 use Rattle.cil_syntax.specs.declared.kind.Sign.{Sign}
@@ -13,7 +13,7 @@ use Rattle.cil_macros.specs.Item.{Item, OptSet, everybody, innermost}
 use Rattle.cil_macros.specs.Items.{Kept, item_at, items_in}
 use Rattle.cil_macros.proofs.ItemLemmas.{items_taken}
 use Rattle.cil_names.specs.declared.entry.Entry.{Entry}
-use Rattle.cil_names.specs.Entries.{AreEntries, candidate, candidates_of, is_declared_at, is_declared_in, is_entry_of, is_in, listed}
+use Rattle.cil_names.specs.Entries.{AreEntries, candidate, candidates_of, is_declared_at, is_declared_in, is_entry_of, listed}
 use Rattle.cil_names.specs.PermissionWords.{IsAnswerFor, class_with, wanted_candidates}
 use Rattle.cil_names.specs.Resolves.{Wanted, Word, Permission, has, words_of}
 use Rattle.cil_names.proofs.AnswerLemmas.{by_place, known_live, unknown_gone}

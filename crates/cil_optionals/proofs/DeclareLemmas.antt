@@ -1,6 +1,6 @@
 -- Whether a statement declares something, by its keyword and its name.
 use Rattle.std.specs.Prelude.{Contains, None}
-use Rattle.std.proofs.Common.{◌≡◌, ℕ, ◌<◌, Bool, true, false, List, [], ◌∷◌, refl, sym, ap, subst, ◌∙◌}
+use Rattle.std.proofs.Common.{◌≡◌, ℕ, true, false, List, [], ◌∷◌, refl, sym, ap, subst, ◌∙◌}
 use Rattle.cil_sexpr.specs.Lists.{contains_here}
 use Rattle.cil_syntax.specs.declared.kind.Kind.{Kind}
 use Rattle.cil_syntax.specs.declared.program.Statement as rust
@@ -11,8 +11,7 @@ use Rattle.cil_syntax.specs.Said.{args_of}
 use Rattle.cil_syntax.specs.Table.{entry_of}
 use Rattle.cil_syntax.specs.Terms.{Name, cons}
 use Rattle.cil_blocks.specs.Entries.{nothing}
-use Rattle.cil_macros.specs.Item.{Item}
-use Rattle.cil_macros.specs.Items.{Kept, item_at, items_in, placed_at, says_as_written}
+use Rattle.cil_macros.specs.Items.{Kept, item_at, placed_at, says_as_written}
 use Rattle.cil_names.specs.Declarations.{Declaration, declarations, declared_by}
 use Rattle.cil_names.proofs.DeclareRowLemmas.{declares_written, without_kind, without_name}
 use Rattle.cil_names.proofs.DeclareStatements.{begins_there, keyword_there, no_front, nothing_there, there}

@@ -14,7 +14,6 @@ use Rattle.cil_syntax.specs.Scopes.{ScopedWord}
 use Rattle.cil_syntax.specs.Table.{entry_of}
 use Rattle.cil_syntax.specs.Terms.{Leaf, Name, Form, Terms, nil, cons}
 use Rattle.cil_settle.specs.Among.{among}
-use Rattle.cil_blocks.specs.Contents.{is_optional}
 use Rattle.cil_macros.specs.Item.{Item, OptSet, innermost, nobody, names_in, all_words_in}
 use Rattle.cil_names.specs.Declarations.{nowhere}
 use Rattle.cil_names.specs.Resolves.{Wanted, Word, all_wanted_in, found_in, has, has_permission, resolves, wanted_in, words_of}

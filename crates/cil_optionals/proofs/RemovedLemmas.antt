@@ -1,5 +1,5 @@
 -- There is one reason for each optional that is left out.
-use Rattle.std.specs.Prelude.{Option, Some, None, cond, map, length, not, slice_get, ◌==◌}
+use Rattle.std.specs.Prelude.{cond, map, length, not, slice_get, ◌==◌}
 use Rattle.std.specs.Option.{option_map_or}
 use Rattle.std.proofs.Common.{◌≡◌, ℕ, zero, suc, ◌+◌, ◌≤◌, Bool, true, false, ◌&&◌, ◌||◌, List, [], ◌∷◌, refl, sym, ap, subst, ◌∙◌, arith}
 use Rattle.std.proofs.lemmas.Bool.Decides.{nat_tests}
@@ -7,7 +7,7 @@ use Rattle.cil_settle.specs.Among.{among}
 use Rattle.cil_blocks.specs.Contents.{is_optional}
 use Rattle.cil_macros.specs.Item.{Item, OptSet}
 use Rattle.cil_optionals.specs.declared.reason.Reason.{Reason}
-use Rattle.cil_optionals.specs.Certificate.{left_out, all_but, InOrder, IsRight, no_more, one_more}
+use Rattle.cil_optionals.specs.Certificate.{left_out, all_but, InOrder, IsRight, one_more}
 use Rattle.cil_optionals.specs.Counts.{removals, removed_from}
 use Rattle.cil_optionals.specs.Greatest.{is_optional_at}
 

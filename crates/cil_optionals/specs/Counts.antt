@@ -1,7 +1,7 @@
 -- How many steps the choice of optionals takes, by what it leaves out: the optionals that are removed, and the look-ups. A
 -- look-up is a visit of a declaring statement that is left out, or of a word in an optional together with something that it could
 -- name and that is not declared. This project's profile.
-use Rattle.std.specs.Prelude.{ℕ, zero, suc, ◌+◌, Bool, true, false, ◌&&◌, not, cond, List, [], ◌∷◌, count_by, sum_by, is_some}
+use Rattle.std.specs.Prelude.{ℕ, suc, ◌+◌, Bool, true, false, ◌&&◌, not, cond, List, [], ◌∷◌, count_by, sum_by, is_some}
 use Rattle.cil_syntax.specs.Scopes.{asked, spaces_asked}
 use Rattle.cil_blocks.specs.Contents.{is_optional}
 use Rattle.cil_macros.specs.Item.{Item, OptSet, everybody, innermost, is_enabled}

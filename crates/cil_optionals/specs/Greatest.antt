@@ -1,6 +1,6 @@
 -- Good sets of optionals, and the greatest. CIL Reference Guide, "Container Statements", "optional"; what has to resolve, and
 -- in which set, is this project's profile.
-use Rattle.std.specs.Prelude.{◌≡◌, ◌↔◌, ℕ, Bool, true, false, List, [], ◌∷◌, Option, Some, None, slice_get}
+use Rattle.std.specs.Prelude.{◌≡◌, ◌↔◌, ℕ, Bool, true, false, List, Some, slice_get}
 use Rattle.std.specs.Option.{option_map_or}
 use Rattle.cil_blocks.specs.Contents.{is_optional}
 use Rattle.cil_macros.specs.Item.{Item, OptSet, innermost}
