@@ -3,8 +3,6 @@
 use Rattle.std.specs.Prelude.{Contains, Option, Some, None, reverse}
 use Rattle.std.specs.Option.{option_map_or}
 use Rattle.std.proofs.Common.{◌≡◌, ℕ, true, false, List, [], ◌∷◌, map, refl, sym, ◌∙◌, ap, subst, inl, inr}
-use Rattle.std.proofs.lemmas.List.{reverse-append}
-use Rattle.std.proofs.lemmas.List.Elements.{Contains-append_cases}
 use Rattle.cil_sexpr.specs.Lists.{Lists, contains_cases, contains_here, contains_later, contains_none}
 use Rattle.cil_sexpr.specs.MadeLists.{from_map}
 use Rattle.cil_sexpr.specs.Places.{cons_head, cons_tail, get_at}
@@ -23,7 +21,7 @@ use Rattle.cil_blocks.specs.declared.namespaces.Space.{Space}
 use Rattle.cil_blocks.specs.Namespaces.{space_at}
 use Rattle.cil_macros.specs.Calls.{IsPlaced, called, in_optional, placed_cmp, stands}
 use Rattle.cil_macros.specs.Item.{Item, OptSet, everybody}
-use Rattle.cil_macros.specs.Items.{item_of, says_as_written, word_of}
+use Rattle.cil_macros.specs.Items.{item_of, word_of}
 use Rattle.cil_macros.specs.Placed.{Placed}
 use Rattle.cil_macros.proofs.ItemLemmas.{said_as_written}
 use Rattle.cil_names.specs.declared.entry.Entry.{Entry}
