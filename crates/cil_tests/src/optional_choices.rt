@@ -483,7 +483,7 @@ const PICKED: &[(&str, u64, u64)] = &[
 ];
 
 /// How `Picked` answers where so many optionals are left out and so many look-ups belong to that.
-fn picked(alloc: Global, removals: u64, lookups: u64) -> Option<String> {
+fn wanted_answer(alloc: Global, removals: u64, lookups: u64) -> Option<String> {
     let mut answer = String::new(alloc);
     write!(
         answer,
@@ -497,7 +497,7 @@ fn picked(alloc: Global, removals: u64, lookups: u64) -> Option<String> {
 fn what_is_chosen_is_right(rt: HostRuntime) {
     for &(text, removals, lookups) in PICKED {
         let answer = answer_to(rt.alloc(), &[FIRST, text], &Picked);
-        let want = picked(rt.alloc(), removals, lookups);
+        let want = wanted_answer(rt.alloc(), removals, lookups);
         assert!(rt;
             answer.is_some_and(|got| want.is_some_and(|want| got.as_str() == want.as_str())),
             "{text}"
@@ -507,7 +507,7 @@ fn what_is_chosen_is_right(rt: HostRuntime) {
 
 /// A chain of 1,000 optionals, each of which declares a type and wants that of the next. The name of the last is that of this
 /// number, which no optional declares or the first.
-fn chain(alloc: Global, last: u32) -> Option<String> {
+fn long_chain(alloc: Global, last: u32) -> Option<String> {
     let mut text = String::new(alloc);
     for number in 0..1000_u32 {
         let wanted = if number == 999 { last } else { number + 1 };
@@ -524,12 +524,12 @@ fn chain(alloc: Global, last: u32) -> Option<String> {
 fn a_chain_takes_a_look_up_for_each_type_and_each_word(rt: HostRuntime) {
     // All are out: 1,000 types, and 999 words, since nothing declares the last.
     for &(last, removals, lookups) in &[(1000, 1000, 1999), (0, 0, 0)] {
-        let Some(text) = chain(rt.alloc(), last) else {
+        let Some(text) = long_chain(rt.alloc(), last) else {
             assert!(rt; false, "no memory");
             return;
         };
         let answer = answer_to(rt.alloc(), &[FIRST, text.as_str()], &Picked);
-        let want = picked(rt.alloc(), removals, lookups);
+        let want = wanted_answer(rt.alloc(), removals, lookups);
         assert!(rt;
             answer.is_some_and(|got| want.is_some_and(|want| got.as_str() == want.as_str())),
             "{last}"
