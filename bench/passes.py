@@ -1,0 +1,131 @@
+#!/usr/bin/env python3
+"""What the passes of LOAD cost, from a file of callgrind (--dump-instr=yes) of a session with one LOAD.
+
+usage: passes.py FILE
+
+Most passes are no functions of the program: they are parts of two large ones. There they are told apart by the calls in
+them, in the order of the addresses. A line has a pass, its instructions with those of all that it calls, and the first
+address in it at which the program was once, where a debugger can see that the pass begins; 0 where there is none.
+"""
+import re
+import sys
+
+LOADING, PLACED = "requests::load", "compiler::placed_policy"
+
+
+def lines_of(path):
+    """For each function its addresses with their instructions, and its calls: address, callee, instructions."""
+    names, costs, calls = {}, {}, {}
+    function, callee, called, address = None, None, False, 0
+
+    def named(line):
+        number, name = re.match(r"c?fn=\((\d+)\)(?: (.*))?$", line.strip()).groups()
+        if name:
+            names[number] = name
+        return names[number]
+
+    for line in open(path, encoding="utf-8"):
+        if line.startswith("fn="):
+            function = named(line)
+        elif line.startswith("cfn="):
+            callee = named(line)
+        elif line.startswith("calls="):
+            called = True
+        elif function and re.match(r"[0-9+*-]", line):
+            place, *_, cost = line.split()
+            if place[0] in "+-":
+                address += int(place, 0)
+            elif place != "*":
+                address = int(place, 0)
+            if called:
+                calls.setdefault(function, []).append((address, callee, int(cost)))
+            else:
+                own = costs.setdefault(function, {})
+                own[address] = own.get(address, 0) + int(cost)
+            called = False
+    return costs, calls
+
+
+def only(names, wanted):
+    found = [name for name in names if wanted in name]
+    if len(found) != 1:
+        sys.exit(f"passes.py: {len(found)} functions of the name {wanted}")
+    return found[0]
+
+
+class Function:
+    """The calls of a function in the order of their addresses, and the passes in it."""
+
+    def __init__(self, costs, calls):
+        self.costs, self.calls = costs, sorted(calls)
+        self.start, self.passes = 0, []
+
+    def place(self, wanted, last=False, before=None):
+        """The place of the first call of a function from here on, or of the last one before a place."""
+        places = [i for i in range(self.start, before or len(self.calls)) if wanted in self.calls[i][1]]
+        if not places:
+            sys.exit(f"passes.py: no call of {wanted}")
+        return places[-1 if last else 0]
+
+    def ends(self, name, place):
+        """The next pass ends with the call at this place."""
+        self.passes.append((name, self.start, place + 1))
+        self.start = place + 1
+
+    def ends_before(self, name, wanted):
+        self.ends(name, self.place(wanted) - 1)
+
+    def ends_with(self, name, wanted):
+        self.ends(name, self.place(wanted))
+
+    def lines(self):
+        addresses = sorted(self.costs)
+        for name, first, last in self.passes:
+            low = self.calls[first - 1][0] if first else addresses[0] - 1
+            high = self.calls[last - 1][0] if last < len(self.calls) else addresses[-1]
+            own = [address for address in addresses if low < address <= high]
+            cost = sum(self.costs[address] for address in own) + sum(call[2] for call in self.calls[first:last])
+            yield name, cost, next((address for address in own if self.costs[address] == 1), 0)
+
+
+def main():
+    if len(sys.argv) != 2 or sys.argv[1].startswith("-"):
+        print(__doc__, end="")
+        return 2
+    costs, calls = lines_of(sys.argv[1])
+    loading, placed = only(costs, LOADING), only(costs, PLACED)
+
+    one = Function(costs[loading], calls[loading])
+    one.ends_with("reading", "reader::read_level")
+    one.ends_with("written", "Reader::judge_all")
+    one.ends_before("freeing trees", "parts::parts_of")
+    one.ends_before("inherit", "expansion::expand")
+    one.ends_with("expand", "expansion::expand")
+    one.ends_with("placed", PLACED)
+    one.ends("freeing the rest", one.place("Vec::drop", last=True))
+    one.ends("copy of the set", len(one.calls) - 1)
+
+    two = Function(costs[placed], calls[placed])
+    two.ends_with("declare", "gather::declare")
+    two.ends_before("permissions_of", "calls::scope_at")
+    # The last thing that is freed is what a statement asks for; its part is pushed then.
+    two.ends("parts_of", two.place("dealloc", last=True, before=two.place("quicksort")) + 1)
+    two.ends_before("guess: graph", "quicksort")
+    two.ends_with("guess: sorting", "quicksort")
+    two.ends_before("guess: settling", "counts::lookups_of")
+    two.ends_with("lookups_of", "counts::lookups_of")
+    two.ends_before("check, freeing parts", "look::flags_of")
+    two.ends_before("words_of", "widths::check_widths")
+    for name, wanted in (("check_widths", "widths::check_widths"), ("tables_of", "compiler::tables_of"),
+                         ("optional_lines", "lines::optional_lines"), ("why_lines", "lines::why_lines")):
+        two.ends_with(name, wanted)
+    two.ends("freeing names", len(two.calls) - 1)
+
+    for name, cost, address in one.lines():
+        for line in two.lines() if name == "placed" else [(name, cost, address)]:
+            print("%s\t%d\t%#x" % line)
+    return 0
+
+
+if __name__ == "__main__":
+    sys.exit(main())
