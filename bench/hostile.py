@@ -1,0 +1,660 @@
+#!/usr/bin/env python3
+"""Runs the program on texts that are made to be dear.
+
+usage: hostile.py [PROGRAM] [--seconds N] [--gigabytes N] [FORM [SIZE]]
+
+Each form is a kind of text, made for one pass of the program or for one limit. `hostile.py FORM SIZE` runs the program
+on that form, and prints the form, its size, the bytes of its requests, the seconds that the run took, the most memory
+that the program held at once, how many bytes it replied, and the first line that is no reply to an INSTALL.
+Without a size it is the full size of the form, and without a form all forms are run at their full sizes, one after the
+other. A run ends after N seconds (120) and has an address space of N gigabytes (10).
+
+A size is a number of bytes, with few exceptions, which the form says. Twice the size is twice the text. Where a form
+multiplies its statements by inheritance or by calls, these are twice as many too. So a time that grows fourfold where
+the size is doubled is a square in all that the form has, and one that grows eightfold a cube.
+
+PROGRAM has a slash in its name. Without it the program is crates/cilhost/out/cilhost of this repository. The memory
+is that of the process with its start, which is a copy of this one: less than 20 MB cannot be told.
+"""
+import itertools
+import os
+import resource
+import subprocess
+import sys
+import tempfile
+import time
+
+# A module may have 4,194,304 bytes. Texts have a little less, so that what is put round them has room.
+LONGEST = 4_000_000
+ALL = 64_000_000
+
+
+# ---- texts
+
+def filled(size, head, unit, tail):
+    """Texts of so many bytes: in each one unit again and again, between a head and a tail. No two are alike."""
+    for left in range(size, 0, -LONGEST):
+        front = f";{left}\n{head}"
+        yield front + unit * max(0, (min(left, LONGEST) - len(front) - len(tail)) // len(unit)) + tail
+
+
+def pieces(size, make):
+    """The first pieces, each made by its number, that have so many bytes together."""
+    found = []
+    left = size
+    while left > 0:
+        found.append(make(len(found)))
+        left -= len(found[-1])
+    return found
+
+
+def numbered(size, make):
+    """Texts of so many bytes, of pieces that are made by their numbers."""
+    text, length, number = [], 0, 0
+    for left in range(size, 0, -LONGEST):
+        while length < min(left, LONGEST):
+            text.append(make(number))
+            length += len(text[-1])
+            number += 1
+        yield "".join(text)
+        text, length = [], 0
+
+
+def template(name, body):
+    """A block that is there only by inheritance."""
+    return f"(block {name}(blockabstract {name}){body})"
+
+
+def inherit(name):
+    """A statement that brings what is in a block."""
+    return f"(blockinherit {name})"
+
+
+def doubled(copies, body):
+    """Templates d0, d1 and so on, each of which inherits the one before it twice; and the name of the last one, which
+    brings the body as often as the greatest power of two in a number says."""
+    levels = max(1, copies).bit_length() - 1
+    texts = [template("d0", body)]
+    texts += [template(f"d{level + 1}", inherit(f"d{level}") * 2) for level in range(levels)]
+    return "".join(texts), f"d{levels}"
+
+
+def doubled_calls(copies, body):
+    """The same with macros."""
+    levels = max(1, copies).bit_length() - 1
+    texts = [f"(macro d0(){body})"]
+    texts += [f"(macro d{level + 1}()(call d{level})(call d{level}))" for level in range(levels)]
+    return "".join(texts), f"d{levels}"
+
+
+def path(size, bottom):
+    """Templates c0, c1 and so on, of which each inherits the one before it; c0 has the bottom. A block inherits the
+    last, so the bottom comes through all of them."""
+    def link(n):
+        return template(f"c{n:x}", inherit(f"c{n - 1:x}") if n else bottom)
+    links = pieces(size + len(bottom), link)
+    return "".join(links) + f"(block b{inherit(f'c{len(links) - 1:x}')})"
+
+
+def spaces(size, bottom, each="", name="a"):
+    """The same, but each template has a block that inherits the one before it: the bottom is in as many namespaces."""
+    def link(n):
+        return template(f"c{n:x}", f"(block {name}{each}{inherit(f'c{n - 1:x}')})" if n else bottom)
+    links = pieces(size + len(bottom), link)
+    return "".join(links) + f"(block b{inherit(f'c{len(links) - 1:x}')})"
+
+
+def nest(size):
+    """The beginnings of 126 blocks in one another and their ends. Of the largest texts they have the longest names."""
+    name = "a" * max(1, min(1024, size * 1024 // LONGEST))
+    return f"(block {name}" * 126, ")" * 126
+
+
+# ---- reading, and the faults of statements
+
+def nested(size):
+    """Lists as deep as they may be."""
+    return filled(size, "(sid", "(" * 127 + ")" * 127, ")")
+
+
+def empty_lists(size):
+    """Empty lists in one list."""
+    return filled(size, "(sid", "()", ")")
+
+
+def words(size):
+    """Words of one byte in one list."""
+    return filled(size, "(sid", " a", ")")
+
+
+def strings(size):
+    """Empty strings in one list."""
+    return filled(size, "(sid", '""', ")")
+
+
+def long_word(size):
+    """One word: a bad name (25)."""
+    return filled(size, "(type ", "a", ")")
+
+
+def long_path(size):
+    """One word of as many names as there is room for, which is not there (41)."""
+    return filled(size, "(roletype object_r a", ".a", ")")
+
+
+def comment(size):
+    """One comment."""
+    return filled(size, ";", ";", "\n")
+
+
+def set_aside(size):
+    """The shortest statements: more than there may be (38)."""
+    return filled(size, "", "(sid)", "")
+
+
+def shape_faults(size):
+    """Statements without a word: a fault (23) for each two bytes."""
+    return filled(size, "", "()", "")
+
+
+def deep_shape_faults(size):
+    """The same in blocks whose namespace has 129 KB, which each fault tells."""
+    head, tail = nest(size)
+    return filled(size, head, "()", tail)
+
+
+def parameters(size):
+    """Parameters of one macro, each of which is compared with all before it."""
+    return ["(macro m(" + "".join(pieces(size, "(type a{:x})".format)) + "))"]
+
+
+def parameter_names(size):
+    """Declarations in a macro, each of which is compared with all parameters."""
+    ones = "".join(pieces(size // 4, "(type a{:x})".format))
+    return [f"(macro m({ones})" + "".join(pieces(size * 3 // 4, "(type b{:x})".format)) + ")"]
+
+
+def parameter_copies(size):
+    """Optionals in a macro of very many parameters, whose list is copied for each."""
+    ones = "".join(pieces(size // 4, "(type a{:x})".format))
+    return [f"(macro m({ones})" + "(optional a)" * (size // 16) + ")"]
+
+
+# ---- modules
+
+def modules(size):
+    """Modules of one statement, each of which comes before all others."""
+    for number in range(size // 15, 0, -1):
+        yield f"(type a{number:07x})"
+
+
+def rising_modules(size):
+    """Modules of one statement, in their order."""
+    for number in range(size // 22):
+        yield f"(type a{number:07x})"
+
+
+# ---- blocks
+
+def same_names(size):
+    """Blocks of one name: all pairs are kept."""
+    return filled(size, "", "(block a)", "")
+
+
+def same_names_wide(size):
+    """Fewer blocks of one name, and much in each of them, which is gone through for each pair."""
+    count = int(size ** 0.5)
+    return [("(block a" + "(sid)" * (size // count // 5 - 2) + ")") * count]
+
+
+def chain(size):
+    """Blocks, each of which inherits the one before it. None is a template, so each has all that is before it."""
+    return numbered(size, lambda n: f"(block b{n:x}{inherit(f'b{n - 1:x}') if n else ''})")
+
+
+def heirs(size):
+    """Very many blocks that inherit one that has very much in it."""
+    return [template("m", "(sid)" * (size // 10)) + "".join(pieces(size // 2, "(block b{:x}(blockinherit m))".format))]
+
+
+def ring(size):
+    """Blocks that inherit one another in a ring (33)."""
+    links = pieces(size, lambda n: f"(block b{n:x}{inherit(f'b{n + 1:x}')})")
+    return ["".join(links) + f"(block b{len(links):x}{inherit('b0')})"]
+
+
+def deep_names(size):
+    """Blocks whose full names are alike up to the outermost name."""
+    deep, ends = "(block a" * 124, ")" * 125
+    return numbered(size, lambda n: f"(block b{n:x}{deep}{ends}")
+
+
+def deep_targets(size):
+    """Blockinherits 125 blocks deep, whose word is looked up in each of these. Other blocks of that name have
+    namespaces that are alike up to their outermost name."""
+    deep, ends = "(block a" * 124, ")" * 124
+    others = pieces(size // 4, lambda n: f"(block b{n:x}{deep}(block z){ends})")
+    return ["".join(others) + f"(block z)(block c{deep}{inherit('z') * (size * 3 // 4 // 16)}{ends})"]
+
+
+def doubling(size):
+    """A size is a number of copies: as many types that templates bring."""
+    text, last = doubled(size, "(type a)")
+    return [f"{text}(block b{inherit(last)})"]
+
+
+def long_paths(size):
+    """Macros of one name, which come through very many blockinherits and are the same."""
+    text, last = doubled(size // 30, "(macro a())")
+    return [text + path(size, inherit(last))]
+
+
+def nested_paths(size):
+    """Blockinherits one through the other, all written 120 blocks deep. Each way up goes through these each time."""
+    return ["(block a" * 120 + path(size, "") + ")" * 120]
+
+
+def nested_names(size):
+    """A size is a number of copies: types that templates bring which are written in a namespace of 129 KB."""
+    head, tail = nest(LONGEST)
+    text, last = doubled(size, "(type a)")
+    return [f"{head}{text}(block b{inherit(last)}){tail}"]
+
+
+def long_scopes(size):
+    """Words in scopes of very many namespaces, of which the last declares them."""
+    return ["(user x)(role y)" + spaces(size, "", "(userrole x y)")]
+
+
+def longer_scopes(size):
+    """The same with doubling templates in the innermost of these namespaces."""
+    text, last = doubled(size // 30, "(userrole x y)")
+    return ["(user x)(role y)" + text + spaces(size, inherit(last))]
+
+
+def long_names(size):
+    """The same with a call of a macro of the longest name, which is hashed for each namespace."""
+    name = "m" * 1024
+    text, last = doubled(size // 30, f"(call {name})")
+    return [f"(macro {name}())" + text + spaces(size, inherit(last))]
+
+
+def one_long_scope(size):
+    """One call whose scope has very many namespaces, and then very many statements in short scopes."""
+    text, last = doubled_calls(size // 30, "(userrole x y)")
+    return [f"(user x)(role y){text}" + spaces(size, "(call d0)") + f"(call {last})"]
+
+
+def permission_scopes(size):
+    """Permissions of one class, which is looked up for each of them in a scope of very many namespaces."""
+    rule = f"(optional a(allow b b(c({' e' * (size // 4)}))))"
+    return ["(class c(e))(type b)" + spaces(size // 2, rule)]
+
+
+def deep_spaces(size):
+    """A type in each of very many namespaces in one another, whose names the name of a type has."""
+    return [spaces(size, "", "(type a)", "a" * 64)]
+
+
+def deep_types(size):
+    """Types in a namespace of 129 KB."""
+    head, tail = nest(size)
+    return [head + "".join(pieces(size - len(head), "(type a{:x})".format)) + tail]
+
+
+# ---- macros
+
+def doubling_calls(size):
+    """A size is a number of copies: as many types that macros bring."""
+    text, last = doubled_calls(size, "(type a)")
+    return [f"{text}(call {last})"]
+
+
+def helper(size):
+    """A chain of macros that all call one helper first."""
+    links = pieces(size, lambda n: f"(macro m{n:x}()(call z)(call m{n - 1:x}))" if n else "(macro z())(macro m0())")
+    return ["".join(links) + f"(call m{len(links) - 1:x})"]
+
+
+def turns(size):
+    """A chain of macros that are in two blocks by turns."""
+    links = pieces(size, lambda n: f"(macro m{n:x}()(call {'qp'[n % 2]}.m{n - 1:x}))" if n else "(macro m0())")
+    last = len(links) - 1
+    return [f"(block p{''.join(links[::2])})(block q{''.join(links[1::2])})(call {'pq'[last % 2]}.m{last:x})"]
+
+
+def parameter_words(size):
+    """Words in the body of a macro of very many parameters, each of which is compared with all of them."""
+    ones = pieces(size // 4, "(type a{:x})".format)
+    body = "(userrole x y)" * (size // 30)
+    return [f"(user x)(role y)(type b)(macro m({''.join(ones)}){body})(call m({' b' * len(ones)}))"]
+
+
+def arguments(size):
+    """Calls with very many arguments, which are in a macro that is called very often."""
+    ones = pieces(size // 5, "(type a{:x})".format)
+    text, last = doubled_calls(size // 60, f"(call m({' b' * len(ones)}))")
+    return [f"(type b)(macro m({''.join(ones)})){text}(call {last})"]
+
+
+def unread_arguments(size):
+    """A call of no macro with very many arguments, in an optional that is inherited very often."""
+    text, last = doubled(size // 30, f"(optional a(call z({' b' * (size // 2)})))")
+    return [f"{text}(block b{inherit(last)})"]
+
+
+# ---- names
+
+def clashes(size):
+    """Classes of one name (36)."""
+    return numbered(size, "(class a(b{:x}))".format)
+
+
+def same_classes(size):
+    """Statements of one class that are the same."""
+    return filled(size, "", "(class a(b))", "")
+
+
+def wide_class(size):
+    """A class of very many permissions (55)."""
+    return ["(class a(" + "".join(pieces(size, " b{:x}".format)) + "))"]
+
+
+def listed(size):
+    """Rules that list one permission very often."""
+    return filled(size, "(class c(b))(type b)(allow b b(c(", " b", ")))")
+
+
+def unresolved(size):
+    """Words that name nothing (41): a fault for each five bytes."""
+    return filled(size, "", "(allow a b(c()))", "")
+
+
+def unlisted(size):
+    """Permissions that a class lacks (41): a fault for each two bytes."""
+    return filled(size, "(class c(a))(type b)(allow b b(c(", " b", ")))")
+
+
+def long_fault_words(size):
+    """A long word that names nothing, inherited very often: each fault has it."""
+    text, last = doubled(size // 30, f"(roletype object_r a{'.a' * (size // 2)})")
+    return [f"{text}(block b{inherit(last)})"]
+
+
+def class_copies(size):
+    """A class that lists one permission very often, inherited very often."""
+    text, last = doubled(size // 30, f"(class c({' a' * (size // 2)}))")
+    return [f"{text}(block b{inherit(last)})"]
+
+
+def permission_copies(size):
+    """A rule that lists one permission very often, inherited often."""
+    text, last = doubled(size // 4000, f"(allow b b(c({' a' * (size // 2)})))")
+    return [f"(class c(a))(type b){text}(block b{inherit(last)})"]
+
+
+def dots(size):
+    """Words of very many names in scopes of very many namespaces, each of which has some of these names."""
+    count = size // 2 // 70
+    word = "a." * count + "a"
+    return [spaces(size // 2, f"(optional a{f'(roletype object_r {word})' * (size // 2 // len(word))})")]
+
+
+def pairs(size):
+    """Pairs of a role and a type."""
+    return numbered(size, "(role a{0:x})(type a{0:x})(roletype a{0:x} a{0:x})".format)
+
+
+def hashed(state, byte):
+    """What a byte of a name makes of the hash of the names before it, as the tables of the program hash."""
+    product = (state ^ byte * 0x10101) * 0x9e3779b97f4a7c17
+    return (product ^ product >> 64) & 0xffffffffffffffff
+
+
+def alike(count):
+    """Names of five bytes whose places in a table of the global namespace are near one another. That the seed of the
+    program's hashes is fixed makes them easy to find."""
+    letters = b"abcdefghijklmnopqrstuvwxyzABCDEFGHIJKLMNOPQRSTUVWXYZ0123456789_"
+    found = []
+    for front in itertools.product(letters[:52], letters, letters, letters):
+        # The hash of the number 0 and the length 5.
+        state = 0x2a3103795ceef591
+        for byte in front:
+            state = hashed(state, byte)
+        for byte in letters:
+            end = hashed(state, byte)
+            if (end ^ end >> 32) & 0x3f80 == 0:
+                found.append(bytes(front + (byte,)).decode())
+        if len(found) >= count:
+            break
+    return found
+
+
+def flood(size):
+    """Macros whose names have hashes that are near one another, and very many calls of one that is found late."""
+    names = alike(size // 70)
+    text, last = doubled(size // 30, f"(call {names[0]})")
+    return ["".join(map("(macro {}())".format, names)) + f"{text}(block b{inherit(last)})"]
+
+
+# ---- optionals
+
+def same_optionals(size):
+    """Optionals that all declare one name, and have a word that names nothing."""
+    return filled(size, "", "(optional a(type b)(roletype c b))", "")
+
+
+def optional_chain(size):
+    """Optionals, each of which names what the next one declares. The last one's is missing."""
+    return numbered(size, lambda n: f"(optional a(type a{n:x})(roletype object_r a{n + 1:x}))")
+
+
+def optional_ring(size):
+    """The same, but the last one's is there, in the first."""
+    links = pieces(size, lambda n: f"(optional a(type a{n:x})(roletype object_r a{n + 1:x}))")
+    return ["".join(links) + f"(optional a(type a{len(links):x})(roletype object_r a0))"]
+
+
+def deep_optionals(size):
+    """Types in 125 optionals in one another."""
+    return filled(size, "(optional a" * 125, "(type a)", ")" * 125)
+
+
+def optional_lines(size):
+    """Optionals in a namespace of 129 KB, which their lines tell."""
+    head, tail = nest(size)
+    return filled(size, head, "(optional a)", tail)
+
+
+def optional_depth(size):
+    """A chain of macros, each of which has the call of the next in an optional, with a type."""
+    links = pieces(size, lambda n: f"(macro m{n:x}()(optional a(type a){f'(call m{n - 1:x})' if n else ''}))")
+    return ["".join(links) + f"(call m{len(links) - 1:x})"]
+
+
+def optional_rounds(size):
+    """The same without the types, and very many statements in the innermost optional."""
+    text, last = doubled_calls(size // 30, "(userrole x y)")
+    links = pieces(size, lambda n: f"(macro m{n:x}()(optional a(call {f'm{n - 1:x}' if n else last})))")
+    return [f"(user x)(role y){text}" + "".join(links) + f"(call m{len(links) - 1:x})"]
+
+
+def candidates(size):
+    """Words in an optional that could name something in each of very many namespaces."""
+    rules = "(roletype object_r x)" * (size // 2 // 21)
+    return [spaces(size // 2, f"(optional a{rules})", "(type x)")]
+
+
+# ---- requests
+
+def rules(size):
+    """Rules, of which each query looks at all."""
+    yield "(user u)(class c(e))"
+    yield from numbered(size, "(type a{0:x})(allow a{0:x} a0(c(e)))".format)
+
+
+def none(_size):
+    """No text."""
+    return []
+
+
+def installed(texts):
+    """The requests that install texts."""
+    for text in texts:
+        yield f"INSTALL {len(text)}\n{text}"
+
+
+def load(form, size):
+    """Texts, and a LOAD."""
+    yield from installed(form(size))
+    yield "LOAD\n"
+
+
+def lines(form, size):
+    """Texts, a LOAD, and what follows for optionals."""
+    yield from installed(form(size))
+    yield "LOAD\nOPTIONALS\nWHY\n"
+
+
+def queries(form, size):
+    """Texts, a LOAD, and a thousand queries."""
+    yield from installed(form(size))
+    yield "LOAD\n" + "AV u:object_r:a0 u:object_r:a0 c\n" * 1000
+
+
+def lists(form, size):
+    """Texts, and a hundred requests LIST and EXPORT."""
+    yield from installed(form(size))
+    yield "LIST\nEXPORT\n" * 100
+
+
+def bundle(form, size):
+    """An IMPORT of all texts, which have one length and are in their order, and a LOAD."""
+    count, length = 0, 0
+    for text in form(size):
+        count, length = count + 1, length + 8 + len(text)
+    yield f"IMPORT {13 + length}\nCILB\x01" + "".join(map(chr, count.to_bytes(8, "big")))
+    for text in form(size):
+        yield "".join(map(chr, len(text).to_bytes(8, "big"))) + text
+    yield "LOAD\n"
+
+
+def unknown(_form, size):
+    """A size is a number of requests that are none."""
+    yield "x\n" * size
+
+
+# Each form with its full size and its requests.
+FORMS = {
+    "nested": (nested, LONGEST, load), "empty-lists": (empty_lists, LONGEST, load), "words": (words, LONGEST, load),
+    "strings": (strings, LONGEST, load), "long-word": (long_word, LONGEST, load), "comment": (comment, LONGEST, load),
+    "long-path": (long_path, LONGEST, load), "set-aside": (set_aside, ALL, load),
+    "shape-faults": (shape_faults, ALL, load), "deep-shape-faults": (deep_shape_faults, LONGEST, load),
+    "parameters": (parameters, LONGEST, load), "parameter-names": (parameter_names, LONGEST, load),
+    "parameter-copies": (parameter_copies, LONGEST, load),
+    "modules": (modules, 14_000_000, load), "bundle": (rising_modules, ALL, bundle), "lists": (words, ALL, lists),
+    "same-names": (same_names, LONGEST, load), "same-names-wide": (same_names_wide, LONGEST, load),
+    "chain": (chain, LONGEST, load), "heirs": (heirs, LONGEST, load), "ring": (ring, LONGEST, load),
+    "deep-names": (deep_names, LONGEST, load), "deep-targets": (deep_targets, LONGEST, load),
+    "doubling": (doubling, 131_072, load), "long-paths": (long_paths, LONGEST, load),
+    "nested-paths": (nested_paths, LONGEST, load), "nested-names": (nested_names, 131_072, load),
+    "long-scopes": (long_scopes, LONGEST, load), "permission-scopes": (permission_scopes, LONGEST, load),
+    "longer-scopes": (longer_scopes, LONGEST, load), "long-names": (long_names, LONGEST, load),
+    "one-long-scope": (one_long_scope, LONGEST, load), "deep-spaces": (deep_spaces, LONGEST, load),
+    "deep-types": (deep_types, LONGEST, load),
+    "doubling-calls": (doubling_calls, 262_144, load), "helper": (helper, LONGEST, load),
+    "turns": (turns, LONGEST, load),
+    "parameter-words": (parameter_words, LONGEST, load), "arguments": (arguments, LONGEST, load),
+    "unread-arguments": (unread_arguments, LONGEST, load),
+    "clashes": (clashes, 13_000_000, load), "same-classes": (same_classes, 11_000_000, load),
+    "wide-class": (wide_class, LONGEST, load), "listed": (listed, ALL, load),
+    "unresolved": (unresolved, 15_000_000, load), "unlisted": (unlisted, ALL, load),
+    "long-fault-words": (long_fault_words, LONGEST, load), "class-copies": (class_copies, LONGEST, load),
+    "permission-copies": (permission_copies, LONGEST, load), "dots": (dots, LONGEST, load),
+    "pairs": (pairs, LONGEST, load), "flood": (flood, LONGEST, load),
+    "same-optionals": (same_optionals, 11_000_000, lines), "optional-chain": (optional_chain, LONGEST, lines),
+    "optional-ring": (optional_ring, LONGEST, lines), "deep-optionals": (deep_optionals, 7_800_000, load),
+    "optional-lines": (optional_lines, LONGEST, load),
+    "optional-depth": (optional_depth, LONGEST, load), "optional-rounds": (optional_rounds, LONGEST, load),
+    "candidates": (candidates, LONGEST, load),
+    "queries": (rules, 17_000_000, queries), "unknown": (none, 1_000_000, unknown),
+}
+
+
+# ---- runs
+
+def limit(gigabytes):
+    """What a child does before it becomes the program."""
+    resource.setrlimit(resource.RLIMIT_AS, (gigabytes << 30, gigabytes << 30))
+
+
+def ended(child, seconds):
+    """How a child ended, and what it used. It is killed after so many seconds."""
+    start, is_late = time.monotonic(), False
+    while True:
+        number, status, usage = os.wait4(child, os.WNOHANG)
+        if number:
+            return "too long" if is_late else "" if status == 0 else told(status), usage
+        if not is_late and time.monotonic() - start > seconds:
+            is_late = True
+            os.kill(child, 9)
+        time.sleep(0.005)
+
+
+def told(status):
+    """How a process ended."""
+    return f"signal {os.WTERMSIG(status)}" if os.WIFSIGNALED(status) else f"status {os.WEXITSTATUS(status)}"
+
+
+def first_line(replies):
+    """The first line that is no reply to an INSTALL."""
+    replies.seek(0)
+    for line in replies:
+        if not line.startswith((b"OK new", b"OK known")):
+            return line[:40].decode("latin-1").strip()
+    return "no reply"
+
+
+def run(program, name, size, seconds, gigabytes):
+    """Runs the program on a form, and prints what came of it."""
+    form, _full, requests = FORMS[name]
+    with tempfile.TemporaryFile() as file, tempfile.TemporaryFile() as replies:
+        for request in requests(form, size):
+            file.write(request.encode("latin-1"))
+        length = file.tell()
+        file.seek(0)
+        start = time.monotonic()
+        # Popen is not waited for: wait4 tells what this child alone has used.
+        child = subprocess.Popen([program, "session"], stdin=file, stdout=replies, preexec_fn=lambda: limit(gigabytes))
+        how, usage = ended(child.pid, seconds)
+        child.returncode = 0
+        wall = time.monotonic() - start
+        reply = first_line(replies)
+        print(f"{name:17} {size:9} {length:9} {wall:8.2f} {usage.ru_maxrss / 1000:8.0f} {replies.seek(0, 2):10}  "
+              f"{reply}{', ' * bool(how)}{how}", flush=True)
+
+
+def main():
+    words_, options = sys.argv[1:], {"--seconds": 120, "--gigabytes": 10}
+    here = os.path.dirname(os.path.abspath(__file__))
+    program = os.path.join(here, "..", "crates", "cilhost", "out", "cilhost")
+    if words_ and "/" in words_[0]:
+        program = words_.pop(0)
+    while len(words_) > 1 and words_[0] in options and words_[1].isdecimal():
+        options[words_[0]] = int(words_[1])
+        del words_[:2]
+    if len(words_) > 2 or words_[:1] and words_[0] not in FORMS or words_[1:] and not words_[1].isdecimal():
+        print(__doc__, "\nforms: ", " ".join(FORMS), sep="")
+        return 0 if sys.argv[1:] == ["--help"] else 2
+    if not os.path.exists(program):
+        print(f"there is no program {os.path.normpath(program)}", file=sys.stderr)
+        return 2
+    print(f"{'form':17} {'size':>9} {'bytes':>9} {'seconds':>8} {'peak MB':>8} {'replied':>10}  reply")
+    for name in words_[:1] or FORMS:
+        size = int(words_[1]) if words_[1:] else FORMS[name][1]
+        run(program, name, size, options["--seconds"], options["--gigabytes"])
+    return 0
+
+
+if __name__ == "__main__":
+    sys.exit(main())
