@@ -62,3 +62,7 @@ module _ (ss : List Space) (are : AreNamespaces ss) where
     -- without a dot, what is left is the name
     pub no_more : IsDotless rest → IsAskedAt ss from names space rest
     no_more plain = record { inner = so.inner; taken = so.backwards ∙ ap (λ l. l ++ so.inner) (one_name rest plain); numbered = so.numbered }
+
+-- a single name is asked where it stands
+pub at_once : (ss : List Space) (from : ℕ) (names : List ℕ) → from ≤ length ss → IsDotless names → IsAskedAt ss from names from names
+at_once ss from names within plain = record { inner = []; taken = one_name names plain; numbered = record { within = within; is = refl } }

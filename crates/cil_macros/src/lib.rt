@@ -6,7 +6,7 @@
 #![tactic(auto)]
 
 mod arguments;
-mod asked;
+pub mod asked;
 mod body_scope;
 mod call_words;
 pub mod calls;

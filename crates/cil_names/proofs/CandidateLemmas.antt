@@ -15,7 +15,7 @@ use Rattle.cil_blocks.specs.declared.namespaces.Space.{Space}
 use Rattle.cil_names.specs.Entries.{AreOrdered, HasNoEntry, IsEntryAt, candidate, is_entry, is_entry_of, place_where, HasNoEntryIn, IsEntryIn}
 use Rattle.cil_syntax.specs.Kinds.{is_wanted}
 use Rattle.cil_blocks.specs.Namespaces.{AreNamespaces, HasNoNumber, IsNumber, space_at}
-use Rattle.cil_names.specs.Spaces.{IsAskedAt, IsAskedNowhere}
+use Rattle.cil_macros.specs.Asked.{IsAskedAt, IsAskedNowhere}
 use Rattle.cil_names.proofs.EntryLemmas.{parts_fit, they_fit}
 use Rattle.cil_blocks.proofs.NamespaceLemmas.{same_number}
 

@@ -21,7 +21,6 @@ pub mod ListedLemmas
 pub mod MeaningLemmas
 pub mod NumberLemmas
 pub mod OrderLemmas
-pub mod PathLemmas
 pub mod PermissionLemmas
 pub mod PermissionWordLemmas
 pub mod Qualified
@@ -33,7 +32,6 @@ pub mod RowLemmas
 pub mod ScopeLemmas
 pub mod SearchLemmas
 pub mod SortedLists
-pub mod SpaceLemmas
 pub mod SpelledLemmas
 pub mod TableLemmas
 pub mod UnresolvedLemmas

@@ -12,7 +12,8 @@ use Rattle.cil_syntax.specs.Scopes.{IsTaken, asked, names_backwards}
 use Rattle.cil_syntax.proofs.AskedLemmas.{is_parted}
 use Rattle.cil_names.specs.declared.entry.Entry.{Entry}
 use Rattle.cil_blocks.specs.declared.namespaces.Space.{Space}
-use Rattle.cil_names.specs.Entries.{candidate, candidates_of, listed, numbers_asked, scope_of, scoped}
+use Rattle.cil_macros.specs.Asked.{numbers_asked}
+use Rattle.cil_names.specs.Entries.{candidate, candidates_of, listed, scope_of, scoped}
 use Rattle.cil_blocks.specs.Namespaces.{space_at}
 use Rattle.cil_blocks.proofs.NamespaceLemmas.{global_at}
 

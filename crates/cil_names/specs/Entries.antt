@@ -120,10 +120,6 @@ listed (Some x) = x ∷ []
 unfoldable pub candidates_of : List Space → List Entry → ScopedWord → List ℕ
 candidates_of ss es w = flat_map (λ n. listed (candidate ss es (asked w.bytes).name w.sign n)) (spaces_asked (asked w.bytes) w.scope)
 
--- with a leading dot a word asks the global namespace alone
-abbrev pub numbers_asked : Bool → List ℕ → List ℕ
-numbers_asked global scope = cond global (0 ∷ []) scope
-
 -- the entries rise, and stand in namespaces
 pub record AreOrdered (ss : List Space) (es : List Entry) : Type 0 where
   pub rising : IsStrictlySortedBy (on key_of key_cmp) es

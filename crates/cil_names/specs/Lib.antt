@@ -15,5 +15,4 @@ pub mod Permissions
 pub mod Readings
 pub mod Resolves
 pub mod Rows
-pub mod Spaces
 pub mod Unresolved

@@ -26,7 +26,6 @@ mod meaning;
 mod names;
 mod numbers;
 mod opt_set;
-mod path;
 mod permission_word;
 mod permissions;
 mod reading;

@@ -1,6 +1,6 @@
 use Rattle.std.proofs.Common.{rules}
 use Rattle.cil_names.proofs.CandidateLemmas.{nowhere, somewhere}
-use Rattle.cil_names.proofs.PathLemmas.{at_once}
+use Rattle.cil_macros.proofs.AskedLemmas.{at_once}
 use Rattle.cil_names.proofs.look.named_in.Goals as goal
 
 pub returns-then-path : goal.returns-then-path
