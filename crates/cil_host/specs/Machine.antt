@@ -114,10 +114,10 @@ pub record AreWhyLines (lines : List WhyLine) (a : Accepted) : Type 0 where
   pub right : IsRight items enabled a.reasons
   pub are_lines : AreReasonsOf items a.reasons lines
 
--- where there are no lines, no policy is loaded; want of memory says nothing
+-- where there are no lines, no policy is loaded; or one is, and there was no memory for them
 abbrev pub TellsNothing : State → HostError → Type 0
 TellsNothing h (errors.Query fault) = (fault ≡ NoPolicy) × (h.loaded ≡ None)
-TellsNothing h errors.NoMemory = Unit {0}
+TellsNothing h errors.NoMemory = h.loaded ≡ None → ⊥
 
 -- what a host tells of the optionals of its policy
 abbrev pub TellsOptionals : State → Result (Vec OptionalLine) HostError → Type 0

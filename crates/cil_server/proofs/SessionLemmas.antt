@@ -75,10 +75,10 @@ module _ (before after : Option (List ℕ)) (old new : State) (tells : List ℕ 
   }
 
 pub installs : (count : ℕ) → Announces (Install count) count
-installs count = record { size = refl; request = Installs; is_request = λ body. refl; may_lack = λ body. MayLack.installs }
+installs count = record { size = refl; request = Installs; is_request = λ body. refl; may_lack = λ h body. MayLack.installs }
 
 pub imports : (count : ℕ) → Announces (Import count) count
-imports count = record { size = refl; request = Imports; is_request = λ body. refl; may_lack = λ body. MayLack.imports }
+imports count = record { size = refl; request = Imports; is_request = λ body. refl; may_lack = λ h body. MayLack.imports }
 
 module _ (before after : Option (List ℕ)) (h : State) (tells : List ℕ → Type 0) where
   finished_so : (bytes reply rest : List ℕ) (ending : Served) → ((count : ℕ) → count < most_requests → Ends count bytes reply ending rest) → after ≡ Some rest → tells reply
@@ -94,7 +94,7 @@ module _ (before after : Option (List ℕ)) (h : State) (tells : List ℕ → Ty
   pub body_lacks : (said : Line) (count : ℕ) → Announces said count → TakesSome before after count → tells no_memory → AnswersLine said before after h h tells turns.Next
   body_lacks said count a t told =
       bodied before after h h tells said (a.request t.bytes) t.bytes t.consumed (t.len ∙ sym a.size) (a.is_request t.bytes)
-      (record { reply = no_memory; step = Step.lack (a.may_lack t.bytes); told = told })
+      (record { reply = no_memory; step = Step.lack (a.may_lack h t.bytes); told = told })
 
   -- the input ends in a body
   pub body_cut : (said : Line) (n : ℕ) → n < body_of said → TakesSome before after n → IsAtEnd after → tells (refused 83)

@@ -56,11 +56,11 @@ module _ (tells : List ℕ → Type 0) where
       record { reply = no_memory; step = subst (λ h. Step old Loads no_memory h) (sym same.1) (Step.lack MayLack.loads); told = told }
 
   -- no policy is loaded, or there is no memory
-  pub declined_by_host : (h : State) (request : Request) (e : HostError) → NeedsPolicy request → MayLack request → TellsNothing h e → tells (of_host_error e)
+  pub declined_by_host : (h : State) (request : Request) (e : HostError) → NeedsPolicy request → ((h.loaded ≡ None → ⊥) → MayLack h request) → TellsNothing h e → tells (of_host_error e)
       → IsAnswered h request h tells
   declined_by_host h request (errors.Query fault) needs lacks none told =
       record { reply = refused 71; step = Step.no_policy needs none.1; told = subst (λ f. tells (of_query_fault f)) none.0 told }
-  declined_by_host h request errors.NoMemory needs lacks none told = record { reply = no_memory; step = Step.lack lacks; told = told }
+  declined_by_host h request errors.NoMemory needs lacks none told = record { reply = no_memory; step = Step.lack (lacks none); told = told }
 
   pub optionals_told : (h : State) (r : Result (Vec OptionalLine) HostError) (v : Vec OptionalLine) (lines : List OptionalLine) → r ≡ Ok v → lines ≡ v.items → TellsOptionals h r
       → tells (of_optionals lines) → IsAnswered h AsksOptionals h tells

@@ -39,15 +39,15 @@ NamesOf h class_name mask names = ListsOf text_cmp (IsNameOf h class_name mask) 
 
 -- ---- a step
 
--- the requests that may be answered with want of memory
-pub data MayLack : Request → Type 0 where
-  installs : {text : List ℕ} → MayLack (Installs text)
-  imports : {bytes : List ℕ} → MayLack (Imports bytes)
-  exports : MayLack Exports
-  lists : MayLack Lists
-  loads : MayLack Loads
-  optionals : MayLack AsksOptionals
-  why : MayLack AsksWhy
+-- the requests that a host may answer with want of memory; those of the loaded policy only where there is one
+pub data MayLack : State → Request → Type 0 where
+  installs : {h : State} {text : List ℕ} → MayLack h (Installs text)
+  imports : {h : State} {bytes : List ℕ} → MayLack h (Imports bytes)
+  exports : {h : State} → MayLack h Exports
+  lists : {h : State} → MayLack h Lists
+  loads : {h : State} → MayLack h Loads
+  optionals : {h : State} → (h.loaded ≡ None → ⊥) → MayLack h AsksOptionals
+  why : {h : State} → (h.loaded ≡ None → ⊥) → MayLack h AsksWhy
 
 -- the requests that are of the loaded policy, and have no other faults
 pub data NeedsPolicy : Request → Type 0 where
@@ -72,4 +72,4 @@ pub data Step : State → Request → List ℕ → State → Type 0 where
   decline : {h : State} {source target class_name : List ℕ} (fault : QueryFault) → Queries h source target class_name (Err fault)
       → Step h (Asks source target class_name) (of_query_fault fault) h
   unknown : {h : State} → Step h Unasked (refused 81) h
-  lack : {h : State} {request : Request} → MayLack request → Step h request no_memory h
+  lack : {h : State} {request : Request} → MayLack h request → Step h request no_memory h

@@ -112,7 +112,7 @@ pub record Announces (said : Line) (count : ℕ) : Type 0 where
   pub size : body_of said ≡ count
   pub request : List ℕ → Request
   pub is_request : (body : List ℕ) → request_of said body ≡ Some (request body)
-  pub may_lack : (body : List ℕ) → MayLack (request body)
+  pub may_lack : (h : State) (body : List ℕ) → MayLack h (request body)
 
 -- a turn behind its line
 abbrev pub AnswersLine : Line → Option (List ℕ) → Option (List ℕ) → State → State → (List ℕ → Type 0) → Turn → Type 0

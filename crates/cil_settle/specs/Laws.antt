@@ -14,7 +14,7 @@ IsLeast =
     (edges : List Edge) (need order : List ℕ) → IsSettled edges need order
     → IsClosed edges need order × ((out : List ℕ) → IsClosed edges need out → (u : ℕ) → among order u ≡ true → among out u ≡ true)
 
--- two settled orders have the same nodes, as many of them, and the same look-ups
+-- two settled orders have the same nodes, and the same look-ups
 abbrev pub HasOneSet : Type 0
 HasOneSet =
     (edges : List Edge) (need a b : List ℕ) → IsSettled edges need a → IsSettled edges need b

@@ -11,7 +11,8 @@ use Rattle.cil_sexpr.specs.Faults.{FaultOf}
 use Rattle.cil_sexpr.specs.Lists.{contains_cases, contains_here, contains_none}
 use Rattle.cil_sexpr.specs.Refusal.{Refuses}
 use Rattle.cil_sexpr.specs.Text.{IsReadable}
-use Rattle.cil_modset.specs.Modules.{IsUnion}
+use Rattle.cil_modset.proofs.RisingLemmas.{rising_none}
+use Rattle.cil_modset.specs.Modules.{AreModules, IsUnion}
 use Rattle.cil_modset.specs.declared.set.Installed.{Installed}
 use Rattle.cil_modset.specs.declared.set.Installed.TheVariants.{New, Known as Again}
 use Rattle.cil_host.specs.Machine.{State}
@@ -19,7 +20,7 @@ use Rattle.cilhost.specs.Ends.{IsFailure, error_status, refusal, status_of}
 use Rattle.cil_server.specs.Session.{reader_failures, writer_failures}
 use Rattle.cil_server.specs.declared.served.Served.{Served}
 use Rattle.cil_server.specs.declared.served.Served.TheVariants as served
-use Rattle.cilhost.specs.Reading.{Adds, AreReadable, Failure, HasFailed, HasJust, HasRefused, HasText, IsDue, IsDueAt, IsFaultOfFile, IsModule, IsOfOne, IsTextOf, Known, StopsAt}
+use Rattle.cilhost.specs.Reading.{Adds, Failure, HasFailed, HasJust, HasRefused, HasText, IsDue, IsDueAt, IsFaultOfFile, IsModule, IsOfOne, IsTextOf, Known, StopsAt}
 use Rattle.cilhost.specs.declared.status.Status.{Status}
 use Rattle.cilhost.specs.declared.status.Status.TheVariants as statuses
 use Rattle.cilhost.specs.declared.error.Error.{Error}
@@ -66,19 +67,22 @@ is_added known old new text New result is_text is again stays union = record {
   ];
 }
 
--- with readable modules before, those after it are readable
-pub stays_readable : (old new : State) (text : List ℕ) (result : Result Installed ReadError)
+-- with a set of readable modules before, those after it are one
+pub stay_modules : (old new : State) (text : List ℕ) (result : Result Installed ReadError)
     → (result ≡ Ok Again → new ≡ old) → (result ≡ Ok New → IsUnion old.modules (text ∷ []) new.modules) → (result ≡ Ok New → IsReadable text)
-    → OnErr result (new ≡ old) → AreReadable old.modules → AreReadable new.modules
-stays_readable old new text (Ok Again) stays union readable err before = rw (stays refl) before
-stays_readable old new text (Ok New) stays union readable err before = λ other there. elim (((union refl).members other).0 there) [
-  | inl earlier ↦ before other earlier
-  | inr same ↦ elim (contains_cases other text [] same) [
-    | inl e ↦ subst IsReadable e (readable refl)
-    | inr none ↦ absurd (contains_none other none)
-  ]
-]
-stays_readable old new text (Err e) stays union readable err before = rw err before
+    → OnErr result (new ≡ old) → AreModules old.modules → AreModules new.modules
+stay_modules old new text (Ok Again) stays union readable err before = rw (stays refl) before
+stay_modules old new text (Ok New) stays union readable err before = record {
+  rising = (union refl).rising;
+  readable = λ other there. elim (((union refl).members other).0 there) [
+    | inl earlier ↦ before.readable other earlier
+    | inr same ↦ elim (contains_cases other text [] same) [
+      | inl e ↦ subst IsReadable e (readable refl)
+      | inr none ↦ absurd (contains_none other none)
+    ]
+  ];
+}
+stay_modules old new text (Err e) stays union readable err before = rw err before
 
 -- ---- the files so far
 
@@ -106,15 +110,15 @@ still_of_one holds files given old new among adds before text there = elim (adds
 ]
 
 -- a file that was installed is a module
-pub module_of_file : (known : Known) (old new : List (List ℕ)) → Adds known old new → AreReadable new → IsModule known
-module_of_file known old new adds readable = record { text = adds.text; is_text = adds.is_text; readable = readable adds.text adds.is_there }
+pub module_of_file : (known : Known) (old new : List (List ℕ)) → Adds known old new → AreModules new → IsModule known
+module_of_file known old new adds are = record { text = adds.text; is_text = adds.is_text; readable = are.readable adds.text adds.is_there }
 
 -- the files so far are installed, each is a module, and the host has nothing else
 pub record AreInstalled (holds : List ℕ → Known) (files : List (Bor (List ℕ))) (i : ℕ) (modules : List (List ℕ)) : Type 0 where
   pub has : (k : ℕ) (d : Bor (List ℕ)) → k < i → HasText (holds (get_or files k d).now) modules
   pub are : (k : ℕ) (d : Bor (List ℕ)) → k < i → IsModule (holds (get_or files k d).now)
   pub only : (text : List ℕ) → Contains modules text → IsOfOne holds files text
-  pub readable : AreReadable modules
+  pub are_modules : AreModules modules
 
 module _ (holds : List ℕ → Known) (files : List (Bor (List ℕ))) where
   pub none_installed : (modules : List (List ℕ)) → modules ≡ [] → AreInstalled holds files 0 modules
@@ -122,23 +126,24 @@ module _ (holds : List ℕ → Known) (files : List (Bor (List ℕ))) where
     has = λ k d below. absurd (omega (arith, below));
     are = λ k d below. absurd (omega (arith, below));
     only = λ text there. absurd (contains_none text (rw none at there));
-    readable = λ text there. absurd (contains_none text (rw none at there));
+    are_modules = rw none (record { rising = rising_none; readable = λ text there. absurd (contains_none text there) });
   }
 
   pub one_more_installed : (i : ℕ) (last : Bor (List ℕ)) (old new : List (List ℕ)) → i < length files
-      → Adds (holds (get_or files i last).now) old new → (AreReadable old → AreReadable new) → AreInstalled holds files i old → AreInstalled holds files (i + 1) new
-  one_more_installed i last old new within adds readable before = record {
+      → Adds (holds (get_or files i last).now) old new → (AreModules old → AreModules new) → AreInstalled holds files i old → AreInstalled holds files (i + 1) new
+  one_more_installed i last old new within adds stay before = record {
     has = one_more (λ file. HasText (holds file.now) new) files i last within (λ k d below. text_kept _ old new adds.keeps (before.has k d below))
         (record { text = adds.text; is_text = adds.is_text; is_there = adds.is_there });
-    are = one_more (λ file. IsModule (holds file.now)) files i last within before.are (module_of_file _ old new adds (readable before.readable));
+    are = one_more (λ file. IsModule (holds file.now)) files i last within before.are (module_of_file _ old new adds (stay before.are_modules));
     only = still_of_one holds files (get_or files i last) old new (Contains-get_or files i last within) adds before.only;
-    readable = readable before.readable;
+    are_modules = stay before.are_modules;
   }
 
   pub all_installed : (i : ℕ) (modules : List (List ℕ)) → length files ≤ i → AreInstalled holds files i modules → HasJust holds files modules
   all_installed i modules whole before = record {
     all = λ k d below. before.has k d (omega (arith, below, whole));
     only = before.only;
+    are_modules = before.are_modules;
   }
 
 -- ---- where a session stops

@@ -6,6 +6,7 @@ use Rattle.std.specs.declared.io.ErrorKind.TheVariants.{OutOfMemory}
 use Rattle.cil_sexpr.specs.declared.fault.ReadFault.{ReadFault}
 use Rattle.cil_sexpr.specs.Faults.{FaultOf}
 use Rattle.cil_sexpr.specs.Text.{IsReadable, longest_text}
+use Rattle.cil_modset.specs.Modules.{AreModules}
 use Rattle.cilhost.specs.declared.error.Error.{Error}
 use Rattle.cilhost.specs.declared.error.Error.TheVariants.{Arguments, Refused, Failed, NoMemory}
 
@@ -41,10 +42,11 @@ pub record IsOfOne (holds : List ℕ → Known) (files : List (Bor (List ℕ))) 
   pub is_given : Contains files file
   pub is_text : IsTextOf (holds file.now) text
 
--- the modules are what is read of the files, and nothing else
+-- the modules are a set of readable texts: what is read of the files, and nothing else
 pub record HasJust (holds : List ℕ → Known) (files : List (Bor (List ℕ))) (modules : List (List ℕ)) : Type 0 where
   pub all : All (λ file. HasText (holds file.now) modules) files
   pub only : (text : List ℕ) → Contains modules text → IsOfOne holds files text
+  pub are_modules : AreModules modules
 
 -- the new modules are the old ones, and what is read of a file, which is a module
 pub record Adds (known : Known) (old new : List (List ℕ)) : Type 0 where
@@ -53,9 +55,6 @@ pub record Adds (known : Known) (old new : List (List ℕ)) : Type 0 where
   pub is_there : Contains new text
   pub keeps : (other : List ℕ) → Contains old other → Contains new other
   pub only : (other : List ℕ) → Contains new other → Contains old other ⊎ (other ≡ text)
-
-abbrev pub AreReadable : List (List ℕ) → Type 0
-AreReadable modules = (text : List ℕ) → Contains modules text → IsReadable text
 
 -- ---- where a session stops
 

@@ -5,7 +5,8 @@ ghost use Rattle.clap.specs.Words.{kind_of};
 ghost use Rattle.cil_server.specs.Devices.{most_failures};
 ghost use Rattle.cilhost.specs.Arguments.{AskForSession};
 ghost use Rattle.cilhost.specs.Ends.{HasServedNothing, answer_to, error_status};
-ghost use Rattle.cilhost.specs.Sessions.{RunsSession};
+ghost use Rattle.cilhost.specs.Sessions.{IsSession, RunsSession};
+ghost use Rattle.std.specs.Borrow.{Bor};
 
 use crate::arguments::{FILE, SESSION, matches};
 use crate::error::{Error, STREAMS};
@@ -43,6 +44,11 @@ pub fn run<Y: System, R: Source, W: Sink, E: Write>(
         (record { bytes = R.rest streams.old.input; failures = R.failed streams.old.input }) (record { bytes = R.rest streams.new.input; failures = R.failed streams.new.input })
         (record { bytes = W.contents streams.old.output; failures = W.failed streams.old.output }) (record { bytes = W.contents streams.new.output; failures = W.failed streams.new.output }) result }
     ensures unserved { result ≡ Status.Refused → HasServedNothing streams.old streams.new }
+    // The input is read by a session alone.
+    ensures only { (streams.new.input ≡ streams.old.input)
+        ⊎ ((files : List (Bor (List ℕ))) × IsSession (Y.holds system.old) (Y.failure system.old) (Y.failure system.new) files
+        (record { bytes = R.rest streams.old.input; failures = R.failed streams.old.input }) (record { bytes = R.rest streams.new.input; failures = R.failed streams.new.input })
+        (record { bytes = W.contents streams.old.output; failures = W.failed streams.old.output }) (record { bytes = W.contents streams.new.output; failures = W.failed streams.new.output }) result) }
 {
     let matches = match matches(alloc, words) {
         Ok(matches) => matches,

@@ -1,9 +1,10 @@
 //! The subcommand `session`: a host that is given files, and then serves requests.
 
 ghost use Rattle.std.specs.Prelude.{◌≡◌, ◌<◌, ◌+◌, ◌⊎◌, ℕ, [], None, IfErr, IfOk, OnErr, OnOk};
+ghost use Rattle.cil_modset.specs.Modules.{AreModules};
 ghost use Rattle.cil_server.specs.Devices.{most_failures};
 ghost use Rattle.cilhost.specs.Ends.{HasServedNothing, status_of};
-ghost use Rattle.cilhost.specs.Reading.{Adds, AreReadable, HasFailed, HasJust, HasRefused, IsDue, IsDueAt, StopsAt};
+ghost use Rattle.cilhost.specs.Reading.{Adds, HasFailed, HasJust, HasRefused, IsDue, IsDueAt, StopsAt};
 ghost use Rattle.cilhost.specs.Sessions.{IsSession};
 
 use crate::error::{Error, STREAMS};
@@ -97,7 +98,7 @@ fn install<'a, S: Drop, Y: System>(
     file: &'a str,
 ) -> Result<(), Error<'a>>
     ensures adds { OnOk result (Adds (Y.holds system.old file.now) host.old.modules host.new.modules) }
-    ensures readable { AreReadable host.old.modules → AreReadable host.new.modules }
+    ensures modules { AreModules host.old.modules → AreModules host.new.modules }
     ensures loaded { host.new.loaded ≡ host.old.loaded }
     ensures due { IfErr result (IsDueAt (Y.holds system.old file.now) (Y.failure system.old) (Y.failure system.new) file.entry) }
     ensures err { OnErr result (host.new ≡ host.old) }

@@ -46,7 +46,9 @@ pub struct Machine<'a, R> {
 
 impl<'a, R> Machine<'a, R> {
     /// The machine of this runtime.
-    pub fn new(rt: &'a R) -> Machine<'a, R> {
+    pub fn new(rt: &'a R) -> Machine<'a, R>
+        ensures { result.failure ≡ None }
+    {
         Machine { rt, failure: None }
     }
 }

@@ -24,4 +24,4 @@ returns c =
     answers_alike _ (ClassFault (is_in c.args.lookup.now.enabled.now) (items_in i)) (λ done. Unit {0})
     (wide_there (items_in i) (is_in c.args.lookup.now.enabled.now) c.loop-at.at c.loop-at.faults.items over c.loop-at.invariant)
     (wide_back (items_in i) (is_in c.args.lookup.now.enabled.now) c.loop-at.at c.loop-at.faults.items over c.loop-at.invariant)
-    _ c.refuse.ensures
+    _ c.refuse.ensures.told

@@ -38,7 +38,7 @@ returns-in_err-refuse c =
     let all = all_passed (faults_in xs s) xs c.loop-at.at over c.loop-at.faults.items _ c.loop-at.invariant.1 in
     refused (IsTableOf (map (meanings lookup.spaces.now lookup.names.now s) xs)) (ResolveFault s xs) _ _ c.from_residual-in_err-refuse.ensures.1
     (fails_alike (Contains c.loop-at.faults.items) (ResolveFault s xs) (λ f told. all_there xs s f (subst (λ l. Contains l f) all told))
-    (λ f fault. subst (λ l. Contains l f) (sym all) (all_back xs s f fault)) _ c.in_err-refuse.ensures)
+    (λ f fault. subst (λ l. Contains l f) (sym all) (all_back xs s f fault)) _ c.in_err-refuse.ensures.told)
 
 pub returns : goal.returns
 returns c =
@@ -53,5 +53,5 @@ returns c =
         starts = search rules ∙ ended ∙ starts_are f xs c.loop-at.at c.loop-at.starts.items c.loop-at.words.items c.loop-at.invariant.0 over;
         words = search rules ∙ words_are f xs c.loop-at.at c.loop-at.starts.items c.loop-at.words.items c.loop-at.invariant.0 over;
       },
-      λ g fault. c.in_ok-refuse.ensures.1 g (subst (λ l. Contains l g) (sym all) (all_back xs s g fault)),
+      λ g fault. c.in_ok-refuse.ensures.told.1 g (subst (λ l. Contains l g) (sym all) (all_back xs s g fault)),
     )

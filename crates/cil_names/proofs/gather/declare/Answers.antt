@@ -39,7 +39,7 @@ returns-in_err-refuse c =
     refused (AreEntries (namespaces_in kept) (items_in kept)) (ClashFault (items_in kept)) _ _ c.from_residual-in_err-refuse.ensures.1
     (fails_alike (Contains c.in_ok-faults.faults.items) (ClashFault (items_in kept))
     (λ f d. clash_there kept rows runs of f (subst (λ fs. Contains fs f) told d))
-    (λ f d. subst (λ fs. Contains fs f) (sym told) (clash_back kept rows runs of f d)) _ c.in_err-refuse.ensures)
+    (λ f d. subst (λ fs. Contains fs f) (sym told) (clash_back kept rows runs of f d)) _ c.in_err-refuse.ensures.told)
 
 pub of-requires : goal.of-requires
 of-requires c =
@@ -55,7 +55,7 @@ returns c =
     let of = gathered kept _ _ rows runs (subst AreNamespaces c.namespaces.ensures.value c.namespaces.ensures.once) c.in_ok-rows_of.ensures c.sorted_rows-rows.ensures.same
     c.as_slice.ensures.value c.in_ok-runs.ensures in
     let told = c.in_ok-faults.ensures ∙ ap (flat_map (run_faults kept)) c.as_slice-2.ensures.value in
-    let none : (f : Fault) → Contains (flat_map (run_faults kept) runs) f → ⊥ = λ f d. c.in_ok-refuse.ensures.1 f (subst (λ fs. Contains fs f) (sym told) d) in (
+    let none : (f : Fault) → Contains (flat_map (run_faults kept) runs) f → ⊥ = λ f d. c.in_ok-refuse.ensures.told.1 f (subst (λ fs. Contains fs f) (sym told) d) in (
       subst (AreEntries (namespaces_in kept) (items_in kept)) (sym c.of.ensures)
           (are_named kept rows runs of (none_differ kept rows runs of none) c.in_ok-entries.entries.items (c.in_ok-entries.ensures ∙ ap (map (entry_of_run kept)) c.as_slice-3.ensures.value)),
       (λ f d. none f (clash_back kept rows runs of f d)),

@@ -25,3 +25,15 @@ pub returns-clause-session : goal.returns-clause-session
 returns-clause-session g c = λ names asks.
     let same = files_handed_on _ names _ _ c.in-Some.session c.get_strs.result _ (c.in-Ok.ensures.session names asks) c.subcommand.ensures.rows c.in-Some.is c.get_strs.ensures refl in
     inl (c.unwrap_or-files.result.now, rw c.unwrap_or-files.ensures same, c.run_session.ensures.session)
+
+pub returns-in-Err-clause-only : goal.returns-in-Err-clause-only
+returns-in-Err-clause-only g c = inl c.answer.ensures.unread
+
+pub returns-in_default-clause-only : goal.returns-in_default-clause-only
+returns-in_default-clause-only g c = inl refl
+
+pub returns-then-ne-clause-only : goal.returns-then-ne-clause-only
+returns-then-ne-clause-only g c = inl refl
+
+pub returns-clause-only : goal.returns-clause-only
+returns-clause-only g c = inr (c.unwrap_or-files.result.now, c.run_session.ensures.session)

@@ -1,5 +1,5 @@
 use Rattle.cil_host.specs.Machine.{same_state, unchanged}
-use Rattle.cilhost.proofs.ReadingLemmas.{is_added, refusal_due, stays_readable}
+use Rattle.cilhost.proofs.ReadingLemmas.{is_added, refusal_due, stay_modules}
 use Rattle.cilhost.proofs.session.install.Goals as goal
 
 pub returns-in-Ok-install-clause-adds : goal.returns-in-Ok-install-clause-adds
@@ -8,9 +8,9 @@ returns-in-Ok-install-clause-adds g c =
     is_added _ _ _ _ _ _ read c.in-Ok-install.is c.install.ensures.modules.known
     (λ k. same_state _ _ (c.install.ensures.modules.stays k) c.install.ensures.loaded) c.install.ensures.modules.joined
 
-pub returns-in-Ok-install-clause-readable : goal.returns-in-Ok-install-clause-readable
-returns-in-Ok-install-clause-readable g c =
-    stays_readable _ _ _ _ (λ k. same_state _ _ (c.install.ensures.modules.stays k) c.install.ensures.loaded) c.install.ensures.modules.joined
+pub returns-in-Ok-install-clause-modules : goal.returns-in-Ok-install-clause-modules
+returns-in-Ok-install-clause-modules g c =
+    stay_modules _ _ _ _ (λ k. same_state _ _ (c.install.ensures.modules.stays k) c.install.ensures.loaded) c.install.ensures.modules.joined
     c.install.ensures.modules.readable (unchanged _ _ _ c.install.ensures.modules.err c.install.ensures.loaded)
 
 pub returns-clause-due : goal.returns-clause-due

@@ -13,7 +13,7 @@ loop-file-preserved g c =
     let adds = rw c.loop-file.invariant.0 at c.in_ok-install.ensures.adds in (
       c.install.ensures.stays ∙ c.loop-file.invariant.0,
       c.in_ok-install.ensures.sound ∙ c.loop-file.invariant.1,
-      one_more_installed _ _ c.loop-file.file-index _ _ _ (omega (arith, c.loop-file-test.true)) adds c.install.ensures.readable c.loop-file.invariant.2,
+      one_more_installed _ _ c.loop-file.file-index _ _ _ (omega (arith, c.loop-file-test.true)) adds c.install.ensures.modules c.loop-file.invariant.2,
       c.install.ensures.loaded ∙ c.loop-file.invariant.3,
     )
 
