@@ -8,7 +8,8 @@ use std::io;
 use std::io::{Read, Write};
 use std::test::Fail;
 
-/// A reader that gives at most so many bytes a call, and fails when it is asked once too often.
+/// A reader that gives at most so many bytes a call. Behind so many calls one fails, and those after it go on, so whoever tries
+/// again is given more.
 #[derive(Drop)]
 struct Failing<'a> {
     bytes: &'a [u8],
@@ -19,6 +20,7 @@ struct Failing<'a> {
 impl Read for Failing<'_> {
     fn read(&mut self, buffer: &mut [u8]) -> io::Result<usize> {
         if self.calls == 0 {
+            self.calls = usize::MAX;
             return Err(io::Error::from(io::ErrorKind::Interrupted));
         }
         self.calls -= 1;
@@ -29,7 +31,8 @@ impl Read for Failing<'_> {
     }
 }
 
-/// A writer that takes at most so many bytes a call, and fails when it is asked once too often: by an error, or by taking nothing.
+/// A writer that takes at most so many bytes a call. Behind so many calls one fails, by an error or by taking nothing, and those
+/// after it go on, so whoever tries again has more out.
 #[derive(Drop)]
 struct Closing {
     taken: Vec<u8>,
@@ -40,11 +43,13 @@ struct Closing {
 
 impl Write for Closing {
     fn write(&mut self, bytes: &[u8]) -> io::Result<usize> {
-        if self.calls == 0 && self.takes_nothing {
-            return Ok(0);
-        }
         if self.calls == 0 {
-            return Err(io::Error::from(io::ErrorKind::BrokenPipe));
+            self.calls = usize::MAX;
+            return if self.takes_nothing {
+                Ok(0)
+            } else {
+                Err(io::Error::from(io::ErrorKind::BrokenPipe))
+            };
         }
         self.calls -= 1;
         let part = &bytes[..bytes.len().min(self.step)];
