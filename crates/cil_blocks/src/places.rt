@@ -53,7 +53,7 @@ impl Model for Places {
 }
 
 impl Places {
-    ghost use Rattle.std.specs.Prelude.{◌≡◌, ◌++◌, ◌∷◌, [], IfOk, MatchOption, None, OnOk, Some, slice_get};
+    ghost use Rattle.std.specs.Prelude.{◌≡◌, ◌++◌, ◌∷◌, [], IfOk, IsTrue, MatchOption, None, OnOk, Some, slice_get};
     ghost use Rattle.cil_blocks.specs.Numbers.{with_numbers};
     ghost use Rattle.cil_blocks.specs.Places.{Reached, numbers_of, reached_through, reached_top};
     ghost use Rattle.cil_blocks.specs.Placing.{IsSpaceAt};
@@ -74,6 +74,13 @@ impl Places {
     {
         let which = self.which.get(rank)?;
         Some(space_of(self.kept.as_slice(), which))
+    }
+
+    /// Whether the statements of two ranks have one place. It is not told of places that were opened apart.
+    pub fn have_one(&self, rank: usize, other: usize) -> bool
+        ensures { IsTrue result → slice_get self.now rank ≡ slice_get self.now other }
+    {
+        self.which.get(rank) == self.which.get(other)
     }
 
     /// Adds the numbers in which the words of the statement of a rank are looked up, but for that of the global namespace.

@@ -36,7 +36,7 @@ impl<'p, 'a> Model for Spaces<'p, 'a> {
 }
 
 impl<'p, 'a> Spaces<'p, 'a> {
-    ghost use Rattle.std.specs.Prelude.{◌≡◌, MatchOption, None, OnOk, Some, slice_get};
+    ghost use Rattle.std.specs.Prelude.{◌≡◌, IsTrue, MatchOption, None, OnOk, Some, slice_get};
     ghost use Rattle.cil_blocks.specs.Numbers.{with_numbers};
     ghost use Rattle.cil_blocks.specs.Places.{AreStandings, IsInSpace, Numbered, entries_in, places_in, spaces_in, statements_in};
 
@@ -67,6 +67,14 @@ impl<'p, 'a> Spaces<'p, 'a> {
         ensures { MatchOption result (slice_get (places_in self.now) rank ≡ None) (IsInSpace (places_in self.now) rank) }
     {
         self.located.places.space(rank)
+    }
+
+    /// Whether the entries of two ranks stand in one place, and so have one scope. It costs one step, and is not told of places
+    /// that were opened apart.
+    pub fn have_one_place(&self, rank: usize, other: usize) -> bool
+        ensures { IsTrue result → slice_get (places_in self.now) rank ≡ slice_get (places_in self.now) other }
+    {
+        self.located.places.have_one(rank, other)
     }
 
     /// Adds the scope of the entry of a rank to another one, but for the global namespace. It costs a step for each block and

@@ -21,7 +21,7 @@ use Rattle.cil_macros.specs.Items.{Kept, all_placed, as_word, item_at, item_of, 
 use Rattle.cil_macros.specs.Macros.{all_standing}
 use Rattle.cil_macros.specs.Meant.{scope_there}
 use Rattle.cil_macros.specs.Placed.{Placed, meaning, placed_standing}
-use Rattle.cil_macros.specs.Walks.{IsScope, written_in}
+use Rattle.cil_macros.specs.Walks.{HaveOneScope, IsScope, written_in}
 use Rattle.cil_macros.proofs.EntryLemmas.{placed_length}
 
 module _ (i : Kept) where
@@ -78,3 +78,10 @@ module _ (i : Kept) where
   pub scope_placed : (at : ℕ) (ks : List ℕ) → at < length (entries_in i.0) + length i.1
       → ((p : Placed) → slice_get (all_placed i) at ≡ Some p → IsScope (namespaces_in i) p.standing.scope ks) → IsScope (namespaces_in i) (scope_by (all_placed i) (Some at)) ks
   scope_placed at ks h so = subst (λ o. IsScope (namespaces_in i) (scope_there o) ks) (sym (placed_so at h)) (so (placed_at i at) (placed_so at h))
+
+  pub one_scope_by : (at other : ℕ) → at < length (items_in i) → other < length (items_in i) → HaveOneScope (all_placed i) at other
+      → scope_by (all_placed i) (Some at) ≡ scope_by (all_placed i) (Some other)
+  one_scope_by at other h g one =
+      let here = placed_so at (is_place at h) in
+      let there = placed_so other (is_place other g) in
+      ap scope_there here ∙ one (placed_at i at) (placed_at i other) here there ∙ sym (ap scope_there there)

@@ -18,7 +18,7 @@ use Rattle.cil_macros.specs.declared.entry.Called.{Called}
 use Rattle.cil_macros.specs.Entries.{IsBodyAt}
 use Rattle.cil_macros.specs.Macros.{all_standing}
 use Rattle.cil_macros.specs.Placed.{Placed}
-use Rattle.cil_macros.specs.Walks.{HasScope, IsBodyScope, IsScope, IsScopePlace, placed_in, written_in}
+use Rattle.cil_macros.specs.Walks.{HasScope, HaveOneScope, IsBodyScope, IsScope, IsScopePlace, placed_in, written_in}
 use Rattle.cil_macros.proofs.CallLemmas.{placed_there, stood_at}
 
 -- the numbers of one scope, and behind them those of another one
@@ -56,6 +56,25 @@ module _ (s : Standings) (are : AreStandings s) (spaces : AreNamespaces (spaces_
   standing_scope k m e =
       let x = are.places k m e in
       (x.place, x.is, record { within = x.so.within; is = x.so.is_scope })
+
+  -- what stands in one place has one scope
+  one_place : (j k : ℕ) (m n : Standing) → slice_get (all_standing s) j ≡ Some m → slice_get (all_standing s) k ≡ Some n
+      → slice_get (places_in s) j ≡ slice_get (places_in s) k → m.scope ≡ n.scope
+  one_place j k m n e f same =
+      let (p, at, is) = standing_scope j m e in
+      let (q, there, also) = standing_scope k n f in
+      sym is.is ∙ ap (λ (r : Numbered). map (space_at (spaces_in s)) r.1) (some_same p q (sym at ∙ same ∙ there)) ∙ also.is
+
+  -- and so has what has the scope of such
+  pub one_scope : (at other from to : ℕ) → IsScopePlace (placed_in s cs) at from → IsScopePlace (placed_in s cs) other to → from < length (entries_in s) → to < length (entries_in s)
+      → slice_get (places_in s) from ≡ slice_get (places_in s) to → HaveOneScope (placed_in s cs) at other
+  one_scope at other from to one two h g same p q e f =
+      let (r, here) = placed_there s cs from (omega (arith, h)) in
+      let (t, there) = placed_there s cs to (omega (arith, g)) in
+      let x = stood_at s cs from h r here in
+      let y = stood_at s cs to g t there in
+      one.same p r e here ∙ ap (λ (z : Placed). z.standing.scope) x.2 ∙ one_place from to x.0 y.0 x.1 y.1 same
+      ∙ sym (two.same q t f there ∙ ap (λ (z : Placed). z.standing.scope) y.2)
 
   module _ (at : ℕ) where
     -- of two places with the same scope the one does as well as the other

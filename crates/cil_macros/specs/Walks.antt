@@ -41,6 +41,10 @@ pub record IsScopePlace (ps : List Placed) (at from : ℕ) : Type 0 where
   pub near : from ≤ at
   pub same : (p q : Placed) → slice_get ps at ≡ Some p → slice_get ps from ≡ Some q → p.standing.scope ≡ q.standing.scope
 
+-- what is placed at two places has one scope
+abbrev pub HaveOneScope : List Placed → ℕ → ℕ → Type 0
+HaveOneScope ps at other = (p q : Placed) → slice_get ps at ≡ Some p → slice_get ps other ≡ Some q → p.standing.scope ≡ q.standing.scope
+
 -- the statements of a macro at a call have the scope of what is placed somewhere, which is not behind the call
 pub record IsBodyScope (ss : List Standing) (ps : List Placed) (call called from : ℕ) : Type 0 where
   pub near : from ≤ call

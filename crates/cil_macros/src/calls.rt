@@ -1,13 +1,13 @@
 //! What is known of the statement at a place: where it is, which macro it calls, and whether the call is unfolded.
 
-ghost use Rattle.std.specs.Prelude.{◌≡◌, ◌+◌, ◌<◌, ◌≤◌, IfOk, IfSome, MatchOption, OnOk, Some, is_some, length, slice_get};
+ghost use Rattle.std.specs.Prelude.{◌≡◌, ◌+◌, ◌<◌, ◌≤◌, IfOk, IfSome, IsTrue, MatchOption, OnOk, Some, is_some, length, slice_get};
 ghost use Rattle.cil_blocks.specs.Contents.{Standing};
 ghost use Rattle.cil_blocks.specs.Namespaces.{AreNamespaces, IsNumber};
 ghost use Rattle.cil_blocks.specs.Places.{AreStandings, entries_in, spaces_in};
 ghost use Rattle.cil_macros.specs.Calls.{bounds_of_call, called_macro, is_repeated};
 ghost use Rattle.cil_macros.specs.Macros.{all_standing};
 ghost use Rattle.cil_macros.specs.Placed.{Placed};
-ghost use Rattle.cil_macros.specs.Walks.{AreBrought, HasScope, IsScope, IsScopePlace, IsSource, SaysMeant, SaysUnfolded, placed_in, written_in};
+ghost use Rattle.cil_macros.specs.Walks.{AreBrought, HasScope, HaveOneScope, IsScope, IsScopePlace, IsSource, SaysMeant, SaysUnfolded, placed_in, written_in};
 
 use crate::arguments::arguments_fit;
 use crate::chain::{Brought, is_repeated, spot_of, standing_statement, statement_at};
@@ -59,6 +59,24 @@ pub fn scope_place(spaces: &Spaces, brought: &Brought, at: usize) -> usize
         None => at,
         Some(place) => place,
     }
+}
+
+/// Whether the statements at two places have one scope, as far as their places tell.
+pub fn have_one_scope(spaces: &Spaces, brought: &Brought, at: usize, other: usize) -> bool
+    requires standings { AreStandings spaces.now }
+    requires namespaces { AreNamespaces (spaces_in spaces.now) }
+    requires brought { AreBrought spaces.now brought.now }
+    requires one { at < length (entries_in spaces.now) + length brought.now.called.items }
+    requires other { other < length (entries_in spaces.now) + length brought.now.called.items }
+    ensures { IsTrue result → HaveOneScope (placed_in spaces.now brought.now.called.items) at other }
+{
+    let standing = spaces.entries().len();
+    let from = scope_place(spaces, brought, at);
+    let to = scope_place(spaces, brought, other);
+    if from.max(to) >= standing {
+        return from == to;
+    }
+    spaces.have_one_place(from, to)
 }
 
 /// Fills a list with the scope of the statement at a place.

@@ -3,7 +3,7 @@
 ghost use Rattle.std.specs.Prelude.{◌≡◌};
 
 use crate::call_words::call_words_at;
-use crate::calls::{scope_at, space_at};
+use crate::calls::{have_one_scope, scope_at, space_at};
 use crate::chain::{Brought, statement_at};
 use crate::declared_names::Declared;
 use crate::entry::Called;
@@ -158,6 +158,18 @@ impl<'s, 'p, 'a> Instances<'s, 'p, 'a> {
         ensures nested { AreNested (items_in self.now) }
     {
         let _ = &self.spaces;
+    }
+
+    /// Whether the statements at two places have one scope, as far as their places tell: it is told of statements that stand
+    /// beside one another, and not of those of a body whose macro has a scope of its own. It costs one step.
+    pub fn have_one_scope(&self, at: usize, other: usize) -> bool
+        requires one { at < length (items_in self.now) }
+        requires other { other < length (items_in self.now) }
+        ensures { IsTrue result → scope_by (all_placed self.now) (Some at) ≡ scope_by (all_placed self.now) (Some other) }
+    {
+        // Each namespace is there once.
+        self.namespaces();
+        have_one_scope(self.spaces, &self.brought, at, other)
     }
 
     /// Fills a list with the scope of a place: the namespaces in which its words are looked up, by their numbers. It is empty
