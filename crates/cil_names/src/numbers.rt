@@ -44,6 +44,8 @@ pub struct Numbering {
 pub fn numbered(alloc: Global, lookup: &Lookup) -> Result<Numbering, NoMemory>
     requires { AreOrdered lookup.now.spaces.now lookup.now.names.now }
     ensures numbers { IfOk result (λ n. AreNumbers lookup.now.spaces.now lookup.now.names.now (is_in lookup.now.enabled.now) (names_of n.sections) n.numbers.items) }
+    // A number for each entry, by its place.
+    ensures all { IfOk result (λ n. n.numbers.items ≡ map (λ e. place_in (names_of n.sections e.kind) (spelled_of lookup.now.spaces.now e)) lookup.now.names.now) }
     // Where no name has a dot, two symbols of one kind have two numbers.
     ensures apart { IfOk result (λ n. ArePlainNames lookup.now.spaces.now lookup.now.names.now → AreApart lookup.now.names.now (is_in lookup.now.enabled.now) n.numbers.items) }
 {
