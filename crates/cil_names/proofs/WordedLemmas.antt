@@ -1,5 +1,5 @@
 -- A statement with no word that is looked up means nothing and asks for nothing.
-use Rattle.std.specs.Prelude.{◌&&◌, ◌||◌, if◌then◌else◌}
+use Rattle.std.specs.Prelude.{◌&&◌, ◌||◌, Some, if◌then◌else◌}
 use Rattle.std.specs.Global.{Vec}
 use Rattle.std.proofs.Common.{◌≡◌, ℕ, zero, suc, ◌+◌, ◌<◌, ◌≤◌, Bool, true, false, List, [], ◌∷◌, ◌++◌, map, length, drop, get_or, refl, sym, ◌∙◌, ap, inl, inr, arith, drop-cons, take}
 use Rattle.std.proofs.lemmas.Bool.{cases_Bool, true≢false}
@@ -19,14 +19,16 @@ use Rattle.cil_syntax.specs.Forms.{is_class_list}
 use Rattle.cil_syntax.specs.Scopes.{ScopedWord}
 use Rattle.cil_syntax.specs.Terms.{Term, Leaf, Name, Form, Terms, nil, cons}
 use Rattle.cil_macros.specs.Calls.{is_call}
-use Rattle.cil_macros.specs.Item.{all_words_in, words_in}
+use Rattle.cil_macros.specs.Item.{all_replaced, all_words_in, replaced, words_in}
 use Rattle.cil_macros.specs.Items.{Kept, item_at, placed_at, says_as_written, word_of}
 use Rattle.cil_macros.specs.Macros.{all_standing}
 use Rattle.cil_macros.specs.Placed.{Placed}
 use Rattle.cil_macros.specs.Walks.{written_in}
 use Rattle.cil_macros.proofs.ItemLemmas.{said_as_written}
 use Rattle.cil_names.specs.Resolves.{all_wanted_in, wanted_in, words_of, words_of_class}
-use Rattle.cil_names.specs.Worded.{has_some, is_worded}
+use Rattle.cil_names.specs.Declarations.{content_of}
+use Rattle.cil_names.specs.DeclareRows.{SaysWritten, behind, content_at}
+use Rattle.cil_names.specs.Worded.{IsOfStatement, IsWordless, has_some, is_worded}
 use Rattle.cil_names.proofs.ReadingLemmas.{no_words, says_nothing, words_of_terms}
 
 -- ---- terms
@@ -158,7 +160,7 @@ module _ (i : Kept) (at : ℕ) (unworded : is_worded (placed_at i at).standing.s
     | inr f ↦ f
   ]
 
-  no_word : says_as_written written.keyword ≡ true → all_words_in written.args ≡ []
+  pub no_word : says_as_written written.keyword ≡ true → all_words_in written.args ≡ []
   no_word t =
       none_some (all_words_in written.args)
       (sym (ap (λ b. b || (says_as_written written.keyword && has_some (all_words_in written.args))) no_call ∙ ap (λ b. b && has_some (all_words_in written.args)) t) ∙ unworded)
@@ -176,3 +178,34 @@ module _ (i : Kept) (at : ℕ) (unworded : is_worded (placed_at i at).standing.s
   -- it asks for nothing
   pub unworded_asks : words_of (item_at i at) ≡ []
   unworded_asks = all_unasked (item_at i at).args unworded_says
+
+-- ---- what has no words says the same at each place
+
+module _ {L M : Type 0} (f g : L → M) where
+  mutual
+    unfolding words_in all_words_in replaced all_replaced
+
+    term_alike : (t : Term L) → words_in t ≡ [] → replaced (λ at. at) f t ≡ replaced (λ at. at) g t
+    term_alike (Leaf w) e = absurd cc
+    term_alike (Name at bytes) e = refl
+    term_alike (Form at op parts) e = ap (Form at op) (all_alike parts e)
+
+    all_alike : (ts : Terms L) → all_words_in ts ≡ [] → all_replaced (λ at. at) f ts ≡ all_replaced (λ at. at) g ts
+    all_alike nil e = refl
+    all_alike (cons t ts) e =
+        let (first, rest) = none_both (words_in t) (all_words_in ts) e in
+        let p = term_alike t first in
+        let q = all_alike ts rest in
+        λ i. cons (p i) (q i)
+
+-- two instances of one statement without words
+pub one_content : (i : Kept) (a b k : ℕ) → SaysWritten i a → SaysWritten i b → IsWordless i a k → IsOfStatement i b k → content_at i (Some a) ≡ content_at i (Some b)
+one_content i a b k first second wordless of =
+    let p = placed_at i a in
+    let q = placed_at i b in
+    let same : p.standing.statement ≡ q.standing.statement = wordless.of ∙ sym of in
+    ap (λ ts. content_of (behind ts))
+    (said_as_written (written_in i.0) (all_standing i.0) p p.standing.statement.statement.keyword p.standing.statement.statement.args first.written
+    ∙ all_alike (word_of (written_in i.0) p) (word_of (written_in i.0) q) p.standing.statement.statement.args wordless.wordless
+    ∙ ap (λ (w : Written). all_replaced (λ at. at) (word_of (written_in i.0) q) w.statement.args) same
+    ∙ sym (said_as_written (written_in i.0) (all_standing i.0) q q.standing.statement.statement.keyword q.standing.statement.statement.args second.written))
