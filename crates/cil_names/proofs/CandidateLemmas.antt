@@ -3,16 +3,18 @@ use Rattle.std.proofs.Common.{◌≡◌, ℕ, zero, suc, ◌≤◌, ◌&&◌, Bo
 use Rattle.std.specs.Prelude.{Option, Some, None, MatchOption, slice_get}
 use Rattle.std.specs.Option.{option_map}
 use Rattle.std.specs.Cmp.Lexicographic.{bytes_decides}
-use Rattle.std.proofs.lemmas.Bool.{and_parts, cases_Bool}
+use Rattle.std.specs.List.{flat_map}
+use Rattle.std.proofs.lemmas.Bool.{and_parts, cases_Bool, true≢false}
 use Rattle.cil_sexpr.specs.Places.{cons_head, cons_tail, get_contains}
+use Rattle.cil_syntax.specs.declared.kind.Kind.{Kind}
 use Rattle.cil_syntax.specs.declared.kind.Sign.{Sign}
 use Rattle.cil_syntax.specs.Spelling.{same_bytes}
-use Rattle.cil_syntax.specs.Scopes.{Namespace, names_backwards, same_space}
+use Rattle.cil_syntax.specs.Scopes.{Namespace, ScopedWord, asked, names_backwards, same_space, spaces_asked}
 use Rattle.std.proofs.lemmas.Option.{same_Some}
 use Rattle.cil_syntax.proofs.DecidedEquality.{spaces_decide}
 use Rattle.cil_names.specs.declared.entry.Entry.{Entry}
 use Rattle.cil_blocks.specs.declared.namespaces.Space.{Space}
-use Rattle.cil_names.specs.Entries.{AreOrdered, HasNoEntry, IsEntryAt, candidate, is_entry, is_entry_of, place_where, HasNoEntryIn, IsEntryIn}
+use Rattle.cil_names.specs.Entries.{AreOrdered, HasNoEntry, IsEntryAt, candidate, candidates_of, is_entry, listed, is_entry_of, place_where, HasNoEntryIn, IsEntryIn}
 use Rattle.cil_syntax.specs.Kinds.{is_wanted}
 use Rattle.cil_blocks.specs.Namespaces.{AreNamespaces, HasNoNumber, IsNumber, space_at}
 use Rattle.cil_macros.specs.Asked.{IsAskedAt, IsAskedNowhere}
@@ -120,3 +122,16 @@ module _ (ss : List Space) (are : AreNamespaces ss) (es : List Entry) (ordered :
       answer ss are es ordered given sign (at.inner ++ space_at ss from) k at.numbered r found
       ∙ ap (λ x. candidate ss es x sign (at.inner ++ space_at ss from)) (cons_head given name at.inner inner both)
       ∙ ap (λ m. candidate ss es name sign (m ++ space_at ss from)) (cons_tail given name at.inner inner both)
+
+-- a word that wants no kind could name nothing
+module _ (ss : List Space) (es : List Entry) (name : List ℕ) (sign : Sign) (none : (kind : Kind) → is_wanted sign kind ≡ false) where
+  not_there : (n : Namespace) → candidate ss es name sign n ≡ None
+  not_there n = place_none (is_entry_of ss name sign n) es (λ m e at t. absurd (true≢false (sym (parts_of ss name sign n e t).2 ∙ none e.kind)))
+
+  pub none_there : (ns : List Namespace) → flat_map (λ n. listed (candidate ss es name sign n)) ns ≡ []
+  none_there [] = refl
+  none_there (n ∷ ns) = ap (λ o. listed o ++ flat_map (λ n. listed (candidate ss es name sign n)) ns) (not_there n) ∙ none_there ns
+
+pub could_name_none : (ss : List Space) (es : List Entry) (w : ScopedWord) → ((kind : Kind) → is_wanted w.sign kind ≡ false) → candidates_of ss es w ≡ []
+unfolding candidates_of
+could_name_none ss es w none = none_there ss es (asked w.bytes).name w.sign none (spaces_asked (asked w.bytes) w.scope)

@@ -59,12 +59,16 @@ module _ (xs : List Item) (s : OptSet) where
   pub faults_within : (x : Item) → is_outside x.round ≡ false → faults_in xs s x ≡ []
   faults_within x e = ap (λ b. if b then of_words x else []) e
 
-  -- what says nothing has no faults
-  pub no_faults : (x : Item) (old : List Fault) → x.args ≡ nil → old ≡ old ++ faults_in xs s x
-  no_faults x old e = sym (ap (λ l. old ++ l) (elim (cases_Bool (is_outside x.round)) [
-    | inl t ↦ ap (λ b. if b then of_words x else []) t ∙ ap (λ ts. faults_of_all xs s x.space (all_wanted_in ts)) e ∙ ap (faults_of_all xs s x.space) none_wanted
+  -- what asks for nothing has no faults
+  pub unworded_faults : (x : Item) (old : List Fault) → words_of x ≡ [] → old ≡ old ++ faults_in xs s x
+  unworded_faults x old e = sym (ap (λ l. old ++ l) (elim (cases_Bool (is_outside x.round)) [
+    | inl t ↦ ap (λ b. if b then of_words x else []) t ∙ ap (faults_of_all xs s x.space) e
     | inr f ↦ faults_within x f
   ]) ∙ append-nil old)
+
+  -- what says nothing has no faults
+  pub no_faults : (x : Item) (old : List Fault) → x.args ≡ nil → old ≡ old ++ faults_in xs s x
+  no_faults x old e = unworded_faults x old (ap all_wanted_in e ∙ none_wanted)
 
   pub all_there : (f : Fault) → Contains (flat_map (faults_in xs s) xs) f → ResolveFault s xs f
   all_there f c =
@@ -83,9 +87,13 @@ module _ (xs : List Item) (s : OptSet) where
       (subst (λ b. Contains (if b then of_words x else []) (fault_at causes.Unresolved (told_word w).at x.space (told_word w).bytes)) (sym (ap is_outside round))
       (contains_flat (faults_of_wanted xs s x.space) (words_of x) w _ asks (told_to xs s x.space w judged missing)))
 
+-- what has no words means nothing
+pub unworded_meanings : (ss : List Space) (es : List Entry) (s : OptSet) (x : Item) (old : List (Option ℕ)) → all_words_in x.args ≡ [] → old ≡ old ++ meanings ss es s x
+unworded_meanings ss es s x old e = sym (ap (λ l. old ++ map (meant ss es s) l) e ∙ append-nil old)
+
 -- what says nothing means nothing
 pub no_meanings : (ss : List Space) (es : List Entry) (s : OptSet) (x : Item) (old : List (Option ℕ)) → x.args ≡ nil → old ≡ old ++ meanings ss es s x
-no_meanings ss es s x old e = sym (ap (λ l. old ++ map (meant ss es s) l) (ap all_words_in e ∙ no_words) ∙ append-nil old)
+no_meanings ss es s x old e = unworded_meanings ss es s x old (ap all_words_in e ∙ no_words)
 
 -- one more instance was checked
 pub told_on : {X Y : Type 0} (f : X → List Y) (xs : List X) (i : ℕ) (x : X) → i < length xs → x ≡ get_or xs i x → (before new all : List Y) → before ++ flat_map f (drop i xs) ≡ all

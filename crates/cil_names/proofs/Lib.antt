@@ -2,7 +2,6 @@ pub mod AnswerLemmas
 pub mod AskedLemmas
 pub mod CandidateLemmas
 pub mod CandidateListLemmas
-pub mod CountLemmas
 pub mod DeclLemmas
 pub mod DeclareContents
 pub mod DeclareDecided
@@ -35,3 +34,4 @@ pub mod SortedLists
 pub mod SpelledLemmas
 pub mod TableLemmas
 pub mod UnresolvedLemmas
+pub mod WordedLemmas

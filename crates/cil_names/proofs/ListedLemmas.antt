@@ -1,5 +1,5 @@
 -- The permissions that are listed for the class of a word are those that the class has.
-use Rattle.std.proofs.Common.{◌≡◌, ℕ, ◌≤◌, ◌&&◌, false, List, length, refl, sym, ◌∙◌, ap, inl, inr}
+use Rattle.std.proofs.Common.{◌≡◌, ℕ, ◌≤◌, ◌&&◌, false, true, List, length, refl, sym, ◌∙◌, ap, inl, inr}
 use Rattle.std.specs.Prelude.{Option, Some, None, slice_get}
 use Rattle.std.specs.Global.{Vec}
 use Rattle.std.specs.List.{list_any}
@@ -62,6 +62,11 @@ module _ (ss : List Space) (are : AreNamespaces ss) (xs : List Item) (es : List 
   module _ (d : ℕ) (e : Entry) (at : slice_get es d ≡ Some e) (p : List ℕ) where
     has_of : has_permission_at ss es xs p d ≡ has_permission xs (symbol_of ss e) p
     has_of = ap (λ o. option_map_or (λ (x : Entry). has_permission xs (symbol_of ss x) p) o false) at
+
+    -- it is of a class
+    pub listed_of_itself : (lists : List (Vec Bytes)) → ArePermissions ss es xs lists → is_wanted signs.Classes e.kind ≡ true → (l : List (List ℕ)) → l ≡ listed_at lists d
+        → list_any (same_bytes p) l ≡ has_permission_at ss es xs p d
+    listed_of_itself lists permissions wanted l same = ap (list_any (same_bytes p)) same ∙ permissions.each d e at wanted p ∙ sym has_of
 
     -- no class has this name
     pub listed_of_none : HasNoEntry es e.name signs.Classes e.space → false ≡ has_permission_at ss es xs p d

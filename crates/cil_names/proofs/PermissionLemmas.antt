@@ -4,13 +4,13 @@ use Rattle.std.specs.Cmp.Lexicographic.{bytes_decides}
 use Rattle.std.specs.Global.{Vec}
 use Rattle.std.specs.List.{list_all, list_any}
 use Rattle.std.specs.List.Sorted.{IsStrictlySortedBy}
-use Rattle.std.specs.Option.{option_map_or, unwrap_or}
-use Rattle.std.proofs.Common.{◌≡◌, ℕ, ◌+◌, ◌<◌, ◌≤◌, ◌&&◌, ◌||◌, Bool, true, false, List, [], ◌∷◌, ◌++◌, length, take, get_or, set, refl, sym, ◌∙◌, ap, subst, inl, inr, arith, append_assoc}
+use Rattle.std.specs.Option.{option_map, option_map_or, unwrap_or}
+use Rattle.std.proofs.Common.{◌≡◌, ℕ, ◌+◌, ◌<◌, ◌≤◌, ◌&&◌, ◌||◌, Bool, true, false, List, [], ◌∷◌, ◌++◌, length, map, take, get_or, set, refl, sym, ◌∙◌, ap, subst, inl, inr, arith, append_assoc}
 use Rattle.std.proofs.lemmas.Bool.{and_from, and_parts, cases_Bool, cases_eq, true≢false}
-use Rattle.std.proofs.lemmas.List.{append-nil, take_more, take_all, length-set}
+use Rattle.std.proofs.lemmas.List.{append-nil, take_more, take_all, length-map, length-set}
 use Rattle.std.proofs.lemmas.List.Elements.{Contains-append_cases}
 use Rattle.std.proofs.lemmas.List.Folds.{list_any-append}
-use Rattle.std.proofs.lemmas.Option.{same_Some, slice_get_within}
+use Rattle.std.proofs.lemmas.Option.{same_Some, slice_get-map, slice_get_within}
 use Rattle.cil_sexpr.specs.Lists.{Lists, contains_cases, contains_here, contains_none, text_cmp}
 use Rattle.cil_sexpr.specs.MadeLists.{from_map}
 use Rattle.cil_sexpr.specs.Searches.{any_from, any_true, same_truth}
@@ -42,14 +42,14 @@ use Rattle.cil_names.specs.declared.entry.Entry.{Entry}
 use Rattle.cil_blocks.specs.declared.namespaces.Space.{Space}
 use Rattle.cil_names.specs.Declarations.{Declaration, Symbol, content_of, declarations, declared_by}
 use Rattle.cil_names.specs.Entries.{AreOrdered, HasNoEntry, IsEntryAt}
-use Rattle.cil_blocks.specs.Entries.{nothing}
+use Rattle.cil_blocks.specs.Entries.{nothing, statement_at}
 use Rattle.cil_macros.specs.Item.{Item, all_replaced, is_enabled, names_in, nobody, replaced}
 use Rattle.cil_macros.specs.Items.{Kept, item_at, items_in, placed_at, says_as_written, word_at}
 use Rattle.cil_macros.specs.Macros.{all_standing}
 use Rattle.cil_macros.specs.Walks.{written_in}
 use Rattle.cil_macros.proofs.ItemLemmas.{items_taken, said_as_written}
 use Rattle.cil_names.specs.Numbers.{symbol_of}
-use Rattle.cil_names.specs.Permissions.{AreEmpty, DeclaresClass, DeclaresNoClass}
+use Rattle.cil_names.specs.Permissions.{AreEmpty, AreListed, DeclaresClass, DeclaresNoClass, listed_by}
 use Rattle.cil_names.specs.Resolves.{fits, gives_permission, has_permission, listed_permissions}
 use Rattle.cil_syntax.specs.Kinds.{is_wanted}
 use Rattle.cil_blocks.specs.Namespaces.{AreNamespaces, IsNumber, space_at}
@@ -231,7 +231,7 @@ listed_some : (lists : List (Vec Bytes)) (d : ℕ) (v : Vec Bytes) → slice_get
 listed_some lists d v e = ap (λ o. option_map_or (λ (w : Vec Bytes). w.items) o []) e
 
 -- the number of an entry is a place of the lists
-pub class_within : (lists : List (Vec Bytes)) (es : List Entry) (name : List ℕ) (sign : Sign) (k d : ℕ) → length lists ≡ length es → IsEntryAt es name sign k d → d < length lists
+pub class_within : {X : Type 0} (lists : List X) (es : List Entry) (name : List ℕ) (sign : Sign) (k d : ℕ) → length lists ≡ length es → IsEntryAt es name sign k d → d < length lists
 class_within lists es name sign k d len is = let h = slice_get_within es d is.entry is.at in omega (arith, len, h)
 
 module _ (ss : List Space) (es : List Entry) where
@@ -304,6 +304,27 @@ module _ (ss : List Space) (es : List Entry) where
             let empty : listed_permissions x.args ≡ [] = permissions_said f args says ∙ ap (λ o. option_map_or names_in o []) none in
             true≢false (sym g.lists ∙ ap (list_any (same_bytes p)) empty))
 
+        -- the names that the statement lists were listed before
+        pub kept_again : (lists : List (Vec Bytes)) (class_ : ℕ) → IsEntryAt es name signs.Classes k class_
+            → ((p : List ℕ) → list_any (same_bytes p) (listed_permissions x.args) ≡ true → list_any (same_bytes p) (listed_at lists class_) ≡ true)
+            → ArePermissions ss es xs lists → ArePermissions ss es more lists
+        kept_again lists class_ is there are = record {
+          rising = are.rising;
+          each = λ d e at wanted p.
+              are.each d e at wanted p
+              ∙ sym (has_more (symbol_of ss e) p
+              ∙ known (has_permission xs (symbol_of ss e) p) (gives_permission (symbol_of ss e) p x) (λ t.
+              let g = gives_only x (symbol_of ss e) p t in
+              let (space, same) = fits_here d e p at wanted g in
+              let one : d ≡ class_ = is.only d e at (they_fit name signs.Classes k e space same wanted) in
+              sym (are.each d e at wanted p) ∙ ap (λ n. list_any (same_bytes p) (listed_at lists n)) one ∙ there p g.lists));
+        }
+          where
+            known : (b g : Bool) → (g ≡ true → b ≡ true) → (b || (g || false)) ≡ b
+            known true g h = refl
+            known false true h = sym (h refl)
+            known false false h = refl
+
         -- the names that the statement lists are added to those of the class
         module _ (f : Word → ScopedWord) (args : Terms Word) (says : x.args ≡ all_replaced (λ at. at) f args) (old : List (Vec Bytes)) (class_ : ℕ) (is : IsEntryAt es name signs.Classes k class_) (before none_yet after : Vec Bytes) (m : ℕ) (items : List rust.Term)
             (len : length old ≡ length es) (was : slice_get old class_ ≡ Some before) (listed : listed_behind_name args ≡ Some (all_said m items))
@@ -358,6 +379,26 @@ module _ (ss : List Space) (es : List Entry) where
                 spaced = sym placed.is ∙ ap (space_at ss) (sym space ∙ ap (λ (y : Entry). y.space) one);
                 lists = t;
               }))
+
+          -- the statement is the one whose permissions were added last
+          pub listed_after : (i : Kept) (last : List (Option ℕ)) (number : ℕ) → class_ < length last → listed_permissions x.args ≡ listed_by i number → AreListed i last old
+              → AreListed i (set last class_ (Some number)) new
+          listed_after i last number inside same are = λ d j at p t. elim (cases_eq d class_) [
+            | inl e ↦
+                let one : number ≡ j = same_Some number j (same_Some (Some number) (Some j) (sym (get_set_same last class_ (Some number) inside) ∙ ap (slice_get (set last class_ (Some number))) (sym e) ∙ at)) in
+                ap (λ n. list_any (same_bytes p) (listed_at new n)) e
+                ∙ ap (list_any (same_bytes p)) (listed_some new class_ after here)
+                ∙ any_all p
+                ∙ ap (λ b. list_any (same_bytes p) before.items || b) (ap (list_any (same_bytes p)) (same ∙ ap (listed_by i) one) ∙ t)
+                ∙ or_true (list_any (same_bytes p) before.items)
+            | inr differ ↦
+                ap (λ o. list_any (same_bytes p) (option_map_or (λ (w : Vec Bytes). w.items) o [])) (elsewhere d differ)
+                ∙ are d j (sym (get_set_other last class_ d (Some number) differ) ∙ at) p t
+          ]
+            where
+              or_true : (b : Bool) → (b || true) ≡ true
+              or_true true = refl
+              or_true false = refl
 
           pub added : ArePermissions ss es xs old → ArePermissions ss es more new
           added are = record {
@@ -434,6 +475,10 @@ module _ (i : Kept) (at : ℕ) where
       pub said_by_class : (item_at i at).args ≡ all_replaced (λ bt. bt) (word_at i at) (args_of s)
       said_by_class = class_says d.keyword
 
+      pub listed_here : (number : ℕ) → (placed_at i at).standing.statement ≡ statement_at (written_in i.0) number → listed_permissions (item_at i at).args ≡ listed_by i number
+      listed_here number same =
+          ap listed_permissions said_by_class ∙ listed_said (word_at i at) (args_of s) ∙ ap (λ t. listed_permissions t.args) says ∙ ap (λ (w : Written). listed_permissions w.statement.args) same
+
       pub one_declared : (item_at i at).round ≡ [] → DeclaresClass (item_at i at) name
       unfolding replaced all_replaced
       one_declared outside = record {
@@ -462,3 +507,18 @@ empty_all es k lists over empty = subst (λ xs. AreEmpty xs lists) (take_all k e
 pub empty_none : {X : Type 0} (es : List X) (lists : List (Vec Bytes)) → lists ≡ [] → AreEmpty (take 0 es) lists
 empty_none [] lists e = subst (AreEmpty []) (sym e) (record { len = refl; each = λ v c. absurd (contains_none v c) })
 empty_none (x ∷ xs) lists e = subst (AreEmpty []) (sym e) (record { len = refl; each = λ v c. absurd (contains_none v c) })
+
+-- no statement for each entry
+module _ {X : Type 0} (es : List X) where
+  none_said : (d : ℕ) (o : Option X) → slice_get es d ≡ o → (k : ℕ) → slice_get (map (λ e. None) es) d ≡ Some (Some k) → ⊥
+  none_said d o e k at = impossible o (sym (slice_get-map (λ e. None) es d ∙ ap (option_map (λ e. None)) e) ∙ at)
+    where
+      impossible : (o : Option X) → option_map (λ e. None) o ≡ Some (Some k) → ⊥
+      impossible None f = absurd (let g : None ≡ Some (Some k) = f in cc)
+      impossible (Some x) f = absurd (let g : None ≡ Some k = same_Some None (Some k) f in cc)
+
+  pub none_listed : (i : Kept) (last : List (Option ℕ)) (lists : List (Vec Bytes)) → last ≡ map (λ e. None) es → AreListed i last lists
+  none_listed i last lists e = λ d k at p t. absurd (none_said d (slice_get es d) refl k (ap (λ l. slice_get l d) (sym e) ∙ at))
+
+  pub none_len : (last : List (Option ℕ)) → last ≡ map (λ e. None) es → length last ≡ length es
+  none_len last e = ap length e ∙ length-map es (λ e. None)

@@ -1,13 +1,19 @@
 -- What a permission word names, and that it is the same whatever is enabled.
 use Rattle.std.proofs.Common.{◌≡◌, ℕ, ◌||◌, Bool, true, false, cond, List, [], ◌∷◌, refl, sym, ◌∙◌, ap, subst, inl, inr}
-use Rattle.std.specs.Prelude.{Option, Some, None, find}
+use Rattle.std.specs.Prelude.{◌<◌, IfSome, MatchOption, Option, Some, None, find, length, slice_get}
 use Rattle.std.specs.Global.{Vec}
 use Rattle.std.specs.List.{list_all, list_any}
+use Rattle.std.specs.List.Sorted.{IsStrictlySortedBy}
+use Rattle.cil_sexpr.specs.Lists.{text_cmp}
+use Rattle.cil_syntax.specs.declared.fault.Bytes.{Bytes}
+use Rattle.cil_names.specs.declared.permission_word.Class.{Class}
+use Rattle.cil_names.specs.Classes.{IsClassFor}
 use Rattle.std.specs.Option.{is_some, option_map_or}
 use Rattle.std.proofs.lemmas.Bool.{cases_Bool, true≢false}
+use Rattle.std.proofs.lemmas.Option.{same_Some}
 use Rattle.cil_names.specs.declared.entry.Entry.{Entry}
 use Rattle.cil_blocks.specs.declared.namespaces.Space.{Space}
-use Rattle.cil_names.specs.Entries.{AreEntries, IsAnswer, IsNamed, is_declared_at, is_declared_in, listed}
+use Rattle.cil_names.specs.Entries.{AreEntries, IsAnswer, IsNamed, candidates_of, is_declared_at, is_declared_in, listed}
 use Rattle.cil_macros.specs.Item.{Item, OptSet, nobody}
 use Rattle.cil_sexpr.specs.Searches.{or_second}
 use Rattle.cil_syntax.specs.Scopes.{ScopedWord}
@@ -31,6 +37,18 @@ module _ (has : ℕ → Bool) (m : Option ℕ) where
   pub class_has : (d : ℕ) → Some d ≡ m → has d ≡ true → Some d ≡ find has (listed m)
   class_has d e t = sym (ap (λ b. cond b (Some d) None) t) ∙ ap (λ o. find has (listed o)) e
 
+-- ---- a class that was looked up once
+
+module _ (ss : List Space) (es : List Entry) (lists : List (Vec Bytes)) (w : ScopedWord) where
+  pub class_rises : (found : Option Class) → IsClassFor ss es lists w found → IfSome found (λ k. IsStrictlySortedBy text_cmp k.permissions.now)
+  class_rises None is = tt
+  class_rises (Some k) is = is.rising
+
+  pub class_within : (found : Option Class) → IsClassFor ss es lists w found → (r : Option ℕ) → IfSome r (λ d. MatchOption found ⊥ (λ k. k.entry ≡ d)) → IfSome r (λ d. d < length es)
+  class_within found is None of_class = tt
+  class_within None is (Some d) of_class = absurd of_class
+  class_within (Some k) is (Some d) of_class = subst (λ n. n < length es) of_class is.within
+
 -- ---- what is declared where no optional is enabled is declared
 
 none_round : (s : OptSet) (os : List ℕ) → list_all nobody os ≡ true → list_all s os ≡ true
@@ -49,6 +67,38 @@ pub always_declared : (s : OptSet) (always : Bool) (rs : List (Vec ℕ)) → (al
     → (always || list_any (λ r. list_all s r.items) rs) ≡ true
 always_declared s true rs e = refl
 always_declared s false rs e = none_rounds s rs e
+
+declared_always : (s : OptSet) (es : List Entry) (d : ℕ) → is_declared_at nobody es d ≡ true → is_declared_at s es d ≡ true
+declared_always s es d t = at_place (slice_get es d) t
+  where
+    at_place : (o : Option Entry) → option_map_or (is_declared_in nobody) o false ≡ true → option_map_or (is_declared_in s) o false ≡ true
+    at_place None e = absurd (true≢false (sym e))
+    at_place (Some x) e = always_declared s x.always x.rounds.items e
+
+-- what is named where these are enabled, and is declared where none is, is what is named where none is
+found_always : (s : OptSet) (es : List Entry) (d : ℕ) → is_declared_at nobody es d ≡ true → (ds : List ℕ) → Some d ≡ find (is_declared_at s es) ds → Some d ≡ find (is_declared_at nobody es) ds
+found_always s es d t [] e = e
+found_always s es d t (k ∷ ds) e =
+    elim (cases_Bool (is_declared_at nobody es k)) [
+      | inl u ↦ e ∙ ap (λ b. cond b (Some k) (find (is_declared_at s es) ds)) (declared_always s es k u) ∙ sym (ap (λ b. cond b (Some k) (find (is_declared_at nobody es) ds)) u)
+      | inr f ↦
+          elim (cases_Bool (is_declared_at s es k)) [
+            | inl u ↦
+                let same : d ≡ k = same_Some d k (e ∙ ap (λ b. cond b (Some k) (find (is_declared_at s es) ds)) u) in
+                absurd (true≢false (sym t ∙ ap (is_declared_at nobody es) same ∙ f))
+            | inr g ↦
+                found_always s es d t ds (e ∙ ap (λ b. cond b (Some k) (find (is_declared_at s es) ds)) g)
+                ∙ sym (ap (λ b. cond b (Some k) (find (is_declared_at nobody es) ds)) f)
+          ]
+    ]
+
+-- the entry is declared outside all optionals
+pub meant_always : (ss : List Space) (s : OptSet) (es : List Entry) (w : ScopedWord) (d : ℕ) (e : Entry) → slice_get es d ≡ Some e → e.always ≡ true → Some d ≡ meant ss es s w
+    → Some d ≡ meant ss es nobody w
+meant_always ss s es w d e at always named =
+    found_always s es d
+    (ap (λ o. option_map_or (is_declared_in nobody) o false) at ∙ ap (λ b. b || list_any (λ r. list_all nobody r.items) e.rounds.items) always)
+    (candidates_of ss es w) named
 
 -- ---- what is wanted
 

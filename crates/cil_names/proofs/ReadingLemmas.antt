@@ -69,7 +69,7 @@ none_wanted = refl
 
 -- ---- what a placed statement says
 
-says_nothing : (ws : List Written) (ss : List Standing) (p : Placed) (k : Keyword) (args : Terms Word) → is_call k ≡ false → says_as_written k ≡ false → says ws ss p k args ≡ nil
+pub says_nothing : (ws : List Written) (ss : List Standing) (p : Placed) (k : Keyword) (args : Terms Word) → is_call k ≡ false → says_as_written k ≡ false → says ws ss p k args ≡ nil
 says_nothing ws ss p keywords.Type_ args c e = absurd cc
 says_nothing ws ss p keywords.Class args c e = absurd cc
 says_nothing ws ss p keywords.Role args c e = absurd cc

@@ -1,6 +1,7 @@
 -- What a placed statement asks for, and the lists of what that could name. No other crate needs these words.
-use Rattle.std.specs.Prelude.{◌≡◌, ℕ, List, ◌++◌, map, Contains}
+use Rattle.std.specs.Prelude.{◌≡◌, ℕ, List, [], ◌∷◌, ◌++◌, map, Contains}
 use Rattle.std.specs.Global.{Vec}
+use Rattle.std.specs.List.{flat_map}
 use Rattle.std.specs.List.Sorted.{IsStrictlySortedBy}
 use Rattle.cil_sexpr.specs.Lists.{text_cmp}
 use Rattle.cil_syntax.specs.declared.fault.Bytes.{Bytes}
@@ -19,12 +20,12 @@ use Rattle.cil_names.specs.Unresolved.{ArePermissions}
 use Rattle.cil_blocks.specs.declared.namespaces.Space.{Space}
 
 -- what is wanted, each word in the scope of its place
-abbrev pub wanted_by : List Placed → Asked → Wanted
-wanted_by ps (asked.Word w) = Word (scoped_by ps w)
-wanted_by ps (asked.Permission c p) = Permission (scoped_by ps c) (scoped_by ps p)
+abbrev pub wanted_by : List Placed → Asked → List Wanted
+wanted_by ps (asked.Word w) = Word (scoped_by ps w) ∷ []
+wanted_by ps (asked.ClassList c ws) = Word (scoped_by ps c) ∷ map (λ w. Permission (scoped_by ps c) (scoped_by ps w)) ws.items
 
 abbrev pub asked_by : Reading → List Asked → List Wanted
-asked_by r them = map (wanted_by (all_placed r.instances.now)) them
+asked_by r them = flat_map (wanted_by (all_placed r.instances.now)) them
 
 -- ---- candidates
 

@@ -1,5 +1,6 @@
 pub mod Asked
 pub mod CandidateLists
+pub mod Classes
 pub mod DeclareRows
 pub mod DeclareRuns
 pub mod Declarations
@@ -16,3 +17,4 @@ pub mod Readings
 pub mod Resolves
 pub mod Rows
 pub mod Unresolved
+pub mod Worded

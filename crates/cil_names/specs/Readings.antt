@@ -26,10 +26,6 @@ pub record IsReading (r : Reading) : Type 0 where
 abbrev pub module_of : Reading → ℕ
 module_of r = r.statement.now.at.«module»
 
--- the words that are written in a placed statement
-abbrev pub words_written : Placed → List Word
-words_written p = all_words_in p.standing.statement.statement.args
-
 -- the item that it is
 abbrev pub item_read : Reading → Item
 item_read r = item_at r.instances.now r.at

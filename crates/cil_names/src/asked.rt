@@ -1,13 +1,14 @@
 //! What a placed statement asks for, one after another: words, and permissions of classes.
 
-ghost use Rattle.std.specs.Prelude.{◌≡◌, ◌++◌, IfOk, List, OnOk, map, true};
+ghost use Rattle.std.specs.Prelude.{◌≡◌, ◌++◌, IfOk, List, MatchOption, None, OnOk, Some, length, map, slice_get, true};
+ghost use Rattle.std.specs.Option.{option_map};
 ghost use Rattle.cil_macros.specs.Calls.{is_call};
 ghost use Rattle.cil_macros.specs.Item.{all_words_in, words_in};
 ghost use Rattle.cil_macros.specs.Items.{scoped_by};
 ghost use Rattle.cil_macros.specs.Placed.{Placed};
 ghost use Rattle.cil_names.specs.Asked.{asked_by, wanted_by};
 ghost use Rattle.cil_names.specs.Readings.{IsReading, item_read, module_of, scoped_there, word_read};
-ghost use Rattle.cil_names.specs.Resolves.{Permission as APermission, all_wanted_in, told_word, wanted_in, words_of, words_of_class};
+ghost use Rattle.cil_names.specs.Resolves.{all_wanted_in, told_word, wanted_in, words_of, words_of_class};
 ghost use Rattle.cil_names.specs.Unresolved.{term_with, terms_with};
 
 use crate::reading::{Reading, is_call, says_as_written};
@@ -21,18 +22,35 @@ use std::alloc::Global;
 pub enum Asked<'a> {
     /// A word.
     Word(PlacedWord<'a>),
-    /// A permission, behind the class word before it.
-    Permission(PlacedWord<'a>, PlacedWord<'a>),
+    /// A class word, and the permissions of its class that are behind it.
+    ClassList(PlacedWord<'a>, Vec<PlacedWord<'a>>),
 }
 
 impl<'a> Asked<'a> {
-    /// The word that is told where it is not there.
-    pub fn told(&self) -> &PlacedWord<'a>
-        ensures { (ps : List Placed) → scoped_by ps result.now ≡ told_word (wanted_by ps self.now) }
+    /// How many words it has.
+    pub fn len(&self) -> usize
+        ensures { (ps : List Placed) → result ≡ length (wanted_by ps self.now) }
     {
         match self {
-            Asked::Word(word) => word,
-            Asked::Permission(_, permission) => permission,
+            Asked::Word(_) => 1,
+            Asked::ClassList(_, permissions) => permissions.len() + 1,
+        }
+    }
+
+    /// The word that is told where that of a number is not there; none where there are not so many.
+    pub fn told(&self, number: usize) -> Option<&PlacedWord<'a>>
+        ensures { (ps : List Placed) → MatchOption result (slice_get (wanted_by ps self.now) number ≡ None)
+            (λ w. option_map told_word (slice_get (wanted_by ps self.now) number) ≡ Some (scoped_by ps w.now)) }
+    {
+        match self {
+            Asked::Word(word) => { if number == 0 { Some(word) } else { None } }
+            Asked::ClassList(class, permissions) => {
+                if number == 0 {
+                    Some(class)
+                } else {
+                    permissions.get(number - 1)
+                }
+            }
         }
     }
 }
@@ -65,7 +83,7 @@ impl<'r, 's, 'p, 'a> Reading<'r, 's, 'p, 'a> {
         if !says_as_written(self.statement.keyword) {
             return Ok(asked);
         }
-        self.ask_terms(&mut asked, self.statement.args.as_slice())?;
+        self.ask_terms(alloc, &mut asked, self.statement.args.as_slice())?;
         Ok(asked)
     }
 
@@ -83,18 +101,28 @@ impl<'r, 's, 'p, 'a> Reading<'r, 's, 'p, 'a> {
 
     /// Adds what some terms ask for.
     #[cycle(terms)]
-    fn ask_terms(&self, asked: &mut Vec<Asked<'a>>, terms: &[Term<'a>]) -> Result<(), NoMemory>
+    fn ask_terms(
+        &self,
+        alloc: Global,
+        asked: &mut Vec<Asked<'a>>,
+        terms: &[Term<'a>],
+    ) -> Result<(), NoMemory>
         requires { IsReading self.now }
         ensures { OnOk result (asked_by self.now asked.new.items ≡ asked_by self.now asked.old.items ++ all_wanted_in (terms_with (word_read self.now) (module_of self.now) terms.now)) }
     {
         for term in terms {
-            self.ask_term(asked, term)?;
+            self.ask_term(alloc, asked, term)?;
         }
         Ok(())
     }
 
     #[cycle(terms)]
-    fn ask_term(&self, asked: &mut Vec<Asked<'a>>, term: &Term<'a>) -> Result<(), NoMemory>
+    fn ask_term(
+        &self,
+        alloc: Global,
+        asked: &mut Vec<Asked<'a>>,
+        term: &Term<'a>,
+    ) -> Result<(), NoMemory>
         requires { IsReading self.now }
         ensures { OnOk result (asked_by self.now asked.new.items ≡ asked_by self.now asked.old.items ++ wanted_in (term_with (word_read self.now) (module_of self.now) term.now)) }
     {
@@ -106,9 +134,9 @@ impl<'r, 's, 'p, 'a> Reading<'r, 's, 'p, 'a> {
             Term::Name(_, _) => {}
             Term::Form(op, _, parts) => {
                 if op.is_class_list() {
-                    self.ask_class_list(asked, parts.as_slice())?;
+                    self.ask_class_list(alloc, asked, parts.as_slice())?;
                 } else {
-                    self.ask_terms(asked, parts.as_slice())?;
+                    self.ask_terms(alloc, asked, parts.as_slice())?;
                 }
             }
         }
@@ -116,53 +144,52 @@ impl<'r, 's, 'p, 'a> Reading<'r, 's, 'p, 'a> {
     }
 
     /// Adds what a class list asks for: its class word, and then its permissions.
-    fn ask_class_list(&self, asked: &mut Vec<Asked<'a>>, terms: &[Term<'a>]) -> Result<(), NoMemory>
+    fn ask_class_list(
+        &self,
+        alloc: Global,
+        asked: &mut Vec<Asked<'a>>,
+        terms: &[Term<'a>],
+    ) -> Result<(), NoMemory>
         requires { IsReading self.now }
         ensures { OnOk result (asked_by self.now asked.new.items ≡ asked_by self.now asked.old.items ++ words_of_class (terms_with (word_read self.now) (module_of self.now) terms.now)) }
     {
         let Some(list) = word_and_terms(terms, self.statement.at.module) else {
             return Ok(());
         };
-        let class = self.word(&list.word);
-        asked.push(Asked::Word(copy_of(&class)))?;
-        self.ask_permissions(asked, &class, list.terms)?;
+        let mut permissions = Vec::new(alloc);
+        self.push_words(&mut permissions, list.terms)?;
+        asked.push(Asked::ClassList(self.word(&list.word), permissions))?;
         Ok(())
     }
 
-    /// Adds the permissions among the terms behind a class word.
-    #[cycle(permissions)]
-    fn ask_permissions(
+    /// Adds the words among some terms.
+    #[cycle(words)]
+    fn push_words(
         &self,
-        asked: &mut Vec<Asked<'a>>,
-        class: &PlacedWord<'a>,
+        words: &mut Vec<PlacedWord<'a>>,
         terms: &[Term<'a>],
     ) -> Result<(), NoMemory>
         requires { IsReading self.now }
-        ensures { OnOk result (asked_by self.now asked.new.items ≡ asked_by self.now asked.old.items ++ map (APermission (scoped_there self.now class.now)) (all_words_in (terms_with (word_read self.now) (module_of self.now) terms.now))) }
+        ensures { OnOk result (map (scoped_there self.now) words.new.items ≡ map (scoped_there self.now) words.old.items ++ all_words_in (terms_with (word_read self.now) (module_of self.now) terms.now)) }
     {
         for term in terms {
-            self.ask_permission(asked, class, term)?;
+            self.push_word(words, term)?;
         }
         Ok(())
     }
 
-    #[cycle(permissions)]
-    fn ask_permission(
-        &self,
-        asked: &mut Vec<Asked<'a>>,
-        class: &PlacedWord<'a>,
-        term: &Term<'a>,
-    ) -> Result<(), NoMemory>
+    #[cycle(words)]
+    fn push_word(&self, words: &mut Vec<PlacedWord<'a>>, term: &Term<'a>) -> Result<(), NoMemory>
         requires { IsReading self.now }
-        ensures { OnOk result (asked_by self.now asked.new.items ≡ asked_by self.now asked.old.items ++ map (APermission (scoped_there self.now class.now)) (words_in (term_with (word_read self.now) (module_of self.now) term.now))) }
+        ensures { OnOk result (map (scoped_there self.now) words.new.items ≡ map (scoped_there self.now) words.old.items ++ words_in (term_with (word_read self.now) (module_of self.now) term.now)) }
     {
         match term {
             Term::Leaf(word) => {
                 let written = word.in_module(self.statement.at.module);
-                asked.push(Asked::Permission(copy_of(class), self.word(&written)))?;
+                words.push(self.word(&written))?;
             }
             Term::Name(_, _) => {}
-            Term::Form(_, _, parts) => self.ask_permissions(asked, class, parts.as_slice())?,
+            Term::Form(_, _, parts) => self.push_words(words, parts.as_slice())?,
         }
         Ok(())
     }

@@ -14,13 +14,14 @@ ghost use Rattle.cil_names.specs.Faults.{ResolveFault};
 ghost use Rattle.cil_names.specs.Meanings.{meanings};
 ghost use Rattle.cil_names.specs.Rows.{IsTableOf};
 ghost use Rattle.cil_names.specs.Unresolved.{ArePermissions, faults_in};
+ghost use Rattle.cil_names.specs.Worded.{AreWorded};
 
-use crate::count::count_words;
 use crate::judge::Judge;
 use crate::look::flags_of;
 use crate::meaning::Meaning;
 use crate::reading::Reading;
 use crate::table::{Filling, Lookup, Words};
+use crate::worded::{is_worded_at, worded};
 use cil_blocks::ScopeList;
 use cil_macros::Instances;
 use cil_modset::NoMemory;
@@ -28,8 +29,8 @@ use cil_syntax::{Bytes, Failure, Fault, refuse};
 use std::alloc::Global;
 
 /// The table of the words of all that is placed; or, where words of statements outside all optionals name nothing, their
-/// faults. Permissions are given as a list in byte order for each entry that is a class. Each word costs one look-up, and each
-/// class word of a list of permissions two more; which names are declared is found once.
+/// faults. Permissions are given as a list in byte order for each entry that is a class. Each word costs one look-up; which
+/// names are declared is found once. A scope is filled for each instance of a statement that has words.
 ///
 /// Errors: the faults, or out of memory.
 pub fn words_of<'a>(
@@ -45,21 +46,22 @@ pub fn words_of<'a>(
         (ResolveFault (is_in lookup.now.enabled.now) (items_in instances.now)) result }
 {
     let declared = flags_of(alloc, lookup.names.entries(), lookup.enabled.as_slice())?;
+    let worded = worded(alloc, instances)?;
     let check = Check {
         alloc,
         lookup: *lookup,
         declared: declared.as_slice(),
         permissions,
+        worded: worded.as_slice(),
         instances,
     };
     let mut starts = Vec::with_capacity(alloc, instances.len().saturating_add(1))?;
-    let mut words = Vec::with_capacity(alloc, count_words(instances))?;
+    let mut words = Vec::new(alloc);
     let mut faults = Vec::new(alloc);
     let mut scope = ScopeList::new(alloc);
     for at in 0..instances.len() {
         starts.push(words.len())?;
-        instances.scope_into(alloc, Some(at), &mut scope)?;
-        check.instance(&mut words, &mut faults, at, scope.as_slice())?;
+        check.instance(&mut words, &mut faults, &mut scope, at)?;
     }
     starts.push(words.len())?;
     refuse(faults)?;
@@ -73,17 +75,47 @@ struct Check<'r, 's, 'p, 'a> {
     lookup: Lookup<'r, 'a>,
     declared: &'r [bool],
     permissions: &'r [Vec<Bytes>],
+    /// For each written statement whether it has words.
+    worded: &'r [bool],
     instances: &'r Instances<'s, 'p, 'a>,
 }
 
 impl<'r, 's, 'p, 'a> Check<'r, 's, 'p, 'a> {
     /// Notes what the words of the statement at a place mean, and reports those that name nothing where it is in no optional.
+    /// It fills a scope only where there are words.
     fn instance(
         &self,
         words: &mut Vec<Meaning>,
         faults: &mut Vec<Fault>,
+        scope: &mut ScopeList,
         at: usize,
-        scope: &'r [usize],
+    ) -> Result<(), NoMemory>
+        requires spaces { self.now.lookup.spaces.now ≡ namespaces_in self.now.instances.now }
+        requires ordered { AreOrdered self.now.lookup.spaces.now self.now.lookup.names.now }
+        requires declared { self.now.declared.now ≡ map (is_declared_in (is_in self.now.lookup.enabled.now)) self.now.lookup.names.now }
+        requires rising { (v : Vector Text) → Contains self.now.permissions.now v → IsStrictlySortedBy text_cmp v.items }
+        requires worded { AreWorded self.now.instances.now self.now.worded.now }
+        requires within { at < length (items_in self.now.instances.now) }
+        ensures words { OnOk result (words.new.items ≡ words.old.items ++ meanings self.now.lookup.spaces.now self.now.lookup.names.now (is_in self.now.lookup.enabled.now) (item_at self.now.instances.now at)) }
+        ensures faults { OnOk result ((xs : List Item) → AreEntries self.now.lookup.spaces.now xs self.now.lookup.names.now
+            → ArePermissions self.now.lookup.spaces.now self.now.lookup.names.now xs self.now.permissions.now
+            → faults.new.items ≡ faults.old.items ++ faults_in xs (is_in self.now.lookup.enabled.now) (item_at self.now.instances.now at)) }
+    {
+        if !is_worded_at(self.worded, self.instances, at) {
+            return Ok(());
+        }
+        self.instances.scope_into(self.alloc, Some(at), scope)?;
+        self.in_scope(words, faults, at, scope.as_slice())?;
+        Ok(())
+    }
+
+    /// The same, in a scope.
+    fn in_scope(
+        &self,
+        words: &mut Vec<Meaning>,
+        faults: &mut Vec<Fault>,
+        at: usize,
+        scope: &[usize],
     ) -> Result<(), NoMemory>
         requires spaces { self.now.lookup.spaces.now ≡ namespaces_in self.now.instances.now }
         requires ordered { AreOrdered self.now.lookup.spaces.now self.now.lookup.names.now }

@@ -1,6 +1,6 @@
 //! Words that name nothing, found while the table of words is filled.
 
-ghost use Rattle.std.specs.Prelude.{◌≡◌, ◌++◌, [], ◌∷◌, List, OnOk, IfOk, map, true};
+ghost use Rattle.std.specs.Prelude.{◌≡◌, ◌<◌, ◌++◌, [], ◌∷◌, List, OnOk, IfOk, IfSome, Some, length, map, true};
 ghost use Rattle.std.specs.List.{list_any};
 ghost use Rattle.std.specs.List.Sorted.{IsStrictlySortedBy};
 ghost use Rattle.cil_sexpr.specs.Lists.{text_cmp};
@@ -128,6 +128,8 @@ impl<'r, 's, 'p, 'a> Judge<'r, 's, 'p, 'a> {
         ensures words { OnOk result (words.new.items ≡ words.old.items ++ meant_in self.now (scoped_in self.now word.now) ∷ []) }
         ensures faults { OnOk result (Tells self.now (AWord (scoped_in self.now word.now) ∷ []) faults.old.items faults.new.items) }
         ensures named { IfOk result (Named self.now (scoped_in self.now word.now)) }
+        ensures first { IfOk result (λ named. named ≡ meant_in self.now (scoped_in self.now word.now)) }
+        ensures within { IfOk result (λ named. IfSome named (λ d. d < length self.now.filling.lookup.names.now)) }
     {
         let named = self.filling.named(word)?;
         words.push(Meaning::of(named)?)?;
@@ -189,19 +191,25 @@ impl<'r, 's, 'p, 'a> Judge<'r, 's, 'p, 'a> {
     ) -> Result<(), NoMemory>
         requires ready { IsReady self.now }
         requires named { Named self.now (scoped_in self.now class.now) named }
+        requires first { named ≡ meant_in self.now (scoped_in self.now class.now) }
+        requires within { IfSome named (λ d. d < length self.now.filling.lookup.names.now) }
         ensures { OnOk result (Tells self.now (map (APermission (scoped_in self.now class.now)) (all_words_in (terms_in_place self.now terms.now))) faults.old.items faults.new.items) }
     {
-        if named.is_none() {
+        let Some(d) = named else {
             return Ok(());
-        }
-        let listed = self.listed(class)?;
+        };
+        let listed = self.listed(d, class)?;
         self.permissions(faults, listed, terms)?;
         Ok(())
     }
 
-    /// The permissions of the class that a class word names, in byte order.
-    fn listed(&self, class: &PlacedWord) -> Result<&'r [Bytes], NoMemory>
-        requires { IsReady self.now }
+    /// The permissions of the class that a class word names, in byte order, by the number of the entry that it names where
+    /// these optionals are enabled. Classes do not hang on optionals: only where all that declare the entry are in some, the
+    /// word is looked up once more.
+    fn listed(&self, d: usize, class: &PlacedWord) -> Result<&'r [Bytes], NoMemory>
+        requires ready { IsReady self.now }
+        requires named { Some d ≡ meant_in self.now (scoped_in self.now class.now) }
+        requires within { d < length self.now.filling.lookup.names.now }
         ensures sorted { IfOk result (λ listed. IsStrictlySortedBy text_cmp listed.now) }
         ensures listed { IfOk result (λ listed. (xs : List Item) → Knows self.now xs
             → (w : ScopedWord) → list_any (same_bytes w.bytes) listed.now ≡ resolves xs (enabled_in self.now) (APermission (scoped_in self.now class.now) w)) }
@@ -209,11 +217,15 @@ impl<'r, 's, 'p, 'a> Judge<'r, 's, 'p, 'a> {
         let lookup = &self.filling.lookup;
         lookup.spaces.are_namespaces();
         let entries = lookup.names.entries();
+        if entries[d].always {
+            return Ok(permissions_at(entries, self.permissions, d));
+        }
         let scope = self.filling.reading.scope_of(self.filling.alloc, class)?;
-        let Some(d) = class_named(lookup.spaces, entries, &class.word, scope.as_slice()) else {
+        let Some(outside) = class_named(lookup.spaces, entries, &class.word, scope.as_slice())
+        else {
             return Ok(&[]);
         };
-        Ok(permissions_at(entries, self.permissions, d))
+        Ok(permissions_at(entries, self.permissions, outside))
     }
 
     /// Reports the words among some terms that are not listed.

@@ -13,7 +13,6 @@ mod asked;
 mod candidates;
 mod clash;
 mod content;
-mod count;
 mod entry;
 mod fill;
 mod gather;
@@ -33,6 +32,7 @@ mod row;
 mod run;
 mod spelled;
 mod table;
+mod worded;
 
 pub use candidates::Candidates;
 pub use entry::Entry;

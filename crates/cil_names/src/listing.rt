@@ -1,9 +1,12 @@
 //! The entries that the words of a placed statement could name.
 
 ghost use Rattle.std.specs.Prelude.{◌≡◌, ◌<◌, ◌++◌, ◌∷◌, [], IfOk, List, MatchOption, None, OnOk, Some, length, map, slice_get};
+ghost use Rattle.std.specs.List.{flat_map};
+ghost use Rattle.std.specs.Option.{option_map};
 ghost use Rattle.cil_macros.specs.Items.{all_placed, item_at, items_in, namespaces_in, scoped_by};
 ghost use Rattle.cil_macros.specs.Placed.{Placed};
-ghost use Rattle.cil_names.specs.Asked.{AddsFor, IsListing, wanted_by};
+ghost use Rattle.cil_names.specs.Asked.{AddsFor, IsListing, spaces_by, wanted_by};
+ghost use Rattle.cil_names.specs.Classes.{IsClassFor};
 ghost use Rattle.cil_names.specs.Entries.{AreEntries};
 ghost use Rattle.cil_names.specs.PermissionWords.{wanted_candidates};
 ghost use Rattle.cil_names.specs.Readings.{item_read, scoped_there};
@@ -13,7 +16,9 @@ ghost use Rattle.cil_names.specs.Unresolved.{ArePermissions};
 use crate::asked::{Asked, copy_of};
 use crate::candidates::Candidates;
 use crate::names::Names;
+use crate::permission_word::{Class, class_of, with_permission};
 use crate::reading::Reading;
+use crate::worded::is_worded;
 use cil_blocks::ScopeList;
 use cil_macros::{Instances, PlacedWord};
 use cil_modset::NoMemory;
@@ -22,7 +27,7 @@ use std::alloc::Global;
 
 /// Adds, for each thing that the statement at a place asks for, in order, the list of the entries that it could name,
 /// whatever is enabled. Permissions are given as a list in byte order for each entry that is a class. Each word costs one
-/// look-up, and each permission one of its class word.
+/// look-up, and each class word one more where permissions are behind it.
 pub fn add_candidates<'r, 'a>(
     alloc: Global,
     names: &'r Names<'a>,
@@ -39,6 +44,9 @@ pub fn add_candidates<'r, 'a>(
     let Some(statement) = instances.statement_there(at) else {
         return Ok(());
     };
+    if !is_worded(statement) {
+        return Ok(());
+    }
     let mut scope = ScopeList::new(alloc);
     instances.scope_into(alloc, Some(at), &mut scope)?;
     let listing = Listing {
@@ -83,15 +91,19 @@ pub fn word_asked<'a>(
     Ok(told_of(asked.as_slice(), number))
 }
 
-/// The word that is told of one of some things.
+/// The word that is told of what some things ask for, by its number.
 fn told_of<'a>(asked: &[Asked<'a>], number: usize) -> Option<PlacedWord<'a>>
-    ensures { MatchOption result (slice_get asked.now number ≡ None)
-        (λ w. (one : _) × (slice_get asked.now number ≡ Some one) × ((ps : List Placed) → scoped_by ps w ≡ told_word (wanted_by ps one))) }
+    ensures { (ps : List Placed) → MatchOption result (slice_get (flat_map (wanted_by ps) asked.now) number ≡ None)
+        (λ w. option_map told_word (slice_get (flat_map (wanted_by ps) asked.now) number) ≡ Some (scoped_by ps w)) }
 {
-    match asked.get(number) {
-        Some(one) => Some(copy_of(one.told())),
-        None => None,
+    let mut left = number;
+    for one in asked {
+        match one.told(left) {
+            Some(word) => return Some(copy_of(word)),
+            None => left -= one.len(),
+        }
     }
+    None
 }
 
 /// What the candidates of a placed statement are listed by.
@@ -119,15 +131,16 @@ impl Listing<'_, '_, '_, '_> {
         Ok(())
     }
 
-    /// Adds the list of what something could name.
+    /// Adds the lists of what something could name.
     fn add(&self, candidates: &mut Candidates, one: &Asked) -> Result<(), NoMemory>
         requires { IsListing self.now }
-        ensures { OnOk result (AddsFor self.now (wanted_by (all_placed self.now.reading.instances.now) one.now ∷ []) candidates.old candidates.new) }
+        ensures { OnOk result (AddsFor self.now (wanted_by (all_placed self.now.reading.instances.now) one.now) candidates.old candidates.new) }
     {
         match one {
             Asked::Word(word) => self.word(candidates, word)?,
-            Asked::Permission(class, permission) => {
-                self.permission(candidates, class, permission)?;
+            Asked::ClassList(class, permissions) => {
+                self.word(candidates, class)?;
+                self.permissions(candidates, class, permissions.as_slice())?;
             }
         }
         Ok(())
@@ -144,24 +157,37 @@ impl Listing<'_, '_, '_, '_> {
         Ok(())
     }
 
-    fn permission(
+    /// Adds the lists of the permissions behind a class word.
+    fn permissions(
         &self,
         candidates: &mut Candidates,
         class: &PlacedWord,
-        permission: &PlacedWord,
+        permissions: &[PlacedWord],
     ) -> Result<(), NoMemory>
         requires { IsListing self.now }
-        ensures { OnOk result (AddsFor self.now (APermission (scoped_there self.now.reading class.now) (scoped_there self.now.reading permission.now) ∷ []) candidates.old candidates.new) }
+        ensures { OnOk result (AddsFor self.now (map (λ p. APermission (scoped_there self.now.reading class.now) (scoped_there self.now.reading p)) permissions.now) candidates.old candidates.new) }
+    {
+        let found = self.class(class)?;
+        for permission in permissions {
+            candidates.push_one(with_permission(found, permission.word.bytes.as_slice()))?;
+        }
+        Ok(())
+    }
+
+    /// The class that a class word names, with its permissions.
+    fn class(&self, class: &PlacedWord) -> Result<Option<Class<'_>>, NoMemory>
+        requires { IsListing self.now }
+        ensures { IfOk result (IsClassFor (spaces_by self.now) self.now.names.now self.now.permissions.now (scoped_there self.now.reading class.now)) }
     {
         let scope = self.reading.scope_of(self.alloc, class)?;
-        let named = self.names.resolve_permission(
-            self.reading.instances.namespaces(),
+        let spaces = self.reading.instances.namespaces();
+        let entries = self.names.entries();
+        Ok(class_of(
+            spaces,
+            entries,
             self.permissions,
             &class.word,
-            &permission.word,
             scope.as_slice(),
-        );
-        candidates.push_one(named)?;
-        Ok(())
+        ))
     }
 }

@@ -97,7 +97,8 @@ pub fn candidates(
     Ok(found)
 }
 
-/// Adds the numbers of the entries that a word could name, whatever is enabled, in the order of its scope.
+/// Adds the numbers of the entries that a word could name, whatever is enabled, in the order of its scope. A word that wants
+/// no kind, as a permission, costs nothing.
 pub fn push_candidates(
     found: &mut Vec<usize>,
     spaces: &Namespaces,
@@ -110,6 +111,9 @@ pub fn push_candidates(
     ensures found { OnOk result (found.new.items ≡ found.old.items ++ candidates_of spaces.now entries.now (scoped spaces.now scope.now word.now)) }
     ensures none_lost { length found.old.items ≤ length found.new.items }
 {
+    let Some(_rank) = rank_wanted(word.sign) else {
+        return Ok(());
+    };
     let path = path_of(word.bytes.as_slice());
     for from in asked_scope(path.global, scope) {
         push_listed(found, named_in(spaces, entries, *from, &path, word.sign))?;
@@ -138,7 +142,8 @@ pub enum Known<'r> {
     Flagged(&'r [bool]),
 }
 
-/// The number of the entry that a word names: the first that it could name and that is declared.
+/// The number of the entry that a word names: the first that it could name and that is declared. A word that wants no kind,
+/// as a permission, costs nothing.
 pub fn resolve(
     spaces: &Namespaces,
     entries: &[Entry],
@@ -150,6 +155,9 @@ pub fn resolve(
     requires within { All (λ k. k ≤ length spaces.now) scope.now }
     ensures { result ≡ find (is_known known.entry entries.now) (candidates_of spaces.now entries.now (scoped spaces.now scope.now word.now)) }
 {
+    let Some(_rank) = rank_wanted(word.sign) else {
+        return None;
+    };
     let path = path_of(word.bytes.as_slice());
     for from in asked_scope(path.global, scope) {
         let named = named_in(spaces, entries, *from, &path, word.sign);

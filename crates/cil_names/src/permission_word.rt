@@ -1,6 +1,6 @@
 //! Permission words: each names the class or class map of its class word, where that has the permission.
 
-ghost use Rattle.std.specs.Prelude.{◌≡◌, ◌≤◌, ◌<◌, [], All, Contains, IfSome, List, length, ℕ};
+ghost use Rattle.std.specs.Prelude.{◌≡◌, ◌≤◌, ◌<◌, [], All, Contains, IfSome, List, MatchOption, length, ℕ};
 ghost use Rattle.std.specs.Global.{Vec as Vector};
 ghost use Rattle.std.specs.List.{list_any};
 ghost use Rattle.std.specs.List.Sorted.{IsStrictlySortedBy};
@@ -9,6 +9,9 @@ ghost use Rattle.cil_sexpr.specs.Lists.{text_cmp};
 ghost use Rattle.cil_syntax.specs.declared.fault.Bytes.{Bytes as Text};
 ghost use Rattle.cil_syntax.specs.Spelling.{same_bytes};
 ghost use Rattle.cil_blocks.specs.declared.namespaces.Space.{Space};
+ghost use Rattle.cil_syntax.specs.Scopes.{ScopedWord};
+ghost use Rattle.cil_names.specs.Classes.{IsClassFor};
+ghost use Rattle.cil_names.specs.declared.entry.Entry.{Entry as Declared};
 ghost use Rattle.cil_names.specs.Entries.{AreEntries, AreOrdered, key_cmp, key_of, scoped};
 ghost use Rattle.cil_macros.specs.Item.{Item, nobody};
 ghost use Rattle.cil_names.specs.Meanings.{meant};
@@ -17,6 +20,7 @@ ghost use Rattle.cil_blocks.specs.Namespaces.{AreNamespaces};
 ghost use Rattle.cil_names.specs.Unresolved.{ArePermissions, listed_at as listed_for};
 
 use crate::entry::Entry;
+use crate::kinds::wants;
 use crate::look::{Known, entry_in, resolve};
 use crate::numbers::place_among;
 use cil_blocks::Namespaces;
@@ -49,6 +53,9 @@ pub fn permissions_at<'s>(entries: &[Entry], permissions: &'s [Vec<Bytes>], d: u
         → (p : List ℕ) → list_any (same_bytes p) result.now ≡ has_permission_at ss entries.now xs p d }
 {
     let entry = &entries[d];
+    if wants(Sign::Classes, entry.kind) {
+        return listed_at(permissions, d);
+    }
     let Some(class) = entry_in(entries, entry.space, entry.name.as_slice(), Sign::Classes) else {
         return &[];
     };
@@ -75,6 +82,50 @@ pub fn is_listed(names: &[Bytes], name: &[u8]) -> bool
     place_among(names, name).is_some()
 }
 
+/// A class or class map that a class word names.
+#[derive(Clone, Copy)]
+pub struct Class<'s> {
+    /// The number of its entry.
+    pub entry: usize,
+    /// Its permissions, in byte order.
+    pub permissions: &'s [Bytes],
+}
+
+/// The class or class map that a class word names, with its permissions.
+pub fn class_of<'s>(
+    spaces: &Namespaces,
+    entries: &[Entry],
+    permissions: &'s [Vec<Bytes>],
+    class: &Word,
+    scope: &[usize],
+) -> Option<Class<'s>>
+    requires entries { AreOrdered spaces.now entries.now }
+    requires sorted { (v : Vector Text) → Contains permissions.now v → IsStrictlySortedBy text_cmp v.items }
+    requires within { All (λ k. k ≤ length spaces.now) scope.now }
+    ensures { IsClassFor spaces.now entries.now permissions.now (scoped spaces.now scope.now class.now) result }
+{
+    spaces.are_namespaces();
+    let entry = class_named(spaces, entries, class, scope)?;
+    Some(Class {
+        entry,
+        permissions: permissions_at(entries, permissions, entry),
+    })
+}
+
+/// The number of the class that was found for a class word, if it has a permission.
+pub fn with_permission(class: Option<Class>, permission: &[u8]) -> Option<usize>
+    requires { IfSome class (λ k. IsStrictlySortedBy text_cmp k.permissions.now) }
+    ensures value { (ss : List Space) (es : List Declared) (lists : List (Vector Text)) (c p : ScopedWord) (xs : List Item) → IsClassFor ss es lists c class.entry → p.bytes ≡ permission.now
+        → AreEntries ss xs es → ArePermissions ss es xs lists → result ≡ the_class_with ss es xs c p }
+    ensures entry { IfSome result (λ d. MatchOption class.entry ⊥ (λ k. k.entry ≡ d)) }
+{
+    let found = class?;
+    if !is_listed(found.permissions, permission) {
+        return None;
+    }
+    Some(found.entry)
+}
+
 /// The number of the class or class map that a permission word names.
 pub fn class_with(
     spaces: &Namespaces,
@@ -91,11 +142,6 @@ pub fn class_with(
         → result ≡ the_class_with spaces.now entries.now xs (scoped spaces.now scope.now class.now) (scoped spaces.now scope.now permission.now) }
     ensures within { IfSome result (λ d. d < length entries.now) }
 {
-    spaces.are_namespaces();
-    let d = class_named(spaces, entries, class, scope)?;
-    let listed = permissions_at(entries, permissions, d);
-    if !is_listed(listed, permission.bytes.as_slice()) {
-        return None;
-    }
-    Some(d)
+    let found = class_of(spaces, entries, permissions, class, scope);
+    with_permission(found, permission.bytes.as_slice())
 }

@@ -1,6 +1,6 @@
 //! The permissions of classes, as statements list them.
 
-ghost use Rattle.std.specs.Prelude.{◌≡◌, ◌↔◌, ◌∷◌, ◌++◌, [], Contains, IfOk, IsTrue, List, OnOk, length, ℕ};
+ghost use Rattle.std.specs.Prelude.{◌≡◌, ◌<◌, ◌↔◌, ◌∷◌, ◌++◌, [], Contains, IfOk, IsTrue, List, None, OnOk, length, map, ℕ};
 ghost use Rattle.std.specs.List.Sorted.{IsStrictlySortedBy};
 ghost use Rattle.std.specs.Ordering.{on};
 ghost use Rattle.cil_sexpr.specs.Lists.{Lists, text_cmp};
@@ -8,12 +8,13 @@ ghost use Rattle.cil_syntax.specs.Said.{all_said};
 ghost use Rattle.cil_macros.specs.Item.{Item, names_in};
 ghost use Rattle.cil_macros.specs.Items.{item_at, items_in, namespaces_in};
 ghost use Rattle.cil_names.specs.Entries.{AreOrdered, key_cmp, key_of};
-ghost use Rattle.cil_names.specs.Permissions.{AreEmpty};
+ghost use Rattle.cil_names.specs.Permissions.{AreEmpty, AreListed};
 ghost use Rattle.cil_names.specs.Unresolved.{ArePermissions};
 
 use crate::entry::Entry;
 use crate::look::entry_in;
 use crate::names::Names;
+use crate::reading::is_at;
 use cil_macros::Instances;
 use cil_modset::NoMemory;
 use cil_syntax::{Bytes, Sign, Term};
@@ -21,8 +22,9 @@ use std::alloc::Global;
 use std::mem;
 
 /// The permissions of classes: for each declared name those that statements outside all optionals list for the class of
-/// this name, in byte order, each once; none for what is no class. Classes do not hang on optionals. Each class statement
-/// costs one search by halving, and a sort of what is listed for its class so far.
+/// this name, in byte order, each once; none for what is no class. Classes do not hang on optionals. Each instance of a
+/// class statement costs one search by halving, and a sort of what is listed for its class so far, unless the last one for
+/// its class was of the same statement.
 pub fn permissions_of(
     alloc: Global,
     names: &Names,
@@ -34,8 +36,9 @@ pub fn permissions_of(
 {
     let entries = names.entries();
     let mut lists = no_lists(alloc, entries)?;
+    let mut last = no_statements(alloc, entries)?;
     for at in 0..instances.len() {
-        add_listed(alloc, &mut lists, entries, instances, at)?;
+        add_listed(alloc, &mut lists, &mut last, entries, instances, at)?;
     }
     Ok(lists)
 }
@@ -51,18 +54,36 @@ fn no_lists(alloc: Global, entries: &[Entry]) -> Result<Vec<Vec<Bytes>>, NoMemor
     Ok(lists)
 }
 
-/// Adds the permissions that the statement at a place lists for a class.
+/// For each entry no statement.
+fn no_statements(alloc: Global, entries: &[Entry]) -> Result<Vec<Option<usize>>, NoMemory>
+    ensures { IfOk result (λ last. last.items ≡ map (λ _. None) entries.now) }
+{
+    let mut last = Vec::with_capacity(alloc, entries.len())?;
+    for _entry in entries {
+        last.push(None)?;
+    }
+    Ok(last)
+}
+
+/// Adds the permissions that the statement at a place lists for a class, unless they were added: for each entry the number
+/// of the statement is kept whose permissions were added last.
 fn add_listed(
     alloc: Global,
     lists: &mut Vec<Vec<Bytes>>,
+    last: &mut Vec<Option<usize>>,
     entries: &[Entry],
     instances: &Instances,
     at: usize,
 ) -> Result<(), NoMemory>
     requires rising { IsStrictlySortedBy (on key_of key_cmp) entries.now }
     requires len { length lists.old.items ≡ length entries.now }
+    requires last_len { length last.old.items ≡ length entries.now }
+    requires within { at < length (items_in instances.now) }
     ensures len { OnOk result (length lists.new.items ≡ length entries.now) }
+    ensures last_len { OnOk result (length last.new.items ≡ length entries.now) }
+    ensures last { OnOk result (AreOrdered (namespaces_in instances.now) entries.now → AreListed instances.now last.old.items lists.old.items → AreListed instances.now last.new.items lists.new.items) }
     ensures listed { OnOk result ((xs : List Item) → AreOrdered (namespaces_in instances.now) entries.now
+        → AreListed instances.now last.old.items lists.old.items
         → ArePermissions (namespaces_in instances.now) entries.now xs lists.old.items
         → ArePermissions (namespaces_in instances.now) entries.now (xs ++ item_at instances.now at ∷ []) lists.new.items) }
 {
@@ -83,8 +104,13 @@ fn add_listed(
     let Some(items) = statement.listed_behind_name() else {
         return Ok(());
     };
+    let number = instances.statement(at);
+    if is_at(last[class], number) {
+        return Ok(());
+    }
     let listed = mem::replace(&mut lists[class], Vec::new(alloc));
     lists[class] = with_names(alloc, listed, items)?;
+    last[class] = Some(number);
     Ok(())
 }
 

@@ -79,7 +79,7 @@ impl ScopeNumbers<'_> {
 }
 
 /// Whether there is a place, and it is this one.
-fn is_at(place: Option<usize>, at: usize) -> bool
+pub fn is_at(place: Option<usize>, at: usize) -> bool
     ensures { IsTrue result ↔ (place ≡ Some at) }
 {
     match place {

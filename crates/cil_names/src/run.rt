@@ -1,17 +1,20 @@
 //! Rows in the order of their keys, parted into runs of one key.
 
-ghost use Rattle.std.specs.Prelude.{◌≡◌, ◌↔◌, ◌<◌, ◌≤◌, [], Contains, IfOk, IsTrue, None, Some, drop, get_or, length, take};
+ghost use Rattle.std.specs.Prelude.{◌≡◌, ◌↔◌, ◌<◌, ◌≤◌, [], ℕ, Contains, IfOk, IfSome, IsTrue, None, Some, drop, get_or, length, take};
 ghost use Rattle.std.specs.declared.cmp.Ordering.TheVariants.{Less};
 ghost use Rattle.std.specs.List.Sorted.{IsPermutation, IsSortedByKey};
-ghost use Rattle.cil_macros.specs.Items.{word_at};
+ghost use Rattle.cil_macros.specs.Items.{items_in, word_at};
 ghost use Rattle.cil_names.specs.declared.row.Row.{Row};
 ghost use Rattle.cil_names.specs.DeclareRows.{AreAlike, AreRowsIn, IsRow, SaysWritten, TellsDiffering, bare_terms, content_at, declaration_of, row_key};
 ghost use Rattle.cil_names.specs.DeclareRuns.{AreRuns, IsNextRun};
 ghost use Rattle.cil_names.specs.Declarations.{name_space, of_blocks};
 ghost use Rattle.cil_names.specs.Entries.{key_cmp};
+ghost use Rattle.cil_names.specs.Worded.{IsOfStatement, IsWordless};
 
 use crate::content::{Comparison, Reading, is_same_content};
+use crate::reading::is_at;
 use crate::row::Row;
+use crate::worded::is_worded;
 use cil_macros::Instances;
 use cil_modset::NoMemory;
 use cil_syntax::{Kind, Term};
@@ -100,7 +103,8 @@ fn run_length(rest: &[Row], first: &Row) -> usize
     rest.partition_point(|row| !first.compare(row).is_lt())
 }
 
-/// Whether one of some rows with one key declares another symbol than the first.
+/// Whether one of some rows with one key declares another symbol than the first. Only what is not said by one statement without
+/// words is compared.
 fn is_differing<'a>(
     alloc: Global,
     instances: &Instances<'_, '_, 'a>,
@@ -112,24 +116,46 @@ fn is_differing<'a>(
     requires same { (r : Row) → Contains rows.now r → row_key r ≡ row_key first.now }
     ensures { IfOk result (TellsDiffering instances.now first.now rows.now) }
 {
+    let wordless = wordless(instances, first);
     for row in rows {
-        if !is_same(alloc, instances, first, row)? {
+        if !is_same(alloc, instances, first, row, wordless)? {
             return Ok(true);
         }
     }
     Ok(false)
 }
 
-/// Whether two rows with one key declare the same, or are of macros.
+/// The number of the statement of a row, if no word is in it: then all its instances say the same. It costs a step for each
+/// of its terms.
+fn wordless(instances: &Instances, row: &Row) -> Option<usize>
+    requires { IsRow instances.now row.now }
+    ensures { IfSome result (λ statement. (at : ℕ) → row.now.at ≡ Some at → IsWordless instances.now at statement) }
+{
+    let Some(at) = row.at else {
+        return None;
+    };
+    let Some(statement) = instances.statement_there(at) else {
+        return None;
+    };
+    if is_worded(statement) {
+        return None;
+    }
+    Some(instances.statement(at))
+}
+
+/// Whether two rows with one key declare the same, or are of macros. It is told whether the first is of a statement without
+/// words.
 fn is_same<'a>(
     alloc: Global,
     instances: &Instances<'_, '_, 'a>,
     a: &Row<'a>,
     b: &Row<'a>,
+    wordless: Option<usize>,
 ) -> Result<bool, NoMemory>
     requires a { IsRow instances.now a.now }
     requires b { IsRow instances.now b.now }
     requires one { row_key b.now ≡ row_key a.now }
+    requires wordless { IfSome wordless (λ statement. (at : ℕ) → a.now.at ≡ Some at → IsWordless instances.now at statement) }
     ensures { IfOk result (λ same. IsTrue same ↔ AreAlike (declaration_of instances.now a.now) (declaration_of instances.now b.now)) }
 {
     if is_of_blocks(a.kind) {
@@ -138,7 +164,7 @@ fn is_same<'a>(
     if !is_same_kind(a.kind, b.kind) {
         return Ok(false);
     }
-    is_same_said(alloc, instances, a, b)
+    is_same_said(alloc, instances, a, b, wordless)
 }
 
 /// Whether two rows say the same behind the declared name.
@@ -147,9 +173,11 @@ fn is_same_said<'a>(
     instances: &Instances<'_, '_, 'a>,
     a: &Row<'a>,
     b: &Row<'a>,
+    wordless: Option<usize>,
 ) -> Result<bool, NoMemory>
     requires a { IsRow instances.now a.now }
     requires b { IsRow instances.now b.now }
+    requires wordless { IfSome wordless (λ statement. (at : ℕ) → a.now.at ≡ Some at → IsWordless instances.now at statement) }
     ensures { IfOk result (λ same. IsTrue same ↔ (content_at instances.now a.now.at ≡ content_at instances.now b.now.at)) }
 {
     let Some(place) = a.at else {
@@ -158,7 +186,18 @@ fn is_same_said<'a>(
     let Some(other) = b.at else {
         return Ok(says_nothing(instances, a));
     };
+    if is_of(instances, other, wordless) {
+        return Ok(true);
+    }
     is_same_there(alloc, instances, place, other)
+}
+
+/// Whether an instance is of the statement of a number, if there is one.
+fn is_of(instances: &Instances, at: usize, statement: Option<usize>) -> bool
+    requires { at < length (items_in instances.now) }
+    ensures { IsTrue result → (k : ℕ) × (statement ≡ Some k) × IsOfStatement instances.now at k }
+{
+    is_at(statement, instances.statement(at))
 }
 
 /// Whether a row says nothing behind the declared name.

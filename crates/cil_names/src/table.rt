@@ -8,6 +8,7 @@ ghost use Rattle.cil_macros.specs.Item.{Item, all_words_in, words_in};
 ghost use Rattle.cil_names.specs.Readings.{IsFilling, enabled_by, item_read, meant_by, meant_there, module_of, scoped_there};
 ghost use Rattle.cil_names.specs.Rows.{IsTableOf};
 
+use crate::kinds::rank_wanted;
 use crate::look::{Known, resolve};
 use crate::meaning::Meaning;
 use crate::names::Names;
@@ -109,7 +110,7 @@ impl<'r, 's, 'p, 'a> Filling<'r, 's, 'p, 'a> {
         Ok(())
     }
 
-    /// The entry that a word names.
+    /// The entry that a word names. Only for a word that wants some kind a scope is asked.
     pub fn named(&self, word: &PlacedWord) -> Result<Option<usize>, NoMemory>
         requires { IsFilling self.now }
         ensures first { IfOk result (λ named. named ≡ meant_by self.now (scoped_there self.now.reading word.now)) }
@@ -117,9 +118,12 @@ impl<'r, 's, 'p, 'a> Filling<'r, 's, 'p, 'a> {
         ensures names { IfOk result (λ named. (xs : List Item) → AreEntries self.now.lookup.spaces.now xs self.now.lookup.names.now
             → IsAnswer self.now.lookup.spaces.now xs self.now.lookup.names.now (enabled_by self.now) (scoped_there self.now.reading word.now) named) }
     {
-        let scope = self.reading.scope_of(self.alloc, word)?;
         let lookup = &self.lookup;
         lookup.spaces.are_namespaces();
+        let Some(_rank) = rank_wanted(word.word.sign) else {
+            return Ok(None);
+        };
+        let scope = self.reading.scope_of(self.alloc, word)?;
         let named = resolve(
             lookup.spaces,
             lookup.names.entries(),

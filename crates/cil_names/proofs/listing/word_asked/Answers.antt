@@ -8,5 +8,6 @@ returns-in_default c = none_told (item_at c.args.instances.now c.args.at) c.args
 
 pub returns : goal.returns
 returns c =
-    told_so (all_placed c.args.instances.now) (item_at c.args.instances.now c.args.at) c.in_ok-asked.asked.items c.in_ok-asked.ensures c.args.number c.told_of.result
-    (rw c.as_slice-2.ensures.value at c.told_of.ensures)
+    let ps = all_placed c.args.instances.now in
+    told_so ps (item_at c.args.instances.now c.args.at) c.in_ok-asked.asked.items c.in_ok-asked.ensures c.args.number c.told_of.result
+    ((rw c.as_slice-2.ensures.value at c.told_of.ensures) ps)

@@ -1,5 +1,7 @@
-use Rattle.std.proofs.Common.{rules, ◌≡◌, ◌∙◌, ◌++◌, ℕ, get_or, refl, sym, ap, arith}
+use Rattle.std.proofs.Common.{rules, ◌≡◌, ◌∙◌, ◌++◌, ℕ, get_or, refl, sym, ap, append-nil, arith}
 use Rattle.cil_syntax.proofs.AskedLemmas.{is_global}
+use Rattle.cil_names.specs.Entries.{scoped}
+use Rattle.cil_names.proofs.CandidateLemmas.{could_name_none}
 use Rattle.cil_names.proofs.ScopeLemmas.{all_passed, asked_there, could_name, passed_on, whole}
 use Rattle.cil_names.proofs.look.push_candidates.Goals as goal
 
@@ -20,3 +22,8 @@ returns-clause-found c =
     ∙ ap (λ l. c.args.found.now.items ++ l)
     (sym (whole c.args.spaces.now c.args.entries.now c.args.word.now c.args.scope.now c.path_of-path.result.global
     (is_global c.args.word.now.bytes c.path_of-path.result.global c.path_of-path.result.names.now (search rules)) ∙ sym (search rules)))
+
+pub returns-in_default-clause-found : goal.returns-in_default-clause-found
+returns-in_default-clause-found c =
+    let old = c.args.found.now.items in
+    sym (ap (λ l. old ++ l) (could_name_none c.args.spaces.now c.args.entries.now (scoped c.args.spaces.now c.args.scope.now c.args.word.now) c.in_default.ensures) ∙ append-nil old)

@@ -1,7 +1,8 @@
 use Rattle.std.proofs.Common.{rules, ◌≡◌, ◌∙◌, ℕ, get_or, refl, sym, ap, arith}
 use Rattle.std.specs.Prelude.{find}
 use Rattle.cil_syntax.proofs.AskedLemmas.{is_global}
-use Rattle.cil_names.specs.Entries.{is_known}
+use Rattle.cil_names.specs.Entries.{is_known, scoped}
+use Rattle.cil_names.proofs.CandidateLemmas.{could_name_none}
 use Rattle.cil_names.proofs.ScopeLemmas.{asked_there, could_name, found_by, never, passed_by, whole}
 use Rattle.cil_names.proofs.look.resolve.Goals as goal
 
@@ -31,3 +32,8 @@ returns c =
     (is_known c.args.known c.args.entries.now) c.loop-from.invariant
     ∙ ap (find (is_known c.args.known c.args.entries.now)) (sym (whole c.args.spaces.now c.args.entries.now c.args.word.now c.args.scope.now c.path_of-path.result.global
     (is_global c.args.word.now.bytes c.path_of-path.result.global c.path_of-path.result.names.now (search rules)) ∙ sym (search rules)))
+
+pub returns-in_default : goal.returns-in_default
+returns-in_default c =
+    sym (ap (find (is_known c.args.known c.args.entries.now))
+    (could_name_none c.args.spaces.now c.args.entries.now (scoped c.args.spaces.now c.args.scope.now c.args.word.now) c.in_default.ensures))

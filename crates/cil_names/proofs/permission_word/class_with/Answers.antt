@@ -1,23 +1,18 @@
-use Rattle.std.proofs.Common.{rules, sym, ◌∙◌}
+use Rattle.std.proofs.Common.{rules}
 use Rattle.cil_names.specs.Entries.{scoped}
-use Rattle.cil_macros.specs.Item.{nobody}
-use Rattle.cil_names.specs.Meanings.{meant}
-use Rattle.cil_names.specs.PermissionWords.{has_permission_at}
-use Rattle.cil_names.proofs.PermissionWordLemmas.{class_has, class_lacks}
+use Rattle.cil_names.proofs.PermissionWordLemmas.{class_rises, class_within}
 use Rattle.cil_names.proofs.permission_word.class_with.Goals as goal
 
-pub returns-then-not-is_listed-clause-value : goal.returns-then-not-is_listed-clause-value
-returns-then-not-is_listed-clause-value c =
-    λ xs entries permissions.
-    class_lacks (has_permission_at c.args.spaces.now c.args.entries.now xs c.args.permission.now.bytes)
-    (meant c.args.spaces.now c.args.entries.now nobody (scoped c.args.spaces.now c.args.scope.now c.args.class.now))
-    c.in_ok-d.d c.in_ok-d.ensures.value
-    (sym (c.permissions_at-listed.ensures.listed c.args.spaces.now xs c.are_namespaces.ensures entries permissions c.args.permission.now.bytes) ∙ search rules)
+pub with_permission-requires : goal.with_permission-requires
+with_permission-requires c =
+    class_rises c.args.spaces.now c.args.entries.now c.args.permissions.now (scoped c.args.spaces.now c.args.scope.now c.args.class.now) c.class_of-found.result c.class_of-found.ensures
 
 pub returns-clause-value : goal.returns-clause-value
-returns-clause-value c =
-    λ xs entries permissions.
-    class_has (has_permission_at c.args.spaces.now c.args.entries.now xs c.args.permission.now.bytes)
-    (meant c.args.spaces.now c.args.entries.now nobody (scoped c.args.spaces.now c.args.scope.now c.args.class.now))
-    c.in_ok-d.d c.in_ok-d.ensures.value
-    (sym (c.permissions_at-listed.ensures.listed c.args.spaces.now xs c.are_namespaces.ensures entries permissions c.args.permission.now.bytes) ∙ search rules)
+returns-clause-value c = λ xs entries permissions.
+    c.with_permission.ensures.value c.args.spaces.now c.args.entries.now c.args.permissions.now (scoped c.args.spaces.now c.args.scope.now c.args.class.now)
+    (scoped c.args.spaces.now c.args.scope.now c.args.permission.now) xs c.class_of-found.ensures (search rules) entries permissions
+
+pub returns-clause-within : goal.returns-clause-within
+returns-clause-within c =
+    class_within c.args.spaces.now c.args.entries.now c.args.permissions.now (scoped c.args.spaces.now c.args.scope.now c.args.class.now) c.class_of-found.result c.class_of-found.ensures
+    c.with_permission.result c.with_permission.ensures.entry

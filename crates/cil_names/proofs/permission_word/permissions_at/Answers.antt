@@ -3,7 +3,7 @@ use Rattle.std.specs.Prelude.{Some, slice_get}
 use Rattle.std.proofs.lemmas.Option.{slice_get-get_or}
 use Rattle.cil_sexpr.specs.Rising.{rising_nothing}
 use Rattle.cil_sexpr.specs.Lists.{text_cmp}
-use Rattle.cil_names.proofs.ListedLemmas.{listed_of_class, listed_of_none}
+use Rattle.cil_names.proofs.ListedLemmas.{listed_of_class, listed_of_itself, listed_of_none}
 use Rattle.cil_names.proofs.permission_word.permissions_at.Goals as goal
 
 pub returns-in_default-clause-sorted : goal.returns-in_default-clause-sorted
@@ -22,4 +22,12 @@ returns-clause-listed c =
     let at : slice_get c.args.entries.now c.args.d ≡ Some c.index-entries-d.result =
     slice_get-get_or c.args.entries.now c.args.d c.index-entries-d.result c.requires.within ∙ ap Some (sym c.index-entries-d.is) in
     listed_of_class ss are xs c.args.entries.now entries c.args.d c.index-entries-d.result at p c.args.permissions.now permissions c.in-Some.class (search rules)
+    c.listed_at-2.result.now c.listed_at-2.ensures.value
+
+pub returns-then-wants-clause-listed : goal.returns-then-wants-clause-listed
+returns-then-wants-clause-listed c =
+    λ ss xs are entries permissions p.
+    let at : slice_get c.args.entries.now c.args.d ≡ Some c.index-entries-d.result =
+    slice_get-get_or c.args.entries.now c.args.d c.index-entries-d.result c.requires.within ∙ ap Some (sym c.index-entries-d.is) in
+    listed_of_itself ss are xs c.args.entries.now entries c.args.d c.index-entries-d.result at p c.args.permissions.now permissions (search rules)
     c.listed_at.result.now c.listed_at.ensures.value

@@ -1,15 +1,18 @@
+use Rattle.std.proofs.Common.{sym, ◌∙◌}
 use Rattle.cil_macros.specs.Items.{item_at}
 use Rattle.cil_names.specs.Entries.{is_in}
-use Rattle.cil_names.proofs.FillLemmas.{no_faults, no_meanings}
-use Rattle.cil_names.proofs.ReadingLemmas.{none_said}
+use Rattle.cil_names.proofs.FillLemmas.{unworded_faults, unworded_meanings}
+use Rattle.cil_names.proofs.WordedLemmas.{unworded_asks, unworded_says}
 use Rattle.cil_names.proofs.fill.Check.instance.Goals as goal
 
-pub returns-in_default-clause-words : goal.returns-in_default-clause-words
-returns-in_default-clause-words c =
+pub returns-then-not-is_worded_at-clause-words : goal.returns-then-not-is_worded_at-clause-words
+returns-then-not-is_worded_at-clause-words c =
     let k = c.args.self.now in
-    no_meanings k.lookup.spaces.now k.lookup.names.now (is_in k.lookup.enabled.now) (item_at k.instances.now c.args.at) c.args.words.now.items (none_said k.instances.now c.args.at c.in_default.ensures)
+    unworded_meanings k.lookup.spaces.now k.lookup.names.now (is_in k.lookup.enabled.now) (item_at k.instances.now c.args.at) c.args.words.now.items
+    (unworded_says k.instances.now c.args.at (sym c.is_worded_at.ensures ∙ c.if-not-is_worded_at.true))
 
-pub returns-in_default-clause-faults : goal.returns-in_default-clause-faults
-returns-in_default-clause-faults c = λ xs entries permissions.
+pub returns-then-not-is_worded_at-clause-faults : goal.returns-then-not-is_worded_at-clause-faults
+returns-then-not-is_worded_at-clause-faults c = λ xs entries permissions.
     let k = c.args.self.now in
-    no_faults xs (is_in k.lookup.enabled.now) (item_at k.instances.now c.args.at) c.args.faults.now.items (none_said k.instances.now c.args.at c.in_default.ensures)
+    unworded_faults xs (is_in k.lookup.enabled.now) (item_at k.instances.now c.args.at) c.args.faults.now.items
+    (unworded_asks k.instances.now c.args.at (sym c.is_worded_at.ensures ∙ c.if-not-is_worded_at.true))

@@ -5,8 +5,8 @@ use Rattle.cil_names.proofs.ListedLemmas.{answered_found}
 use Rattle.cil_names.proofs.UnresolvedLemmas.{permissions_not_told, permissions_told}
 use Rattle.cil_names.proofs.judge.Judge.permissions_of.Goals as goal
 
-pub returns-then-is_none : goal.returns-then-is_none
-returns-then-is_none c = λ xs knows.
+pub returns-in_default : goal.returns-in_default
+returns-in_default c = λ xs knows.
     let j = c.args.self.now in
     let w = scoped_in j c.args.class.now in
     permissions_not_told xs (enabled_in j) (space_in j) w (all_words_in (terms_in_place j c.args.terms.now)) _

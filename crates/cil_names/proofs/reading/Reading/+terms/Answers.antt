@@ -4,7 +4,7 @@ use Rattle.cil_macros.specs.Items.{all_placed}
 use Rattle.cil_names.specs.Asked.{asked_by, wanted_by}
 use Rattle.cil_names.specs.Readings.{module_of, word_read}
 use Rattle.cil_names.specs.Resolves.{Word as AWord}
-use Rattle.cil_names.proofs.AskedLemmas.{all_asked_in, asked_in, class_asked, form_asked, leaf_asked, more_asked, name_asked, none_asked, one_pushed}
+use Rattle.cil_names.proofs.AskedLemmas.{all_asked_in, asked_in, class_asked, form_asked, leaf_asked, more_asked, name_asked, none_asked, one_asked}
 use Rattle.cil_names.proofs.UnresolvedLemmas.{walked_all, walked_on}
 use Rattle.cil_names.proofs.reading.Reading.+terms.Goals as goal
 
@@ -12,7 +12,7 @@ pub ask_term-returns-in_ok-push-in-Leaf : goal.ask_term-returns-in_ok-push-in-Le
 ask_term-returns-in_ok-push-in-Leaf t c =
     let r = c.args.self.now in
     leaf_asked (word_read r) (module_of r) c.args.term.now (asked_by r c.args.asked.now.items) _ c.in-Leaf.word c.in-Leaf.is
-    (one_pushed (wanted_by (all_placed r.instances.now)) c.args.asked.now.items _ _ c.in_ok-push-in-Leaf.ensures.items
+    (one_asked (wanted_by (all_placed r.instances.now)) c.args.asked.now.items _ _ c.in_ok-push-in-Leaf.ensures.items
     ∙ ap (λ (w : ScopedWord). asked_by r c.args.asked.now.items ++ AWord w ∷ []) (c.word.ensures ∙ ap (word_read r) c.in_module-written.ensures))
 
 pub ask_term-returns-in-Name : goal.ask_term-returns-in-Name

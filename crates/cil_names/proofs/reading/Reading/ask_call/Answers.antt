@@ -5,7 +5,7 @@ use Rattle.cil_macros.specs.Items.{all_placed}
 use Rattle.cil_names.specs.Asked.{asked_by, wanted_by}
 use Rattle.cil_names.specs.Readings.{scoped_there}
 use Rattle.cil_names.specs.Resolves.{Word as AWord}
-use Rattle.cil_names.proofs.AskedLemmas.{one_pushed}
+use Rattle.cil_names.proofs.AskedLemmas.{one_asked}
 use Rattle.cil_names.proofs.ReadingLemmas.{call_wanted}
 use Rattle.cil_names.proofs.reading.Reading.ask_call.Goals as goal
 
@@ -13,7 +13,7 @@ pub loop-word-preserved : goal.loop-word-preserved
 loop-word-preserved c =
     let r = c.args.self.now in
     one_mapped (λ (w : PlacedWord). AWord (scoped_there r w)) c.as_slice-word-items.result.now c.loop-word.word-index _ _ _ _ _ c.loop-word-test.true c.word-item.is c.loop-word.invariant
-    (one_pushed (wanted_by (all_placed r.instances.now)) c.loop-word.asked.items _ _ c.in_ok-push.ensures.items
+    (one_asked (wanted_by (all_placed r.instances.now)) c.loop-word.asked.items _ _ c.in_ok-push.ensures.items
     ∙ ap (λ (w : PlacedWord). asked_by r c.loop-word.asked.items ++ AWord (scoped_there r w) ∷ []) c.copy_of.ensures)
 
 pub returns : goal.returns

@@ -1,8 +1,9 @@
 use Rattle.std.specs.Prelude.{◌≡◌, ◌<◌, IfSome, Option, find, length, ℕ}
-use Rattle.std.proofs.Common.{rules, subst, sym, ◌∙◌}
+use Rattle.std.proofs.Common.{ap, rules, subst, sym, ◌∙◌}
 use Rattle.cil_names.specs.Entries.{IsAnswer, candidates_of, is_declared_at, scoped}
 use Rattle.cil_names.specs.Readings.{enabled_by, scoped_there}
 use Rattle.cil_names.proofs.AnswerLemmas.{answer_is, found_flagged, found_within}
+use Rattle.cil_names.proofs.CandidateLemmas.{could_name_none}
 use Rattle.cil_names.proofs.ReadingLemmas.{numbers_within}
 use Rattle.cil_names.proofs.table.Filling.named.Goals as goal
 
@@ -29,4 +30,15 @@ pub returns-clause-names : goal.returns-clause-names
 returns-clause-names c = λ xs entries.
     let f = c.args.self.now in
     subst (IsAnswer f.lookup.spaces.now xs f.lookup.names.now (enabled_by f) (scoped_there f.reading c.args.word.now)) (sym (returns-clause-first c))
+    (answer_is f.lookup.spaces.now c.are_namespaces.ensures xs f.lookup.names.now entries (enabled_by f) (scoped_there f.reading c.args.word.now))
+
+pub returns-in_default-clause-first : goal.returns-in_default-clause-first
+returns-in_default-clause-first c =
+    let f = c.args.self.now in
+    sym (ap (find (is_declared_at (enabled_by f) f.lookup.names.now)) (could_name_none f.lookup.spaces.now f.lookup.names.now (scoped_there f.reading c.args.word.now) c.in_default.ensures))
+
+pub returns-in_default-clause-names : goal.returns-in_default-clause-names
+returns-in_default-clause-names c = λ xs entries.
+    let f = c.args.self.now in
+    subst (IsAnswer f.lookup.spaces.now xs f.lookup.names.now (enabled_by f) (scoped_there f.reading c.args.word.now)) (sym (returns-in_default-clause-first c))
     (answer_is f.lookup.spaces.now c.are_namespaces.ensures xs f.lookup.names.now entries (enabled_by f) (scoped_there f.reading c.args.word.now))
