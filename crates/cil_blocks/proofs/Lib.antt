@@ -10,6 +10,7 @@ pub mod FaultExamples
 pub mod FirstNamed
 pub mod FlatContents
 pub mod Given
+pub mod GoneUp
 pub mod InheritLemmas
 pub mod Kept
 pub mod LawLemmas

@@ -1,7 +1,7 @@
 //! Where statements stand, by the numbers of namespaces. What one statement opens has one place, so a place is kept once for
 //! each run of entries that were opened by the same one, and the places of a flat policy take no memory. A place is kept as the
-//! step from the one before it, and its scope is computed when it is asked: a step for each place on the way, and a hash for
-//! each namespace. A blockinherit costs a hash for each block round its target.
+//! step from the one before it, and its scope is computed when it is asked: a step for each place on the way, and a hash or two
+//! for each namespace in it. A blockinherit costs a hash for each block round its target.
 
 ghost use Rattle.std.specs.Prelude.{◌≡◌, ◌≤◌, ◌<◌, ◌++◌, ◌∷◌, [], IfOk, IfSome, List, MatchOption, None, OnOk, Some, length, flat_map, reverse};
 ghost use Rattle.cil_syntax.specs.Program.{IsNested, program_of};
@@ -19,6 +19,7 @@ use crate::numbers::Numbers;
 use crate::scopes::ScopeList;
 use cil_modset::NoMemory;
 use cil_syntax::Statement;
+use indexmap::IndexSet;
 use std::alloc::Global;
 use std::marker::Model;
 
@@ -90,7 +91,7 @@ impl Places {
             return Ok(());
         };
         let mut left = add_blocks(alloc, self.kept.as_slice(), which, scope)?;
-        add_chains(namespaces, &mut left, scope)?;
+        add_chains(alloc, namespaces, &mut left, scope)?;
         Ok(())
     }
 
@@ -190,14 +191,16 @@ fn add_block(place: &Place, scope: &mut ScopeList, left: &mut Vec<usize>) -> Res
 
 /// Adds the namespaces round those that are left, the last of them first.
 fn add_chains(
+    alloc: Global,
     namespaces: &Namespaces,
     left: &mut Vec<usize>,
     scope: &mut ScopeList,
 ) -> Result<(), NoMemory>
     ensures { OnOk result (scope.new ≡ with_numbers scope.old (numbers_left namespaces.now reached_top left.old.items)) }
 {
+    let mut gone_up = IndexSet::new(alloc);
     while let Some(written) = left.pop() {
-        scope.add_chain(namespaces, written)?;
+        scope.add_chain(namespaces, written, &mut gone_up)?;
     }
     Ok(())
 }
