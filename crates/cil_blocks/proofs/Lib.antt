@@ -13,6 +13,7 @@ pub mod Given
 pub mod GoneUp
 pub mod InheritLemmas
 pub mod Kept
+pub mod KnownNumbers
 pub mod LawLemmas
 pub mod MarkLemmas
 pub mod MemberLemmas
