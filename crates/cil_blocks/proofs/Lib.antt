@@ -10,8 +10,10 @@ pub mod FaultExamples
 pub mod FirstNamed
 pub mod FlatContents
 pub mod Given
+pub mod GoneUp
 pub mod InheritLemmas
 pub mod Kept
+pub mod KnownNumbers
 pub mod LawLemmas
 pub mod MarkLemmas
 pub mod MemberLemmas

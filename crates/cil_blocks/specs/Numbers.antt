@@ -33,3 +33,7 @@ chain_within ss (suc most) k = chain_through k (inner_at ss k) (chain_within ss 
 -- the numbers of a namespace and of those round it: they fall, so that there are no more than the first says
 abbrev pub chain_numbers : List Space → ℕ → List ℕ
 chain_numbers ss k = chain_within ss k k
+
+-- of each of these numbers all that is round it is in a list, with itself
+abbrev pub AreGoneUp : List Space → List ℕ → List ℕ → Type 0
+AreGoneUp ss gone ks = (k : ℕ) → Contains gone k → (m : ℕ) → Contains (chain_numbers ss k) m → Contains ks m

@@ -1,7 +1,7 @@
 //! Where statements stand, by the numbers of namespaces. What one statement opens has one place, so a place is kept once for
 //! each run of entries that were opened by the same one, and the places of a flat policy take no memory. A place is kept as the
-//! step from the one before it, and its scope is computed when it is asked: a step for each place on the way, and a hash for
-//! each namespace. A blockinherit costs a hash for each block round its target.
+//! step from the one before it, and its scope is computed when it is asked: a step for each place on the way, and a hash or two
+//! for each namespace in it. A blockinherit costs a hash, and once for each target a hash for each block round it.
 
 ghost use Rattle.std.specs.Prelude.{◌≡◌, ◌≤◌, ◌<◌, ◌++◌, ◌∷◌, [], IfOk, IfSome, List, MatchOption, None, OnOk, Some, length, flat_map, reverse};
 ghost use Rattle.cil_syntax.specs.Program.{IsNested, program_of};
@@ -10,7 +10,7 @@ ghost use Rattle.cil_blocks.specs.declared.namespaces.Space.{Space};
 ghost use Rattle.cil_blocks.specs.Namespaces.{AreNamespaces, IsGrown, IsNumber, space_at};
 ghost use Rattle.cil_blocks.specs.Numbers.{chain_numbers, with_numbers};
 ghost use Rattle.cil_blocks.specs.Places.{ArePlaces, Reached, all_numbered, numbers_of, reached_at, reached_by, reached_top};
-ghost use Rattle.cil_blocks.specs.Placing.{AreBehind, IsInherited, IsRepeated, numbers_left};
+ghost use Rattle.cil_blocks.specs.Placing.{AreBehind, AreKnown, IsInherited, IsRepeated, numbers_left};
 
 use crate::entry::Entry;
 use crate::names::{block_above, is_inheriting, is_optional_at, lower, name_at};
@@ -19,6 +19,7 @@ use crate::numbers::Numbers;
 use crate::scopes::ScopeList;
 use cil_modset::NoMemory;
 use cil_syntax::Statement;
+use indexmap::{IndexMap, IndexSet};
 use std::alloc::Global;
 use std::marker::Model;
 
@@ -97,7 +98,7 @@ impl Places {
             return Ok(());
         };
         let mut left = add_blocks(alloc, self.kept.as_slice(), which, scope)?;
-        add_chains(namespaces, &mut left, scope)?;
+        add_chains(alloc, namespaces, &mut left, scope)?;
         Ok(())
     }
 
@@ -197,14 +198,16 @@ fn add_block(place: &Place, scope: &mut ScopeList, left: &mut Vec<usize>) -> Res
 
 /// Adds the namespaces round those that are left, the last of them first.
 fn add_chains(
+    alloc: Global,
     namespaces: &Namespaces,
     left: &mut Vec<usize>,
     scope: &mut ScopeList,
 ) -> Result<(), NoMemory>
     ensures { OnOk result (scope.new ≡ with_numbers scope.old (numbers_left namespaces.now reached_top left.old.items)) }
 {
+    let mut gone_up = IndexSet::new(alloc);
     while let Some(written) = left.pop() {
-        scope.add_chain(namespaces, written)?;
+        scope.add_chain(namespaces, written, &mut gone_up)?;
     }
     Ok(())
 }
@@ -243,9 +246,10 @@ pub fn places_of<'a>(
         entries,
     };
     let mut namespaces = Namespaces::global(alloc);
+    let mut known = IndexMap::new(alloc);
     let mut places = Places::new(alloc);
     for rank in 0..entries.len() {
-        source.add_place(&mut namespaces, &mut places, rank)?;
+        source.add_place(&mut namespaces, &mut known, &mut places, rank)?;
     }
     Ok(Located { namespaces, places })
 }
@@ -255,12 +259,13 @@ impl<'s, 'a> Source<'s, 'a> {
     ghost use Rattle.cil_syntax.specs.Program.{IsNested, program_of};
     ghost use Rattle.cil_blocks.specs.Entries.{AreOpened, statement_at};
     ghost use Rattle.cil_blocks.specs.Namespaces.{AreNamespaces, IsGrown};
-    ghost use Rattle.cil_blocks.specs.Placing.{AreFirstReached, IsInside};
+    ghost use Rattle.cil_blocks.specs.Placing.{AreFirstReached, AreKnown, IsInside};
 
     /// Adds the place of the next entry.
     fn add_place(
         &self,
         namespaces: &mut Namespaces<'a>,
+        known: &mut IndexMap<usize, usize>,
         places: &mut Places,
         rank: usize,
     ) -> Result<(), NoMemory>
@@ -268,7 +273,9 @@ impl<'s, 'a> Source<'s, 'a> {
         requires opened { AreOpened (program_of self.now.statements.now) self.now.opened.now }
         requires next { rank < length self.now.entries.now }
         requires first { AreFirstReached (program_of self.now.statements.now) (take rank self.now.entries.now) namespaces.old places.old }
-        ensures { OnOk result (AreFirstReached (program_of self.now.statements.now) (take (rank + 1) self.now.entries.now) namespaces.new places.new) }
+        requires known { AreKnown (program_of self.now.statements.now) namespaces.old known.old }
+        ensures first { OnOk result (AreFirstReached (program_of self.now.statements.now) (take (rank + 1) self.now.entries.now) namespaces.new places.new) }
+        ensures known { OnOk result (AreKnown (program_of self.now.statements.now) namespaces.new known.new) }
     {
         let Some(opener) = lower(self.entries[rank].opener, rank) else {
             places.push_global()?;
@@ -286,7 +293,7 @@ impl<'s, 'a> Source<'s, 'a> {
         let Some(outer) = places.space(opener) else {
             return Ok(());
         };
-        let inside = self.inside(namespaces, self.entries[opener].statement, outer)?;
+        let inside = self.inside(namespaces, known, self.entries[opener].statement, outer)?;
         places.push_inside(opener, inside)?;
         Ok(())
     }
@@ -295,15 +302,18 @@ impl<'s, 'a> Source<'s, 'a> {
     fn inside(
         &self,
         namespaces: &mut Namespaces<'a>,
+        known: &mut IndexMap<usize, usize>,
         number: usize,
         outer: usize,
     ) -> Result<Inside, NoMemory>
         requires nested { IsNested self.now.statements.now }
         requires opened { AreOpened (program_of self.now.statements.now) self.now.opened.now }
         requires space { outer ≤ length namespaces.old }
+        requires known { AreKnown (program_of self.now.statements.now) namespaces.old known.old }
         ensures grown { OnOk result (IsGrown namespaces.old namespaces.new) }
         ensures once { OnOk result (AreNamespaces namespaces.old × AreNamespaces namespaces.new) }
         ensures inside { IfOk result (λ inside. IsInside (program_of self.now.statements.now) namespaces.old namespaces.new outer number inside.space inside.written) }
+        ensures known { OnOk result (AreKnown (program_of self.now.statements.now) namespaces.new known.new) }
     {
         // Each namespace is there once, before and after.
         namespaces.are_namespaces();
@@ -316,7 +326,7 @@ impl<'s, 'a> Source<'s, 'a> {
                 })
             }
             Some(block) => {
-                let written = number_of_space(namespaces, self.statements, block)?;
+                let written = number_of_space(namespaces, known, self.statements, block)?;
                 namespaces.are_namespaces();
                 Ok(Inside {
                     space: outer,
@@ -357,20 +367,27 @@ fn inherited_at(statements: &[Statement], opened: &[Option<usize>], number: usiz
     }
 }
 
-/// The number of the namespace in which a statement is written.
+/// The number of the namespace in which a statement is written. Those of the blocks round it are kept.
 fn number_of_space<'a>(
     namespaces: &mut Namespaces<'a>,
+    known: &mut IndexMap<usize, usize>,
     statements: &[Statement<'a>],
     number: usize,
 ) -> Result<usize, NoMemory>
-    requires { IsNested statements.now }
+    requires nested { IsNested statements.now }
+    requires known { AreKnown (program_of statements.now) namespaces.old known.old }
     ensures grown { OnOk result (IsGrown namespaces.old namespaces.new) }
     ensures numbered { IfOk result (IsNumber namespaces.new (statement_at (program_of statements.now) number).context.space) }
+    ensures known { OnOk result (AreKnown (program_of statements.now) namespaces.new known.new) }
 {
     let Some(block) = block_above(statements, number) else {
         return Ok(0);
     };
-    let outer = number_of_space(namespaces, statements, block)?;
+    if let Some(space) = known.get(&block).copied() {
+        return Ok(space);
+    }
+    let outer = number_of_space(namespaces, known, statements, block)?;
     let space = namespaces.number(outer, name_at(statements, block))?;
+    known.insert(block, space)?;
     Ok(space)
 }

@@ -26,7 +26,7 @@ impl Model for ScopeList {
 impl ScopeList {
     ghost use Rattle.std.specs.Prelude.{◌≡◌, ◌++◌, ◌∷◌, ◌==◌, [], OnErr, OnOk, false};
     ghost use Rattle.std.specs.List.{list_any};
-    ghost use Rattle.cil_blocks.specs.Numbers.{chain_numbers, with_number, with_numbers};
+    ghost use Rattle.cil_blocks.specs.Numbers.{AreGoneUp, chain_numbers, with_number, with_numbers};
 
     /// No namespaces.
     pub fn new(alloc: Global) -> ScopeList
@@ -62,12 +62,24 @@ impl ScopeList {
         Ok(())
     }
 
-    /// Adds the numbers of a namespace and of those round it, unless they are there.
-    pub fn add_chain(&mut self, namespaces: &Namespaces, number: usize) -> Result<(), NoMemory>
-        ensures { OnOk result (self.new ≡ with_numbers self.old (chain_numbers namespaces.now number)) }
+    /// Adds the numbers of a namespace and of those round it, unless they are there. The way up ends at the first number from
+    /// which it was gone before; those from which it is gone now are put to these.
+    pub fn add_chain(
+        &mut self,
+        namespaces: &Namespaces,
+        number: usize,
+        gone_up: &mut IndexSet<usize>,
+    ) -> Result<(), NoMemory>
+        requires { AreGoneUp namespaces.now gone_up.old.keys self.old }
+        ensures added { OnOk result (self.new ≡ with_numbers self.old (chain_numbers namespaces.now number)) }
+        ensures gone_up { OnOk result (AreGoneUp namespaces.now gone_up.new.keys self.new) }
     {
         let mut at = number;
         while let Some(space) = namespaces.get(at) {
+            let is_new = gone_up.insert(at)?;
+            if !is_new {
+                return Ok(());
+            }
             self.add(at)?;
             at = space.outer;
         }

@@ -8,23 +8,23 @@ use Rattle.cil_blocks.proofs.places.Source.add_place.Goals as goal
 abbrev no_entry : Entry
 no_entry = record { statement = 0; opener = None }
 
-pub returns-in_default : goal.returns-in_default
-returns-in_default c =
+pub returns-in_default-clause-first : goal.returns-in_default-clause-first
+returns-in_default-clause-first c =
     let es = c.args.self.now.entries.now in
     let low = c.in_default.ensures in
     reached_global (program_of c.args.self.now.statements.now) c.args.namespaces.now es (get_or es c.args.rank no_entry) no_entry c.args.rank c.args.places.now c.push_global.new.self
     c.requires.next refl (record { lower = low.lower; same = low.same; higher = low.higher }) c.requires.first c.in_ok-push_global.ensures
 
-pub returns-in-Some-repeated : goal.returns-in-Some-repeated
-returns-in-Some-repeated c =
+pub returns-in-Some-repeated-clause-first : goal.returns-in-Some-repeated-clause-first
+returns-in-Some-repeated-clause-first c =
     let es = c.args.self.now.entries.now in
     let low = c.in-Some.ensures in
     reached_again (program_of c.args.self.now.statements.now) c.args.namespaces.now es (get_or es c.args.rank no_entry) no_entry c.args.rank c.in-Some.opener c.in-Some-repeated.before
     c.args.places.now c.push_again.new.self c.requires.next refl (record { lower = low.lower; same = low.same; higher = low.higher }) c.in-Some-repeated.ensures c.requires.first
     c.in_ok-push_again.ensures
 
-pub returns-then-is_optional_at : goal.returns-then-is_optional_at
-returns-then-is_optional_at c =
+pub returns-then-is_optional_at-clause-first : goal.returns-then-is_optional_at-clause-first
+returns-then-is_optional_at-clause-first c =
     let es = c.args.self.now.entries.now in
     let low = c.in-Some.ensures in
     reached_optional (program_of c.args.self.now.statements.now) c.args.namespaces.now es (get_or es c.args.rank no_entry) (get_or es c.in-Some.opener no_entry) no_entry c.args.rank
@@ -42,8 +42,8 @@ inside-requires-clause-space c =
     reached_space (program_of c.args.self.now.statements.now) c.args.namespaces.now es c.args.rank c.in-Some.opener c.in-Some-space.outer (get_or es c.in-Some.opener no_entry) no_entry
     c.args.places.now c.requires.next c.in-Some.ensures.lower refl c.requires.first c.in-Some-space.ensures
 
-pub returns : goal.returns
-returns c =
+pub returns-clause-first : goal.returns-clause-first
+returns-clause-first c =
     let es = c.args.self.now.entries.now in
     let low = c.in-Some.ensures in
     let (r, at, same) = c.in-Some-space.ensures in
