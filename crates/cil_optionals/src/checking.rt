@@ -1,10 +1,10 @@
 //! A check of a choice of optionals: whether it is the right one. It costs a pass over the reasons, the words of all optionals
 //! and the optionals round all declarations.
 
-ghost use Rattle.std.specs.Prelude.{◌≡◌, ◌↔◌, ℕ, IfOk, IsTrue, Some, false, length, not, slice_get, true};
+ghost use Rattle.std.specs.Prelude.{◌≡◌, ◌↔◌, IfOk, IsTrue, Some, false, length, true};
 ghost use Rattle.std.specs.List.{list_all};
 ghost use Rattle.cil_names.specs.Entries.{is_in};
-ghost use Rattle.cil_optionals.specs.Parts.{IsShown, holds_in, is_inside, is_outside, is_step as is_step_of, is_well as is_well_of, is_well_inside, lacks, parent_is_out, word_is_missing};
+ghost use Rattle.cil_optionals.specs.Parts.{IsShown, holds_in, is_outside, is_step as is_step_of, is_well as is_well_of, is_well_inside, lacks};
 ghost use Rattle.cil_optionals.specs.Times.{after, names_after as named_after};
 ghost use Rattle.cil_optionals.specs.declared.reason.Reason.TheVariants.{Missing, ParentOut};
 ghost use Rattle.cil_optionals.specs.Times.{AreSteps, AreWell, IsEnabledAfter};

@@ -80,8 +80,6 @@ pub fn greatest_counted<'r, 'a>(
 {
     laws::right_is_greatest();
     resolves_by_candidates();
-    instances.are_nested();
-    instances.namespaces();
     let parts = parts_of(alloc, instances, names, permissions)?;
     let walk = counted_by(alloc, &*instances, parts.as_slice(), names.entries())?;
     Ok(Counted {
@@ -142,8 +140,6 @@ pub fn check<'r, 'a>(
     ensures { IfOk result (λ b. IsTrue b ↔ IsRight (items_in instances.now) (is_in chosen.now.enabled) chosen.now.reasons.items) }
 {
     resolves_by_candidates();
-    instances.are_nested();
-    instances.namespaces();
     let parts = parts_of(alloc, instances, names, permissions)?;
     let right = is_shown(alloc, parts.as_slice(), names.entries(), chosen)?;
     Ok(right)

@@ -42,7 +42,7 @@ pub(crate) fn guess_by(alloc: Global, parts: &[Part], entries: &[Entry]) -> Resu
     };
     graph.add_statements(parts)?;
     graph.add_entries(parts.len(), entries)?;
-    graph.add_all_words(parts)?;
+    graph.add_all_words(parts, entries)?;
     let Graph { edges, need, words } = graph;
     let Settled { order, lookups } = settled(alloc, edges, need)?;
     let first_word = parts.len().saturating_add(entries.len());
@@ -60,9 +60,9 @@ pub struct Walk {
     pub lookups: usize,
 }
 
-/// Optionals, entries and words as nodes: a node for each statement, then for each entry, then for each word in an optional. An
-/// optional goes out with its parent or with a word, an entry with all statements that declare it, and a word with all entries
-/// that it could name.
+/// Optionals, entries and words as nodes: a node for each statement, then for each entry, then for words in optionals. An optional
+/// goes out with its parent or with a word, an entry with all statements that declare it, and a word with all entries that it
+/// could name. Most words could name only entries that stay, whatever is left out. They have no node, so that the graph is small.
 #[derive(Drop)]
 struct Graph {
     edges: Vec<Edge>,
@@ -116,10 +116,10 @@ impl Graph {
         Ok(())
     }
 
-    fn add_all_words(&mut self, parts: &[Part]) -> Result<(), NoMemory> {
+    fn add_all_words(&mut self, parts: &[Part], entries: &[Entry]) -> Result<(), NoMemory> {
         for instance in 0..parts.len() {
             if let Some(optional) = parts[instance].inside {
-                self.add_words(optional, instance, &parts[instance], parts.len())?;
+                self.add_words(optional, instance, parts, entries)?;
             }
         }
         Ok(())
@@ -129,37 +129,57 @@ impl Graph {
         &mut self,
         optional: usize,
         instance: usize,
-        part: &Part,
-        first_entry: usize,
+        parts: &[Part],
+        entries: &[Entry],
     ) -> Result<(), NoMemory> {
+        let Some(part) = parts.get(instance) else {
+            return Ok(());
+        };
         for word in 0..part.asked.len() {
-            self.add_word(
-                OwnWord {
+            let candidates = part.asked.row(word);
+            if !all_stay(entries, candidates) {
+                let own = OwnWord {
                     optional,
                     instance,
                     word,
-                },
-                part.asked.row(word),
-                first_entry,
-            )?;
+                };
+                self.add_word(own, candidates, parts.len(), entries)?;
+            }
         }
         Ok(())
     }
 
+    /// Adds a word that needs a node. It loses an entry less than it could name for each that stays, so it stays with that entry.
     fn add_word(
         &mut self,
         word: OwnWord,
         candidates: &[usize],
         first_entry: usize,
+        entries: &[Entry],
     ) -> Result<(), NoMemory> {
         let node = self.need.len();
         self.need.push(candidates.len())?;
         self.words.push(word)?;
         self.edge(node, word.optional, false)?;
         for entry in candidates {
-            self.edge(first_entry.saturating_add(*entry), node, true)?;
+            if !stays(entries, *entry) {
+                self.edge(first_entry.saturating_add(*entry), node, true)?;
+            }
         }
         Ok(())
+    }
+}
+
+/// Whether a word could name something, and only entries that stay: then it stays too, and no look-up of it is counted.
+fn all_stay(entries: &[Entry], candidates: &[usize]) -> bool {
+    !candidates.is_empty() && candidates.iter().all(|entry| stays(entries, *entry))
+}
+
+/// Whether the entry of this number is declared whatever is left out.
+fn stays(entries: &[Entry], number: usize) -> bool {
+    match entries.get(number) {
+        Some(entry) => entry.always,
+        None => false,
     }
 }
 

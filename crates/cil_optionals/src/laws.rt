@@ -68,8 +68,6 @@ pub fn greatest_in_rounds<'r, 'a>(
     right_is_greatest();
     one_greatest();
     resolves_by_candidates();
-    instances.are_nested();
-    instances.namespaces();
     let parts = parts_of(alloc, instances, names, permissions)?;
     let chosen = by_removal(alloc, parts.as_slice(), names.entries())?;
     Ok(chosen)

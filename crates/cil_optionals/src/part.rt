@@ -1,12 +1,12 @@
 //! What the choice of optionals goes by: for each statement whether it is an optional, the optional round it, and what its words
 //! could name.
 
-ghost use Rattle.std.specs.Prelude.{◌≡◌, ◌<◌, IfOk, OnOk, cond, is_some, length, map, IsTrue};
+ghost use Rattle.std.specs.Prelude.{◌≡◌, ◌<◌, IfOk, length};
 ghost use Rattle.cil_blocks.specs.Contents.{is_optional as is_optional_keyword};
 ghost use Rattle.cil_macros.specs.Items.{item_at, items_in, namespaces_in};
 ghost use Rattle.cil_names.specs.Entries.{AreEntries};
 ghost use Rattle.cil_names.specs.Unresolved.{ArePermissions};
-ghost use Rattle.cil_optionals.specs.Parts.{asked_by, is_inside, is_optional_part, is_outside, lacks, part_of};
+ghost use Rattle.cil_optionals.specs.Parts.{ArePartsOf, asked_by, is_optional_part, part_of};
 
 use cil_blocks::names::is_optional;
 use cil_macros::Instances;
@@ -35,8 +35,10 @@ pub fn parts_of<'r, 'a>(
 ) -> Result<Vec<Part>, NoMemory>
     requires entries { AreEntries (namespaces_in instances.now) (items_in instances.now) names.now }
     requires permissions { ArePermissions (namespaces_in instances.now) names.now (items_in instances.now) permissions.now }
-    ensures { IfOk result (λ parts. parts.items ≡ map (part_of (namespaces_in instances.now) names.now (items_in instances.now)) (items_in instances.now)) }
+    ensures { IfOk result (λ parts. ArePartsOf (namespaces_in instances.now) names.now (items_in instances.now) parts.items) }
 {
+    instances.are_nested();
+    instances.namespaces();
     let mut parts = Vec::new(alloc);
     for at in 0..instances.len() {
         parts.push(part_at(alloc, instances, names, permissions, at)?)?;

@@ -1,7 +1,7 @@
 //! The greatest set of optionals by removal: an optional for which there is a reason is taken out, until there is none. It costs
 //! a pass over the words of all optionals for each turn, and there may be as many turns as optionals.
 
-ghost use Rattle.std.specs.Prelude.{◌≡◌, [], IfOk, MatchOption, OnOk, length, slice_get, Some, true, map, set, false, ◌++◌, ◌∷◌};
+ghost use Rattle.std.specs.Prelude.{◌≡◌, IfOk, MatchOption, OnOk, length, Some, true, map, set, false};
 ghost use Rattle.std.specs.List.{list_all};
 ghost use Rattle.cil_names.specs.Entries.{is_in};
 ghost use Rattle.cil_optionals.specs.Certificate.{left_out};

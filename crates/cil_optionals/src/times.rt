@@ -1,7 +1,7 @@
 //! For how many steps each optional and each declared name is there, while the optionals of some reasons are taken out one by one.
 //! An optional that stays is there for one step more than there are reasons, and what is no optional for none.
 
-ghost use Rattle.std.specs.Prelude.{◌≡◌, ◌<◌, ℕ, IfOk, cond, get_or, length, ltb, map, max};
+ghost use Rattle.std.specs.Prelude.{◌≡◌, ◌<◌, ℕ, IfOk, cond, get_or, ltb, map, max};
 ghost use Rattle.std.specs.List.{list_all, list_any};
 ghost use Rattle.cil_names.specs.Entries.{is_declared_in};
 ghost use Rattle.cil_optionals.specs.Times.{AreEntryTimes, AreTimes, after, names_after, noted};

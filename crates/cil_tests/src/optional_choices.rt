@@ -468,6 +468,24 @@ const PICKED: &[(&str, u64, u64)] = &[
         2,
         4,
     ),
+    // A nearer name that is out, behind which one stays: the type `b.x`, and the word, which goes on to name `x`.
+    (
+        "(block b (optional o (type x)(roletype .r nobody))(optional p (roletype .r x)))(type x)",
+        1,
+        2,
+    ),
+    // The same where the one behind it is out too: two types `x`, and the word for each.
+    (
+        "(block b (optional o (type x)(roletype .r nobody))(optional p (roletype .r x)))(optional q (type x)(roletype r nobody))",
+        3,
+        4,
+    ),
+    // The same where the one behind it is in an optional that is in: the type `b.x`, and the word.
+    (
+        "(block b (optional o (type x)(roletype .r nobody))(optional p (roletype .r x)))(optional q (type x))",
+        1,
+        2,
+    ),
     // Three in a ring, of which one has a name that is missing.
     (
         "(optional o (type x)(roletype r y))(optional p (type y)(roletype r z))(optional q (type z)(roletype r x)(roletype r nobody))",

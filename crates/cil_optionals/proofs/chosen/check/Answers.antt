@@ -1,7 +1,6 @@
 use Rattle.std.specs.Prelude.{List}
-use Rattle.std.proofs.Common.{subst, sym, ◌∙◌}
+use Rattle.std.proofs.Common.{subst, sym}
 use Rattle.cil_macros.specs.Items.{items_in, namespaces_in}
-use Rattle.cil_blocks.specs.Namespaces.{AreNamespaces}
 use Rattle.cil_names.specs.declared.entry.Entry.{Entry}
 use Rattle.cil_names.specs.Entries.{is_in}
 use Rattle.cil_optionals.specs.Parts.{ArePartsOf, IsShown}
@@ -15,12 +14,7 @@ returns c =
     let ps = c.as_slice.result.now in
     let enabled = is_in c.args.chosen.now.enabled in
     let reasons = c.args.chosen.now.reasons.items in
-    let of : ArePartsOf (namespaces_in i) es (items_in i) ps = record {
-      namespaces = subst AreNamespaces c.namespaces.ensures.value c.namespaces.ensures.once;
-      entries = c.requires.entries;
-      nested = c.are_nested.ensures.nested;
-      parts = c.as_slice.ensures.value ∙ c.in_ok-parts.ensures;
-    } in
+    let of : ArePartsOf (namespaces_in i) es (items_in i) ps = subst (ArePartsOf (namespaces_in i) es (items_in i)) (sym c.as_slice.ensures.value) c.in_ok-parts.ensures in
     let law = c.resolves_by_candidates.ensures in (
       λ yes_it_is. shown_right law (namespaces_in i) es (items_in i) ps of enabled reasons
           (subst (λ (l : List Entry). IsShown ps l enabled reasons) c.entries.ensures.value (c.in_ok-right.ensures.0 yes_it_is)),

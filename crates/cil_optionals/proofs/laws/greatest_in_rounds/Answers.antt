@@ -1,7 +1,6 @@
 use Rattle.std.specs.Prelude.{List}
-use Rattle.std.proofs.Common.{subst, ◌∙◌}
+use Rattle.std.proofs.Common.{subst, sym}
 use Rattle.cil_macros.specs.Items.{items_in, namespaces_in}
-use Rattle.cil_blocks.specs.Namespaces.{AreNamespaces}
 use Rattle.cil_names.specs.declared.entry.Entry.{Entry}
 use Rattle.cil_names.specs.Entries.{is_in}
 use Rattle.cil_optionals.specs.Parts.{ArePartsOf, IsShown}
@@ -12,12 +11,7 @@ pub returns-clause-right : goal.returns-clause-right
 returns-clause-right c =
     let i = c.args.instances.now in
     let es = c.args.names.now in
-    let of : ArePartsOf (namespaces_in i) es (items_in i) c.as_slice.result.now = record {
-      namespaces = subst AreNamespaces c.namespaces.ensures.value c.namespaces.ensures.once;
-      entries = c.requires.entries;
-      nested = c.are_nested.ensures.nested;
-      parts = c.as_slice.ensures.value ∙ c.in_ok-parts.ensures;
-    } in
+    let of : ArePartsOf (namespaces_in i) es (items_in i) c.as_slice.result.now = subst (ArePartsOf (namespaces_in i) es (items_in i)) (sym c.as_slice.ensures.value) c.in_ok-parts.ensures in
     shown_right c.resolves_by_candidates.ensures (namespaces_in i) es (items_in i) c.as_slice.result.now of (is_in c.in_ok-chosen.chosen.enabled) c.in_ok-chosen.chosen.reasons.items
     (subst (λ (l : List Entry). IsShown c.as_slice.result.now l (is_in c.in_ok-chosen.chosen.enabled) c.in_ok-chosen.chosen.reasons.items) c.entries.ensures.value c.in_ok-chosen.ensures)
 
