@@ -8,6 +8,7 @@ pub mod Entries
 pub mod Faults
 pub mod Found
 pub mod Judging
+pub mod LastScopes
 pub mod Laws
 pub mod Meanings
 pub mod Numbers

@@ -11,18 +11,19 @@ ghost use Rattle.cil_macros.specs.Items.{all_placed, item_at, items_in, namespac
 ghost use Rattle.cil_macros.specs.Walks.{IsScope};
 ghost use Rattle.cil_names.specs.Entries.{AreEntries, AreOrdered, is_declared_in, is_in};
 ghost use Rattle.cil_names.specs.Faults.{ResolveFault};
+ghost use Rattle.cil_names.specs.LastScopes.{IsLast};
 ghost use Rattle.cil_names.specs.Meanings.{meanings};
 ghost use Rattle.cil_names.specs.Rows.{IsTableOf};
 ghost use Rattle.cil_names.specs.Unresolved.{ArePermissions, faults_in};
 ghost use Rattle.cil_names.specs.Worded.{AreWorded};
 
 use crate::judge::Judge;
+use crate::last_scope::LastScope;
 use crate::look::flags_of;
 use crate::meaning::Meaning;
 use crate::reading::Reading;
 use crate::table::{Filling, Lookup, Words};
 use crate::worded::{is_worded_at, worded};
-use cil_blocks::ScopeList;
 use cil_macros::Instances;
 use cil_modset::NoMemory;
 use cil_syntax::{Bytes, Failure, Fault, refuse};
@@ -30,7 +31,7 @@ use std::alloc::Global;
 
 /// The table of the words of all that is placed; or, where words of statements outside all optionals name nothing, their
 /// faults. Permissions are given as a list in byte order for each entry that is a class. Each word costs one look-up; which
-/// names are declared is found once. A scope is filled for each instance of a statement that has words.
+/// names are declared is found once. A scope is filled for each run of instances that have words and stand beside one another.
 ///
 /// Errors: the faults, or out of memory.
 pub fn words_of<'a>(
@@ -58,10 +59,10 @@ pub fn words_of<'a>(
     let mut starts = Vec::with_capacity(alloc, instances.len().saturating_add(1))?;
     let mut words = Vec::new(alloc);
     let mut faults = Vec::new(alloc);
-    let mut scope = ScopeList::new(alloc);
+    let mut last = LastScope::new(alloc);
     for at in 0..instances.len() {
         starts.push(words.len())?;
-        check.instance(&mut words, &mut faults, &mut scope, at)?;
+        check.instance(&mut words, &mut faults, &mut last, at)?;
     }
     starts.push(words.len())?;
     refuse(faults)?;
@@ -82,12 +83,12 @@ struct Check<'r, 's, 'p, 'a> {
 
 impl<'r, 's, 'p, 'a> Check<'r, 's, 'p, 'a> {
     /// Notes what the words of the statement at a place mean, and reports those that name nothing where it is in no optional.
-    /// It fills a scope only where there are words.
+    /// It needs a scope only where there are words.
     fn instance(
         &self,
         words: &mut Vec<Meaning>,
         faults: &mut Vec<Fault>,
-        scope: &mut ScopeList,
+        last: &mut LastScope,
         at: usize,
     ) -> Result<(), NoMemory>
         requires spaces { self.now.lookup.spaces.now ≡ namespaces_in self.now.instances.now }
@@ -95,17 +96,19 @@ impl<'r, 's, 'p, 'a> Check<'r, 's, 'p, 'a> {
         requires declared { self.now.declared.now ≡ map (is_declared_in (is_in self.now.lookup.enabled.now)) self.now.lookup.names.now }
         requires rising { (v : Vector Text) → Contains self.now.permissions.now v → IsStrictlySortedBy text_cmp v.items }
         requires worded { AreWorded self.now.instances.now self.now.worded.now }
+        requires last { IsLast self.now.instances.now last.old }
         requires within { at < length (items_in self.now.instances.now) }
         ensures words { OnOk result (words.new.items ≡ words.old.items ++ meanings self.now.lookup.spaces.now self.now.lookup.names.now (is_in self.now.lookup.enabled.now) (item_at self.now.instances.now at)) }
         ensures faults { OnOk result ((xs : List Item) → AreEntries self.now.lookup.spaces.now xs self.now.lookup.names.now
             → ArePermissions self.now.lookup.spaces.now self.now.lookup.names.now xs self.now.permissions.now
             → faults.new.items ≡ faults.old.items ++ faults_in xs (is_in self.now.lookup.enabled.now) (item_at self.now.instances.now at)) }
+        ensures last { OnOk result (IsLast self.now.instances.now last.new) }
     {
         if !is_worded_at(self.worded, self.instances, at) {
             return Ok(());
         }
-        self.instances.scope_into(self.alloc, Some(at), scope)?;
-        self.in_scope(words, faults, at, scope.as_slice())?;
+        last.fill(self.alloc, self.instances, at)?;
+        self.in_scope(words, faults, at, last.scope.as_slice())?;
         Ok(())
     }
 

@@ -18,6 +18,7 @@ mod fill;
 mod gather;
 mod judge;
 mod kinds;
+mod last_scope;
 pub mod laws;
 mod listing;
 mod look;

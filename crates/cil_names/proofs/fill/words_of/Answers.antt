@@ -27,6 +27,7 @@ loop-at-preserved c =
           c.instance.new.words.items c.in_ok-instance.ensures.words),
       told_on (faults_in xs s) xs at x within (item_got c.args.instances.now at within x) c.loop-at.faults.items c.instance.new.faults.items _ c.loop-at.invariant.1
           (c.in_ok-instance.ensures.faults xs c.requires.entries c.requires.permissions),
+      c.in_ok-instance.ensures.last,
     )
 
 pub returns-in_err-refuse : goal.returns-in_err-refuse
