@@ -1,6 +1,6 @@
 -- The replies of requests, as steps of the model host.
 use Rattle.std.specs.Prelude.{Result, Ok, Err, codes, length, map}
-use Rattle.std.proofs.Common.{◌≡◌, ℕ, List, ◌++◌, sym, subst}
+use Rattle.std.proofs.Common.{None, ◌≡◌, ℕ, List, ◌++◌, sym, subst}
 use Rattle.cil_modset.specs.Bundle.{bundle}
 use Rattle.cil_syntax.specs.declared.failure.Failure.{Failure}
 use Rattle.cil_syntax.specs.declared.failure.Failure.TheVariants as failures
