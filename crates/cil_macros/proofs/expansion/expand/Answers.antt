@@ -58,3 +58,33 @@ returns c =
           (placed_few s cs (is_some _ c.in_ok-brought.field-0 c.in-Some.brought c.in-Some.is c.in_ok-brought.ensures.few))
           (no_fault (written_in s) (all_standing s) (placed_in s cs) placed c.in_ok-faults.faults.items c.in_ok-faults.ensures (c.in_default-of.ensures.none.0 refl)),
     )
+
+pub returns-in_err-macros : goal.returns-in_err-macros
+returns-in_err-macros c =
+    let s = c.args.spaces.now in
+    refused (λ (i : Standings × List Called). i.0 ≡ s) (ExpandStep (written_in s) (all_standing s)) c.from_residual.result _ c.from_residual.ensures.1 tt
+
+pub returns-in_err-parts : goal.returns-in_err-parts
+returns-in_err-parts c =
+    let s = c.args.spaces.now in
+    refused (λ (i : Standings × List Called). i.0 ≡ s) (ExpandStep (written_in s) (all_standing s)) c.from_residual-in_err-parts.result _ c.from_residual-in_err-parts.ensures.1 tt
+
+pub returns-in_err-brought : goal.returns-in_err-brought
+returns-in_err-brought c =
+    let s = c.args.spaces.now in
+    refused (λ (i : Standings × List Called). i.0 ≡ s) (ExpandStep (written_in s) (all_standing s)) c.from_residual-in_err-brought.result _ c.from_residual-in_err-brought.ensures.1 tt
+
+pub returns-in_err-faults : goal.returns-in_err-faults
+returns-in_err-faults c =
+    let s = c.args.spaces.now in
+    refused (λ (i : Standings × List Called). i.0 ≡ s) (ExpandStep (written_in s) (all_standing s)) c.from_residual-in_err-faults.result _ c.from_residual-in_err-faults.ensures.1 tt
+
+pub returns-in_err-declared : goal.returns-in_err-declared
+returns-in_err-declared c =
+    let s = c.args.spaces.now in
+    refused (λ (i : Standings × List Called). i.0 ≡ s) (ExpandStep (written_in s) (all_standing s)) c.from_residual-in_err-declared.result _ c.from_residual-in_err-declared.ensures.1 tt
+
+pub returns-in_err-innermost : goal.returns-in_err-innermost
+returns-in_err-innermost c =
+    let s = c.args.spaces.now in
+    refused (λ (i : Standings × List Called). i.0 ≡ s) (ExpandStep (written_in s) (all_standing s)) c.from_residual-in_err-innermost.result _ c.from_residual-in_err-innermost.ensures.1 tt
