@@ -27,7 +27,7 @@ use Rattle.cil_names.specs.Asked.{wanted_by}
 use Rattle.cil_names.specs.Resolves.{Wanted, Word as AWord, Permission as APermission, all_wanted_in, told_at, told_word, wanted_in, words_of, words_of_class}
 use Rattle.cil_names.specs.Unresolved.{term_with, terms_with}
 use Rattle.cil_names.proofs.ReadingLemmas.{none_wanted}
-use Rattle.cil_names.proofs.UnresolvedLemmas.{more_words, no_words, scoped_form, scoped_leaf, scoped_name}
+use Rattle.cil_names.proofs.UnresolvedLemmas.{scoped_form, scoped_leaf, scoped_name}
 
 -- one more, mapped
 pub one_pushed : {X Y : Type 0} (g : X → Y) (old new : List X) (x : X) → new ≡ old ++ x ∷ [] → map g new ≡ map g old ++ g x ∷ []

@@ -8,23 +8,26 @@ use Rattle.std.specs.Option.{option_map, unwrap_or}
 use Rattle.std.specs.Ordering.{on}
 use Rattle.std.specs.Global.{Vec}
 use Rattle.std.proofs.Common.{◌≡◌, ℕ, Bool, true, false, ◌||◌, List, [], ◌∷◌, ◌++◌, map, length, refl, sym, ◌∙◌, ap, subst, inl, inr}
-use Rattle.std.proofs.lemmas.Option.{slice_get-map}
-use Rattle.cil_sexpr.specs.Lists.{contains_cases, contains_none}
-use Rattle.cil_sexpr.specs.MadeLists.{contains_map, from_flat}
+use Rattle.std.proofs.lemmas.Option.{same_Some, slice_get-map}
+use Rattle.cil_sexpr.specs.Lists.{contains_cases, contains_here, contains_none}
+use Rattle.cil_sexpr.specs.MadeLists.{contains_flat, contains_map, from_flat}
 use Rattle.cil_sexpr.specs.Searches.{any_from, any_map, any_true}
 use Rattle.cil_sexpr.specs.Places.{get_at, get_contains, never_cons}
 use Rattle.cil_names.specs.declared.entry.Entry.{Entry}
 use Rattle.cil_names.specs.declared.row.Row.{Row}
 use Rattle.cil_names.specs.declared.run.Run.{Run}
 use Rattle.cil_macros.specs.Items.{Kept, item_at, items_in, namespaces_in}
-use Rattle.cil_names.specs.Declarations.{Declaration, IsDeclaration}
+use Rattle.cil_names.specs.Declarations.{Declaration, IsDeclaration, declared_by}
 use Rattle.cil_names.specs.DeclareRows.{IsRow, declaration_of, is_row_enabled, round_at}
 use Rattle.cil_names.specs.DeclareRuns.{Said, entry_of_run, is_always, has_none, listed_unless, rounds_by, run_key, said_by}
-use Rattle.cil_names.specs.Entries.{AreEntries, AreRounds, IsEntryFor, IsRoundOf, Key, is_declared_in, key_cmp, key_of, rank}
-use Rattle.cil_macros.specs.Item.{OptSet, everybody}
+use Rattle.cil_names.specs.Entries.{AreEntries, AreOrdered, AreRounds, IsEntryFor, KeepRounds, IsRoundOf, Key, is_declared_in, key_cmp, key_of, rank}
+use Rattle.cil_macros.specs.Item.{Item, OptSet, everybody}
 use Rattle.cil_blocks.specs.Namespaces.{space_at}
 use Rattle.cil_names.proofs.DeclareFaults.{alike_of, all_enabled, one_name_space}
-use Rattle.cil_names.proofs.DeclareDone.{AreRunsOf, declared_row, is_row, item_within, row_at, row_declared, run_of, space_within}
+use Rattle.cil_blocks.proofs.NamespaceLemmas.{same_number}
+use Rattle.cil_names.proofs.OrderLemmas.{key_total, one_key}
+use Rattle.cil_names.proofs.SearchLemmas.{one_number}
+use Rattle.cil_names.proofs.DeclareDone.{AreRunsOf, declared_row, is_row, item_within, place_of, row_at, row_declared, run_of, space_within}
 use Rattle.cil_names.proofs.DeclareRowLemmas.{of_macro}
 
 -- ---- where an entry is declared
@@ -97,16 +100,14 @@ unfolding IsStrictlySortedBy
 unmap_rises f order [] up = tt
 unmap_rises f order (x ∷ xs) up = (below_unmap f order (f x) xs up.0, unmap_rises f order xs up.1)
 
-key_said : Said → Key
+abbrev key_said : Said → Key
 key_said z = record { space = z.space; name = z.name; rank = rank z.kind }
 
 keys_said : (es : List Entry) → map key_of es ≡ map key_said (map said_by es)
-unfolding key_said
 keys_said [] = refl
 keys_said (e ∷ es) = ap (λ z. key_of e ∷ z) (keys_said es)
 
 keys_run : (kept : Kept) (runs : List Run) → map run_key runs ≡ map key_said (map (entry_of_run kept) runs)
-unfolding key_said
 keys_run kept [] = refl
 keys_run kept (run ∷ runs) = ap (λ z. run_key run ∷ z) (keys_run kept runs)
 
@@ -128,6 +129,43 @@ listed_round (o ∷ os) other c =
 round_there : (i : Kept) (r : Row) → IsRow i r → (at : Option ℕ) → r.at ≡ at → (round : List ℕ) → round_at i at ≡ round → (round ≡ [] → ⊥) → IsRoundOf (items_in i) round
 round_there i r is None e round same some = absurd (some (sym same))
 round_there i r is (Some k) e round same some = (item_at i k, item_within i k (row_at i r is k e).within, same, some)
+
+-- ---- the optionals that entries keep
+
+listed_there : (round : List ℕ) → (round ≡ [] → ⊥) → Contains (listed_unless (has_none round) round) round
+listed_there [] some = absurd (some refl)
+listed_there (o ∷ os) some = contains_here (o ∷ os) []
+
+module _ (i : Kept) (rows : List Row) (runs : List Run) (of : AreRunsOf i rows runs) (es : List Entry) (says : map said_by es ≡ map (entry_of_run i) runs)
+    (ordered : AreOrdered (namespaces_in i) es) where
+  -- runs of one key are one
+  one_run : (a b : Run) → Contains runs a → Contains runs b → run_key a ≡ run_key b → a ≡ b
+  one_run a b ca cb same =
+      let (m, below_m, at_m) = get_at runs a ca in
+      let (n, below_n, at_n) = get_at runs b cb in
+      same_Some a b (sym at_m ∙ ap (slice_get runs) (one_number run_key key_cmp key_total one_key runs m n a b of.are.rising at_m at_n same) ∙ at_n)
+
+  pub keep_rounds : KeepRounds (namespaces_in i) (items_in i) es
+  unfolding rounds_by
+  keep_rounds = λ n e at x d cx cd is some.
+      let ss = namespaces_in i in
+      let (k, below, same) = place_of i x cx in
+      let (r, in_rows, row, says_d) = of.all.all k below d (subst (λ (y : Item). Contains (declared_by y) d) (sym same) cd) in
+      let (run, in_runs, said) = run_for i es runs says n e at in
+      let (other, in_others, in_other) = run_of i rows runs of r in_rows in
+      let space : r.space ≡ e.space =
+      same_number ss of.spaces (space_at ss e.space) r.space e.space
+      (record { within = space_within i r (of.all.each r in_rows); is = ap (λ (z : Declaration). z.space) says_d ∙ is.space })
+      (record { within = ordered.within e (get_contains es n e at); is = refl }) in
+      let name : r.name ≡ e.name = ap (λ (z : Declaration). z.name) says_d ∙ is.name in
+      let of_rank : rank r.kind ≡ rank e.kind = ap (λ (z : Declaration). rank z.kind) says_d ∙ is.rank in
+      let keys : run_key other ≡ run_key run =
+      sym ((of.are.each other in_others).same r in_other) ∙ (λ j. record { space = space j; name = name j; rank = of_rank j }) ∙ ap key_said said in
+      let in_run : Contains run.rows.now r = subst (λ (z : Run). Contains z.rows.now r) (one_run other run in_others in_runs keys) in_other in
+      let round : round_at i r.at ≡ x.round = ap (round_at i) row.at ∙ ap (λ (y : Item). y.round) same in
+      subst (λ (z : Said). Contains z.rounds x.round) (sym said)
+      (contains_flat (rounds_by i) run.rows.now r x.round in_run
+      (subst (λ (l : List ℕ). Contains (listed_unless (has_none l) l) x.round) (sym round) (listed_there x.round some)))
 
 -- ---- the entries are the declared names
 
@@ -215,4 +253,5 @@ module _ (i : Kept) (rows : List Row) (runs : List Run) (of : AreRunsOf i rows r
     only = named_only;
     rounds = named_rounds;
     used = named_used;
+    kept = keep_rounds i rows runs of es says (record { rising = entries_rise i es runs says of.are.rising; within = stands_within });
   }

@@ -9,7 +9,6 @@ use Rattle.cil_syntax.specs.declared.program.Statement.{Statement as Kept-statem
 use Rattle.cil_syntax.specs.declared.term.LookedUp.{LookedUp}
 use Rattle.cil_syntax.specs.declared.term.Op.{Op}
 use Rattle.cil_syntax.specs.declared.term.Term as rust
-use Rattle.cil_syntax.specs.declared.term.Word.{Word}
 use Rattle.cil_syntax.specs.Program.{program_of, said_by_program, statement_of}
 use Rattle.cil_syntax.specs.Said.{all_said, said_of}
 use Rattle.cil_syntax.specs.Written.{Statement, Written}

@@ -17,7 +17,7 @@ use Rattle.cil_names.specs.declared.entry.Entry.{Entry}
 use Rattle.cil_names.specs.declared.look.Known.{Known}
 use Rattle.cil_names.specs.declared.look.Known.TheVariants as known
 use Rattle.cil_blocks.specs.declared.namespaces.Space.{Space}
-use Rattle.cil_names.specs.Declarations.{Declaration, IsDeclaration, NameSpace, of_types, of_roles, of_users, of_classes, of_blocks, name_space}
+use Rattle.cil_names.specs.Declarations.{Declaration, IsDeclaration, NameSpace, declared_by, of_types, of_roles, of_users, of_classes, of_blocks, name_space}
 use Rattle.cil_macros.specs.Item.{Item, OptSet, everybody}
 use Rattle.cil_names.specs.Resolves.{found_in}
 use Rattle.cil_syntax.specs.Kinds.{is_wanted}
@@ -144,8 +144,20 @@ IsRoundOf xs round = (x : Item) × Contains xs x × (x.round ≡ round) × (roun
 abbrev pub AreRounds : List Item → List Entry → Type 0
 AreRounds xs es = (e : Entry) (r : Vec ℕ) → Contains es e → Contains e.rounds.items r → IsRoundOf xs r.items
 
+-- the declaration is of the name of an entry, in its namespace and name space
+pub record IsOf (ss : List Space) (e : Entry) (d : Declaration) : Type 0 where
+  pub space : d.space ≡ space_at ss e.space
+  pub name : d.name ≡ e.name
+  pub rank : rank d.kind ≡ rank e.kind
+
+-- an entry keeps the optionals round each item that declares it in some, also where others imply them
+abbrev pub KeepRounds : List Space → List Item → List Entry → Type 0
+KeepRounds ss xs es = (i : ℕ) (e : Entry) → slice_get es i ≡ Some e → (x : Item) (d : Declaration) → Contains xs x → Contains (declared_by x) d → IsOf ss e d
+    → (x.round ≡ [] → ⊥) → Contains (map (λ (r : Vec ℕ). r.items) e.rounds.items) x.round
+
 -- the entries are the declarations of the items, whatever is enabled: each declaration has one, each that is declared
--- has a declaration, the optionals that they name are those round items, and each is declared where all are enabled
+-- has a declaration, the optionals that they name are those round items, each is declared where all are enabled, and it
+-- keeps the optionals round each of its declarations
 pub record AreEntries (ss : List Space) (xs : List Item) (es : List Entry) : Type 0 where
   pub ordered : AreOrdered ss es
   pub each : (s : OptSet) (d : Declaration) → IsDeclaration xs s d → (i : ℕ) × IsEntryFor ss es s d.kind d.space d.name i
@@ -153,6 +165,7 @@ pub record AreEntries (ss : List Space) (xs : List Item) (es : List Entry) : Typ
       → (d : Declaration) × IsDeclaration xs s d × (d.kind ≡ e.kind) × (d.space ≡ space_at ss e.space) × (d.name ≡ e.name)
   pub rounds : AreRounds xs es
   pub used : (i : ℕ) (e : Entry) → slice_get es i ≡ Some e → is_declared_in everybody e ≡ true
+  pub kept : KeepRounds ss xs es
 
 -- the word names this entry: it is declared, of a wanted kind, and has the name of the word in the namespace in which
 -- the word is found

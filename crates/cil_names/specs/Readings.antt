@@ -4,9 +4,8 @@ use Rattle.cil_syntax.specs.declared.term.Word.{Word}
 use Rattle.cil_syntax.specs.Program.{statement_of}
 use Rattle.cil_syntax.specs.Scopes.{ScopedWord}
 use Rattle.cil_macros.specs.declared.placed_word.PlacedWord.{PlacedWord}
-use Rattle.cil_macros.specs.Item.{Item, OptSet, all_words_in}
+use Rattle.cil_macros.specs.Item.{Item, OptSet}
 use Rattle.cil_macros.specs.Items.{all_placed, item_at, items_in, namespaces_in, placed_at, scope_by, scoped_by, word_at}
-use Rattle.cil_macros.specs.Placed.{Placed}
 use Rattle.cil_macros.specs.Walks.{IsScope}
 use Rattle.cil_names.specs.declared.reading.Reading.{Reading}
 use Rattle.cil_names.specs.declared.reading.ScopeNumbers.{ScopeNumbers}

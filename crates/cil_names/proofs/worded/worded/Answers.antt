@@ -1,4 +1,3 @@
-use Rattle.std.proofs.Common.{◌∙◌}
 use Rattle.cil_syntax.specs.Program.{statement_of}
 use Rattle.cil_names.specs.Worded.{is_worded}
 use Rattle.cil_names.proofs.WordedLemmas.{one_flag}

@@ -1,4 +1,4 @@
-use Rattle.std.proofs.Common.{◌++◌, ◌∷◌, [], ◌∙◌, ap, map, rules, sym}
+use Rattle.std.proofs.Common.{◌++◌, ◌∷◌, [], ◌∙◌, ap, rules, sym}
 use Rattle.std.proofs.lemmas.Simd.{map-map}
 use Rattle.cil_sexpr.specs.MadeLists.{all_mapped, one_mapped}
 use Rattle.cil_macros.specs.declared.placed_word.PlacedWord.{PlacedWord}

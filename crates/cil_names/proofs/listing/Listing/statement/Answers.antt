@@ -1,4 +1,4 @@
-use Rattle.std.proofs.Common.{◌++◌, ◌∙◌, ap, map, sym}
+use Rattle.std.proofs.Common.{◌++◌, ◌∙◌, ap, map}
 use Rattle.std.specs.List.{flat_map}
 use Rattle.cil_macros.specs.Items.{all_placed}
 use Rattle.cil_names.specs.declared.asked.Asked.{Asked}
