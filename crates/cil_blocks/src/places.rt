@@ -1,7 +1,7 @@
 //! Where statements stand, by the numbers of namespaces. What one statement opens has one place, so a place is kept once for
 //! each run of entries that were opened by the same one, and the places of a flat policy take no memory. A place is kept as the
 //! step from the one before it, and its scope is computed when it is asked: a step for each place on the way, and a hash or two
-//! for each namespace in it. A blockinherit costs a hash, and once for each target a hash for each block round it.
+//! for each namespace in it. A blockinherit costs a hash, and each block round a target one more, once.
 
 ghost use Rattle.std.specs.Prelude.{◌≡◌, ◌≤◌, ◌<◌, ◌++◌, ◌∷◌, [], IfOk, IfSome, List, MatchOption, None, OnOk, Some, length, flat_map, reverse};
 ghost use Rattle.cil_syntax.specs.Program.{IsNested, program_of};
