@@ -18,7 +18,8 @@ use cil_settle::{Edge, Settled, settle, sort_edges};
 use cil_syntax::Bytes;
 use std::alloc::Global;
 
-/// A guess at the greatest set of optionals. Error: out of memory.
+/// A guess at the greatest set of optionals. It is public for tests, which ask whether it is right: where it was not, the choice
+/// would go the plain way, and only take longer. Error: out of memory.
 pub fn guess<'r, 'a>(
     alloc: Global,
     instances: &'r Instances<'_, '_, 'a>,

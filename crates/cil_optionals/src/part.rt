@@ -6,7 +6,7 @@ ghost use Rattle.cil_blocks.specs.Contents.{is_optional as is_optional_keyword};
 ghost use Rattle.cil_macros.specs.Items.{item_at, items_in, namespaces_in};
 ghost use Rattle.cil_names.specs.Entries.{AreEntries};
 ghost use Rattle.cil_names.specs.Unresolved.{ArePermissions};
-ghost use Rattle.cil_optionals.specs.Parts.{ArePartsOf, asked_by, is_optional_part, part_of};
+ghost use Rattle.cil_optionals.specs.Parts.{ArePartsOf, asked_by, part_of};
 
 use cil_blocks::names::is_optional;
 use cil_macros::Instances;
@@ -94,16 +94,6 @@ fn is_optional_there(instances: &Instances, at: usize) -> bool
 {
     match instances.statement_there(at) {
         Some(statement) => is_optional(statement.keyword),
-        None => false,
-    }
-}
-
-/// Whether the part of this number is that of an optional.
-pub fn is_optional_part(parts: &[Part], number: usize) -> bool
-    ensures { result ≡ is_optional_part parts.now number }
-{
-    match parts.get(number) {
-        Some(part) => part.optional,
         None => false,
     }
 }
