@@ -32,12 +32,7 @@ impl LastScope {
     }
 
     /// Fills the scope of the instance at a place, unless it is the one that is there. Error: out of memory.
-    pub fn fill(
-        &mut self,
-        alloc: Global,
-        instances: &Instances,
-        at: usize,
-    ) -> Result<(), NoMemory>
+    pub fn fill(&mut self, alloc: Global, instances: &Instances, at: usize) -> Result<(), NoMemory>
         requires last { IsLast instances.now self.old }
         requires within { at < length (items_in instances.now) }
         ensures filled { OnOk result (IsScope (namespaces_in instances.now) (scope_by (all_placed instances.now) (Some at)) self.new.scope) }
