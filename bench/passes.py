@@ -107,9 +107,9 @@ def main():
 
     two = Function(costs[placed], calls[placed])
     two.ends_with("declare", "gather::declare")
-    two.ends_before("permissions_of", "calls::scope_at")
-    # The last thing that is freed is what a statement asks for; its part is pushed then.
-    two.ends("parts_of", two.place("dealloc", last=True, before=two.place("quicksort")) + 1)
+    two.ends_with("permissions_of", "dealloc")
+    # The last thing that is freed is what a statement asks for.
+    two.ends("parts_of", two.place("dealloc", last=True, before=two.place("quicksort")))
     two.ends_before("guess: graph", "quicksort")
     two.ends_with("guess: sorting", "quicksort")
     two.ends_before("guess: settling", "counts::lookups_of")
