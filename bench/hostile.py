@@ -4,8 +4,9 @@
 usage: hostile.py [PROGRAM] [--seconds N] [--gigabytes N] [FORM [SIZE]]
 
 Each form is a kind of text, made for one pass of the program or for one limit. `hostile.py FORM SIZE` runs the program
-on that form, and prints the form, its size, the bytes of its requests, the seconds that the run took, the most memory
-that the program held at once, how many bytes it replied, and the first line that is no reply to an INSTALL.
+on that form, and prints the form, its size, the bytes of its requests, the seconds that the run took, the seconds of
+these in which the processor ran the program, the most memory that the program held at once, how many bytes it replied,
+and the first line that is no reply to an INSTALL.
 Without a size it is the full size of the form, and without a form all forms are run at their full sizes, one after the
 other. A run ends after N seconds (120) and has an address space of N gigabytes (10).
 
@@ -630,8 +631,8 @@ def run(program, name, size, seconds, gigabytes):
         child.returncode = 0
         wall = time.monotonic() - start
         reply = first_line(replies)
-        print(f"{name:17} {size:9} {length:9} {wall:8.2f} {usage.ru_maxrss / 1000:8.0f} {replies.seek(0, 2):10}  "
-              f"{reply}{', ' * bool(how)}{how}", flush=True)
+        print(f"{name:17} {size:9} {length:9} {wall:8.2f} {usage.ru_utime + usage.ru_stime:8.2f} "
+              f"{usage.ru_maxrss / 1000:8.0f} {replies.seek(0, 2):10}  {reply}{', ' * bool(how)}{how}", flush=True)
 
 
 def main():
@@ -649,7 +650,7 @@ def main():
     if not os.path.exists(program):
         print(f"there is no program {os.path.normpath(program)}", file=sys.stderr)
         return 2
-    print(f"{'form':17} {'size':>9} {'bytes':>9} {'seconds':>8} {'peak MB':>8} {'replied':>10}  reply")
+    print(f"{'form':17} {'size':>9} {'bytes':>9} {'seconds':>8} {'cpu':>8} {'peak MB':>8} {'replied':>10}  reply")
     for name in words_[:1] or FORMS:
         size = int(words_[1]) if words_[1:] else FORMS[name][1]
         run(program, name, size, options["--seconds"], options["--gigabytes"])

@@ -107,7 +107,7 @@ def main():
 
     two = Function(costs[placed], calls[placed])
     two.ends_with("declare", "gather::declare")
-    two.ends_with("permissions_of", "Vec::dedup")
+    two.ends_with("permissions_of", "dealloc")
     # The last thing that is freed is what a statement asks for.
     two.ends("parts_of", two.place("dealloc", last=True, before=two.place("quicksort")))
     two.ends_before("guess: graph", "quicksort")
