@@ -14,8 +14,9 @@ abbrev pub IsOf : Option Written → Written → Type 0
 IsOf None w = w.context.under ≡ None
 IsOf (Some b) w = IsIn w b
 
--- a body gives its statements to a namespace: a text, or a block where it stands there. This is what Stands says without
--- chains: a namespace has the statements of a set of bodies, of which there are finitely many
+-- a body gives its statements to a namespace: a text, or a block where it stands there. This is what Stands says of
+-- blocks, macros and blockinherits, without chains: a namespace has the statements of a set of bodies, of which there are
+-- finitely many
 pub data Gives (ws : List Written) : Namespace → Option Written → Type 0 where
   texts : Gives ws [] None
   own : (n : Namespace) (body : Option Written) (b : Written) → Gives ws n body → Contains ws b → is_block b.statement.keyword ≡ true

@@ -144,6 +144,6 @@ pub data IsPlaced (ws : List Written) (ss : List Standing) : Placed → Type 0 w
   in_optional : (p : Placed) (b : Body) (w : Written) → IsPlaced ws ss p → p.body ≡ Some b → is_optional p.standing.statement.statement.keyword ≡ true
       → Contains ws w → IsIn w p.standing.statement → IsPlaced ws ss (placed_in_optional p w)
 
--- the order: what lies in fewer bodies first, and then by the statements through which it came
+-- the order: what lies in fewer bodies and optionals of bodies first, and then by the statements through which it came
 abbrev pub placed_cmp : Placed → Placed → Ordering
 placed_cmp = then_cmp (on (λ p. p.steps) nat_cmp) (on (λ p. p.standing.trail) path_cmp)

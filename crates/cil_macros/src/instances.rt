@@ -74,7 +74,7 @@ impl<'s, 'p, 'a> Instances<'s, 'p, 'a> {
         self.spaces
     }
 
-    /// What calls bring: by the number of calls round it, then by the statements through which it came.
+    /// What calls bring: by the number of calls and optionals of bodies round it, then by the statements through which it came.
     pub fn called(&self) -> &[Called]
         ensures same { result.now ≡ self.now.1 }
         ensures placed { Lists placed_cmp (IsPlaced (written_in self.now.0) (all_standing self.now.0)) (placed_in self.now.0 self.now.1) }

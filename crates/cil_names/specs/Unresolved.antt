@@ -1,4 +1,4 @@
--- The faults of words that name nothing, as lists. No other crate needs these words.
+-- The faults of words that name nothing, as lists.
 use Rattle.std.specs.Prelude.{◌≡◌, ℕ, Bool, true, false, ◌&&◌, not, if◌then◌else◌, List, [], ◌∷◌, Contains, Some, slice_get}
 use Rattle.std.specs.Global.{Vec}
 use Rattle.std.specs.List.{flat_map, list_any}

@@ -1,5 +1,5 @@
 //! The greatest set of optionals by removal: an optional for which there is a reason is taken out, until there is none. It costs
-//! a pass over the words of all optionals for each turn, and there may be as many turns as optionals.
+//! a pass over the words of all optionals for each round, and there may be as many rounds as optionals.
 
 ghost use Rattle.std.specs.Prelude.{◌≡◌, IfOk, MatchOption, OnOk, length, Some, true, map, set, false};
 ghost use Rattle.std.specs.List.{list_all};

@@ -48,7 +48,7 @@ struct Session<'r, 'w, R: Source, W: Sink> {
 ///
 /// After the first call of the reader or the writer that fails, neither is called again and no request is started. The reader is
 /// asked for more bytes only when all replies so far are written and the buffer holds no whole request, so the other side may wait
-/// for each reply before it sends more. At most 65,536 bytes are read beyond the last request.
+/// for each reply before it sends more. At most 65,536 bytes are read beyond the last request, or a part of the next one.
 ///
 /// Returns how the session ended: `Fault(0)` if there is no memory for its buffers, and then nothing was read or written.
 pub fn serve<S: Drop, R: Source, W: Sink>(
