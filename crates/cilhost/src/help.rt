@@ -12,8 +12,8 @@ context has on an object in another. The answers do not depend on the order of t
 
 The statements that cilhost accepts are type, class, role, user, roletype, userrole and allow, and
 block, blockabstract, blockinherit, macro, call and optional. Statements that label files, ports and
-the like, such as filecon, are accepted and have no effect. For now it refuses everything else in
-CIL by name, with fault 22.";
+the like, such as filecon, and settings, such as policycap, are accepted and have no effect. For now
+it refuses everything else in CIL by name, with fault 22.";
 
 /// How the program is called.
 pub const EXAMPLE: &str = "Example:
@@ -33,8 +33,8 @@ and each reply is written to standard output, until QUIT or the end of the input
 
 The statements that a FILE may have are type, class, role, user, roletype, userrole and allow, and
 block, blockabstract, blockinherit, macro, call and optional. Statements that label files, ports and
-the like, such as filecon, are accepted and have no effect. For now LOAD refuses everything else in
-CIL by name, with fault 22.";
+the like, such as filecon, and settings, such as policycap, are accepted and have no effect. For now
+LOAD refuses everything else in CIL by name, with fault 22.";
 
 /// What a file of a session is.
 pub const FILE: &str = "A module, as text in CIL, of at most 4194304 bytes";
