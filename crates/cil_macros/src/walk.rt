@@ -1,6 +1,6 @@
 //! The walk over all that is placed: what stands, and then what each call brings, in the order in which it is reached. A call costs
-//! a look at the calls through which it came, the filling of its scope, and a step for each statement of its macro. The walk stops one body after the
-//! limit.
+//! a look at the calls through which it came, the filling of its scope, and a step for each statement of its macro. The walk stops
+//! one body after the limit.
 
 ghost use Rattle.std.specs.Prelude.{◌≡◌, ◌+◌, ◌<◌, ◌≤◌, ◌++◌, IfNone, IfOk, IfSome, OnOk, Some, length, map, slice_get};
 ghost use Rattle.cil_sexpr.specs.Lists.{Lists};
