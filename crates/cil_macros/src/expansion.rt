@@ -3,9 +3,11 @@
 ghost use Rattle.std.specs.Prelude.{◌≡◌};
 ghost use Rattle.cil_syntax.specs.Refusal.{Answers};
 ghost use Rattle.cil_macros.specs.ExpandFaults.{ExpandStep};
+ghost use Rattle.cil_macros.specs.Instances.{AreInstances};
 ghost use Rattle.cil_macros.specs.Macros.{all_standing};
 ghost use Rattle.cil_macros.specs.Walks.{written_in};
 
+use crate::chain::Brought;
 use crate::declared_names::declared_in_bodies;
 use crate::faults::call_faults;
 use crate::instances::Instances;
@@ -32,20 +34,7 @@ pub fn expand<'s, 'p, 'a>(
 ) -> Result<Instances<'s, 'p, 'a>, Failure>
     ensures { Answers (λ i. i.0 ≡ spaces.now) (ExpandStep (written_in spaces.now) (all_standing spaces.now)) result }
 {
-    let macros = macros_of(alloc, spaces)?;
-    let parts = parts_of(alloc, spaces.statements())?;
-    let source = Source {
-        spaces,
-        macros: &macros,
-        parts: &parts,
-    };
-    let Some(brought) = walk(alloc, &source, MOST_INSTANCES)? else {
-        return Err(Failure::Faults(over_the_limit(alloc)?));
-    };
-    let faults = call_faults(alloc, &source, &brought)?;
-    if let Some(list) = FaultList::of(faults) {
-        return Err(Failure::Faults(list));
-    }
+    let brought = brought_by(alloc, spaces)?;
     let declared = declared_in_bodies(alloc, spaces.statements())?;
     let scene = Scene {
         spaces,
@@ -61,4 +50,27 @@ pub fn expand<'s, 'p, 'a>(
         openings,
         innermost,
     })
+}
+
+/// What calls bring, where nothing is wrong with them.
+///
+/// Errors: those of `expand`.
+fn brought_by(alloc: Global, spaces: &Spaces) -> Result<Brought, Failure>
+    ensures { Answers (AreInstances spaces.now) (ExpandStep (written_in spaces.now) (all_standing spaces.now)) result }
+{
+    let macros = macros_of(alloc, spaces)?;
+    let parts = parts_of(alloc, spaces.statements())?;
+    let source = Source {
+        spaces,
+        macros: &macros,
+        parts: &parts,
+    };
+    let Some(brought) = walk(alloc, &source, MOST_INSTANCES)? else {
+        return Err(Failure::Faults(over_the_limit(alloc)?));
+    };
+    let faults = call_faults(alloc, &source, &brought)?;
+    if let Some(list) = FaultList::of(faults) {
+        return Err(Failure::Faults(list));
+    }
+    Ok(brought)
 }
