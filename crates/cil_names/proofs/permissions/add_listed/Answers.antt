@@ -1,6 +1,6 @@
 use Rattle.std.specs.Prelude.{Some, slice_get}
 use Rattle.std.specs.List.{list_any}
-use Rattle.std.proofs.Common.{◌≡◌, [], rules, refl, sym, true≢false, ◌∙◌, ap, subst}
+use Rattle.std.proofs.Common.{◌≡◌, [], arith, refl, sym, true≢false, ◌∙◌, ap, subst}
 use Rattle.std.proofs.lemmas.Option.{slice_get-get_or, slice_get_read}
 use Rattle.cil_blocks.specs.Namespaces.{AreNamespaces}
 use Rattle.cil_macros.specs.Items.{item_at, namespaces_in, placed_at, word_at}
@@ -19,10 +19,10 @@ returns-then-not-is_outside-clause-listed c = λ xs ordered known are.
     (λ name d. true≢false (sym (c.is_outside.ensures.1 d.outside) ∙ c.if-not-is_outside.true)) are
 
 pub index_mut-requires : goal.index_mut-requires
-index_mut-requires c = let h = class_within _ _ _ _ _ _ c.requires.len c.in-Some-entry_in.ensures in search (h, rules)
+index_mut-requires c = let h = class_within _ _ _ _ _ _ c.requires.len c.in-Some-entry_in.ensures in let n = c.args.lists.now.ok.0 in omega (arith, h, n)
 
 pub index_mut-requires-2 : goal.index_mut-requires-2
-index_mut-requires-2 c = let h = class_within _ _ _ _ _ _ c.requires.len c.in-Some-entry_in.ensures in search (h, rules)
+index_mut-requires-2 c = let h = class_within _ _ _ _ _ _ c.requires.len c.in-Some-entry_in.ensures in let n = c.args.lists.now.ok.0 in omega (arith, h, n)
 
 pub returns-in_default-clause-listed : goal.returns-in_default-clause-listed
 returns-in_default-clause-listed c = λ xs ordered known are.
@@ -57,10 +57,10 @@ pub statement-number-requires : goal.statement-number-requires
 statement-number-requires c = is_place c.args.instances.now c.args.at c.requires.within
 
 pub index-requires : goal.index-requires
-index-requires c = let h = class_within _ _ _ _ _ _ c.requires.last_len c.in-Some-entry_in.ensures in search (h, rules)
+index-requires c = let h = class_within _ _ _ _ _ _ c.requires.last_len c.in-Some-entry_in.ensures in let n = c.args.last.now.ok.0 in omega (arith, h, n)
 
 pub index_mut-requires-3 : goal.index_mut-requires-3
-index_mut-requires-3 c = let h = class_within _ _ _ _ _ _ c.requires.last_len c.in-Some-entry_in.ensures in search (h, rules)
+index_mut-requires-3 c = let h = class_within _ _ _ _ _ _ c.requires.last_len c.in-Some-entry_in.ensures in let n = c.args.last.now.ok.0 in omega (arith, h, n)
 
 -- the same statement was added last
 pub returns-then-is_at-clause-listed : goal.returns-then-is_at-clause-listed
