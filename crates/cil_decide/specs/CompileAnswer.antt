@@ -1,7 +1,12 @@
 -- What the compiler answers where modules have a policy. This project's profile.
 use Rattle.std.specs.Prelude.{ℕ, List, []}
+use Rattle.cil_sexpr.specs.Lists.{Lists}
 use Rattle.cil_syntax.specs.declared.fault.Fault.{Fault}
+use Rattle.cil_syntax.specs.Written.{IsWritten, ShapeFault, written_cmp}
+use Rattle.cil_blocks.specs.InheritFaults.{InheritStep}
+use Rattle.cil_blocks.specs.Places.{AreStandings, Standings}
 use Rattle.cil_macros.specs.Item.{Item, OptSet}
+use Rattle.cil_macros.specs.Walks.{written_in}
 use Rattle.cil_names.specs.Faults.{ClashFault}
 use Rattle.cil_optionals.specs.Certificate.{IsRight}
 use Rattle.cil_optionals.specs.Greatest.{IsGreatest}
@@ -33,3 +38,10 @@ pub record IsCompiledOf (xs : List Item) (c : Compiled) : Type 0 where
   pub optionals : AreOptionalsOf xs enabled c.optionals.items
   pub right : IsRight xs enabled c.why.items
   pub reasons : AreReasonsOf xs c.why.items c.reasons.items
+
+-- all that stands in modules that have no fault up to there
+pub record StandsIn (modules : List (List ℕ)) (s : Standings) : Type 0 where
+  pub program : Lists written_cmp (IsWritten modules) (written_in s)
+  pub standings : AreStandings s
+  pub shape : (f : Fault) → ShapeFault modules f → ⊥
+  pub blocks : (f : Fault) → InheritStep (written_in s) f → ⊥
