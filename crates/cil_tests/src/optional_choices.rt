@@ -377,8 +377,7 @@ fn choices_of_optionals_are_checked(rt: HostRuntime) {
     }
 }
 
-/// What `check` says of what is chosen, how many optionals that removed and the look-ups it took; the same of what is guessed; and
-/// whether rounds leave out as many.
+/// What `check` says of what is chosen, how many optionals that leaves out, and the look-ups it took.
 struct Picked;
 
 impl Question for Picked {
@@ -391,19 +390,82 @@ impl Question for Picked {
         };
         let permissions = permissions.as_slice();
         let counted = greatest_counted(alloc, &*instances, &names, permissions).ok()?;
-        let (removals, lookups) = (counted.removals, counted.lookups);
         let is_right = check(alloc, &*instances, &names, permissions, &counted.chosen).ok()?;
-        let walk = guess(alloc, &*instances, &names, permissions).ok()?;
-        let is_guessed = check(alloc, &*instances, &names, permissions, &walk.chosen).ok()?;
-        let (guessed_out, guessed_lookups) = (walk.chosen.reasons.len(), walk.lookups);
-        let rounds = greatest_in_rounds(alloc, &*instances, &names, permissions).ok()?;
-        let out_in_rounds = rounds.reasons.len();
-        let mut answer = String::new(alloc);
-        write!(answer, "{is_right} {removals} {lookups}, ").ok()?;
-        write!(answer, "{is_guessed} {guessed_out} {guessed_lookups}, ").ok()?;
-        write!(answer, "{out_in_rounds}").ok()?;
-        Some(answer)
+        count_line(alloc, is_right, counted.removals, counted.lookups)
     }
+}
+
+/// The same of what is guessed.
+struct Guessed;
+
+impl Question for Guessed {
+    fn answer(&self, alloc: Global, instances: &Instances) -> Option<String> {
+        let Ok(names) = declare(alloc, instances) else {
+            return None;
+        };
+        let Ok(permissions) = permissions_of(alloc, &names, instances) else {
+            return None;
+        };
+        let permissions = permissions.as_slice();
+        let walk = guess(alloc, &*instances, &names, permissions).ok()?;
+        let is_right = check(alloc, &*instances, &names, permissions, &walk.chosen).ok()?;
+        let left_out = walk.chosen.reasons.len();
+        count_line(alloc, is_right, left_out as u64, walk.lookups as u64)
+    }
+}
+
+/// How many optionals are left out in rounds.
+struct InRounds;
+
+impl Question for InRounds {
+    fn answer(&self, alloc: Global, instances: &Instances) -> Option<String> {
+        let Ok(names) = declare(alloc, instances) else {
+            return None;
+        };
+        let Ok(permissions) = permissions_of(alloc, &names, instances) else {
+            return None;
+        };
+        let rounds = greatest_in_rounds(alloc, &*instances, &names, permissions.as_slice()).ok()?;
+        number_line(alloc, rounds.reasons.len() as u64)
+    }
+}
+
+/// What a choice leaves out and takes, as `Picked` and `Guessed` answer.
+fn count_line(alloc: Global, is_right: bool, removals: u64, lookups: u64) -> Option<String> {
+    let mut line = String::new(alloc);
+    write!(line, "{is_right} {removals} {lookups}").ok()?;
+    Some(line)
+}
+
+/// A number, as `InRounds` answers.
+fn number_line(alloc: Global, number: u64) -> Option<String> {
+    let mut line = String::new(alloc);
+    write!(line, "{number}").ok()?;
+    Some(line)
+}
+
+/// Whether a question about a module behind the first policy has this answer.
+fn is_answered<Q: Question>(alloc: Global, text: &str, question: &Q, want: Option<String>) -> bool {
+    let Some(want) = want else {
+        return false;
+    };
+    answer_to(alloc, &[FIRST, text], question).is_some_and(|got| got.as_str() == want.as_str())
+}
+
+/// Whether what is chosen behind the first policy, and what is guessed, leaves out so many optionals and takes so many look-ups,
+/// and rounds leave out as many.
+fn is_chosen_so(alloc: Global, text: &str, removals: u64, lookups: u64) -> bool {
+    is_answered(
+        alloc,
+        text,
+        &Picked,
+        count_line(alloc, true, removals, lookups),
+    ) && is_answered(
+        alloc,
+        text,
+        &Guessed,
+        count_line(alloc, true, removals, lookups),
+    ) && is_answered(alloc, text, &InRounds, number_line(alloc, removals))
 }
 
 /// Modules behind the first policy, how many optionals are left out, and how many look-ups that takes.
@@ -500,26 +562,10 @@ const PICKED: &[(&str, u64, u64)] = &[
     ),
 ];
 
-/// How `Picked` answers where so many optionals are left out and so many look-ups belong to that.
-fn wanted_answer(alloc: Global, removals: u64, lookups: u64) -> Option<String> {
-    let mut answer = String::new(alloc);
-    write!(
-        answer,
-        "true {removals} {lookups}, true {removals} {lookups}, {removals}"
-    )
-    .ok()?;
-    Some(answer)
-}
-
 #[test]
 fn what_is_chosen_is_right(rt: HostRuntime) {
     for &(text, removals, lookups) in PICKED {
-        let answer = answer_to(rt.alloc(), &[FIRST, text], &Picked);
-        let want = wanted_answer(rt.alloc(), removals, lookups);
-        assert!(rt;
-            answer.is_some_and(|got| want.is_some_and(|want| got.as_str() == want.as_str())),
-            "{text}"
-        );
+        assert!(rt; is_chosen_so(rt.alloc(), text, removals, lookups), "{text}");
     }
 }
 
@@ -546,10 +592,8 @@ fn a_chain_takes_a_look_up_for_each_type_and_each_word(rt: HostRuntime) {
             assert!(rt; false, "no memory");
             return;
         };
-        let answer = answer_to(rt.alloc(), &[FIRST, text.as_str()], &Picked);
-        let want = wanted_answer(rt.alloc(), removals, lookups);
         assert!(rt;
-            answer.is_some_and(|got| want.is_some_and(|want| got.as_str() == want.as_str())),
+            is_chosen_so(rt.alloc(), text.as_str(), removals, lookups),
             "{last}"
         );
     }
