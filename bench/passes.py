@@ -102,7 +102,8 @@ def main():
     one.ends_before("inherit", "expansion::expand")
     one.ends_with("expand", "expansion::expand")
     one.ends_with("placed", PLACED)
-    one.ends("freeing the rest", one.place("Vec::drop", last=True))
+    # The copy frees nothing.
+    one.ends("freeing the rest", one.place("dealloc", last=True))
     one.ends("copy of the set", len(one.calls) - 1)
 
     two = Function(costs[placed], calls[placed])
