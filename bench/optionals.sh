@@ -46,18 +46,10 @@ row() {
             (loaded - installed) / 1000, (told - loaded) / 1000, peak * 1024 / 1000000 }'
 }
 
-# The instructions of a session with the requests of the file $1, as valgrind counts them. They do not hang on what else
-# the machine does.
-instructions() {
-    valgrind --tool=callgrind --callgrind-out-file=/dev/null "$program" session <"$1" 2>&1 >/dev/null |
-        awk '/Collected/ { print $4 }'
-}
-
 # The instructions of LOAD alone, for $1 optionals in a chain.
 load_instructions() {
     policy chain "$1" >"$work/installed"
-    { cat "$work/installed"; echo LOAD; } >"$work/loaded"
-    echo $(($(instructions "$work/loaded") - $(instructions "$work/installed")))
+    instructions_of "$work/installed" LOAD
 }
 
 # Compares the instructions $3 of LOAD for $2 optionals in a chain with those, $1, for a tenth of them. Ten times as many, with

@@ -1,4 +1,5 @@
-# What session.sh and distribution.sh share: the program cilhost is built, and its sessions can be run and measured.
+# What the scripts of sessions share: the program cilhost is built, and its sessions can be run and measured. With PROGRAM
+# set that program is measured, and nothing is built.
 set -eu
 here=$(cd "$(dirname "${BASH_SOURCE[0]}")" && pwd)
 crate=$here/../crates/cilhost
@@ -8,7 +9,9 @@ trap 'rm -rf "$work"' EXIT
 
 [ -x /usr/bin/time ] || { echo "this script needs GNU time, /usr/bin/time" >&2; exit 2; }
 
-if ! (cd "$crate" && rt run -- --version </dev/null >"$work/build" 2>&1); then
+if [ -n "${PROGRAM:-}" ]; then
+    program=$PROGRAM
+elif ! (cd "$crate" && rt run -- --version </dev/null >"$work/build" 2>&1); then
     cat "$work/build" >&2
     exit 1
 fi
@@ -40,4 +43,17 @@ expect_no_refusal() {
         echo "a request was refused: $(grep -am1 '^ERR\|^FAULTS' "$work/replies")" >&2
         exit 1
     fi
+}
+
+# The instructions of a session with the requests of the file $1, as valgrind counts them. They do not depend on what else
+# the machine does. The replies go to $work/replies.
+instructions() {
+    valgrind --tool=callgrind --callgrind-out-file=/dev/null "$program" session <"$1" 2>&1 >"$work/replies" |
+        awk '/Collected/ { print $4 }'
+}
+
+# The instructions that the request $2, a line, adds to a session with the requests of the file $1.
+instructions_of() {
+    { cat "$1"; echo "$2"; } >"$work/with_request"
+    echo $(($(instructions "$work/with_request") - $(instructions "$1")))
 }

@@ -3,14 +3,14 @@ use Rattle.std.proofs.Common.{◌≡◌, ℕ, ◌+◌, ◌<◌, ◌≤◌, ◌�
 use Rattle.std.specs.Prelude.{Contains, slice_get}
 use Rattle.std.proofs.lemmas.List.{length-append}
 use denote.Ref.{Bor}
-use Rattle.cil_sexpr.specs.Lists.{contains_none}
+use Rattle.cil_base.specs.Lists.{contains_none}
 use Rattle.cil_syntax.specs.Written.{Written}
 use Rattle.cil_blocks.specs.declared.targets.Targets.{Targets}
 use Rattle.cil_blocks.specs.Contents.{is_inheriting}
 use Rattle.cil_blocks.specs.Entries.{AreBelow, statement_at}
 use Rattle.cil_blocks.specs.Named.{AreAllTargets, AreTargets, AreTargetsOf, borrowed, targets_in}
-use Rattle.cil_sexpr.specs.MadeLists.{contains_map, from_map}
-use Rattle.cil_sexpr.specs.Places.{get_behind, get_in_front, not_there}
+use Rattle.cil_base.specs.MadeLists.{contains_map, from_map}
+use Rattle.cil_base.specs.Places.{get_behind, get_in_front, not_there}
 
 module _ (ws : List Written) where
   pub are_targets : (i : ℕ) (found : List ℕ) → is_inheriting (statement_at ws i).statement.keyword ≡ true → AreTargets ws i found → AreBelow (length ws) found

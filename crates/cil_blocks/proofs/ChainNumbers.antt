@@ -1,8 +1,8 @@
 -- The numbers of a namespace and of those round it.
 use Rattle.std.proofs.Common.{◌≡◌, ℕ, zero, suc, ◌≤◌, List, [], ◌∷◌, ◌++◌, length, map, refl, sym, ◌∙◌, ap, inl, inr, arith}
 use Rattle.std.specs.Prelude.{Option, Some, None, flat_map, slice_get}
-use Rattle.cil_sexpr.specs.Lists.{contains_cases, contains_here, contains_later, contains_none}
-use Rattle.cil_sexpr.specs.Places.{get_in_front, none_some}
+use Rattle.cil_base.specs.Lists.{contains_cases, contains_here, contains_later, contains_none}
+use Rattle.cil_base.specs.Places.{get_in_front, none_some}
 use Rattle.cil_syntax.specs.Scopes.{chain}
 use Rattle.cil_blocks.specs.declared.namespaces.Space.{Space}
 use Rattle.cil_blocks.specs.Namespaces.{AreNamespaces, IsGrown, inner_at, space_at}

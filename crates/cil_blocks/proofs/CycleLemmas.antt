@@ -5,7 +5,7 @@ use Rattle.cil_blocks.specs.Contents.{is_inheriting, IsIn, Target, name_of}
 use Rattle.cil_blocks.specs.InheritFaults.{Within, directly, further, Needs, one, more, Gives, texts, own, handed}
 use Rattle.cil_blocks.specs.Leads as leads
 use Rattle.cil_blocks.specs.Leads.{Leads, here, nested, IsOnCycle, IsEnclosed, IsCycle, Shares, first, second, GiveTogether, IsShared}
-use Rattle.cil_syntax.specs.Scopes.{Namespace}
+use Rattle.cil_faults.specs.Namespaces.{Namespace}
 use Rattle.cil_syntax.specs.Written.{Written}
 
 module _ (ws : List Written) where

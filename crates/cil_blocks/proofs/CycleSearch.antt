@@ -2,14 +2,14 @@
 use Rattle.std.proofs.Common.{◌≡◌, ℕ, zero, suc, ◌+◌, ◌<◌, ◌≤◌, Bool, true, false, List, [], ◌∷◌, ◌++◌, length, sym, ◌∙◌, ap, subst, inl, inr, arith}
 use Rattle.std.specs.Prelude.{◌↔◌, Contains, IsTrue, Some, None, slice_get}
 use Rattle.std.proofs.lemmas.List.Elements.{Contains-append_left, Contains-append_right, Contains-append_cases}
-use Rattle.cil_blocks.specs.declared.cycles.Reached.{Reached}
+use Rattle.cil_blocks.specs.declared.cycles.Search.{Search}
 use Rattle.cil_blocks.specs.declared.parts.Parts.{Parts}
 use Rattle.cil_blocks.specs.declared.targets.Targets.{Targets}
 use Rattle.cil_blocks.specs.Entries.{AreBelow, parts_at}
 use Rattle.cil_blocks.specs.Marks.{AreAdded, AreMarked, IsBegun, is_marked}
 use Rattle.cil_blocks.specs.Named.{targets_in}
 use Rattle.cil_blocks.specs.Steps.{IsStep, Reaches, StayBelow, itself, onward}
-use Rattle.cil_sexpr.specs.Places.{get_at, get_contains, get_in_front, in_range, none_some, some_same}
+use Rattle.cil_base.specs.Places.{get_at, get_contains, get_in_front, in_range, none_some, some_same}
 use Rattle.cil_blocks.proofs.MarkLemmas.{both_added, few_reached}
 use Rattle.cil_blocks.proofs.StepLemmas.{or_last}
 
@@ -17,7 +17,7 @@ use Rattle.cil_blocks.proofs.StepLemmas.{or_last}
 pub says_no : (P : Type 0) → (P → ⊥) → IsTrue false ↔ P
 says_no P none = ((λ t. absurd (let f : false ≡ true = t in cc)), (λ p. absurd (none p)))
 
-pub record IsSearched (ps : Parts) (ts : Targets) (count from at : ℕ) (r : Reached) : Type 0 where
+pub record IsSearched (ps : Parts) (ts : Targets) (count from at : ℕ) (r : Search) : Type 0 where
   pub are_marked : AreMarked r
   pub size : length r.marks.items ≡ count
   pub begun : Contains r.numbers.items from
@@ -25,7 +25,7 @@ pub record IsSearched (ps : Parts) (ts : Targets) (count from at : ℕ) (r : Rea
   pub done : (j q k : ℕ) → j < at → slice_get r.numbers.items j ≡ Some q → IsStep ps ts q k → Contains r.numbers.items k
 
 module _ (ps : Parts) (ts : Targets) (count from : ℕ) where
-  pub search_begun : (r : Reached) → IsBegun count from r → IsSearched ps ts count from 0 r
+  pub search_begun : (r : Search) → IsBegun count from r → IsSearched ps ts count from 0 r
   search_begun r b = record {
     are_marked = b.are_marked;
     size = b.size;
@@ -38,7 +38,7 @@ module _ (ps : Parts) (ts : Targets) (count from : ℕ) where
   step_within q k (inl c) = Contains-append_left (parts_at ps q) (targets_in ts q) k c
   step_within q k (inr c) = Contains-append_right (parts_at ps q) (targets_in ts q) k c
 
-  pub one_searched : (at q : ℕ) (a b d : Reached) (inside named : List ℕ) → slice_get a.numbers.items at ≡ Some q → inside ≡ parts_at ps q → named ≡ targets_in ts q
+  pub one_searched : (at q : ℕ) (a b d : Search) (inside named : List ℕ) → slice_get a.numbers.items at ≡ Some q → inside ≡ parts_at ps q → named ≡ targets_in ts q
       → AreAdded a inside b → AreAdded b named d → IsSearched ps ts count from at a → IsSearched ps ts count from (at + 1) d
   one_searched at q a b d inside named here p t f g so =
       let all : AreAdded a (parts_at ps q ++ targets_in ts q) d =
@@ -63,7 +63,7 @@ module _ (ps : Parts) (ts : Targets) (count from : ℕ) where
         ];
       }
 
-  all_there : (at : ℕ) (r : Reached) (k : ℕ) → length r.numbers.items ≤ at → IsSearched ps ts count from at r → Reaches ps ts from k → Contains r.numbers.items k
+  all_there : (at : ℕ) (r : Search) (k : ℕ) → length r.numbers.items ≤ at → IsSearched ps ts count from at r → Reaches ps ts from k → Contains r.numbers.items k
   all_there at r k over so itself = so.begun
   all_there at r k over so (onward q k' path s) =
       let g = get_at r.numbers.items q (all_there at r q over so path) in
@@ -71,11 +71,11 @@ module _ (ps : Parts) (ts : Targets) (count from : ℕ) where
       so.done g.0 q k (omega (arith, h, over)) g.2 s
 
   -- what is marked is reached
-  pub found_reached : (at k : ℕ) (r : Reached) (b : Bool) → b ≡ is_marked r k → IsTrue b → IsSearched ps ts count from at r → Reaches ps ts from k
+  pub found_reached : (at k : ℕ) (r : Search) (b : Bool) → b ≡ is_marked r k → IsTrue b → IsSearched ps ts count from at r → Reaches ps ts from k
   found_reached at k r b e t so = so.led k (so.are_marked.reached k (sym e ∙ t))
 
   -- and at the end nothing else is
-  pub all_found : (at k : ℕ) (r : Reached) → length r.numbers.items ≤ at → IsSearched ps ts count from at r → Reaches ps ts from k → is_marked r k ≡ true
+  pub all_found : (at k : ℕ) (r : Search) → length r.numbers.items ≤ at → IsSearched ps ts count from at r → Reaches ps ts from k → is_marked r k ≡ true
   all_found at k r over so path = so.are_marked.marked k (all_there at r k over so path)
 
   past : (xs : List ℕ) (at : ℕ) → slice_get xs at ≡ None → length xs ≤ at
@@ -83,10 +83,10 @@ module _ (ps : Parts) (ts : Targets) (count from : ℕ) where
   past (x ∷ xs) zero e = absurd (none_some x (sym e))
   past (x ∷ xs) (suc at) e = let h = past xs at e in omega (arith, h)
 
-  pub not_found : (at k : ℕ) (r : Reached) → slice_get r.numbers.items at ≡ None → is_marked r k ≡ false → IsSearched ps ts count from at r → Reaches ps ts from k → ⊥
+  pub not_found : (at k : ℕ) (r : Search) → slice_get r.numbers.items at ≡ None → is_marked r k ≡ false → IsSearched ps ts count from at r → Reaches ps ts from k → ⊥
   not_found at k r e f so path = let t : false ≡ true = sym f ∙ all_found at k r (past r.numbers.items at e) so path in absurd (cc)
 
-  pub at_the_end : (at k : ℕ) (r : Reached) (b : Bool) → b ≡ is_marked r k → count ≤ at → IsSearched ps ts count from at r → IsTrue b ↔ Reaches ps ts from k
+  pub at_the_end : (at k : ℕ) (r : Search) (b : Bool) → b ≡ is_marked r k → count ≤ at → IsSearched ps ts count from at r → IsTrue b ↔ Reaches ps ts from k
   at_the_end at k r b e over so =
       let few = few_reached r so.are_marked in
       let size = so.size in

@@ -2,7 +2,7 @@
 use Rattle.std.proofs.Common.{◌≡◌, ℕ, zero, suc, ◌+◌, ◌<◌, ◌≤◌, Bool, true, false, if◌then◌else◌, List, [], ◌∷◌, ◌++◌, length, get_or, map, take, refl, sym, ◌∙◌, ap, subst, arith, append_assoc}
 use Rattle.std.specs.Prelude.{Option, Some, None, slice_get}
 use Rattle.std.proofs.lemmas.List.{append-nil, take_more, take_all, map-append, length-append}
-use Rattle.cil_sexpr.specs.Lists.{Lists}
+use Rattle.cil_base.specs.Lists.{Lists}
 use Rattle.cil_syntax.specs.declared.kind.Keyword.{Keyword}
 use Rattle.cil_syntax.specs.declared.kind.Keyword.TheVariants as keywords
 use Rattle.cil_syntax.specs.Written.{Written}
@@ -12,8 +12,8 @@ use Rattle.cil_blocks.specs.Contents.{Standing, Stands, is_abstract, standing_cm
 use Rattle.cil_blocks.specs.Entries.{AreOpened, AreParts, IsWalkable, IsWithin, SaysOpened, opened_as, opened_by, opened_in, opened_of, opener_of, parts_at, standing_as, standing_through, standing_under, standings_from, standings_of, statement_at, stepped}
 use Rattle.cil_blocks.specs.InheritFaults.{IsOver}
 use Rattle.cil_blocks.specs.Opens.{opens, opens_as, opens_target, parts, target_of, tops}
-use Rattle.cil_sexpr.specs.Places.{get_in_front}
-use Rattle.cil_sexpr.specs.Queue as queue
+use Rattle.cil_base.specs.Places.{get_in_front}
+use Rattle.cil_base.specs.Queue as queue
 use Rattle.cil_blocks.proofs.StandingWalk.{queue_order, reached_stands, stands_reached}
 
 module _ (ws : List Written) where

@@ -1,22 +1,22 @@
 -- The worked rows of 31, 32 and 33, by the definitions.
 use Rattle.std.proofs.Common.{◌≡◌, ℕ, false, List, [], ◌∷◌, refl, sym, ◌∙◌, ap, inl, arith}
 use Rattle.std.specs.Prelude.{codes, Some, None}
-use Rattle.cil_syntax.specs.declared.code.FaultCode.{FaultCode}
-use Rattle.cil_syntax.specs.declared.code.FaultCode.TheVariants as causes
-use Rattle.cil_syntax.specs.declared.fault.Fault.{Fault}
+use Rattle.cil_faults.specs.declared.code.FaultCode.{FaultCode}
+use Rattle.cil_faults.specs.declared.code.FaultCode.TheVariants as causes
+use Rattle.cil_faults.specs.declared.fault.Fault.{Fault}
 use Rattle.cil_syntax.specs.declared.kind.Keyword.{Keyword}
 use Rattle.cil_syntax.specs.declared.kind.Keyword.TheVariants as keywords
 use Rattle.cil_syntax.specs.declared.kind.Nesting.TheVariants as nestings
 use Rattle.cil_syntax.specs.declared.kind.Sign.TheVariants as signs
 use Rattle.cil_syntax.specs.declared.term.Op.TheVariants as ops
-use Rattle.cil_syntax.specs.declared.term.Spot.{Spot}
+use Rattle.cil_faults.specs.declared.spot.Spot.{Spot}
 use Rattle.cil_syntax.specs.declared.term.Word.{Word}
 use Rattle.cil_syntax.specs.Scopes.{apart, chain}
 use Rattle.cil_syntax.specs.Terms.{Leaf, Name, Form, Terms, nil, cons}
 use Rattle.cil_syntax.specs.Written.{Written, at_top}
 use Rattle.cil_blocks.specs.Contents.{Target, block_space, has_block, is_abstract, standing_in_block, standing_inherited, standing_top}
 use Rattle.cil_blocks.specs.InheritFaults.{Gives, InheritFault, cycle, directly, handed, own, standing_twice, texts, unresolved, written_twice}
-use Rattle.cil_sexpr.specs.Places.{get_contains, some_same}
+use Rattle.cil_base.specs.Places.{get_contains, some_same}
 
 abbrev spot : ℕ → Spot
 spot at = record { «module» = 0; at = at }

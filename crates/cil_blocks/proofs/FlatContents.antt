@@ -4,18 +4,18 @@ use Rattle.std.specs.Prelude.{Contains}
 use Rattle.std.specs.List.Sorted.{IsStrictlySortedBy}
 use Rattle.std.proofs.lemmas.Bool.{cases_lt}
 use Rattle.std.proofs.lemmas.List.{length-map}
-use Rattle.cil_sexpr.specs.Lists.{Lists, contains_cases, contains_here, contains_none}
-use Rattle.cil_syntax.specs.declared.fault.Fault.{Fault}
-use Rattle.cil_syntax.specs.Fails.{AreFaults}
-use Rattle.cil_syntax.specs.Laws.{Outcome, succeeds, fails}
+use Rattle.cil_base.specs.Lists.{Lists, contains_cases, contains_here, contains_none}
+use Rattle.cil_faults.specs.declared.fault.Fault.{Fault}
+use Rattle.cil_faults.specs.Fails.{AreFaults}
+use Rattle.cil_faults.specs.Laws.{Outcome, succeeds, fails}
 use Rattle.cil_syntax.specs.Written.{Written, written_cmp}
 use Rattle.cil_blocks.specs.Contents.{Standing, Stands, in_block, in_optional, inherited, is_block, is_inheriting, is_optional, spot_cmp, standing_cmp, standing_top, top, spot_total}
 use Rattle.cil_blocks.specs.InheritFaults.{InheritFault, InheritStep, IsOver, cycle, limit_fault, most_instances, standing_twice, too_many, unresolved, written_twice}
 use Rattle.cil_blocks.specs.Laws.{HaveFlatContents, IsFlat}
 use Rattle.cil_blocks.proofs.InheritLemmas.{limit_alone, no_step, standing_total}
-use Rattle.cil_sexpr.specs.MadeLists.{contains_map, from_map}
-use Rattle.cil_sexpr.specs.Paths.{alone}
-use Rattle.cil_sexpr.specs.Rising.{not_over}
+use Rattle.cil_base.specs.MadeLists.{contains_map, from_map}
+use Rattle.cil_base.specs.Paths.{alone}
+use Rattle.cil_base.specs.Rising.{not_over}
 use Rattle.cil_blocks.proofs.StandingWalk.{rising_map}
 
 never : true ≡ false → ⊥

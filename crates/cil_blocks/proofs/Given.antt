@@ -1,14 +1,14 @@
 -- A namespace has the statements of the bodies that give to it: what stands there, without the chains.
 use Rattle.std.proofs.Common.{◌≡◌, Bool, true, false, ◌&&◌, List, ◌∷◌, refl, sym, ◌∙◌, ap, subst}
 use Rattle.std.specs.Prelude.{Contains, Option, Some, None}
-use Rattle.cil_sexpr.specs.Places.{get_at, some_same}
+use Rattle.cil_base.specs.Places.{get_at, some_same}
 use Rattle.cil_syntax.specs.declared.kind.Keyword.{Keyword}
 use Rattle.cil_syntax.specs.declared.kind.Keyword.TheVariants as keywords
 use Rattle.cil_syntax.specs.declared.kind.Nesting.{Nesting}
 use Rattle.cil_syntax.specs.declared.kind.Nesting.TheVariants as nestings
 use Rattle.cil_syntax.specs.declared.program.Statement.{Statement}
 use Rattle.cil_syntax.specs.Program.{IsNested, context_in, program_of}
-use Rattle.cil_syntax.specs.Scopes.{Namespace}
+use Rattle.cil_faults.specs.Namespaces.{Namespace}
 use Rattle.cil_syntax.specs.Table.{entry_of}
 use Rattle.cil_syntax.specs.Written.{Context, Written, allows, may_stand, nesting_within}
 use Rattle.cil_blocks.specs.Contents.{is_block, is_inheriting, is_optional, is_abstract, IsIn, Target, Standing, standing_top, standing_in_block, standing_inherited, Stands, top, in_block, in_optional, inherited, name_of}

@@ -7,8 +7,8 @@ use Rattle.std.proofs.lemmas.Bool.{eqb-true}
 use Rattle.std.proofs.lemmas.List.Elements.{Contains-append_cases, Contains-append_left, Contains-append_right}
 use Rattle.indexmap.specs.IndexSet.{insert_key}
 use Rattle.indexmap.proofs.CallerLemmas.{Contains-list_any}
-use Rattle.cil_sexpr.specs.Lists.{contains_cases, contains_here, contains_later, contains_none}
-use Rattle.cil_sexpr.specs.Searches.{any_from}
+use Rattle.cil_base.specs.Lists.{contains_cases, contains_here, contains_later, contains_none}
+use Rattle.cil_base.specs.Searches.{any_from}
 use Rattle.cil_blocks.specs.declared.namespaces.Space.{Space}
 use Rattle.cil_blocks.specs.Namespaces.{AreNamespaces, inner_at}
 use Rattle.cil_blocks.specs.Numbers.{AreGoneUp, chain_numbers, with_number, with_numbers}

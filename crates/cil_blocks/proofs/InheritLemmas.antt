@@ -6,19 +6,19 @@ use Rattle.std.specs.Cmp.Lexicographic.{lists_total}
 use Rattle.std.specs.List.{flat_map}
 use Rattle.std.proofs.lemmas.Cmp.{nat_cmp_total, on_total, then_total}
 use Rattle.std.proofs.lemmas.List.Elements.{Contains-append_left, Contains-append_right, Contains-append_cases}
-use Rattle.cil_sexpr.specs.Lists.{Lists, contains_cases, contains_here, contains_none}
-use Rattle.cil_syntax.specs.declared.code.FaultCode.{FaultCode}
-use Rattle.cil_syntax.specs.declared.code.FaultCode.TheVariants as causes
-use Rattle.cil_syntax.specs.declared.failure.Failure.{Failure}
-use Rattle.cil_syntax.specs.declared.failure.Failure.TheVariants.{Faults, NoMemory}
-use Rattle.cil_syntax.specs.declared.fault.Fault.{Fault}
+use Rattle.cil_base.specs.Lists.{Lists, contains_cases, contains_here, contains_none}
+use Rattle.cil_faults.specs.declared.code.FaultCode.{FaultCode}
+use Rattle.cil_faults.specs.declared.code.FaultCode.TheVariants as causes
+use Rattle.cil_faults.specs.declared.failure.Failure.{Failure}
+use Rattle.cil_faults.specs.declared.failure.Failure.TheVariants.{Faults, NoMemory}
+use Rattle.cil_faults.specs.declared.fault.Fault.{Fault}
 use Rattle.cil_syntax.specs.declared.program.Statement.{Statement}
 use Rattle.cil_syntax.specs.declared.term.Word.{Word}
-use Rattle.cil_syntax.specs.Fails.{AreFaults}
+use Rattle.cil_faults.specs.Fails.{AreFaults}
 use Rattle.cil_syntax.specs.Program.{IsNested, program_of}
-use Rattle.cil_syntax.specs.Refusal.{Fails}
-use Rattle.cil_syntax.specs.Reported.{fault_at}
-use Rattle.cil_syntax.specs.Scopes.{Namespace}
+use Rattle.cil_faults.specs.Refusal.{Fails}
+use Rattle.cil_faults.specs.Reported.{fault_at}
+use Rattle.cil_faults.specs.Namespaces.{Namespace}
 use Rattle.cil_syntax.specs.Written.{Named, Written, named_in_front}
 use Rattle.cil_blocks.specs.declared.entry.Entry.{Entry}
 use Rattle.cil_blocks.specs.declared.targets.Targets.{Targets}
@@ -31,10 +31,10 @@ use Rattle.cil_blocks.specs.Named.{AreAllTargets, targets_in}
 use Rattle.cil_blocks.specs.Reports.{AreAllFaults, AreContents, AreJoined, AreNumbersOf, IsCyclic, IsToldOf, IsUnresolved, fault_of_name, fault_of_word, name_fault, target_fault}
 use Rattle.cil_blocks.specs.Steps.{AreOnCycles}
 use Rattle.cil_blocks.proofs.EntryLemmas.{standings_length}
-use Rattle.cil_sexpr.specs.Places.{none_some}
+use Rattle.cil_base.specs.Places.{none_some}
 use Rattle.cil_blocks.proofs.ReportLemmas.{told_so}
-use Rattle.cil_sexpr.specs.Rising.{not_over}
-use Rattle.cil_syntax.proofs.RefusalLemmas.{faults_alike}
+use Rattle.cil_base.specs.Rising.{not_over}
+use Rattle.cil_faults.proofs.RefusalLemmas.{faults_alike}
 
 -- ---- lists of faults
 

@@ -3,7 +3,7 @@ use Rattle.std.proofs.Common.{◌≡◌, ◌⊎◌, ℕ, ◌+◌, ◌<◌, ◌�
 use Rattle.std.specs.Prelude.{◌↔◌, Contains}
 use Rattle.std.proofs.lemmas.List.{take_more, take_all}
 use Rattle.std.proofs.lemmas.List.Elements.{Contains-append_left, Contains-append_right, Contains-append_cases}
-use Rattle.cil_sexpr.specs.Lists.{contains_here, contains_cases, contains_none}
+use Rattle.cil_base.specs.Lists.{contains_here, contains_cases, contains_none}
 use Rattle.cil_blocks.specs.Doubled.{AreKept, AreThose, only_if}
 
 module _ {X : Type 0} where

@@ -5,8 +5,8 @@ use Rattle.std.specs.Map.{lookup}
 use Rattle.std.proofs.Math.Dec.{eqb}
 use Rattle.std.proofs.lemmas.Bool.{eqb-true}
 use Rattle.indexmap.specs.IndexMap.{IndexMap, IsEmpty, get}
-use Rattle.cil_sexpr.specs.Places.{none_some, some_same}
-use Rattle.cil_syntax.specs.Scopes.{Namespace}
+use Rattle.cil_base.specs.Places.{none_some, some_same}
+use Rattle.cil_faults.specs.Namespaces.{Namespace}
 use Rattle.cil_syntax.specs.Written.{Written}
 use Rattle.cil_blocks.specs.declared.namespaces.Space.{Space}
 use Rattle.cil_blocks.specs.Contents.{is_block, name_of}

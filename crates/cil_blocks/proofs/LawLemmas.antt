@@ -1,6 +1,6 @@
 -- The laws of `laws.rt`, over programs.
 use Rattle.std.proofs.Common.{◌≡◌, ◌⊎◌, ℕ, ◌<◌, ap, inl, inr, arith}
-use Rattle.cil_syntax.specs.declared.term.Spot.{Spot}
+use Rattle.cil_faults.specs.declared.spot.Spot.{Spot}
 use Rattle.cil_syntax.specs.Program.{program_of}
 use Rattle.cil_blocks.specs.Laws.{HaveOneTarget, HaveOneStanding}
 use Rattle.cil_blocks.proofs.Begun.{block_is_named, has_name}

@@ -6,8 +6,8 @@ use Rattle.std.proofs.lemmas.List.{length-append, length-set, get_or-replicate, 
 use Rattle.std.proofs.lemmas.List.Elements.{Contains-append_left, Contains-append_right, Contains-append_cases, Contains-get_or}
 use Rattle.std.proofs.lemmas.List.Folds.{sum_by-replicate}
 use Rattle.std.proofs.lemmas.List.Sums.{sum_by-set}
-use Rattle.cil_sexpr.specs.Lists.{contains_here, contains_cases, contains_none}
-use Rattle.cil_blocks.specs.declared.cycles.Reached.{Reached}
+use Rattle.cil_base.specs.Lists.{contains_here, contains_cases, contains_none}
+use Rattle.cil_blocks.specs.declared.cycles.Search.{Search}
 use Rattle.cil_blocks.specs.Entries.{AreBelow}
 use Rattle.cil_blocks.specs.Marks.{AreAdded, AreMarked, IsBegun, is_marked, unmarked}
 
@@ -19,7 +19,7 @@ same_or_not : (k n : ℕ) → (k ≡ n) ⊎ (k ≡ n → ⊥)
 same_or_not k n = grind arith
 
 -- no more numbers are reached than there are marks
-pub few_reached : (r : Reached) → AreMarked r → length r.numbers.items ≤ length r.marks.items
+pub few_reached : (r : Search) → AreMarked r → length r.numbers.items ≤ length r.marks.items
 few_reached r m = let counted = m.counted in omega (arith, counted)
 
 -- ---- nothing is marked at first
@@ -34,7 +34,7 @@ marked_at n k =
       | inr h ↦ get_or_past (replicate n false) k false (let l = length-replicate n false in omega (arith, l, h))
     ]
 
-pub none_marked : (r : Reached) (n : ℕ) → r.marks.items ≡ replicate n false → r.numbers.items ≡ [] → AreMarked r
+pub none_marked : (r : Search) (n : ℕ) → r.marks.items ≡ replicate n false → r.numbers.items ≡ [] → AreMarked r
 none_marked r n m e =
     record {
       marked = λ k c. absurd (contains_none k (subst (λ xs. Contains xs k) e c));
@@ -47,7 +47,7 @@ none_marked r n m e =
 
 -- ---- one more
 
-pub nothing_added : (old : Reached) (k : ℕ) → is_marked old k ≡ true → AreMarked old → AreAdded old (k ∷ []) old
+pub nothing_added : (old : Search) (k : ℕ) → is_marked old k ≡ true → AreMarked old → AreAdded old (k ∷ []) old
 nothing_added old k e m = record {
   are_marked = m;
   size = refl;
@@ -57,7 +57,7 @@ nothing_added old k e m = record {
   only = λ j c. absurd (contains_none j c);
 }
 
-module _ (old new : Reached) (k : ℕ) (within : k < length old.marks.items) (free : is_marked old k ≡ false)
+module _ (old new : Search) (k : ℕ) (within : k < length old.marks.items) (free : is_marked old k ≡ false)
     (marks : new.marks.items ≡ set old.marks.items k true) (numbers : new.numbers.items ≡ old.numbers.items ++ k ∷ []) (m : AreMarked old) where
   mark_there : is_marked new k ≡ true
   mark_there = ap (λ xs. get_or xs k false) marks ∙ get_or-set_same old.marks.items k true false within
@@ -110,7 +110,7 @@ module _ (old new : Reached) (k : ℕ) (within : k < length old.marks.items) (fr
 
 -- ---- more
 
-pub none_added : (r : Reached) → AreMarked r → AreAdded r [] r
+pub none_added : (r : Search) → AreMarked r → AreAdded r [] r
 none_added r m = record {
   are_marked = m;
   size = refl;
@@ -120,7 +120,7 @@ none_added r m = record {
   only = λ k c. c;
 }
 
-pub both_added : (a b d : Reached) (xs ys : List ℕ) → AreAdded a xs b → AreAdded b ys d → AreAdded a (xs ++ ys) d
+pub both_added : (a b d : Search) (xs ys : List ℕ) → AreAdded a xs b → AreAdded b ys d → AreAdded a (xs ++ ys) d
 both_added a b d xs ys f g = record {
   are_marked = g.are_marked;
   size = g.size ∙ f.size;
@@ -137,18 +137,18 @@ both_added a b d xs ys f g = record {
 }
 
 -- one more number of a list
-pub next_added : (a b d : Reached) (xs : List ℕ) (i : ℕ) → i < length xs → AreAdded a (take i xs) b → AreAdded b (get_or xs i 0 ∷ []) d
+pub next_added : (a b d : Search) (xs : List ℕ) (i : ℕ) → i < length xs → AreAdded a (take i xs) b → AreAdded b (get_or xs i 0 ∷ []) d
     → AreAdded a (take (i + 1) xs) d
 next_added a b d xs i within f g = subst (λ ns. AreAdded a ns d) (sym (take_more xs i 0 within)) (both_added a b d (take i xs) (get_or xs i 0 ∷ []) f g)
 
-pub next_within : (a b : Reached) (xs ys : List ℕ) (i : ℕ) → AreBelow (length a.marks.items) xs → i < length xs → AreAdded a ys b → get_or xs i 0 < length b.marks.items
+pub next_within : (a b : Search) (xs ys : List ℕ) (i : ℕ) → AreBelow (length a.marks.items) xs → i < length xs → AreAdded a ys b → get_or xs i 0 < length b.marks.items
 next_within a b xs ys i below within f =
     let size = f.size in
     let h = below (get_or xs i 0) (Contains-get_or xs i 0 within) in
     omega (arith, size, h)
 
 -- the search begins with one number
-pub begun_with : (empty r : Reached) (count from : ℕ) → empty.numbers.items ≡ [] → length empty.marks.items ≡ count → AreAdded empty (from ∷ []) r → IsBegun count from r
+pub begun_with : (empty r : Search) (count from : ℕ) → empty.numbers.items ≡ [] → length empty.marks.items ≡ count → AreAdded empty (from ∷ []) r → IsBegun count from r
 begun_with empty r count from e l a = record {
   are_marked = a.are_marked;
   size = a.size ∙ l;

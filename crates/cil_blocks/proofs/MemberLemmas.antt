@@ -4,7 +4,7 @@ use Rattle.std.specs.Prelude.{Contains, Option, Some, None, slice_get}
 use Rattle.std.specs.List.{flat_map}
 use Rattle.std.specs.List.Sorted.{IsPermutation, IsSortedByKey}
 use Rattle.std.proofs.lemmas.List.Sorted.{Contains-permutation, IsPermutation-sym}
-use Rattle.cil_sexpr.specs.Lists.{text_cmp}
+use Rattle.cil_base.specs.Lists.{text_cmp}
 use Rattle.cil_syntax.specs.declared.kind.Keyword.{Keyword}
 use Rattle.cil_syntax.specs.declared.kind.Keyword.TheVariants as keywords
 use Rattle.cil_syntax.specs.Written.{Written}
@@ -16,9 +16,9 @@ use Rattle.cil_blocks.specs.Contents.{is_block, is_named}
 use Rattle.cil_blocks.specs.Doubled.{AreKept, AreThose, is_named_at}
 use Rattle.cil_blocks.specs.Entries.{nothing, statement_at}
 use Rattle.cil_blocks.specs.Seeds.{AreMatched, AreMatchedOf, AreMembers, IsGivenBy, IsMember, IsOpen, IsOpenMember, Pair, Reaches, body_parts, own_name}
-use Rattle.cil_sexpr.specs.Places.{in_range}
+use Rattle.cil_base.specs.Places.{in_range}
 use Rattle.cil_blocks.proofs.NameLemmas.{get_none}
-use Rattle.cil_sexpr.specs.MadeLists.{from_flat, contains_flat}
+use Rattle.cil_base.specs.MadeLists.{from_flat, contains_flat}
 
 pub block_named : (k : Keyword) → is_block k ≡ true → is_named k ≡ true
 block_named keywords.Block e = refl

@@ -4,11 +4,11 @@ use Rattle.std.specs.Prelude.{Option, Some, None, slice_get}
 use Rattle.std.specs.declared.cmp.Ordering.{Ordering}
 use Rattle.std.specs.declared.cmp.Ordering.TheVariants.{Less, Equal, Greater}
 use Rattle.std.specs.Ordering.{is_ne, ordering_then}
-use Rattle.cil_sexpr.specs.Lists.{text_cmp}
+use Rattle.cil_base.specs.Lists.{text_cmp}
 use Rattle.cil_syntax.specs.declared.kind.Keyword.{Keyword}
 use Rattle.cil_syntax.specs.declared.kind.Keyword.TheVariants as keywords
 use Rattle.cil_syntax.specs.declared.program.Statement.{Statement}
-use Rattle.cil_syntax.specs.declared.term.Spot.{Spot}
+use Rattle.cil_faults.specs.declared.spot.Spot.{Spot}
 use Rattle.cil_syntax.specs.declared.term.Word.{Word}
 use Rattle.cil_syntax.specs.Forms.{BeginsWithName, name_in_front}
 use Rattle.cil_syntax.specs.Program.{IsNested, opener_in, program_of, written_under}
@@ -18,7 +18,7 @@ use Rattle.cil_syntax.specs.Written.{Context, Written, bytes_of, named_in_front,
 use Rattle.cil_blocks.specs.Contents.{is_block, name_of}
 use Rattle.cil_blocks.specs.Entries.{nothing, statement_at}
 use Rattle.cil_blocks.specs.Named.{IsBlockAt, full_at, full_name, names_cmp, rank, space_in}
-use Rattle.cil_sexpr.specs.Places.{get_so, in_range, is_there, none_some}
+use Rattle.cil_base.specs.Places.{get_so, in_range, is_there, none_some}
 use Rattle.cil_blocks.proofs.ProgramLemmas.{program_length, stands_on_top, stands_under, written_at}
 
 -- ---- what is at a number

@@ -8,7 +8,7 @@ use Rattle.std.proofs.lemmas.Bool.{eqb-true, and_parts}
 use Rattle.std.proofs.lemmas.List.{append-nil, length-append, map-append}
 use Rattle.std.proofs.lemmas.List.Folds.{list_any_at}
 use Rattle.indexmap.specs.IndexSet.{insert_key}
-use Rattle.cil_sexpr.specs.Places.{get_behind, get_in_front, get_so, in_range, none_some, some_same}
+use Rattle.cil_base.specs.Places.{get_behind, get_in_front, get_so, in_range, none_some, some_same}
 use Rattle.cil_syntax.specs.Spelling.{same_bytes}
 use Rattle.cil_blocks.specs.declared.namespaces.Space.{Space}
 use Rattle.cil_blocks.specs.Namespaces.{AreNamespaces, IsGrown, IsNumber, Key, inner_at, space_at, space_of, spaces_of}

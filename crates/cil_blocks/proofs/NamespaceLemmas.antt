@@ -3,8 +3,8 @@ use Rattle.std.proofs.Common.{◌≡◌, ℕ, zero, suc, ◌+◌, ◌<◌, ◌�
 use Rattle.std.specs.Prelude.{Some, slice_get}
 use Rattle.std.proofs.lemmas.List.{get_or_append_left, length-append}
 use Rattle.std.proofs.Math.Seq.{get_or-append_seam}
-use Rattle.cil_sexpr.specs.Places.{in_range, some_at, some_same, cons_head, cons_tail}
-use Rattle.cil_syntax.specs.Scopes.{Namespace}
+use Rattle.cil_base.specs.Places.{in_range, some_at, some_same, cons_head, cons_tail}
+use Rattle.cil_faults.specs.Namespaces.{Namespace}
 use Rattle.cil_blocks.specs.declared.namespaces.Space.{Space}
 use Rattle.cil_blocks.specs.Namespaces.{AreNamespaces, HasNoNumber, IsGrown, IsNumber, space_at, spaces_from}
 

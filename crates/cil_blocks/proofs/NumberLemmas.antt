@@ -5,9 +5,10 @@ use Rattle.std.specs.List.{list_any}
 use Rattle.std.proofs.lemmas.Bool.{eqb-true}
 use Rattle.std.proofs.lemmas.List.{append-nil, map-append}
 use Rattle.std.proofs.lemmas.List.Elements.{Contains-append_cases}
-use Rattle.cil_sexpr.specs.Places.{none_some, some_at}
-use Rattle.cil_sexpr.specs.Lists.{contains_here, contains_later, contains_none}
-use Rattle.cil_syntax.specs.Scopes.{Namespace, Scope, apart, chain, same_space, tidy}
+use Rattle.cil_base.specs.Places.{none_some, some_at}
+use Rattle.cil_base.specs.Lists.{contains_here, contains_later, contains_none}
+use Rattle.cil_faults.specs.Namespaces.{Namespace}
+use Rattle.cil_syntax.specs.Scopes.{Scope, apart, chain, same_space, tidy}
 use Rattle.cil_syntax.specs.Written.{is_outside}
 use Rattle.cil_blocks.specs.declared.namespaces.Space.{Space}
 use Rattle.cil_blocks.specs.Namespaces.{AreNamespaces, inner_at, space_at}

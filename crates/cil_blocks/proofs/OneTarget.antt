@@ -3,18 +3,19 @@ use Rattle.std.proofs.Common.{◌≡◌, ◌⊎◌, Bool, true, false, ◌&&◌,
 use Rattle.std.specs.Prelude.{Contains, Some}
 use Rattle.std.specs.Cmp.Lexicographic.{same_text}
 use Rattle.cil_syntax.specs.Spelling.{same_bytes}
-use Rattle.cil_syntax.specs.declared.term.Spot.{Spot}
+use Rattle.cil_faults.specs.declared.spot.Spot.{Spot}
 use Rattle.cil_syntax.specs.declared.kind.Keyword.{Keyword}
 use Rattle.cil_syntax.specs.declared.kind.Keyword.TheVariants as keywords
 use Rattle.cil_blocks.specs.Contents.{is_block, is_named, is_block_named, same_spot, Target, name_of}
 use Rattle.cil_blocks.specs.InheritFaults.{InheritFault, written_twice}
-use Rattle.cil_syntax.specs.Scopes.{Namespace, same_space, asked}
-use Rattle.cil_syntax.specs.declared.fault.Fault.{Fault}
+use Rattle.cil_faults.specs.Namespaces.{Namespace}
+use Rattle.cil_syntax.specs.Scopes.{same_space, asked}
+use Rattle.cil_faults.specs.declared.fault.Fault.{Fault}
 use Rattle.cil_syntax.specs.declared.term.Word.{Word}
 use Rattle.cil_syntax.specs.Written.{Written, Named, named_in_front}
 use Rattle.cil_blocks.specs.Laws.{HasOneTarget}
 use Rattle.cil_blocks.specs.OneStanding.{AreApart}
-use Rattle.cil_sexpr.specs.Places.{some_same}
+use Rattle.cil_base.specs.Places.{some_same}
 
 -- two namespaces that compare alike are one
 pub same_spaces : (a b : Namespace) → same_space a b ≡ true → a ≡ b

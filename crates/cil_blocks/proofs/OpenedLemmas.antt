@@ -3,7 +3,7 @@ use Rattle.std.proofs.Common.{◌≡◌, ◌⊎◌, ℕ, zero, suc, ◌+◌, ◌
 use Rattle.std.specs.Prelude.{Option, Some, None, filter, slice_get}
 use Rattle.std.specs.List.{list_any}
 use Rattle.std.proofs.lemmas.List.{length-append}
-use Rattle.cil_sexpr.specs.Lists.{contains_here, contains_none}
+use Rattle.cil_base.specs.Lists.{contains_here, contains_none}
 use Rattle.cil_syntax.specs.declared.kind.Keyword.{Keyword}
 use Rattle.cil_syntax.specs.declared.kind.Keyword.TheVariants as keywords
 use Rattle.cil_syntax.specs.Written.{Written, is_abstraction}
@@ -15,7 +15,7 @@ use Rattle.cil_blocks.specs.Laws.{HasOneTarget}
 use Rattle.cil_blocks.specs.Named.{AreAllTargets, AreTargetsOf, targets_in}
 use Rattle.cil_blocks.specs.Opens.{parts, target_of}
 use Rattle.cil_blocks.proofs.AllTargets.{targets_of_one}
-use Rattle.cil_sexpr.specs.Places.{none_some, not_there, some_same}
+use Rattle.cil_base.specs.Places.{none_some, not_there, some_same}
 use Rattle.cil_blocks.proofs.NameLemmas.{get_none}
 use Rattle.cil_blocks.proofs.StandingWalk.{is_the_target, target_is}
 

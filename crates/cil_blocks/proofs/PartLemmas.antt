@@ -3,17 +3,17 @@ use Rattle.std.proofs.Common.{◌≡◌, ℕ, ◌+◌, ◌<◌, ◌≤◌, ◌==
 use Rattle.std.specs.Prelude.{Contains, Option, Some, None, filter, slice_get}
 use Rattle.std.proofs.lemmas.List.{take_more, take_all, map-append}
 use Rattle.std.proofs.lemmas.List.Elements.{Contains-append_cases}
-use Rattle.cil_sexpr.specs.Lists.{contains_cases, contains_none}
+use Rattle.cil_base.specs.Lists.{contains_cases, contains_none}
 use Rattle.cil_syntax.specs.declared.program.Statement.{Statement}
-use Rattle.cil_syntax.specs.declared.term.Spot.{Spot}
+use Rattle.cil_faults.specs.declared.spot.Spot.{Spot}
 use Rattle.cil_syntax.specs.Program.{IsNested, program_of}
 use Rattle.cil_syntax.specs.Written.{Context, Written, at_top, written_cmp, written_total}
 use Rattle.cil_blocks.specs.declared.parts.Parts.{Parts}
 use Rattle.cil_blocks.specs.Contents.{is_at, same_spot}
 use Rattle.cil_blocks.specs.Entries.{AreBelow, AreParts, IsWithin, nothing, numbers_in, parts_at, put_at, put_top, statement_at}
 use Rattle.cil_blocks.specs.Opens.{is_on_top, on_top_by}
-use Rattle.cil_sexpr.specs.Places.{get_so, in_range, is_there}
-use Rattle.cil_sexpr.specs.Rising.{tied_places}
+use Rattle.cil_base.specs.Places.{get_so, in_range, is_there}
+use Rattle.cil_base.specs.Rising.{tied_places}
 use Rattle.cil_blocks.proofs.ProgramLemmas.{program_length, stands_on_top, stands_under, tied, written_at}
 use Rattle.cil_blocks.proofs.StandingWalk.{same_spots, spots_same}
 

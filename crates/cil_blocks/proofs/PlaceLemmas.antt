@@ -1,17 +1,16 @@
 -- Places, each chosen by a number among those that are kept, each of which is reached from one before it.
-use Rattle.std.proofs.Common.{◌≡◌, ◌==◌, false, ℕ, zero, suc, ◌+◌, ◌<◌, ◌≤◌, List, [], ◌∷◌, ◌++◌, length, get_or, refl, sym, ◌∙◌, ap, subst, inl, inr, arith}
+use Rattle.std.proofs.Common.{◌≡◌, ◌==◌, false, ℕ, zero, suc, ◌+◌, ◌<◌, ◌≤◌, List, [], ◌∷◌, ◌++◌, length, get_or, refl, sym, ◌∙◌, ap, subst, inl, inr, arith, append_assoc, append-nil}
 use Rattle.std.specs.Prelude.{Contains, None, Some, flat_map, reverse, slice_get}
 use Rattle.std.specs.Global.{Vec}
 use Rattle.std.specs.Vec.{vec_len}
 use Rattle.std.specs.List.{list_any}
 use Rattle.std.specs.Option.{option_map}
 use Rattle.std.proofs.Math.Seq.{get_or-append_seam}
-use Rattle.std.proofs.Common.{append_assoc, append-nil}
 use Rattle.std.proofs.lemmas.List.{get_or_append_left, length-append, map-append, reverse-append}
 use Rattle.std.proofs.lemmas.List.Elements.{Contains-append_cases}
 use Rattle.std.proofs.lemmas.Option.{slice_get-map}
-use Rattle.cil_sexpr.specs.Lists.{contains_here, contains_later}
-use Rattle.cil_sexpr.specs.Places.{get_behind, in_range, none_some, some_same}
+use Rattle.cil_base.specs.Lists.{contains_here, contains_later}
+use Rattle.cil_base.specs.Places.{get_behind, in_range, none_some, some_same}
 use Rattle.cil_blocks.specs.declared.places.Place.{Place}
 use Rattle.cil_blocks.specs.declared.namespaces.Space.{Space}
 use Rattle.cil_blocks.specs.Numbers.{chain_numbers, with_number, with_numbers}

@@ -6,12 +6,12 @@ use Rattle.std.specs.Ordering.{nat_cmp, ordering_then}
 use Rattle.std.specs.Cmp.{nat_cmp_is}
 use Rattle.std.proofs.lemmas.List.{append-nil, length-append}
 use Rattle.cil_syntax.specs.declared.program.Statement.{Statement}
-use Rattle.cil_syntax.specs.declared.term.Spot.{Spot}
+use Rattle.cil_faults.specs.declared.spot.Spot.{Spot}
 use Rattle.cil_syntax.specs.Program.{IsNested, context_in, opener_in, program_from, program_of, written_under}
 use Rattle.cil_syntax.specs.Written.{Written, written_cmp, written_total}
 use Rattle.cil_blocks.specs.Contents.{IsIn}
-use Rattle.cil_sexpr.specs.Places.{get_at, get_behind, get_contains, get_in_front, in_range, none_some, some_at, some_same}
-use Rattle.cil_sexpr.specs.Rising.{rises_between, tied_same}
+use Rattle.cil_base.specs.Places.{get_at, get_behind, get_contains, get_in_front, in_range, none_some, some_at, some_same}
+use Rattle.cil_base.specs.Rising.{rises_between, tied_same}
 use Rattle.cil_blocks.specs.OneStanding.{AreApart}
 
 -- ---- the fold

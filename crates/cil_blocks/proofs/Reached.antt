@@ -10,11 +10,11 @@ use Rattle.std.proofs.lemmas.List.{append-nil, length-append, take_more, take_al
 use Rattle.std.proofs.lemmas.List.Elements.{Contains-append_left, Contains-append_right, Contains-append_cases}
 use Rattle.indexmap.specs.IndexSet.{insert_key}
 use Rattle.indexmap.proofs.CallerLemmas.{Contains-list_any}
-use Rattle.cil_sexpr.specs.Lists.{contains_here, contains_none}
+use Rattle.cil_base.specs.Lists.{contains_here, contains_none}
 use Rattle.cil_blocks.specs.Doubled.{AreThose}
 use Rattle.cil_blocks.specs.Seeds.{IsJoined, IsReachedBy, Pair, at_start, further}
 use Rattle.cil_blocks.proofs.Kept.{grown, in_one, no_members}
-use Rattle.cil_sexpr.specs.Places.{get_at, get_contains, get_in_front, in_range, some_same}
+use Rattle.cil_base.specs.Places.{get_at, get_contains, get_in_front, in_range, some_same}
 
 -- ---- equality of bodies and of pairs, as the code tests it
 

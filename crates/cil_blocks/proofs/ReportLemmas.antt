@@ -5,9 +5,9 @@ use Rattle.std.specs.List.{flat_map}
 use Rattle.std.proofs.lemmas.List.{map-append, reverse-append}
 use Rattle.std.proofs.lemmas.List.Elements.{Contains-append_left, Contains-append_right, Contains-append_cases}
 use denote.Ref.{Bor}
-use Rattle.cil_sexpr.specs.Lists.{contains_cases, contains_here, contains_later, contains_none}
-use Rattle.cil_syntax.specs.declared.code.FaultCode.{FaultCode}
-use Rattle.cil_syntax.specs.declared.fault.Fault.{Fault}
+use Rattle.cil_base.specs.Lists.{contains_cases, contains_here, contains_later, contains_none}
+use Rattle.cil_faults.specs.declared.code.FaultCode.{FaultCode}
+use Rattle.cil_faults.specs.declared.fault.Fault.{Fault}
 use Rattle.cil_syntax.specs.declared.term.Word.{Word}
 use Rattle.cil_syntax.specs.Around.{names_of}
 use Rattle.cil_syntax.specs.Forms.{name_in_front}
@@ -16,7 +16,7 @@ use Rattle.cil_syntax.specs.Written.{Written, named_in_front}
 use Rattle.cil_blocks.specs.Contents.{first_word}
 use Rattle.cil_blocks.specs.Entries.{nothing, statement_at}
 use Rattle.cil_blocks.specs.Reports.{AreNumbersOf, IsToldOf, fault_of_name, fault_of_word, name_fault, target_fault}
-use Rattle.cil_sexpr.specs.Places.{get_at, get_contains, get_so, is_there, none_some}
+use Rattle.cil_base.specs.Places.{get_at, get_contains, get_so, is_there, none_some}
 
 -- ---- lists
 

@@ -13,9 +13,9 @@ use Rattle.std.proofs.lemmas.Bool.{false≢true, not-true, not-false, true≢fal
 use Rattle.std.proofs.lemmas.List.{get_or-drop, length-drop, take-append-drop}
 use Rattle.std.proofs.lemmas.List.Elements.{Contains-append_left, Contains-append_right, Contains-append_cases}
 use Rattle.std.proofs.lemmas.List.Sorted.{ranks_by, sorted_far}
-use Rattle.cil_sexpr.specs.Lists.{text_cmp}
+use Rattle.cil_base.specs.Lists.{text_cmp}
 use Rattle.cil_blocks.specs.Named.{names_cmp}
-use Rattle.cil_sexpr.specs.Places.{in_drop, in_take}
+use Rattle.cil_base.specs.Places.{in_drop, in_take}
 
 -- ---- names
 

@@ -4,8 +4,9 @@ use Rattle.std.specs.Prelude.{Contains, filter, reverse}
 use Rattle.std.specs.List.{slice_split}
 use Rattle.std.proofs.lemmas.List.{length-append}
 use Rattle.std.proofs.lemmas.List.Splits.{slice_split_at, slice_split_none}
-use Rattle.cil_sexpr.specs.Lists.{contains_none}
-use Rattle.cil_syntax.specs.Scopes.{IsDotless, IsParted, IsTaken, Namespace, apart, chain, names_backwards, same_space, scope_at}
+use Rattle.cil_base.specs.Lists.{contains_none}
+use Rattle.cil_syntax.specs.Scopes.{IsDotless, IsParted, IsTaken, apart, chain, names_backwards, same_space, scope_at}
+use Rattle.cil_faults.specs.Namespaces.{Namespace}
 use Rattle.cil_syntax.specs.Spelling.{same_bytes}
 use Rattle.cil_syntax.specs.Written.{Written}
 use Rattle.cil_blocks.specs.Named.{AreFirstNamed, AreOfName, HasNoneNamed, IsAsked}

@@ -3,7 +3,7 @@ use Rattle.std.proofs.Common.{◌≡◌, ◌⊎◌, ℕ, ◌<◌, true, List, �
 use Rattle.std.specs.Prelude.{Contains, Option}
 use Rattle.cil_syntax.specs.declared.program.Statement.{Statement}
 use Rattle.cil_syntax.specs.Program.{IsNested, program_of}
-use Rattle.cil_syntax.specs.Scopes.{Namespace}
+use Rattle.cil_faults.specs.Namespaces.{Namespace}
 use Rattle.cil_syntax.specs.Written.{Written}
 use Rattle.cil_blocks.specs.declared.parts.Parts.{Parts}
 use Rattle.cil_blocks.specs.declared.targets.Targets.{Targets}
@@ -15,7 +15,7 @@ use Rattle.cil_blocks.specs.Named.{AreAllTargets, full_name}
 use Rattle.cil_blocks.specs.Seeds.{StandsTwice, body_of, body_parts}
 use Rattle.cil_blocks.proofs.CycleLemmas.{is_shared}
 use Rattle.cil_blocks.proofs.Kept.{grown}
-use Rattle.cil_sexpr.specs.Places.{get_at, get_so, cons_head, cons_tail}
+use Rattle.cil_base.specs.Places.{get_at, get_so, cons_head, cons_tail}
 use Rattle.cil_blocks.proofs.MemberLemmas.{named_below}
 use Rattle.cil_blocks.proofs.ProgramLemmas.{program_length}
 use Rattle.cil_blocks.proofs.SeedsShare.{both_reached, have_seeds, number_of, one_number, part_below, part_of, same_number, seeds_share, sharing, written}

@@ -2,11 +2,11 @@
 use Rattle.std.proofs.Common.{◌≡◌, ℕ, ◌+◌, ◌<◌, ◌≤◌, List, [], ◌++◌, length, get_or, take, refl, sym, ◌∙◌, ap, subst, inl, inr}
 use Rattle.std.specs.Prelude.{Contains, Some}
 use Rattle.std.proofs.lemmas.List.{take_all}
-use Rattle.cil_sexpr.specs.Lists.{contains_none}
+use Rattle.cil_base.specs.Lists.{contains_none}
 use Rattle.cil_blocks.specs.Doubled.{AreAlike, AreThose}
 use Rattle.cil_blocks.specs.Seeds.{IsPaired, Pair, paired_with}
 use Rattle.cil_blocks.proofs.Kept.{grown, in_more, no_members}
-use Rattle.cil_sexpr.specs.MadeLists.{contains_map, from_map}
+use Rattle.cil_base.specs.MadeLists.{contains_map, from_map}
 
 module _ {K : Type 0} (key : ℕ → K) (others : List ℕ) where
   pub none_paired : (pairs : List Pair) → pairs ≡ [] → AreThose (IsPaired key [] others) pairs

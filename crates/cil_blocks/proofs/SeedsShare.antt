@@ -15,10 +15,10 @@ use Rattle.cil_blocks.specs.Leads.{Shares, first, second}
 use Rattle.cil_blocks.specs.Named.{AreAllTargets, targets_in}
 use Rattle.cil_blocks.specs.Opens.{is_on_top, parts}
 use Rattle.cil_blocks.specs.Seeds.{AreSeeds, IsHanded, IsNext, Pair, Reaches, at_start, bodies, body_of, body_parts, further, handed_to}
-use Rattle.cil_sexpr.specs.MadeLists.{contains_map, from_map, from_flat, contains_flat}
-use Rattle.cil_sexpr.specs.Places.{get_contains, is_there}
-use Rattle.cil_sexpr.specs.Searches.{kept_into, kept_is}
-use Rattle.cil_sexpr.specs.Rising.{tied_places}
+use Rattle.cil_base.specs.MadeLists.{contains_map, from_map, from_flat, contains_flat}
+use Rattle.cil_base.specs.Places.{get_contains, is_there}
+use Rattle.cil_base.specs.Searches.{kept_into, kept_is}
+use Rattle.cil_base.specs.Rising.{tied_places}
 use Rattle.cil_blocks.proofs.MemberLemmas.{block_named, named_below}
 use Rattle.cil_blocks.proofs.ProgramLemmas.{tied}
 use Rattle.cil_blocks.proofs.StandingWalk.{in_parts, parts_of, top_on}

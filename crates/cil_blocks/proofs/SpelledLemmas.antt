@@ -2,7 +2,7 @@
 use Rattle.std.proofs.Common.{◌≡◌, ℕ, zero, suc, ◌≤◌, List, [], ◌∷◌, ◌++◌, length, sym, ◌∙◌, ap, arith, append_assoc, Bor}
 use Rattle.std.specs.Prelude.{None, Some}
 use Rattle.std.proofs.lemmas.List.{append-nil, map-append}
-use Rattle.cil_sexpr.specs.Places.{none_some, some_at}
+use Rattle.cil_base.specs.Places.{none_some, some_at}
 use Rattle.cil_syntax.specs.Around.{names_of}
 use Rattle.cil_blocks.specs.declared.namespaces.Space.{Space}
 use Rattle.cil_blocks.specs.Namespaces.{AreNamespaces, inner_at, space_at}

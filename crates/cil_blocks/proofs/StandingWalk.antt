@@ -5,24 +5,25 @@ use Rattle.std.specs.Prelude.{Contains, Option, Some, None, filter}
 use Rattle.std.specs.declared.cmp.Ordering.TheVariants.{Less}
 use Rattle.std.specs.Cmp.Lexicographic.{same_text, other_text}
 use Rattle.cil_syntax.specs.Spelling.{same_bytes}
-use Rattle.cil_syntax.specs.Scopes.{Namespace, asked}
+use Rattle.cil_faults.specs.Namespaces.{Namespace}
+use Rattle.cil_syntax.specs.Scopes.{asked}
 use Rattle.cil_syntax.specs.declared.term.Word.{Word}
 use Rattle.std.specs.List.Sorted.{IsStrictlySortedBy}
 use Rattle.std.proofs.lemmas.List.Kept.{IsStrictlySortedBy-filter}
 use Rattle.std.proofs.lemmas.List.{length-append}
-use Rattle.cil_sexpr.specs.Lists.{contains_none, all_at}
-use Rattle.cil_syntax.specs.declared.term.Spot.{Spot}
+use Rattle.cil_base.specs.Lists.{contains_none, all_at}
+use Rattle.cil_faults.specs.declared.spot.Spot.{Spot}
 use Rattle.cil_syntax.specs.declared.kind.Keyword.{Keyword}
 use Rattle.cil_syntax.specs.declared.kind.Keyword.TheVariants as keywords
 use Rattle.cil_blocks.specs.Contents.{first_word, block_space, is_block_named, is_block, is_inheriting, is_optional, is_abstract, is_at, same_spot, IsIn, Target, Standing, standing_top, standing_in_block, standing_in_optional, standing_inherited, standing_cmp, path_cmp, spot_cmp, Stands, top, in_block, in_optional, inherited, spot_total}
 use Rattle.cil_blocks.specs.Opens.{on_top_by, target_in, target_by, is_on_top, tops, parts, target_of, opens_target, opens_as, opens}
 use Rattle.cil_syntax.specs.Written.{Written, written_cmp}
-use Rattle.cil_sexpr.specs.Rising.{all_from}
-use Rattle.cil_sexpr.specs.MadeLists.{contains_map, from_map}
-use Rattle.cil_sexpr.specs.Searches.{find_some, found_is, kept_into, kept_is}
-use Rattle.cil_sexpr.specs.Places.{none_some}
-use Rattle.cil_sexpr.specs.Paths.{opened_later, opened_beside, longer_than_one, alone}
-use Rattle.cil_sexpr.specs.Queue.{IsReached, at_first, onward, IsQueueOrder}
+use Rattle.cil_base.specs.Rising.{all_from}
+use Rattle.cil_base.specs.MadeLists.{contains_map, from_map}
+use Rattle.cil_base.specs.Searches.{find_some, found_is, kept_into, kept_is}
+use Rattle.cil_base.specs.Places.{none_some}
+use Rattle.cil_base.specs.Paths.{opened_later, opened_beside, longer_than_one, alone}
+use Rattle.cil_base.specs.Queue.{IsReached, at_first, onward, IsQueueOrder}
 
 -- ---- places
 

@@ -3,7 +3,7 @@ use Rattle.std.proofs.Common.{◌≡◌, ◌⊎◌, ℕ, ◌+◌, ◌<◌, ◌�
 use Rattle.std.specs.Prelude.{◌↔◌, Contains, IsTrue, Option, Some, None, slice_get}
 use Rattle.std.proofs.lemmas.List.{take_all}
 use Rattle.std.proofs.lemmas.List.Elements.{Contains-append_left, Contains-append_right, Contains-append_cases}
-use Rattle.cil_sexpr.specs.Lists.{contains_here}
+use Rattle.cil_base.specs.Lists.{contains_here}
 use Rattle.cil_syntax.specs.declared.kind.Keyword.{Keyword}
 use Rattle.cil_syntax.specs.declared.kind.Keyword.TheVariants as keywords
 use Rattle.cil_syntax.specs.declared.program.Statement.{Statement}
@@ -17,9 +17,9 @@ use Rattle.cil_blocks.specs.Leads as leads
 use Rattle.cil_blocks.specs.Leads.{IsOnCycle, Leads, here, nested}
 use Rattle.cil_blocks.specs.Named.{AreAllTargets, targets_in}
 use Rattle.cil_blocks.specs.Steps.{AreOnCycles, IsStep, LeadBack, NeverRise, Reaches, StayBelow, itself, level_at, onward}
-use Rattle.cil_sexpr.specs.MadeLists.{contains_map, from_map}
-use Rattle.cil_sexpr.specs.Places.{get_contains, get_so, in_range, is_there}
-use Rattle.cil_sexpr.specs.Rising.{tied_places}
+use Rattle.cil_base.specs.MadeLists.{contains_map, from_map}
+use Rattle.cil_base.specs.Places.{get_contains, get_so, in_range, is_there}
+use Rattle.cil_base.specs.Rising.{tied_places}
 use Rattle.cil_blocks.proofs.MarkLemmas.{only_one}
 use Rattle.cil_blocks.specs.OneStanding.{first_of_three}
 use Rattle.cil_blocks.proofs.ProgramLemmas.{in_number, stands_under, tied, written_at}

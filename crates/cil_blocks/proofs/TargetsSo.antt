@@ -3,18 +3,19 @@ use Rattle.std.proofs.Common.{◌≡◌, ◌⊎◌, ℕ, Bool, true, false, ◌&
 use Rattle.std.specs.Prelude.{Contains, Option, Some, None, find}
 use Rattle.std.specs.Cmp.Lexicographic.{same_text}
 use Rattle.std.specs.List.{list_any}
-use Rattle.cil_sexpr.specs.Lists.{contains_here, contains_later, contains_cases, contains_none}
+use Rattle.cil_base.specs.Lists.{contains_here, contains_later, contains_cases, contains_none}
 use Rattle.cil_syntax.specs.declared.term.Word.{Word}
 use Rattle.cil_syntax.specs.Forms.{word_in_front}
-use Rattle.cil_syntax.specs.Scopes.{Asked, Namespace, asked, same_space, scope_at, spaces_asked}
+use Rattle.cil_syntax.specs.Scopes.{Asked, asked, same_space, scope_at, spaces_asked}
+use Rattle.cil_faults.specs.Namespaces.{Namespace}
 use Rattle.cil_syntax.specs.Spelling.{same_bytes}
 use Rattle.cil_syntax.specs.Terms.{Leaf, Name, Form, Terms, nil, cons}
 use Rattle.cil_syntax.specs.Written.{Written}
 use Rattle.cil_blocks.specs.Contents.{block_space, first_word, has_block, is_block, is_block_named, name_of}
 use Rattle.cil_blocks.specs.Entries.{AreBelow, nothing, statement_at}
 use Rattle.cil_blocks.specs.Named.{AreBlocks, AreFirstNamed, AreOfName, AreTargets, HasNoneNamed, IsAsked, asked_space, space_in}
-use Rattle.cil_sexpr.specs.MadeLists.{contains_map, from_map}
-use Rattle.cil_sexpr.specs.Places.{get_at, get_contains, get_so, is_there, none_some, some_same, cons_head, cons_tail}
+use Rattle.cil_base.specs.MadeLists.{contains_map, from_map}
+use Rattle.cil_base.specs.Places.{get_at, get_contains, get_so, is_there, none_some, some_same, cons_head, cons_tail}
 use Rattle.cil_blocks.proofs.NameLemmas.{block_space_in}
 use Rattle.cil_blocks.proofs.OneTarget.{same_spaces, three}
 use Rattle.cil_blocks.proofs.ScopeLemmas.{scope_global}

@@ -14,9 +14,9 @@ use Rattle.cil_blocks.specs.Opens.{is_on_top, parts, target_of}
 
 -- ---- statements by their numbers
 
--- what a number says that is none of a statement
+-- what a number says that is none of a statement. No program has it: what is written as a blockabstract begins with a word
 abbrev pub nothing : Written
-nothing = record { context = at_top; statement = record { keyword = keywords.SetAside; at = record { «module» = 0; at = 0 }; args = nil } }
+nothing = record { context = at_top; statement = record { keyword = keywords.BlockAbstract; at = record { «module» = 0; at = 0 }; args = nil } }
 
 abbrev pub statement_at : List Written → ℕ → Written
 statement_at ws i = get_or ws i nothing

@@ -1,12 +1,12 @@
 -- What is wrong with blocks and inheritance. This project's profile.
 use Rattle.std.specs.Prelude.{◌≡◌, ◌⊎◌, ℕ, true, false, List, [], ◌∷◌, Contains, Option, Some, None}
-pub use Rattle.cil_sexpr.specs.Rising.{IsOver}
-use Rattle.cil_syntax.specs.declared.code.FaultCode.TheVariants as causes
-use Rattle.cil_syntax.specs.Scopes.{Namespace}
+pub use Rattle.cil_base.specs.Rising.{IsOver}
+use Rattle.cil_faults.specs.declared.code.FaultCode.TheVariants as causes
+use Rattle.cil_faults.specs.Namespaces.{Namespace}
 use Rattle.cil_syntax.specs.declared.term.Word.{Word}
 use Rattle.cil_blocks.specs.Contents.{is_block, is_named, is_inheriting, is_abstract, IsIn, first_word, name_of, Target, standing_cmp, Stands}
-use Rattle.cil_syntax.specs.declared.fault.Fault.{Fault}
-use Rattle.cil_syntax.specs.Reported.{fault_at}
+use Rattle.cil_faults.specs.declared.fault.Fault.{Fault}
+use Rattle.cil_faults.specs.Reported.{fault_at}
 use Rattle.cil_syntax.specs.Written.{Written, Named, named_in_front}
 
 -- the statement stands directly in a body: in a text, or in a block

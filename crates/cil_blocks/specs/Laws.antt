@@ -1,14 +1,14 @@
 -- Laws of contents and of what is wrong with blocks.
 use Rattle.std.specs.Prelude.{◌≡◌, ◌↔◌, Bool, true, false, List, Contains, Option, None}
 use Rattle.std.specs.List.Sorted.{IsStrictlySortedBy}
-use Rattle.cil_sexpr.specs.Lists.{Lists}
-use Rattle.cil_syntax.specs.declared.fault.Fault.{Fault}
+use Rattle.cil_base.specs.Lists.{Lists}
+use Rattle.cil_faults.specs.declared.fault.Fault.{Fault}
 use Rattle.cil_syntax.specs.declared.kind.Keyword.{Keyword}
 use Rattle.cil_syntax.specs.declared.kind.Keyword.TheVariants as keywords
 use Rattle.cil_syntax.specs.declared.program.Statement.{Statement}
 use Rattle.cil_syntax.specs.Program.{IsNested, program_of}
-use Rattle.cil_syntax.specs.Scopes.{Namespace}
-use Rattle.cil_syntax.specs.Laws.{Outcome}
+use Rattle.cil_faults.specs.Namespaces.{Namespace}
+use Rattle.cil_faults.specs.Laws.{Outcome}
 use Rattle.cil_syntax.specs.Written.{Written, written_cmp}
 use Rattle.cil_blocks.specs.Contents.{Standing, Stands, Target, is_block, is_inheriting, is_named, is_optional, path_of, standing_cmp}
 use Rattle.cil_blocks.specs.InheritFaults.{Gives, InheritFault, InheritStep, IsOf}

@@ -2,7 +2,7 @@
 use Rattle.std.specs.Prelude.{◌≡◌, ◌⊎◌, ◌↔◌, true, false, List, Contains, Option, Some, None}
 use Rattle.cil_blocks.specs.Contents.{is_block, is_inheriting, is_abstract, IsIn, name_of, Target}
 use Rattle.cil_blocks.specs.InheritFaults.{IsOf, Within, Needs, Gives}
-use Rattle.cil_syntax.specs.Scopes.{Namespace}
+use Rattle.cil_faults.specs.Namespaces.{Namespace}
 use Rattle.cil_syntax.specs.Written.{Written}
 
 -- one statement leads to those in it, and to the targets of the blockinherits in it

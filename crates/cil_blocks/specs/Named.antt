@@ -4,8 +4,9 @@ use denote.Ref.{Bor}
 use Rattle.std.specs.declared.cmp.Ordering.{Ordering}
 use Rattle.std.specs.List.Sorted.{IsSortedByKey}
 use Rattle.std.specs.Cmp.Lexicographic.{slice_cmp}
-use Rattle.cil_sexpr.specs.Lists.{text_cmp}
-use Rattle.cil_syntax.specs.Scopes.{Namespace, asked}
+use Rattle.cil_base.specs.Lists.{text_cmp}
+use Rattle.cil_faults.specs.Namespaces.{Namespace}
+use Rattle.cil_syntax.specs.Scopes.{asked}
 use Rattle.cil_syntax.specs.Written.{Written, space_within}
 use Rattle.cil_blocks.specs.declared.targets.Targets.{Targets}
 use Rattle.cil_blocks.specs.Contents.{Target, is_block, is_inheriting, name_of}

@@ -2,7 +2,7 @@
 -- own name. This project's profile.
 use Rattle.std.specs.Prelude.{◌≡◌, ◌≤◌, ℕ, zero, suc, List, [], ◌∷◌, ◌++◌, length, get_or, map, Option, Some, None, slice_get}
 use denote.Ref.{Bor}
-use Rattle.cil_syntax.specs.Scopes.{Namespace}
+use Rattle.cil_faults.specs.Namespaces.{Namespace}
 use Rattle.cil_blocks.specs.declared.namespaces.Space.{Space}
 
 -- the namespaces, one after another: each lies in one that stands before it

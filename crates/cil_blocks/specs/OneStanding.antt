@@ -8,8 +8,8 @@ use Rattle.cil_syntax.specs.declared.kind.Keyword.TheVariants as keywords
 use Rattle.cil_blocks.specs.Contents.{is_block, is_inheriting, is_optional, IsIn, Target, Standing, path_of, standing_top, standing_in_block, standing_in_optional, standing_inherited, Stands, top, in_block, in_optional, inherited}
 use Rattle.cil_syntax.specs.Written.{Written, written_cmp, written_total}
 use Rattle.cil_blocks.specs.Laws.{HasOneTarget}
-use Rattle.cil_sexpr.specs.Lists.{not_below_itself}
-use Rattle.cil_sexpr.specs.Places.{never_empty, same_ends, some_same}
+use Rattle.cil_base.specs.Lists.{not_below_itself}
+use Rattle.cil_base.specs.Places.{never_empty, same_ends, some_same}
 
 pub first_of_three : (a b c : Bool) → (a && b && c) ≡ true → a ≡ true
 first_of_three true b c e = refl

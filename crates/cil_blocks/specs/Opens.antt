@@ -4,7 +4,8 @@ use Rattle.std.specs.Prelude.{Bool, true, false, if◌then◌else◌, List, [], 
 use Rattle.cil_syntax.specs.declared.kind.Keyword.{Keyword}
 use Rattle.cil_syntax.specs.declared.kind.Keyword.TheVariants as keywords
 use Rattle.cil_blocks.specs.Contents.{is_at, is_abstract, is_block_named, block_space, first_word, Standing, standing_top, standing_in_block, standing_in_optional, standing_inherited}
-use Rattle.cil_syntax.specs.Scopes.{Namespace, asked}
+use Rattle.cil_faults.specs.Namespaces.{Namespace}
+use Rattle.cil_syntax.specs.Scopes.{asked}
 use Rattle.cil_syntax.specs.declared.term.Word.{Word}
 use Rattle.cil_syntax.specs.Written.{Written}
 

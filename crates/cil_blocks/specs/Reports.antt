@@ -1,15 +1,15 @@
 -- What is told of blocks, statement by statement, and what the whole step answers. This project's profile.
 use Rattle.std.specs.Prelude.{◌≡◌, ◌⊎◌, ◌≤◌, ◌<◌, ◌↔◌, ℕ, true, List, [], ◌∷◌, length, Contains, Option, Some, None}
-use Rattle.cil_sexpr.specs.Lists.{Lists}
-use Rattle.cil_syntax.specs.declared.code.FaultCode.{FaultCode}
-use Rattle.cil_syntax.specs.declared.code.FaultCode.TheVariants as causes
-use Rattle.cil_syntax.specs.declared.fault.Fault.{Fault}
+use Rattle.cil_base.specs.Lists.{Lists}
+use Rattle.cil_faults.specs.declared.code.FaultCode.{FaultCode}
+use Rattle.cil_faults.specs.declared.code.FaultCode.TheVariants as causes
+use Rattle.cil_faults.specs.declared.fault.Fault.{Fault}
 use Rattle.cil_syntax.specs.declared.program.Statement.{Statement}
 use Rattle.cil_syntax.specs.declared.term.Word.{Word}
-use Rattle.cil_syntax.specs.Fails.{AreFaults}
+use Rattle.cil_faults.specs.Fails.{AreFaults}
 use Rattle.cil_syntax.specs.Program.{IsNested, program_of}
-use Rattle.cil_syntax.specs.Reported.{fault_at}
-use Rattle.cil_syntax.specs.Scopes.{Namespace}
+use Rattle.cil_faults.specs.Reported.{fault_at}
+use Rattle.cil_faults.specs.Namespaces.{Namespace}
 use Rattle.cil_syntax.specs.Written.{Named, Written, named_in_front}
 use Rattle.cil_blocks.specs.declared.entry.Entry.{Entry}
 use Rattle.cil_blocks.specs.Contents.{Stands, Target, first_word, is_inheriting, standing_cmp}

@@ -2,7 +2,7 @@
 -- a body that gives to a namespace by itself; with it go all bodies that are handed to that namespace.
 use Rattle.std.specs.Prelude.{◌≡◌, ℕ, true, false, List, ◌++◌, map, flat_map, Contains, Option, Some, None}
 use Rattle.std.specs.List.Sorted.{IsSortedByKey}
-use Rattle.cil_sexpr.specs.Lists.{text_cmp}
+use Rattle.cil_base.specs.Lists.{text_cmp}
 use Rattle.cil_syntax.specs.Written.{Written}
 use Rattle.cil_blocks.specs.declared.parts.Parts.{Parts}
 use Rattle.cil_blocks.specs.declared.reach.Members.{Members}

@@ -1,7 +1,7 @@
 //! What stands in a program whose blocks are in order.
 
 ghost use Rattle.std.specs.Prelude.{◌≡◌, ◌≤◌, IfNone, IfOk, IfSome, List, length};
-ghost use Rattle.cil_sexpr.specs.Lists.{Lists};
+ghost use Rattle.cil_base.specs.Lists.{Lists};
 ghost use Rattle.cil_syntax.specs.Program.{IsNested, program_of};
 ghost use Rattle.cil_blocks.specs.Contents.{Stands, standing_cmp};
 ghost use Rattle.cil_blocks.specs.Entries.{AreOpened, AreParts, standings_of};
@@ -12,7 +12,7 @@ use crate::entry::Entry;
 use crate::laws;
 use crate::parts::Parts;
 use crate::walker::walk;
-use cil_modset::NoMemory;
+use cil_base::NoMemory;
 use cil_syntax::Statement;
 use std::alloc::Global;
 

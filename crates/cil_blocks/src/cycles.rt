@@ -16,7 +16,7 @@ use crate::levels::{Steps, level_at, levels_of};
 use crate::parts::Parts;
 use crate::targets::Targets;
 use crate::walker::parts_at;
-use cil_modset::NoMemory;
+use cil_base::NoMemory;
 use cil_syntax::Statement;
 use std::alloc::Global;
 
@@ -135,7 +135,7 @@ impl<'g, 'b> Steps<'g, 'b> {
 
 /// What a search has reached.
 #[derive(Drop)]
-struct Reached {
+struct Search {
     /// For each number whether it was reached.
     marks: Vec<bool>,
     /// The numbers that were, in the order in which they were.
@@ -143,11 +143,11 @@ struct Reached {
 }
 
 /// So many numbers may be reached, and one of them was.
-fn begun(alloc: Global, count: usize, from: usize) -> Result<Reached, NoMemory>
+fn begun(alloc: Global, count: usize, from: usize) -> Result<Search, NoMemory>
     requires { from < count }
     ensures { IfOk result (IsBegun count from) }
 {
-    let mut reached = Reached {
+    let mut reached = Search {
         marks: vec![in alloc; false; count]?,
         numbers: Vec::new(alloc),
     };
@@ -155,7 +155,7 @@ fn begun(alloc: Global, count: usize, from: usize) -> Result<Reached, NoMemory>
     Ok(reached)
 }
 
-impl Reached {
+impl Search {
     ghost use Rattle.std.specs.Prelude.{◌≡◌, ◌<◌, ◌∷◌, [], OnOk, length, slice_get};
     ghost use Rattle.cil_blocks.specs.Entries.{AreBelow};
     ghost use Rattle.cil_blocks.specs.Marks.{AreAdded, AreMarked, is_marked};

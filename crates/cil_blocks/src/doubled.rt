@@ -13,7 +13,7 @@ use crate::names::compare_names;
 use crate::parts::Parts;
 use crate::seeds::standing_twice;
 use crate::targets::{Targets, from, up_to};
-use cil_modset::NoMemory;
+use cil_base::NoMemory;
 use cil_syntax::{Keyword, Statement};
 use std::alloc::Global;
 

@@ -5,7 +5,7 @@
 
 use crate::levels::Steps;
 use crate::walker::parts_at;
-use cil_modset::NoMemory;
+use cil_base::NoMemory;
 use cil_syntax::Statement;
 use std::alloc::Global;
 

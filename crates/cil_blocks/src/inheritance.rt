@@ -2,10 +2,10 @@
 //! blocks. What each pass costs stands in the header of its module.
 
 ghost use Rattle.std.specs.Prelude.{◌≡◌, ◌↔◌, ◌<◌, IfOk, IsTrue, length};
-ghost use Rattle.cil_syntax.specs.declared.code.FaultCode.TheVariants as causes;
-ghost use Rattle.cil_syntax.specs.Fails.{AreFaults};
+ghost use Rattle.cil_faults.specs.declared.code.FaultCode.TheVariants as causes;
+ghost use Rattle.cil_faults.specs.Fails.{AreFaults};
 ghost use Rattle.cil_syntax.specs.Program.{IsNested, program_of};
-ghost use Rattle.cil_syntax.specs.Refusal.{Answers};
+ghost use Rattle.cil_faults.specs.Refusal.{Answers};
 ghost use Rattle.cil_blocks.specs.Entries.{AreParts, statement_at};
 ghost use Rattle.cil_blocks.specs.InheritFaults.{InheritFault, InheritStep, IsDoubled, limit_fault, most_instances};
 ghost use Rattle.cil_blocks.specs.Named.{AreAllTargets};
@@ -23,7 +23,7 @@ use crate::places::places_of;
 use crate::reports::{name_faults, target_faults};
 use crate::spaces::Spaces;
 use crate::targets::{Targets, blocks_of, targets_of};
-use cil_modset::NoMemory;
+use cil_base::NoMemory;
 use cil_syntax::{Bytes, Failure, Fault, FaultCode, FaultList, Program, Statement};
 use std::alloc::Global;
 

@@ -9,7 +9,7 @@ use crate::guess::guess;
 use crate::parts::Parts;
 use crate::targets::Targets;
 use crate::walker::parts_at;
-use cil_modset::NoMemory;
+use cil_base::NoMemory;
 use cil_syntax::Statement;
 use std::alloc::Global;
 

@@ -2,7 +2,7 @@
 
 ghost use Rattle.std.specs.Prelude.{◌≡◌};
 
-use cil_modset::NoMemory;
+use cil_base::NoMemory;
 use cil_syntax::Excerpt;
 use indexmap::IndexSet;
 use std::alloc::Global;

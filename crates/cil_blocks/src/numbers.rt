@@ -2,7 +2,7 @@
 
 ghost use Rattle.std.specs.Prelude.{◌≡◌};
 
-use cil_modset::NoMemory;
+use cil_base::NoMemory;
 use std::alloc::Global;
 use std::marker::Model;
 

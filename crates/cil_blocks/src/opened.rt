@@ -6,7 +6,7 @@ ghost use Rattle.std.specs.List.{list_any};
 ghost use Rattle.cil_syntax.specs.Program.{IsNested, program_of};
 ghost use Rattle.cil_syntax.specs.Written.{is_abstraction};
 ghost use Rattle.cil_blocks.specs.Contents.{is_inheriting};
-ghost use Rattle.cil_blocks.specs.Entries.{AreOpened, AreParts, SaysOpened, first_number, opened_block, opened_of, parts_at, statement_at};
+ghost use Rattle.cil_blocks.specs.Entries.{AreBelow, AreOpened, AreParts, SaysOpened, first_number, opened_block, opened_of, parts_at, statement_at};
 ghost use Rattle.cil_blocks.specs.Laws.{HasOneTarget};
 ghost use Rattle.cil_blocks.specs.Named.{AreAllTargets};
 
@@ -14,7 +14,7 @@ use crate::names::{is_block, is_inheriting, is_optional};
 use crate::parts::Parts;
 use crate::targets::Targets;
 use crate::walker::parts_at;
-use cil_modset::NoMemory;
+use cil_base::NoMemory;
 use cil_syntax::{Keyword, Statement};
 use std::alloc::Global;
 
@@ -88,7 +88,8 @@ pub fn opened_block(statements: &[Statement], parts: &Parts, number: usize) -> O
 
 /// Whether one of some statements marks the block in which it is as abstract.
 fn has_mark(statements: &[Statement], numbers: &[usize]) -> bool
-    requires { IsNested statements.now }
+    requires nested { IsNested statements.now }
+    requires within { AreBelow (length statements.now) numbers.now }
     ensures { result ≡ list_any (λ k. is_abstraction (statement_at (program_of statements.now) k).statement.keyword) numbers.now }
 {
     for number in numbers {
@@ -100,13 +101,11 @@ fn has_mark(statements: &[Statement], numbers: &[usize]) -> bool
 }
 
 fn is_mark_at(statements: &[Statement], number: usize) -> bool
-    requires { IsNested statements.now }
+    requires nested { IsNested statements.now }
+    requires within { number < length statements.now }
     ensures { result ≡ is_abstraction (statement_at (program_of statements.now) number).statement.keyword }
 {
-    match statements.get(number) {
-        None => false,
-        Some(statement) => is_mark(statement.keyword),
-    }
+    is_mark(statements[number].keyword)
 }
 
 fn is_mark(keyword: Keyword) -> bool

@@ -4,7 +4,7 @@ ghost use Rattle.std.specs.Prelude.{◌≡◌, ◌<◌, ◌++◌, ℕ, IfOk, OnO
 ghost use Rattle.cil_syntax.specs.Program.{IsNested, program_of};
 ghost use Rattle.cil_blocks.specs.Entries.{AreParts, IsWithin, parts_at, put_at, put_top};
 
-use cil_modset::NoMemory;
+use cil_base::NoMemory;
 use cil_syntax::Statement;
 use std::alloc::Global;
 

@@ -17,7 +17,7 @@ use crate::names::{block_above, is_inheriting, is_optional_at, lower, name_at};
 use crate::namespaces::Namespaces;
 use crate::numbers::Numbers;
 use crate::scopes::ScopeList;
-use cil_modset::NoMemory;
+use cil_base::NoMemory;
 use cil_syntax::Statement;
 use indexmap::{IndexMap, IndexSet};
 use std::alloc::Global;

@@ -4,7 +4,7 @@
 
 ghost use Rattle.std.specs.Prelude.{◌≡◌, ◌<◌, ◌↔◌, ◌++◌, ℕ, IfOk, OnOk, flat_map, length, true};
 ghost use Rattle.std.specs.List.Sorted.{IsPermutation, IsSortedByKey};
-ghost use Rattle.cil_sexpr.specs.Lists.{text_cmp};
+ghost use Rattle.cil_base.specs.Lists.{text_cmp};
 ghost use Rattle.cil_syntax.specs.Program.{IsNested, program_of};
 ghost use Rattle.cil_blocks.specs.Doubled.{AreKept, AreThose, is_named_at};
 ghost use Rattle.cil_blocks.specs.Entries.{AreParts};
@@ -16,7 +16,7 @@ use crate::opened::opened_block;
 use crate::parts::Parts;
 use crate::targets::Targets;
 use crate::walker::parts_at;
-use cil_modset::NoMemory;
+use cil_base::NoMemory;
 use cil_syntax::Statement;
 use indexmap::IndexSet;
 use std::alloc::Global;

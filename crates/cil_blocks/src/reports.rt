@@ -5,13 +5,13 @@ ghost use Rattle.std.specs.Prelude.{◌≡◌, ◌++◌, ◌∷◌, [], IfOk, On
 ghost use Rattle.std.specs.List.{flat_map};
 ghost use Rattle.cil_syntax.specs.Around.{names_of};
 ghost use Rattle.cil_syntax.specs.Program.{IsNested, program_of};
-ghost use Rattle.cil_syntax.specs.Reported.{fault_at};
-ghost use Rattle.cil_syntax.specs.Written.{qualified};
+ghost use Rattle.cil_faults.specs.Reported.{fault_at};
+ghost use Rattle.cil_faults.specs.Namespaces.{qualified};
 ghost use Rattle.cil_blocks.specs.Entries.{statement_at};
 ghost use Rattle.cil_blocks.specs.Reports.{name_fault, target_fault};
 
 use crate::names::{block_above, name_at};
-use cil_modset::NoMemory;
+use cil_base::NoMemory;
 use cil_syntax::{Bytes, Fault, FaultCode, Spot, Statement, joined, word_and_terms};
 use std::alloc::Global;
 

@@ -8,7 +8,7 @@
 
 ghost use Rattle.std.specs.Prelude.{◌≡◌, ◌↔◌, ◌++◌, ℕ, Contains, IfOk, OnOk, true};
 ghost use Rattle.std.specs.List.Sorted.{IsSortedByKey};
-ghost use Rattle.cil_sexpr.specs.Lists.{text_cmp};
+ghost use Rattle.cil_base.specs.Lists.{text_cmp};
 ghost use Rattle.cil_syntax.specs.Program.{IsNested, program_of};
 ghost use Rattle.cil_blocks.specs.Doubled.{AreAlike, AreThose, IsMatched};
 ghost use Rattle.cil_blocks.specs.Entries.{AreParts};
@@ -18,7 +18,7 @@ use crate::doubled::{has_other, push_if};
 use crate::parts::Parts;
 use crate::reach::{Members, compare_own, members_of};
 use crate::targets::{Targets, from, up_to};
-use cil_modset::NoMemory;
+use cil_base::NoMemory;
 use cil_syntax::Statement;
 use indexmap::IndexSet;
 use std::alloc::Global;

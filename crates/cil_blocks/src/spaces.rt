@@ -6,7 +6,7 @@ use crate::entry::Entry;
 use crate::namespaces::Namespaces;
 use crate::places::Located;
 use crate::scopes::ScopeList;
-use cil_modset::NoMemory;
+use cil_base::NoMemory;
 use cil_syntax::Statement;
 use std::alloc::Global;
 use std::marker::Model;

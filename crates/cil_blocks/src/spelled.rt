@@ -2,11 +2,11 @@
 
 ghost use Rattle.std.specs.Prelude.{◌≡◌, ◌≤◌, IfOk, length};
 ghost use Rattle.cil_syntax.specs.Around.{names_of};
-ghost use Rattle.cil_syntax.specs.Written.{qualified};
+ghost use Rattle.cil_faults.specs.Namespaces.{qualified};
 ghost use Rattle.cil_blocks.specs.Namespaces.{space_at};
 
 use crate::namespaces::Namespaces;
-use cil_modset::NoMemory;
+use cil_base::NoMemory;
 use cil_syntax::{Bytes, joined};
 use std::alloc::Global;
 

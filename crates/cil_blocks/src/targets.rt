@@ -10,7 +10,7 @@ ghost use Rattle.cil_blocks.specs.Entries.{AreBelow, statement_at};
 ghost use Rattle.cil_blocks.specs.Named.{AreAllTargets, AreBlocks, AreFirstNamed, AreOfName, AreTargets, AreTargetsOf, IsAsked, IsBlockAt, asked_space, block_in, names_cmp, space_in};
 
 use crate::names::{block_above, compare_path, compare_spaces, is_block, is_inheriting};
-use cil_modset::NoMemory;
+use cil_base::NoMemory;
 use cil_syntax::{Excerpt, Keyword, Statement, parted, path_of, word_and_terms};
 use std::alloc::Global;
 

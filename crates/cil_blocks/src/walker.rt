@@ -2,7 +2,7 @@
 //! numbers, and no word, place or scope is copied. A walk costs a step for each entry, and stops one body after the limit.
 
 ghost use Rattle.std.specs.Prelude.{◌≡◌, ◌≤◌, ◌++◌, IfNone, IfOk, IfSome, List, OnOk, length, map};
-ghost use Rattle.cil_sexpr.specs.Lists.{Lists};
+ghost use Rattle.cil_base.specs.Lists.{Lists};
 ghost use Rattle.cil_syntax.specs.Written.{Written};
 ghost use Rattle.cil_blocks.specs.Contents.{Stands, standing_cmp};
 ghost use Rattle.cil_blocks.specs.Entries.{IsWalkable, IsWithin, opened_by, parts_at, standings_of, stepped};
@@ -10,7 +10,7 @@ ghost use Rattle.cil_blocks.specs.InheritFaults.{IsOver};
 
 use crate::entry::Entry;
 use crate::parts::Parts;
-use cil_modset::NoMemory;
+use cil_base::NoMemory;
 use std::alloc::Global;
 
 /// All that stands, by the number of statements through which it came and then by these; or nothing where that is more

@@ -10,15 +10,16 @@ use Rattle.std.proofs.lemmas.Bool.{cases_order}
 use Rattle.std.proofs.lemmas.Cmp.{nat_list_cmp_total}
 use Rattle.std.proofs.lemmas.List.Elements.{Contains-get_or}
 use Rattle.std.proofs.lemmas.Option.{slice_get-get_or, slice_get_within, get_or_from_slice_get}
-use Rattle.cil_sexpr.specs.Lists.{Lists, text_cmp, one_list, all_at}
+use Rattle.cil_base.specs.Lists.{Lists, text_cmp, one_list, all_at}
 use Rattle.cil_syntax.specs.declared.kind.Kind.TheVariants as kinds
-use Rattle.cil_decide.specs.declared.tables.Class.{Class}
-use Rattle.cil_decide.specs.Agrees.{Compiles}
+use Rattle.cil_classes.specs.declared.row.Class.{Class}
+use Rattle.cil_tables.specs.Agrees.{Compiles}
 use Rattle.cil_names.specs.Declarations.{Declared}
-use Rattle.cil_decide.proofs.CompileLemmas.{policy_moved}
-use Rattle.cil_decide.specs.Meaning.{IsClassAt, IsPermissionAt}
+use Rattle.cil_tables.proofs.CompileLemmas.{policy_moved}
+use Rattle.cil_tables.specs.Meaning.{IsClassAt, IsPermissionAt}
 use Rattle.cil_names.specs.Resolves.{has_permission}
-use Rattle.cil_decide.specs.Table.{Table, class_cmp}
+use Rattle.cil_tables.specs.Table.{Table}
+use Rattle.cil_classes.specs.Row.{class_cmp}
 use Rattle.cil_host.specs.Permissions.{IsPermissionOf}
 
 some_is : {X : Type 0} {a b : X} → Some a ≡ Some b → a ≡ b

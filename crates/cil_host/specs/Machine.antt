@@ -7,13 +7,13 @@ use Rattle.cil_optionals.specs.declared.reason.Reason.{Reason}
 use Rattle.cil_optionals.specs.Certificate.{IsRight}
 use Rattle.cil_optionals.specs.Policy.{ArePolicy}
 use Rattle.cil_decide.specs.declared.decision.Decision.{Decision}
-use Rattle.cil_decide.specs.declared.lines.OptionalLine.{OptionalLine}
-use Rattle.cil_decide.specs.declared.lines.WhyLine.{WhyLine}
-use Rattle.cil_decide.specs.Agrees.{Compiles}
-use Rattle.cil_decide.specs.CompileAnswer.{IsCompiled}
+use Rattle.cil_optionals.specs.declared.lines.OptionalLine.{OptionalLine}
+use Rattle.cil_optionals.specs.declared.lines.WhyLine.{WhyLine}
+use Rattle.cil_tables.specs.Agrees.{Compiles}
+use Rattle.cil_tables.specs.CompileAnswer.{IsCompiled}
 use Rattle.cil_decide.specs.Decides.{HasNoClass, HasNoContext, ModulesDecide}
-use Rattle.cil_decide.specs.Lines.{AreOptionalsOf, AreReasonsOf}
-use Rattle.cil_decide.specs.Table.{Table}
+use Rattle.cil_optionals.specs.Lines.{AreOptionalsOf, AreReasonsOf}
+use Rattle.cil_tables.specs.Table.{Table}
 use Rattle.cil_host.specs.declared.host.Policy.{Policy}
 use Rattle.cil_host.specs.declared.fault.HostError.{HostError}
 use Rattle.cil_host.specs.declared.fault.HostError.TheVariants as errors

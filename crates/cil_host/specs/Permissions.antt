@@ -1,7 +1,7 @@
 -- The permissions of a class of modules, by their bits. This project's profile.
 use Rattle.std.specs.Prelude.{◌≡◌, ℕ, ◌<◌, true, List, slice_get, Some}
 use Rattle.std.specs.declared.cmp.Ordering.TheVariants.{Less}
-use Rattle.cil_sexpr.specs.Lists.{Lists, text_cmp}
+use Rattle.cil_base.specs.Lists.{Lists, text_cmp}
 use Rattle.cil_syntax.specs.declared.kind.Kind.TheVariants as kinds
 use Rattle.cil_names.specs.Declarations.{Declared, Symbol, name_of}
 use Rattle.cil_macros.specs.Item.{Item, OptSet}

@@ -1,8 +1,8 @@
 -- The result of a load, and the host after it. This project's profile.
 use Rattle.std.specs.Prelude.{◌≡◌, List, Some, Result, Ok, Err, replicate}
-use Rattle.cil_syntax.specs.declared.failure.Failure.{Failure}
+use Rattle.cil_faults.specs.declared.failure.Failure.{Failure}
 use Rattle.cil_optionals.specs.declared.reason.Reason.{Reason}
-use Rattle.cil_decide.specs.CompileRefusal.{CompileFails}
+use Rattle.cil_tables.specs.CompileRefusal.{CompileFails}
 use Rattle.cil_host.specs.Machine.{State, CanLoad}
 use Rattle.cil_host.specs.declared.host.Loaded.{Loaded}
 

@@ -24,13 +24,13 @@ pub enum HostError {
     NoMemory,
 }
 
-impl From<cil_modset::NoMemory> for HostError {
+impl From<cil_base::NoMemory> for HostError {
     ghost use Rattle.std.specs.Prelude.{◌≡◌};
     ghost use Rattle.cil_host.specs.declared.fault.HostError.TheVariants.{NoMemory};
 
     ghost from_gives = { λ _ e. e ≡ NoMemory };
 
-    fn from(_error: cil_modset::NoMemory) -> HostError {
+    fn from(_error: cil_base::NoMemory) -> HostError {
         HostError::NoMemory
     }
 }

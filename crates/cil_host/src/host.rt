@@ -10,13 +10,13 @@ ghost use Rattle.cil_host.specs.Refusal.{Loads};
 
 use crate::fault::{HostError, QueryFault};
 use crate::lines::{copied_optionals, copied_reasons};
-use cil_decide::{
-    Compiled, Decision, OptionalLine, WhyLine, class_named, compile, decide, laws, parse_context,
-    permission_at,
-};
-use cil_modset::{BundleError, Installed, ModuleSet, NoMemory};
+use cil_base::NoMemory;
+use cil_decide::{Decision, class_named, decide, laws, parse_context, permission_at};
+use cil_faults::Failure;
+use cil_modset::{BundleError, Installed, ModuleSet};
+use cil_optionals::{OptionalLine, WhyLine};
 use cil_sexpr::ReadError;
-use cil_syntax::Failure;
+use cil_tables::{Compiled, compile};
 use std::alloc::Global;
 use std::marker::Model;
 

@@ -2,9 +2,8 @@
 
 ghost use Rattle.std.specs.Prelude.{◌≡◌, IfOk};
 
-use cil_decide::{OptionalLine, WhyLine};
-use cil_modset::NoMemory;
-use cil_syntax::Bytes;
+use cil_base::{Bytes, NoMemory};
+use cil_optionals::{OptionalLine, WhyLine};
 use std::alloc::Global;
 
 /// A copy of the lines of optionals. Error: out of memory.

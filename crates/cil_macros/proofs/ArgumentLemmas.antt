@@ -8,7 +8,7 @@ use Rattle.std.proofs.lemmas.List.{at_drop_more, drop_all}
 use Rattle.cil_syntax.specs.declared.kind.Sign.{Sign}
 use Rattle.cil_syntax.specs.declared.term.LookedUp.{LookedUp}
 use Rattle.cil_syntax.specs.declared.term.Op.{Op}
-use Rattle.cil_syntax.specs.declared.term.Spot.{Spot}
+use Rattle.cil_faults.specs.declared.spot.Spot.{Spot}
 use Rattle.cil_syntax.specs.declared.term.Term as rust
 use Rattle.cil_syntax.specs.declared.term.Term.{the_lemmas}
 use Rattle.cil_syntax.specs.declared.term.Term.TheVariants as variants
@@ -17,7 +17,8 @@ use Rattle.cil_syntax.specs.Forms.{kind_and_name, parameter_form}
 use Rattle.cil_syntax.specs.Said.{all_said, said_of, word_in}
 use Rattle.cil_syntax.specs.Shapes.{Cell, Inner, a_list, any_text, is_spelled, looked_up, read_list, read_string, read_word}
 use Rattle.cil_syntax.specs.Spelling.{is_reserved}
-use Rattle.cil_syntax.specs.Terms.{Term, Leaf, Name, Form, Terms, nil, cons, spot_at}
+use Rattle.cil_syntax.specs.Terms.{Term, Leaf, Name, Form, Terms, nil, cons}
+use Rattle.cil_faults.specs.Spots.{spot_at}
 use Rattle.cil_syntax.specs.Written.{Named}
 use Rattle.cil_macros.specs.Fits.{fits, has_form, is_read_as, is_sound_word}
 use Rattle.cil_macros.specs.Parameters.{Parameter, argument_of, call_arguments, cell_in, cells_in, faultless, is_text, macro_parameters, parameter_in, parameters_in, sound, text_cell}

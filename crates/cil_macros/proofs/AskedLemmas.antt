@@ -1,11 +1,12 @@
 -- What the names of a word ask, name by name.
 use Rattle.std.proofs.Common.{◌≡◌, ℕ, zero, suc, ◌≤◌, List, [], ◌∷◌, ◌++◌, length, refl, sym, ◌∙◌, ap, subst, arith, append_assoc, append-nil}
-use Rattle.cil_syntax.specs.Scopes.{IsDotless, IsParted, Namespace, names_backwards}
+use Rattle.cil_syntax.specs.Scopes.{IsDotless, IsParted, names_backwards}
+use Rattle.cil_faults.specs.Namespaces.{Namespace}
 use Rattle.cil_blocks.specs.declared.namespaces.Space.{Space}
 use Rattle.cil_blocks.specs.Namespaces.{AreNamespaces, HasNoNumber, IsNumber, space_at}
 use Rattle.cil_blocks.proofs.NamespaceLemmas.{global_at, inner_of}
 use Rattle.cil_macros.specs.Asked.{IsAskedAt, IsAskedNowhere}
-use Rattle.cil_sexpr.specs.Places.{cons_tail, never_cons}
+use Rattle.cil_base.specs.Places.{cons_tail, never_cons}
 use Rattle.cil_syntax.proofs.AskedLemmas.{last_name, one_name, parted_backwards}
 
 -- the names in front lead to the namespace of this number, and these are left

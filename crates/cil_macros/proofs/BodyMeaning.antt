@@ -1,7 +1,7 @@
 -- What a word of a placed statement means: where the statement stands, and in a body.
 use Rattle.std.proofs.Common.{◌≡◌, ℕ, ◌+◌, ◌<◌, Bool, true, false, if◌then◌else◌, List, length, sym, ◌∙◌, ap, subst, arith}
 use Rattle.std.specs.Prelude.{Option, Some, None, find, slice_get}
-use Rattle.cil_sexpr.specs.Places.{in_range, some_same}
+use Rattle.cil_base.specs.Places.{in_range, some_same}
 use Rattle.cil_syntax.specs.declared.term.Word.{Word}
 use Rattle.cil_syntax.specs.Scopes.{Scope, ScopedWord}
 use Rattle.cil_syntax.specs.Terms.{Term, Leaf}
@@ -62,7 +62,7 @@ module _ (s : Scene) (os : List Opening) (at : ℕ) (known : IsKnown s os at) (p
   -- a word of what stands
   pub standing_word : (w : Word) → at < length (entries_in s.spaces.now) → meant_term ps w.sign (kept_word w at) ≡ meaning ws p w
   standing_word w h =
-      let m = stood_at s.spaces.now s.brought.now.called.items at h p here in
+      let m = stood_at s.spaces.now s.brought.now.entries.items at h p here in
       ap (in_scope w) scope_here
       ∙ sym (by_argument ws p w None (ap (λ (q : Placed). find (is_served w) q.bounds) m.2)
       ∙ ap (in_scope w) (ap (λ (q : Placed). scope_of ws q w) m.2 ∙ sym (ap (λ (q : Placed). q.standing.scope) m.2)))
@@ -70,14 +70,14 @@ module _ (s : Scene) (os : List Opening) (at : ℕ) (known : IsKnown s os at) (p
   -- its home
   pub standing_home : at < length (entries_in s.spaces.now) → scope_there (slice_get ps at) ≡ home_of p.standing.scope p.body
   standing_home h =
-      let m = stood_at s.spaces.now s.brought.now.called.items at h p here in
+      let m = stood_at s.spaces.now s.brought.now.entries.items at h p here in
       scope_here ∙ sym (ap (λ (q : Placed). home_of p.standing.scope q.body) m.2)
 
   -- ---- a word of a body
 
-  module _ (number : ℕ) (n : IsNumbered s.brought.now.called.items (length (entries_in s.spaces.now)) at number) where
-    abbrev pub brought : IsBrought ws ss s.brought.now.called.items s.brought.now.bodies.items known.scene.brought.bodies (length ss + n.rank) n.called
-    brought = is_brought ws ss s.brought.now.called.items s.brought.now.bodies.items known.scene.brought.bodies n.rank n.called n.is
+  module _ (number : ℕ) (n : IsNumbered s.brought.now.entries.items (length (entries_in s.spaces.now)) at number) where
+    abbrev pub brought : IsBrought ws ss s.brought.now.entries.items s.brought.now.bodies.items known.scene.brought.bodies (length ss + n.rank) n.called
+    brought = is_brought ws ss s.brought.now.entries.items s.brought.now.bodies.items known.scene.brought.bodies n.rank n.called n.is
 
     pub numbered_body : slice_get s.brought.now.bodies.items number ≡ Some brought.body
     numbered_body = ap (slice_get s.brought.now.bodies.items) (sym n.body) ∙ brought.is_body
@@ -105,13 +105,13 @@ module _ (s : Scene) (os : List Opening) (at : ℕ) (known : IsKnown s os at) (p
       is_call : slice_get ps b.call ≡ Some brought.so.call
       is_call = ap (λ (x : code.Body). slice_get ps x.call) (sym same_body) ∙ brought.so.is_call
 
-      pub macro_here : slice_get ss b.called ≡ Some brought.so.opened.macro
-      macro_here = ap (λ (x : code.Body). slice_get ss x.called) (sym same_body) ∙ brought.so.is_macro
+      pub macro_here : slice_get ss b.macro_rank ≡ Some brought.so.opened.macro
+      macro_here = ap (λ (x : code.Body). slice_get ss x.macro_rank) (sym same_body) ∙ brought.so.is_macro
 
       pub body_home : scope_there (slice_get ps o.home) ≡ home_of p.standing.scope p.body
       body_home = opening.home brought.so.call is_call ∙ sym (ap (home_of p.standing.scope) body_here)
 
-      module _ (called : ℕ) (stated : (m : Standing) → slice_get ss b.called ≡ Some m → m.statement ≡ statement_at ws called) where
+      module _ (called : ℕ) (stated : (m : Standing) → slice_get ss b.macro_rank ≡ Some m → m.statement ≡ statement_at ws called) where
         macro_stated : brought.so.opened.macro.statement ≡ statement_at ws called
         macro_stated = stated brought.so.opened.macro macro_here
 

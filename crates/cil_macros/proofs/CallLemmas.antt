@@ -1,11 +1,11 @@
 -- What the statement at a place is, where it is, and which arguments it has.
 use Rattle.std.proofs.Common.{◌≡◌, ℕ, ◌+◌, ◌<◌, Bool, true, false, if◌then◌else◌, List, length, refl, sym, ◌∙◌, ap, subst, arith}
 use Rattle.std.specs.Prelude.{Contains, Option, Some, None, is_some, slice_get}
-use Rattle.cil_sexpr.specs.Places.{in_range, some_at, some_same}
+use Rattle.cil_base.specs.Places.{in_range, some_at, some_same}
 use Rattle.cil_syntax.specs.declared.program.Statement.{Statement}
 use Rattle.cil_syntax.specs.Program.{IsNested, program_of}
 use Rattle.cil_syntax.specs.Said.{args_of}
-use Rattle.cil_syntax.specs.Scopes.{Namespace}
+use Rattle.cil_faults.specs.Namespaces.{Namespace}
 use Rattle.cil_syntax.specs.Terms.{Terms}
 use Rattle.cil_syntax.specs.declared.term.Word.{Word}
 use Rattle.cil_syntax.specs.Written.{Written, is_macro}

@@ -1,7 +1,7 @@
 -- What a body has from its call: the statements of both, and the arguments with which the call is unfolded.
 use Rattle.std.proofs.Common.{◌≡◌, ◌⊎◌, inl, inr, ℕ, zero, suc, ◌+◌, ◌<◌, Bool, true, false, if◌then◌else◌, List, [], ◌∷◌, ◌++◌, length, refl, sym, ◌∙◌, ap, subst, arith}
 use Rattle.std.specs.Prelude.{Option, Some, None, slice_get}
-use Rattle.cil_sexpr.specs.Places.{in_range, none_some, some_same}
+use Rattle.cil_base.specs.Places.{in_range, none_some, some_same}
 use Rattle.cil_syntax.specs.declared.program.Statement.{Statement}
 use Rattle.cil_syntax.specs.Program.{IsNested, program_of}
 use Rattle.cil_syntax.specs.Said.{args_of}
@@ -80,7 +80,7 @@ module _ (s : Scene) (are : IsScene s) (os : List Opening)
   next_known b e =
       let body = are.brought.bodies.each (length os) b e in
       let h = in_range (placed_of_scene s) b.call body.call body.is_call in
-      let l = placed_length (written_in s.spaces.now) (all_standing s.spaces.now) s.brought.now.called.items in
+      let l = placed_length (written_in s.spaces.now) (all_standing s.spaces.now) s.brought.now.entries.items in
       let m = standings_length (written_in s.spaces.now) (entries_in s.spaces.now) in
       record {
         scene = are;
@@ -89,15 +89,15 @@ module _ (s : Scene) (are : IsScene s) (os : List Opening)
         first = λ j c behind at. are.brought.firsts.in_turn (length os) j b c e (omega (arith, behind, m)) at;
       }
 
-  pub macro_known : (b : code.Body) → slice_get s.brought.now.bodies.items (length os) ≡ Some b → b.called < length (entries_in s.spaces.now)
+  pub macro_known : (b : code.Body) → slice_get s.brought.now.bodies.items (length os) ≡ Some b → b.macro_rank < length (entries_in s.spaces.now)
   macro_known b e =
       let body = are.brought.bodies.each (length os) b e in
-      let h = in_range (all_standing s.spaces.now) b.called body.opened.macro body.is_macro in
+      let h = in_range (all_standing s.spaces.now) b.macro_rank body.opened.macro body.is_macro in
       let m = standings_length (written_in s.spaces.now) (entries_in s.spaces.now) in
       omega (arith, h, m)
 
   pub macro_at : (b : code.Body) → slice_get s.brought.now.bodies.items (length os) ≡ Some b → (call : Placed) (u : Unfolded) → slice_get (placed_of_scene s) b.call ≡ Some call
-      → unfolded (written_in s.spaces.now) (all_standing s.spaces.now) call ≡ Some u → slice_get (all_standing s.spaces.now) b.called ≡ Some u.macro
+      → unfolded (written_in s.spaces.now) (all_standing s.spaces.now) call ≡ Some u → slice_get (all_standing s.spaces.now) b.macro_rank ≡ Some u.macro
   macro_at b e call u f g =
       let body = are.brought.bodies.each (length os) b e in
       let same : body.call ≡ call = some_same body.call call (sym body.is_call ∙ f) in
@@ -125,7 +125,7 @@ module _ (s : Scene) (are : IsScene s) (os : List Opening)
 
 -- where all bodies are known, all that is placed is
 pub all_known : (s : Scene) (os : List Opening) (at : ℕ) → AreInstances s.spaces.now s.brought.now → AreMeant s.spaces.now s.brought.now s.declared.now os
-    → at < length (entries_in s.spaces.now) + length s.brought.now.called.items → IsKnown s os at
+    → at < length (entries_in s.spaces.now) + length s.brought.now.entries.items → IsKnown s os at
 all_known s os at are meant within = record {
   scene = record { standings = are.standings; brought = are.brought; declared = meant.declared };
   within = within;

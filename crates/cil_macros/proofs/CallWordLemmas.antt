@@ -4,13 +4,13 @@ use Rattle.std.specs.Prelude.{IfOk, Option, Some, None, Result, Ok, Err, slice_g
 use Rattle.std.specs.declared.alloc.Global.{Global}
 use Rattle.std.specs.declared.vec.Vec.{Vec}
 use Rattle.std.proofs.lemmas.List.{append-nil, drop_all, map-append}
-use Rattle.cil_sexpr.specs.Places.{drop_at, in_range, some_same, there_as}
+use Rattle.cil_base.specs.Places.{drop_at, in_range, some_same, there_as}
 use Rattle.cil_syntax.specs.declared.kind.Keyword.{Keyword}
 use Rattle.cil_syntax.specs.declared.kind.Keyword.TheVariants as keywords
 use Rattle.cil_syntax.specs.declared.kind.Sign.{Sign}
 use Rattle.cil_syntax.specs.declared.program.Statement.{Statement}
 use Rattle.cil_syntax.specs.declared.term.Op.{Op}
-use Rattle.cil_syntax.specs.declared.term.Spot.{Spot}
+use Rattle.cil_faults.specs.declared.spot.Spot.{Spot}
 use Rattle.cil_syntax.specs.declared.term.Term as rust
 use Rattle.cil_syntax.specs.declared.term.Word.{Word}
 use Rattle.cil_syntax.specs.Forms.{parameter_form}
@@ -186,7 +186,7 @@ none_or None never = refl
 none_or (Some u) never = absurd (never u refl)
 
 module _ (s : Scene) (os : List Opening) (are : IsOpened s os) (at : ℕ) (p : Placed) (here : slice_get (placed_of_scene s) at ≡ Some p)
-    (within : at < length (entries_in s.spaces.now) + length s.brought.now.called.items) where
+    (within : at < length (entries_in s.spaces.now) + length s.brought.now.entries.items) where
   abbrev ws : List Written
   ws = written_in s.spaces.now
 
@@ -203,20 +203,20 @@ module _ (s : Scene) (os : List Opening) (are : IsOpened s os) (at : ℕ) (p : P
 
   module _ (number : ℕ) (x : IsBodyOf s.brought.now.bodies.items at number) where
     -- one that has a body is
-    pub opened_there : (u : Unfolded) × (unfolded ws ss p ≡ Some u) × (slice_get ss x.body.called ≡ Some u.macro)
+    pub opened_there : (u : Unfolded) × (unfolded ws ss p ≡ Some u) × (slice_get ss x.body.macro_rank ≡ Some u.macro)
     opened_there =
         let b = are.scene.brought.bodies.each number x.body x.is in
         let same = some_same b.call p (sym b.is_call ∙ ap (slice_get (placed_of_scene s)) x.by_call ∙ here) in
         (b.opened, ap (unfolded ws ss) (sym same) ∙ b.is_opened, b.is_macro)
 
-    pub macro_below : x.body.called < length (entries_in s.spaces.now)
+    pub macro_below : x.body.macro_rank < length (entries_in s.spaces.now)
     macro_below =
         let u = opened_there in
-        let h = in_range ss x.body.called u.0.macro u.2 in
+        let h = in_range ss x.body.macro_rank u.0.macro u.2 in
         let l = standings_length ws (entries_in s.spaces.now) in
         omega (arith, h, l)
 
-    module _ (k : ℕ) (stated : (m : Standing) → slice_get ss x.body.called ≡ Some m → m.statement ≡ statement_at ws k) where
+    module _ (k : ℕ) (stated : (m : Standing) → slice_get ss x.body.macro_rank ≡ Some m → m.statement ≡ statement_at ws k) where
       pub macro_missing : slice_get (statements_in s.spaces.now) k ≡ None → ⊥
       macro_missing none =
           let u = opened_there in

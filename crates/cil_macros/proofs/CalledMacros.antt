@@ -5,13 +5,14 @@ use Rattle.std.specs.Option.{option_or, option_map}
 use Rattle.std.specs.declared.cmp.Ordering.{Ordering}
 use Rattle.std.specs.declared.cmp.Ordering.TheVariants.{Less, Equal, Greater}
 use Rattle.cil_blocks.specs.OneStanding.{first_of_three}
-use Rattle.cil_sexpr.specs.Places.{none_some, some_same}
-use Rattle.cil_sexpr.specs.Searches.{kept_is}
-use Rattle.cil_sexpr.specs.Lists.{contains_here, contains_later}
+use Rattle.cil_base.specs.Places.{none_some, some_same}
+use Rattle.cil_base.specs.Searches.{kept_is}
+use Rattle.cil_base.specs.Lists.{contains_here, contains_later}
 use Rattle.cil_syntax.specs.declared.kind.Keyword.{Keyword}
 use Rattle.cil_syntax.specs.declared.kind.Keyword.TheVariants as keywords
 use Rattle.cil_syntax.specs.declared.term.Word.{Word}
-use Rattle.cil_syntax.specs.Scopes.{Namespace, asked, spaces_asked}
+use Rattle.cil_faults.specs.Namespaces.{Namespace}
+use Rattle.cil_syntax.specs.Scopes.{asked, spaces_asked}
 use Rattle.cil_syntax.specs.Written.{Written, is_macro}
 use Rattle.cil_blocks.specs.Contents.{Standing, first_word, is_optional, path_cmp, path_of}
 use Rattle.cil_macros.specs.Calls.{Unfolded, bounds_of_call, called_macro, has_macro, is_call, is_macro_named, is_repeated, macro_in, macro_in_scope, macro_of_word, nearer_of, nearest, unfolded, unfolded_by, unfolded_with}

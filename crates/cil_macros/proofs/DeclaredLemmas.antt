@@ -6,10 +6,10 @@ use Rattle.std.proofs.lemmas.Bool.{eqb-true, and_parts}
 use Rattle.std.proofs.lemmas.List.{drop_all, take_all, take_more}
 use Rattle.std.proofs.lemmas.List.Folds.{list_any-append}
 use Rattle.indexmap.specs.IndexSet.{contains}
-use Rattle.cil_sexpr.specs.MadeLists.{contains_map, from_map}
-use Rattle.cil_sexpr.specs.Places.{get_so, in_range, is_there}
-use Rattle.cil_sexpr.specs.Rising.{tied_places}
-use Rattle.cil_sexpr.specs.Searches.{any_from, any_true}
+use Rattle.cil_base.specs.MadeLists.{contains_map, from_map}
+use Rattle.cil_base.specs.Places.{get_so, in_range, is_there}
+use Rattle.cil_base.specs.Rising.{tied_places}
+use Rattle.cil_base.specs.Searches.{any_from, any_true}
 use Rattle.cil_syntax.specs.declared.kind.Kind.{Kind}
 use Rattle.cil_syntax.specs.declared.kind.Sign.{Sign}
 use Rattle.cil_syntax.specs.declared.program.Statement.{Statement}

@@ -3,16 +3,16 @@ use Rattle.std.proofs.Common.{◌≡◌, ℕ, ◌+◌, ◌<◌, ◌≤◌, Bool,
 use Rattle.std.specs.Prelude.{Some, None, slice_get}
 use Rattle.std.specs.List.Sorted.{IsStrictlySortedBy}
 use Rattle.std.proofs.lemmas.List.{take_more, map-append, length-append, length-map}
-use Rattle.cil_sexpr.specs.Places.{get_in_front}
-use Rattle.cil_sexpr.specs.Rising.{IsOver}
-use Rattle.cil_sexpr.specs.Lists.{Lists}
+use Rattle.cil_base.specs.Places.{get_in_front}
+use Rattle.cil_base.specs.Rising.{IsOver}
+use Rattle.cil_base.specs.Lists.{Lists}
 use Rattle.cil_syntax.specs.Written.{Written, written_cmp}
 use Rattle.cil_blocks.specs.Contents.{Standing, is_optional, standing_cmp}
 use Rattle.cil_blocks.specs.Entries.{AreParts, parts_at, statement_at}
 use Rattle.cil_blocks.specs.Opens.{parts}
 use Rattle.cil_blocks.specs.declared.parts.Parts.{Parts}
 use Rattle.cil_blocks.proofs.EntryLemmas.{map_two}
-use Rattle.cil_sexpr.specs.Queue as queue
+use Rattle.cil_base.specs.Queue as queue
 use Rattle.cil_macros.specs.declared.entry.Called.{Called}
 use Rattle.cil_macros.specs.Calls.{IsPlaced, Unfolded, is_call, placed_called, placed_cmp, placed_in_optional, unfolded}
 use Rattle.cil_macros.specs.Entries.{placed_by, placed_from, placed_of, placed_through, placed_under}

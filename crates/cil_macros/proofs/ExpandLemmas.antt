@@ -5,16 +5,16 @@ use Rattle.std.specs.Cmp.{IsTotalOrder}
 use Rattle.std.specs.List.{flat_map}
 use Rattle.std.proofs.lemmas.Cmp.{lists_total, nat_cmp_total, on_total, then_total}
 use Rattle.std.proofs.lemmas.List.Elements.{Contains-append_cases, Contains-append_left, Contains-append_right}
-use Rattle.cil_sexpr.specs.Lists.{Lists, contains_cases, contains_here, contains_none}
-use Rattle.cil_sexpr.specs.MadeLists.{contains_flat, from_flat}
-use Rattle.cil_sexpr.specs.Rising.{IsOver, not_over}
-use Rattle.cil_syntax.specs.declared.code.FaultCode.{FaultCode}
-use Rattle.cil_syntax.specs.declared.code.FaultCode.TheVariants as causes
-use Rattle.cil_syntax.specs.declared.fault.Fault.{Fault}
+use Rattle.cil_base.specs.Lists.{Lists, contains_cases, contains_here, contains_none}
+use Rattle.cil_base.specs.MadeLists.{contains_flat, from_flat}
+use Rattle.cil_base.specs.Rising.{IsOver, not_over}
+use Rattle.cil_faults.specs.declared.code.FaultCode.{FaultCode}
+use Rattle.cil_faults.specs.declared.code.FaultCode.TheVariants as causes
+use Rattle.cil_faults.specs.declared.fault.Fault.{Fault}
 use Rattle.cil_syntax.specs.declared.term.Word.{Word}
-use Rattle.cil_syntax.specs.Fails.{AreFaults}
-use Rattle.cil_syntax.specs.Reported.{fault_at}
-use Rattle.cil_syntax.specs.Scopes.{Namespace}
+use Rattle.cil_faults.specs.Fails.{AreFaults}
+use Rattle.cil_faults.specs.Reported.{fault_at}
+use Rattle.cil_faults.specs.Namespaces.{Namespace}
 use Rattle.cil_syntax.specs.Written.{Written}
 use Rattle.cil_blocks.specs.Contents.{Standing, first_word, spot_total}
 use Rattle.cil_blocks.specs.InheritFaults.{limit_fault, most_instances}
@@ -28,7 +28,7 @@ use Rattle.cil_macros.specs.Macros.{all_standing}
 use Rattle.cil_macros.specs.Placed.{Placed}
 use Rattle.cil_macros.specs.Walks.{placed_in, written_in}
 use Rattle.cil_macros.proofs.EntryLemmas.{placed_length}
-use Rattle.cil_syntax.proofs.RefusalLemmas.{faults_alike}
+use Rattle.cil_faults.proofs.RefusalLemmas.{faults_alike}
 
 pub placed_total : IsTotalOrder placed_cmp
 placed_total = then_total (on_total (λ p. p.steps) nat_cmp_total) (on_total (λ p. p.standing.trail) (then_total (on_total length nat_cmp_total) (lists_total spot_total)))

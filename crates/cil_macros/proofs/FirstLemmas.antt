@@ -10,8 +10,8 @@ use Rattle.std.proofs.lemmas.List.{length-append}
 use Rattle.std.proofs.lemmas.List.Folds.{position_or_len_push}
 use Rattle.std.proofs.lemmas.List.Sums.{fails_before_first}
 use Rattle.indexmap.specs.IndexMap.{IndexMap, get}
-use Rattle.cil_sexpr.specs.Places.{get_in_front, get_so, in_range, none_some, some_at, some_same}
-use Rattle.cil_syntax.specs.declared.term.Spot.{Spot}
+use Rattle.cil_base.specs.Places.{get_in_front, get_so, in_range, none_some, some_at, some_same}
+use Rattle.cil_faults.specs.declared.spot.Spot.{Spot}
 use Rattle.cil_syntax.specs.Written.{Written}
 use Rattle.cil_blocks.specs.Contents.{Standing, same_spot}
 use Rattle.cil_blocks.proofs.StandingWalk.{same_spots, spots_same}
@@ -94,7 +94,7 @@ module _ (ws : List Written) (ss : List Standing) (cs : List Called) (bs : List 
         },
       )
 
-  of_another : (i : ℕ) (b : Body) (m : Standing) → i < first → slice_get bs i ≡ Some b → slice_get ss b.called ≡ Some m
+  of_another : (i : ℕ) (b : Body) (m : Standing) → i < first → slice_get bs i ≡ Some b → slice_get ss b.macro_rank ≡ Some m
       → false ≡ same_spot spot m.statement.statement.at
   of_another i b m h e f =
       sym (fails_before_first (is_body_of ss spot) bs i b (omega (arith, h, is_first)))
@@ -154,9 +154,9 @@ same_places a b = both_ways (same_key (key_of a) (key_of b)) (same_spot b a)
     (λ e. let t = key_same (key_of a) (key_of b) e in spots_same b a (λ i. record { «module» = sym t.0 i; at = sym t.1 i }))
     (λ e. ap (λ (x : Spot). same_key (key_of a) (key_of x)) (same_spots b a e) ∙ key_itself (key_of a))
 
-module _ (ws : List Written) (ss : List Standing) (old new : Brought) (are : AreBodies ws ss old.called.items old.bodies.items) (firsts : AreFirsts ss old)
-    (body : Body) (m : Standing) (is_macro : slice_get ss body.called ≡ Some m) (within : body.call < length ss + length old.called.items)
-    (more : List Called) (called : new.called.items ≡ old.called.items ++ more) (bodies : new.bodies.items ≡ old.bodies.items ++ body ∷ [])
+module _ (ws : List Written) (ss : List Standing) (old new : Brought) (are : AreBodies ws ss old.entries.items old.bodies.items) (firsts : AreFirsts ss old)
+    (body : Body) (m : Standing) (is_macro : slice_get ss body.macro_rank ≡ Some m) (within : body.call < length ss + length old.entries.items)
+    (more : List Called) (called : new.entries.items ≡ old.entries.items ++ more) (bodies : new.bodies.items ≡ old.bodies.items ++ body ∷ [])
     (spot : Spot) (is_spot : spot ≡ m.statement.statement.at) (number : ℕ) (is_number : number ≡ length old.bodies.items)
     (kept : IsFirstKept spot number old.firsts new.firsts) where
   its_first : (asked : Spot) → get same_key new.firsts (key_of asked) ≡ position (is_body_of ss asked) new.bodies.items
@@ -170,23 +170,23 @@ module _ (ws : List Written) (ss : List Standing) (old new : Brought) (are : Are
       ∙ ap (position (is_body_of ss asked)) (sym bodies)
 
   -- its call was there before
-  call_there : (b : Body) (j : ℕ) (c : Called) → b.call < length ss + length old.called.items → b.call ≡ length ss + j → slice_get new.called.items j ≡ Some c
-      → slice_get old.called.items j ≡ Some c
+  call_there : (b : Body) (j : ℕ) (c : Called) → b.call < length ss + length old.entries.items → b.call ≡ length ss + j → slice_get new.entries.items j ≡ Some c
+      → slice_get old.entries.items j ≡ Some c
   call_there b j c h e f =
-      sym (get_in_front old.called.items more j (omega (arith, h, e))) ∙ ap (λ xs. slice_get xs j) (sym called) ∙ f
+      sym (get_in_front old.entries.items more j (omega (arith, h, e))) ∙ ap (λ xs. slice_get xs j) (sym called) ∙ f
 
-  each_turn : (i j : ℕ) (b : Body) (c : Called) → slice_get new.bodies.items i ≡ Some b → b.call ≡ length ss + j → slice_get new.called.items j ≡ Some c → c.body < i
+  each_turn : (i j : ℕ) (b : Body) (c : Called) → slice_get new.bodies.items i ≡ Some b → b.call ≡ length ss + j → slice_get new.entries.items j ≡ Some c → c.body < i
   each_turn i j b c e f g = by (either_at ws ss old.bodies.items (body ∷ []) i b (ap (λ xs. slice_get xs i) (sym bodies) ∙ e))
     where
       by : ((i < length old.bodies.items) × (slice_get old.bodies.items i ≡ Some b)) ⊎ ((k : ℕ) × (i ≡ length old.bodies.items + k) × (slice_get (body ∷ []) k ≡ Some b)) → c.body < i
       by (inl h) =
           let x = are.each i b h.1 in
-          let l = placed_length ws ss old.called.items in
-          let r = in_range (placed_of ws ss old.called.items) b.call x.call x.is_call in
+          let l = placed_length ws ss old.entries.items in
+          let r = in_range (placed_of ws ss old.entries.items) b.call x.call x.is_call in
           firsts.in_turn i j b c h.1 f (call_there b j c (omega (arith, l, r)) f g)
       by (inr (zero, h, k)) =
           let same = some_same body b k in
-          let there = call_there b j c (subst (λ (x : Body). x.call < length ss + length old.called.items) same within) f g in
+          let there = call_there b j c (subst (λ (x : Body). x.call < length ss + length old.entries.items) same within) f g in
           let x = are.brought j c there in
           let r = in_range old.bodies.items c.body x.body x.is_body in
           omega (arith, h, r)
@@ -196,17 +196,17 @@ module _ (ws : List Written) (ss : List Standing) (old new : Brought) (are : Are
   firsts_opened = record { first = its_first; in_turn = each_turn }
 
 -- an optional opens no body
-pub firsts_stay : (ws : List Written) (ss : List Standing) (old new : Brought) → AreBodies ws ss old.called.items old.bodies.items → AreFirsts ss old
-    → (more : List Called) → new.called.items ≡ old.called.items ++ more → new.bodies.items ≡ old.bodies.items → new.firsts ≡ old.firsts → AreFirsts ss new
+pub firsts_stay : (ws : List Written) (ss : List Standing) (old new : Brought) → AreBodies ws ss old.entries.items old.bodies.items → AreFirsts ss old
+    → (more : List Called) → new.entries.items ≡ old.entries.items ++ more → new.bodies.items ≡ old.bodies.items → new.firsts ≡ old.firsts → AreFirsts ss new
 firsts_stay ws ss old new are firsts more called bodies same = record {
   first = λ spot. ap (λ m. get same_key m (key_of spot)) same ∙ firsts.first spot ∙ ap (position (is_body_of ss spot)) (sym bodies);
   in_turn = λ i j b c e f g.
       let there = ap (λ xs. slice_get xs i) (sym bodies) ∙ e in
       let x = are.each i b there in
-      let l = placed_length ws ss old.called.items in
-      let r = in_range (placed_of ws ss old.called.items) b.call x.call x.is_call in
+      let l = placed_length ws ss old.entries.items in
+      let r = in_range (placed_of ws ss old.entries.items) b.call x.call x.is_call in
       firsts.in_turn i j b c there f
-      (sym (get_in_front old.called.items more j (omega (arith, l, r, f))) ∙ ap (λ xs. slice_get xs j) (sym called) ∙ g);
+      (sym (get_in_front old.entries.items more j (omega (arith, l, r, f))) ∙ ap (λ xs. slice_get xs j) (sym called) ∙ g);
 }
 
 -- nothing is brought yet

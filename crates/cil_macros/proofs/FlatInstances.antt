@@ -4,13 +4,13 @@ use Rattle.std.specs.Prelude.{Contains, Option, Some, None}
 use Rattle.std.specs.List.Sorted.{IsStrictlySortedBy}
 use Rattle.std.proofs.lemmas.Bool.{cases_lt}
 use Rattle.std.proofs.lemmas.List.{length-map}
-use Rattle.cil_sexpr.specs.Lists.{Lists, contains_cases, contains_here, contains_none}
-use Rattle.cil_sexpr.specs.MadeLists.{contains_map, from_map}
-use Rattle.cil_sexpr.specs.Places.{none_some}
-use Rattle.cil_sexpr.specs.Rising.{IsOver}
-use Rattle.cil_syntax.specs.declared.fault.Fault.{Fault}
-use Rattle.cil_syntax.specs.Fails.{AreFaults}
-use Rattle.cil_syntax.specs.Laws.{Outcome, succeeds, fails}
+use Rattle.cil_base.specs.Lists.{Lists, contains_cases, contains_here, contains_none}
+use Rattle.cil_base.specs.MadeLists.{contains_map, from_map}
+use Rattle.cil_base.specs.Places.{none_some}
+use Rattle.cil_base.specs.Rising.{IsOver}
+use Rattle.cil_faults.specs.declared.fault.Fault.{Fault}
+use Rattle.cil_faults.specs.Fails.{AreFaults}
+use Rattle.cil_faults.specs.Laws.{Outcome, succeeds, fails}
 use Rattle.cil_syntax.specs.Written.{Written, is_macro, written_cmp}
 use Rattle.cil_blocks.specs.Contents.{Standing, Stands, in_block, in_optional as optional_stands, inherited, standing_cmp, top}
 use Rattle.cil_blocks.specs.InheritFaults.{limit_fault, most_instances}
@@ -23,15 +23,10 @@ use Rattle.cil_macros.proofs.CallLemmas.{uncalled}
 use Rattle.cil_macros.proofs.CalledMacros.{names_macro}
 use Rattle.cil_macros.proofs.ExpandLemmas.{limit_alone, no_step}
 use Rattle.cil_macros.proofs.PlacedWalk.{queue_order}
+use Rattle.cil_macros.proofs.WrittenLemmas.{stands_written}
 
 never : true ≡ false → ⊥
 never e = cc
-
-pub stands_written : (ws : List Written) (s : Standing) → Stands ws s → Contains ws s.statement
-stands_written ws s (top w c u) = c
-stands_written ws s (in_block p w sp b a c u) = c
-stands_written ws s (optional_stands p w sp o c u) = c
-stands_written ws s (inherited p b w sp i t c u) = c
 
 module _ (ws : List Written) (ss : List Standing) (rising : IsStrictlySortedBy written_cmp ws) (are : Lists standing_cmp (Stands ws) ss)
     (flat : (w : Written) → Contains ws w → is_macro w.statement.keyword ≡ false) where

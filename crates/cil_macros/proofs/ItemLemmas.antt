@@ -2,7 +2,7 @@
 use Rattle.std.specs.Prelude.{Some, slice_get}
 use Rattle.std.proofs.Common.{◌≡◌, ℕ, ◌+◌, ◌<◌, true, List, [], ◌∷◌, ◌++◌, length, take, drop, get_or, refl, sym, ◌∙◌, ap, arith}
 use Rattle.std.proofs.lemmas.List.{get_or-map, length-map, take_more}
-use Rattle.cil_sexpr.specs.Places.{drop_at, is_there}
+use Rattle.cil_base.specs.Places.{drop_at, is_there}
 use Rattle.cil_syntax.specs.declared.kind.Keyword.{Keyword}
 use Rattle.cil_syntax.specs.declared.kind.Keyword.TheVariants as keywords
 use Rattle.cil_syntax.specs.declared.term.Word.{Word}
@@ -50,20 +50,10 @@ module _ (i : Kept) (at : ℕ) (within : at < length (items_in i)) where
 -- each statement says what is written, but for calls and what is judged with the blocks
 pub said_as_written : (ws : List Written) (ss : List Standing) (p : Placed) (k : Keyword) (args : Terms Word) → says_as_written k ≡ true → says ws ss p k args ≡ all_replaced (λ at. at) (word_of ws p) args
 unfolding says
-said_as_written ws ss p keywords.Type_ args e = refl
-said_as_written ws ss p keywords.Class args e = refl
-said_as_written ws ss p keywords.Role args e = refl
-said_as_written ws ss p keywords.User args e = refl
-said_as_written ws ss p keywords.RoleType args e = refl
-said_as_written ws ss p keywords.UserRole args e = refl
-said_as_written ws ss p keywords.Allow args e = refl
-said_as_written ws ss p keywords.Block args e = refl
 said_as_written ws ss p keywords.BlockAbstract args e = absurd cc
 said_as_written ws ss p keywords.BlockInherit args e = absurd cc
-said_as_written ws ss p keywords.Macro args e = refl
 said_as_written ws ss p keywords.Call args e = absurd cc
-said_as_written ws ss p keywords.Optional args e = refl
-said_as_written ws ss p keywords.SetAside args e = refl
+said_as_written ws ss p k args e = refl
 
 module _ (ws : List Written) (ss : List Standing) (p : Placed) (args : Terms Word) where
   pub inherit_says : says ws ss p keywords.BlockInherit args ≡ nil

@@ -34,3 +34,6 @@ pub mod TurnLemmas
 pub mod ValueLemmas
 pub mod WalkLemmas
 pub mod WordsOfTexts
+pub mod FormLemmas
+pub mod ItemsThere
+pub mod WrittenLemmas

@@ -9,10 +9,11 @@ use Rattle.std.proofs.lemmas.Bool.{eqb-true, and_parts}
 use Rattle.std.proofs.lemmas.List.{drop_all}
 use Rattle.std.proofs.lemmas.List.Elements.{Contains-get_or}
 use Rattle.indexmap.specs.IndexMap.{get}
-use Rattle.cil_sexpr.specs.Places.{get_so, in_range, none_some, some_same, cons_head, cons_tail}
+use Rattle.cil_base.specs.Places.{get_so, in_range, none_some, some_same, cons_head, cons_tail}
 use Rattle.cil_syntax.specs.declared.term.Word.{Word}
 use Rattle.cil_syntax.specs.Program.{program_of}
-use Rattle.cil_syntax.specs.Scopes.{Namespace, asked, names_backwards, same_space}
+use Rattle.cil_faults.specs.Namespaces.{Namespace}
+use Rattle.cil_syntax.specs.Scopes.{asked, names_backwards, same_space}
 use Rattle.cil_syntax.specs.Spelling.{same_bytes}
 use Rattle.cil_syntax.specs.Written.{is_macro}
 use Rattle.cil_blocks.specs.declared.entry.Entry.{Entry}

@@ -2,8 +2,8 @@
 use Rattle.std.proofs.Common.{◌≡◌, ℕ, zero, suc, ◌<◌, Bool, true, false, ◌&&◌, ◌||◌, if◌then◌else◌, List, [], ◌∷◌, map, refl, sym, ◌∙◌, ap, subst, arith}
 use Rattle.std.specs.Prelude.{Contains, Option, Some, None, slice_get}
 use Rattle.std.specs.List.{list_any}
-use Rattle.cil_sexpr.specs.Lists.{contains_here, contains_later}
-use Rattle.cil_sexpr.specs.Places.{get_at, get_contains}
+use Rattle.cil_base.specs.Lists.{contains_here, contains_later}
+use Rattle.cil_base.specs.Places.{get_at, get_contains}
 use Rattle.cil_syntax.specs.declared.kind.Keyword.{Keyword}
 use Rattle.cil_syntax.specs.declared.kind.Keyword.TheVariants as keywords
 use Rattle.cil_syntax.specs.declared.kind.Nesting.TheVariants as nestings
@@ -35,20 +35,10 @@ both_left false b e = absurd (let f : false ≡ true = e in cc)
 inside_by : (k : Keyword) (c : Context) (own : Enclosing) → may_stand c (entry_of k) ≡ true → IsInNoMacro c
     → allows (nesting_within (entry_of k).body c.nesting) nestings.InBlock ≡ true → (if is_macro k then Some own else c.macro) ≡ None
 unfolding entry_of
-inside_by keywords.Type_ c own may so here = so here
-inside_by keywords.Class c own may so here = so here
-inside_by keywords.Role c own may so here = so here
-inside_by keywords.User c own may so here = so here
-inside_by keywords.RoleType c own may so here = so here
-inside_by keywords.UserRole c own may so here = so here
-inside_by keywords.Allow c own may so here = so here
 inside_by keywords.Block c own may so here = so (both_left (allows c.nesting nestings.InBlock) true may)
-inside_by keywords.BlockAbstract c own may so here = so here
-inside_by keywords.BlockInherit c own may so here = so here
 inside_by keywords.Macro c own may so here = absurd (let f : false ≡ true = here in cc)
-inside_by keywords.Call c own may so here = so here
 inside_by keywords.Optional c own may so here = absurd (let f : false ≡ true = here in cc)
-inside_by keywords.SetAside c own may so here = so here
+inside_by k c own may so here = so here
 
 module _ (ss : List Statement) (nested : IsNested ss) where
   abbrev ws : List Written
@@ -82,20 +72,8 @@ and_false false = refl
 declares_none : (m : Written) (k : Keyword) (c : Context) (named : Bool) → may_stand c (entry_of k) ≡ true → IsInNoMacro c
     → (is_in_body m c.macro && (list_any (is_wanted signs.Macros) (entry_of k).declares && named)) ≡ false
 unfolding entry_of
-declares_none m keywords.Type_ c named may so = and_false (is_in_body m c.macro)
-declares_none m keywords.Class c named may so = and_false (is_in_body m c.macro)
-declares_none m keywords.Role c named may so = and_false (is_in_body m c.macro)
-declares_none m keywords.User c named may so = and_false (is_in_body m c.macro)
-declares_none m keywords.RoleType c named may so = and_false (is_in_body m c.macro)
-declares_none m keywords.UserRole c named may so = and_false (is_in_body m c.macro)
-declares_none m keywords.Allow c named may so = and_false (is_in_body m c.macro)
-declares_none m keywords.Block c named may so = and_false (is_in_body m c.macro)
-declares_none m keywords.BlockAbstract c named may so = and_false (is_in_body m c.macro)
-declares_none m keywords.BlockInherit c named may so = and_false (is_in_body m c.macro)
 declares_none m keywords.Macro c named may so = ap (λ (o : Option Enclosing). is_in_body m o && named) (so (both_left (allows c.nesting nestings.InBlock) true may))
-declares_none m keywords.Call c named may so = and_false (is_in_body m c.macro)
-declares_none m keywords.Optional c named may so = and_false (is_in_body m c.macro)
-declares_none m keywords.SetAside c named may so = and_false (is_in_body m c.macro)
+declares_none m k c named may so = and_false (is_in_body m c.macro)
 
 none_declare : (m : Written) (bytes : List ℕ) (vs : List Written)
     → ((v : Written) → Contains vs v → (is_in_body m v.context.macro && declares_name bytes signs.Macros v) ≡ false)

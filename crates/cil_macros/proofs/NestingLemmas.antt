@@ -3,7 +3,7 @@ use Rattle.std.proofs.Common.{◌≡◌, ℕ, zero, suc, ◌+◌, ◌<◌, ◌�
 use Rattle.std.specs.Prelude.{IfSome, MatchOption, Option, Some, None, slice_get}
 use Rattle.std.proofs.lemmas.Bool.{cases_lt}
 use Rattle.std.proofs.lemmas.List.{length-map, length-take-le, map-append, take_all, take_more}
-use Rattle.cil_sexpr.specs.Places.{at_or_last, get_contains, get_so, in_range, never_cons, none_some, some_at, some_same}
+use Rattle.cil_base.specs.Places.{at_or_last, get_contains, get_so, in_range, never_cons, none_some, some_at, some_same}
 use Rattle.cil_syntax.specs.declared.kind.Keyword.{Keyword}
 use Rattle.cil_syntax.specs.declared.kind.Keyword.TheVariants as keywords
 use Rattle.cil_syntax.specs.Written.{Written}

@@ -2,7 +2,7 @@
 use Rattle.std.proofs.Common.{◌≡◌, ◌⊎◌, true, List, [], refl, sym, ◌∙◌, ap, inl, inr}
 use Rattle.std.specs.Prelude.{Contains, Some, None}
 use Rattle.cil_blocks.specs.OneStanding.{AreApart, IsEntered, empty_path, entered, is_written as standing_written, keyword_of, one_standing, round_same, same_path}
-use Rattle.cil_sexpr.specs.Places.{none_some, same_ends, some_same}
+use Rattle.cil_base.specs.Places.{none_some, same_ends, some_same}
 use Rattle.cil_syntax.specs.declared.kind.Keyword.{Keyword}
 use Rattle.cil_syntax.specs.declared.kind.Keyword.TheVariants as keywords
 use Rattle.cil_syntax.specs.Written.{Written, is_macro}

@@ -1,7 +1,7 @@
 -- Whether what is placed somewhere is an optional of a body.
 use Rattle.std.proofs.Common.{◌≡◌, ℕ, ◌+◌, ◌<◌, ◌≤◌, false, List, length, sym, ◌∙◌, ap, arith}
 use Rattle.std.specs.Prelude.{Some, slice_get}
-use Rattle.cil_sexpr.specs.Places.{in_range}
+use Rattle.cil_base.specs.Places.{in_range}
 use Rattle.cil_syntax.specs.Written.{Written}
 use Rattle.cil_blocks.specs.Contents.{is_optional}
 use Rattle.cil_blocks.specs.Entries.{statement_at}

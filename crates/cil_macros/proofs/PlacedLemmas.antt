@@ -2,15 +2,21 @@
 use Rattle.std.proofs.Common.{◌≡◌, ℕ, ◌+◌, ◌<◌, ◌≤◌, List, [], length, refl, sym, ◌∙◌, ap, subst, arith}
 use Rattle.std.specs.Prelude.{Some, None, slice_get}
 use Rattle.std.proofs.lemmas.List.{get_or_past, length-map}
-use Rattle.cil_sexpr.specs.Places.{is_there, not_there}
-use Rattle.cil_sexpr.specs.Lists.{contains_none}
+use Rattle.cil_base.specs.Places.{get_contains, is_there, not_there}
+use Rattle.std.specs.Prelude.{Contains}
+use Rattle.std.proofs.Common.{inl, inr, true, false}
+use Rattle.std.proofs.lemmas.Bool.{cases_lt}
+use Rattle.cil_base.specs.Lists.{Lists}
+use Rattle.cil_base.specs.Lists.{contains_none}
 use Rattle.cil_syntax.specs.declared.program.Statement.{Statement}
 use Rattle.cil_syntax.specs.declared.term.Word.{Word}
-use Rattle.cil_syntax.specs.Program.{IsNested, statement_of}
+use Rattle.cil_syntax.specs.Program.{IsNested, is_begun, statement_of}
 use Rattle.cil_syntax.specs.Written.{Written}
 use Rattle.cil_syntax.specs.Scopes.{ScopedWord}
 use Rattle.cil_syntax.specs.Terms.{Term}
-use Rattle.cil_blocks.specs.Contents.{standing_top}
+use Rattle.cil_blocks.specs.Contents.{Stands, standing_cmp, standing_top}
+use Rattle.cil_macros.specs.Calls.{IsPlaced, placed_cmp}
+use Rattle.cil_macros.proofs.WrittenLemmas.{written_of}
 use Rattle.cil_blocks.specs.Entries.{nothing, statement_at}
 use Rattle.cil_blocks.specs.Namespaces.{IsNumber}
 use Rattle.cil_blocks.specs.Places.{entries_in, statements_in}
@@ -59,14 +65,25 @@ module _ (i : Kept) where
   word_so at w t e = ap (as_word w) e
 
   -- the statement there, by its number
-  module _ (nested : IsNested (statements_in i.0)) (at n : ℕ) (so : (placed_at i at).standing.statement ≡ statement_at (written_in i.0) n)
-      (ss : List Statement) (same : ss ≡ statements_in i.0) where
-    pub stated_none : slice_get ss n ≡ None → (placed_at i at).standing.statement ≡ nothing
-    stated_none e = so ∙ at_none (statements_in i.0) nested n (ap (λ xs. slice_get xs n) (sym same) ∙ e)
+  module _ (nested : IsNested (statements_in i.0)) (at n : ℕ) (so : (placed_at i at).standing.statement ≡ statement_at (written_in i.0) n) where
+    -- the number is one of a statement: none that is placed is what no program has
+    number_below : Contains (written_in i.0) (placed_at i at).standing.statement → n < length (statements_in i.0)
+    number_below c = elim (cases_lt n (length (statements_in i.0))) [
+      | inl less ↦ less
+      | inr ge ↦
+          let none = so ∙ at_none (statements_in i.0) nested n (not_there (statements_in i.0) n ge) in
+          let f : false ≡ true = subst (λ (w : Written). is_begun w.statement.keyword w.statement.args ≡ true) none (nested.begun (placed_at i at).standing.statement c) in
+          absurd cc
+    ]
 
-    pub stated_some : (s : Statement) → slice_get ss n ≡ Some s → statement_of s ≡ (placed_at i at).standing.statement.statement
-    stated_some s e =
-        sym (ap (λ (w : Written). w.statement) (so ∙ at_some (statements_in i.0) nested n s (ap (λ xs. slice_get xs n) (sym same) ∙ e)))
+    pub has_number : Lists placed_cmp (IsPlaced (written_in i.0) (all_standing i.0)) (all_placed i) → Lists standing_cmp (Stands (written_in i.0)) (all_standing i.0)
+        → at < length (entries_in i.0) + length i.1 → n < length (statements_in i.0)
+    has_number placed standings h =
+        let is = (placed.members (placed_at i at)).0 (get_contains (all_placed i) at (placed_at i at) (placed_so at h)) in
+        number_below (written_of (written_in i.0) (all_standing i.0) (λ s c. (standings.members s).0 c) (placed_at i at) is)
+
+    pub stated_some : (s : Statement) → slice_get (statements_in i.0) n ≡ Some s → statement_of s ≡ (placed_at i at).standing.statement.statement
+    stated_some s e = sym (ap (λ (w : Written). w.statement) (so ∙ at_some (statements_in i.0) nested n s e))
 
   -- the scope there
   pub scope_nowhere : (ks : List ℕ) → ks ≡ [] → IsScope (namespaces_in i) (scope_by (all_placed i) None) ks

@@ -6,14 +6,14 @@ use Rattle.std.specs.declared.cmp.Ordering.TheVariants.{Less, Equal, Greater}
 use Rattle.std.specs.Ordering.{nat_cmp, ordering_then}
 use Rattle.std.specs.List.Sorted.{IsStrictlySortedBy}
 use Rattle.std.proofs.lemmas.List.Kept.{IsStrictlySortedBy-filter}
-use Rattle.cil_sexpr.specs.MadeLists.{contains_map, from_map}
-use Rattle.cil_sexpr.specs.Paths.{below_by, equal_from, less_from, opened_beside, opened_later, same_by}
-use Rattle.cil_sexpr.specs.Queue.{IsQueueOrder, IsReached, at_first, onward}
-use Rattle.cil_sexpr.specs.Rising.{all_from}
-use Rattle.cil_sexpr.specs.Lists.{all_at, contains_none}
+use Rattle.cil_base.specs.MadeLists.{contains_map, from_map}
+use Rattle.cil_base.specs.Paths.{below_by, equal_from, less_from, opened_beside, opened_later, same_by}
+use Rattle.cil_base.specs.Queue.{IsQueueOrder, IsReached, at_first, onward}
+use Rattle.cil_base.specs.Rising.{all_from}
+use Rattle.cil_base.specs.Lists.{all_at, contains_none}
 use Rattle.cil_syntax.specs.declared.kind.Keyword.{Keyword}
 use Rattle.cil_syntax.specs.declared.kind.Keyword.TheVariants as keywords
-use Rattle.cil_syntax.specs.declared.term.Spot.{Spot}
+use Rattle.cil_faults.specs.declared.spot.Spot.{Spot}
 use Rattle.cil_syntax.specs.Written.{Written, written_cmp}
 use Rattle.cil_blocks.specs.Contents.{Standing, is_at, is_optional, path_cmp, spot_cmp, spot_total, standing_cmp}
 use Rattle.cil_blocks.specs.Opens.{parts}

@@ -4,14 +4,14 @@ use Rattle.std.proofs.Common.{◌≡◌, ℕ, suc, Bool, true, false, ◌&&◌, 
 use Rattle.std.specs.Prelude.{Contains, None, Some, slice_get}
 use Rattle.std.specs.Ordering.{nat_cmp, ordering_then}
 use Rattle.std.proofs.lemmas.List.Sums.{position_or_len_is}
-use Rattle.cil_sexpr.specs.Lists.{Lists}
-use Rattle.cil_sexpr.specs.MadeLists.{from_map}
-use Rattle.cil_sexpr.specs.Paths.{its_own}
-use Rattle.cil_sexpr.specs.Places.{cons_head, cons_tail, get_at, get_contains, get_so, in_range, is_there, never_cons, never_empty, none_some, same_ends}
-use Rattle.cil_sexpr.specs.Rising.{tied_places}
+use Rattle.cil_base.specs.Lists.{Lists}
+use Rattle.cil_base.specs.MadeLists.{from_map}
+use Rattle.cil_base.specs.Paths.{its_own}
+use Rattle.cil_base.specs.Places.{cons_head, cons_tail, get_at, get_contains, get_so, in_range, is_there, never_cons, never_empty, none_some, same_ends}
+use Rattle.cil_base.specs.Rising.{tied_places}
 use Rattle.cil_syntax.specs.declared.kind.Keyword.{Keyword}
 use Rattle.cil_syntax.specs.declared.kind.Keyword.TheVariants as keywords
-use Rattle.cil_syntax.specs.declared.term.Spot.{Spot}
+use Rattle.cil_faults.specs.declared.spot.Spot.{Spot}
 use Rattle.cil_syntax.specs.Written.{Written}
 use Rattle.cil_blocks.specs.Contents.{Standing, Stands, in_block, in_optional as optional_stands, inherited, is_block, is_inheriting, is_optional, path_cmp, same_spot, top}
 use Rattle.cil_blocks.specs.OneStanding.{AreApart}
@@ -30,7 +30,7 @@ use Rattle.cil_macros.specs.Walks.{placed_in, written_in}
 use Rattle.cil_macros.proofs.BodyLemmas.{mapped_get}
 use Rattle.cil_macros.proofs.CalledMacros.{is_macro_call}
 use Rattle.cil_macros.proofs.ExpandLemmas.{placed_total}
-use Rattle.cil_macros.proofs.FlatInstances.{stands_written}
+use Rattle.cil_macros.proofs.WrittenLemmas.{stands_written, written_of}
 use Rattle.std.proofs.lemmas.Bool.{and_parts}
 
 -- ---- trails that are one
@@ -91,11 +91,6 @@ module _ (ws : List Written) (ss : List Standing) (apart : AreApart ws) (each : 
   placed_trail p (called q u w iq e c i) = record { before = q.standing.trail; is = refl }
   placed_trail p (in_optional q b w iq e o c i) = record { before = q.standing.trail; is = refl }
 
-  written_of : (p : Placed) → IsPlaced ws ss p → Contains ws p.standing.statement
-  written_of p (stands s c) = stands_written ws s (each s c)
-  written_of p (called q u w ip e c i) = c
-  written_of p (in_optional q b w ip e o c i) = c
-
   not_empty : (s : Standing) → IsTrail s → [] ≡ s.trail → ⊥
   not_empty s t e = never_empty s.statement.statement.at s.statement.statement.at t.before (e ∙ t.is)
 
@@ -106,7 +101,7 @@ module _ (ws : List Written) (ss : List Standing) (apart : AreApart ws) (each : 
       let a = standing_trail s st in
       let b = placed_trail q iq in
       let ends = same_ends a.before b.before s.statement.statement.at q.standing.statement.statement.at (sym a.is ∙ e ∙ b.is) in
-      ap (λ (w : Written). w.statement.keyword) (apart.one s.statement q.standing.statement (stands_written ws s st) (written_of q iq) ends.1)
+      ap (λ (w : Written). w.statement.keyword) (apart.one s.statement q.standing.statement (stands_written ws s st) (written_of ws ss each q iq) ends.1)
 
   -- what stands did not come through a call
   no_call : (s : Standing) (q : Placed) (w : Written) → Stands ws s → IsPlaced ws ss q → is_call q.standing.statement.statement.keyword ≡ true
@@ -229,7 +224,7 @@ number_is_place s are ps placed =
     number_of_own (written_in s) (all_standing s) (are_apart (statements_in s) are.contents.nested) (λ m c. (are.contents.standings.members m).0 c) ps placed
 
 -- the optionals of all instances are nested
-pub all_nested : (s : Standings) (b : Brought) → AreInstances s b → AreNested (items_in (s, b.called.items))
+pub all_nested : (s : Standings) (b : Brought) → AreInstances s b → AreNested (items_in (s, b.entries.items))
 all_nested s b are =
     nested_items (written_in s) (all_standing s) (are_apart (statements_in s) are.standings.contents.nested) (λ m c. (are.standings.contents.standings.members m).0 c)
-    (λ m st. (are.standings.contents.standings.members m).1 st) (placed_in s b.called.items) are.placed
+    (λ m st. (are.standings.contents.standings.members m).1 st) (placed_in s b.entries.items) are.placed

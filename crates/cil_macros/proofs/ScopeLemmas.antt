@@ -3,8 +3,8 @@ use Rattle.std.proofs.Common.{◌≡◌, ◌⊎◌, ◌==◌, ℕ, ◌+◌, ◌<
 use Rattle.std.specs.Prelude.{Some, slice_get}
 use Rattle.std.specs.List.{list_any}
 use Rattle.std.proofs.lemmas.List.{take_more}
-use Rattle.cil_sexpr.specs.Lists.{contains_none}
-use Rattle.cil_sexpr.specs.Places.{some_same}
+use Rattle.cil_base.specs.Lists.{contains_none}
+use Rattle.cil_base.specs.Places.{some_same}
 use Rattle.cil_syntax.specs.Scopes.{Scope, apart, tidy}
 use Rattle.cil_blocks.specs.declared.namespaces.Space.{Space}
 use Rattle.cil_blocks.specs.Contents.{Standing}
@@ -89,11 +89,11 @@ module _ (s : Standings) (are : AreStandings s) (spaces : AreNamespaces (spaces_
 
     -- the scope of the macro of a body
     module _ (place : ℕ) (b : Body) (x : IsBodyAt (written_in s) (all_standing s) cs place b) (cur new : List ℕ)
-        (added : (p : Numbered) → slice_get (places_in s) b.called ≡ Some p → new ≡ with_numbers cur p.1) where
+        (added : (p : Numbered) → slice_get (places_in s) b.macro_rank ≡ Some p → new ≡ with_numbers cur p.1) where
       added_at : (p q : Placed) (ns : List ℕ) → slice_get (placed_in s cs) place ≡ Some p → slice_get (placed_in s cs) b.call ≡ Some q → IsScope (spaces_in s) q.standing.scope ns
           → (ms : List ℕ) × (new ≡ with_numbers cur ms) × IsScope (spaces_in s) p.standing.scope (with_numbers (with_numbers [] ms) ns ++ 0 ∷ [])
       added_at p q ns e f is =
-          let (n, at_n, scope) = standing_scope b.called x.so.opened.macro x.so.is_macro in
+          let (n, at_n, scope) = standing_scope b.macro_rank x.so.opened.macro x.so.is_macro in
           let same = ap (λ (r : Placed). r.standing.scope) (some_same p x.there (sym e ∙ x.placed)) ∙ x.is.scope in
           let call = some_same q x.so.call (sym f ∙ x.so.is_call) in (
             n.1,
@@ -118,7 +118,7 @@ module _ (s : Standings) (are : AreStandings s) (spaces : AreNamespaces (spaces_
           let before = x.before in
           let near = is_from.near in
           let h = l.within in
-          let (n, at_n, scope) = standing_scope b.called x.so.opened.macro x.so.is_macro in
+          let (n, at_n, scope) = standing_scope b.macro_rank x.so.opened.macro x.so.is_macro in
           record {
             within = omega (arith, before, near, h);
             unclosed = ap (list_any (λ k. 0 == k)) (added n at_n) ∙ no_global n.1 cur ∙ l.unclosed;
@@ -149,7 +149,7 @@ module _ (s : Standings) (cs : List Called) where
   }
 
   -- what a call brings has the scope that its body names
-  pub body_place : (at : ℕ) (b : Body) → IsBodyAt (written_in s) (all_standing s) cs at b → (from : ℕ) → IsBodyScope (all_standing s) (placed_in s cs) b.call b.called from
+  pub body_place : (at : ℕ) (b : Body) → IsBodyAt (written_in s) (all_standing s) cs at b → (from : ℕ) → IsBodyScope (all_standing s) (placed_in s cs) b.call b.macro_rank from
       → IsScopePlace (placed_in s cs) at from
   body_place at b x from so = record {
     near = let before = x.before in let near = so.near in omega (arith, before, near);

@@ -4,7 +4,7 @@ use Rattle.std.specs.Prelude.{Some, None, slice_get}
 use Rattle.std.proofs.Math.Dec.{ltb}
 use Rattle.std.specs.List.Sorted.{IsPartitionedBy, IsPartitionPoint}
 use Rattle.std.proofs.lemmas.Bool.{cases_lt, lt-ltb, ltb-false, ltb-true}
-use Rattle.cil_sexpr.specs.Places.{at_or_last, get_in_front, get_last, get_so, in_range, is_there, none_some, some_same}
+use Rattle.cil_base.specs.Places.{at_or_last, get_in_front, get_last, get_so, in_range, is_there, none_some, some_same}
 use Rattle.cil_blocks.specs.Places.{Standings, entries_in}
 use Rattle.cil_blocks.proofs.EntryLemmas.{standings_length}
 use Rattle.cil_macros.specs.declared.entry.Body.{Body}

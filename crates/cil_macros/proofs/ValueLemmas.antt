@@ -3,19 +3,20 @@ use Rattle.std.proofs.Common.{◌≡◌, ℕ, Bool, true, false, if◌then◌els
 use Rattle.std.specs.Prelude.{Some, None}
 use Rattle.std.specs.declared.alloc.Global.{Global}
 use Rattle.std.specs.declared.vec.Vec.{Vec}
-use Rattle.cil_sexpr.specs.Places.{some_same}
+use Rattle.cil_base.specs.Places.{some_same}
 use Rattle.cil_syntax.specs.declared.kind.Sign.TheVariants as signs
 use Rattle.cil_syntax.specs.declared.term.LookedUp.{LookedUp}
 use Rattle.cil_syntax.specs.declared.term.Op.{Op}
 use Rattle.cil_syntax.specs.declared.term.Op.TheVariants as ops
-use Rattle.cil_syntax.specs.declared.term.Spot.{Spot}
+use Rattle.cil_faults.specs.declared.spot.Spot.{Spot}
 use Rattle.cil_syntax.specs.declared.term.Term as rust
 use Rattle.cil_syntax.specs.declared.term.Term.{the_lemmas}
 use Rattle.cil_syntax.specs.declared.term.Term.TheVariants as variants
 use Rattle.cil_syntax.specs.declared.term.Word.{Word}
 use Rattle.cil_syntax.specs.Said.{all_said, said_of, word_in}
 use Rattle.cil_syntax.specs.Shapes.{Cell, Inner, a_list, a_string, is_spelled, read_list, read_string, read_word, word_faults}
-use Rattle.cil_syntax.specs.Terms.{Term, Leaf, Name, Form, Terms, nil, cons, spot_at}
+use Rattle.cil_syntax.specs.Terms.{Term, Leaf, Name, Form, Terms, nil, cons}
+use Rattle.cil_faults.specs.Spots.{spot_at}
 use Rattle.cil_syntax.specs.Written.{Written}
 use Rattle.cil_macros.specs.declared.meant.Meant.{Meant}
 use Rattle.cil_macros.specs.Meant.{kind_sign, meant_term}
@@ -37,21 +38,7 @@ leaf_value ops.UserKind w value e = one_faultless (Leaf record { at = w.at; byte
 leaf_value ops.ClassKind w value e = one_faultless (Leaf record { at = w.at; bytes = w.bytes; sign = signs.PlainClass }) (word_faults w.at (is_spelled signs.PlainClass w.bytes) w.bytes) value e
 leaf_value ops.NameKind w value e = sym (some_same (Leaf record { at = w.at; bytes = w.bytes; sign = signs.Text }) value e)
 leaf_value ops.TextKind w value e = sym (some_same (Leaf record { at = w.at; bytes = w.bytes; sign = signs.Text }) value e)
-leaf_value ops.Listed w value e = cc
-leaf_value ops.ClassPermissions w value e = cc
-leaf_value ops.Union w value e = cc
-leaf_value ops.Not w value e = cc
-leaf_value ops.And w value e = cc
-leaf_value ops.Or w value e = cc
-leaf_value ops.Xor w value e = cc
-leaf_value ops.All w value e = cc
-leaf_value ops.Itself w value e = cc
-leaf_value ops.LeftOut w value e = cc
-leaf_value ops.Parameters w value e = cc
-leaf_value ops.Parameter w value e = cc
-leaf_value ops.Arguments w value e = cc
-leaf_value ops.UnreadList w value e = cc
-leaf_value ops.UnreadText w value e = cc
+leaf_value kind w value e = cc
 
 -- ---- strings
 
@@ -63,52 +50,15 @@ string_cell at bytes = record { at = at; face = a_string; read = read_string at 
 
 string_value : (kind : Op) (at : Spot) (bytes : List ℕ) (value : Term Word) → read_argument (argument_kind kind) (string_cell at bytes) ≡ Some value → value ≡ kept_text at bytes
 unfolding read_string
-string_value ops.TypeKind at bytes value e = cc
-string_value ops.RoleKind at bytes value e = cc
-string_value ops.UserKind at bytes value e = cc
-string_value ops.ClassKind at bytes value e = cc
 string_value ops.NameKind at bytes value e = sym (some_same (kept_text at bytes) value e)
 string_value ops.TextKind at bytes value e = sym (some_same (kept_text at bytes) value e)
-string_value ops.Listed at bytes value e = cc
-string_value ops.ClassPermissions at bytes value e = cc
-string_value ops.Union at bytes value e = cc
-string_value ops.Not at bytes value e = cc
-string_value ops.And at bytes value e = cc
-string_value ops.Or at bytes value e = cc
-string_value ops.Xor at bytes value e = cc
-string_value ops.All at bytes value e = cc
-string_value ops.Itself at bytes value e = cc
-string_value ops.LeftOut at bytes value e = cc
-string_value ops.Parameters at bytes value e = cc
-string_value ops.Parameter at bytes value e = cc
-string_value ops.Arguments at bytes value e = cc
-string_value ops.UnreadList at bytes value e = cc
-string_value ops.UnreadText at bytes value e = cc
+string_value kind at bytes value e = cc
 
 list_value : (kind : Op) (at : Spot) (cells : List Cell) (value : Term Word)
     → read_argument (argument_kind kind) (record { at = at; face = a_list; read = read_list at cells }) ≡ Some value → ⊥
 unfolding read_list
 list_value ops.TypeKind at cells value e = cc
-list_value ops.RoleKind at cells value e = cc
-list_value ops.UserKind at cells value e = cc
-list_value ops.ClassKind at cells value e = cc
-list_value ops.NameKind at cells value e = cc
-list_value ops.TextKind at cells value e = cc
-list_value ops.Listed at cells value e = cc
-list_value ops.ClassPermissions at cells value e = cc
-list_value ops.Union at cells value e = cc
-list_value ops.Not at cells value e = cc
-list_value ops.And at cells value e = cc
-list_value ops.Or at cells value e = cc
-list_value ops.Xor at cells value e = cc
-list_value ops.All at cells value e = cc
-list_value ops.Itself at cells value e = cc
-list_value ops.LeftOut at cells value e = cc
-list_value ops.Parameters at cells value e = cc
-list_value ops.Parameter at cells value e = cc
-list_value ops.Arguments at cells value e = cc
-list_value ops.UnreadList at cells value e = cc
-list_value ops.UnreadText at cells value e = cc
+list_value kind at cells value e = cc
 
 text_is_string : (at : Spot) (parts : Terms Word) → text_cell at parts ≡ string_cell at (string_in parts)
 text_is_string at nil = refl

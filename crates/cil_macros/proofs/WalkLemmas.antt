@@ -3,8 +3,8 @@ use Rattle.std.proofs.Common.{◌≡◌, ℕ, zero, suc, ◌+◌, ◌<◌, ◌�
 use Rattle.std.specs.Prelude.{Contains, IfSome, Option, None, Some, slice_get}
 use Rattle.std.proofs.lemmas.List.{append-nil, map-append, take_more}
 use Rattle.std.proofs.lemmas.List.Elements.{Contains-append_cases}
-use Rattle.cil_sexpr.specs.Lists.{contains_cases, contains_none}
-use Rattle.cil_sexpr.specs.Places.{get_behind, get_in_front, in_range, is_there, none_some, some_same}
+use Rattle.cil_base.specs.Lists.{contains_cases, contains_none, Lists}
+use Rattle.cil_base.specs.Places.{get_behind, get_in_front, in_range, is_there, none_some, some_same}
 use Rattle.cil_blocks.specs.Contents.{Standing, is_optional}
 use Rattle.cil_blocks.specs.declared.namespaces.Space.{Space}
 use Rattle.cil_blocks.specs.declared.parts.Parts.{Parts}
@@ -23,8 +23,7 @@ use Rattle.cil_macros.specs.Walks.{AreBodyScopes, IsBodyScope, IsUnfoldedAt, cal
 use Rattle.cil_macros.specs.Macros.{all_standing}
 use Rattle.cil_macros.proofs.EntryLemmas.{AreSoFar, all_placed, opens_so, opens_within, placed_length, started, too_many, went_on}
 use Rattle.cil_macros.proofs.CallLemmas.{placed_there}
-use Rattle.cil_sexpr.specs.Lists.{Lists}
-use Rattle.cil_sexpr.specs.Rising.{IsOver}
+use Rattle.cil_base.specs.Rising.{IsOver}
 use Rattle.cil_macros.proofs.BodyLemmas.{called_statement, is_brought}
 use Rattle.cil_macros.proofs.CalledMacros.{is_macro_call, optional_opens_none}
 
@@ -222,7 +221,7 @@ module _ (ws : List Written) (ss : List Standing) where
         ]
 
     -- and the places from which they have their scopes
-    pub scopes_more : AreBodyScopes ss (placed_of ws ss cs) bs → IfSome b.scope (IsBodyScope ss (placed_of ws ss cs) b.call b.called)
+    pub scopes_more : AreBodyScopes ss (placed_of ws ss cs) bs → IfSome b.scope (IsBodyScope ss (placed_of ws ss cs) b.call b.macro_rank)
         → AreBodyScopes ss (placed_of ws ss new) (bs ++ b ∷ [])
     scopes_more old so x c = by (Contains-append_cases bs (b ∷ []) x c)
       where
@@ -230,14 +229,14 @@ module _ (ws : List Written) (ss : List Standing) where
             → IfSome o (IsBodyScope ss (placed_of ws ss new) call called)
         all_stay call called o h y = scope_stays cs new more placed_more call called o h y
 
-        by : (Contains bs x ⊎ Contains (b ∷ []) x) → IfSome x.scope (IsBodyScope ss (placed_of ws ss new) x.call x.called)
+        by : (Contains bs x ⊎ Contains (b ∷ []) x) → IfSome x.scope (IsBodyScope ss (placed_of ws ss new) x.call x.macro_rank)
         by (inl d) =
             let i = get_of_contains bs x d in
             let y = are.each i.0 x i.1 in
-            all_stay x.call x.called x.scope (in_range (placed_of ws ss cs) x.call y.call y.is_call) (old x d)
+            all_stay x.call x.macro_rank x.scope (in_range (placed_of ws ss cs) x.call y.call y.is_call) (old x d)
         by (inr d) = elim (contains_cases x b [] d) [
-          | inl same ↦ subst (λ (z : Body). IfSome z.scope (IsBodyScope ss (placed_of ws ss new) z.call z.called)) same
-              (all_stay b.call b.called b.scope (in_range (placed_of ws ss cs) b.call is.call is.is_call) so)
+          | inl same ↦ subst (λ (z : Body). IfSome z.scope (IsBodyScope ss (placed_of ws ss new) z.call z.macro_rank)) same
+              (all_stay b.call b.macro_rank b.scope (in_range (placed_of ws ss cs) b.call is.call is.is_call) so)
           | inr none ↦ absurd (contains_none x none)
         ]
 
@@ -299,47 +298,47 @@ module _ (ws : List Written) (ss : List Standing) where
     spaces_within spaces old b p c e = old b p c (stood_before cs inside within placed_within b.call p (call_below b c) e)
 
     pub scopes_within : AreBodyScopes ss (placed_of ws ss cs) bs → AreBodyScopes ss (placed_of ws ss inside) bs
-    scopes_within old b c = scope_stays cs inside within placed_within b.call b.called b.scope (call_below b c) (old b c)
+    scopes_within old b c = scope_stays cs inside within placed_within b.call b.macro_rank b.scope (call_below b c) (old b c)
 
 -- ---- a step of the walk
 
 module _ (s : Standings) (cs : List Called) (bs : List Body) (at called : ℕ) (p : Placed) (here : slice_get (placed_in s cs) at ≡ Some p)
     (u : IsUnfoldedAt (written_in s) (all_standing s) p called) (within : at < length (entries_in s) + length cs) where
-  its_body : (space : ℕ) (from : Option ℕ) → IsBody (written_in s) (all_standing s) (placed_in s cs) (record { call = at; called = called; space = space; scope = from })
+  its_body : (space : ℕ) (from : Option ℕ) → IsBody (written_in s) (all_standing s) (placed_in s cs) (record { call = at; macro_rank = called; space = space; scope = from })
   its_body space from = record { call = p; is_call = here; opened = u.opened; is_opened = u.is; is_macro = u.at }
 
   range : at < length (all_standing s) + length cs
   range = let l = standings_length (written_in s) (entries_in s) in omega (arith, within, l)
 
   pub bodies_opened : (space : ℕ) (from : Option ℕ) (numbers : List ℕ) (body : ℕ) (new : List Called) (more : List Body) → AreBodies (written_in s) (all_standing s) cs bs
-      → body ≡ length bs → new ≡ cs ++ map (called_by at body) numbers → more ≡ bs ++ (record { call = at; called = called; space = space; scope = from }) ∷ []
+      → body ≡ length bs → new ≡ cs ++ map (called_by at body) numbers → more ≡ bs ++ (record { call = at; macro_rank = called; space = space; scope = from }) ∷ []
       → AreBodies (written_in s) (all_standing s) new more
   bodies_opened space from numbers body new more are l e f =
       subst (λ xs. AreBodies (written_in s) (all_standing s) new xs) (sym f)
-      (subst (λ xs. AreBodies (written_in s) (all_standing s) xs (bs ++ (record { call = at; called = called; space = space; scope = from }) ∷ []))
+      (subst (λ xs. AreBodies (written_in s) (all_standing s) xs (bs ++ (record { call = at; macro_rank = called; space = space; scope = from }) ∷ []))
       (sym (e ∙ ap (λ n. cs ++ map (called_by at n) numbers) l))
-      (bodies_more (written_in s) (all_standing s) cs bs (record { call = at; called = called; space = space; scope = from }) numbers are (its_body space from) range))
+      (bodies_more (written_in s) (all_standing s) cs bs (record { call = at; macro_rank = called; space = space; scope = from }) numbers are (its_body space from) range))
 
   pub spaces_opened : (space : ℕ) (from : Option ℕ) (numbers : List ℕ) (body : ℕ) (new : List Called) (more : List Body) → AreBodies (written_in s) (all_standing s) cs bs
       → AreBodySpaces (written_in s) (all_standing s) (spaces_in s) cs bs
       → ((q : Placed) → slice_get (placed_in s cs) at ≡ Some q → IsNumber (spaces_in s) q.standing.space space)
-      → body ≡ length bs → new ≡ cs ++ map (called_by at body) numbers → more ≡ bs ++ (record { call = at; called = called; space = space; scope = from }) ∷ []
+      → body ≡ length bs → new ≡ cs ++ map (called_by at body) numbers → more ≡ bs ++ (record { call = at; macro_rank = called; space = space; scope = from }) ∷ []
       → AreBodySpaces (written_in s) (all_standing s) (spaces_in s) new more
   spaces_opened space from numbers body new more are spaces so l e f =
       subst (λ xs. AreBodySpaces (written_in s) (all_standing s) (spaces_in s) new xs) (sym f)
-      (subst (λ xs. AreBodySpaces (written_in s) (all_standing s) (spaces_in s) xs (bs ++ (record { call = at; called = called; space = space; scope = from }) ∷ []))
+      (subst (λ xs. AreBodySpaces (written_in s) (all_standing s) (spaces_in s) xs (bs ++ (record { call = at; macro_rank = called; space = space; scope = from }) ∷ []))
       (sym (e ∙ ap (λ n. cs ++ map (called_by at n) numbers) l))
-      (spaces_more (written_in s) (all_standing s) cs bs (record { call = at; called = called; space = space; scope = from }) numbers are (its_body space from) range (spaces_in s) spaces so))
+      (spaces_more (written_in s) (all_standing s) cs bs (record { call = at; macro_rank = called; space = space; scope = from }) numbers are (its_body space from) range (spaces_in s) spaces so))
 
   pub scopes_opened : (space : ℕ) (from : Option ℕ) (numbers : List ℕ) (body : ℕ) (new : List Called) (more : List Body) → AreBodies (written_in s) (all_standing s) cs bs
       → AreBodyScopes (all_standing s) (placed_in s cs) bs → IfSome from (IsBodyScope (all_standing s) (placed_in s cs) at called)
-      → body ≡ length bs → new ≡ cs ++ map (called_by at body) numbers → more ≡ bs ++ (record { call = at; called = called; space = space; scope = from }) ∷ []
+      → body ≡ length bs → new ≡ cs ++ map (called_by at body) numbers → more ≡ bs ++ (record { call = at; macro_rank = called; space = space; scope = from }) ∷ []
       → AreBodyScopes (all_standing s) (placed_in s new) more
   scopes_opened space from numbers body new more are scopes so l e f =
       subst (λ xs. AreBodyScopes (all_standing s) (placed_in s new) xs) (sym f)
-      (subst (λ xs. AreBodyScopes (all_standing s) (placed_in s xs) (bs ++ (record { call = at; called = called; space = space; scope = from }) ∷ []))
+      (subst (λ xs. AreBodyScopes (all_standing s) (placed_in s xs) (bs ++ (record { call = at; macro_rank = called; space = space; scope = from }) ∷ []))
       (sym (e ∙ ap (λ n. cs ++ map (called_by at n) numbers) l))
-      (scopes_more (written_in s) (all_standing s) cs bs (record { call = at; called = called; space = space; scope = from }) numbers are (its_body space from) range scopes so))
+      (scopes_more (written_in s) (all_standing s) cs bs (record { call = at; macro_rank = called; space = space; scope = from }) numbers are (its_body space from) range scopes so))
 
   -- what is placed is what was placed, and what this statement opens
   pub placed_opened : (ps : Parts) → AreParts (written_in s) ps → (k body : ℕ) (numbers : List ℕ) (new : List Called)

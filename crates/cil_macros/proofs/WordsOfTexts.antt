@@ -6,7 +6,7 @@ use Rattle.cil_modset.specs.Modules.{module_of}
 use Rattle.cil_syntax.specs.declared.kind.Sign.{Sign}
 use Rattle.cil_syntax.specs.declared.term.Op.{Op}
 use Rattle.cil_syntax.specs.declared.term.Op.TheVariants as ops
-use Rattle.cil_syntax.specs.declared.term.Spot.{Spot}
+use Rattle.cil_faults.specs.declared.spot.Spot.{Spot}
 use Rattle.cil_syntax.specs.declared.term.Word.{Word}
 use Rattle.cil_syntax.specs.Scopes.{ScopedWord}
 use Rattle.cil_syntax.specs.Shapes.{Inner, Reading, Shape, a_list, read_list}
@@ -19,34 +19,15 @@ use Rattle.cil_macros.specs.Calls.{Unfolded, IsPlaced, stands, called, in_option
 use Rattle.cil_macros.specs.Laws.{HaveWordsOfTexts}
 use Rattle.cil_macros.specs.Parameters.{ArgumentKind, Parameter, argument_kind, argument_of, call_arguments, cell_in, cells_in, faultless, is_text, macro_parameters, read_argument, sound, text_cell}
 use Rattle.cil_macros.specs.Placed.{Bound, Placed, filled, all_filled, is_served, meaning, meant_by, put}
-use Rattle.cil_macros.proofs.FlatInstances.{stands_written}
+use Rattle.cil_macros.proofs.WrittenLemmas.{stands_written}
 
 never : false ≡ true → ⊥
 never e = cc
 
 -- the form of a string that was kept
 text_op : (op : Op) → is_text op ≡ true → op ≡ ops.UnreadText
-text_op ops.Listed e = absurd (never e)
-text_op ops.ClassPermissions e = absurd (never e)
-text_op ops.Union e = absurd (never e)
-text_op ops.Not e = absurd (never e)
-text_op ops.And e = absurd (never e)
-text_op ops.Or e = absurd (never e)
-text_op ops.Xor e = absurd (never e)
-text_op ops.All e = absurd (never e)
-text_op ops.Itself e = absurd (never e)
-text_op ops.LeftOut e = absurd (never e)
-text_op ops.Parameters e = absurd (never e)
-text_op ops.Parameter e = absurd (never e)
-text_op ops.TypeKind e = absurd (never e)
-text_op ops.RoleKind e = absurd (never e)
-text_op ops.UserKind e = absurd (never e)
-text_op ops.ClassKind e = absurd (never e)
-text_op ops.NameKind e = absurd (never e)
-text_op ops.TextKind e = absurd (never e)
-text_op ops.Arguments e = absurd (never e)
-text_op ops.UnreadList e = absurd (never e)
 text_op ops.UnreadText e = refl
+text_op op e = absurd (never e)
 
 -- no argument is asked for as a list
 abbrev IsPlainKind : Option ArgumentKind → Type 0
@@ -55,26 +36,7 @@ IsPlainKind (Some k) = IsPlain k.shape
 
 kind_plain : (op : Op) → IsPlainKind (argument_kind op)
 kind_plain ops.Listed = tt
-kind_plain ops.ClassPermissions = tt
-kind_plain ops.Union = tt
-kind_plain ops.Not = tt
-kind_plain ops.And = tt
-kind_plain ops.Or = tt
-kind_plain ops.Xor = tt
-kind_plain ops.All = tt
-kind_plain ops.Itself = tt
-kind_plain ops.LeftOut = tt
-kind_plain ops.Parameters = tt
-kind_plain ops.Parameter = tt
-kind_plain ops.TypeKind = tt
-kind_plain ops.RoleKind = tt
-kind_plain ops.UserKind = tt
-kind_plain ops.ClassKind = tt
-kind_plain ops.NameKind = tt
-kind_plain ops.TextKind = tt
-kind_plain ops.Arguments = tt
-kind_plain ops.UnreadList = tt
-kind_plain ops.UnreadText = tt
+kind_plain op = tt
 
 module _ (P : Spot → List ℕ → Type 0) (empty : (at : Spot) → P at []) where
   -- each word, name and string of what a word means has the property

@@ -1,6 +1,7 @@
 -- What the names of a word ask, by the numbers of namespaces.
 use Rattle.std.specs.Prelude.{◌≡◌, ℕ, Bool, if◌then◌else◌, List, [], ◌∷◌, ◌++◌}
-use Rattle.cil_syntax.specs.Scopes.{Namespace, names_backwards}
+use Rattle.cil_faults.specs.Namespaces.{Namespace}
+use Rattle.cil_syntax.specs.Scopes.{names_backwards}
 use Rattle.cil_blocks.specs.declared.namespaces.Space.{Space}
 use Rattle.cil_blocks.specs.Namespaces.{HasNoNumber, IsNumber, space_at}
 

@@ -1,11 +1,11 @@
 -- What is wrong with calls, placed statement by placed statement, as it is told.
 use Rattle.std.specs.Prelude.{◌≡◌, ℕ, Bool, false, not, if◌then◌else◌, List, [], ◌∷◌, ◌++◌, Option, Some, None, is_some, slice_get}
-use Rattle.cil_syntax.specs.declared.code.FaultCode.{FaultCode}
-use Rattle.cil_syntax.specs.declared.code.FaultCode.TheVariants as causes
-use Rattle.cil_syntax.specs.declared.fault.Fault.{Fault}
+use Rattle.cil_faults.specs.declared.code.FaultCode.{FaultCode}
+use Rattle.cil_faults.specs.declared.code.FaultCode.TheVariants as causes
+use Rattle.cil_faults.specs.declared.fault.Fault.{Fault}
 use Rattle.cil_syntax.specs.declared.term.Word.{Word}
-use Rattle.cil_syntax.specs.Reported.{fault_at}
-use Rattle.cil_syntax.specs.Scopes.{Namespace}
+use Rattle.cil_faults.specs.Reported.{fault_at}
+use Rattle.cil_faults.specs.Namespaces.{Namespace}
 use Rattle.cil_syntax.specs.Written.{Written}
 use Rattle.cil_blocks.specs.Contents.{Standing, first_word}
 use Rattle.cil_blocks.specs.Places.{Standings}

@@ -44,7 +44,7 @@ pub record IsBody (ws : List Written) (ss : List Standing) (ps : List Placed) (b
   pub is_call : slice_get ps b.call ≡ Some call
   pub opened : Unfolded
   pub is_opened : unfolded ws ss call ≡ Some opened
-  pub is_macro : slice_get ss b.called ≡ Some opened.macro
+  pub is_macro : slice_get ss b.macro_rank ≡ Some opened.macro
 
 -- what is placed there is an optional in the body of this number
 pub record IsOptionalOf (ws : List Written) (cs : List Called) (standing at number : ℕ) : Type 0 where

@@ -1,10 +1,10 @@
 -- What is wrong with calls. This project's profile.
 use Rattle.std.specs.Prelude.{◌≡◌, true, List, Some, None}
-use Rattle.cil_sexpr.specs.Rising.{IsOver}
-use Rattle.cil_syntax.specs.declared.code.FaultCode.TheVariants as causes
-use Rattle.cil_syntax.specs.declared.fault.Fault.{Fault}
+use Rattle.cil_base.specs.Rising.{IsOver}
+use Rattle.cil_faults.specs.declared.code.FaultCode.TheVariants as causes
+use Rattle.cil_faults.specs.declared.fault.Fault.{Fault}
 use Rattle.cil_syntax.specs.declared.term.Word.{Word}
-use Rattle.cil_syntax.specs.Reported.{fault_at}
+use Rattle.cil_faults.specs.Reported.{fault_at}
 use Rattle.cil_syntax.specs.Written.{Written}
 use Rattle.cil_blocks.specs.Contents.{Standing, first_word}
 use Rattle.cil_blocks.specs.InheritFaults.{limit_fault, most_instances}

@@ -4,7 +4,7 @@ use Rattle.std.specs.Prelude.{◌≡◌, ℕ, ◌+◌, ◌<◌, ◌==◌, ◌&&�
 use Rattle.std.specs.List.{position}
 use Rattle.std.specs.Option.{option_or}
 use Rattle.indexmap.specs.IndexMap.{IndexMap, get}
-use Rattle.cil_syntax.specs.declared.term.Spot.{Spot}
+use Rattle.cil_faults.specs.declared.spot.Spot.{Spot}
 use Rattle.cil_blocks.specs.Contents.{Standing, same_spot}
 use Rattle.cil_macros.specs.declared.chain.Brought.{Brought}
 use Rattle.cil_macros.specs.declared.entry.Body.{Body}
@@ -26,13 +26,13 @@ is_stated_at spot (Some m) = same_spot spot m.statement.statement.at
 
 -- the body is that of the macro that is written there
 abbrev pub is_body_of : List Standing → Spot → Body → Bool
-is_body_of ss spot b = is_stated_at spot (slice_get ss b.called)
+is_body_of ss spot b = is_stated_at spot (slice_get ss b.macro_rank)
 
 -- the first body of each macro; and a call belongs to an earlier body than the one that it opens
 pub record AreFirsts (ss : List Standing) (b : Brought) : Type 0 where
   pub first : (spot : Spot) → get same_key b.firsts (key_of spot) ≡ position (is_body_of ss spot) b.bodies.items
   pub in_turn : (i j : ℕ) (body : Body) (call : Called) → slice_get b.bodies.items i ≡ Some body → body.call ≡ length ss + j
-      → slice_get b.called.items j ≡ Some call → call.body < i
+      → slice_get b.entries.items j ≡ Some call → call.body < i
 
 -- the number is kept for this macro, if none was; the others keep theirs
 abbrev pub IsFirstKept : {S : Type 0} → Spot → ℕ → IndexMap Key ℕ S → IndexMap Key ℕ S → Type 0

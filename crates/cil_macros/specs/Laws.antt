@@ -1,7 +1,7 @@
 -- Laws of what calls bring.
 use Rattle.std.specs.Prelude.{◌≡◌, ℕ, false, List, [], map, Contains, Some}
 use Rattle.std.specs.List.Sorted.{IsStrictlySortedBy}
-use Rattle.cil_sexpr.specs.Lists.{Lists}
+use Rattle.cil_base.specs.Lists.{Lists}
 use Rattle.cil_sexpr.specs.Tree.{Node}
 use Rattle.cil_syntax.specs.declared.program.Statement.{Statement}
 use Rattle.cil_syntax.specs.declared.kind.Sign.TheVariants as signs
@@ -11,7 +11,7 @@ use Rattle.cil_syntax.specs.Scopes.{ScopedWord}
 use Rattle.cil_syntax.specs.Shapes.{Inner, cell_of, unread}
 use Rattle.cil_syntax.specs.Slices.{AreWritten, EachText, EachTextIn}
 use Rattle.cil_syntax.specs.Terms.{Term, Terms}
-use Rattle.cil_syntax.specs.Laws.{Outcome}
+use Rattle.cil_faults.specs.Laws.{Outcome}
 use Rattle.cil_syntax.specs.Written.{IsWritten, Written, is_macro, parameters_of, written_cmp}
 use Rattle.cil_blocks.specs.Contents.{Standing, Stands, path_of, standing_cmp}
 use Rattle.cil_blocks.specs.Laws.{HasNoFault}

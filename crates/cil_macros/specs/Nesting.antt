@@ -1,6 +1,6 @@
 -- The innermost optional round what is placed, as it is kept: one more than its place, or 0.
 use Rattle.std.specs.Prelude.{◌≡◌, ℕ, ◌<◌, ◌≤◌, if◌then◌else◌, List, [], ◌∷◌, map, take, Option, Some, None, slice_get}
-use Rattle.cil_syntax.specs.declared.term.Spot.{Spot}
+use Rattle.cil_faults.specs.declared.spot.Spot.{Spot}
 use Rattle.cil_blocks.specs.Contents.{is_optional}
 use Rattle.cil_blocks.specs.Named.{rank}
 use Rattle.cil_macros.specs.Item.{front}

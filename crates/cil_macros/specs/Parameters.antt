@@ -5,7 +5,7 @@ use Rattle.cil_syntax.specs.declared.kind.Sign.{Sign}
 use Rattle.cil_syntax.specs.declared.kind.Sign.TheVariants as signs
 use Rattle.cil_syntax.specs.declared.term.Op.{Op}
 use Rattle.cil_syntax.specs.declared.term.Op.TheVariants as ops
-use Rattle.cil_syntax.specs.declared.term.Spot.{Spot}
+use Rattle.cil_faults.specs.declared.spot.Spot.{Spot}
 use Rattle.cil_syntax.specs.declared.term.Word.{Word}
 use Rattle.cil_syntax.specs.Shapes.{Shape, looked_up, any_text, Inner, Reading, a_word, a_string, a_list, Cell, read_word, read_string, read_list}
 use Rattle.cil_syntax.specs.Terms.{Term, Leaf, Name, Form, Terms, nil, cons}

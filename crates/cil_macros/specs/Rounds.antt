@@ -2,7 +2,7 @@
 -- project's profile.
 use Rattle.std.specs.Prelude.{◌≡◌, ℕ, Bool, true, false, ◌&&◌, List, [], ◌∷◌, map, Contains, Some, slice_get}
 use Rattle.std.specs.List.{position_or_len}
-use Rattle.cil_syntax.specs.declared.term.Spot.{Spot}
+use Rattle.cil_faults.specs.declared.spot.Spot.{Spot}
 use Rattle.cil_blocks.specs.Contents.{is_optional, same_spot}
 use Rattle.cil_macros.specs.Item.{Item}
 use Rattle.cil_macros.specs.Placed.{Placed}

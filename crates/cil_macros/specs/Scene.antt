@@ -23,19 +23,19 @@ pub record IsScene (s : Scene) : Type 0 where
 
 -- all that is placed there
 abbrev pub placed_of_scene : Scene → List Placed
-placed_of_scene s = placed_in s.spaces.now s.brought.now.called.items
+placed_of_scene s = placed_in s.spaces.now s.brought.now.entries.items
 
 -- what is placed at a place stands, or it is known what its body has from its call
 pub record IsKnown (s : Scene) (os : List Opening) (at : ℕ) : Type 0 where
   pub scene : IsScene s
-  pub within : at < length (entries_in s.spaces.now) + length s.brought.now.called.items
+  pub within : at < length (entries_in s.spaces.now) + length s.brought.now.entries.items
   pub opened : AreOpenings (written_in s.spaces.now) (all_standing s.spaces.now) (placed_of_scene s) s.brought.now.bodies.items os
-  pub first : IsEarlier s.brought.now.called.items (length os) (length (entries_in s.spaces.now)) at
+  pub first : IsEarlier s.brought.now.entries.items (length os) (length (entries_in s.spaces.now)) at
 
 -- each call that is unfolded has its body, and it is known what each body has from its call
 pub record IsOpened (s : Scene) (os : List Opening) : Type 0 where
   pub scene : IsScene s
-  pub in_turn : AreInTurn s.spaces.now s.brought.now.called.items s.brought.now.bodies.items (length (entries_in s.spaces.now) + length s.brought.now.called.items)
+  pub in_turn : AreInTurn s.spaces.now s.brought.now.entries.items s.brought.now.bodies.items (length (entries_in s.spaces.now) + length s.brought.now.entries.items)
   pub opened : AreOpenings (written_in s.spaces.now) (all_standing s.spaces.now) (placed_of_scene s) s.brought.now.bodies.items os
   pub many : length os ≡ length s.brought.now.bodies.items
 

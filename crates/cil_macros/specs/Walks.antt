@@ -53,7 +53,7 @@ pub record IsBodyScope (ss : List Standing) (ps : List Placed) (call called from
 
 -- so have those of each body that names such a place
 abbrev pub AreBodyScopes : List Standing → List Placed → List Body → Type 0
-AreBodyScopes ss ps bs = (b : Body) → Contains bs b → IfSome b.scope (IsBodyScope ss ps b.call b.called)
+AreBodyScopes ss ps bs = (b : Body) → Contains bs b → IfSome b.scope (IsBodyScope ss ps b.call b.macro_rank)
 
 -- what a walk stands on
 pub record IsSource (s : Source) : Type 0 where
@@ -63,9 +63,9 @@ pub record IsSource (s : Source) : Type 0 where
 
 -- what a walk has brought
 pub record AreBrought (s : Standings) (b : Brought) : Type 0 where
-  pub bodies : AreBodies (written_in s) (all_standing s) b.called.items b.bodies.items
-  pub spaces : AreBodySpaces (written_in s) (all_standing s) (spaces_in s) b.called.items b.bodies.items
-  pub scopes : AreBodyScopes (all_standing s) (placed_in s b.called.items) b.bodies.items
+  pub bodies : AreBodies (written_in s) (all_standing s) b.entries.items b.bodies.items
+  pub spaces : AreBodySpaces (written_in s) (all_standing s) (spaces_in s) b.entries.items b.bodies.items
+  pub scopes : AreBodyScopes (all_standing s) (placed_in s b.entries.items) b.bodies.items
   pub firsts : AreFirsts (all_standing s) b
 
 -- what is placed there opens what a call opens: it is no optional of a body

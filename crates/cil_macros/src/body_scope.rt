@@ -12,8 +12,8 @@ ghost use Rattle.cil_macros.specs.Walks.{AreBrought, HasScope, IsBodyScope, IsSc
 
 use crate::calls::scope_place;
 use crate::chain::Brought;
+use cil_base::NoMemory;
 use cil_blocks::{ScopeList, Spaces};
-use cil_modset::NoMemory;
 use std::alloc::Global;
 
 /// The place of what has the scope of the statements of a macro at a call; none where the place of the macro changes the
@@ -30,9 +30,9 @@ pub fn body_scope(
     requires standings { AreStandings spaces.now }
     requires namespaces { AreNamespaces (spaces_in spaces.now) }
     requires brought { AreBrought spaces.now brought.now }
-    requires within { at < length (entries_in spaces.now) + length brought.now.called.items }
-    requires scope { HasScope spaces.now brought.now.called.items at scope.now }
-    ensures { IfOk result (λ o. IfSome o (IsBodyScope (all_standing spaces.now) (placed_in spaces.now brought.now.called.items) at called)) }
+    requires within { at < length (entries_in spaces.now) + length brought.now.entries.items }
+    requires scope { HasScope spaces.now brought.now.entries.items at scope.now }
+    ensures { IfOk result (λ o. IfSome o (IsBodyScope (all_standing spaces.now) (placed_in spaces.now brought.now.entries.items) at called)) }
 {
     if !adds_nothing(alloc, spaces, called, scope, own)? {
         return Ok(None);

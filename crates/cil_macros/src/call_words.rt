@@ -21,7 +21,7 @@ use crate::meant::Meant;
 use crate::openings::Opening;
 use crate::placed_word::PlacedWord;
 use crate::scene::Scene;
-use cil_modset::NoMemory;
+use cil_base::NoMemory;
 use cil_syntax::{Excerpt, Op, Sign, Statement, Word, word_and_terms};
 use std::alloc::Global;
 
@@ -33,7 +33,7 @@ pub(crate) fn call_words_at<'a>(
     at: usize,
 ) -> Result<Vec<PlacedWord<'a>>, NoMemory>
     requires opened { IsOpened scene.now openings.now }
-    requires within { at < length (entries_in scene.now.spaces.now) + length scene.now.brought.now.called.items }
+    requires within { at < length (entries_in scene.now.spaces.now) + length scene.now.brought.now.entries.items }
     ensures { IfOk result (λ words. (p : Placed) → slice_get (placed_of_scene scene.now) at ≡ Some p
         → map (scoped_by (placed_of_scene scene.now)) words.items ≡ call_words (written_in scene.now.spaces.now) (all_standing scene.now.spaces.now) p p.standing.statement.statement.args) }
 {
@@ -50,12 +50,12 @@ fn add_macro<'a>(
     words: &mut Vec<PlacedWord<'a>>,
 ) -> Result<(), NoMemory>
     requires scene { IsScene scene.now }
-    requires within { at < length (entries_in scene.now.spaces.now) + length scene.now.brought.now.called.items }
+    requires within { at < length (entries_in scene.now.spaces.now) + length scene.now.brought.now.entries.items }
     ensures { OnOk result ((p : Placed) → slice_get (placed_of_scene scene.now) at ≡ Some p
         → map (scoped_by (placed_of_scene scene.now)) words.new.items ≡ map (scoped_by (placed_of_scene scene.now)) words.old.items ++ macro_words p (first_word p.standing.statement.statement.args)) }
 {
     let spaces = scene.spaces;
-    let number = statement_at(spaces.entries(), scene.brought.called.as_slice(), at);
+    let number = statement_at(spaces.entries(), scene.brought.entries.as_slice(), at);
     let Some(call) = spaces.statements().get(number) else {
         return Ok(());
     };
@@ -77,7 +77,7 @@ fn add_arguments<'a>(
     words: &mut Vec<PlacedWord<'a>>,
 ) -> Result<(), NoMemory>
     requires opened { IsOpened scene.now openings.now }
-    requires within { at < length (entries_in scene.now.spaces.now) + length scene.now.brought.now.called.items }
+    requires within { at < length (entries_in scene.now.spaces.now) + length scene.now.brought.now.entries.items }
     ensures { OnOk result ((p : Placed) → slice_get (placed_of_scene scene.now) at ≡ Some p
         → map (scoped_by (placed_of_scene scene.now)) words.new.items ≡ map (scoped_by (placed_of_scene scene.now)) words.old.items
         ++ unfolded_words (unfolded (written_in scene.now.spaces.now) (all_standing scene.now.spaces.now) p)) }
@@ -87,7 +87,7 @@ fn add_arguments<'a>(
     let Some(number) = body_of(bodies, at) else {
         return Ok(());
     };
-    let called = standing_statement(spaces.entries(), scene.brought.bodies[number].called);
+    let called = standing_statement(spaces.entries(), scene.brought.bodies[number].macro_rank);
     let Some(called) = spaces.statements().get(called) else {
         return Ok(());
     };

@@ -13,8 +13,8 @@ use crate::arguments::arguments_fit;
 use crate::chain::{Brought, is_repeated, spot_of, standing_statement, statement_at};
 use crate::macros::{is_call_at, macro_called};
 use crate::source::Source;
+use cil_base::NoMemory;
 use cil_blocks::{ScopeList, Spaces};
-use cil_modset::NoMemory;
 use std::alloc::Global;
 
 /// The number of the namespace in which the statement of a rank stands.
@@ -33,8 +33,8 @@ fn standing_space(spaces: &Spaces, rank: usize) -> usize
 pub fn space_at(spaces: &Spaces, brought: &Brought, at: usize) -> usize
     requires standings { AreStandings spaces.now }
     requires brought { AreBrought spaces.now brought.now }
-    requires within { at < length (entries_in spaces.now) + length brought.now.called.items }
-    ensures { (p : Placed) → slice_get (placed_in spaces.now brought.now.called.items) at ≡ Some p → IsNumber (spaces_in spaces.now) p.standing.space result }
+    requires within { at < length (entries_in spaces.now) + length brought.now.entries.items }
+    ensures { (p : Placed) → slice_get (placed_in spaces.now brought.now.entries.items) at ≡ Some p → IsNumber (spaces_in spaces.now) p.standing.space result }
 {
     let standing = spaces.entries().len();
     if at < standing {
@@ -49,8 +49,8 @@ pub fn space_at(spaces: &Spaces, brought: &Brought, at: usize) -> usize
 /// The place of what has the same scope as the statement at a place: that place itself, or that of a call round it.
 pub fn scope_place(spaces: &Spaces, brought: &Brought, at: usize) -> usize
     requires brought { AreBrought spaces.now brought.now }
-    requires within { at < length (entries_in spaces.now) + length brought.now.called.items }
-    ensures { IsScopePlace (placed_in spaces.now brought.now.called.items) at result }
+    requires within { at < length (entries_in spaces.now) + length brought.now.entries.items }
+    ensures { IsScopePlace (placed_in spaces.now brought.now.entries.items) at result }
 {
     let Some(body) = brought.body_at(spaces.entries().len(), at) else {
         return at;
@@ -66,9 +66,9 @@ pub fn have_one_scope(spaces: &Spaces, brought: &Brought, at: usize, other: usiz
     requires standings { AreStandings spaces.now }
     requires namespaces { AreNamespaces (spaces_in spaces.now) }
     requires brought { AreBrought spaces.now brought.now }
-    requires one { at < length (entries_in spaces.now) + length brought.now.called.items }
-    requires other { other < length (entries_in spaces.now) + length brought.now.called.items }
-    ensures { IsTrue result → HaveOneScope (placed_in spaces.now brought.now.called.items) at other }
+    requires one { at < length (entries_in spaces.now) + length brought.now.entries.items }
+    requires other { other < length (entries_in spaces.now) + length brought.now.entries.items }
+    ensures { IsTrue result → HaveOneScope (placed_in spaces.now brought.now.entries.items) at other }
 {
     let standing = spaces.entries().len();
     let from = scope_place(spaces, brought, at);
@@ -90,8 +90,8 @@ pub fn scope_at(
     requires standings { AreStandings spaces.now }
     requires namespaces { AreNamespaces (spaces_in spaces.now) }
     requires brought { AreBrought spaces.now brought.now }
-    requires within { at < length (entries_in spaces.now) + length brought.now.called.items }
-    ensures { OnOk result ((p : Placed) → slice_get (placed_in spaces.now brought.now.called.items) at ≡ Some p
+    requires within { at < length (entries_in spaces.now) + length brought.now.entries.items }
+    ensures { OnOk result ((p : Placed) → slice_get (placed_in spaces.now brought.now.entries.items) at ≡ Some p
         → IsScope (spaces_in spaces.now) p.standing.scope scope.new) }
 {
     let from = scope_place(spaces, brought, at);
@@ -115,16 +115,16 @@ fn called_scope_at(
     requires standings { AreStandings spaces.now }
     requires namespaces { AreNamespaces (spaces_in spaces.now) }
     requires brought { AreBrought spaces.now brought.now }
-    requires within { at < length (entries_in spaces.now) + length brought.now.called.items }
+    requires within { at < length (entries_in spaces.now) + length brought.now.entries.items }
     requires behind { length (entries_in spaces.now) ≤ at }
-    ensures { OnOk result ((p : Placed) → slice_get (placed_in spaces.now brought.now.called.items) at ≡ Some p
+    ensures { OnOk result ((p : Placed) → slice_get (placed_in spaces.now brought.now.entries.items) at ≡ Some p
         → IsScope (spaces_in spaces.now) p.standing.scope scope.new) }
 {
     let standing = spaces.entries().len();
     scope.clear();
     let mut place = at;
     while let Some(body) = brought.body_at(standing, place) {
-        spaces.add_scope(alloc, body.called, scope)?;
+        spaces.add_scope(alloc, body.macro_rank, scope)?;
         place = scope_place(spaces, brought, body.call);
     }
     spaces.add_scope(alloc, place, scope)?;
@@ -143,11 +143,11 @@ pub fn macro_at(
 ) -> Result<Option<usize>, NoMemory>
     requires source { IsSource source.now }
     requires brought { AreBrought source.now.spaces.now brought.now }
-    requires within { at < length (entries_in source.now.spaces.now) + length brought.now.called.items }
-    ensures meant { IfOk result (SaysMeant source.now.spaces.now brought.now.called.items at) }
-    ensures scope { IfOk result (λ o. IfSome o (λ k. HasScope source.now.spaces.now brought.now.called.items at scope.new)) }
+    requires within { at < length (entries_in source.now.spaces.now) + length brought.now.entries.items }
+    ensures meant { IfOk result (SaysMeant source.now.spaces.now brought.now.entries.items at) }
+    ensures scope { IfOk result (λ o. IfSome o (λ k. HasScope source.now.spaces.now brought.now.entries.items at scope.new)) }
 {
-    let number = statement_at(source.spaces.entries(), brought.called.as_slice(), at);
+    let number = statement_at(source.spaces.entries(), brought.entries.as_slice(), at);
     if !is_call_at(source.spaces.statements(), number) {
         return Ok(None);
     }
@@ -167,9 +167,9 @@ pub fn unfolded_at(
 ) -> Result<Option<usize>, NoMemory>
     requires source { IsSource source.now }
     requires brought { AreBrought source.now.spaces.now brought.now }
-    requires within { at < length (entries_in source.now.spaces.now) + length brought.now.called.items }
-    ensures unfolded { IfOk result (SaysUnfolded source.now.spaces.now brought.now.called.items at) }
-    ensures scope { IfOk result (λ o. IfSome o (λ k. HasScope source.now.spaces.now brought.now.called.items at scope.new)) }
+    requires within { at < length (entries_in source.now.spaces.now) + length brought.now.entries.items }
+    ensures unfolded { IfOk result (SaysUnfolded source.now.spaces.now brought.now.entries.items at) }
+    ensures scope { IfOk result (λ o. IfSome o (λ k. HasScope source.now.spaces.now brought.now.entries.items at scope.new)) }
 {
     let Some(called) = macro_at(alloc, source, brought, at, scope)? else {
         return Ok(None);
@@ -187,9 +187,9 @@ pub fn unfolded_at(
 pub fn comes_again(source: &Source, brought: &Brought, at: usize, called: usize) -> bool
     requires source { IsSource source.now }
     requires brought { AreBrought source.now.spaces.now brought.now }
-    requires within { at < length (entries_in source.now.spaces.now) + length brought.now.called.items }
+    requires within { at < length (entries_in source.now.spaces.now) + length brought.now.entries.items }
     requires standing { called < length (entries_in source.now.spaces.now) }
-    ensures { (p : Placed) (m : Standing) → slice_get (placed_in source.now.spaces.now brought.now.called.items) at ≡ Some p
+    ensures { (p : Placed) (m : Standing) → slice_get (placed_in source.now.spaces.now brought.now.entries.items) at ≡ Some p
         → slice_get (all_standing source.now.spaces.now) called ≡ Some m → result ≡ is_repeated p m }
 {
     let statements = source.spaces.statements();
@@ -201,15 +201,15 @@ pub fn comes_again(source: &Source, brought: &Brought, at: usize, called: usize)
 /// Whether the call at a place has the arguments that this macro asks.
 pub fn has_arguments(source: &Source, brought: &Brought, at: usize, called: usize) -> bool
     requires source { IsSource source.now }
-    requires within { at < length (entries_in source.now.spaces.now) + length brought.now.called.items }
+    requires within { at < length (entries_in source.now.spaces.now) + length brought.now.entries.items }
     requires standing { called < length (entries_in source.now.spaces.now) }
-    ensures { (p : Placed) (m : Standing) → slice_get (placed_in source.now.spaces.now brought.now.called.items) at ≡ Some p
+    ensures { (p : Placed) (m : Standing) → slice_get (placed_in source.now.spaces.now brought.now.entries.items) at ≡ Some p
         → slice_get (all_standing source.now.spaces.now) called ≡ Some m → called_macro (all_standing source.now.spaces.now) p ≡ Some m
         → result ≡ is_some (bounds_of_call (written_in source.now.spaces.now) p m) }
 {
     let statements = source.spaces.statements();
     let entries = source.spaces.entries();
-    let Some(call) = statements.get(statement_at(entries, brought.called.as_slice(), at)) else {
+    let Some(call) = statements.get(statement_at(entries, brought.entries.as_slice(), at)) else {
         return false;
     };
     let Some(called) = statements.get(standing_statement(entries, called)) else {

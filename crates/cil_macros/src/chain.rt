@@ -12,8 +12,8 @@ ghost use Rattle.cil_macros.specs.Firsts.{AreFirsts, IsFirstKept};
 ghost use Rattle.cil_macros.specs.Placed.{Placed};
 
 use crate::entry::{Body, Called};
+use cil_base::NoMemory;
 use cil_blocks::Entry;
-use cil_modset::NoMemory;
 use cil_syntax::{Spot, Statement};
 use indexmap::IndexMap;
 
@@ -46,16 +46,16 @@ pub fn is_repeated(
     called: Spot,
 ) -> bool
     requires nested { IsNested statements.now }
-    requires bodies { AreBodies (program_of statements.now) (standings_of (program_of statements.now) entries.now) brought.now.called.items brought.now.bodies.items }
+    requires bodies { AreBodies (program_of statements.now) (standings_of (program_of statements.now) entries.now) brought.now.entries.items brought.now.bodies.items }
     requires firsts { AreFirsts (standings_of (program_of statements.now) entries.now) brought.now }
-    requires within { at < length entries.now + length brought.now.called.items }
-    ensures { (p : Placed) → slice_get (placed_of (program_of statements.now) (standings_of (program_of statements.now) entries.now) brought.now.called.items) at ≡ Some p
+    requires within { at < length entries.now + length brought.now.entries.items }
+    ensures { (p : Placed) → slice_get (placed_of (program_of statements.now) (standings_of (program_of statements.now) entries.now) brought.now.entries.items) at ≡ Some p
         → result ≡ list_any (same_spot called) p.macros }
 {
     let first = brought.first_body(called);
     let mut place = at;
     while let Some(body) = brought.body_from(first, entries.len(), place) {
-        if is_same_spot(called, spot_of(statements, entries, body.called)) {
+        if is_same_spot(called, spot_of(statements, entries, body.macro_rank)) {
             return true;
         }
         place = body.call;
@@ -102,7 +102,7 @@ pub fn keep_first(
 #[derive(Drop)]
 pub struct Brought {
     /// The statements.
-    pub called: Vec<Called>,
+    pub entries: Vec<Called>,
     /// The bodies. A body has a higher number than that to which its call belongs.
     pub bodies: Vec<Body>,
     /// The number of the first body of each macro that was called, by where the macro is written.
@@ -119,27 +119,27 @@ impl Brought {
 
     /// The body of what is placed somewhere, if a call brought it: what stands comes first, so many.
     pub fn body_at(&self, standing: usize, at: usize) -> Option<&Body>
-        requires { at < standing + length self.now.called.items }
+        requires { at < standing + length self.now.entries.items }
         ensures kept { IfSome result (λ body. Contains self.now.bodies.items body.now) }
-        ensures body { (ws : List Written) (ss : List Standing) → length ss ≡ standing → AreBodies ws ss self.now.called.items self.now.bodies.items
-            → MatchOption result (at < standing) (λ body. IsBodyAt ws ss self.now.called.items at body.now) }
+        ensures body { (ws : List Written) (ss : List Standing) → length ss ≡ standing → AreBodies ws ss self.now.entries.items self.now.bodies.items
+            → MatchOption result (at < standing) (λ body. IsBodyAt ws ss self.now.entries.items at body.now) }
     {
         if at < standing {
             return None;
         }
-        let body = self.bodies.get(self.called[at - standing].body)?;
+        let body = self.bodies.get(self.entries[at - standing].body)?;
         Some(body)
     }
     /// The same, if the number of the body is at least this one.
     pub fn body_from(&self, first: usize, standing: usize, at: usize) -> Option<&Body>
-        requires { at < standing + length self.now.called.items }
-        ensures { (ws : List Written) (ss : List Standing) → length ss ≡ standing → AreBodies ws ss self.now.called.items self.now.bodies.items
-            → MatchOption result (IsEarlier self.now.called.items first standing at) (λ body. IsBodyAt ws ss self.now.called.items at body.now) }
+        requires { at < standing + length self.now.entries.items }
+        ensures { (ws : List Written) (ss : List Standing) → length ss ≡ standing → AreBodies ws ss self.now.entries.items self.now.bodies.items
+            → MatchOption result (IsEarlier self.now.entries.items first standing at) (λ body. IsBodyAt ws ss self.now.entries.items at body.now) }
     {
         if at < standing {
             return None;
         }
-        if self.called[at - standing].body < first {
+        if self.entries[at - standing].body < first {
             return None;
         }
         self.body_at(standing, at)

@@ -10,8 +10,8 @@ ghost use Rattle.cil_blocks.specs.Named.{rank};
 ghost use Rattle.cil_macros.specs.DeclaredInBodies.{AreDeclared, IsRound, macro_in};
 
 use crate::macros::is_macro_at;
+use cil_base::NoMemory;
 use cil_blocks::names::name_at;
-use cil_modset::NoMemory;
 use cil_syntax::{Kind, Sign, Statement};
 use indexmap::IndexSet;
 use std::alloc::Global;

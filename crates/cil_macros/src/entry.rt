@@ -18,7 +18,7 @@ pub struct Body {
     /// The place of the call among all that is placed.
     pub call: usize,
     /// The place of the macro among all that stands.
-    pub called: usize,
+    pub macro_rank: usize,
     /// The number of the namespace in which its statements are.
     pub space: usize,
     /// The place of what has the scope of its statements; none where that follows from the macro and the call alone.

@@ -1,7 +1,7 @@
 //! Macros as a step of the compiler: all instances of statements, or exactly what is wrong with the calls.
 
 ghost use Rattle.std.specs.Prelude.{◌≡◌};
-ghost use Rattle.cil_syntax.specs.Refusal.{Answers};
+ghost use Rattle.cil_faults.specs.Refusal.{Answers};
 ghost use Rattle.cil_macros.specs.ExpandFaults.{ExpandStep};
 ghost use Rattle.cil_macros.specs.Instances.{AreInstances};
 ghost use Rattle.cil_macros.specs.Macros.{all_standing};

@@ -13,9 +13,9 @@ ghost use Rattle.cil_macros.specs.Walks.{AreBrought, IsSource, placed_in, writte
 use crate::calls::{comes_again, has_arguments, macro_at, space_at};
 use crate::chain::{Brought, statement_at};
 use crate::source::Source;
+use cil_base::NoMemory;
 use cil_blocks::spelled::spelled;
 use cil_blocks::{Namespaces, ScopeList};
-use cil_modset::NoMemory;
 use cil_syntax::{Bytes, Fault, FaultCode, Word, word_and_terms};
 use std::alloc::Global;
 
@@ -44,11 +44,11 @@ pub fn call_faults(
 ) -> Result<Vec<Fault>, NoMemory>
     requires source { IsSource source.now }
     requires brought { AreBrought source.now.spaces.now brought.now }
-    ensures { IfOk result (λ faults. faults.items ≡ flat_map (faults_of (written_in source.now.spaces.now) (all_standing source.now.spaces.now)) (placed_in source.now.spaces.now brought.now.called.items)) }
+    ensures { IfOk result (λ faults. faults.items ≡ flat_map (faults_of (written_in source.now.spaces.now) (all_standing source.now.spaces.now)) (placed_in source.now.spaces.now brought.now.entries.items)) }
 {
     let mut faults = Vec::new(alloc);
     let mut scope = ScopeList::new(alloc);
-    for at in 0..source.spaces.entries().len() + brought.called.len() {
+    for at in 0..source.spaces.entries().len() + brought.entries.len() {
         report(alloc, &mut faults, source, brought, at, &mut scope)?;
     }
     Ok(faults)
@@ -65,12 +65,12 @@ fn report(
 ) -> Result<(), NoMemory>
     requires source { IsSource source.now }
     requires brought { AreBrought source.now.spaces.now brought.now }
-    requires within { at < length (entries_in source.now.spaces.now) + length brought.now.called.items }
-    ensures { OnOk result ((p : Placed) → slice_get (placed_in source.now.spaces.now brought.now.called.items) at ≡ Some p
+    requires within { at < length (entries_in source.now.spaces.now) + length brought.now.entries.items }
+    ensures { OnOk result ((p : Placed) → slice_get (placed_in source.now.spaces.now brought.now.entries.items) at ≡ Some p
         → faults.new.items ≡ faults.old.items ++ faults_of (written_in source.now.spaces.now) (all_standing source.now.spaces.now) p) }
 {
     let wrong = wrong_at(alloc, source, brought, at, scope)?;
-    let number = statement_at(source.spaces.entries(), brought.called.as_slice(), at);
+    let number = statement_at(source.spaces.entries(), brought.entries.as_slice(), at);
     let Some(statement) = source.spaces.statements().get(number) else {
         return Ok(());
     };
@@ -97,8 +97,8 @@ fn wrong_at(
 ) -> Result<Wrong, NoMemory>
     requires source { IsSource source.now }
     requires brought { AreBrought source.now.spaces.now brought.now }
-    requires within { at < length (entries_in source.now.spaces.now) + length brought.now.called.items }
-    ensures { IfOk result (SaysWrong source.now.spaces.now brought.now.called.items at) }
+    requires within { at < length (entries_in source.now.spaces.now) + length brought.now.entries.items }
+    ensures { IfOk result (SaysWrong source.now.spaces.now brought.now.entries.items at) }
 {
     let Some(called) = macro_at(alloc, source, brought, at, scope)? else {
         return Ok(Wrong {

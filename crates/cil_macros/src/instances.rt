@@ -1,6 +1,6 @@
 //! All instances of statements, as the layers above see them.
 
-ghost use Rattle.std.specs.Prelude.{◌≡◌};
+ghost use Rattle.std.specs.Prelude.{◌≡◌, ◌<◌, Some, length, slice_get};
 
 use crate::call_words::call_words_at;
 use crate::calls::{have_one_scope, scope_at, space_at};
@@ -13,9 +13,9 @@ use crate::nesting::innermost_at;
 use crate::openings::Opening;
 use crate::placed_word::{PlacedWord, placed_word};
 use crate::scene::Scene;
+use cil_base::NoMemory;
 use cil_blocks::numbers::Numbers;
 use cil_blocks::{Namespaces, ScopeList, Spaces};
-use cil_modset::NoMemory;
 use cil_syntax::{Statement, Word};
 use std::alloc::Global;
 use std::marker::Model;
@@ -44,23 +44,22 @@ impl<'s, 'p, 'a> Model for Instances<'s, 'p, 'a> {
 
     ghost coded = { Prim.hlevel (codes, (term.the_row static_lft).coded) };
 
-    ghost view = { λ i. (i.spaces.now, i.brought.called.items) };
+    ghost view = { λ i. (i.spaces.now, i.brought.entries.items) };
 
     ghost invariant = { λ i. AreInstances i.spaces.now i.brought × AreMeant i.spaces.now i.brought i.declared i.openings.items × HasRounds i.spaces.now i.brought i.innermost };
 }
 
 impl<'s, 'p, 'a> Instances<'s, 'p, 'a> {
     ghost use Rattle.std.specs.Prelude.{◌≡◌, ◌↔◌, ◌+◌, ◌<◌, ◌≤◌, ◌∷◌, [], IfOk, IfSome, IsTrue, MatchOption, OnOk, Some, length, map, slice_get, true};
-    ghost use Rattle.cil_sexpr.specs.Lists.{Lists};
+    ghost use Rattle.cil_base.specs.Lists.{Lists};
     ghost use Rattle.cil_syntax.specs.Program.{statement_of};
-    ghost use Rattle.cil_blocks.specs.Entries.{nothing};
+    ghost use Rattle.cil_blocks.specs.Entries.{statement_at};
     ghost use Rattle.cil_blocks.specs.Namespaces.{AreNamespaces, IsNumber};
     ghost use Rattle.cil_macros.specs.Items.{all_placed, item_at, items_in, leaves, namespaces_in, placed_at, scope_by, scoped_by, word_at};
     ghost use Rattle.cil_blocks.specs.InheritFaults.{most_instances};
     ghost use Rattle.cil_blocks.specs.Places.{entries_in};
     ghost use Rattle.cil_macros.specs.Calls.{IsPlaced, is_call, placed_cmp};
     ghost use Rattle.cil_macros.specs.Macros.{all_standing};
-    ghost use Rattle.cil_blocks.specs.Entries.{statement_at};
     ghost use Rattle.cil_macros.specs.Item.{innermost};
     ghost use Rattle.cil_macros.specs.Meant.{meant_term};
     ghost use Rattle.cil_macros.specs.Rounds.{AreNested};
@@ -80,7 +79,7 @@ impl<'s, 'p, 'a> Instances<'s, 'p, 'a> {
         ensures placed { Lists placed_cmp (IsPlaced (written_in self.now.0) (all_standing self.now.0)) (placed_in self.now.0 self.now.1) }
         ensures few { length (entries_in self.now.0) + length self.now.1 ≤ most_instances }
     {
-        self.brought.called.as_slice()
+        self.brought.entries.as_slice()
     }
 
     /// How many instances there are: at most 1,000,000. Their places count from 0: first what stands, and then what calls bring.
@@ -88,7 +87,7 @@ impl<'s, 'p, 'a> Instances<'s, 'p, 'a> {
         ensures places { result ≡ length (entries_in self.now.0) + length self.now.1 }
         ensures items { result ≡ length (items_in self.now) }
     {
-        self.spaces.entries().len() + self.brought.called.len()
+        self.spaces.entries().len() + self.brought.entries.len()
     }
 
     /// The namespaces in which statements are placed and words are looked up.
@@ -102,15 +101,12 @@ impl<'s, 'p, 'a> Instances<'s, 'p, 'a> {
         namespaces
     }
 
-    /// The statement at a place; none beyond the last place.
-    pub fn statement_there(&self, at: usize) -> Option<&'p Statement<'a>>
-        ensures { MatchOption result ((placed_at self.now at).standing.statement ≡ nothing) (λ s. statement_of s.now ≡ (placed_at self.now at).standing.statement.statement) }
+    /// The statement at a place.
+    pub fn statement_there(&self, at: usize) -> &'p Statement<'a>
+        requires { at < length (items_in self.now) }
+        ensures { statement_of result.now ≡ (placed_at self.now at).standing.statement.statement }
     {
-        if at >= self.len() {
-            return None;
-        }
-        let statement = self.spaces.statements().get(self.statement(at))?;
-        Some(statement)
+        numbered(self.spaces.statements(), self.statement(at))
     }
 
     /// The number of the namespace in which the statement at a place is.
@@ -224,7 +220,7 @@ impl<'s, 'p, 'a> Instances<'s, 'p, 'a> {
         requires { at < length (entries_in self.now.0) + length self.now.1 }
         ensures { (p : Placed) → slice_get (placed_in self.now.0 self.now.1) at ≡ Some p → p.standing.statement ≡ statement_at (written_in self.now.0) result }
     {
-        statement_at(self.spaces.entries(), self.brought.called.as_slice(), at)
+        statement_at(self.spaces.entries(), self.brought.entries.as_slice(), at)
     }
 
     /// What a word of the statement at a place means there: its argument, if it stands for a parameter of the macro in whose
@@ -242,4 +238,12 @@ impl<'s, 'p, 'a> Instances<'s, 'p, 'a> {
         };
         meaning_at(&scene, self.openings.as_slice(), at, word)
     }
+}
+
+/// The statement of a number.
+fn numbered<'p, 'a>(statements: &'p [Statement<'a>], number: usize) -> &'p Statement<'a>
+    requires { number < length statements.now }
+    ensures { slice_get statements.now number ≡ Some result.now }
+{
+    &statements[number]
 }

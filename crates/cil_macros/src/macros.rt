@@ -15,9 +15,9 @@ ghost use Rattle.cil_macros.specs.Macros.{AreMacros, SaysCalled, SaysNearer, Say
 
 use crate::asked::{asked_in, asked_scope};
 use crate::nearest::compare_paths;
+use cil_base::NoMemory;
 use cil_blocks::Spaces;
 use cil_blocks::names::name_at;
-use cil_modset::NoMemory;
 use cil_syntax::{Keyword, Statement, Word, path_of, word_and_terms};
 use indexmap::IndexMap;
 use std::alloc::Global;

@@ -39,7 +39,10 @@ pub fn meaning_at<'a>(
         return Meant::word(word.at, word.bytes.as_slice(), at);
     };
     let opening = &openings[number];
-    let called = standing_statement(scene.spaces.entries(), scene.brought.bodies[number].called);
+    let called = standing_statement(
+        scene.spaces.entries(),
+        scene.brought.bodies[number].macro_rank,
+    );
     if let Some(argument) = argument_for(scene.spaces.statements(), opening, called, word) {
         return argument;
     }
@@ -67,11 +70,11 @@ fn argument_for<'a>(
 
 /// The number of the body of what is placed somewhere, if a call brought it: what stands comes first, so many.
 pub fn body_number(brought: &Brought, standing: usize, at: usize) -> Option<usize>
-    requires { at < standing + length brought.now.called.items }
-    ensures { MatchOption result (at < standing) (IsNumbered brought.now.called.items standing at) }
+    requires { at < standing + length brought.now.entries.items }
+    ensures { MatchOption result (at < standing) (IsNumbered brought.now.entries.items standing at) }
 {
     if at < standing {
         return None;
     }
-    Some(brought.called[at - standing].body)
+    Some(brought.entries[at - standing].body)
 }

@@ -19,7 +19,7 @@ use crate::entry::Body;
 use crate::meaning::{body_number, meaning_at};
 use crate::meant::Meant;
 use crate::scene::Scene;
-use cil_modset::NoMemory;
+use cil_base::NoMemory;
 use cil_syntax::{Excerpt, Op, Spot, Statement, Term, Word};
 use std::alloc::Global;
 
@@ -74,7 +74,7 @@ fn opening_of<'a>(
         openings,
         at: body.call,
     };
-    let arguments = call.arguments(alloc, body.called)?;
+    let arguments = call.arguments(alloc, body.macro_rank)?;
     Ok(Opening {
         home: call.home(),
         arguments,
@@ -116,7 +116,7 @@ impl<'c, 's, 'p, 'a> Call<'c, 's, 'p, 'a> {
     {
         let spaces = self.scene.spaces;
         let entries = spaces.entries();
-        let brought = self.scene.brought.called.as_slice();
+        let brought = self.scene.brought.entries.as_slice();
         let Some(macro_statement) = spaces.statements().get(standing_statement(entries, called))
         else {
             return Ok(Vec::new(alloc));

@@ -3,8 +3,8 @@
 //! one body after the limit.
 
 ghost use Rattle.std.specs.Prelude.{◌≡◌, ◌+◌, ◌<◌, ◌≤◌, ◌++◌, IfNone, IfOk, IfSome, OnOk, Some, length, map, slice_get};
-ghost use Rattle.cil_sexpr.specs.Lists.{Lists};
-ghost use Rattle.cil_sexpr.specs.Rising.{IsOver};
+ghost use Rattle.cil_base.specs.Lists.{Lists};
+ghost use Rattle.cil_base.specs.Rising.{IsOver};
 ghost use Rattle.cil_blocks.specs.Places.{entries_in};
 ghost use Rattle.cil_macros.specs.Calls.{IsPlaced, placed_cmp};
 ghost use Rattle.cil_macros.specs.Macros.{all_standing};
@@ -15,33 +15,33 @@ use crate::calls::{space_at, unfolded_at};
 use crate::chain::{Brought, keep_first, spot_of, standing_statement, statement_at};
 use crate::entry::{Body, Called};
 use crate::source::Source;
+use cil_base::NoMemory;
 use cil_blocks::ScopeList;
 use cil_blocks::names::is_optional_at;
 use cil_blocks::walker::parts_at;
-use cil_modset::NoMemory;
 use indexmap::IndexMap;
 use std::alloc::Global;
 
 /// All that calls bring; or nothing where that is, with what stands, more than the limit.
 pub fn walk(alloc: Global, source: &Source, limit: usize) -> Result<Option<Brought>, NoMemory>
     requires { IsSource source.now }
-    ensures all { IfOk result (λ o. IfSome o (λ b. Lists placed_cmp (IsPlaced (written_in source.now.spaces.now) (all_standing source.now.spaces.now)) (placed_in source.now.spaces.now b.called.items))) }
+    ensures all { IfOk result (λ o. IfSome o (λ b. Lists placed_cmp (IsPlaced (written_in source.now.spaces.now) (all_standing source.now.spaces.now)) (placed_in source.now.spaces.now b.entries.items))) }
     ensures brought { IfOk result (λ o. IfSome o (AreBrought source.now.spaces.now)) }
-    ensures turn { IfOk result (λ o. IfSome o (λ b. AreInTurn source.now.spaces.now b.called.items b.bodies.items (length (entries_in source.now.spaces.now) + length b.called.items))) }
-    ensures few { IfOk result (λ o. IfSome o (λ b. length (entries_in source.now.spaces.now) + length b.called.items ≤ limit)) }
+    ensures turn { IfOk result (λ o. IfSome o (λ b. AreInTurn source.now.spaces.now b.entries.items b.bodies.items (length (entries_in source.now.spaces.now) + length b.entries.items))) }
+    ensures few { IfOk result (λ o. IfSome o (λ b. length (entries_in source.now.spaces.now) + length b.entries.items ≤ limit)) }
     ensures many { IfOk result (λ o. IfNone o (IsOver placed_cmp (IsPlaced (written_in source.now.spaces.now) (all_standing source.now.spaces.now)) limit)) }
 {
     let standing = source.spaces.entries().len();
     let mut brought = Brought {
-        called: Vec::new(alloc),
+        entries: Vec::new(alloc),
         bodies: Vec::new(alloc),
         firsts: IndexMap::new(alloc),
     };
     let mut scope = ScopeList::new(alloc);
     let mut own = ScopeList::new(alloc);
     let mut at = 0;
-    while at < standing + brought.called.len() {
-        if standing + brought.called.len() > limit {
+    while at < standing + brought.entries.len() {
+        if standing + brought.entries.len() > limit {
             return Ok(None);
         }
         brought.open(alloc, source, at, &mut scope, &mut own)?;
@@ -71,12 +71,12 @@ impl Brought {
     ) -> Result<(), NoMemory>
         requires source { IsSource source.now }
         requires brought { AreBrought source.now.spaces.now self.old }
-        requires turn { AreInTurn source.now.spaces.now self.old.called.items self.old.bodies.items at }
-        requires within { at < length (entries_in source.now.spaces.now) + length self.old.called.items }
+        requires turn { AreInTurn source.now.spaces.now self.old.entries.items self.old.bodies.items at }
+        requires within { at < length (entries_in source.now.spaces.now) + length self.old.entries.items }
         ensures brought { OnOk result (AreBrought source.now.spaces.now self.new) }
-        ensures turn { OnOk result (AreInTurn source.now.spaces.now self.new.called.items self.new.bodies.items (at + 1)) }
-        ensures opened { OnOk result ((p : Placed) → slice_get (placed_in source.now.spaces.now self.old.called.items) at ≡ Some p
-            → placed_in source.now.spaces.now self.new.called.items ≡ placed_in source.now.spaces.now self.old.called.items ++ opens_placed (written_in source.now.spaces.now) (all_standing source.now.spaces.now) p) }
+        ensures turn { OnOk result (AreInTurn source.now.spaces.now self.new.entries.items self.new.bodies.items (at + 1)) }
+        ensures opened { OnOk result ((p : Placed) → slice_get (placed_in source.now.spaces.now self.old.entries.items) at ≡ Some p
+            → placed_in source.now.spaces.now self.new.entries.items ≡ placed_in source.now.spaces.now self.old.entries.items ++ opens_placed (written_in source.now.spaces.now) (all_standing source.now.spaces.now) p) }
     {
         match self.optional_body(source, at) {
             None => self.open_call(alloc, source, at, scope, own),
@@ -88,15 +88,15 @@ impl Brought {
     fn open_optional(&mut self, source: &Source, at: usize, body: usize) -> Result<(), NoMemory>
         requires source { IsSource source.now }
         requires brought { AreBrought source.now.spaces.now self.old }
-        requires turn { AreInTurn source.now.spaces.now self.old.called.items self.old.bodies.items at }
-        requires optional { IsOptionalOf (written_in source.now.spaces.now) self.old.called.items (length (all_standing source.now.spaces.now)) at body }
+        requires turn { AreInTurn source.now.spaces.now self.old.entries.items self.old.bodies.items at }
+        requires optional { IsOptionalOf (written_in source.now.spaces.now) self.old.entries.items (length (all_standing source.now.spaces.now)) at body }
         ensures brought { OnOk result (AreBrought source.now.spaces.now self.new) }
-        ensures turn { OnOk result (AreInTurn source.now.spaces.now self.new.called.items self.new.bodies.items (at + 1)) }
-        ensures opened { OnOk result ((p : Placed) → slice_get (placed_in source.now.spaces.now self.old.called.items) at ≡ Some p
-            → placed_in source.now.spaces.now self.new.called.items ≡ placed_in source.now.spaces.now self.old.called.items ++ opens_placed (written_in source.now.spaces.now) (all_standing source.now.spaces.now) p) }
+        ensures turn { OnOk result (AreInTurn source.now.spaces.now self.new.entries.items self.new.bodies.items (at + 1)) }
+        ensures opened { OnOk result ((p : Placed) → slice_get (placed_in source.now.spaces.now self.old.entries.items) at ≡ Some p
+            → placed_in source.now.spaces.now self.new.entries.items ≡ placed_in source.now.spaces.now self.old.entries.items ++ opens_placed (written_in source.now.spaces.now) (all_standing source.now.spaces.now) p) }
     {
-        let number = statement_at(source.spaces.entries(), self.called.as_slice(), at);
-        push_called(&mut self.called, parts_at(source.parts, number), at, body)?;
+        let number = statement_at(source.spaces.entries(), self.entries.as_slice(), at);
+        push_called(&mut self.entries, parts_at(source.parts, number), at, body)?;
         Ok(())
     }
 
@@ -111,13 +111,13 @@ impl Brought {
     ) -> Result<(), NoMemory>
         requires source { IsSource source.now }
         requires brought { AreBrought source.now.spaces.now self.old }
-        requires turn { AreInTurn source.now.spaces.now self.old.called.items self.old.bodies.items at }
-        requires within { at < length (entries_in source.now.spaces.now) + length self.old.called.items }
-        requires as_call { OpensAsCall source.now.spaces.now self.old.called.items at }
+        requires turn { AreInTurn source.now.spaces.now self.old.entries.items self.old.bodies.items at }
+        requires within { at < length (entries_in source.now.spaces.now) + length self.old.entries.items }
+        requires as_call { OpensAsCall source.now.spaces.now self.old.entries.items at }
         ensures brought { OnOk result (AreBrought source.now.spaces.now self.new) }
-        ensures turn { OnOk result (AreInTurn source.now.spaces.now self.new.called.items self.new.bodies.items (at + 1)) }
-        ensures opened { OnOk result ((p : Placed) → slice_get (placed_in source.now.spaces.now self.old.called.items) at ≡ Some p
-            → placed_in source.now.spaces.now self.new.called.items ≡ placed_in source.now.spaces.now self.old.called.items ++ opens_placed (written_in source.now.spaces.now) (all_standing source.now.spaces.now) p) }
+        ensures turn { OnOk result (AreInTurn source.now.spaces.now self.new.entries.items self.new.bodies.items (at + 1)) }
+        ensures opened { OnOk result ((p : Placed) → slice_get (placed_in source.now.spaces.now self.old.entries.items) at ≡ Some p
+            → placed_in source.now.spaces.now self.new.entries.items ≡ placed_in source.now.spaces.now self.old.entries.items ++ opens_placed (written_in source.now.spaces.now) (all_standing source.now.spaces.now) p) }
     {
         let Some(called) = unfolded_at(alloc, source, self, at, scope)? else {
             return Ok(());
@@ -139,22 +139,22 @@ impl Brought {
         keep_first(&mut self.firsts, spot, body)?;
         self.bodies.push(Body {
             call: at,
-            called,
+            macro_rank: called,
             space,
             scope: shared,
         })?;
-        push_called(&mut self.called, parts_at(source.parts, number), at, body)?;
+        push_called(&mut self.entries, parts_at(source.parts, number), at, body)?;
         Ok(())
     }
 
     /// The body to which the statement at a place belongs, where that is an optional that a call brings.
     fn optional_body(&self, source: &Source, at: usize) -> Option<usize>
         requires { IsSource source.now }
-        ensures { MatchOption result (OpensAsCall source.now.spaces.now self.now.called.items at)
-            (IsOptionalOf (written_in source.now.spaces.now) self.now.called.items (length (all_standing source.now.spaces.now)) at) }
+        ensures { MatchOption result (OpensAsCall source.now.spaces.now self.now.entries.items at)
+            (IsOptionalOf (written_in source.now.spaces.now) self.now.entries.items (length (all_standing source.now.spaces.now)) at) }
     {
         let before = at.checked_sub(source.spaces.entries().len())?;
-        let called = self.called.get(before)?;
+        let called = self.entries.get(before)?;
         if is_optional_at(source.spaces.statements(), called.statement) {
             Some(called.body)
         } else {

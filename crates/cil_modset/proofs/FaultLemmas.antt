@@ -7,7 +7,7 @@ use Rattle.std.proofs.lemmas.List.Elements.{Contains-append_right}
 use Rattle.cil_sexpr.specs.declared.fault.ReadFault.{ReadFault}
 use Rattle.cil_sexpr.specs.Faults.{FaultOf}
 use Rattle.cil_sexpr.specs.Laws as texts
-use Rattle.cil_sexpr.specs.Lists.{contains_here}
+use Rattle.cil_base.specs.Lists.{contains_here}
 use Rattle.cil_sexpr.specs.Text.{IsReadable}
 use Rattle.cil_modset.specs.declared.error.BundleFault.{BundleFault}
 use Rattle.cil_modset.specs.declared.error.BundleFault.TheVariants.{BadMagic, Short, NotRising, BadModule, Trailing}

@@ -4,7 +4,7 @@ use Rattle.std.specs.Prelude.{Contains, ◌↔◌, reverse}
 use Rattle.std.specs.Global.{Vec}
 use Rattle.std.proofs.lemmas.List.{map-append, append_assoc, append-nil, length_push, map_push, reverse-append}
 use Rattle.std.proofs.lemmas.List.Elements.{Contains-append_left, Contains-push, Contains-push_cases}
-use Rattle.cil_sexpr.specs.Lists.{contains_here, contains_later, contains_cases, contains_none}
+use Rattle.cil_base.specs.Lists.{contains_here, contains_later, contains_cases, contains_none}
 use Rattle.cil_modset.specs.Gather.{AreApart, EndsLast, IsTakenOff, IsTakenFrom}
 use Rattle.cil_modset.specs.Modules.{IsBelow, IsRising, IsUnion, texts_of}
 use Rattle.cil_modset.proofs.RisingLemmas.{compared, below_trans, rising_join, rising_front, rising_back, rising_across}

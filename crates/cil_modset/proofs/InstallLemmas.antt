@@ -4,7 +4,7 @@ use Rattle.std.specs.Prelude.{Result, Ok, Err, IfErr, IsErr}
 use Rattle.std.specs.Global.{Vec}
 use Rattle.std.specs.List.{insert}
 use Rattle.cil_sexpr.specs.declared.fault.ReadError.{ReadError}
-use Rattle.cil_sexpr.specs.Lists.{contains_cases, contains_none}
+use Rattle.cil_base.specs.Lists.{contains_cases, contains_none}
 use Rattle.cil_sexpr.specs.Refusal.{Refuses}
 use Rattle.cil_sexpr.specs.Text.{IsReadable}
 use Rattle.cil_modset.specs.declared.set.Installed.{Installed}

@@ -5,7 +5,7 @@ use Rattle.std.specs.List.{flat_map}
 use Rattle.std.specs.Int.{w64, from_be_bytes}
 use Rattle.std.proofs.lemmas.List.{append_assoc, append_cancel_left, take_at, drop_at}
 use Rattle.std.proofs.lemmas.Nat.{from_be_bytes-to_be_bytes_8}
-use Rattle.cil_sexpr.specs.Lists.{contains_here, contains_later}
+use Rattle.cil_base.specs.Lists.{contains_here, contains_later}
 use Rattle.cil_modset.specs.Bundle.{magic, number, entry, bundle, IsBundle}
 use Rattle.cil_modset.specs.Modules.{AreModules}
 

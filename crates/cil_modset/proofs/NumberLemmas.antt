@@ -7,7 +7,7 @@ use Rattle.std.specs.Ordering.{is_lt, ordering_reverse}
 use Rattle.std.proofs.lemmas.Cmp.{tied_itself}
 use Rattle.std.proofs.lemmas.List.Sums.{sum_by-cons}
 use Rattle.std.proofs.lemmas.List.Elements.{Contains-get_or}
-use Rattle.cil_sexpr.specs.Lists.{text_cmp, all_at}
+use Rattle.cil_base.specs.Lists.{text_cmp, all_at}
 use Rattle.cil_modset.specs.Laws.{AreNumbered}
 use Rattle.cil_modset.specs.Modules.{IsBelow, IsRising, module_of}
 

@@ -10,7 +10,7 @@ use Rattle.std.specs.List.Sorted.{IsPartitionedBy, IsPartitionPoint}
 use Rattle.std.proofs.lemmas.Bool.{cases_lt}
 use Rattle.std.proofs.lemmas.List.{take-append-drop, get_or-take, get_or-drop, length-take, length-drop, map-append, take-map, drop-map, get_or-map}
 use Rattle.std.proofs.lemmas.List.Elements.{Contains-append_left, Contains-append_right, Contains-append_cases}
-use Rattle.cil_sexpr.specs.Lists.{text_cmp, contains_here, contains_later, contains_cases, contains_none}
+use Rattle.cil_base.specs.Lists.{text_cmp, contains_here, contains_later, contains_cases, contains_none}
 use Rattle.cil_modset.specs.Modules.{IsBelow, IsRising, IsUnion, IsPlaceOf, module_of, texts_of}
 use Rattle.cil_modset.proofs.RisingLemmas.{compared, below_trans, not_below_itself, rising_join, rising_front, rising_back, rising_across, rising_one, rising_at, number_of_member, length-texts_of}
 

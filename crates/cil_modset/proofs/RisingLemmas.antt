@@ -12,7 +12,7 @@ use Rattle.std.proofs.lemmas.List.{take_more, length_push, get_or_push, get_or-m
 use Rattle.std.proofs.lemmas.Bool.{cases_lt}
 use Rattle.std.proofs.lemmas.List.Elements.{Contains-append_left, Contains-append_right, Contains-append_cases, Contains-get_or}
 use Rattle.std.proofs.lemmas.Map.Lookups.{exact_bytes}
-use Rattle.cil_sexpr.specs.Lists.{text_cmp, contains_here, contains_later, contains_cases, contains_none, all_at}
+use Rattle.cil_base.specs.Lists.{text_cmp, contains_here, contains_later, contains_cases, contains_none, all_at}
 use Rattle.cil_modset.specs.Modules.{IsBelow, IsRising, module_of, texts_of}
 
 -- ---- the order

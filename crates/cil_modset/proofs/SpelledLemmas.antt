@@ -4,7 +4,7 @@ use Rattle.std.specs.List.{flat_map}
 use Rattle.std.specs.Int.{w64, from_be_bytes}
 use Rattle.std.proofs.lemmas.List.{append_assoc, append-nil, take_at, drop_at, drop-drop, length-append, length-drop, get_or_append_left}
 use Rattle.std.proofs.lemmas.Nat.{from_be_bytes-to_be_bytes_8}
-use Rattle.cil_sexpr.specs.Lists.{contains_here, contains_later}
+use Rattle.cil_base.specs.Lists.{contains_here, contains_later}
 use Rattle.cil_modset.specs.Bundle.{magic, number, entry, IsBundle}
 use Rattle.cil_modset.specs.Faults.{number_at, promised, HasModule, HasModules, IsRightUpTo}
 use Rattle.cil_modset.proofs.BundleLemmas.{first_eight}

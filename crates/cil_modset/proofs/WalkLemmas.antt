@@ -4,7 +4,7 @@ use Rattle.std.specs.Prelude.{Contains}
 use Rattle.std.proofs.lemmas.Bool.{cases_lt}
 use Rattle.std.proofs.lemmas.List.{take-append-drop, take_more}
 use Rattle.std.proofs.lemmas.List.Elements.{Contains-append_left, Contains-push, Contains-push_cases}
-use Rattle.cil_sexpr.specs.Lists.{contains_here, contains_later, contains_cases, contains_none}
+use Rattle.cil_base.specs.Lists.{contains_here, contains_later, contains_cases, contains_none}
 use Rattle.cil_modset.specs.Faults.{AllBelow}
 use Rattle.cil_modset.specs.Gather.{AreApart}
 use Rattle.cil_modset.specs.Modules.{IsBelow, IsRising, IsUnion, AreModules, module_of}

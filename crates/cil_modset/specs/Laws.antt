@@ -1,7 +1,7 @@
 -- Laws that fix the definitions: what they say together of every set and of all bytes.
 use Rattle.std.specs.Prelude.{◌≡◌, ℕ, ◌<◌, ◌⊎◌, List, length, count_by}
 use Rattle.std.specs.Ordering.{is_lt}
-use Rattle.cil_sexpr.specs.Lists.{text_cmp}
+use Rattle.cil_base.specs.Lists.{text_cmp}
 use Rattle.cil_modset.specs.declared.error.BundleFault.{BundleFault}
 use Rattle.cil_modset.specs.Bundle.{AreBytes, bundle, IsBundle}
 use Rattle.cil_modset.specs.Faults.{HasFault}

@@ -2,7 +2,7 @@
 use Rattle.std.specs.Prelude.{◌≡◌, ℕ, List, Contains}
 use Rattle.std.proofs.Common.{inl, inr}
 use Rattle.std.specs.Cmp.Lexicographic.{nat_list_cmp_total}
-use Rattle.cil_sexpr.specs.Lists.{text_cmp, same_members}
+use Rattle.cil_base.specs.Lists.{text_cmp, same_members}
 use Rattle.cil_modset.specs.Modules.{IsUnion, IsRising}
 
 same_union : (xs ys : List (List ℕ)) → IsRising xs → IsRising ys → ((t : List ℕ) → Contains xs t → Contains ys t)

@@ -2,7 +2,7 @@
 
 ghost use Rattle.std.specs.Prelude.{◌≡◌, ℕ, ◌+◌, List, length, OnOk, OnErr, IfOk};
 
-use crate::error::NoMemory;
+use cil_base::NoMemory;
 use std::alloc::Global;
 
 /// A value that can be merged with another of its type.

@@ -16,6 +16,7 @@ mod new_texts;
 mod order;
 mod set;
 
-pub use error::{BundleError, BundleFault, NoMemory};
+pub use cil_base::NoMemory;
+pub use error::{BundleError, BundleFault};
 pub use join::Join;
 pub use set::{Installed, ModuleSet};

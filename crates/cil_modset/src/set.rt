@@ -8,13 +8,14 @@ ghost use Rattle.cil_modset.specs.Modules.{AreModules, IsUnion, IsPlaceOf, IsRis
 ghost use Rattle.cil_modset.specs.NewTexts.{AreNew};
 ghost use Rattle.sha2.specs.Sha256.{sha256};
 
-use crate::error::{BundleError, NoMemory};
+use crate::error::BundleError;
 use crate::export::write;
 use crate::gather::gather;
 use crate::import::new_texts_of;
 use crate::join::Join;
 use crate::new_texts::NewTexts;
 use crate::order::{is_below, is_same};
+use cil_base::NoMemory;
 use cil_sexpr::{ReadError, read};
 use sha2::{Digest, Sha256};
 use std::alloc::{AllocError, Global};

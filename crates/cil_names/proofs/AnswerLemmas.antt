@@ -4,12 +4,13 @@ use Rattle.std.specs.Prelude.{IfSome, ◌<◌, length, Option, Some, None, Match
 use Rattle.std.specs.List.{flat_map, list_any}
 use Rattle.std.specs.Option.{option_map, option_map_or}
 use Rattle.std.proofs.lemmas.Bool.{cases_Bool, true≢false}
-use Rattle.cil_sexpr.specs.Places.{get_contains}
+use Rattle.cil_base.specs.Places.{get_contains}
 use Rattle.cil_syntax.specs.declared.kind.Kind.{Kind}
 use Rattle.cil_syntax.specs.declared.kind.Kind.TheVariants as kinds
 use Rattle.cil_syntax.specs.declared.kind.Sign.{Sign}
 use Rattle.cil_syntax.specs.declared.kind.Sign.TheVariants as signs
-use Rattle.cil_syntax.specs.Scopes.{Namespace, asked, spaces_asked, ScopedWord}
+use Rattle.cil_faults.specs.Namespaces.{Namespace}
+use Rattle.cil_syntax.specs.Scopes.{asked, spaces_asked, ScopedWord}
 use Rattle.std.proofs.Math.Bool.{or-false}
 use Rattle.cil_names.specs.declared.entry.Entry.{Entry}
 use Rattle.cil_blocks.specs.declared.namespaces.Space.{Space}
@@ -22,7 +23,7 @@ use Rattle.cil_names.proofs.DeclLemmas.{has_as}
 use Rattle.cil_names.proofs.CandidateLemmas.{parts_of, place_is}
 use Rattle.cil_names.proofs.OrderLemmas.{key_total, one_key}
 use Rattle.std.proofs.lemmas.Option.{slice_get_within}
-use Rattle.cil_names.proofs.SearchLemmas.{one_number}
+use Rattle.cil_base.proofs.SearchLemmas.{one_number}
 use Rattle.cil_blocks.proofs.NamespaceLemmas.{same_number}
 
 -- ---- the kinds of one word are of one name space

@@ -2,14 +2,13 @@
 use Rattle.std.proofs.Common.{◌≡◌, ℕ, zero, suc, ◌+◌, ◌<◌, ◌≤◌, true, false, if◌then◌else◌, List, [], ◌∷◌, ◌++◌, map, length, drop, get_or, refl, sym, ◌∙◌, ap, arith, append-nil, append_assoc, take}
 use Rattle.std.specs.List.{flat_map}
 use Rattle.std.proofs.lemmas.List.Concat.{flat_map-append}
-use Rattle.std.proofs.lemmas.List.{drop_all, take_all}
+use Rattle.std.proofs.lemmas.List.{drop_all, take_all, map-append}
 use Rattle.std.proofs.lemmas.Simd.{map-map}
-use Rattle.cil_sexpr.specs.MadeLists.{one_flat}
-use Rattle.cil_sexpr.specs.Places.{drop_at}
+use Rattle.cil_base.specs.MadeLists.{one_flat}
+use Rattle.cil_base.specs.Places.{drop_at}
 use Rattle.std.specs.Prelude.{MatchOption, None, Option, Some, slice_get}
 use Rattle.std.specs.Global.{Vec}
 use Rattle.std.specs.Option.{option_map}
-use Rattle.std.proofs.lemmas.List.{map-append}
 use Rattle.cil_syntax.specs.Forms.{is_class_list}
 use Rattle.cil_syntax.specs.declared.term.LookedUp.{LookedUp}
 use Rattle.cil_syntax.specs.declared.term.Op.{Op}
@@ -88,9 +87,6 @@ pub told_so : (ps : List Placed) (x : Item) (them : List Asked) → flat_map (wa
     → MatchOption r (told_at x n ≡ None) (λ w. told_at x n ≡ Some (scoped_by ps w))
 told_so ps x them same n None none = ap (λ l. option_map told_word (slice_get l n)) (sym same) ∙ ap (option_map told_word) none
 told_so ps x them same n (Some w) is = ap (λ l. option_map told_word (slice_get l n)) (sym same) ∙ is
-
-pub none_told : (x : Item) (n : ℕ) → x.args ≡ nil → told_at x n ≡ None
-none_told x n e = ap (λ ts. option_map told_word (slice_get (all_wanted_in ts) n)) e ∙ ap (λ ws. option_map told_word (slice_get ws n)) none_wanted
 
 module _ (f : RustWord → ScopedWord) (m : ℕ) where
   -- ---- words

@@ -5,11 +5,12 @@ use Rattle.std.specs.Option.{option_map}
 use Rattle.std.specs.Cmp.Lexicographic.{bytes_decides}
 use Rattle.std.specs.List.{flat_map}
 use Rattle.std.proofs.lemmas.Bool.{and_parts, cases_Bool, true≢false}
-use Rattle.cil_sexpr.specs.Places.{cons_head, cons_tail, get_contains}
+use Rattle.cil_base.specs.Places.{cons_head, cons_tail, get_contains}
 use Rattle.cil_syntax.specs.declared.kind.Kind.{Kind}
 use Rattle.cil_syntax.specs.declared.kind.Sign.{Sign}
 use Rattle.cil_syntax.specs.Spelling.{same_bytes}
-use Rattle.cil_syntax.specs.Scopes.{Namespace, ScopedWord, asked, names_backwards, same_space, spaces_asked}
+use Rattle.cil_faults.specs.Namespaces.{Namespace}
+use Rattle.cil_syntax.specs.Scopes.{ScopedWord, asked, names_backwards, same_space, spaces_asked}
 use Rattle.std.proofs.lemmas.Option.{same_Some}
 use Rattle.cil_syntax.proofs.DecidedEquality.{spaces_decide}
 use Rattle.cil_names.specs.declared.entry.Entry.{Entry}

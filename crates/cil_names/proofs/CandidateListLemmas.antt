@@ -4,7 +4,7 @@ use Rattle.std.specs.Prelude.{None, Some, slice_get, slice_range}
 use Rattle.std.specs.List.{AllByRecursion}
 use Rattle.std.proofs.Math.Seq.{drop-append_seam}
 use Rattle.std.proofs.lemmas.List.{drop-append-le, length-append, length-drop, take-append-le, take_all}
-use Rattle.cil_sexpr.specs.Places.{none_some, some_same}
+use Rattle.cil_base.specs.Places.{none_some, some_same}
 use Rattle.cil_names.specs.CandidateLists.{lists_at}
 
 -- no place is behind the end

@@ -3,11 +3,12 @@ use Rattle.std.proofs.Common.{◌≡◌, ℕ, ◌&&◌, ◌||◌, Bool, true, Li
 use Rattle.std.specs.List.{list_any}
 use Rattle.std.specs.Cmp.Lexicographic.{bytes_decides}
 use Rattle.std.proofs.lemmas.Bool.{or_cases, or_right, and_parts, and_from}
-use Rattle.cil_sexpr.specs.Searches.{any_from, any_true, same_truth}
-use Rattle.cil_sexpr.specs.Places.{get_at, get_contains}
+use Rattle.cil_base.specs.Searches.{any_from, any_true, same_truth}
+use Rattle.cil_base.specs.Places.{get_at, get_contains}
 use Rattle.cil_syntax.specs.declared.kind.Sign.{Sign}
 use Rattle.cil_syntax.specs.Spelling.{same_bytes}
-use Rattle.cil_syntax.specs.Scopes.{Namespace, same_space}
+use Rattle.cil_faults.specs.Namespaces.{Namespace}
+use Rattle.cil_syntax.specs.Scopes.{same_space}
 use Rattle.cil_syntax.proofs.DecidedEquality.{spaces_decide}
 use Rattle.cil_names.specs.declared.entry.Entry.{Entry}
 use Rattle.cil_blocks.specs.declared.namespaces.Space.{Space}

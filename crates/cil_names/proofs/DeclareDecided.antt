@@ -1,6 +1,6 @@
 -- Whether two declarations, symbols or name spaces are equal.
 use Rattle.std.proofs.Common.{◌≡◌, ℕ, zero, suc, refl, ap}
-use Rattle.cil_sexpr.specs.Decided.{Decided, by_number, decided_both, decided_same, same_list, same_text}
+use Rattle.cil_base.specs.Decided.{Decided, by_number, decided_both, decided_same, same_list, same_text}
 use Rattle.cil_syntax.proofs.DecidedEquality.{kind_is, same_namespace, same_terms, sign_is}
 use Rattle.cil_names.specs.Declarations.{Bare, Declaration, NameSpace, Symbol, of_blocks, of_classes, of_roles, of_types, of_users}
 

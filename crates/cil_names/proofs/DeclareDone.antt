@@ -6,7 +6,7 @@ use Rattle.std.proofs.Common.{◌≡◌, ℕ, ◌<◌, ◌≤◌, true, List, le
 use Rattle.std.proofs.lemmas.List.Elements.{Contains-get_or}
 use Rattle.std.proofs.lemmas.List.Sorted.{Contains-permutation, IsPermutation-sym}
 use Rattle.std.proofs.lemmas.Option.{same_Some}
-use Rattle.cil_sexpr.specs.MadeLists.{contains_flat, from_flat}
+use Rattle.cil_base.specs.MadeLists.{contains_flat, from_flat}
 use Rattle.cil_syntax.specs.declared.kind.Kind.TheVariants as kinds
 use Rattle.cil_syntax.specs.Terms.{nil}
 use Rattle.cil_blocks.specs.Namespaces.{AreNamespaces}
@@ -60,7 +60,7 @@ module _ (i : Kept) (rows : List Row) (all : AreAllRows i rows) where
 
 -- the runs are those of the rows of all instances
 pub record AreRunsOf (i : Kept) (rows : List Row) (runs : List Run) : Type 0 where
-  pub spaces : AreNamespaces (namespaces_in i)
+  pub namespaces : AreNamespaces (namespaces_in i)
   pub all : AreAllRows i rows
   pub are : AreRuns i rows runs
 
@@ -99,5 +99,5 @@ row_at i r is k e = elim is [
 
 pub gathered : (i : Kept) (given sorted rows : List Row) (runs : List Run) → AreNamespaces (namespaces_in i) → AreAllRows i given → IsPermutation given sorted → rows ≡ sorted
     → AreRuns i rows runs → AreRunsOf i rows runs
-gathered i given sorted rows runs spaces all moved same are =
-    record { spaces = spaces; all = subst (AreAllRows i) (sym same) (sorted_all i given sorted moved all); are = are }
+gathered i given sorted rows runs namespaces all moved same are =
+    record { namespaces = namespaces; all = subst (AreAllRows i) (sym same) (sorted_all i given sorted moved all); are = are }

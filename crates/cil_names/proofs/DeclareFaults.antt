@@ -4,16 +4,16 @@ use Rattle.std.specs.List.{flat_map, list_all}
 use Rattle.std.specs.Option.{unwrap_or}
 use Rattle.std.proofs.Common.{◌≡◌, ℕ, Bool, true, false, List, [], ◌∷◌, refl, sym, ◌∙◌, ap, subst, inl, inr}
 use Rattle.std.proofs.lemmas.Bool.{true≢false}
-use Rattle.cil_sexpr.specs.Lists.{contains_here, contains_cases, contains_none}
-use Rattle.cil_sexpr.specs.MadeLists.{contains_flat, from_flat}
-use Rattle.cil_sexpr.specs.Places.{get_at}
-use Rattle.cil_syntax.specs.declared.code.FaultCode.TheVariants as causes
-use Rattle.cil_syntax.specs.declared.fault.Fault.{Fault}
+use Rattle.cil_base.specs.Lists.{contains_here, contains_cases, contains_none}
+use Rattle.cil_base.specs.MadeLists.{contains_flat, from_flat}
+use Rattle.cil_base.specs.Places.{get_at}
+use Rattle.cil_faults.specs.declared.code.FaultCode.TheVariants as causes
+use Rattle.cil_faults.specs.declared.fault.Fault.{Fault}
 use Rattle.cil_syntax.specs.declared.kind.Kind.{Kind}
 use Rattle.cil_syntax.specs.declared.kind.Kind.TheVariants as kinds
-use Rattle.cil_syntax.specs.declared.term.Spot.{Spot}
+use Rattle.cil_faults.specs.declared.spot.Spot.{Spot}
 use Rattle.cil_syntax.specs.Terms.{Name, Terms, cons}
-use Rattle.cil_syntax.specs.Reported.{fault_at}
+use Rattle.cil_faults.specs.Reported.{fault_at}
 use Rattle.cil_syntax.specs.Scopes.{ScopedWord}
 use Rattle.cil_blocks.specs.Namespaces.{space_at}
 use Rattle.cil_blocks.proofs.NamespaceLemmas.{one_to_one}
@@ -30,7 +30,7 @@ use Rattle.cil_names.proofs.DeclareDecided.{name_space_at, rank_from, ranked_bac
 use Rattle.cil_names.proofs.DeclareDone.{AreRunsOf, declared_row, is_row, item_within, place_of, row_declared, run_of, space_within}
 use Rattle.cil_names.proofs.DeclareRowLemmas.{row_declares}
 use Rattle.cil_names.proofs.OrderLemmas.{key_total, one_key}
-use Rattle.cil_names.proofs.SearchLemmas.{one_number}
+use Rattle.cil_base.proofs.SearchLemmas.{one_number}
 
 -- ---- name spaces and their numbers
 
@@ -105,8 +105,8 @@ module _ (i : Kept) (rows : List Row) (runs : List Run) (of : AreRunsOf i rows r
   other_of run c d r in_run =
       let is_run = of.are.each run c in
       let (x, in_x, apart) = differing_of i run.first.now run.rows.now run.differing d is_run.tells in
-      let spaces = one_name_space r run.first.now (is_run.same r in_run) in
-      let no_block : name_space r.kind ≡ of_blocks → ⊥ = λ e. apart (inl (sym spaces ∙ e)) in
+      let name_spaces = one_name_space r run.first.now (is_run.same r in_run) in
+      let no_block : name_space r.kind ≡ of_blocks → ⊥ = λ e. apart (inl (sym name_spaces ∙ e)) in
       elim (same_declaration (declaration_of i run.first.now) (declaration_of i r)) [
         | inl same ↦ (x, in_x, (λ e. apart (inr (same ∙ e))), no_block)
         | inr differ ↦ (run.first.now, is_run.first, (λ e. differ (sym e)), no_block)
@@ -179,9 +179,9 @@ module _ (i : Kept) (rows : List Row) (runs : List Run) (of : AreRunsOf i rows r
   -- two rows of one name that differ and are of no block are of a run with rows that differ
   differs_at : (run : Run) → Contains runs run → (b : Bool) → run.differing ≡ b → (r x : Row) → Contains run.rows.now r → Contains run.rows.now x
       → (name_space r.kind ≡ of_blocks → ⊥) → name_space r.kind ≡ name_space x.kind → (declaration_of i r ≡ declaration_of i x → ⊥) → run.differing ≡ true
-  differs_at run c true e r x in_r in_x no_block spaces apart = e
-  differs_at run c false e r x in_r in_x no_block spaces apart =
-      absurd (apart (sym (alike_as run c e r in_r no_block) ∙ alike_as run c e x in_x (λ block. no_block (spaces ∙ block))))
+  differs_at run c true e r x in_r in_x no_block name_spaces apart = e
+  differs_at run c false e r x in_r in_x no_block name_spaces apart =
+      absurd (apart (sym (alike_as run c e r in_r no_block) ∙ alike_as run c e x in_x (λ block. no_block (name_spaces ∙ block))))
 
   -- the row of an instance in a run with rows that differ has the fault of the instance
   told_at : (run : Run) → Contains runs run → run.differing ≡ true → (r : Row) → Contains run.rows.now r → (k : ℕ) (at : IsRowAt i k r)
@@ -198,16 +198,16 @@ module _ (i : Kept) (rows : List Row) (runs : List Run) (of : AreRunsOf i rows r
       let (other, in_all, is_e, on) = declared_row i rows of.all everybody e declared in
       let (run, in_runs, in_run) = run_of i rows runs of r r_all in
       let (bun, in_buns, in_bun) = run_of i rows runs of other in_all in
-      let number = one_to_one (namespaces_in i) of.spaces r.space other.space
+      let number = one_to_one (namespaces_in i) of.namespaces r.space other.space
       (space_within i r (is_row i rows runs of run r in_runs in_run)) (space_within i other (is_row i rows runs of bun other in_buns in_bun))
       (ap (λ (z : Declaration). z.space) is_d ∙ apart.one_namespace ∙ sym (ap (λ (z : Declaration). z.space) is_e)) in
       let called = ap (λ (z : Declaration). z.name) is_d ∙ apart.one_name ∙ sym (ap (λ (z : Declaration). z.name) is_e) in
-      let spaces : name_space r.kind ≡ name_space other.kind = ap (λ (z : Declaration). name_space z.kind) is_d ∙ apart.one_name_space ∙ sym (ap (λ (z : Declaration). name_space z.kind) is_e) in
-      let ranks = same_rank r.kind other.kind spaces in
+      let name_spaces : name_space r.kind ≡ name_space other.kind = ap (λ (z : Declaration). name_space z.kind) is_d ∙ apart.one_name_space ∙ sym (ap (λ (z : Declaration). name_space z.kind) is_e) in
+      let ranks = same_rank r.kind other.kind name_spaces in
       let key : row_key r ≡ row_key other = λ j. record { space = number j; name = called j; rank = ranks j } in
       let one = one_run r other run bun key in_runs in_run in_buns in_bun in
       let no_block : name_space r.kind ≡ of_blocks → ⊥ = λ h. apart.apart (sym (ap (λ (z : Declaration). name_space z.kind) is_d) ∙ h) in
-      let differs = differs_at run in_runs run.differing refl r other in_run (subst (λ m. Contains m.rows.now other) (sym one) in_bun) no_block spaces (λ h. apart.differ (sym is_d ∙ h ∙ is_e)) in
+      let differs = differs_at run in_runs run.differing refl r other in_run (subst (λ m. Contains m.rows.now other) (sym one) in_bun) no_block name_spaces (λ h. apart.differ (sym is_d ∙ h ∙ is_e)) in
       in_faults run in_runs differs (fault_at causes.Clash at x.space name)
       (contains_flat (row_faults i) run.rows.now r (fault_at causes.Clash at x.space name) in_run (fault_there i k r of_r x same at name rest says))
 

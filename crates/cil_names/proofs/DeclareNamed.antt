@@ -9,10 +9,10 @@ use Rattle.std.specs.Ordering.{on}
 use Rattle.std.specs.Global.{Vec}
 use Rattle.std.proofs.Common.{◌≡◌, ℕ, Bool, true, false, ◌||◌, List, [], ◌∷◌, ◌++◌, map, length, refl, sym, ◌∙◌, ap, subst, inl, inr}
 use Rattle.std.proofs.lemmas.Option.{same_Some, slice_get-map}
-use Rattle.cil_sexpr.specs.Lists.{contains_cases, contains_here, contains_none}
-use Rattle.cil_sexpr.specs.MadeLists.{contains_flat, contains_map, from_flat}
-use Rattle.cil_sexpr.specs.Searches.{any_from, any_map, any_true}
-use Rattle.cil_sexpr.specs.Places.{get_at, get_contains, never_cons}
+use Rattle.cil_base.specs.Lists.{contains_cases, contains_here, contains_none}
+use Rattle.cil_base.specs.MadeLists.{contains_flat, contains_map, from_flat}
+use Rattle.cil_base.specs.Searches.{any_from, any_map, any_true}
+use Rattle.cil_base.specs.Places.{get_at, get_contains, never_cons}
 use Rattle.cil_names.specs.declared.entry.Entry.{Entry}
 use Rattle.cil_names.specs.declared.row.Row.{Row}
 use Rattle.cil_names.specs.declared.run.Run.{Run}
@@ -26,7 +26,7 @@ use Rattle.cil_blocks.specs.Namespaces.{space_at}
 use Rattle.cil_names.proofs.DeclareFaults.{alike_of, all_enabled, one_name_space}
 use Rattle.cil_blocks.proofs.NamespaceLemmas.{same_number}
 use Rattle.cil_names.proofs.OrderLemmas.{key_total, one_key}
-use Rattle.cil_names.proofs.SearchLemmas.{one_number}
+use Rattle.cil_base.proofs.SearchLemmas.{one_number}
 use Rattle.cil_names.proofs.DeclareDone.{AreRunsOf, declared_row, is_row, item_within, place_of, row_at, row_declared, run_of, space_within}
 use Rattle.cil_names.proofs.DeclareRowLemmas.{of_macro}
 
@@ -154,7 +154,7 @@ module _ (i : Kept) (rows : List Row) (runs : List Run) (of : AreRunsOf i rows r
       let (run, in_runs, said) = run_for i es runs says n e at in
       let (other, in_others, in_other) = run_of i rows runs of r in_rows in
       let space : r.space ≡ e.space =
-      same_number ss of.spaces (space_at ss e.space) r.space e.space
+      same_number ss of.namespaces (space_at ss e.space) r.space e.space
       (record { within = space_within i r (of.all.each r in_rows); is = ap (λ (z : Declaration). z.space) says_d ∙ is.space })
       (record { within = ordered.within e (get_contains es n e at); is = refl }) in
       let name : r.name ≡ e.name = ap (λ (z : Declaration). z.name) says_d ∙ is.name in

@@ -4,8 +4,8 @@ use Rattle.std.specs.List.{list_all}
 use Rattle.std.proofs.Common.{◌≡◌, ℕ, ◌+◌, ◌<◌, Bool, true, false, List, [], ◌∷◌, ◌++◌, map, refl, sym, ◌∙◌, ap, subst, inl, inr, arith}
 use Rattle.std.proofs.lemmas.Bool.{and_parts}
 use Rattle.std.proofs.lemmas.List.Elements.{Contains-append_cases, Contains-append_left, Contains-append_right}
-use Rattle.cil_sexpr.specs.Lists.{contains_cases, contains_here, contains_none}
-use Rattle.cil_sexpr.specs.MadeLists.{contains_map, from_map}
+use Rattle.cil_base.specs.Lists.{contains_cases, contains_here, contains_none}
+use Rattle.cil_base.specs.MadeLists.{contains_map, from_map}
 use Rattle.cil_syntax.specs.declared.kind.Keyword.{Keyword}
 use Rattle.cil_syntax.specs.declared.kind.Keyword.TheVariants as keywords
 use Rattle.cil_syntax.specs.declared.kind.Kind.{Kind}
@@ -13,7 +13,8 @@ use Rattle.cil_syntax.specs.declared.kind.Kind.TheVariants as kinds
 use Rattle.cil_syntax.specs.Forms.{name_in_front}
 use Rattle.cil_syntax.specs.Table.{entry_of}
 use Rattle.cil_syntax.specs.Terms.{Leaf, Name, Form, Terms, nil, cons}
-use Rattle.cil_syntax.specs.Scopes.{Namespace, ScopedWord}
+use Rattle.cil_faults.specs.Namespaces.{Namespace}
+use Rattle.cil_syntax.specs.Scopes.{ScopedWord}
 use Rattle.cil_macros.specs.Item.{Item}
 use Rattle.cil_macros.specs.Items.{Kept, item_at, says_as_written}
 use Rattle.cil_names.specs.declared.row.Row.{Row}
@@ -25,20 +26,11 @@ use Rattle.cil_names.specs.DeclareRows.{AreRowsUpTo, IsRow, IsRowAt, behind, con
 -- what declares something says what is written
 pub declares_written : (k : Keyword) (kind : Kind) → Contains (entry_of k).declares kind → says_as_written k ≡ true
 unfolding entry_of
-declares_written keywords.Type_ kind c = refl
-declares_written keywords.Class kind c = refl
-declares_written keywords.Role kind c = refl
-declares_written keywords.User kind c = refl
-declares_written keywords.RoleType kind c = refl
-declares_written keywords.UserRole kind c = refl
-declares_written keywords.Allow kind c = refl
-declares_written keywords.Block kind c = refl
 declares_written keywords.BlockAbstract kind c = absurd (contains_none kind c)
 declares_written keywords.BlockInherit kind c = absurd (contains_none kind c)
-declares_written keywords.Macro kind c = refl
 declares_written keywords.Call kind c = absurd (contains_none kind c)
 declares_written keywords.Optional kind c = absurd (contains_none kind c)
-declares_written keywords.SetAside kind c = refl
+declares_written k kind c = refl
 
 is_no_block : Kind → Bool
 is_no_block kinds.Block = false
@@ -47,19 +39,7 @@ is_no_block kind = true
 no_blocks : (k : Keyword) → list_all is_no_block (entry_of k).declares ≡ true
 unfolding entry_of is_no_block
 no_blocks keywords.Type_ = refl
-no_blocks keywords.Class = refl
-no_blocks keywords.Role = refl
-no_blocks keywords.User = refl
-no_blocks keywords.RoleType = refl
-no_blocks keywords.UserRole = refl
-no_blocks keywords.Allow = refl
-no_blocks keywords.Block = refl
-no_blocks keywords.BlockAbstract = refl
-no_blocks keywords.BlockInherit = refl
-no_blocks keywords.Macro = refl
-no_blocks keywords.Call = refl
-no_blocks keywords.Optional = refl
-no_blocks keywords.SetAside = refl
+no_blocks k = refl
 
 holds_of : {X : Type 0} (p : X → Bool) (xs : List X) (x : X) → Contains xs x → list_all p xs ≡ true → p x ≡ true
 holds_of p [] x c e = absurd (contains_none x c)
@@ -69,17 +49,9 @@ holds_of p (y ∷ ys) x c e =
 
 only_macros : (kind : Kind) → is_no_block kind ≡ true → name_space kind ≡ of_blocks → kind ≡ kinds.Macro
 unfolding is_no_block
-only_macros kinds.Type_ p e = absurd cc
-only_macros kinds.TypeAlias p e = absurd cc
-only_macros kinds.TypeAttribute p e = absurd cc
-only_macros kinds.Role p e = absurd cc
-only_macros kinds.RoleAttribute p e = absurd cc
-only_macros kinds.User p e = absurd cc
-only_macros kinds.UserAttribute p e = absurd cc
-only_macros kinds.Class p e = absurd cc
-only_macros kinds.ClassMap p e = absurd cc
 only_macros kinds.Block p e = absurd (let f : false ≡ true = p in cc)
 only_macros kinds.Macro p e = refl
+only_macros kind p e = absurd cc
 
 -- of the kinds of blocks and macros only macros are declared
 pub declared_macro : (k : Keyword) (kind : Kind) → Contains (entry_of k).declares kind → name_space kind ≡ of_blocks → kind ≡ kinds.Macro

@@ -1,6 +1,6 @@
 -- Sorted rows, parted into runs of one key.
 use Rattle.std.specs.Prelude.{Contains, not}
-use Rattle.std.proofs.Common.{◌≡◌, ℕ, zero, suc, ◌+◌, ◌<◌, ◌≤◌, Bool, true, false, is_lt, List, [], ◌∷◌, ◌++◌, length, take, drop, get_or, refl, sym, ◌∙◌, ap, subst, inl, inr, arith}
+use Rattle.std.proofs.Common.{◌≡◌, ℕ, zero, suc, ◌+◌, ◌<◌, ◌≤◌, Bool, true, false, is_lt, List, [], ◌∷◌, ◌++◌, length, take, drop, get_or, refl, sym, ◌∙◌, ap, subst, inl, inr, arith, append_assoc}
 use Rattle.std.specs.declared.cmp.Ordering.{Ordering}
 use Rattle.std.specs.declared.cmp.Ordering.TheVariants.{Less, Equal, Greater}
 use Rattle.std.specs.Cmp.{IsStrictWeakOrder}
@@ -12,9 +12,8 @@ use Rattle.std.proofs.lemmas.List.{append-nil, drop_all, drop-drop, get_or-drop,
 use Rattle.std.proofs.lemmas.List.Concat.{flat_map-append, flat_map-cons}
 use Rattle.std.proofs.lemmas.List.Elements.{Contains-append_left, Contains-append_right, Contains-append_cases}
 use Rattle.std.proofs.lemmas.List.Sorted.{ranks_by, sorted_far}
-use Rattle.std.proofs.Common.{append_assoc}
-use Rattle.cil_sexpr.specs.Lists.{contains_here, contains_later, contains_cases, contains_none}
-use Rattle.cil_sexpr.specs.Places.{in_drop, in_take}
+use Rattle.cil_base.specs.Lists.{contains_here, contains_later, contains_cases, contains_none}
+use Rattle.cil_base.specs.Places.{in_drop, in_take}
 use Rattle.cil_names.specs.declared.row.Row.{Row}
 use Rattle.cil_names.specs.declared.run.Run.{Run}
 use Rattle.cil_macros.specs.Items.{Kept}

@@ -1,8 +1,8 @@
 -- Words say the same where their bytes, their signs and the numbers of their scopes are the same.
 use Rattle.std.proofs.Common.{◌≡◌, ℕ, Bool, false, List, [], ◌∷◌, map, refl, sym, ◌∙◌, ap}
 use Rattle.std.proofs.lemmas.Bool.{true≢false}
-use Rattle.cil_sexpr.specs.Lists.{contains_here, contains_later}
-use Rattle.cil_sexpr.specs.Places.{cons_head, cons_tail}
+use Rattle.cil_base.specs.Lists.{contains_here, contains_later}
+use Rattle.cil_base.specs.Places.{cons_head, cons_tail}
 use Rattle.cil_syntax.specs.Scopes.{Scope, ScopedWord}
 use Rattle.cil_blocks.specs.declared.namespaces.Space.{Space}
 use Rattle.cil_blocks.specs.Namespaces.{AreNamespaces, space_at}
@@ -12,14 +12,14 @@ use Rattle.cil_macros.specs.Walks.{IsScope}
 use Rattle.cil_names.specs.Declarations.{Bare, bare}
 use Rattle.cil_names.proofs.DeclareContents.{Tells}
 
-module _ (ss : List Space) (spaces : AreNamespaces ss) where
+module _ (ss : List Space) (namespaces : AreNamespaces ss) where
   -- namespaces are the same where their numbers are
   same_numbers : (m n : List ℕ) → AreWithin ss m → AreWithin ss n → map (space_at ss) m ≡ map (space_at ss) n → m ≡ n
   same_numbers [] [] p q e = refl
   same_numbers [] (y ∷ ys) p q e = absurd cc
   same_numbers (x ∷ xs) [] p q e = absurd cc
   same_numbers (x ∷ xs) (y ∷ ys) p q e =
-      let one = one_to_one ss spaces x y (p x (contains_here x xs)) (q y (contains_here y ys)) (cons_head _ _ _ _ e) in
+      let one = one_to_one ss namespaces x y (p x (contains_here x xs)) (q y (contains_here y ys)) (cons_head _ _ _ _ e) in
       let others = same_numbers xs ys (λ k c. p k (contains_later k x xs c)) (λ k c. q k (contains_later k y ys c)) (cons_tail _ _ _ _ e) in
       λ i. one i ∷ others i
 

@@ -1,23 +1,23 @@
 -- The statements of instances that say what is written: their names and contents.
 use Rattle.std.specs.Prelude.{Contains, None, Some}
 use Rattle.std.proofs.Common.{◌≡◌, ℕ, ◌+◌, ◌<◌, true, List, [], ◌∷◌, ◌++◌, drop, length, refl, sym, ◌∙◌, ap, subst}
-use Rattle.cil_sexpr.specs.Lists.{contains_here, contains_none}
-use Rattle.cil_syntax.specs.declared.code.FaultCode.TheVariants as causes
-use Rattle.cil_syntax.specs.declared.fault.Fault.{Fault}
+use Rattle.cil_base.specs.Lists.{contains_here, contains_none}
+use Rattle.cil_faults.specs.declared.code.FaultCode.TheVariants as causes
+use Rattle.cil_faults.specs.declared.fault.Fault.{Fault}
 use Rattle.cil_syntax.specs.declared.kind.Kind.{Kind}
 use Rattle.cil_syntax.specs.declared.program.Statement as rust
-use Rattle.cil_syntax.specs.declared.term.Spot.{Spot}
+use Rattle.cil_faults.specs.declared.spot.Spot.{Spot}
 use Rattle.cil_syntax.specs.declared.term.Term as terms
 use Rattle.cil_syntax.specs.declared.term.Word.{Word}
 use Rattle.cil_syntax.specs.Forms.{BeginsWithName, name_in_front}
 use Rattle.cil_syntax.specs.Program.{statement_of}
-use Rattle.cil_syntax.specs.Reported.{spelled_fault}
+use Rattle.cil_faults.specs.Reported.{spelled_fault}
 use Rattle.cil_syntax.specs.Said.{all_said, args_of}
 use Rattle.cil_syntax.specs.Scopes.{ScopedWord}
 use Rattle.cil_syntax.specs.Table.{entry_of}
 use Rattle.cil_syntax.specs.Terms.{Leaf, Name, Form, Terms, nil, cons}
-use Rattle.cil_syntax.specs.Written.{Statement, Written, qualified}
-use Rattle.cil_blocks.specs.Entries.{nothing}
+use Rattle.cil_syntax.specs.Written.{Statement, Written}
+use Rattle.cil_faults.specs.Namespaces.{qualified}
 use Rattle.cil_blocks.specs.Namespaces.{IsNumber, space_at}
 use Rattle.cil_macros.specs.Item.{all_replaced, replaced}
 use Rattle.cil_macros.specs.Items.{Kept, item_at, items_in, namespaces_in, placed_at, says_as_written, word_at}
@@ -49,10 +49,6 @@ module _ (f : Word → ScopedWord) where
   said_behind m [] = refl
   said_behind m (t ∷ ts) = refl
 
-  nothing_behind : (m : ℕ) → content_of (behind (all_replaced (λ at. at) f nil)) ≡ bare_terms m f []
-  unfolding bare_terms all_replaced
-  nothing_behind m = refl
-
 -- ---- the statement at a place
 
 module _ (i : Kept) (k : ℕ) where
@@ -79,16 +75,6 @@ module _ (i : Kept) (k : ℕ) where
 
       pub content_there : content_at i (Some k) ≡ bare_terms s.at.«module» (word_at i k) (drop 1 s.args.items)
       content_there = ap (λ args. content_of (behind args)) args_there ∙ said_behind (word_at i k) s.at.«module» s.args.items
-
-  module _ (none : (placed_at i k).standing.statement ≡ nothing) where
-    pub nothing_there : (entry_of (item_at i k).keyword).declares ≡ []
-    unfolding entry_of
-    nothing_there = ap (λ (w : Written). (entry_of w.statement.keyword).declares) none
-
-    pub content_nowhere : (m : ℕ) → says_as_written (item_at i k).keyword ≡ true → content_at i (Some k) ≡ bare_terms m (word_at i k) []
-    content_nowhere m written =
-        ap (λ args. content_of (behind args)) (args_written written ∙ ap (λ (w : Written). all_replaced (λ at. at) (word_at i k) w.statement.args) none)
-        ∙ nothing_behind (word_at i k) m
 
 -- ---- the row of the statement at a place
 
@@ -131,9 +117,6 @@ pub row_written : (i : Kept) (k : ℕ) (r : Row) → IsRowAt i k r → SaysWritt
 row_written i k r of = record { within = of.within; written = declares_written (item_at i k).keyword r.kind of.kind }
 
 module _ (i : Kept) (k : ℕ) (r : Row) (of : IsRowAt i k r) where
-  pub never_nothing : (placed_at i k).standing.statement ≡ nothing → ⊥
-  never_nothing none = contains_none r.kind (subst (λ ks. Contains ks r.kind) (nothing_there i k none) of.kind)
-
   module _ (s : rust.Statement) (is : statement_of s ≡ there i k) where
     pub never_nameless : name_in_front (args_of s) ≡ None → ⊥
     never_nameless none =

@@ -3,12 +3,12 @@ use Rattle.std.specs.Prelude.{Contains, Option, if◌then◌else◌, not, ◌&&�
 use Rattle.std.specs.List.{flat_map}
 use Rattle.std.proofs.Common.{◌≡◌, ℕ, ◌+◌, ◌<◌, true, false, List, [], ◌∷◌, ◌++◌, map, length, drop, get_or, append-nil, refl, sym, ◌∙◌, ap, subst, inl, inr}
 use Rattle.std.proofs.lemmas.Bool.{and_parts, and_from, cases_Bool, not-true}
-use Rattle.cil_sexpr.specs.Lists.{contains_cases, contains_here, contains_none}
-use Rattle.cil_sexpr.specs.MadeLists.{contains_flat, from_flat}
-use Rattle.cil_syntax.specs.declared.code.FaultCode.TheVariants as causes
-use Rattle.cil_syntax.specs.declared.fault.Fault.{Fault}
-use Rattle.cil_syntax.specs.Reported.{fault_at}
-use Rattle.cil_syntax.specs.Scopes.{Namespace}
+use Rattle.cil_base.specs.Lists.{contains_cases, contains_here, contains_none}
+use Rattle.cil_base.specs.MadeLists.{contains_flat, from_flat}
+use Rattle.cil_faults.specs.declared.code.FaultCode.TheVariants as causes
+use Rattle.cil_faults.specs.declared.fault.Fault.{Fault}
+use Rattle.cil_faults.specs.Reported.{fault_at}
+use Rattle.cil_faults.specs.Namespaces.{Namespace}
 use Rattle.cil_blocks.specs.declared.namespaces.Space.{Space}
 use Rattle.cil_names.specs.Faults.{ResolveFault, unresolved}
 use Rattle.cil_macros.specs.Item.{Item, OptSet, all_words_in}
@@ -17,7 +17,6 @@ use Rattle.cil_names.specs.Meanings.{meanings, meant}
 use Rattle.cil_syntax.specs.Terms.{nil}
 use Rattle.cil_names.specs.Resolves.{Wanted, all_wanted_in, is_judged, resolves, told_word, words_of}
 use Rattle.cil_names.specs.Unresolved.{fault_of_word, faults_in, faults_of_all, faults_of_wanted, is_outside}
-use Rattle.cil_names.proofs.ReadingLemmas.{no_words, none_wanted}
 use Rattle.cil_names.proofs.ScopeLemmas.{passed_on}
 
 outside_is : (round : List ℕ) → is_outside round ≡ true → round ≡ []
@@ -66,10 +65,6 @@ module _ (xs : List Item) (s : OptSet) where
     | inr f ↦ faults_within x f
   ]) ∙ append-nil old)
 
-  -- what says nothing has no faults
-  pub no_faults : (x : Item) (old : List Fault) → x.args ≡ nil → old ≡ old ++ faults_in xs s x
-  no_faults x old e = unworded_faults x old (ap all_wanted_in e ∙ none_wanted)
-
   pub all_there : (f : Fault) → Contains (flat_map (faults_in xs s) xs) f → ResolveFault s xs f
   all_there f c =
       let (x, cx, tx) = from_flat (faults_in xs s) xs f c in
@@ -90,10 +85,6 @@ module _ (xs : List Item) (s : OptSet) where
 -- what has no words means nothing
 pub unworded_meanings : (ss : List Space) (es : List Entry) (s : OptSet) (x : Item) (old : List (Option ℕ)) → all_words_in x.args ≡ [] → old ≡ old ++ meanings ss es s x
 unworded_meanings ss es s x old e = sym (ap (λ l. old ++ map (meant ss es s) l) e ∙ append-nil old)
-
--- what says nothing means nothing
-pub no_meanings : (ss : List Space) (es : List Entry) (s : OptSet) (x : Item) (old : List (Option ℕ)) → x.args ≡ nil → old ≡ old ++ meanings ss es s x
-no_meanings ss es s x old e = unworded_meanings ss es s x old (ap all_words_in e ∙ no_words)
 
 -- one more instance was checked
 pub told_on : {X Y : Type 0} (f : X → List Y) (xs : List X) (i : ℕ) (x : X) → i < length xs → x ≡ get_or xs i x → (before new all : List Y) → before ++ flat_map f (drop i xs) ≡ all

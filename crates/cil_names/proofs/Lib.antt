@@ -29,9 +29,9 @@ pub mod RisingLemmas
 pub mod RoundLemmas
 pub mod RowLemmas
 pub mod ScopeLemmas
-pub mod SearchLemmas
-pub mod SortedLists
 pub mod SpelledLemmas
 pub mod TableLemmas
 pub mod UnresolvedLemmas
 pub mod WordedLemmas
+pub mod StandLemmas
+pub mod LeafLemmas

@@ -6,9 +6,9 @@ use Rattle.std.specs.List.{list_any}
 use Rattle.std.specs.Option.{is_some, option_map_or}
 use Rattle.std.specs.Cmp.Lexicographic.{bytes_decides}
 use Rattle.std.proofs.lemmas.Bool.{and_parts, cases_Bool}
-use Rattle.cil_sexpr.specs.Searches.{any_true}
-use Rattle.cil_sexpr.specs.Places.{get_contains}
-use Rattle.cil_syntax.specs.declared.fault.Bytes.{Bytes}
+use Rattle.cil_base.specs.Searches.{any_true}
+use Rattle.cil_base.specs.Places.{get_contains}
+use Rattle.cil_base.specs.declared.bytes.Bytes.{Bytes}
 use Rattle.cil_syntax.specs.declared.kind.Sign.TheVariants as signs
 use Rattle.cil_syntax.specs.Spelling.{same_bytes}
 use Rattle.cil_syntax.specs.Scopes.{asked, same_space, ScopedWord}

@@ -9,20 +9,20 @@ use Rattle.std.proofs.lemmas.Bool.{cases_Bool, true≢false, and_parts, and_from
 use Rattle.std.proofs.lemmas.List.{drop_all}
 use Rattle.std.proofs.lemmas.List.Elements.{Contains-get_or}
 use Rattle.std.proofs.lemmas.Option.{get_or_from_slice_get, slice_get-map}
-use Rattle.cil_sexpr.specs.Lists.{Lists, text_cmp, contains_cases, contains_here, contains_none}
-use Rattle.cil_sexpr.specs.MadeLists.{contains_flat, from_flat}
-use Rattle.cil_sexpr.specs.Searches.{any_from, any_true}
-use Rattle.cil_sexpr.specs.Places.{drop_at, get_at, get_contains}
-use Rattle.cil_sexpr.specs.Rising.{rising_nothing}
+use Rattle.cil_base.specs.Lists.{Lists, text_cmp, contains_cases, contains_here, contains_none}
+use Rattle.cil_base.specs.MadeLists.{contains_flat, from_flat}
+use Rattle.cil_base.specs.Searches.{any_from, any_true}
+use Rattle.cil_base.specs.Places.{drop_at, get_at, get_contains}
+use Rattle.cil_base.specs.Rising.{rising_nothing}
 use Rattle.cil_syntax.specs.declared.kind.Kind.{Kind}
 use Rattle.cil_syntax.specs.declared.kind.Kind.TheVariants as kinds
-use Rattle.cil_syntax.specs.Sorted.{lists_of}
+use Rattle.cil_base.specs.Sorted.{lists_of}
 use Rattle.cil_syntax.specs.Spelling.{same_bytes}
 use Rattle.cil_names.specs.declared.entry.Entry.{Entry}
 use Rattle.cil_names.specs.declared.numbers.Sections.{Sections}
 use Rattle.cil_blocks.specs.declared.namespaces.Space.{Space}
 use Rattle.cil_names.specs.Entries.{AreOrdered, is_declared_in, place_where}
-use Rattle.cil_names.specs.Found.{IsFound, IsMissing}
+use Rattle.cil_base.specs.Found.{IsFound, IsMissing}
 use Rattle.cil_macros.specs.Item.{OptSet}
 use Rattle.cil_names.specs.Numbers.{AreNumbers, IsNameAmong, has_section, is_of, name_given, names_of, place_in, spelled_of}
 use Rattle.cil_syntax.specs.Kinds.{kind_number}

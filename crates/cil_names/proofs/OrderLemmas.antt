@@ -4,7 +4,7 @@ use Rattle.std.specs.Cmp.{IsTotalOrder}
 use Rattle.std.specs.declared.cmp.Ordering.TheVariants.{Equal}
 use Rattle.std.proofs.lemmas.Cmp.{then_total, on_total, nat_cmp_total, nat_list_cmp_total}
 use Rattle.std.proofs.lemmas.Map.Lookups.{exact_bytes}
-use Rattle.cil_sexpr.specs.Paths.{both_equal, same_by}
+use Rattle.cil_base.specs.Paths.{both_equal, same_by}
 use Rattle.cil_names.specs.Entries.{Key, key_cmp}
 
 pub key_total : IsTotalOrder key_cmp

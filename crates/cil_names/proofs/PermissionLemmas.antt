@@ -11,19 +11,19 @@ use Rattle.std.proofs.lemmas.List.{append-nil, take_more, take_all, length-map, 
 use Rattle.std.proofs.lemmas.List.Elements.{Contains-append_cases}
 use Rattle.std.proofs.lemmas.List.Folds.{list_any-append}
 use Rattle.std.proofs.lemmas.Option.{same_Some, slice_get-map, slice_get_within}
-use Rattle.cil_sexpr.specs.Lists.{Lists, contains_cases, contains_here, contains_none, text_cmp}
-use Rattle.cil_sexpr.specs.MadeLists.{from_map}
-use Rattle.cil_sexpr.specs.Searches.{any_from, any_true, same_truth}
-use Rattle.cil_sexpr.specs.Places.{get_at, get_contains, get_set_other, get_set_same, longer}
-use Rattle.cil_sexpr.specs.Rising.{rising_nothing}
-use Rattle.cil_syntax.specs.declared.fault.Bytes.{Bytes}
+use Rattle.cil_base.specs.Lists.{Lists, contains_cases, contains_here, contains_none, text_cmp}
+use Rattle.cil_base.specs.MadeLists.{from_map}
+use Rattle.cil_base.specs.Searches.{any_from, any_true, same_truth}
+use Rattle.cil_base.specs.Places.{get_at, get_contains, get_set_other, get_set_same, longer}
+use Rattle.cil_base.specs.Rising.{rising_nothing}
+use Rattle.cil_base.specs.declared.bytes.Bytes.{Bytes}
 use Rattle.cil_syntax.specs.declared.kind.Keyword.{Keyword}
 use Rattle.cil_syntax.specs.declared.kind.Keyword.TheVariants as keywords
 use Rattle.cil_syntax.specs.declared.kind.Kind.{Kind}
 use Rattle.cil_syntax.specs.declared.kind.Kind.TheVariants as kinds
 use Rattle.cil_syntax.specs.declared.kind.Sign.{Sign}
 use Rattle.cil_syntax.specs.declared.kind.Sign.TheVariants as signs
-use Rattle.cil_syntax.specs.declared.term.Spot.{Spot}
+use Rattle.cil_faults.specs.declared.spot.Spot.{Spot}
 use Rattle.cil_syntax.specs.declared.term.Term as rust
 use Rattle.cil_syntax.specs.declared.term.Word.{Word}
 use Rattle.cil_syntax.specs.Forms.{listed_behind_name}
@@ -35,14 +35,15 @@ use Rattle.cil_syntax.specs.Written.{Written}
 use Rattle.cil_syntax.specs.Spelling.{same_bytes}
 use Rattle.cil_syntax.specs.Table.{entry_of}
 use Rattle.cil_syntax.specs.Terms.{Leaf, Name, Form, Term, Terms, nil, cons}
-use Rattle.cil_syntax.specs.Scopes.{Namespace, ScopedWord, same_space}
+use Rattle.cil_faults.specs.Namespaces.{Namespace}
+use Rattle.cil_syntax.specs.Scopes.{ScopedWord, same_space}
 use Rattle.cil_syntax.proofs.DecidedEquality.{spaces_decide}
 use Rattle.std.proofs.Math.Bool.{or-false}
 use Rattle.cil_names.specs.declared.entry.Entry.{Entry}
 use Rattle.cil_blocks.specs.declared.namespaces.Space.{Space}
 use Rattle.cil_names.specs.Declarations.{Declaration, Symbol, content_of, declarations, declared_by}
 use Rattle.cil_names.specs.Entries.{AreOrdered, HasNoEntry, IsEntryAt}
-use Rattle.cil_blocks.specs.Entries.{nothing, statement_at}
+use Rattle.cil_blocks.specs.Entries.{statement_at}
 use Rattle.cil_macros.specs.Item.{Item, all_replaced, is_enabled, names_in, nobody, replaced}
 use Rattle.cil_macros.specs.Items.{Kept, item_at, items_in, placed_at, says_as_written, word_at}
 use Rattle.cil_macros.specs.Macros.{all_standing}
@@ -129,16 +130,8 @@ class_keyword keywords.Class kind c wanted = refl
 class_keyword keywords.Type_ kind c wanted = absurd (elim (contains_cases kind kinds.Type_ [] c) [ inl e ↦ true≢false (sym wanted ∙ ap (is_wanted signs.Classes) (sym e)) | inr n ↦ contains_none kind n ])
 class_keyword keywords.Role kind c wanted = absurd (elim (contains_cases kind kinds.Role [] c) [ inl e ↦ true≢false (sym wanted ∙ ap (is_wanted signs.Classes) (sym e)) | inr n ↦ contains_none kind n ])
 class_keyword keywords.User kind c wanted = absurd (elim (contains_cases kind kinds.User [] c) [ inl e ↦ true≢false (sym wanted ∙ ap (is_wanted signs.Classes) (sym e)) | inr n ↦ contains_none kind n ])
-class_keyword keywords.RoleType kind c wanted = absurd (contains_none kind c)
-class_keyword keywords.UserRole kind c wanted = absurd (contains_none kind c)
-class_keyword keywords.Allow kind c wanted = absurd (contains_none kind c)
-class_keyword keywords.Block kind c wanted = absurd (contains_none kind c)
-class_keyword keywords.BlockAbstract kind c wanted = absurd (contains_none kind c)
-class_keyword keywords.BlockInherit kind c wanted = absurd (contains_none kind c)
 class_keyword keywords.Macro kind c wanted = absurd (elim (contains_cases kind kinds.Macro [] c) [ inl e ↦ true≢false (sym wanted ∙ ap (is_wanted signs.Classes) (sym e)) | inr n ↦ contains_none kind n ])
-class_keyword keywords.Call kind c wanted = absurd (contains_none kind c)
-class_keyword keywords.Optional kind c wanted = absurd (contains_none kind c)
-class_keyword keywords.SetAside kind c wanted = absurd (contains_none kind c)
+class_keyword k kind c wanted = absurd (contains_none kind c)
 
 pub class_declares : (entry_of keywords.Class).declares ≡ kinds.Class ∷ []
 unfolding entry_of
@@ -275,10 +268,10 @@ module _ (ss : List Space) (es : List Entry) where
     pub kept_without : (lists : List (Vec Bytes)) → DeclaresNoClass x → ArePermissions ss es xs lists → ArePermissions ss es more lists
     kept_without lists without = kept lists (λ d e p at wanted g. without e.name g.declares)
 
-    module _ (spaces : AreNamespaces ss) (ordered : AreOrdered ss es) (k : ℕ) (placed : IsNumber ss x.space k) where
+    module _ (namespaces : AreNamespaces ss) (ordered : AreOrdered ss es) (k : ℕ) (placed : IsNumber ss x.space k) where
       one_space : (e : Entry) → Contains es e → x.space ≡ space_at ss e.space → e.space ≡ k
       one_space e c same =
-          same_number ss spaces (space_at ss e.space) e.space k (record { within = ordered.within e c; is = refl }) (record { within = placed.within; is = placed.is ∙ same })
+          same_number ss namespaces (space_at ss e.space) e.space k (record { within = ordered.within e c; is = refl }) (record { within = placed.within; is = placed.is ∙ same })
 
       permissions_said : (f : Word → ScopedWord) (args : Terms Word) → x.args ≡ all_replaced (λ at. at) f args → listed_permissions x.args ≡ option_map_or names_in (listed_behind_name args) []
       permissions_said f args says = ap listed_permissions says ∙ listed_said f args ∙ permissions_in args
@@ -454,10 +447,6 @@ pub none_in_optional : (x : Item) → (x.round ≡ [] → ⊥) → DeclaresNoCla
 none_in_optional x inside name d = inside d.outside
 
 module _ (i : Kept) (at : ℕ) where
-  -- where there is none
-  pub none_of_nothing : (placed_at i at).standing.statement ≡ nothing → DeclaresNoClass (item_at i at)
-  none_of_nothing e name d = let f : keywords.SetAside ≡ keywords.Class = sym (ap (λ (w : Written). w.statement.keyword) e) ∙ d.keyword in absurd cc
-
   module _ (s : Statement) (says : statement_of s ≡ (placed_at i at).standing.statement.statement) where
     class_says : s.keyword ≡ keywords.Class → (item_at i at).args ≡ all_replaced (λ bt. bt) (word_at i at) (args_of s)
     class_says k =

@@ -4,8 +4,8 @@ use Rattle.std.specs.Prelude.{◌<◌, IfSome, MatchOption, Option, Some, None, 
 use Rattle.std.specs.Global.{Vec}
 use Rattle.std.specs.List.{list_all, list_any}
 use Rattle.std.specs.List.Sorted.{IsStrictlySortedBy}
-use Rattle.cil_sexpr.specs.Lists.{text_cmp}
-use Rattle.cil_syntax.specs.declared.fault.Bytes.{Bytes}
+use Rattle.cil_base.specs.Lists.{text_cmp}
+use Rattle.cil_base.specs.declared.bytes.Bytes.{Bytes}
 use Rattle.cil_names.specs.declared.permission_word.Class.{Class}
 use Rattle.cil_names.specs.Classes.{IsClassFor}
 use Rattle.std.specs.Option.{is_some, option_map_or}
@@ -15,7 +15,7 @@ use Rattle.cil_names.specs.declared.entry.Entry.{Entry}
 use Rattle.cil_blocks.specs.declared.namespaces.Space.{Space}
 use Rattle.cil_names.specs.Entries.{AreEntries, IsAnswer, IsNamed, candidates_of, is_declared_at, is_declared_in, listed}
 use Rattle.cil_macros.specs.Item.{Item, OptSet, nobody}
-use Rattle.cil_sexpr.specs.Searches.{or_second}
+use Rattle.cil_base.specs.Searches.{or_second}
 use Rattle.cil_syntax.specs.Scopes.{ScopedWord}
 use Rattle.cil_names.specs.Laws.{WantedMeansWhatItNames}
 use Rattle.cil_names.specs.Meanings.{meant}

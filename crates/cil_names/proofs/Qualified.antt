@@ -1,22 +1,16 @@
 -- Qualified names are one to one: two symbols whose names are spelled alike are one.
-use Rattle.std.specs.List.{list_all}
-use Rattle.std.specs.Prelude.{◌&&◌, nat_le}
-use Rattle.std.proofs.lemmas.List.Elements.{All-cons}
+use Rattle.std.specs.List.{list_all, All, join_with_byte, slice_split}
+use Rattle.std.specs.Prelude.{◌&&◌, nat_le, Contains, reverse, Some, slice_get}
+use Rattle.std.proofs.lemmas.List.Elements.{All-cons, Contains-append_cases}
 use Rattle.std.proofs.lemmas.Bool.{and_parts, true≢false}
 use Rattle.std.proofs.lemmas.Bool.Decides.{eqb_tells}
-use Rattle.cil_sexpr.specs.Places.{get_contains}
+use Rattle.cil_base.specs.Places.{get_contains}
 use Rattle.cil_syntax.specs.Spelling.{begins_name, goes_on_name, is_name, longest_name}
 use Rattle.std.proofs.Common.{rules, ◌≡◌, ℕ, length, get_or, ◌==◌, Bool, true, false, List, [], ◌∷◌, ◌++◌, refl, sym, ◌∙◌, ap, subst, inl, inr}
-use Rattle.std.specs.Prelude.{Contains, reverse}
-use Rattle.std.specs.List.{All, join_with_byte, slice_split}
-use Rattle.std.proofs.lemmas.List.{reverse-reverse}
+use Rattle.std.proofs.lemmas.List.{reverse-reverse, reverse-append}
 use Rattle.std.proofs.lemmas.List.Splits.{slice_split_at, slice_split_none}
-use Rattle.cil_sexpr.specs.Lists.{contains_here, contains_later}
-use Rattle.cil_syntax.specs.Written.{qualified}
-use Rattle.std.proofs.lemmas.List.{reverse-append}
-use Rattle.std.proofs.lemmas.List.Elements.{Contains-append_cases}
-use Rattle.std.specs.Prelude.{Some, slice_get}
-use Rattle.cil_sexpr.specs.Lists.{contains_cases, contains_none}
+use Rattle.cil_base.specs.Lists.{contains_here, contains_later, contains_cases, contains_none}
+use Rattle.cil_faults.specs.Namespaces.{qualified}
 use Rattle.cil_syntax.specs.declared.kind.Kind.{Kind}
 use Rattle.std.proofs.lemmas.Option.{same_Some}
 use Rattle.cil_names.specs.declared.entry.Entry.{Entry}
@@ -26,7 +20,7 @@ use Rattle.cil_macros.specs.Item.{OptSet}
 use Rattle.cil_names.specs.Numbers.{AreApart, AreNumbers, ArePlain, ArePlainNames, IsPlain, has_section, spelled_of}
 use Rattle.cil_blocks.specs.Namespaces.{AreNamespaces, space_at}
 use Rattle.cil_names.proofs.OrderLemmas.{key_total, one_key}
-use Rattle.cil_names.proofs.SearchLemmas.{one_number}
+use Rattle.cil_base.proofs.SearchLemmas.{one_number}
 use Rattle.cil_blocks.proofs.NamespaceLemmas.{same_number}
 
 abbrev pub is_dot : ℕ → Bool
@@ -94,7 +88,7 @@ module _ (ss : List Space) (are : AreNamespaces ss) (es : List Entry) (ordered :
       turned_plain (e.name ∷ space_at ss e.space)
       (λ x d. elim (contains_cases x e.name (space_at ss e.space) d) [
         | inl p ↦ subst IsPlain p (plain_name e.name (plain.entries e c))
-        | inr q ↦ plain_name x (plain.spaces e x c q)
+        | inr q ↦ plain_name x (plain.namespaces e x c q)
       ])
 
   same_key : (d e : Entry) → d.space ≡ e.space → d.name ≡ e.name → rank d.kind ≡ rank e.kind → key_of d ≡ key_of e

@@ -3,7 +3,7 @@ use Rattle.std.specs.Prelude.{All, Contains}
 use Rattle.std.proofs.Common.{◌≡◌, ℕ, ◌≤◌, true, false, List, [], ◌∷◌, ◌++◌, map, length, get_or, refl, sym, ◌∙◌, ap, subst, append-nil}
 use Rattle.std.proofs.lemmas.List.{map-append}
 use Rattle.std.proofs.lemmas.Simd.{map-map}
-use Rattle.cil_sexpr.specs.Places.{contains_at}
+use Rattle.cil_base.specs.Places.{contains_at}
 use Rattle.cil_syntax.specs.declared.kind.Keyword.{Keyword}
 use Rattle.cil_syntax.specs.declared.kind.Keyword.TheVariants as keywords
 use Rattle.cil_syntax.specs.declared.term.Term as rust
@@ -14,7 +14,6 @@ use Rattle.cil_syntax.specs.Terms.{Term, Leaf, Name, Form, Terms, nil, cons}
 use Rattle.cil_syntax.specs.Written.{Written}
 use Rattle.cil_blocks.specs.declared.namespaces.Space.{Space}
 use Rattle.cil_blocks.specs.Contents.{Standing}
-use Rattle.cil_blocks.specs.Entries.{nothing}
 use Rattle.cil_blocks.specs.Namespaces.{space_at}
 use Rattle.cil_macros.specs.declared.placed_word.PlacedWord.{PlacedWord}
 use Rattle.cil_macros.specs.Calls.{is_call}
@@ -70,27 +69,9 @@ none_wanted = refl
 -- ---- what a placed statement says
 
 pub says_nothing : (ws : List Written) (ss : List Standing) (p : Placed) (k : Keyword) (args : Terms Word) → is_call k ≡ false → says_as_written k ≡ false → says ws ss p k args ≡ nil
-says_nothing ws ss p keywords.Type_ args c e = absurd cc
-says_nothing ws ss p keywords.Class args c e = absurd cc
-says_nothing ws ss p keywords.Role args c e = absurd cc
-says_nothing ws ss p keywords.User args c e = absurd cc
-says_nothing ws ss p keywords.RoleType args c e = absurd cc
-says_nothing ws ss p keywords.UserRole args c e = absurd cc
-says_nothing ws ss p keywords.Allow args c e = absurd cc
-says_nothing ws ss p keywords.Block args c e = absurd cc
 says_nothing ws ss p keywords.BlockAbstract args c e = abstract_says ws ss p args
 says_nothing ws ss p keywords.BlockInherit args c e = inherit_says ws ss p args
-says_nothing ws ss p keywords.Macro args c e = absurd cc
-says_nothing ws ss p keywords.Call args c e = absurd cc
-says_nothing ws ss p keywords.Optional args c e = absurd cc
-says_nothing ws ss p keywords.SetAside args c e = absurd cc
-
--- where there is no statement nothing is said
-pub none_said : (i : Kept) (at : ℕ) → (placed_at i at).standing.statement ≡ nothing → (item_at i at).args ≡ nil
-unfolding all_replaced
-none_said i at e =
-    ap (λ (w : Written). says (written_in i.0) (all_standing i.0) (placed_at i at) w.statement.keyword w.statement.args) e
-    ∙ said_as_written (written_in i.0) (all_standing i.0) (placed_at i at) keywords.SetAside nil refl
+says_nothing ws ss p k args c e = absurd cc
 
 module _ (r : Reading) (is : IsReading r) where
   abbrev there : Placed

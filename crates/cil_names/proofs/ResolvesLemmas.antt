@@ -5,9 +5,9 @@ use Rattle.std.specs.List.{list_any}
 use Rattle.std.specs.Option.{is_some, option_map_or}
 use Rattle.std.proofs.lemmas.Bool.{true≢false}
 use Rattle.std.proofs.lemmas.Option.{slice_get_within}
-use Rattle.cil_sexpr.specs.Lists.{contains_cases, contains_none}
-use Rattle.cil_sexpr.specs.MadeLists.{from_flat}
-use Rattle.cil_sexpr.specs.Searches.{found_is}
+use Rattle.cil_base.specs.Lists.{contains_cases, contains_none}
+use Rattle.cil_base.specs.MadeLists.{from_flat}
+use Rattle.cil_base.specs.Searches.{found_is}
 use Rattle.cil_syntax.specs.Scopes.{ScopedWord, asked, spaces_asked}
 use Rattle.cil_blocks.specs.declared.namespaces.Space.{Space}
 use Rattle.cil_blocks.specs.Namespaces.{AreNamespaces}

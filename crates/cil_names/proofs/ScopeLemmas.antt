@@ -6,7 +6,7 @@ use Rattle.std.specs.Option.{is_some, option_or}
 use Rattle.std.proofs.lemmas.Bool.{true≢false}
 use Rattle.std.proofs.lemmas.List.Folds.{find-append}
 use Rattle.std.proofs.lemmas.List.{drop_all}
-use Rattle.cil_sexpr.specs.Places.{drop_at}
+use Rattle.cil_base.specs.Places.{drop_at}
 use Rattle.cil_syntax.specs.declared.term.Word.{Word}
 use Rattle.cil_syntax.specs.Scopes.{IsTaken, asked, names_backwards}
 use Rattle.cil_syntax.proofs.AskedLemmas.{is_parted}

@@ -3,7 +3,7 @@
 use Rattle.std.specs.Prelude.{◌≡◌, ◌<◌, ◌⊎◌, ℕ, Bool, true, false, List, [], codes, length, Contains, Option, Some, None}
 use Rattle.std.specs.List.{list_all}
 use Rattle.cil_syntax.specs.declared.kind.Kind.TheVariants as kinds
-use Rattle.cil_syntax.specs.declared.term.Spot.{Spot}
+use Rattle.cil_faults.specs.declared.spot.Spot.{Spot}
 use Rattle.cil_syntax.specs.declared.term.Term as rust
 use Rattle.cil_syntax.specs.declared.term.Word.{Word}
 use Rattle.cil_syntax.specs.Forms.{BeginsWithName}
@@ -15,7 +15,7 @@ use Rattle.cil_blocks.specs.Namespaces.{IsNumber, space_at}
 use Rattle.cil_macros.specs.Item.{OptSet, all_replaced, replaced}
 use Rattle.cil_macros.specs.Items.{Kept, item_at, items_in, namespaces_in, says_as_written, word_at}
 use Rattle.cil_names.specs.declared.content.Comparison.{Comparison}
-use Rattle.cil_names.specs.declared.content.Reading.{Reading}
+use Rattle.cil_names.specs.declared.content.ReadAt.{ReadAt}
 use Rattle.cil_names.specs.declared.row.Row.{Row}
 use Rattle.cil_names.specs.Declarations.{Bare, Declaration, bare, content_of, declared_by, name_space, nowhere, of_blocks}
 use Rattle.cil_names.specs.Entries.{Key, rank}
@@ -99,10 +99,10 @@ unfoldable pub bare_terms : ℕ → (Word → ScopedWord) → List rust.Term →
 bare_terms m f ts = content_of (all_replaced (λ at. at) f (all_said m ts))
 
 -- the same of the instance that is read there
-abbrev pub bare_there : Kept → Reading → rust.Term → Term Bare
+abbrev pub bare_there : Kept → ReadAt → rust.Term → Term Bare
 bare_there i r t = bare_term r.«module» (word_at i r.at) t
 
-abbrev pub all_bare_there : Kept → Reading → List rust.Term → Terms Bare
+abbrev pub all_bare_there : Kept → ReadAt → List rust.Term → Terms Bare
 all_bare_there i r ts = bare_terms r.«module» (word_at i r.at) ts
 
 -- there are such instances

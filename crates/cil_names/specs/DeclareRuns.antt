@@ -4,12 +4,13 @@ use Rattle.std.specs.List.{flat_map, list_any}
 use Rattle.std.specs.List.Sorted.{IsStrictlySortedBy}
 use Rattle.std.specs.declared.cmp.Ordering.TheVariants.{Less}
 use Rattle.std.specs.Ordering.{on}
-use Rattle.cil_syntax.specs.declared.code.FaultCode.TheVariants as causes
-use Rattle.cil_syntax.specs.declared.fault.Fault.{Fault}
+use Rattle.cil_faults.specs.declared.code.FaultCode.TheVariants as causes
+use Rattle.cil_faults.specs.declared.fault.Fault.{Fault}
 use Rattle.cil_syntax.specs.declared.kind.Kind.{Kind}
 use Rattle.cil_syntax.specs.Terms.{Leaf, Name, Form, Terms, nil, cons}
-use Rattle.cil_syntax.specs.Reported.{fault_at}
-use Rattle.cil_syntax.specs.Scopes.{Namespace, ScopedWord}
+use Rattle.cil_faults.specs.Reported.{fault_at}
+use Rattle.cil_faults.specs.Namespaces.{Namespace}
+use Rattle.cil_syntax.specs.Scopes.{ScopedWord}
 use Rattle.cil_macros.specs.Items.{Kept, item_at}
 use Rattle.cil_names.specs.declared.entry.Entry.{Entry}
 use Rattle.cil_names.specs.declared.row.Row.{Row}

@@ -7,15 +7,16 @@ use Rattle.std.specs.Option.{option_map, option_map_or}
 use Rattle.std.specs.declared.cmp.Ordering.{Ordering}
 use Rattle.std.specs.Ordering.{nat_cmp, on, then_cmp}
 use Rattle.std.specs.List.Sorted.{IsStrictlySortedBy}
-use Rattle.cil_sexpr.specs.Lists.{text_cmp}
+use Rattle.cil_base.specs.Lists.{text_cmp}
 use Rattle.cil_syntax.specs.declared.kind.Kind.{Kind}
 use Rattle.cil_syntax.specs.declared.kind.Sign.{Sign}
 use Rattle.cil_syntax.specs.declared.term.Word.{Word}
 use Rattle.cil_syntax.specs.Spelling.{same_bytes}
-use Rattle.cil_syntax.specs.Scopes.{Namespace, Scope, asked, same_space, spaces_asked, ScopedWord}
+use Rattle.cil_faults.specs.Namespaces.{Namespace}
+use Rattle.cil_syntax.specs.Scopes.{Scope, asked, same_space, spaces_asked, ScopedWord}
 use Rattle.cil_names.specs.declared.entry.Entry.{Entry}
-use Rattle.cil_names.specs.declared.look.Known.{Known}
-use Rattle.cil_names.specs.declared.look.Known.TheVariants as known
+use Rattle.cil_names.specs.declared.look.KnownBy.{KnownBy}
+use Rattle.cil_names.specs.declared.look.KnownBy.TheVariants as known
 use Rattle.cil_blocks.specs.declared.namespaces.Space.{Space}
 use Rattle.cil_names.specs.Declarations.{Declaration, IsDeclaration, NameSpace, declared_by, of_types, of_roles, of_users, of_classes, of_blocks, name_space}
 use Rattle.cil_macros.specs.Item.{Item, OptSet, everybody}
@@ -69,7 +70,7 @@ abbrev pub is_declared_at : OptSet → List Entry → ℕ → Bool
 is_declared_at s es d = option_map_or (is_declared_in s) (slice_get es d) false
 
 -- the entry of this number is declared, as it is known
-abbrev pub is_known : Known → List Entry → ℕ → Bool
+abbrev pub is_known : KnownBy → List Entry → ℕ → Bool
 is_known (known.Enabled flags) es d = is_declared_at (is_in flags.now) es d
 is_known (known.Flagged flags) es d = is_in flags.now d
 

@@ -1,11 +1,11 @@
 -- What is wrong with the names of a policy: declarations that differ, and words that name nothing. This project's
 -- profile.
 use Rattle.std.specs.Prelude.{◌≡◌, ℕ, true, false, List, [], Contains}
-use Rattle.cil_syntax.specs.declared.code.FaultCode.TheVariants as causes
-use Rattle.cil_syntax.specs.declared.fault.Fault.{Fault}
-use Rattle.cil_syntax.specs.declared.term.Spot.{Spot}
+use Rattle.cil_faults.specs.declared.code.FaultCode.TheVariants as causes
+use Rattle.cil_faults.specs.declared.fault.Fault.{Fault}
+use Rattle.cil_faults.specs.declared.spot.Spot.{Spot}
 use Rattle.cil_syntax.specs.Terms.{Name, Terms, cons}
-use Rattle.cil_syntax.specs.Reported.{fault_at}
+use Rattle.cil_faults.specs.Reported.{fault_at}
 use Rattle.cil_names.specs.Declarations.{Declaration, declared_by, IsDeclaration, Clash}
 use Rattle.cil_macros.specs.Item.{Item, OptSet, everybody}
 use Rattle.cil_syntax.specs.Scopes.{ScopedWord}

@@ -2,13 +2,14 @@
 use Rattle.std.specs.Prelude.{◌≡◌, ℕ, List, Option, ◌++◌, Contains}
 use Rattle.std.specs.Global.{Vec}
 use Rattle.std.specs.List.Sorted.{IsStrictlySortedBy}
-use Rattle.cil_sexpr.specs.Lists.{text_cmp}
-use Rattle.cil_syntax.specs.declared.fault.Bytes.{Bytes}
-use Rattle.cil_syntax.specs.declared.fault.Fault.{Fault}
+use Rattle.cil_base.specs.Lists.{text_cmp}
+use Rattle.cil_base.specs.declared.bytes.Bytes.{Bytes}
+use Rattle.cil_faults.specs.declared.fault.Fault.{Fault}
 use Rattle.cil_syntax.specs.declared.term.Term as rust
 use Rattle.cil_syntax.specs.declared.term.Word.{Word}
 use Rattle.cil_syntax.specs.Terms.{Term, Terms}
-use Rattle.cil_syntax.specs.Scopes.{Namespace, ScopedWord}
+use Rattle.cil_faults.specs.Namespaces.{Namespace}
+use Rattle.cil_syntax.specs.Scopes.{ScopedWord}
 use Rattle.cil_blocks.specs.Namespaces.{IsNumber}
 use Rattle.cil_macros.specs.declared.placed_word.PlacedWord.{PlacedWord}
 use Rattle.cil_macros.specs.Item.{Item, OptSet}
@@ -34,7 +35,7 @@ space_in j = (item_in j).space
 -- what a check goes by
 pub record IsReady (j : Judge) : Type 0 where
   pub filling : IsFilling j.filling
-  pub space : IsNumber j.filling.lookup.spaces.now (space_in j) j.space
+  pub space : IsNumber j.filling.lookup.namespaces.now (space_in j) j.space
   pub rising : (v : Vec Bytes) → Contains j.permissions.now v → IsStrictlySortedBy text_cmp v.items
 
 -- ---- words
@@ -61,8 +62,8 @@ meant_in_place j w = meant_there j.filling w
 
 -- the entries are the declared names of these items, and the lists the permissions of their classes
 pub record Knows (j : Judge) (xs : List Item) : Type 0 where
-  pub entries : AreEntries j.filling.lookup.spaces.now xs j.filling.lookup.names.now
-  pub permissions : ArePermissions j.filling.lookup.spaces.now j.filling.lookup.names.now xs j.permissions.now
+  pub entries : AreEntries j.filling.lookup.namespaces.now xs j.filling.lookup.names.now
+  pub permissions : ArePermissions j.filling.lookup.namespaces.now j.filling.lookup.names.now xs j.permissions.now
 
 -- the faults of what was asked are behind those that were there
 abbrev pub Tells : Judge → List Wanted → List Fault → List Fault → Type 0
@@ -70,4 +71,4 @@ Tells j ws old new = (xs : List Item) → Knows j xs → new ≡ old ++ faults_o
 
 -- what look-up answers for a word
 abbrev pub Named : Judge → ScopedWord → Option ℕ → Type 0
-Named j w r = (xs : List Item) → Knows j xs → IsAnswer j.filling.lookup.spaces.now xs j.filling.lookup.names.now (enabled_in j) w r
+Named j w r = (xs : List Item) → Knows j xs → IsAnswer j.filling.lookup.namespaces.now xs j.filling.lookup.names.now (enabled_in j) w r

@@ -2,7 +2,7 @@
 -- that kind. This project's profile.
 use Rattle.std.specs.Prelude.{◌≡◌, ℕ, Bool, true, false, ◌&&◌, nat_eq, List, [], ◌∷◌, Contains, Some, slice_get, get_or, if◌then◌else◌}
 use Rattle.std.specs.Option.{unwrap_or}
-use Rattle.cil_sexpr.specs.Lists.{Lists, text_cmp}
+use Rattle.cil_base.specs.Lists.{Lists, text_cmp}
 use Rattle.cil_syntax.specs.declared.kind.Kind.{Kind}
 use Rattle.cil_syntax.specs.declared.kind.Kind.TheVariants as kinds
 use Rattle.cil_syntax.specs.Spelling.{is_name, same_bytes}
@@ -79,7 +79,7 @@ ArePlain names = (x : List ℕ) → Contains names x → IsPlain x
 
 -- the names of the entries, and of the namespaces in which they are, are names as the language has them
 pub record ArePlainNames (ss : List Space) (es : List Entry) : Type 0 where
-  pub spaces : (e : Entry) (name : List ℕ) → Contains es e → Contains (space_at ss e.space) name → is_name name ≡ true
+  pub namespaces : (e : Entry) (name : List ℕ) → Contains es e → Contains (space_at ss e.space) name → is_name name ≡ true
   pub entries : (e : Entry) → Contains es e → is_name e.name ≡ true
 
 -- two declared symbols of one kind have two numbers

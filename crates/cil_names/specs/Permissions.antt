@@ -2,9 +2,9 @@
 use Rattle.std.specs.Prelude.{◌≡◌, ℕ, true, List, [], Contains, Option, Some, length, slice_get}
 use Rattle.std.specs.List.{list_any}
 use Rattle.std.specs.Global.{Vec}
-use Rattle.cil_syntax.specs.declared.fault.Bytes.{Bytes}
+use Rattle.cil_base.specs.declared.bytes.Bytes.{Bytes}
 use Rattle.cil_syntax.specs.declared.kind.Keyword.TheVariants as keywords
-use Rattle.cil_syntax.specs.declared.term.Spot.{Spot}
+use Rattle.cil_faults.specs.declared.spot.Spot.{Spot}
 use Rattle.cil_syntax.specs.Scopes.{ScopedWord}
 use Rattle.cil_syntax.specs.Terms.{Name, Terms, cons}
 use Rattle.cil_syntax.specs.Spelling.{same_bytes}

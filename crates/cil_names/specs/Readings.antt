@@ -46,8 +46,8 @@ numbers_in (numbers.Other scope) = scope
 -- the look-up is that of all that is placed, and the flags tell which names are declared
 pub record IsFilling (f : Filling) : Type 0 where
   pub reading : IsReading f.reading
-  pub spaces : f.lookup.spaces.now ≡ namespaces_in f.reading.instances.now
-  pub ordered : AreOrdered f.lookup.spaces.now f.lookup.names.now
+  pub namespaces : f.lookup.namespaces.now ≡ namespaces_in f.reading.instances.now
+  pub ordered : AreOrdered f.lookup.namespaces.now f.lookup.names.now
   pub declared : f.declared.now ≡ map (is_declared_in (is_in f.lookup.enabled.now)) f.lookup.names.now
 
 abbrev pub enabled_by : Filling → OptSet
@@ -55,7 +55,7 @@ enabled_by f = is_in f.lookup.enabled.now
 
 -- what a word means
 abbrev pub meant_by : Filling → ScopedWord → Option ℕ
-meant_by f w = meant f.lookup.spaces.now f.lookup.names.now (enabled_by f) w
+meant_by f w = meant f.lookup.namespaces.now f.lookup.names.now (enabled_by f) w
 
 -- what a word of the statement means there
 abbrev pub meant_there : Filling → Word → Option ℕ

@@ -12,8 +12,8 @@ ghost use Rattle.cil_names.specs.Resolves.{all_wanted_in, told_word, wanted_in, 
 ghost use Rattle.cil_names.specs.Unresolved.{term_with, terms_with};
 
 use crate::reading::{Reading, is_call, says_as_written};
+use cil_base::NoMemory;
 use cil_macros::PlacedWord;
-use cil_modset::NoMemory;
 use cil_syntax::{Excerpt, Term, Word, word_and_terms};
 use std::alloc::Global;
 

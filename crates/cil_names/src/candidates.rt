@@ -5,8 +5,8 @@ ghost use Rattle.std.specs.Prelude.{◌≡◌, ◌≤◌, length, slice_range};
 use crate::entry::Entry;
 use crate::look::{push_candidates, push_listed};
 use crate::table::{end_at, start_at};
+use cil_base::NoMemory;
 use cil_blocks::Namespaces;
-use cil_modset::NoMemory;
 use cil_syntax::Word;
 use std::alloc::Global;
 use std::marker::Model;
@@ -72,17 +72,17 @@ impl Candidates {
     /// Adds the list of what a word could name.
     pub(crate) fn push_word(
         &mut self,
-        spaces: &Namespaces,
+        namespaces: &Namespaces,
         entries: &[Entry],
         word: &Word,
         scope: &[usize],
     ) -> Result<(), NoMemory>
-        requires entries { AreOrdered spaces.now entries.now }
-        requires within { All (λ k. k ≤ length spaces.now) scope.now }
-        ensures { OnOk result (self.new ≡ self.old ++ candidates_of spaces.now entries.now (scoped spaces.now scope.now word.now) ∷ []) }
+        requires entries { AreOrdered namespaces.now entries.now }
+        requires within { All (λ k. k ≤ length namespaces.now) scope.now }
+        ensures { OnOk result (self.new ≡ self.old ++ candidates_of namespaces.now entries.now (scoped namespaces.now scope.now word.now) ∷ []) }
     {
         self.starts.push(self.numbers.len())?;
-        push_candidates(&mut self.numbers, spaces, entries, word, scope)?;
+        push_candidates(&mut self.numbers, namespaces, entries, word, scope)?;
         Ok(())
     }
 

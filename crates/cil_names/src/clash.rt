@@ -9,9 +9,9 @@ ghost use Rattle.cil_names.specs.DeclareRuns.{faults_at, row_faults, run_faults}
 
 use crate::row::Row;
 use crate::run::Run;
+use cil_base::NoMemory;
 use cil_blocks::spelled::spelled;
 use cil_macros::Instances;
-use cil_modset::NoMemory;
 use cil_syntax::{Fault, FaultCode, push_fault_in};
 use std::alloc::Global;
 
@@ -83,9 +83,7 @@ fn push_clash(
     requires { IsRowAt instances.now at row.now }
     ensures { OnOk result (faults.new.items ≡ faults.old.items ++ faults_at instances.now (Some at)) }
 {
-    let Some(statement) = instances.statement_there(at) else {
-        return Ok(());
-    };
+    let statement = instances.statement_there(at);
     let Some(name) = statement.declared_name() else {
         return Ok(());
     };

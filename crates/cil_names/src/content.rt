@@ -7,15 +7,15 @@ ghost use Rattle.cil_macros.specs.Walks.{IsScope};
 ghost use Rattle.cil_names.specs.Declarations.{bare};
 ghost use Rattle.cil_names.specs.DeclareRows.{AreThere, all_bare_there, bare_there};
 
+use cil_base::NoMemory;
 use cil_blocks::ScopeList;
 use cil_macros::{Instances, PlacedWord};
-use cil_modset::NoMemory;
 use cil_syntax::{LookedUp, Op, Sign, Term};
 use std::alloc::Global;
 
 /// Where terms are read: the place of their instance, and the number of the module in which they are written.
 #[derive(Clone, Copy)]
-pub struct Reading {
+pub struct ReadAt {
     pub at: usize,
     pub module: u64,
 }
@@ -24,8 +24,8 @@ pub struct Reading {
 #[derive(Clone, Copy)]
 pub struct Comparison<'i, 's, 'p, 'a> {
     pub instances: &'i Instances<'s, 'p, 'a>,
-    pub one: Reading,
-    pub other: Reading,
+    pub one: ReadAt,
+    pub other: ReadAt,
 }
 
 /// Whether two lists of terms say the same, each at its instance. A looked-up word costs two scopes.

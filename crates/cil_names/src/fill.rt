@@ -3,9 +3,9 @@
 ghost use Rattle.std.specs.Prelude.{◌≡◌, ◌++◌, ◌<◌, Contains, List, OnOk, Some, length, map};
 ghost use Rattle.std.specs.List.Sorted.{IsStrictlySortedBy};
 ghost use Rattle.std.specs.Global.{Vec as Vector};
-ghost use Rattle.cil_sexpr.specs.Lists.{text_cmp};
-ghost use Rattle.cil_syntax.specs.declared.fault.Bytes.{Bytes as Text};
-ghost use Rattle.cil_syntax.specs.Refusal.{Answers};
+ghost use Rattle.cil_base.specs.Lists.{text_cmp};
+ghost use Rattle.cil_base.specs.declared.bytes.Bytes.{Bytes as Text};
+ghost use Rattle.cil_faults.specs.Refusal.{Answers};
 ghost use Rattle.cil_macros.specs.Item.{Item};
 ghost use Rattle.cil_macros.specs.Items.{all_placed, item_at, items_in, namespaces_in, scope_by};
 ghost use Rattle.cil_macros.specs.Walks.{IsScope};
@@ -24,8 +24,8 @@ use crate::meaning::Meaning;
 use crate::reading::Reading;
 use crate::table::{Filling, Lookup, Words};
 use crate::worded::{is_worded_at, worded};
+use cil_base::NoMemory;
 use cil_macros::Instances;
-use cil_modset::NoMemory;
 use cil_syntax::{Bytes, Failure, Fault, refuse};
 use std::alloc::Global;
 
@@ -40,10 +40,10 @@ pub fn words_of<'a>(
     permissions: &[Vec<Bytes>],
     instances: &Instances<'_, '_, 'a>,
 ) -> Result<Words, Failure>
-    requires spaces { lookup.now.spaces.now ≡ namespaces_in instances.now }
-    requires entries { AreEntries lookup.now.spaces.now (items_in instances.now) lookup.now.names.now }
-    requires permissions { ArePermissions lookup.now.spaces.now lookup.now.names.now (items_in instances.now) permissions.now }
-    ensures { Answers (IsTableOf (map (meanings lookup.now.spaces.now lookup.now.names.now (is_in lookup.now.enabled.now)) (items_in instances.now)))
+    requires namespaces { lookup.now.namespaces.now ≡ namespaces_in instances.now }
+    requires entries { AreEntries lookup.now.namespaces.now (items_in instances.now) lookup.now.names.now }
+    requires permissions { ArePermissions lookup.now.namespaces.now lookup.now.names.now (items_in instances.now) permissions.now }
+    ensures { Answers (IsTableOf (map (meanings lookup.now.namespaces.now lookup.now.names.now (is_in lookup.now.enabled.now)) (items_in instances.now)))
         (ResolveFault (is_in lookup.now.enabled.now) (items_in instances.now)) result }
 {
     let declared = flags_of(alloc, lookup.names.entries(), lookup.enabled.as_slice())?;
@@ -91,16 +91,16 @@ impl<'r, 's, 'p, 'a> Check<'r, 's, 'p, 'a> {
         last: &mut LastScope,
         at: usize,
     ) -> Result<(), NoMemory>
-        requires spaces { self.now.lookup.spaces.now ≡ namespaces_in self.now.instances.now }
-        requires ordered { AreOrdered self.now.lookup.spaces.now self.now.lookup.names.now }
+        requires namespaces { self.now.lookup.namespaces.now ≡ namespaces_in self.now.instances.now }
+        requires ordered { AreOrdered self.now.lookup.namespaces.now self.now.lookup.names.now }
         requires declared { self.now.declared.now ≡ map (is_declared_in (is_in self.now.lookup.enabled.now)) self.now.lookup.names.now }
         requires rising { (v : Vector Text) → Contains self.now.permissions.now v → IsStrictlySortedBy text_cmp v.items }
         requires worded { AreWorded self.now.instances.now self.now.worded.now }
         requires last { IsLast self.now.instances.now last.old }
         requires within { at < length (items_in self.now.instances.now) }
-        ensures words { OnOk result (words.new.items ≡ words.old.items ++ meanings self.now.lookup.spaces.now self.now.lookup.names.now (is_in self.now.lookup.enabled.now) (item_at self.now.instances.now at)) }
-        ensures faults { OnOk result ((xs : List Item) → AreEntries self.now.lookup.spaces.now xs self.now.lookup.names.now
-            → ArePermissions self.now.lookup.spaces.now self.now.lookup.names.now xs self.now.permissions.now
+        ensures words { OnOk result (words.new.items ≡ words.old.items ++ meanings self.now.lookup.namespaces.now self.now.lookup.names.now (is_in self.now.lookup.enabled.now) (item_at self.now.instances.now at)) }
+        ensures faults { OnOk result ((xs : List Item) → AreEntries self.now.lookup.namespaces.now xs self.now.lookup.names.now
+            → ArePermissions self.now.lookup.namespaces.now self.now.lookup.names.now xs self.now.permissions.now
             → faults.new.items ≡ faults.old.items ++ faults_in xs (is_in self.now.lookup.enabled.now) (item_at self.now.instances.now at)) }
         ensures last { OnOk result (IsLast self.now.instances.now last.new) }
     {
@@ -120,20 +120,18 @@ impl<'r, 's, 'p, 'a> Check<'r, 's, 'p, 'a> {
         at: usize,
         scope: &[usize],
     ) -> Result<(), NoMemory>
-        requires spaces { self.now.lookup.spaces.now ≡ namespaces_in self.now.instances.now }
-        requires ordered { AreOrdered self.now.lookup.spaces.now self.now.lookup.names.now }
+        requires namespaces { self.now.lookup.namespaces.now ≡ namespaces_in self.now.instances.now }
+        requires ordered { AreOrdered self.now.lookup.namespaces.now self.now.lookup.names.now }
         requires declared { self.now.declared.now ≡ map (is_declared_in (is_in self.now.lookup.enabled.now)) self.now.lookup.names.now }
         requires rising { (v : Vector Text) → Contains self.now.permissions.now v → IsStrictlySortedBy text_cmp v.items }
         requires within { at < length (items_in self.now.instances.now) }
         requires scope { IsScope (namespaces_in self.now.instances.now) (scope_by (all_placed self.now.instances.now) (Some at)) scope.now }
-        ensures words { OnOk result (words.new.items ≡ words.old.items ++ meanings self.now.lookup.spaces.now self.now.lookup.names.now (is_in self.now.lookup.enabled.now) (item_at self.now.instances.now at)) }
-        ensures faults { OnOk result ((xs : List Item) → AreEntries self.now.lookup.spaces.now xs self.now.lookup.names.now
-            → ArePermissions self.now.lookup.spaces.now self.now.lookup.names.now xs self.now.permissions.now
+        ensures words { OnOk result (words.new.items ≡ words.old.items ++ meanings self.now.lookup.namespaces.now self.now.lookup.names.now (is_in self.now.lookup.enabled.now) (item_at self.now.instances.now at)) }
+        ensures faults { OnOk result ((xs : List Item) → AreEntries self.now.lookup.namespaces.now xs self.now.lookup.names.now
+            → ArePermissions self.now.lookup.namespaces.now self.now.lookup.names.now xs self.now.permissions.now
             → faults.new.items ≡ faults.old.items ++ faults_in xs (is_in self.now.lookup.enabled.now) (item_at self.now.instances.now at)) }
     {
-        let Some(statement) = self.instances.statement_there(at) else {
-            return Ok(());
-        };
+        let statement = self.instances.statement_there(at);
         let filling = Filling {
             lookup: self.lookup,
             reading: Reading {

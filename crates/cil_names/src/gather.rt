@@ -2,7 +2,7 @@
 
 ghost use Rattle.std.specs.Prelude.{◌≡◌, ◌++◌, IfOk, OnOk, map};
 ghost use Rattle.std.specs.List.{flat_map, list_any};
-ghost use Rattle.cil_syntax.specs.Refusal.{Answers};
+ghost use Rattle.cil_faults.specs.Refusal.{Answers};
 ghost use Rattle.cil_macros.specs.Items.{items_in, namespaces_in};
 ghost use Rattle.cil_names.specs.DeclareRuns.{entry_of_run, is_always, rounds_by, said_by};
 ghost use Rattle.cil_names.specs.Entries.{AreEntries};
@@ -13,8 +13,8 @@ use crate::entry::Entry;
 use crate::names::Names;
 use crate::row::{Row, rows_of};
 use crate::run::{Run, runs_of, sorted_rows};
+use cil_base::NoMemory;
 use cil_macros::Instances;
-use cil_modset::NoMemory;
 use cil_syntax::{Excerpt, Failure, refuse};
 use std::alloc::Global;
 

@@ -3,11 +3,11 @@
 ghost use Rattle.std.specs.Prelude.{◌≡◌, ◌<◌, ◌++◌, [], ◌∷◌, List, OnOk, IfOk, IfSome, Some, length, map, true};
 ghost use Rattle.std.specs.List.{list_any};
 ghost use Rattle.std.specs.List.Sorted.{IsStrictlySortedBy};
-ghost use Rattle.cil_sexpr.specs.Lists.{text_cmp};
-ghost use Rattle.cil_syntax.specs.declared.code.FaultCode.TheVariants as causes;
+ghost use Rattle.cil_base.specs.Lists.{text_cmp};
+ghost use Rattle.cil_faults.specs.declared.code.FaultCode.TheVariants as causes;
 ghost use Rattle.cil_syntax.specs.Said.{all_said, said_of};
 ghost use Rattle.cil_syntax.specs.Spelling.{same_bytes};
-ghost use Rattle.cil_syntax.specs.Reported.{fault_at};
+ghost use Rattle.cil_faults.specs.Reported.{fault_at};
 ghost use Rattle.cil_macros.specs.Calls.{is_call};
 ghost use Rattle.cil_macros.specs.Item.{Item, all_words_in, words_in};
 ghost use Rattle.cil_syntax.specs.Scopes.{ScopedWord};
@@ -19,9 +19,9 @@ use crate::meaning::Meaning;
 use crate::permission_word::{class_named, is_listed, permissions_at};
 use crate::reading::{is_call, says_as_written};
 use crate::table::Filling;
+use cil_base::NoMemory;
 use cil_blocks::spelled::spelled;
 use cil_macros::PlacedWord;
-use cil_modset::NoMemory;
 use cil_syntax::{Bytes, Fault, FaultCode, Term, push_fault_in, word_and_terms};
 
 /// A check of the words of a placed statement, while their meanings are noted.
@@ -145,7 +145,7 @@ impl<'r, 's, 'p, 'a> Judge<'r, 's, 'p, 'a> {
         ensures { OnOk result (faults.new.items ≡ faults.old.items ++ fault_at causes.Unresolved word.now.word.at (space_in self.now) word.now.word.bytes ∷ []) }
     {
         let alloc = self.filling.alloc;
-        let space = spelled(alloc, self.filling.lookup.spaces, self.space)?;
+        let space = spelled(alloc, self.filling.lookup.namespaces, self.space)?;
         let bytes = word.word.bytes.as_slice();
         push_fault_in(
             alloc,
@@ -215,13 +215,13 @@ impl<'r, 's, 'p, 'a> Judge<'r, 's, 'p, 'a> {
             → (w : ScopedWord) → list_any (same_bytes w.bytes) listed.now ≡ resolves xs (enabled_in self.now) (APermission (scoped_in self.now class.now) w)) }
     {
         let lookup = &self.filling.lookup;
-        lookup.spaces.are_namespaces();
+        lookup.namespaces.are_namespaces();
         let entries = lookup.names.entries();
         if entries[d].always {
             return Ok(permissions_at(entries, self.permissions, d));
         }
         let scope = self.filling.reading.scope_of(self.filling.alloc, class)?;
-        let Some(outside) = class_named(lookup.spaces, entries, &class.word, scope.as_slice())
+        let Some(outside) = class_named(lookup.namespaces, entries, &class.word, scope.as_slice())
         else {
             return Ok(&[]);
         };

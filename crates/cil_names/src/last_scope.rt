@@ -5,9 +5,9 @@ ghost use Rattle.cil_macros.specs.Items.{all_placed, items_in, namespaces_in, sc
 ghost use Rattle.cil_macros.specs.Walks.{IsScope};
 ghost use Rattle.cil_names.specs.LastScopes.{IsLast};
 
+use cil_base::NoMemory;
 use cil_blocks::ScopeList;
 use cil_macros::Instances;
-use cil_modset::NoMemory;
 use std::alloc::Global;
 
 /// The scope of one of the instances. Statements that stand beside one another have one scope, which is filled once for all of

@@ -19,9 +19,9 @@ use crate::names::Names;
 use crate::permission_word::{Class, class_of, with_permission};
 use crate::reading::Reading;
 use crate::worded::is_worded;
+use cil_base::NoMemory;
 use cil_blocks::ScopeList;
 use cil_macros::{Instances, PlacedWord};
-use cil_modset::NoMemory;
 use cil_syntax::Bytes;
 use std::alloc::Global;
 
@@ -41,9 +41,7 @@ pub fn add_candidates<'r, 'a>(
     requires within { at < length (items_in instances.now) }
     ensures { OnOk result (candidates.new ≡ candidates.old ++ map (wanted_candidates (namespaces_in instances.now) names.now (items_in instances.now)) (words_of (item_at instances.now at))) }
 {
-    let Some(statement) = instances.statement_there(at) else {
-        return Ok(());
-    };
+    let statement = instances.statement_there(at);
     if !is_worded(statement) {
         return Ok(());
     }
@@ -76,9 +74,7 @@ pub fn word_asked<'a>(
     ensures { IfOk result (λ word. MatchOption word (told_at (item_at instances.now at) number ≡ None)
         (λ w. told_at (item_at instances.now at) number ≡ Some (scoped_by (all_placed instances.now) w))) }
 {
-    let Some(statement) = instances.statement_there(at) else {
-        return Ok(None);
-    };
+    let statement = instances.statement_there(at);
     let mut scope = ScopeList::new(alloc);
     instances.scope_into(alloc, Some(at), &mut scope)?;
     let reading = Reading {
@@ -151,9 +147,9 @@ impl Listing<'_, '_, '_, '_> {
         ensures { OnOk result (AddsFor self.now (AWord (scoped_there self.now.reading word.now) ∷ []) candidates.old candidates.new) }
     {
         let scope = self.reading.scope_of(self.alloc, word)?;
-        let spaces = self.reading.instances.namespaces();
+        let namespaces = self.reading.instances.namespaces();
         let entries = self.names.entries();
-        candidates.push_word(spaces, entries, &word.word, scope.as_slice())?;
+        candidates.push_word(namespaces, entries, &word.word, scope.as_slice())?;
         Ok(())
     }
 
@@ -180,10 +176,10 @@ impl Listing<'_, '_, '_, '_> {
         ensures { IfOk result (IsClassFor (spaces_by self.now) self.now.names.now self.now.permissions.now (scoped_there self.now.reading class.now)) }
     {
         let scope = self.reading.scope_of(self.alloc, class)?;
-        let spaces = self.reading.instances.namespaces();
+        let namespaces = self.reading.instances.namespaces();
         let entries = self.names.entries();
         Ok(class_of(
-            spaces,
+            namespaces,
             entries,
             self.permissions,
             &class.word,

@@ -6,23 +6,23 @@ ghost use Rattle.std.specs.List.Sorted.{IsStrictlySortedBy};
 ghost use Rattle.std.specs.Ordering.{on};
 ghost use Rattle.cil_syntax.specs.Scopes.{IsDotless, names_backwards};
 ghost use Rattle.cil_names.specs.Entries.{AreOrdered, HasNoEntry, IsEntryAt, candidate, candidates_of, is_declared_in, is_in, is_known, key_cmp, key_of, listed, scoped};
-ghost use Rattle.cil_names.specs.Found.{IsFound, IsMissing};
+ghost use Rattle.cil_base.specs.Found.{IsFound, IsMissing};
 ghost use Rattle.cil_blocks.specs.Namespaces.{space_at};
 
 use crate::entry::Entry;
 use crate::kinds::{rank_of, rank_wanted, wants};
 use crate::opt_set::{are_set, is_set};
+use cil_base::NoMemory;
 use cil_blocks::Namespaces;
 use cil_macros::asked::{asked_in, asked_scope};
-use cil_modset::NoMemory;
 use cil_syntax::{Path, Sign, Word, path_of};
 use std::alloc::Global;
 
 /// Whether these are numbers of namespaces.
-pub fn are_numbers(spaces: &Namespaces, numbers: &[usize]) -> bool
-    ensures { IsTrue result ↔ All (λ k. k ≤ length spaces.now) numbers.now }
+pub fn are_numbers(namespaces: &Namespaces, numbers: &[usize]) -> bool
+    ensures { IsTrue result ↔ All (λ k. k ≤ length namespaces.now) numbers.now }
 {
-    let most = spaces.len();
+    let most = namespaces.len();
     for number in numbers {
         if *number > most {
             return false;
@@ -61,39 +61,39 @@ pub fn entry_in(entries: &[Entry], space: usize, name: &[u8], sign: Sign) -> Opt
 
 /// The number of the entry that a path could name in a namespace, whatever is enabled.
 fn named_in(
-    spaces: &Namespaces,
+    namespaces: &Namespaces,
     entries: &[Entry],
     from: usize,
     path: &Path,
     sign: Sign,
 ) -> Option<usize>
-    requires entries { AreOrdered spaces.now entries.now }
-    requires within { from ≤ length spaces.now }
+    requires entries { AreOrdered namespaces.now entries.now }
+    requires within { from ≤ length namespaces.now }
     requires dotless { IsTrue path.now.dotless → IsDotless path.now.names.now }
-    ensures { (name : List ℕ) (inner : List (List ℕ)) → names_backwards path.now.names.now ≡ name ∷ inner → result ≡ candidate spaces.now entries.now name sign (inner ++ space_at spaces.now from) }
+    ensures { (name : List ℕ) (inner : List (List ℕ)) → names_backwards path.now.names.now ≡ name ∷ inner → result ≡ candidate namespaces.now entries.now name sign (inner ++ space_at namespaces.now from) }
 {
-    spaces.are_namespaces();
+    namespaces.are_namespaces();
     if path.dotless {
         return entry_in(entries, from, path.names, sign);
     }
-    let place = asked_in(spaces, from, path.names)?;
+    let place = asked_in(namespaces, from, path.names)?;
     entry_in(entries, place.space, place.name, sign)
 }
 
 /// The numbers of the entries that a word could name, whatever is enabled, in the order of its scope.
 pub fn candidates(
     alloc: Global,
-    spaces: &Namespaces,
+    namespaces: &Namespaces,
     entries: &[Entry],
     word: &Word,
     scope: &[usize],
 ) -> Result<Vec<usize>, NoMemory>
-    requires entries { AreOrdered spaces.now entries.now }
-    requires within { All (λ k. k ≤ length spaces.now) scope.now }
-    ensures { IfOk result (λ ds. ds.items ≡ candidates_of spaces.now entries.now (scoped spaces.now scope.now word.now)) }
+    requires entries { AreOrdered namespaces.now entries.now }
+    requires within { All (λ k. k ≤ length namespaces.now) scope.now }
+    ensures { IfOk result (λ ds. ds.items ≡ candidates_of namespaces.now entries.now (scoped namespaces.now scope.now word.now)) }
 {
     let mut found = Vec::new(alloc);
-    push_candidates(&mut found, spaces, entries, word, scope)?;
+    push_candidates(&mut found, namespaces, entries, word, scope)?;
     Ok(found)
 }
 
@@ -101,14 +101,14 @@ pub fn candidates(
 /// no kind, as a permission, costs nothing.
 pub fn push_candidates(
     found: &mut Vec<usize>,
-    spaces: &Namespaces,
+    namespaces: &Namespaces,
     entries: &[Entry],
     word: &Word,
     scope: &[usize],
 ) -> Result<(), NoMemory>
-    requires entries { AreOrdered spaces.now entries.now }
-    requires within { All (λ k. k ≤ length spaces.now) scope.now }
-    ensures found { OnOk result (found.new.items ≡ found.old.items ++ candidates_of spaces.now entries.now (scoped spaces.now scope.now word.now)) }
+    requires entries { AreOrdered namespaces.now entries.now }
+    requires within { All (λ k. k ≤ length namespaces.now) scope.now }
+    ensures found { OnOk result (found.new.items ≡ found.old.items ++ candidates_of namespaces.now entries.now (scoped namespaces.now scope.now word.now)) }
     ensures none_lost { length found.old.items ≤ length found.new.items }
 {
     let Some(_rank) = rank_wanted(word.sign) else {
@@ -116,7 +116,10 @@ pub fn push_candidates(
     };
     let path = path_of(word.bytes.as_slice());
     for from in asked_scope(path.global, scope) {
-        push_listed(found, named_in(spaces, entries, *from, &path, word.sign))?;
+        push_listed(
+            found,
+            named_in(namespaces, entries, *from, &path, word.sign),
+        )?;
     }
     Ok(())
 }
@@ -134,7 +137,7 @@ pub fn push_listed(found: &mut Vec<usize>, named: Option<usize>) -> Result<(), N
 
 /// How it is known which entries are declared.
 #[derive(Clone, Copy)]
-pub enum Known<'r> {
+pub enum KnownBy<'r> {
     /// By the flags of the optionals that are enabled. It costs a step for each statement that declares an entry, until
     /// one is enabled.
     Enabled(&'r [bool]),
@@ -145,22 +148,22 @@ pub enum Known<'r> {
 /// The number of the entry that a word names: the first that it could name and that is declared. A word that wants no kind,
 /// as a permission, costs nothing.
 pub fn resolve(
-    spaces: &Namespaces,
+    namespaces: &Namespaces,
     entries: &[Entry],
-    known: Known<'_>,
+    known: KnownBy<'_>,
     word: &Word,
     scope: &[usize],
 ) -> Option<usize>
-    requires entries { AreOrdered spaces.now entries.now }
-    requires within { All (λ k. k ≤ length spaces.now) scope.now }
-    ensures { result ≡ find (is_known known.entry entries.now) (candidates_of spaces.now entries.now (scoped spaces.now scope.now word.now)) }
+    requires entries { AreOrdered namespaces.now entries.now }
+    requires within { All (λ k. k ≤ length namespaces.now) scope.now }
+    ensures { result ≡ find (is_known known.entry entries.now) (candidates_of namespaces.now entries.now (scoped namespaces.now scope.now word.now)) }
 {
     let Some(_rank) = rank_wanted(word.sign) else {
         return None;
     };
     let path = path_of(word.bytes.as_slice());
     for from in asked_scope(path.global, scope) {
-        let named = named_in(spaces, entries, *from, &path, word.sign);
+        let named = named_in(namespaces, entries, *from, &path, word.sign);
         let declared = where_declared(known, entries, named);
         if declared.is_some() {
             return declared;
@@ -202,12 +205,12 @@ fn has_one(enabled: &[bool], rounds: &[Vec<usize>]) -> bool
 }
 
 /// Whether the entry of this number is declared.
-fn has_declared(known: Known<'_>, entries: &[Entry], d: usize) -> bool
+fn has_declared(known: KnownBy<'_>, entries: &[Entry], d: usize) -> bool
     ensures { result ≡ is_known known.entry entries.now d }
 {
     match known {
-        Known::Flagged(flags) => is_set(flags, d),
-        Known::Enabled(enabled) => match entries.get(d) {
+        KnownBy::Flagged(flags) => is_set(flags, d),
+        KnownBy::Enabled(enabled) => match entries.get(d) {
             Some(entry) => is_declared(enabled, entry),
             None => false,
         },
@@ -215,7 +218,7 @@ fn has_declared(known: Known<'_>, entries: &[Entry], d: usize) -> bool
 }
 
 /// The number, where its entry is declared.
-fn where_declared(known: Known<'_>, entries: &[Entry], named: Option<usize>) -> Option<usize>
+fn where_declared(known: KnownBy<'_>, entries: &[Entry], named: Option<usize>) -> Option<usize>
     ensures { result ≡ find (is_known known.entry entries.now) (listed named) }
 {
     let d = named?;

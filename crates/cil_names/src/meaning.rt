@@ -1,6 +1,6 @@
 //! What a word means.
 
-use cil_modset::NoMemory;
+use cil_base::NoMemory;
 use std::marker::Model;
 
 /// How many entries can be told apart.

@@ -4,8 +4,8 @@ ghost use Rattle.std.specs.Prelude.{◌≡◌, ◌↔◌, ◌≤◌, ◌<◌, �
 ghost use Rattle.std.specs.Global.{Vec as Vector};
 ghost use Rattle.std.specs.List.Sorted.{IsStrictlySortedBy};
 ghost use Rattle.std.specs.Ordering.{on};
-ghost use Rattle.cil_sexpr.specs.Lists.{text_cmp};
-ghost use Rattle.cil_syntax.specs.declared.fault.Bytes.{Bytes as Text};
+ghost use Rattle.cil_base.specs.Lists.{text_cmp};
+ghost use Rattle.cil_base.specs.declared.bytes.Bytes.{Bytes as Text};
 ghost use Rattle.cil_names.specs.declared.entry.Entry.{Entry};
 ghost use Rattle.cil_names.specs.Entries.{AreEntries, AreOrdered, HasNoEntryIn, IsAnswer, IsEntryIn, candidates_of, is_declared_at, is_in, key_cmp, key_of, listed, scoped};
 ghost use Rattle.cil_macros.specs.Item.{Item, OptSet as OptionalSet};
@@ -16,11 +16,11 @@ ghost use Rattle.cil_names.specs.Unresolved.{ArePermissions};
 
 use crate::entry::Entry;
 use crate::kinds::rank_of;
-use crate::look::{self, Known};
+use crate::look::{self, KnownBy};
 use crate::opt_set::OptSet;
 use crate::permission_word::class_with;
+use cil_base::NoMemory;
 use cil_blocks::Namespaces;
-use cil_modset::NoMemory;
 use cil_syntax::{Bytes, Sign, Word};
 use std::alloc::Global;
 use std::marker::Model;
@@ -48,10 +48,9 @@ impl<'a> Model for Names<'a> {
 
 impl<'a> Names<'a> {
     ghost use Rattle.std.specs.Prelude.{◌≡◌, MatchOption};
-    ghost use Rattle.cil_names.specs.Entries.{AreOrdered};
+    ghost use Rattle.cil_names.specs.Entries.{AreOrdered, key_cmp, key_of};
     ghost use Rattle.std.specs.List.Sorted.{IsStrictlySortedBy};
     ghost use Rattle.std.specs.Ordering.{on};
-    ghost use Rattle.cil_names.specs.Entries.{key_cmp, key_of};
 
     /// These entries.
     pub fn of(entries: Vec<Entry<'a>>) -> Names<'a>
@@ -62,14 +61,14 @@ impl<'a> Names<'a> {
     }
 
     /// These entries; none where they do not rise, or one is in none of the namespaces.
-    pub fn checked(spaces: &Namespaces, entries: Vec<Entry<'a>>) -> Option<Names<'a>>
-        ensures { MatchOption result (AreOrdered spaces.now entries.entry.items → ⊥)
-            (λ names. (names ≡ entries.entry.items) × AreOrdered spaces.now names) }
+    pub fn checked(namespaces: &Namespaces, entries: Vec<Entry<'a>>) -> Option<Names<'a>>
+        ensures { MatchOption result (AreOrdered namespaces.now entries.entry.items → ⊥)
+            (λ names. (names ≡ entries.entry.items) × AreOrdered namespaces.now names) }
     {
         if !rise(entries.as_slice()) {
             return None;
         }
-        if !are_within(spaces, entries.as_slice()) {
+        if !are_within(namespaces, entries.as_slice()) {
             return None;
         }
         Some(Names { entries })
@@ -85,12 +84,18 @@ impl<'a> Names<'a> {
 
     /// The number of the entry of a wanted kind under this name in the namespace of this number, whatever is enabled. It
     /// costs one search by halving.
-    pub fn entry(&self, spaces: &Namespaces, space: usize, name: &[u8], sign: Sign) -> Option<usize>
-        requires ordered { AreOrdered spaces.now self.now }
-        requires within { space ≤ length spaces.now }
-        ensures { MatchOption result (HasNoEntryIn spaces.now self.now name.now sign (space_at spaces.now space)) (IsEntryIn spaces.now self.now name.now sign (space_at spaces.now space)) }
+    pub fn entry(
+        &self,
+        namespaces: &Namespaces,
+        space: usize,
+        name: &[u8],
+        sign: Sign,
+    ) -> Option<usize>
+        requires ordered { AreOrdered namespaces.now self.now }
+        requires within { space ≤ length namespaces.now }
+        ensures { MatchOption result (HasNoEntryIn namespaces.now self.now name.now sign (space_at namespaces.now space)) (IsEntryIn namespaces.now self.now name.now sign (space_at namespaces.now space)) }
     {
-        spaces.are_namespaces();
+        namespaces.are_namespaces();
         look::entry_in(self.entries.as_slice(), space, name, sign)
     }
 
@@ -99,38 +104,38 @@ impl<'a> Names<'a> {
     pub fn candidates(
         &self,
         alloc: Global,
-        spaces: &Namespaces,
+        namespaces: &Namespaces,
         word: &Word,
         scope: &[usize],
     ) -> Result<Vec<usize>, NoMemory>
-        requires ordered { AreOrdered spaces.now self.now }
-        requires within { All (λ k. k ≤ length spaces.now) scope.now }
-        ensures { IfOk result (λ ds. ds.items ≡ candidates_of spaces.now self.now (scoped spaces.now scope.now word.now)) }
+        requires ordered { AreOrdered namespaces.now self.now }
+        requires within { All (λ k. k ≤ length namespaces.now) scope.now }
+        ensures { IfOk result (λ ds. ds.items ≡ candidates_of namespaces.now self.now (scoped namespaces.now scope.now word.now)) }
     {
-        look::candidates(alloc, spaces, self.entries.as_slice(), word, scope)
+        look::candidates(alloc, namespaces, self.entries.as_slice(), word, scope)
     }
 
     /// The number of the entry that a word names in a scope where these optionals are enabled. It costs what
     /// `candidates` costs, and takes no memory.
     pub fn resolve(
         &self,
-        spaces: &Namespaces,
+        namespaces: &Namespaces,
         word: &Word,
         scope: &[usize],
         enabled: &OptSet,
     ) -> Option<usize>
-        requires ordered { AreOrdered spaces.now self.now }
-        requires within { All (λ k. k ≤ length spaces.now) scope.now }
-        ensures first { result ≡ find (is_declared_at (is_in enabled.now) self.now) (candidates_of spaces.now self.now (scoped spaces.now scope.now word.now)) }
+        requires ordered { AreOrdered namespaces.now self.now }
+        requires within { All (λ k. k ≤ length namespaces.now) scope.now }
+        ensures first { result ≡ find (is_declared_at (is_in enabled.now) self.now) (candidates_of namespaces.now self.now (scoped namespaces.now scope.now word.now)) }
         ensures within { IfSome result (λ d. d < length self.now) }
         // Where these are the declared names of some instances, it is what the word names among them.
-        ensures names { (xs : List Item) → AreEntries spaces.now xs self.now → IsAnswer spaces.now xs self.now (is_in enabled.now) (scoped spaces.now scope.now word.now) result }
+        ensures names { (xs : List Item) → AreEntries namespaces.now xs self.now → IsAnswer namespaces.now xs self.now (is_in enabled.now) (scoped namespaces.now scope.now word.now) result }
     {
-        spaces.are_namespaces();
+        namespaces.are_namespaces();
         look::resolve(
-            spaces,
+            namespaces,
             self.entries.as_slice(),
-            Known::Enabled(enabled.as_slice()),
+            KnownBy::Enabled(enabled.as_slice()),
             word,
             scope,
         )
@@ -142,26 +147,26 @@ impl<'a> Names<'a> {
     /// by halving; it takes no memory.
     pub fn resolve_permission(
         &self,
-        spaces: &Namespaces,
+        namespaces: &Namespaces,
         permissions: &[Vec<Bytes>],
         class: &Word,
         permission: &Word,
         scope: &[usize],
     ) -> Option<usize>
-        requires ordered { AreOrdered spaces.now self.now }
+        requires ordered { AreOrdered namespaces.now self.now }
         requires sorted { (v : Vector Text) → Contains permissions.now v → IsStrictlySortedBy text_cmp v.items }
-        requires within { All (λ k. k ≤ length spaces.now) scope.now }
+        requires within { All (λ k. k ≤ length namespaces.now) scope.now }
         ensures within { IfSome result (λ d. d < length self.now) }
         // Where these are the declared names of some instances, and the permissions of their classes, it is what the
         // permission could name and what it names.
-        ensures candidate { (xs : List Item) → AreEntries spaces.now xs self.now → ArePermissions spaces.now self.now xs permissions.now
-            → listed result ≡ wanted_candidates spaces.now self.now xs (Permission (scoped spaces.now scope.now class.now) (scoped spaces.now scope.now permission.now)) }
-        ensures names { (xs : List Item) (s : OptionalSet) → AreEntries spaces.now xs self.now → ArePermissions spaces.now self.now xs permissions.now
-            → IsAnswerFor spaces.now xs self.now s (Permission (scoped spaces.now scope.now class.now) (scoped spaces.now scope.now permission.now)) result }
+        ensures candidate { (xs : List Item) → AreEntries namespaces.now xs self.now → ArePermissions namespaces.now self.now xs permissions.now
+            → listed result ≡ wanted_candidates namespaces.now self.now xs (Permission (scoped namespaces.now scope.now class.now) (scoped namespaces.now scope.now permission.now)) }
+        ensures names { (xs : List Item) (s : OptionalSet) → AreEntries namespaces.now xs self.now → ArePermissions namespaces.now self.now xs permissions.now
+            → IsAnswerFor namespaces.now xs self.now s (Permission (scoped namespaces.now scope.now class.now) (scoped namespaces.now scope.now permission.now)) result }
     {
-        spaces.are_namespaces();
+        namespaces.are_namespaces();
         class_with(
-            spaces,
+            namespaces,
             self.entries(),
             permissions,
             class,
@@ -185,10 +190,10 @@ fn rise(entries: &[Entry]) -> bool
 }
 
 /// Whether each entry is in one of the namespaces.
-fn are_within(spaces: &Namespaces, entries: &[Entry]) -> bool
-    ensures { IsTrue result ↔ ((i : ℕ) (e : Entry) → slice_get entries.now i ≡ Some e → e.space ≤ length spaces.now) }
+fn are_within(namespaces: &Namespaces, entries: &[Entry]) -> bool
+    ensures { IsTrue result ↔ ((i : ℕ) (e : Entry) → slice_get entries.now i ≡ Some e → e.space ≤ length namespaces.now) }
 {
-    let most = spaces.len();
+    let most = namespaces.len();
     for entry in entries {
         if entry.space > most {
             return false;

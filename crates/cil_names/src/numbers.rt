@@ -3,7 +3,7 @@
 ghost use Rattle.std.specs.Prelude.{◌≡◌, ◌++◌, ◌∷◌, [], ◌↔◌, Contains, IfOk, IsTrue, OnOk, map, length, ◌≤◌, true};
 ghost use Rattle.std.specs.List.{flat_map};
 ghost use Rattle.std.specs.List.Sorted.{IsStrictlySortedBy};
-ghost use Rattle.cil_sexpr.specs.Lists.{Lists, text_cmp};
+ghost use Rattle.cil_base.specs.Lists.{Lists, text_cmp};
 ghost use Rattle.cil_syntax.specs.declared.kind.Kind as kinds;
 ghost use Rattle.cil_syntax.specs.Spelling.{same_bytes};
 ghost use Rattle.cil_names.specs.Entries.{AreOrdered, is_in, place_where};
@@ -13,8 +13,8 @@ use crate::entry::Entry;
 use crate::opt_set::OptSet;
 use crate::spelled::spelled;
 use crate::table::Lookup;
+use cil_base::NoMemory;
 use cil_blocks::Namespaces;
-use cil_modset::NoMemory;
 use cil_syntax::{Bytes, Kind};
 use std::alloc::Global;
 
@@ -42,35 +42,35 @@ pub struct Numbering {
 
 /// Numbers the declared symbols. It costs a sort of the names of each kind, and a search by halving for each entry.
 pub fn numbered(alloc: Global, lookup: &Lookup) -> Result<Numbering, NoMemory>
-    requires { AreOrdered lookup.now.spaces.now lookup.now.names.now }
-    ensures numbers { IfOk result (λ n. AreNumbers lookup.now.spaces.now lookup.now.names.now (is_in lookup.now.enabled.now) (names_of n.sections) n.numbers.items) }
+    requires { AreOrdered lookup.now.namespaces.now lookup.now.names.now }
+    ensures numbers { IfOk result (λ n. AreNumbers lookup.now.namespaces.now lookup.now.names.now (is_in lookup.now.enabled.now) (names_of n.sections) n.numbers.items) }
     // A number for each entry, by its place.
-    ensures all { IfOk result (λ n. n.numbers.items ≡ map (λ e. place_in (names_of n.sections e.kind) (spelled_of lookup.now.spaces.now e)) lookup.now.names.now) }
+    ensures all { IfOk result (λ n. n.numbers.items ≡ map (λ e. place_in (names_of n.sections e.kind) (spelled_of lookup.now.namespaces.now e)) lookup.now.names.now) }
     // Where no name has a dot, two symbols of one kind have two numbers.
-    ensures apart { IfOk result (λ n. ArePlainNames lookup.now.spaces.now lookup.now.names.now → AreApart lookup.now.names.now (is_in lookup.now.enabled.now) n.numbers.items) }
+    ensures apart { IfOk result (λ n. ArePlainNames lookup.now.namespaces.now lookup.now.names.now → AreApart lookup.now.names.now (is_in lookup.now.enabled.now) n.numbers.items) }
 {
-    let spaces = lookup.spaces;
-    spaces.are_namespaces();
+    let namespaces = lookup.namespaces;
+    namespaces.are_namespaces();
     let entries = lookup.names.entries();
-    let sections = sections_of(alloc, spaces, entries, lookup.enabled)?;
-    let numbers = numbers_of(alloc, spaces, entries, &sections)?;
+    let sections = sections_of(alloc, namespaces, entries, lookup.enabled)?;
+    let numbers = numbers_of(alloc, namespaces, entries, &sections)?;
     Ok(Numbering { sections, numbers })
 }
 
 /// The names of all sections.
 fn sections_of(
     alloc: Global,
-    spaces: &Namespaces,
+    namespaces: &Namespaces,
     entries: &[Entry],
     enabled: &OptSet,
 ) -> Result<Sections, NoMemory>
-    requires { AreOrdered spaces.now entries.now }
-    ensures { IfOk result (λ n. (kind : kinds.Kind) → has_section kind ≡ true → Lists text_cmp (IsNameAmong spaces.now entries.now (is_in enabled.now) kind) (names_of n kind)) }
+    requires { AreOrdered namespaces.now entries.now }
+    ensures { IfOk result (λ n. (kind : kinds.Kind) → has_section kind ≡ true → Lists text_cmp (IsNameAmong namespaces.now entries.now (is_in enabled.now) kind) (names_of n kind)) }
 {
-    let users = section_of(alloc, spaces, entries, enabled, Kind::User)?;
-    let roles = section_of(alloc, spaces, entries, enabled, Kind::Role)?;
-    let types = section_of(alloc, spaces, entries, enabled, Kind::Type_)?;
-    let classes = section_of(alloc, spaces, entries, enabled, Kind::Class)?;
+    let users = section_of(alloc, namespaces, entries, enabled, Kind::User)?;
+    let roles = section_of(alloc, namespaces, entries, enabled, Kind::Role)?;
+    let types = section_of(alloc, namespaces, entries, enabled, Kind::Type_)?;
+    let classes = section_of(alloc, namespaces, entries, enabled, Kind::Class)?;
     Ok(Sections {
         users,
         roles,
@@ -82,15 +82,15 @@ fn sections_of(
 /// The names of the declared symbols of one kind, in byte order, each once.
 fn section_of(
     alloc: Global,
-    spaces: &Namespaces,
+    namespaces: &Namespaces,
     entries: &[Entry],
     enabled: &OptSet,
     kind: Kind,
 ) -> Result<Vec<Bytes>, NoMemory>
-    requires { AreOrdered spaces.now entries.now }
-    ensures { IfOk result (λ names. Lists text_cmp (IsNameAmong spaces.now entries.now (is_in enabled.now) kind) names.items) }
+    requires { AreOrdered namespaces.now entries.now }
+    ensures { IfOk result (λ names. Lists text_cmp (IsNameAmong namespaces.now entries.now (is_in enabled.now) kind) names.items) }
 {
-    let mut names = given(alloc, spaces, entries, enabled, kind)?;
+    let mut names = given(alloc, namespaces, entries, enabled, kind)?;
     names.sort_unstable();
     names.dedup();
     Ok(names)
@@ -99,18 +99,18 @@ fn section_of(
 /// The names of the declared symbols of one kind, as they come.
 fn given(
     alloc: Global,
-    spaces: &Namespaces,
+    namespaces: &Namespaces,
     entries: &[Entry],
     enabled: &OptSet,
     kind: Kind,
 ) -> Result<Vec<Bytes>, NoMemory>
-    requires { AreOrdered spaces.now entries.now }
-    ensures { IfOk result (λ names. names.items ≡ flat_map (name_given spaces.now (is_in enabled.now) kind) entries.now) }
+    requires { AreOrdered namespaces.now entries.now }
+    ensures { IfOk result (λ names. names.items ≡ flat_map (name_given namespaces.now (is_in enabled.now) kind) entries.now) }
 {
     let mut names = Vec::new(alloc);
     for entry in entries {
         if entry.is_declared_as(kind, enabled) {
-            push_name(alloc, &mut names, spaces, entry)?;
+            push_name(alloc, &mut names, namespaces, entry)?;
         }
     }
     Ok(names)
@@ -120,30 +120,30 @@ fn given(
 fn push_name(
     alloc: Global,
     names: &mut Vec<Bytes>,
-    spaces: &Namespaces,
+    namespaces: &Namespaces,
     entry: &Entry,
 ) -> Result<(), NoMemory>
-    requires { entry.now.space ≤ length spaces.now }
-    ensures { OnOk result (names.new.items ≡ names.old.items ++ spelled_of spaces.now entry.now ∷ []) }
+    requires { entry.now.space ≤ length namespaces.now }
+    ensures { OnOk result (names.new.items ≡ names.old.items ++ spelled_of namespaces.now entry.now ∷ []) }
 {
-    names.push(spelled(alloc, spaces, entry.space, entry.name.as_slice())?)?;
+    names.push(spelled(alloc, namespaces, entry.space, entry.name.as_slice())?)?;
     Ok(())
 }
 
 /// The place of the name of each entry in the section of its kind.
 fn numbers_of(
     alloc: Global,
-    spaces: &Namespaces,
+    namespaces: &Namespaces,
     entries: &[Entry],
     sections: &Sections,
 ) -> Result<Vec<usize>, NoMemory>
-    requires ordered { AreOrdered spaces.now entries.now }
+    requires ordered { AreOrdered namespaces.now entries.now }
     requires rising { (kind : kinds.Kind) → IsStrictlySortedBy text_cmp (names_of sections.now kind) }
-    ensures { IfOk result (λ numbers. numbers.items ≡ map (λ e. place_in (names_of sections.now e.kind) (spelled_of spaces.now e)) entries.now) }
+    ensures { IfOk result (λ numbers. numbers.items ≡ map (λ e. place_in (names_of sections.now e.kind) (spelled_of namespaces.now e)) entries.now) }
 {
     let mut numbers = Vec::new(alloc);
     for entry in entries {
-        let name = spelled(alloc, spaces, entry.space, entry.name.as_slice())?;
+        let name = spelled(alloc, namespaces, entry.space, entry.name.as_slice())?;
         numbers.push(place_of(sections.names(entry.kind), name.as_slice()))?;
     }
     Ok(numbers)

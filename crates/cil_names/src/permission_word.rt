@@ -5,8 +5,8 @@ ghost use Rattle.std.specs.Global.{Vec as Vector};
 ghost use Rattle.std.specs.List.{list_any};
 ghost use Rattle.std.specs.List.Sorted.{IsStrictlySortedBy};
 ghost use Rattle.std.specs.Ordering.{on};
-ghost use Rattle.cil_sexpr.specs.Lists.{text_cmp};
-ghost use Rattle.cil_syntax.specs.declared.fault.Bytes.{Bytes as Text};
+ghost use Rattle.cil_base.specs.Lists.{text_cmp};
+ghost use Rattle.cil_base.specs.declared.bytes.Bytes.{Bytes as Text};
 ghost use Rattle.cil_syntax.specs.Spelling.{same_bytes};
 ghost use Rattle.cil_blocks.specs.declared.namespaces.Space.{Space};
 ghost use Rattle.cil_syntax.specs.Scopes.{ScopedWord};
@@ -21,7 +21,7 @@ ghost use Rattle.cil_names.specs.Unresolved.{ArePermissions, listed_at as listed
 
 use crate::entry::Entry;
 use crate::kinds::wants;
-use crate::look::{Known, entry_in, resolve};
+use crate::look::{KnownBy, entry_in, resolve};
 use crate::numbers::place_among;
 use cil_blocks::Namespaces;
 use cil_syntax::{Bytes, Sign, Word};
@@ -29,17 +29,17 @@ use cil_syntax::{Bytes, Sign, Word};
 /// The number of the class or class map that a class word names. Classes do not hang on optionals, so the word is looked
 /// up where none is enabled.
 pub fn class_named(
-    spaces: &Namespaces,
+    namespaces: &Namespaces,
     entries: &[Entry],
     class: &Word,
     scope: &[usize],
 ) -> Option<usize>
-    requires entries { AreOrdered spaces.now entries.now }
-    requires within { All (λ k. k ≤ length spaces.now) scope.now }
-    ensures value { result ≡ meant spaces.now entries.now nobody (scoped spaces.now scope.now class.now) }
+    requires entries { AreOrdered namespaces.now entries.now }
+    requires within { All (λ k. k ≤ length namespaces.now) scope.now }
+    ensures value { result ≡ meant namespaces.now entries.now nobody (scoped namespaces.now scope.now class.now) }
     ensures within { IfSome result (λ d. d < length entries.now) }
 {
-    resolve(spaces, entries, Known::Enabled(&[]), class, scope)
+    resolve(namespaces, entries, KnownBy::Enabled(&[]), class, scope)
 }
 
 /// The permissions of the class that has the name of an entry, in byte order; none where no class has it. They are given
@@ -93,19 +93,19 @@ pub struct Class<'s> {
 
 /// The class or class map that a class word names, with its permissions.
 pub fn class_of<'s>(
-    spaces: &Namespaces,
+    namespaces: &Namespaces,
     entries: &[Entry],
     permissions: &'s [Vec<Bytes>],
     class: &Word,
     scope: &[usize],
 ) -> Option<Class<'s>>
-    requires entries { AreOrdered spaces.now entries.now }
+    requires entries { AreOrdered namespaces.now entries.now }
     requires sorted { (v : Vector Text) → Contains permissions.now v → IsStrictlySortedBy text_cmp v.items }
-    requires within { All (λ k. k ≤ length spaces.now) scope.now }
-    ensures { IsClassFor spaces.now entries.now permissions.now (scoped spaces.now scope.now class.now) result }
+    requires within { All (λ k. k ≤ length namespaces.now) scope.now }
+    ensures { IsClassFor namespaces.now entries.now permissions.now (scoped namespaces.now scope.now class.now) result }
 {
-    spaces.are_namespaces();
-    let entry = class_named(spaces, entries, class, scope)?;
+    namespaces.are_namespaces();
+    let entry = class_named(namespaces, entries, class, scope)?;
     Some(Class {
         entry,
         permissions: permissions_at(entries, permissions, entry),
@@ -128,20 +128,20 @@ pub fn with_permission(class: Option<Class>, permission: &[u8]) -> Option<usize>
 
 /// The number of the class or class map that a permission word names.
 pub fn class_with(
-    spaces: &Namespaces,
+    namespaces: &Namespaces,
     entries: &[Entry],
     permissions: &[Vec<Bytes>],
     class: &Word,
     permission: &Word,
     scope: &[usize],
 ) -> Option<usize>
-    requires entries { AreOrdered spaces.now entries.now }
+    requires entries { AreOrdered namespaces.now entries.now }
     requires sorted { (v : Vector Text) → Contains permissions.now v → IsStrictlySortedBy text_cmp v.items }
-    requires within { All (λ k. k ≤ length spaces.now) scope.now }
-    ensures value { (xs : List Item) → AreEntries spaces.now xs entries.now → ArePermissions spaces.now entries.now xs permissions.now
-        → result ≡ the_class_with spaces.now entries.now xs (scoped spaces.now scope.now class.now) (scoped spaces.now scope.now permission.now) }
+    requires within { All (λ k. k ≤ length namespaces.now) scope.now }
+    ensures value { (xs : List Item) → AreEntries namespaces.now xs entries.now → ArePermissions namespaces.now entries.now xs permissions.now
+        → result ≡ the_class_with namespaces.now entries.now xs (scoped namespaces.now scope.now class.now) (scoped namespaces.now scope.now permission.now) }
     ensures within { IfSome result (λ d. d < length entries.now) }
 {
-    let found = class_of(spaces, entries, permissions, class, scope);
+    let found = class_of(namespaces, entries, permissions, class, scope);
     with_permission(found, permission.bytes.as_slice())
 }

@@ -3,7 +3,7 @@
 ghost use Rattle.std.specs.Prelude.{◌≡◌, ◌<◌, ◌↔◌, ◌∷◌, ◌++◌, [], Contains, IfOk, IsTrue, List, None, OnOk, length, map, ℕ};
 ghost use Rattle.std.specs.List.Sorted.{IsStrictlySortedBy};
 ghost use Rattle.std.specs.Ordering.{on};
-ghost use Rattle.cil_sexpr.specs.Lists.{Lists, text_cmp};
+ghost use Rattle.cil_base.specs.Lists.{Lists, text_cmp};
 ghost use Rattle.cil_syntax.specs.Said.{all_said};
 ghost use Rattle.cil_macros.specs.Item.{Item, names_in};
 ghost use Rattle.cil_macros.specs.Items.{item_at, items_in, namespaces_in};
@@ -15,8 +15,8 @@ use crate::entry::Entry;
 use crate::look::entry_in;
 use crate::names::Names;
 use crate::reading::is_at;
+use cil_base::NoMemory;
 use cil_macros::Instances;
-use cil_modset::NoMemory;
 use cil_syntax::{Bytes, Sign, Term};
 use std::alloc::Global;
 use std::mem;
@@ -92,9 +92,7 @@ fn add_listed(
     if !instances.is_outside(at) {
         return Ok(());
     }
-    let Some(statement) = instances.statement_there(at) else {
-        return Ok(());
-    };
+    let statement = instances.statement_there(at);
     let Some(name) = statement.declared_class() else {
         return Ok(());
     };

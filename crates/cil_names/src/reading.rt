@@ -6,9 +6,9 @@ ghost use Rattle.cil_macros.specs.Items.{all_placed, leaves, namespaces_in, says
 ghost use Rattle.cil_macros.specs.Walks.{IsScope};
 ghost use Rattle.cil_names.specs.Readings.{IsReading, item_read, numbers_in, scoped_there, word_read};
 
+use cil_base::NoMemory;
 use cil_blocks::ScopeList;
 use cil_macros::{Instances, PlacedWord};
-use cil_modset::NoMemory;
 use cil_syntax::{Keyword, Statement, Word};
 use std::alloc::Global;
 

@@ -6,8 +6,8 @@ ghost use Rattle.cil_names.specs.DeclareRows.{AreAllRows, AreRowsUpTo, object_ro
 ghost use Rattle.cil_names.specs.Entries.{key_cmp};
 
 use crate::kinds::rank_of;
+use cil_base::NoMemory;
 use cil_macros::Instances;
-use cil_modset::NoMemory;
 use cil_syntax::{Excerpt, Kind};
 use std::alloc::Global;
 use std::cmp::Ordering;
@@ -61,9 +61,7 @@ fn push_rows<'a>(
     requires { at < length (items_in instances.now) }
     ensures { OnOk result (AreRowsUpTo instances.now at rows.old.items → AreRowsUpTo instances.now (at + 1) rows.new.items) }
 {
-    let Some(statement) = instances.statement_there(at) else {
-        return Ok(());
-    };
+    let statement = instances.statement_there(at);
     let Some(kind) = statement.keyword.declares() else {
         return Ok(());
     };

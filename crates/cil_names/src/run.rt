@@ -11,12 +11,12 @@ ghost use Rattle.cil_names.specs.Declarations.{name_space, of_blocks};
 ghost use Rattle.cil_names.specs.Entries.{key_cmp};
 ghost use Rattle.cil_names.specs.Worded.{IsOfStatement, IsWordless};
 
-use crate::content::{Comparison, Reading, is_same_content};
+use crate::content::{Comparison, ReadAt, is_same_content};
 use crate::reading::is_at;
 use crate::row::Row;
 use crate::worded::is_worded;
+use cil_base::NoMemory;
 use cil_macros::Instances;
-use cil_modset::NoMemory;
 use cil_syntax::{Kind, Term};
 use std::alloc::Global;
 
@@ -134,9 +134,7 @@ fn wordless(instances: &Instances, row: &Row) -> Option<usize>
     let Some(at) = row.at else {
         return None;
     };
-    let Some(statement) = instances.statement_there(at) else {
-        return None;
-    };
+    let statement = instances.statement_there(at);
     if is_worded(statement) {
         return None;
     }
@@ -244,7 +242,7 @@ fn is_same_there<'a>(
 /// Terms, and where they are read.
 #[derive(Clone, Copy)]
 struct Content<'t, 'a> {
-    reading: Reading,
+    reading: ReadAt,
     terms: &'t [Term<'a>],
 }
 
@@ -254,25 +252,14 @@ fn behind_name<'p, 'a>(instances: &Instances<'_, 'p, 'a>, at: usize) -> Content<
     ensures there { result.reading.at ≡ at }
     ensures says { content_at instances.now (Some at) ≡ bare_terms result.reading.«module» (word_at instances.now at) result.terms.now }
 {
-    let Some(statement) = instances.statement_there(at) else {
-        return Content {
-            reading: Reading { at, module: 0 },
-            terms: no_terms(),
-        };
-    };
+    let statement = instances.statement_there(at);
     Content {
-        reading: Reading {
+        reading: ReadAt {
             at,
             module: statement.at.module,
         },
         terms: behind_first(statement.args.as_slice()),
     }
-}
-
-fn no_terms<'t, 'a>() -> &'t [Term<'a>]
-    ensures { result.now ≡ [] }
-{
-    &[]
 }
 
 fn behind_first<'t, 'a>(terms: &'t [Term<'a>]) -> &'t [Term<'a>]

@@ -1,30 +1,30 @@
 //! Qualified names: the names of a namespace from the outermost on, and the name of a symbol, joined by dots.
 
 ghost use Rattle.std.specs.Prelude.{◌≡◌, ◌≤◌, ◌∷◌, IfOk, length};
-ghost use Rattle.cil_syntax.specs.Written.{qualified};
+ghost use Rattle.cil_faults.specs.Namespaces.{qualified};
 ghost use Rattle.cil_blocks.specs.Namespaces.{space_at};
 
+use cil_base::NoMemory;
 use cil_blocks::Namespaces;
 use cil_blocks::spelled::spelled as spelled_space;
-use cil_modset::NoMemory;
 use cil_syntax::Bytes;
 use std::alloc::Global;
 
 /// The qualified name of a symbol in the namespace of this number.
 pub fn spelled(
     alloc: Global,
-    spaces: &Namespaces,
+    namespaces: &Namespaces,
     space: usize,
     name: &[u8],
 ) -> Result<Bytes, NoMemory>
-    requires { space ≤ length spaces.now }
-    ensures { IfOk result (λ bytes. bytes ≡ qualified (name.now ∷ space_at spaces.now space)) }
+    requires { space ≤ length namespaces.now }
+    ensures { IfOk result (λ bytes. bytes ≡ qualified (name.now ∷ space_at namespaces.now space)) }
 {
     if space == 0 {
         return Bytes::copy_of(alloc, name);
     }
-    spaces.are_namespaces();
-    let around = spelled_space(alloc, spaces, space)?;
+    namespaces.are_namespaces();
+    let around = spelled_space(alloc, namespaces, space)?;
     let mut bytes = Vec::from_slice(alloc, around.as_slice())?;
     bytes.push(b'.')?;
     bytes.extend_from_slice(name)?;

@@ -9,14 +9,14 @@ ghost use Rattle.cil_names.specs.Readings.{IsFilling, enabled_by, item_read, mea
 ghost use Rattle.cil_names.specs.Rows.{IsTableOf};
 
 use crate::kinds::rank_wanted;
-use crate::look::{Known, resolve};
+use crate::look::{KnownBy, resolve};
 use crate::meaning::Meaning;
 use crate::names::Names;
 use crate::opt_set::OptSet;
 use crate::reading::{Reading, is_call, says_as_written};
+use cil_base::NoMemory;
 use cil_blocks::Namespaces;
 use cil_macros::PlacedWord;
-use cil_modset::NoMemory;
 use cil_syntax::{Term, Word};
 use std::alloc::Global;
 
@@ -24,7 +24,7 @@ use std::alloc::Global;
 #[derive(Clone, Copy)]
 pub struct Lookup<'s, 'a> {
     /// The namespaces.
-    pub spaces: &'s Namespaces<'a>,
+    pub namespaces: &'s Namespaces<'a>,
     /// The declared names.
     pub names: &'s Names<'a>,
     /// The optionals that are enabled.
@@ -115,19 +115,19 @@ impl<'r, 's, 'p, 'a> Filling<'r, 's, 'p, 'a> {
         requires { IsFilling self.now }
         ensures first { IfOk result (λ named. named ≡ meant_by self.now (scoped_there self.now.reading word.now)) }
         ensures within { IfOk result (λ named. IfSome named (λ d. d < length self.now.lookup.names.now)) }
-        ensures names { IfOk result (λ named. (xs : List Item) → AreEntries self.now.lookup.spaces.now xs self.now.lookup.names.now
-            → IsAnswer self.now.lookup.spaces.now xs self.now.lookup.names.now (enabled_by self.now) (scoped_there self.now.reading word.now) named) }
+        ensures names { IfOk result (λ named. (xs : List Item) → AreEntries self.now.lookup.namespaces.now xs self.now.lookup.names.now
+            → IsAnswer self.now.lookup.namespaces.now xs self.now.lookup.names.now (enabled_by self.now) (scoped_there self.now.reading word.now) named) }
     {
         let lookup = &self.lookup;
-        lookup.spaces.are_namespaces();
+        lookup.namespaces.are_namespaces();
         let Some(_rank) = rank_wanted(word.word.sign) else {
             return Ok(None);
         };
         let scope = self.reading.scope_of(self.alloc, word)?;
         let named = resolve(
-            lookup.spaces,
+            lookup.namespaces,
             lookup.names.entries(),
-            Known::Flagged(self.declared),
+            KnownBy::Flagged(self.declared),
             &word.word,
             scope.as_slice(),
         );

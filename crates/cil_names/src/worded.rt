@@ -10,8 +10,8 @@ ghost use Rattle.cil_names.specs.Worded.{AreWorded, has_some, is_worded};
 
 use crate::opt_set::is_set;
 use crate::reading::{is_call, says_as_written};
+use cil_base::NoMemory;
 use cil_macros::Instances;
-use cil_modset::NoMemory;
 use cil_syntax::{Statement, Term};
 use std::alloc::Global;
 

@@ -4,9 +4,10 @@ use Rattle.std.specs.List.{flat_map}
 use Rattle.std.specs.Option.{option_map_or}
 use Rattle.std.proofs.Common.{◌≡◌, ℕ, ◌+◌, ◌<◌, Bool, true, false, ◌&&◌, List, [], ◌∷◌, length, take, refl, sym, ap, ◌∙◌, arith}
 use Rattle.std.proofs.lemmas.List.Sums.{sum_by-cons}
-use Rattle.cil_settle.specs.Counts.{count_append, count_cons, count_flat}
+use Rattle.cil_base.specs.Counts.{count_append, count_cons, count_flat}
 use Rattle.cil_syntax.specs.declared.kind.Sign.{Sign}
-use Rattle.cil_syntax.specs.Scopes.{Namespace, ScopedWord, asked, spaces_asked}
+use Rattle.cil_faults.specs.Namespaces.{Namespace}
+use Rattle.cil_syntax.specs.Scopes.{ScopedWord, asked, spaces_asked}
 use Rattle.cil_blocks.specs.Namespaces.{AreNamespaces}
 use Rattle.cil_blocks.specs.declared.namespaces.Space.{Space}
 use Rattle.cil_macros.specs.Item.{Item, OptSet, everybody, innermost}

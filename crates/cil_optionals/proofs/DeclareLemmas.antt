@@ -1,20 +1,19 @@
 -- Whether a statement declares something, by its keyword and its name.
 use Rattle.std.specs.Prelude.{Contains, None}
 use Rattle.std.proofs.Common.{◌≡◌, ℕ, true, false, List, [], ◌∷◌, refl, sym, ap, subst, ◌∙◌}
-use Rattle.cil_sexpr.specs.Lists.{contains_here}
+use Rattle.cil_base.specs.Lists.{contains_here}
 use Rattle.cil_syntax.specs.declared.kind.Kind.{Kind}
 use Rattle.cil_syntax.specs.declared.program.Statement as rust
-use Rattle.cil_syntax.specs.declared.term.Spot.{Spot}
+use Rattle.cil_faults.specs.declared.spot.Spot.{Spot}
 use Rattle.cil_syntax.specs.Forms.{BeginsWithName, name_in_front}
 use Rattle.cil_syntax.specs.Program.{statement_of}
 use Rattle.cil_syntax.specs.Said.{args_of}
 use Rattle.cil_syntax.specs.Table.{entry_of}
 use Rattle.cil_syntax.specs.Terms.{Name, cons}
-use Rattle.cil_blocks.specs.Entries.{nothing}
 use Rattle.cil_macros.specs.Items.{Kept, item_at, placed_at, says_as_written}
 use Rattle.cil_names.specs.Declarations.{Declaration, declarations, declared_by}
 use Rattle.cil_names.proofs.DeclareRowLemmas.{declares_written, without_kind, without_name}
-use Rattle.cil_names.proofs.DeclareStatements.{begins_there, keyword_there, no_front, nothing_there, there}
+use Rattle.cil_names.proofs.DeclareStatements.{begins_there, keyword_there, no_front, there}
 use Rattle.cil_optionals.specs.Counts.{declares, is_some_of}
 
 -- a list without a member has none
@@ -23,9 +22,6 @@ is_none [] none = refl
 is_none (d ∷ ds) none = absurd (none d (contains_here d ds))
 
 module _ (i : Kept) (k : ℕ) where
-  pub nothing_declares : (placed_at i k).standing.statement ≡ nothing → false ≡ declares (item_at i k)
-  nothing_declares none = is_none (declared_by (item_at i k)) (without_kind (item_at i k) (nothing_there i k none))
-
   module _ (s : rust.Statement) (is : statement_of s ≡ there i k) where
     kinds_there : (entry_of s.keyword).declares ≡ (entry_of (item_at i k).keyword).declares
     kinds_there = ap (λ w. (entry_of w).declares) (keyword_there i k s is)

@@ -4,7 +4,7 @@ use Rattle.std.specs.Prelude.{◌&&◌, ◌||◌, ◌==◌, not, codes, Some, sl
 use Rattle.std.specs.List.{list_all}
 use Rattle.std.proofs.Common.{◌≡◌, ℕ, zero, suc, ◌<◌, Bool, true, false, List, [], ◌∷◌, refl, sym, ◌∙◌, ap, subst, arith}
 use Rattle.std.proofs.lemmas.Bool.Decides.{nat_tests}
-use Rattle.cil_sexpr.specs.Places.{none_some, some_same}
+use Rattle.cil_base.specs.Places.{none_some, some_same}
 use Rattle.cil_syntax.specs.declared.kind.Keyword.{Keyword}
 use Rattle.cil_syntax.specs.declared.kind.Keyword.TheVariants as keywords
 use Rattle.cil_syntax.specs.declared.kind.Sign.{Sign}
@@ -13,7 +13,7 @@ use Rattle.cil_syntax.specs.declared.term.Op.TheVariants as ops
 use Rattle.cil_syntax.specs.Scopes.{ScopedWord}
 use Rattle.cil_syntax.specs.Table.{entry_of}
 use Rattle.cil_syntax.specs.Terms.{Leaf, Name, Form, Terms, nil, cons}
-use Rattle.cil_settle.specs.Among.{among}
+use Rattle.cil_base.specs.Among.{among}
 use Rattle.cil_macros.specs.Item.{Item, OptSet, innermost, nobody, names_in, all_words_in}
 use Rattle.cil_names.specs.Declarations.{nowhere}
 use Rattle.cil_names.specs.Resolves.{Wanted, Word, all_wanted_in, found_in, has, has_permission, resolves, wanted_in, words_of}

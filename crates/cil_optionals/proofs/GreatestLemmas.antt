@@ -2,8 +2,8 @@
 use Rattle.std.specs.Prelude.{◌==◌, not, map}
 use Rattle.std.proofs.Common.{◌≡◌, ℕ, Bool, true, false, ◌&&◌, ◌||◌, List, [], ◌∷◌, refl, sym, subst, ◌∙◌, arith}
 use Rattle.std.proofs.lemmas.Bool.Decides.{nat_tests}
-use Rattle.cil_sexpr.specs.Searches.{same_truth}
-use Rattle.cil_settle.specs.Among.{among}
+use Rattle.cil_base.specs.Searches.{same_truth}
+use Rattle.cil_base.specs.Among.{among}
 use Rattle.cil_macros.specs.Item.{Item, OptSet}
 use Rattle.cil_optionals.specs.declared.reason.Reason.{Reason}
 use Rattle.cil_optionals.specs.declared.reason.Reason.TheVariants.{Missing, ParentOut}

@@ -10,3 +10,5 @@ pub mod RemovalLemmas
 pub mod RemovedLemmas
 pub mod ShownLemmas
 pub mod TimeLemmas
+pub mod LineLemmas
+pub mod ReasonLines

@@ -3,8 +3,8 @@ use Rattle.std.specs.Prelude.{Option, Some, None, slice_get, not, map, cond, is_
 use Rattle.std.specs.List.{list_all}
 use Rattle.std.specs.Option.{option_map_or}
 use Rattle.std.proofs.Common.{◌≡◌, ℕ, Bool, true, false, ◌&&◌, ◌||◌, List, [], ◌∷◌, refl, sym, ap, ◌∙◌, arith}
-use Rattle.cil_sexpr.specs.Places.{get_contains}
-use Rattle.cil_settle.specs.Among.{among, equal_number}
+use Rattle.cil_base.specs.Places.{get_contains}
+use Rattle.cil_base.specs.Among.{among, equal_number}
 use Rattle.cil_blocks.specs.Contents.{is_optional}
 use Rattle.cil_blocks.specs.declared.namespaces.Space.{Space}
 use Rattle.cil_macros.specs.Item.{Item, OptSet, front, innermost}

@@ -1,7 +1,7 @@
 -- One policy, and that of modules without optionals.
 use Rattle.std.specs.Prelude.{Contains}
 use Rattle.std.proofs.Common.{◌≡◌, ℕ, zero, suc, false, List, [], ◌∷◌, map, refl, sym, subst, ◌∙◌}
-use Rattle.cil_sexpr.specs.Lists.{Lists, contains_here, contains_later, one_list}
+use Rattle.cil_base.specs.Lists.{Lists, contains_here, contains_later, one_list}
 use Rattle.cil_syntax.specs.Written.{IsWritten, written_cmp, written_total}
 use Rattle.cil_blocks.specs.Contents.{Stands, is_optional, standing_cmp}
 use Rattle.cil_blocks.proofs.InheritLemmas.{standing_total}

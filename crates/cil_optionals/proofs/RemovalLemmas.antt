@@ -3,8 +3,8 @@ use Rattle.std.specs.Prelude.{Option, Some, None, slice_get, not, map, take, set
 use Rattle.std.proofs.Common.{◌≡◌, ℕ, zero, suc, ◌+◌, Bool, true, false, ◌&&◌, ◌||◌, ◌++◌, List, [], ◌∷◌, refl, sym, subst, ap, ◌∙◌, arith, inl, inr}
 use Rattle.std.proofs.lemmas.Bool.Decides.{nat_tests}
 use Rattle.std.proofs.lemmas.Option.{slice_get_within}
-use Rattle.cil_settle.specs.Among.{among}
-use Rattle.cil_settle.specs.Counts.{count_cons}
+use Rattle.cil_base.specs.Among.{among}
+use Rattle.cil_base.specs.Counts.{count_cons}
 use Rattle.cil_names.specs.declared.entry.Entry.{Entry}
 use Rattle.cil_names.specs.Entries.{is_in}
 use Rattle.cil_optionals.specs.declared.part.Part.{Part}

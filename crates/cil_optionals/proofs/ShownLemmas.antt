@@ -3,7 +3,7 @@ use Rattle.std.specs.Prelude.{Some, None, slice_get, not, map, take, ◌==◌}
 use Rattle.std.proofs.Common.{◌≡◌, ℕ, zero, suc, Bool, true, false, ◌&&◌, ◌||◌, ◌++◌, List, [], ◌∷◌, refl, sym, subst, ap, ◌∙◌}
 use Rattle.std.proofs.lemmas.List.{append_assoc, map-append}
 use Rattle.std.proofs.lemmas.List.Folds.{list_any-append}
-use Rattle.cil_settle.specs.Among.{among, equal_number}
+use Rattle.cil_base.specs.Among.{among, equal_number}
 use Rattle.cil_blocks.specs.declared.namespaces.Space.{Space}
 use Rattle.cil_macros.specs.Item.{Item, OptSet}
 use Rattle.cil_names.specs.declared.entry.Entry.{Entry}

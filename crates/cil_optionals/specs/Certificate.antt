@@ -1,6 +1,6 @@
 -- What shows that a set of optionals is the greatest: a reason for each optional that is left out. This project's profile.
 use Rattle.std.specs.Prelude.{◌≡◌, ℕ, true, false, ◌&&◌, ◌||◌, not, List, [], ◌∷◌, map}
-use Rattle.cil_settle.specs.Among.{among}
+use Rattle.cil_base.specs.Among.{among}
 use Rattle.cil_macros.specs.Item.{Item, OptSet}
 use Rattle.cil_names.specs.Resolves.{Wanted, resolves}
 use Rattle.cil_optionals.specs.declared.reason.Reason.{Reason}

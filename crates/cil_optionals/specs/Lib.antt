@@ -2,8 +2,10 @@ pub mod Certificate
 pub mod Counts
 pub mod Greatest
 pub mod Laws
+pub mod Lines
 pub mod PartCounts
 pub mod Parts
 pub mod Policy
 pub mod Removals
 pub mod Times
+pub mod Told

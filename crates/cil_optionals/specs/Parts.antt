@@ -3,7 +3,7 @@
 use Rattle.std.specs.Prelude.{◌≡◌, ℕ, Bool, true, false, ◌&&◌, ◌||◌, ◌==◌, not, cond, List, [], map, take, Option, Some, is_some, slice_get}
 use Rattle.std.specs.List.{list_all, list_any}
 use Rattle.std.specs.Option.{option_map_or}
-use Rattle.cil_settle.specs.Among.{among}
+use Rattle.cil_base.specs.Among.{among}
 use Rattle.cil_blocks.specs.Contents.{is_optional}
 use Rattle.cil_blocks.specs.Namespaces.{AreNamespaces}
 use Rattle.cil_blocks.specs.declared.namespaces.Space.{Space}

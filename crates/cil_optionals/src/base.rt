@@ -1,6 +1,6 @@
 //! The words outside all optionals that name nothing.
 
-ghost use Rattle.cil_syntax.specs.Refusal.{Answers};
+ghost use Rattle.cil_faults.specs.Refusal.{Answers};
 ghost use Rattle.cil_macros.specs.Items.{items_in, namespaces_in};
 ghost use Rattle.cil_names.specs.Entries.{AreEntries, is_in};
 ghost use Rattle.cil_names.specs.Faults.{ResolveFault};
@@ -28,7 +28,7 @@ pub fn base_faults<'r, 'a>(
     ensures { Answers (λ done. Unit {0}) (ResolveFault (is_in chosen.now.enabled) (items_in instances.now)) result }
 {
     let lookup = Lookup {
-        spaces: instances.namespaces(),
+        namespaces: instances.namespaces(),
         names,
         enabled: &chosen.enabled,
     };

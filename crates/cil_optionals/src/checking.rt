@@ -13,7 +13,7 @@ use crate::chosen::Chosen;
 use crate::part::Part;
 use crate::reason::Reason;
 use crate::times::{entry_times, is_after, names_after, times_of};
-use cil_modset::NoMemory;
+use cil_base::NoMemory;
 use cil_names::{Candidates, Entry, OptSet, is_set};
 use std::alloc::Global;
 

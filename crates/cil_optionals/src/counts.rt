@@ -8,8 +8,8 @@ ghost use Rattle.cil_optionals.specs.Counts.{declares as declares_item, is_lost 
 ghost use Rattle.cil_optionals.specs.PartCounts.{AreLookups, lost_among, lost_of};
 
 use crate::part::Part;
+use cil_base::NoMemory;
 use cil_macros::Instances;
-use cil_modset::NoMemory;
 use cil_names::{Candidates, Entry, OptSet, flags_of, is_set};
 use std::alloc::Global;
 
@@ -57,9 +57,7 @@ fn declares(instances: &Instances, at: usize) -> bool
     requires { at < length (items_in instances.now) }
     ensures { result ≡ declares_item (item_at instances.now at) }
 {
-    let Some(statement) = instances.statement_there(at) else {
-        return false;
-    };
+    let statement = instances.statement_there(at);
     let Some(_kind) = statement.keyword.declares() else {
         return false;
     };

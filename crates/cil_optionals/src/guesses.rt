@@ -11,8 +11,8 @@ use crate::chosen::Chosen;
 use crate::part::{Part, parts_of};
 use crate::reason::Reason;
 use crate::removal::{optionals_of, small};
+use cil_base::NoMemory;
 use cil_macros::Instances;
-use cil_modset::NoMemory;
 use cil_names::{Entry, Names, OptSet, is_set};
 use cil_settle::{Edge, Settled, settle, sort_edges};
 use cil_syntax::Bytes;
@@ -68,12 +68,12 @@ pub struct Walk {
 struct Graph {
     edges: Vec<Edge>,
     need: Vec<usize>,
-    words: Vec<OwnWord>,
+    words: Vec<WordNode>,
 }
 
 /// A word of a statement in an optional.
 #[derive(Clone, Copy)]
-struct OwnWord {
+struct WordNode {
     optional: usize,
     instance: usize,
     word: usize,
@@ -139,7 +139,7 @@ impl Graph {
         for word in 0..part.asked.len() {
             let candidates = part.asked.row(word);
             if !all_stay(entries, candidates) {
-                let own = OwnWord {
+                let own = WordNode {
                     optional,
                     instance,
                     word,
@@ -153,7 +153,7 @@ impl Graph {
     /// Adds a word that needs a node. It loses an entry less than it could name for each that stays, so it stays with that entry.
     fn add_word(
         &mut self,
-        word: OwnWord,
+        word: WordNode,
         candidates: &[usize],
         first_entry: usize,
         entries: &[Entry],
@@ -221,7 +221,7 @@ fn lead_within(edges: &[Edge], count: usize) -> bool
 fn chosen_from(
     alloc: Global,
     parts: &[Part],
-    words: &[OwnWord],
+    words: &[WordNode],
     first_word: usize,
     order: &[usize],
 ) -> Result<Chosen, NoMemory> {
@@ -258,7 +258,7 @@ impl Removal {
     fn put_out(
         &mut self,
         parts: &[Part],
-        words: &[OwnWord],
+        words: &[WordNode],
         first_word: usize,
         node: usize,
     ) -> Result<(), NoMemory> {
@@ -280,7 +280,7 @@ impl Removal {
     }
 
     /// Notes that a word is out.
-    fn note_word(&mut self, words: &[OwnWord], number: usize) {
+    fn note_word(&mut self, words: &[WordNode], number: usize) {
         let Some(word) = words.get(number) else {
             return;
         };
@@ -293,7 +293,7 @@ impl Removal {
     fn reason(
         &self,
         parts: &[Part],
-        words: &[OwnWord],
+        words: &[WordNode],
         optional: usize,
     ) -> Result<Option<Reason>, NoMemory> {
         let Some(part) = parts.get(optional) else {
@@ -320,7 +320,7 @@ impl Removal {
 }
 
 /// The reason that a word gives.
-fn missing(words: &[OwnWord], number: Option<usize>) -> Result<Option<Reason>, NoMemory> {
+fn missing(words: &[WordNode], number: Option<usize>) -> Result<Option<Reason>, NoMemory> {
     let Some(at) = number else {
         return Ok(None);
     };

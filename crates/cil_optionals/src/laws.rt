@@ -14,8 +14,8 @@ ghost use Rattle.cil_optionals.specs.Laws.{KeepsResolving, RightIsGreatest, Unio
 use crate::chosen::Chosen;
 use crate::part::parts_of;
 use crate::removal::by_removal;
+use cil_base::NoMemory;
 use cil_macros::Instances;
-use cil_modset::NoMemory;
 use cil_names::Names;
 use cil_names::laws::resolves_by_candidates;
 use cil_syntax::Bytes;

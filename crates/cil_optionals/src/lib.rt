@@ -14,6 +14,7 @@ mod counts;
 mod declared;
 pub mod guesses;
 pub mod laws;
+mod lines;
 mod part;
 mod reason;
 mod removal;
@@ -21,4 +22,5 @@ mod times;
 
 pub use base::base_faults;
 pub use chosen::{Chosen, Counted, check, greatest, greatest_counted};
+pub use lines::{OptionalLine, WhyLine, optional_lines, why_lines};
 pub use reason::Reason;

@@ -8,9 +8,9 @@ ghost use Rattle.cil_names.specs.Entries.{AreEntries};
 ghost use Rattle.cil_names.specs.Unresolved.{ArePermissions};
 ghost use Rattle.cil_optionals.specs.Parts.{ArePartsOf, asked_by, part_of};
 
+use cil_base::NoMemory;
 use cil_blocks::names::is_optional;
 use cil_macros::Instances;
-use cil_modset::NoMemory;
 use cil_names::{Candidates, Names, add_candidates};
 use cil_syntax::Bytes;
 use std::alloc::Global;
@@ -90,10 +90,8 @@ fn asked_at<'r, 'a>(
 
 /// Whether the statement at a place is an optional.
 fn is_optional_there(instances: &Instances, at: usize) -> bool
+    requires { at < length (items_in instances.now) }
     ensures { result ≡ is_optional_keyword (item_at instances.now at).keyword }
 {
-    match instances.statement_there(at) {
-        Some(statement) => is_optional(statement.keyword),
-        None => false,
-    }
+    is_optional(instances.statement_there(at).keyword)
 }

@@ -14,7 +14,7 @@ use crate::chosen::Chosen;
 use crate::declared::names_one;
 use crate::part::Part;
 use crate::reason::Reason;
-use cil_modset::NoMemory;
+use cil_base::NoMemory;
 use cil_names::{Candidates, Entry, OptSet, is_set};
 use std::alloc::Global;
 

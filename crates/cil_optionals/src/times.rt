@@ -9,7 +9,7 @@ ghost use Rattle.cil_optionals.specs.declared.part.Part.{Part as ThePart};
 
 use crate::part::Part;
 use crate::reason::Reason;
-use cil_modset::NoMemory;
+use cil_base::NoMemory;
 use cil_names::Entry;
 use std::alloc::Global;
 

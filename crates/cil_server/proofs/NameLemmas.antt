@@ -7,7 +7,7 @@ use Rattle.std.specs.List.Sorted.{IsStrictlySortedBy}
 use Rattle.std.specs.declared.cmp.Ordering.TheVariants.{Less}
 use Rattle.std.proofs.lemmas.Bool.{cases_order}
 use Rattle.std.proofs.lemmas.List.{append_assoc, append-nil}
-use Rattle.cil_sexpr.specs.Lists.{contains_cases, contains_here, contains_later, contains_none, text_cmp}
+use Rattle.cil_base.specs.Lists.{contains_cases, contains_here, contains_later, contains_none, text_cmp}
 use Rattle.cil_host.specs.Machine.{OfLoaded, State}
 use Rattle.cil_host.specs.Permissions.{IsInOrder, IsPermissionOf}
 use Rattle.cil_server.specs.Replies.{listed}

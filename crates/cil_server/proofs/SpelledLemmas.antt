@@ -9,7 +9,7 @@ use Rattle.std.proofs.lemmas.List.Elements.{All-from_get_or, All-nil, All-push}
 use Rattle.std.proofs.lemmas.List.Folds.{list_all-append}
 use Rattle.std.proofs.lemmas.List.Splits.{join_with_byte-slice_split, slice_split_at, slice_split_none}
 use Rattle.std.proofs.lemmas.List.Sums.{fold-append}
-use Rattle.cil_sexpr.specs.Lists.{contains_cases, contains_none}
+use Rattle.cil_base.specs.Lists.{contains_cases, contains_none}
 use Rattle.cil_syntax.specs.Spelling.{same_bytes}
 use Rattle.cil_server.specs.Asked.{Line, alone, announced, asked, bodied, by_words, is_decimal, is_digit, longest_body, queried, value_of, words_of}
 use Rattle.cil_server.specs.Asked.Line.{Export, List_, Load, Optionals, Quit, Why, Ask, Install, Import, TooBig, Unknown}

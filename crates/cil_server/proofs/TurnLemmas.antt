@@ -2,18 +2,18 @@
 use Rattle.std.specs.Prelude.{Result, Ok, Err, codes, length, map}
 use Rattle.std.proofs.Common.{None, ◌≡◌, ℕ, List, ◌++◌, sym, subst}
 use Rattle.cil_modset.specs.Bundle.{bundle}
-use Rattle.cil_syntax.specs.declared.failure.Failure.{Failure}
-use Rattle.cil_syntax.specs.declared.failure.Failure.TheVariants as failures
-use Rattle.cil_syntax.specs.declared.fault.Fault.{Fault}
-use Rattle.cil_syntax.specs.Printed.{printed}
+use Rattle.cil_faults.specs.declared.failure.Failure.{Failure}
+use Rattle.cil_faults.specs.declared.failure.Failure.TheVariants as failures
+use Rattle.cil_faults.specs.declared.fault.Fault.{Fault}
+use Rattle.cil_faults.specs.Printed.{printed}
 use Rattle.cil_decide.specs.declared.decision.Decision.{Decision}
 use Rattle.cil_host.specs.declared.fault.QueryFault.{QueryFault}
 use Rattle.cil_host.specs.declared.host.ListLine.{ListLine}
 use Rattle.cil_host.specs.declared.host.Loaded.{Loaded}
 use Rattle.cil_host.specs.Listed.{line_of}
 use Rattle.std.specs.Global.{Vec}
-use Rattle.cil_decide.specs.declared.lines.OptionalLine.{OptionalLine}
-use Rattle.cil_decide.specs.declared.lines.WhyLine.{WhyLine}
+use Rattle.cil_optionals.specs.declared.lines.OptionalLine.{OptionalLine}
+use Rattle.cil_optionals.specs.declared.lines.WhyLine.{WhyLine}
 use Rattle.cil_host.specs.declared.fault.HostError.{HostError}
 use Rattle.cil_host.specs.declared.fault.HostError.TheVariants as errors
 use Rattle.cil_host.specs.Machine.{Queries, State, TellsNothing, TellsOptionals, TellsWhy}

@@ -13,12 +13,12 @@ use Rattle.cil_modset.specs.declared.error.BundleFault.TheVariants as bundle
 use Rattle.cil_modset.specs.declared.set.Installed.{Installed}
 use Rattle.cil_modset.specs.declared.set.Installed.TheVariants as installed
 use Rattle.cil_modset.specs.Faults.{number_of as bundle_number}
-use Rattle.cil_syntax.specs.declared.failure.Failure.{Failure}
-use Rattle.cil_syntax.specs.declared.failure.Failure.TheVariants as failures
-use Rattle.cil_syntax.specs.declared.fault.Fault.{Fault}
-use Rattle.cil_syntax.specs.Printed.{printed, printed_space}
-use Rattle.cil_decide.specs.declared.lines.OptionalLine.{OptionalLine}
-use Rattle.cil_decide.specs.declared.lines.WhyLine.{WhyLine}
+use Rattle.cil_faults.specs.declared.failure.Failure.{Failure}
+use Rattle.cil_faults.specs.declared.failure.Failure.TheVariants as failures
+use Rattle.cil_faults.specs.declared.fault.Fault.{Fault}
+use Rattle.cil_faults.specs.Printed.{printed, printed_space}
+use Rattle.cil_optionals.specs.declared.lines.OptionalLine.{OptionalLine}
+use Rattle.cil_optionals.specs.declared.lines.WhyLine.{WhyLine}
 use Rattle.cil_host.specs.declared.fault.HostError.{HostError}
 use Rattle.cil_host.specs.declared.fault.HostError.TheVariants as errors
 use Rattle.cil_host.specs.declared.fault.QueryFault.{QueryFault}

@@ -1,18 +1,18 @@
 -- One request of the model host: its reply, and the host that it leaves. This project's profile.
 use Rattle.std.specs.Prelude.{◌≡◌, ◌<◌, ℕ, List, map, None, Result, Ok, Err, IsBitSet}
 use Rattle.cil_sexpr.specs.declared.fault.ReadError.{ReadError}
-use Rattle.cil_sexpr.specs.Lists.{Lists as ListsOf, text_cmp}
+use Rattle.cil_base.specs.Lists.{Lists as ListsOf, text_cmp}
 use Rattle.cil_modset.specs.Bundle.{bundle}
 use Rattle.cil_modset.specs.Changes.{IsImported, IsInstalled}
 use Rattle.cil_modset.specs.declared.error.BundleError.{BundleError}
 use Rattle.cil_modset.specs.declared.set.Installed.{Installed}
-use Rattle.cil_syntax.specs.declared.failure.Failure.{Failure}
+use Rattle.cil_faults.specs.declared.failure.Failure.{Failure}
 use Rattle.cil_decide.specs.declared.decision.Decision.{Decision}
 use Rattle.cil_host.specs.declared.fault.QueryFault.{QueryFault}
 use Rattle.cil_host.specs.declared.host.Loaded.{Loaded}
 use Rattle.cil_host.specs.Listed.{line_of}
-use Rattle.cil_decide.specs.declared.lines.OptionalLine.{OptionalLine}
-use Rattle.cil_decide.specs.declared.lines.WhyLine.{WhyLine}
+use Rattle.cil_optionals.specs.declared.lines.OptionalLine.{OptionalLine}
+use Rattle.cil_optionals.specs.declared.lines.WhyLine.{WhyLine}
 use Rattle.cil_host.specs.Machine.{AreOptionalLines, AreWhyLines, OfAccepted, OfLoaded, Queries, State}
 use Rattle.cil_host.specs.Permissions.{IsPermissionOf}
 use Rattle.cil_host.specs.Refusal.{Loads as LoadsHost}

@@ -7,7 +7,7 @@ ghost use Rattle.cil_server.specs.Streams.{buffer_size, unread};
 ghost use Rattle.cil_server.specs.Taken.{CountsFill, Fills};
 
 use crate::devices::Source;
-use cil_modset::NoMemory;
+use cil_base::NoMemory;
 use std::alloc::Global;
 use std::io;
 use std::marker::Model;

@@ -6,7 +6,7 @@ ghost use Rattle.cil_server.specs.Streams.{Tells, buffer_size};
 ghost use Rattle.cil_server.specs.Given.{Gives, GivesCounted};
 
 use crate::devices::Sink;
-use cil_modset::NoMemory;
+use cil_base::NoMemory;
 use std::alloc::Global;
 use std::marker::Model;
 

@@ -2,7 +2,7 @@
 
 ghost use Rattle.std.specs.Prelude.{◌≡◌, ◌<◌, ◌++◌, ◌∷◌, ℕ, List, MatchOption, codes, decimal};
 ghost use Rattle.hex.specs.Hex.{encode_lower};
-ghost use Rattle.cil_syntax.specs.Printed.{printed_space};
+ghost use Rattle.cil_faults.specs.Printed.{printed_space};
 ghost use Rattle.cil_server.specs.Replies.{newline, of_bundle_fault, of_export, of_host_error, of_import, of_install, of_line, of_list, of_optional, of_optional_line, of_optionals, of_query_fault, of_reason, of_standing, of_why, of_why_line, ok_number, refused, refused_at, spaced};
 ghost use Rattle.cil_server.specs.Step.{IsNamed};
 ghost use Rattle.cil_server.specs.Streams.{Tells};
@@ -10,11 +10,12 @@ ghost use Rattle.cil_server.specs.Turns.{IsPlaced, TellsDecision, TellsName, Tel
 
 use crate::devices::Sink;
 use crate::output::Output;
-use cil_decide::{Decision, OptionalLine, WhyLine};
+use cil_base::Bytes;
+use cil_decide::Decision;
 use cil_host::{Host, HostError, ListLine, QueryFault};
 use cil_modset::{BundleError, BundleFault, Installed};
+use cil_optionals::{OptionalLine, WhyLine};
 use cil_sexpr::ReadError;
-use cil_syntax::Bytes;
 use itoa::Buffer;
 
 fn put_decimal<W: Sink>(output: &mut Output<'_, W>, number: u64)

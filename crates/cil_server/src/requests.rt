@@ -11,8 +11,8 @@ use crate::replies::{
     put_bundle, put_decision, put_faults, put_host_error, put_imported, put_installed, put_lines,
     put_optionals, put_query_fault, put_refused, put_why,
 };
+use cil_base::NoMemory;
 use cil_host::Host;
-use cil_modset::NoMemory;
 use cil_syntax::{Failure, render};
 use std::alloc::Global;
 

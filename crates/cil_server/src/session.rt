@@ -17,8 +17,8 @@ use crate::replies::put_refused;
 use crate::served::Served;
 use crate::streams::{LineTaken, Streams};
 use crate::turn::Turn;
+use cil_base::NoMemory;
 use cil_host::Host;
-use cil_modset::NoMemory;
 use std::alloc::Global;
 
 /// How many requests a session may have.

@@ -2,7 +2,7 @@
 use Rattle.std.specs.Prelude.{◌≡◌, ℕ, zero, suc, ◌<◌, ◌≤◌, true, false, List, [], ◌∷◌, take, refl}
 use Rattle.std.proofs.Common.{get_or, arith}
 use Rattle.cil_settle.specs.declared.edge.Edge.{Edge}
-use Rattle.cil_settle.specs.Among.{among}
+use Rattle.cil_base.specs.Among.{among}
 use Rattle.cil_settle.specs.Settled.{hits, needs, IsSettled, walked}
 
 abbrev edge : ℕ → ℕ → Edge

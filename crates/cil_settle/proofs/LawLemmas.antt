@@ -3,7 +3,7 @@ use Rattle.std.specs.Prelude.{◌≡◌, ◌⊎◌, ℕ, zero, suc, ◌+◌, ◌
 use Rattle.std.proofs.Common.{get_or, refl, sym, ◌∙◌, ap, subst, inl, inr, arith}
 use Rattle.std.proofs.lemmas.List.{take_all, take_more}
 use Rattle.cil_settle.specs.declared.edge.Edge.{Edge}
-use Rattle.cil_settle.specs.Among.{among, among_push, either, equal_number}
+use Rattle.cil_base.specs.Among.{among, among_push, either, equal_number}
 use Rattle.cil_settle.specs.Laws.{HasOneSet, IsBounded, IsClosed, IsLeast}
 use Rattle.cil_settle.specs.Settled.{IsSettled}
 use Rattle.cil_settle.specs.Sums.{hits_mono, walked_at_most, walked_same}

@@ -4,7 +4,7 @@ use Rattle.std.proofs.Common.{◌≡◌, ◌≢◌, ℕ, zero, suc, ◌+◌, ◌
 use Rattle.std.proofs.lemmas.List.Sums.{count_by_more_yes, count_by_more_no}
 use Rattle.std.proofs.lemmas.Bool.Decides.{nat_tests}
 use Rattle.std.proofs.lemmas.Grind.{common_steps}
-use Rattle.cil_settle.specs.Among.{among, among_push}
+use Rattle.cil_base.specs.Among.{among, among_push}
 use Rattle.cil_settle.specs.Walk.{IsStarted, is_left}
 
 -- the nodes before a pushed one are as they were, and it is behind all

@@ -1,13 +1,12 @@
 -- One step of the walk.
-use Rattle.std.specs.Prelude.{◌⊎◌, take}
+use Rattle.std.specs.Prelude.{◌⊎◌, take, ◌==◌}
 use Rattle.std.proofs.Common.{◌≡◌, ◌≢◌, ℕ, ◌+◌, ◌<◌, ◌≤◌, Bool, true, false, cond, List, ◌++◌, length, get_or, sym, ap, subst, ◌∙◌, inl, inr, arith}
 use Rattle.std.specs.List.{count_by}
 use Rattle.std.proofs.lemmas.List.{append_assoc, take_all}
 use Rattle.std.proofs.lemmas.List.Sums.{count_by_more_yes, count_by_more_no}
 use Rattle.std.proofs.lemmas.Bool.Decides.{nat_tests}
-use Rattle.std.specs.Prelude.{◌==◌}
 use Rattle.cil_settle.specs.declared.edge.Edge.{Edge}
-use Rattle.cil_settle.specs.Among.{among}
+use Rattle.cil_base.specs.Among.{among}
 use Rattle.cil_settle.specs.Settled.{is_counted}
 use Rattle.cil_settle.specs.Walk.{IsAt, IsAtNode, into, one_more, plus}
 

@@ -7,8 +7,8 @@ use Rattle.std.proofs.lemmas.List.Sums.{count_by-le-length}
 use Rattle.std.proofs.lemmas.Bool.Decides.{nat_tests}
 use Rattle.std.proofs.lemmas.Grind.{common_steps}
 use Rattle.cil_settle.specs.declared.edge.Edge.{Edge}
-use Rattle.cil_settle.specs.Among.{among, among_at, among_first, among_push, equal_number}
-use Rattle.cil_settle.specs.Counts.{count_cons}
+use Rattle.cil_base.specs.Among.{among, among_at, among_first, among_push, equal_number}
+use Rattle.cil_base.specs.Counts.{count_cons}
 use Rattle.cil_settle.specs.Settled.{hits, is_counted, needs, IsSettled, walked}
 use Rattle.cil_settle.specs.Sums.{hits_cons, hits_mono, hits_none, walked_at_most, walked_cons, walked_none}
 use Rattle.cil_settle.specs.Walk.{IsAt, IsAtNode, IsWalked, into, leaving, no_hits, plus}

@@ -1,7 +1,7 @@
 -- Laws that fix the definition of what goes out.
 use Rattle.std.specs.Prelude.{◌≡◌, ℕ, ◌<◌, ◌≤◌, true, List, length, count_by}
 use Rattle.cil_settle.specs.declared.edge.Edge.{Edge}
-use Rattle.cil_settle.specs.Among.{among}
+use Rattle.cil_base.specs.Among.{among}
 use Rattle.cil_settle.specs.Settled.{hits, is_counted, needs, IsSettled, walked}
 
 -- each node that has lost what it needs, where these are out, is one of these

@@ -1,5 +1,3 @@
-pub mod Among
-pub mod Counts
 pub mod Laws
 pub mod Settled
 pub mod Sums

@@ -4,7 +4,7 @@ use Rattle.std.specs.Prelude.{◌≡◌, ℕ, ◌<◌, ◌≤◌, Bool, false, �
 use Rattle.std.specs.List.{count_by}
 use Rattle.std.proofs.Common.{get_or}
 use Rattle.cil_settle.specs.declared.edge.Edge.{Edge}
-use Rattle.cil_settle.specs.Among.{among}
+use Rattle.cil_base.specs.Among.{among}
 
 -- how many supports a node has lost where these are out
 unfoldable pub hits : List Edge → List ℕ → ℕ → ℕ

@@ -4,8 +4,8 @@ use Rattle.std.specs.List.{count_by, sum_by, flat_map}
 use Rattle.std.proofs.Common.{get_or, cond, refl, ap, arith}
 use Rattle.std.proofs.lemmas.List.Sorted.{sum_by-IsPermutation}
 use Rattle.cil_settle.specs.declared.edge.Edge.{Edge}
-use Rattle.cil_settle.specs.Among.{among}
-use Rattle.cil_settle.specs.Counts.{all_pass, at_most, count_append, count_cons, count_flat, count_mono, count_same}
+use Rattle.cil_base.specs.Among.{among}
+use Rattle.cil_base.specs.Counts.{all_pass, at_most, count_append, count_cons, count_flat, count_mono, count_same}
 use Rattle.cil_settle.specs.Settled.{hits, is_counted, needs, IsSettled, walked}
 
 -- ---- how many supports a node has lost

@@ -6,7 +6,7 @@ ghost use Rattle.cil_settle.specs.Settled.{walked, IsSettled, leads_within};
 
 use crate::edge::{Edge, leaving_from};
 use crate::supports::{at_start, lower_all};
-use cil_modset::NoMemory;
+use cil_base::NoMemory;
 use std::alloc::Global;
 
 /// What goes out.

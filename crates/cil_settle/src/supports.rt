@@ -6,7 +6,7 @@ ghost use Rattle.cil_settle.specs.Settled.{is_counted, leads_within, needs};
 ghost use Rattle.cil_settle.specs.Walk.{IsAt, Loses, no_hits, one_more, plus};
 
 use crate::edge::Edge;
-use cil_modset::NoMemory;
+use cil_base::NoMemory;
 use std::alloc::Global;
 
 /// The nodes that are out from the start: those that can lose nothing.

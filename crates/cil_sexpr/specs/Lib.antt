@@ -1,17 +1,8 @@
 pub mod Bytes
-pub mod Decided
 pub mod Faults
-pub mod Gives
 pub mod Laws
-pub mod Lists
-pub mod MadeLists
-pub mod Paths
-pub mod Places
-pub mod Queue
 pub mod Reading
 pub mod Refusal
-pub mod Rising
-pub mod Searches
 pub mod Text
 pub mod Tree
 pub mod View

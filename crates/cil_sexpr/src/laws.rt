@@ -2,7 +2,6 @@
 //! a law, and a proof that needs the law calls the function.
 
 ghost use Rattle.cil_sexpr.specs.Laws.{AlwaysEither, HasOneFault, HasOneTree, HasSlices, IsInOrder, NeverBoth};
-ghost use Rattle.cil_sexpr.specs.Lists.{HasOneList};
 
 /// A text has at most one tree.
 pub fn one_tree()
@@ -32,9 +31,4 @@ pub fn slices()
 /// The nodes of a tree are one after another in the text, each inside the list that contains it.
 pub fn in_order()
     ensures { IsInOrder }
-{}
-
-/// A set of texts has at most one sorted list without repeats, so two such lists of one set are equal.
-pub fn one_list()
-    ensures { HasOneList }
 {}

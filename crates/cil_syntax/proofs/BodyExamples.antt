@@ -1,14 +1,14 @@
 -- Statements with statements inside, calls and set-aside statements, read by the definition of their rows.
 use Rattle.std.specs.Prelude.{◌≡◌, ℕ, ◌+◌, List, [], ◌∷◌, length, codes, Option, Some, None, refl}
 use Rattle.cil_sexpr.specs.Tree.{Node, Word as TextWord, Quoted, Branch, Nodes, none, next}
-use Rattle.cil_syntax.specs.declared.code.FaultCode.{FaultCode}
-use Rattle.cil_syntax.specs.declared.code.FaultCode.TheVariants as causes
+use Rattle.cil_faults.specs.declared.code.FaultCode.{FaultCode}
+use Rattle.cil_faults.specs.declared.code.FaultCode.TheVariants as causes
 use Rattle.cil_syntax.specs.declared.kind.Keyword.{Keyword}
 use Rattle.cil_syntax.specs.declared.kind.Keyword.TheVariants as keywords
 use Rattle.cil_syntax.specs.declared.kind.Sign.{Sign}
 use Rattle.cil_syntax.specs.declared.kind.Sign.TheVariants as signs
 use Rattle.cil_syntax.specs.declared.term.Op.TheVariants as ops
-use Rattle.cil_syntax.specs.declared.term.Spot.{Spot}
+use Rattle.cil_faults.specs.declared.spot.Spot.{Spot}
 use Rattle.cil_syntax.specs.declared.term.Word.{Word}
 use Rattle.cil_syntax.specs.Shapes.{Inner, Reading, reads, read_word, read_string, read_row, read_list, cell_of, cells_of}
 use Rattle.cil_syntax.specs.declared.kind.Nesting.TheVariants as nestings

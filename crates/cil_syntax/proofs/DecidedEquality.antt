@@ -3,7 +3,7 @@ use Rattle.std.specs.Cmp.Lexicographic.{bytes_decides, pointwise_decides}
 use Rattle.std.proofs.Common.{◌≡◌, ℕ, true, false, List, refl, sym, ◌∙◌, ap, inl, inr, arith}
 use Rattle.std.specs.Prelude.{◌==◌, if◌then◌else◌, nat_eq}
 use Rattle.std.proofs.lemmas.Bool.{cases_Bool}
-use Rattle.cil_sexpr.specs.Decided.{Decided, by_number, decided_both, decided_same, same_list, same_number, same_text}
+use Rattle.cil_base.specs.Decided.{Decided, by_number, decided_both, decided_same, same_list, same_number, same_text}
 use Rattle.cil_syntax.specs.declared.kind.Keyword.{Keyword}
 use Rattle.cil_syntax.specs.declared.kind.Keyword.TheVariants as keywords
 use Rattle.cil_syntax.specs.declared.kind.Kind.{Kind}
@@ -11,9 +11,10 @@ use Rattle.cil_syntax.specs.declared.kind.Sign.{Sign}
 use Rattle.cil_syntax.specs.declared.kind.Sign.TheVariants as signs
 use Rattle.cil_syntax.specs.declared.term.Op.{Op}
 use Rattle.cil_syntax.specs.declared.term.Op.TheVariants as ops
-use Rattle.cil_syntax.specs.declared.term.Spot.{Spot}
+use Rattle.cil_faults.specs.declared.spot.Spot.{Spot}
 use Rattle.cil_syntax.specs.Kinds.{kind_number}
-use Rattle.cil_syntax.specs.Scopes.{Namespace, same_space}
+use Rattle.cil_faults.specs.Namespaces.{Namespace}
+use Rattle.cil_syntax.specs.Scopes.{same_space}
 use Rattle.cil_syntax.specs.Terms.{Term, Leaf, Name, Form, Terms, nil, cons}
 use Rattle.cil_syntax.proofs.KindLemmas.{one_kind, same_kind}
 
@@ -70,19 +71,7 @@ keyword_at n =
 keyword_back : (k : Keyword) → keyword_at (keyword_number k) ≡ k
 unfolding keyword_number keyword_at
 keyword_back keywords.Type_ = refl
-keyword_back keywords.Role = refl
-keyword_back keywords.User = refl
-keyword_back keywords.Class = refl
-keyword_back keywords.RoleType = refl
-keyword_back keywords.UserRole = refl
-keyword_back keywords.Allow = refl
-keyword_back keywords.Block = refl
-keyword_back keywords.BlockAbstract = refl
-keyword_back keywords.BlockInherit = refl
-keyword_back keywords.Macro = refl
-keyword_back keywords.Call = refl
-keyword_back keywords.Optional = refl
-keyword_back keywords.SetAside = refl
+keyword_back k = refl
 
 pub keyword_is : (a b : Keyword) → Decided (a ≡ b)
 keyword_is = by_number keyword_number keyword_at keyword_back
@@ -115,15 +104,7 @@ sign_at n =
 sign_back : (s : Sign) → sign_at (sign_number s) ≡ s
 unfolding sign_number sign_at
 sign_back signs.Types = refl
-sign_back signs.Roles = refl
-sign_back signs.Users = refl
-sign_back signs.Classes = refl
-sign_back signs.Permission = refl
-sign_back signs.PlainClass = refl
-sign_back signs.Blocks = refl
-sign_back signs.Macros = refl
-sign_back signs.Text = refl
-sign_back signs.Unread = refl
+sign_back s = refl
 
 pub sign_is : (a b : Sign) → Decided (a ≡ b)
 sign_is = by_number sign_number sign_at sign_back
@@ -178,26 +159,7 @@ op_at n =
 op_back : (o : Op) → op_at (op_number o) ≡ o
 unfolding op_number op_at
 op_back ops.Listed = refl
-op_back ops.ClassPermissions = refl
-op_back ops.Union = refl
-op_back ops.Not = refl
-op_back ops.And = refl
-op_back ops.Or = refl
-op_back ops.Xor = refl
-op_back ops.All = refl
-op_back ops.Itself = refl
-op_back ops.LeftOut = refl
-op_back ops.Parameters = refl
-op_back ops.Parameter = refl
-op_back ops.TypeKind = refl
-op_back ops.RoleKind = refl
-op_back ops.UserKind = refl
-op_back ops.ClassKind = refl
-op_back ops.NameKind = refl
-op_back ops.TextKind = refl
-op_back ops.Arguments = refl
-op_back ops.UnreadList = refl
-op_back ops.UnreadText = refl
+op_back o = refl
 
 pub op_is : (a b : Op) → Decided (a ≡ b)
 op_is = by_number op_number op_at op_back

@@ -6,9 +6,9 @@ use Rattle.std.specs.declared.cmp.Ordering.TheVariants.{Less}
 use Rattle.std.specs.Ordering.{nat_cmp, on}
 use Rattle.std.specs.List.Sorted.{IsStrictlySortedBy}
 use Rattle.std.proofs.lemmas.List.Elements.{Contains-append_cases}
-use Rattle.cil_sexpr.specs.Paths.{less_from}
-use Rattle.cil_sexpr.specs.Rising.{rising_join}
-use Rattle.cil_sexpr.specs.Lists.{contains_cases, contains_none}
+use Rattle.cil_base.specs.Paths.{less_from}
+use Rattle.cil_base.specs.Rising.{rising_join}
+use Rattle.cil_base.specs.Lists.{contains_cases, contains_none}
 use Rattle.cil_sexpr.specs.Text.{IsText}
 use Rattle.cil_sexpr.specs.Tree.{Node, Word as TextWord, Quoted, Branch, Nodes, none, next, span_of, inner_of, IsBetween, AreInOrder}
 use Rattle.cil_modset.specs.Modules.{module_of}

@@ -9,14 +9,14 @@ use Rattle.cil_sexpr.specs.declared.node.Node.{the_lemmas}
 use Rattle.cil_sexpr.specs.declared.node.Span.{Span}
 use Rattle.cil_sexpr.specs.Tree.{Word as TextWord, Quoted, Branch}
 use Rattle.cil_sexpr.specs.View.{node_of, nodes_of}
-use Rattle.cil_syntax.specs.declared.code.FaultCode.TheVariants as causes
-use Rattle.cil_syntax.specs.declared.fault.Fault.{Fault}
+use Rattle.cil_faults.specs.declared.code.FaultCode.TheVariants as causes
+use Rattle.cil_faults.specs.declared.fault.Fault.{Fault}
 use Rattle.cil_syntax.specs.declared.kind.Sign.{Sign}
 use Rattle.cil_syntax.specs.declared.stop.Stop.{Stop}
 use Rattle.cil_syntax.specs.declared.stop.Stop.TheVariants.{OtherShape, NoMemory}
 use Rattle.cil_syntax.specs.declared.term.Op.{Op}
 use Rattle.cil_syntax.specs.declared.term.Op.TheVariants as ops
-use Rattle.cil_syntax.specs.declared.term.Spot.{Spot}
+use Rattle.cil_faults.specs.declared.spot.Spot.{Spot}
 use Rattle.cil_syntax.specs.declared.term.Term as rust
 use Rattle.cil_syntax.specs.declared.term.Word.{Word}
 use Rattle.cil_syntax.specs.Shapes.{Inner, inner_at, Reading, Shape, looked_up, set_of, many, formed, read_row, read_word, read_list, read_set, read_operator, read_left_out, read_looked_up, operator_of, operands, a_word, Cell, cell_of, cells_of}

@@ -22,16 +22,7 @@ kind_from (suc (suc (suc (suc (suc (suc (suc (suc (suc (suc n)))))))))) = kinds.
 back : (k : Kind) → kind_from (kind_number k) ≡ k
 unfolding kind_from
 back kinds.Type_ = refl
-back kinds.TypeAlias = refl
-back kinds.TypeAttribute = refl
-back kinds.Role = refl
-back kinds.RoleAttribute = refl
-back kinds.User = refl
-back kinds.UserAttribute = refl
-back kinds.Class = refl
-back kinds.ClassMap = refl
-back kinds.Block = refl
-back kinds.Macro = refl
+back k = refl
 
 pub same_kind : (k j : Kind) → k ≡ j → nat_eq (kind_number k) (kind_number j) ≡ true
 same_kind k j e = eq-eqb (kind_number k) (kind_number j) (ap kind_number e)

@@ -5,7 +5,7 @@ use Rattle.cil_sexpr.specs.Tree.{Node, Word, Quoted, Branch}
 use Rattle.cil_sexpr.specs.View.{nodes_of}
 use Rattle.cil_syntax.specs.Shapes.{Row, Shape, declared_name, looked_up, set_of, fixed, left_out, any_left_out, either, list_of, unread, any_text, many, counted, statements, anything, is_meant, read_word, read_string, read_list, read_row, Cell, cell_of, cells_of}
 use Rattle.std.specs.Prelude.{Result}
-use Rattle.cil_syntax.specs.declared.fault.Fault.{Fault}
+use Rattle.cil_faults.specs.declared.fault.Fault.{Fault}
 use Rattle.cil_syntax.specs.declared.shape.Row.{the_lemmas}
 use Rattle.cil_syntax.specs.declared.shape.Shape as shapes
 use Rattle.cil_syntax.specs.declared.term.Term as rust

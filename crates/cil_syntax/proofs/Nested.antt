@@ -3,11 +3,11 @@ use Rattle.std.proofs.Common.{◌≡◌, ℕ, true, ◌&&◌, not, List, [], ◌
 use Rattle.std.specs.Prelude.{Contains, Some, None}
 use Rattle.std.specs.List.Sorted.{IsStrictlySortedBy}
 use Rattle.std.proofs.lemmas.List.Elements.{Contains-append_cases}
-use Rattle.cil_sexpr.specs.Lists.{contains_here, contains_cases, contains_none}
+use Rattle.cil_base.specs.Lists.{contains_here, contains_cases, contains_none}
 use Rattle.cil_sexpr.specs.Tree.{Nodes}
-use Rattle.cil_sexpr.specs.Places.{get_at}
-use Rattle.cil_sexpr.specs.Searches.{found_is}
-use Rattle.cil_syntax.specs.declared.fault.Fault.{Fault}
+use Rattle.cil_base.specs.Places.{get_at}
+use Rattle.cil_base.specs.Searches.{found_is}
+use Rattle.cil_faults.specs.declared.fault.Fault.{Fault}
 use Rattle.cil_syntax.specs.declared.kind.Keyword.{Keyword}
 use Rattle.cil_syntax.specs.declared.kind.Keyword.TheVariants as keywords
 use Rattle.cil_syntax.specs.declared.program.Statement as program
@@ -36,9 +36,6 @@ begun keywords.Type_ m ns ts fit = name_begun m _ ns ts fit
 begun keywords.Role m ns ts fit = name_begun m _ ns ts fit
 begun keywords.User m ns ts fit = name_begun m _ ns ts fit
 begun keywords.Class m ns ts fit = name_begun m _ ns ts fit
-begun keywords.RoleType m ns ts fit = refl
-begun keywords.UserRole m ns ts fit = refl
-begun keywords.Allow m ns ts fit = refl
 begun keywords.Block m ns ts fit = name_begun m _ ns ts fit
 begun keywords.BlockAbstract m ns ts fit = word_begun m _ _ ns ts fit
 begun keywords.BlockInherit m ns ts fit = word_begun m _ _ ns ts fit
@@ -46,7 +43,7 @@ begun keywords.Macro m ns ts fit = name_begun m _ ns ts fit
 begun keywords.Call m ns ts (as_many count first second xs us long fit) = word_begun m _ _ ns ts fit
 begun keywords.Call m ns ts (not_as_many count first second xs us other fit) = word_begun m _ _ ns ts fit
 begun keywords.Optional m ns ts fit = name_begun m _ ns ts fit
-begun keywords.SetAside m ns ts fit = refl
+begun k m ns ts fit = refl
 
 -- ---- entries and keywords
 
@@ -58,19 +55,7 @@ record IsOwn (entry : Entry) : Type 0 where
 keyword_is : (k : Keyword) → (entry_of k).keyword ≡ k
 unfolding entry_of
 keyword_is keywords.Type_ = refl
-keyword_is keywords.Role = refl
-keyword_is keywords.User = refl
-keyword_is keywords.Class = refl
-keyword_is keywords.RoleType = refl
-keyword_is keywords.UserRole = refl
-keyword_is keywords.Allow = refl
-keyword_is keywords.Block = refl
-keyword_is keywords.BlockAbstract = refl
-keyword_is keywords.BlockInherit = refl
-keyword_is keywords.Macro = refl
-keyword_is keywords.Call = refl
-keyword_is keywords.Optional = refl
-keyword_is keywords.SetAside = refl
+keyword_is k = refl
 
 own_entry : (k : Keyword) → IsOwn (entry_of k)
 own_entry k = record {

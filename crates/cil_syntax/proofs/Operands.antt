@@ -6,19 +6,20 @@ use Rattle.std.specs.declared.alloc.Global.{Global}
 use Rattle.std.proofs.lemmas.List.{append-nil, length-drop, take_rest}
 use Rattle.cil_sexpr.specs.declared.node.Node as nodes
 use Rattle.cil_sexpr.specs.View.{nodes_of}
-use Rattle.cil_syntax.specs.declared.fault.Fault.{Fault}
+use Rattle.cil_faults.specs.declared.fault.Fault.{Fault}
 use Rattle.cil_syntax.specs.declared.kind.Sign.{Sign}
 use Rattle.cil_syntax.specs.declared.stop.Stop.{Stop}
 use Rattle.cil_syntax.specs.declared.stop.Stop.TheVariants.{OtherShape, NoMemory}
 use Rattle.cil_syntax.specs.declared.term.Op.{Op}
-use Rattle.cil_syntax.specs.declared.term.Spot.{Spot}
+use Rattle.cil_faults.specs.declared.spot.Spot.{Spot}
 use Rattle.cil_syntax.specs.declared.term.Term as rust
 use Rattle.cil_syntax.specs.declared.term.Term.{the_lemmas}
 use Rattle.cil_syntax.specs.declared.term.Term.TheVariants as variants
 use Rattle.cil_syntax.specs.declared.term.Word.{Word}
 use Rattle.cil_syntax.specs.Said.{said_of, all_said}
 use Rattle.cil_syntax.specs.Shapes.{Reading, Shape, set_of, Row, close, item, many, joined, read_row, formed, is_negation, operands, Cell, cells_of}
-use Rattle.cil_syntax.specs.Terms.{Form, Terms, spot_at}
+use Rattle.cil_syntax.specs.Terms.{Form, Terms}
+use Rattle.cil_faults.specs.Spots.{spot_at}
 use Rattle.cil_syntax.specs.Told.{IsTold, AreTold, Tells, TellAll}
 use Rattle.cil_syntax.proofs.ItemsRead.{joined-none, length-cells}
 

@@ -2,7 +2,7 @@
 use Rattle.std.proofs.Common.{◌≡◌, ℕ, zero, suc, ◌+◌, ◌<◌, ◌≤◌, List, [], ◌∷◌, ◌++◌, refl, sym, ◌∙◌, ap, subst, inl, inr, arith}
 use Rattle.std.specs.Prelude.{Contains}
 use Rattle.std.proofs.lemmas.List.Elements.{Contains-append_left, Contains-append_right, Contains-append_cases}
-use Rattle.cil_sexpr.specs.Lists.{contains_here, contains_later, contains_cases, contains_none}
+use Rattle.cil_base.specs.Lists.{contains_here, contains_later, contains_cases, contains_none}
 use Rattle.cil_sexpr.specs.Laws.{HasOneTree}
 use Rattle.cil_sexpr.specs.Text.{IsText}
 use Rattle.cil_sexpr.specs.Tree.{Node, Word as TextWord, Quoted, Branch, Nodes, none, next, span_of, inner_of, IsBetween, AreInOrder}
@@ -73,20 +73,10 @@ IsBehind (opened c k) = 0 < k
 
 behind_word : (c : Context) (k : Keyword) → IsBehind (opening_by c (entry_of k).body)
 unfolding entry_of
-behind_word c keywords.Type_ = tt
-behind_word c keywords.Class = tt
-behind_word c keywords.Role = tt
-behind_word c keywords.User = tt
-behind_word c keywords.RoleType = tt
-behind_word c keywords.UserRole = tt
-behind_word c keywords.Allow = tt
 behind_word c keywords.Block = omega arith
-behind_word c keywords.BlockAbstract = tt
-behind_word c keywords.BlockInherit = tt
 behind_word c keywords.Macro = omega arith
-behind_word c keywords.Call = tt
 behind_word c keywords.Optional = omega arith
-behind_word c keywords.SetAside = tt
+behind_word c k = tt
 
 pub behind_verdict : (c : Context) (v : Verdict) → IsBehind (opening_of c v)
 behind_verdict c (Refused i) = tt

@@ -1,16 +1,16 @@
 -- What is read of some cells is made of their bytes: a property of what nodes hold is one of each word that is read of them.
-use Rattle.std.specs.Prelude.{◌≡◌, ◌≢◌, ◌++◌, cond, map, ℕ, zero, suc, ◌+◌, ◌-◌, ◌≤◌, ◌==◌, length, Bool, true, false, if◌then◌else◌, List, [], ◌∷◌, codes, Option, Some, None, slice_range}
-use Rattle.std.proofs.Common.{sym, ◌∙◌, ap, subst, arith, take, drop}
+use Rattle.std.specs.Prelude.{◌≡◌, ◌≢◌, ◌++◌, ◌&&◌, cond, map, ℕ, zero, suc, ◌+◌, ◌-◌, ◌≤◌, ◌==◌, length, Bool, true, false, if◌then◌else◌, List, [], ◌∷◌, codes, Option, Some, None, slice_range}
+use Rattle.std.proofs.Common.{refl, sym, ◌∙◌, ap, subst, arith, take, drop}
 use Rattle.std.proofs.lemmas.List.{length-drop, length-take-le}
 use Rattle.std.specs.Option.{option_map_or}
 use Rattle.cil_sexpr.specs.Text.{IsText, IsNode, AreNodes}
 use Rattle.cil_sexpr.specs.Tree.{Node, Word as TextWord, Quoted, Branch, Nodes, none, next, span_of, inner_of}
 use Rattle.cil_modset.specs.Modules.{module_of}
-use Rattle.cil_syntax.specs.declared.code.FaultCode.TheVariants as causes
+use Rattle.cil_faults.specs.declared.code.FaultCode.TheVariants as causes
 use Rattle.cil_syntax.specs.declared.kind.Sign.{Sign}
 use Rattle.cil_syntax.specs.declared.term.Op.{Op}
 use Rattle.cil_syntax.specs.declared.term.Op.TheVariants as ops
-use Rattle.cil_syntax.specs.declared.term.Spot.{Spot}
+use Rattle.cil_faults.specs.declared.spot.Spot.{Spot}
 use Rattle.cil_syntax.specs.declared.term.Word.{Word}
 use Rattle.cil_syntax.specs.Shapes.{Inner, inner_at, word_of, Reading, Shape, declared_name, looked_up, set_of, fixed, left_out, any_left_out, either, list_of, unread, any_text, Row, close, item, many, counted, statements, anything, Face, a_word, a_string, a_list, Cell, all_lists, is_meant, joined, formed, operands, operator_of, is_negation, read_operator, read_set, read_word, read_string, read_list, read_row, cell_of, cells_of}
 use Rattle.cil_syntax.specs.Slices.{AreWritten, EachText, EachTextIn, WordsAreSlices}
@@ -66,30 +66,76 @@ both_plain : (xs ys : List Entry) → ArePlain xs → ArePlain ys → ArePlain (
 both_plain [] ys h k = k
 both_plain (x ∷ xs) ys h k = (h.0, both_plain xs ys h.1 k)
 
+and_left : (a b : Bool) → (a && b) ≡ true → a ≡ true
+and_left true b e = refl
+and_left false b e = e
+
+and_right : (a b : Bool) → (a && b) ≡ true → b ≡ true
+and_right true b e = e
+and_right false b e = absurd (let f : false ≡ true = e in cc)
+
+-- the operator is not that of a kept string
+abbrev is_no_text : Op → Bool
+is_no_text ops.UnreadText = false
+is_no_text op = true
+
+no_text : (op : Op) → is_no_text op ≡ true → op ≢ ops.UnreadText
+no_text ops.UnreadText e = absurd (let f : false ≡ true = e in cc)
+no_text op e = λ f. cc
+
+abbrev mutual
+  plain_shape : Shape → Bool
+  plain_shape declared_name = true
+  plain_shape (looked_up sign) = true
+  plain_shape (set_of sign) = true
+  plain_shape (fixed word op) = true
+  plain_shape (left_out word) = true
+  plain_shape any_left_out = true
+  plain_shape (either a b) = plain_shape a && plain_shape b
+  plain_shape (list_of op row) = is_no_text op && plain_row row
+  plain_shape unread = true
+  plain_shape any_text = true
+
+  plain_row : Row → Bool
+  plain_row close = true
+  plain_row (item shape row) = plain_shape shape && plain_row row
+  plain_row (many shape) = plain_shape shape
+  plain_row (counted count a b) = plain_row a && plain_row b
+  plain_row statements = true
+  plain_row anything = true
+
+mutual
+  shape_so : (s : Shape) → plain_shape s ≡ true → IsPlain s
+  shape_so declared_name e = tt
+  shape_so (looked_up sign) e = tt
+  shape_so (set_of sign) e = tt
+  shape_so (fixed word op) e = tt
+  shape_so (left_out word) e = tt
+  shape_so any_left_out e = tt
+  shape_so (either a b) e = (shape_so a (and_left (plain_shape a) (plain_shape b) e), shape_so b (and_right (plain_shape a) (plain_shape b) e))
+  shape_so (list_of op row) e = (no_text op (and_left (is_no_text op) (plain_row row) e), row_so row (and_right (is_no_text op) (plain_row row) e))
+  shape_so unread e = tt
+  shape_so any_text e = tt
+
+  row_so : (r : Row) → plain_row r ≡ true → IsPlainRow r
+  row_so close e = tt
+  row_so (item shape row) e = (shape_so shape (and_left (plain_shape shape) (plain_row row) e), row_so row (and_right (plain_shape shape) (plain_row row) e))
+  row_so (many shape) e = shape_so shape e
+  row_so (counted count a b) e = (row_so a (and_left (plain_row a) (plain_row b) e), row_so b (and_right (plain_row a) (plain_row b) e))
+  row_so statements e = tt
+  row_so anything e = tt
+
+abbrev plain_rows : List Entry → Bool
+plain_rows [] = true
+plain_rows (x ∷ xs) = plain_row x.row && plain_rows xs
+
+rows_so : (es : List Entry) → plain_rows es ≡ true → ArePlain es
+rows_so [] e = tt
+rows_so (x ∷ xs) e = (row_so x.row (and_left (plain_row x.row) (plain_rows xs) e), rows_so xs (and_right (plain_row x.row) (plain_rows xs) e))
+
 effective_plain : ArePlain effective
 unfolding effective entry_of
-effective_plain = (
-  (tt, tt),
-  (
-    (tt, tt),
-    (
-      (tt, tt),
-      (
-        (tt, (((λ e. cc), tt), tt)),
-        (
-          (tt, (tt, tt)),
-          (
-            (tt, (tt, tt)),
-            (
-              (tt, ((tt, (tt, (tt, tt))), ((tt, ((λ e. cc), (tt, (tt, tt)))), tt))),
-              ((tt, tt), ((tt, tt), ((tt, tt), ((tt, (((λ e. cc), ((λ e. cc), ((tt, (tt, (tt, (tt, (tt, (tt, tt)))))), (tt, tt)))), tt)), (((tt, tt), (tt, (((λ e. cc), tt), tt))), ((tt, tt), tt)))))),
-            ),
-          ),
-        ),
-      ),
-    ),
-  ),
-)
+effective_plain = rows_so effective refl
 
 table_plain : ArePlain table
 table_plain = both_plain effective (map set_aside set_aside_words) effective_plain (aside_plain set_aside_words)

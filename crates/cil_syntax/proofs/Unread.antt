@@ -10,7 +10,7 @@ use Rattle.cil_sexpr.specs.declared.node.Node.{the_lemmas}
 use Rattle.cil_sexpr.specs.declared.node.Span.{Span}
 use Rattle.cil_sexpr.specs.Tree.{Node, Word as TextWord, Quoted, Branch}
 use Rattle.cil_sexpr.specs.View.{node_of, nodes_of}
-use Rattle.cil_syntax.specs.declared.fault.Fault.{Fault}
+use Rattle.cil_faults.specs.declared.fault.Fault.{Fault}
 use Rattle.cil_syntax.specs.declared.kind.Sign.TheVariants as signs
 use Rattle.cil_syntax.specs.declared.shape.Row as rows
 use Rattle.cil_syntax.specs.declared.shape.Shape as shapes

@@ -3,7 +3,7 @@
 use Rattle.std.specs.Prelude.{ℕ, zero, suc, List, [], ◌∷◌, ◌++◌, map}
 use Rattle.std.specs.List.{flat_map}
 use Rattle.cil_sexpr.specs.Tree.{Node, Word as TextWord, Quoted, Branch, Nodes, none, next}
-use Rattle.cil_syntax.specs.declared.fault.Fault.{Fault}
+use Rattle.cil_faults.specs.declared.fault.Fault.{Fault}
 use Rattle.cil_syntax.specs.Table.{Body, plain, behind, entry_of}
 use Rattle.cil_syntax.specs.Written.{Context, Written, Verdict, Refused, Shaped, fault_of, verdict_of, inside_of}
 

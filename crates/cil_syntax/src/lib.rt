@@ -2,23 +2,16 @@
 //!
 //! Start at `written` in `program.rt`. `specs/Table.antt` has the statements, `specs/Shapes.antt` says how a node is
 //! read by a shape, and `specs/Written.antt` what is written and which faults a set of modules has; `laws.rt` says
-//! the same by a grammar without faults, and by a set of faults. `fault_list.rt` is the sorted list of faults that every layer hands up, and
-//! `specs/Refusal.antt` says "the value, and then the step has no fault; or exactly the step's faults". What names
-//! mean is not known here.
+//! the same by a grammar without faults, and by a set of faults. What names mean is not known here.
 #![tactic(auto)]
 
 mod clashes;
-mod code;
-mod failure;
-mod fault;
-mod fault_list;
 mod forms;
 mod kept;
 mod kind;
 pub mod laws;
 mod path;
 mod place;
-mod printed;
 mod program;
 mod reader;
 mod rows;
@@ -33,18 +26,17 @@ mod unsupported;
 mod verdict;
 mod words;
 
-pub use code::FaultCode;
-pub use failure::{Failure, refuse};
-pub use fault::{Bytes, Fault, push_fault, push_fault_in};
-pub use fault_list::FaultList;
+pub use cil_base::Bytes;
+pub use cil_faults::{
+    Failure, Fault, FaultCode, FaultList, Spot, push_fault, push_fault_in, refuse, render,
+};
 pub use forms::{
     ClassParts, DeclaredName, Parameter, RuleParts, WordAndTerms, WordPair, word_and_terms,
 };
 pub use kind::{Keyword, Kind, Nesting, Sign};
 pub use path::{Path, PathParts, parted, path_of};
 pub use place::joined;
-pub use printed::render;
 pub use program::{Program, Statement, written};
 pub use spelling::is_reserved;
-pub use term::{Excerpt, LookedUp, Op, Spot, Term, Word};
+pub use term::{Excerpt, LookedUp, Op, Term, Word};
 pub use words::is_spelled_for;

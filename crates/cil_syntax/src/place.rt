@@ -16,7 +16,7 @@ use crate::kind::{Keyword, Nesting};
 use crate::program::Statement;
 use crate::table::Entry;
 use crate::term::Term;
-use cil_modset::NoMemory;
+use cil_base::NoMemory;
 use std::alloc::Global;
 
 /// What is round some nodes.

@@ -1,23 +1,22 @@
 //! The written statements of a set of modules.
 
 ghost use Rattle.std.specs.Prelude.{◌≡◌, OnOk};
-ghost use Rattle.cil_sexpr.specs.Lists.{Lists};
+ghost use Rattle.cil_base.specs.Lists.{Lists};
 ghost use Rattle.cil_sexpr.specs.Text.{IsReadable};
 ghost use Rattle.cil_sexpr.specs.View.{node_of, nodes_of};
 ghost use Rattle.cil_syntax.specs.Program.{program_of};
-ghost use Rattle.cil_syntax.specs.Refusal.{Answers};
+ghost use Rattle.cil_faults.specs.Refusal.{Answers};
 ghost use Rattle.cil_syntax.specs.Standpoints.{found_behind, found_from, opened};
 ghost use Rattle.cil_syntax.specs.Told.{AreJudgedHere, IsModuleRead, StandsIn};
 ghost use Rattle.cil_syntax.specs.Written.{IsWritten, ShapeFault, at_top, written_cmp};
 
-use crate::failure::Failure;
-use crate::fault::Fault;
-use crate::fault_list::FaultList;
 use crate::kind::Keyword;
 use crate::place::Place;
 use crate::reader::Reader;
-use crate::term::{Spot, Term};
-use cil_modset::{ModuleSet, NoMemory};
+use crate::term::Term;
+use cil_base::NoMemory;
+use cil_faults::{Failure, Fault, FaultList, Spot};
+use cil_modset::ModuleSet;
 use cil_sexpr::{Node, ReadError, laws as texts, read};
 use std::alloc::Global;
 use std::marker::Model;

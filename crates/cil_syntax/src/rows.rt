@@ -7,12 +7,12 @@ ghost use Rattle.cil_syntax.specs.Laid.{items_before, items_of, row_of, shape_of
 ghost use Rattle.cil_syntax.specs.Shapes.{cell_of, cells_of, list_of, many, read_row as row_reading, statements};
 ghost use Rattle.cil_syntax.specs.Told.{TellAll, Tells};
 
-use crate::fault::Fault;
 use crate::kind::Sign;
 use crate::reader::Reader;
 use crate::shape::{Row, Shape};
 use crate::stop::Stop;
 use crate::term::{Op, Term};
+use cil_faults::Fault;
 use cil_sexpr::Node;
 
 impl<'r, 'a> Reader<'r, 'a> {

@@ -4,15 +4,14 @@ ghost use Rattle.std.specs.Prelude.{◌≡◌, MatchOption, if◌then◌else◌}
 ghost use Rattle.cil_sexpr.specs.View.{node_of, nodes_of};
 ghost use Rattle.cil_syntax.specs.Around.{space_of};
 ghost use Rattle.cil_syntax.specs.Shapes.{a_word, cell_of, cells_of, is_negation, many, operator_of, read_row, read_set as set_reading, set_of};
-ghost use Rattle.cil_syntax.specs.Terms.{spot_at};
+ghost use Rattle.cil_faults.specs.Spots.{spot_at};
 ghost use Rattle.cil_syntax.specs.Told.{HasOperator, IsUnion, TellAll, Tells};
 
-use crate::code::FaultCode;
-use crate::fault::Fault;
 use crate::kind::Sign;
 use crate::reader::{Reader, bytes_at};
 use crate::stop::Stop;
 use crate::term::{Op, Term};
+use cil_faults::{Fault, FaultCode};
 use cil_sexpr::{Node, Span};
 
 /// The operator that a word is at the head of a set.

@@ -4,17 +4,16 @@ ghost use Rattle.std.specs.Prelude.{◌≡◌, ◌∷◌, ◌++◌, [], OnOk, sl
 ghost use Rattle.cil_sexpr.specs.View.{node_of};
 ghost use Rattle.cil_syntax.specs.Around.{space_of};
 ghost use Rattle.cil_syntax.specs.Shapes.{any_left_out, cell_of, declared_name, fixed as fixed_shape, inner_at, is_spelled, left_out, looked_up, read_left_out as left_out_reading, word_faults};
-ghost use Rattle.cil_syntax.specs.Terms.{spot_at};
+ghost use Rattle.cil_faults.specs.Spots.{spot_at};
 ghost use Rattle.cil_syntax.specs.Told.{Tells, told};
 
-use crate::code::FaultCode;
-use crate::fault::Fault;
 use crate::kind::Sign;
 use crate::reader::{Reader, bytes_at};
 use crate::spelling::{is_name, is_path, is_reserved};
 use crate::stop::Stop;
 use crate::term::{Excerpt, LookedUp, Op, Term};
-use cil_modset::NoMemory;
+use cil_base::NoMemory;
+use cil_faults::{Fault, FaultCode};
 use cil_sexpr::Node;
 
 /// Whether a word is spelled as its sign wants.

@@ -1,11 +1,11 @@
-//! What tests ask of all that is placed in modules with blocks and macros.
+//! Module texts that several files use, and what tests ask of all that is placed in modules with blocks and macros.
 
-use crate::policies::set_of;
 use cil_blocks::spelled::spelled;
 use cil_blocks::{Namespaces, Spaces, inherit};
 use cil_macros::{Instances, expand};
 use cil_modset::ModuleSet;
 use cil_names::Entry;
+use cil_sexpr::ReadError;
 use cil_syntax::{FaultList, Program, render, written};
 use std::alloc::Global;
 
@@ -17,46 +17,44 @@ pub(crate) trait Question {
 
 /// The answer for what stands in blocks. None where a call is wrong, or there is no memory.
 fn expanded<Q: Question>(alloc: Global, spaces: &Spaces, question: &Q) -> Option<String> {
-    match expand(alloc, spaces) {
-        Ok(instances) => question.answer(alloc, &instances),
-        Err(_) => None,
-    }
+    let instances = expand(alloc, spaces).ok()?;
+    question.answer(alloc, &instances)
 }
 
 /// The same for what is written.
 fn inherited<Q: Question>(alloc: Global, program: &Program, question: &Q) -> Option<String> {
-    match inherit(alloc, program) {
-        Ok(spaces) => expanded(alloc, &spaces, question),
-        Err(_) => None,
-    }
+    let spaces = inherit(alloc, program).ok()?;
+    expanded(alloc, &spaces, question)
 }
 
 /// The same for modules.
 fn answer_of<Q: Question>(alloc: Global, modules: &ModuleSet, question: &Q) -> Option<String> {
-    match written(alloc, modules) {
-        Ok(program) => inherited(alloc, &program, question),
-        Err(_) => None,
-    }
+    let program = written(alloc, modules).ok()?;
+    inherited(alloc, &program, question)
 }
 
 /// The same for some texts.
-pub(crate) fn answer_to<Q: Question>(
-    alloc: Global,
-    texts: &[&str],
-    question: &Q,
-) -> Option<String> {
-    match set_of(alloc, texts) {
-        Ok(modules) => answer_of(alloc, &modules, question),
-        Err(_) => None,
+fn answer_to<Q: Question>(alloc: Global, texts: &[&str], ask: &Q) -> Option<String> {
+    let modules = set_of(alloc, texts).ok()?;
+    answer_of(alloc, &modules, ask)
+}
+
+/// Whether this is the answer for some texts.
+pub(crate) fn is_answer<Q: Question>(alloc: Global, texts: &[&str], ask: &Q, want: &str) -> bool {
+    answer_to(alloc, texts, ask).is_some_and(|got| got.as_str() == want)
+}
+
+/// Whether a row holds: a text, and behind an arrow the answer for it.
+pub(crate) fn row_holds<Q: Question>(alloc: Global, row: &str, question: &Q) -> bool {
+    match row.split_once(" => ") {
+        Some((text, want)) => is_answer(alloc, &[text], question, want),
+        None => false,
     }
 }
 
 /// The lines of faults.
 pub(crate) fn lines(alloc: Global, faults: &FaultList) -> Option<String> {
-    match render(alloc, faults) {
-        Ok(bytes) => String::from_utf8(bytes).ok(),
-        Err(_) => None,
-    }
+    String::from_utf8(render(alloc, faults).ok()?).ok()
 }
 
 /// Adds the kind and the qualified name of an entry.
@@ -75,4 +73,28 @@ pub(crate) fn show_entry(
     let name = str::from_utf8(entry.name.as_slice()).ok()?;
     let kind = entry.kind;
     write!(out, "{kind:?} {space}{dot}{name}").ok()
+}
+
+/// A module with a class, a user, a role, two types and a rule: 123 bytes.
+pub(crate) const FIRST: &str =
+    "(class file (open read))(user u)(role r)(type a)(type b)(userrole u r)(roletype r a)(roletype r b)(allow a b (file (read)))";
+
+/// The set of some texts, installed in this order.
+pub(crate) fn set_of(alloc: Global, texts: &[&str]) -> Result<ModuleSet, ReadError> {
+    let mut modules = ModuleSet::new(alloc);
+    for text in texts {
+        modules.install(alloc, text.as_bytes())?;
+    }
+    Ok(modules)
+}
+
+/// The set of up to three texts, with ` & ` between.
+pub(crate) fn set_of_row(alloc: Global, texts: &str) -> Result<ModuleSet, ReadError> {
+    let Some((first, rest)) = texts.split_once(" & ") else {
+        return set_of(alloc, &[texts]);
+    };
+    match rest.split_once(" & ") {
+        Some((second, third)) => set_of(alloc, &[first, second, third]),
+        None => set_of(alloc, &[first, rest]),
+    }
 }

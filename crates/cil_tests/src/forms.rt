@@ -1,12 +1,73 @@
-//! What statements say, by their forms.
+//! Written statements: what they say, in which statement each is, what they are asked by their forms, and what bodies declare.
 
-use crate::policies::{FIRST, set_of};
-use cil_syntax::{
-    Excerpt, FaultCode, FaultList, LookedUp, Op, Sign, Spot, Statement, Term, push_fault, render,
-    word_and_terms, written,
-};
+use crate::answers::{set_of, set_of_row};
+use cil_macros::declared_in_bodies;
+use cil_syntax::{Excerpt, LookedUp, Op, Sign, Spot, Statement, Term, word_and_terms, written};
 use std::alloc::Global;
 use std::test::Fail;
+
+/// Adds a term: what it is, where it begins, and what it says.
+fn show_term(out: &mut String, term: &Term) -> Result<(), Fail> {
+    match term {
+        Term::Leaf(word) => {
+            let (sign, at, bytes) = (word.sign, word.at, text(word.bytes.as_slice()));
+            write!(out, " {sign:?}:{at}:{bytes}")?;
+        }
+        Term::Name(at, bytes) => write!(out, " Name:{at}:{}", text(bytes.as_slice()))?,
+        Term::Form(op, at, parts) => {
+            write!(out, " {op:?}:{at}[")?;
+            for part in parts {
+                show_term(out, part)?;
+            }
+            write!(out, " ]")?;
+        }
+    }
+    Ok(())
+}
+
+/// Adds a statement, in one line.
+fn show_statement(out: &mut String, statement: &Statement) -> Result<(), Fail> {
+    let (keyword, module, at) = (statement.keyword, statement.at.module, statement.at.at);
+    write!(out, "{keyword:?}:{module}:{at}")?;
+    if let Some(under) = statement.under {
+        write!(out, " in {under}")?;
+    }
+    for term in &statement.args {
+        show_term(out, term)?;
+    }
+    write!(out, "\n")?;
+    Ok(())
+}
+
+/// The statements of some texts, each in one line.
+fn shown(alloc: Global, texts: &str) -> Result<String, Fail> {
+    let modules = set_of_row(alloc, texts)?;
+    let program = written(alloc, &modules)?;
+    let mut out = String::new(alloc);
+    for statement in program.statements() {
+        show_statement(&mut out, statement)?;
+    }
+    Ok(out)
+}
+
+/// Modules with ` & ` between, and what their statements say; behind `in` the number of the statement in which one is.
+const SAID: &[&str] = &[
+    " => ",
+    "(class file (open read))(user u)(role r)(type a)(type b)(userrole u r)(roletype r a)(roletype r b)(allow a b (file (read))) => Class:0:0 Name:7:file Listed:12[ Name:13:open Name:18:read ]\nUser:0:24 Name:30:u\nRole:0:32 Name:38:r\nType_:0:40 Name:46:a\nType_:0:48 Name:54:b\nUserRole:0:56 Users:66:u Roles:68:r\nRoleType:0:70 Roles:80:r Types:82:a\nRoleType:0:84 Roles:94:r Types:96:b\nAllow:0:98 Types:105:a Types:107:b ClassPermissions:109[ Classes:110:file Union:115[ Permission:116:read ] ]\n",
+    "(allow .b.c self (x.y ((a) b))) => Allow:0:0 Types:7:.b.c Itself:12[ ] ClassPermissions:17[ Classes:18:x.y Union:22[ Union:23[ Permission:24:a ] Permission:27:b ] ]\n",
+    "(user u)(type c) & (type b) (type a) & (type a) => Type_:0:0 Name:6:a\nType_:1:0 Name:6:b\nType_:1:9 Name:15:a\nUser:2:0 Name:6:u\nType_:2:8 Name:14:c\n",
+    "(block b (type a)(blockinherit c))(macro m ((type p)))(call m (a (b) \"s\"))(filecon x) => Block:0:0 Name:7:b\nType_:0:9 in 0 Name:15:a\nBlockInherit:0:17 in 0 Blocks:31:c\nMacro:0:34 Name:41:m Parameters:43[ Parameter:44[ TypeKind:45[ ] Name:50:p ] ]\nCall:0:54 Macros:60:m Arguments:62[ Unread:63:a UnreadList:65[ Unread:66:b ] UnreadText:69[ Name:69:\"s\" ] ]\nSetAside:0:74\n",
+    "(block a (type b)(block c (type d)))(macro m () (type e)) => Block:0:0 Name:7:a\nType_:0:9 in 0 Name:15:b\nBlock:0:17 in 0 Name:24:c\nType_:0:26 in 2 Name:32:d\nMacro:0:36 Name:43:m Parameters:45[ ]\nType_:0:48 in 4 Name:54:e\n",
+];
+
+#[test]
+fn statements_say_what_is_written(rt: HostRuntime) -> Result<(), Fail> {
+    for row in SAID {
+        let (texts, want) = row.split_once(" => ").ok_or("no row")?;
+        assert_eq!(rt; shown(rt.alloc(), texts)?.as_str(), want, "{texts}");
+    }
+    Ok(())
+}
 
 /// The words of a text that is a part of another.
 fn text(bytes: &[u8]) -> &str {
@@ -20,17 +81,13 @@ fn text(bytes: &[u8]) -> &str {
 fn line_of(alloc: Global, statement: &Statement) -> Result<String, Fail> {
     if let Some(name) = statement.declared_name() {
         let (at, name) = (name.at.at, text(name.bytes));
-        let listed = match statement.listed_behind_name() {
-            Some(items) => items.len(),
-            None => 0,
-        };
+        let items = statement.listed_behind_name();
+        let listed = items.map_or(0, |items| items.len());
         return Ok(format!(in alloc; "{name} at {at}, {listed} listed")?);
     }
     if let Some(words) = statement.two_words() {
-        let (first, second) = (
-            text(words.first.bytes.as_slice()),
-            text(words.second.bytes.as_slice()),
-        );
+        let first = text(words.first.bytes.as_slice());
+        let second = text(words.second.bytes.as_slice());
         return Ok(format!(in alloc; "{first} and {second}")?);
     }
     let Some(rule) = statement.rule_parts() else {
@@ -49,27 +106,29 @@ fn line_of(alloc: Global, statement: &Statement) -> Result<String, Fail> {
     Ok(format!(in alloc; "{source} to {target}: {class}")?)
 }
 
-/// The statements of the first policy, each in one line.
+/// Statements, and behind arrows what they are in one line.
 const LINES: &[&str] = &[
-    "file at 7, 2 listed",
-    "u at 30, 0 listed",
-    "r at 38, 0 listed",
-    "a at 46, 0 listed",
-    "b at 54, 0 listed",
-    "u and r",
-    "r and a",
-    "r and b",
-    "a to b: file",
+    "(class file (open read)) => file at 7, 2 listed",
+    "(type a) => a at 6, 0 listed",
+    "(userrole u r) => u and r",
+    "(allow a b (file (read))) => a to b: file",
+    "(allow a self (file (read))) => a to no word: file",
+    "(blockinherit b) => no form",
 ];
+
+/// The first statement of a text in one line.
+fn first_line(alloc: Global, text: &str) -> Result<String, Fail> {
+    let modules = set_of(alloc, &[text])?;
+    let program = written(alloc, &modules)?;
+    let statement = program.statements().first().ok_or("no statement")?;
+    line_of(alloc, statement)
+}
 
 #[test]
 fn statements_are_asked_by_their_forms(rt: HostRuntime) -> Result<(), Fail> {
-    let alloc = rt.alloc();
-    let modules = set_of(alloc, &[FIRST])?;
-    let program = written(alloc, &modules)?;
-    assert_eq!(rt; program.statements().len(), LINES.len());
-    for (statement, &want) in program.statements().iter().zip(LINES) {
-        assert_eq!(rt; line_of(alloc, statement)?.as_str(), want);
+    for row in LINES {
+        let (text, want) = row.split_once(" => ").ok_or("no row")?;
+        assert_eq!(rt; first_line(rt.alloc(), text)?.as_str(), want, "{text}");
     }
     Ok(())
 }
@@ -108,21 +167,52 @@ fn terms_are_asked_by_their_forms(rt: HostRuntime) -> Result<(), Fail> {
     Ok(())
 }
 
+/// Two macros that declare one name in two kinds, and a type outside of both. The macros have the numbers 0 and 3.
+const TWO: &str = "(macro m () (type x)(user u))(macro k () (role x))(type y)";
+
+/// What words may want.
+const SIGNS: &[Sign] = &[
+    Sign::Types,
+    Sign::Roles,
+    Sign::Users,
+    Sign::Classes,
+    Sign::PlainClass,
+    Sign::Macros,
+    Sign::Blocks,
+    Sign::Permission,
+    Sign::Text,
+    Sign::Unread,
+];
+
+/// The number of a macro, a word, and what its body declares under that name.
+const ROWS: &[(usize, &str, Option<Sign>)] = &[
+    (0, "x", Some(Sign::Types)),
+    (0, "u", Some(Sign::Users)),
+    (3, "x", Some(Sign::Roles)),
+    (3, "u", None),
+    // It is declared outside of all bodies, or it is a macro; a name is a whole one.
+    (0, "y", None),
+    (3, "y", None),
+    (0, "m", None),
+    (0, "xx", None),
+    (0, "", None),
+];
+
+/// Whether the body of the macro of a number declares what a word of this sign may name.
+fn is_declared(alloc: Global, number: usize, word: &str, sign: Sign) -> Result<bool, Fail> {
+    let modules = set_of(alloc, &[TWO])?;
+    let program = written(alloc, &modules)?;
+    let declared = declared_in_bodies(alloc, program.statements())?;
+    Ok(declared.has(number, word.as_bytes(), sign))
+}
+
 #[test]
-fn a_fault_of_the_global_namespace_is_reported(rt: HostRuntime) -> Result<(), Fail> {
-    let alloc = rt.alloc();
-    let mut faults = Vec::new(alloc);
-    push_fault(
-        alloc,
-        &mut faults,
-        FaultCode::Unresolved,
-        Spot::of(3, 7),
-        b"nobody",
-    )?;
-    let list = FaultList::of(faults).ok_or("no faults")?;
-    assert_eq!(rt;
-        render(alloc, &list)?.as_slice(),
-        b"41 3 7 . nobody\n".as_slice()
-    );
+fn bodies_declare_what_is_written_in_them(rt: HostRuntime) -> Result<(), Fail> {
+    for &(number, word, want) in ROWS {
+        for &sign in SIGNS {
+            let got = is_declared(rt.alloc(), number, word, sign)?;
+            assert_eq!(rt; got, want == Some(sign), "{number} {word} {sign:?}");
+        }
+    }
     Ok(())
 }

@@ -9,8 +9,7 @@ use std::test::Fail;
 /// Namespaces, each by the number of the one round it and its own name: `p` has the number 1, `r` 2 and `p.q` 3.
 const SPACES: &[(usize, &[u8])] = &[(0, b"p"), (0, b"r"), (1, b"q")];
 
-/// A declared name: its namespace, its name, its kind, and the optionals round each of its statements. A name with no
-/// optionals is declared outside all.
+/// A namespace, a name, its kind, and the optionals round each of its statements; with none it is declared outside all.
 pub(crate) type Declared = (usize, &'static [u8], Kind, &'static [&'static [usize]]);
 
 /// Declared names, in order.
@@ -26,19 +25,16 @@ const DECLARED: &[Declared] = &[
     (3, b"z", Kind::Class, &[]),
 ];
 
+type Spaces = Namespaces<'static>;
 /// The number of a namespace, which is added if it is not there.
-fn number(
-    spaces: &mut Namespaces<'static>,
-    outer: usize,
-    name: &'static [u8],
-) -> Result<usize, Fail> {
+fn number(spaces: &mut Spaces, outer: usize, name: &'static [u8]) -> Result<usize, Fail> {
     if outer > spaces.len() {
         return Err(Fail::from("no namespace"));
     }
     Ok(spaces.number(outer, name)?)
 }
 
-pub(crate) fn spaces(alloc: Global) -> Result<Namespaces<'static>, Fail> {
+pub(crate) fn spaces(alloc: Global) -> Result<Spaces, Fail> {
     let mut spaces = Namespaces::global(alloc);
     for &(outer, name) in SPACES {
         number(&mut spaces, outer, name)?;
@@ -49,9 +45,7 @@ pub(crate) fn spaces(alloc: Global) -> Result<Namespaces<'static>, Fail> {
 fn rounds(alloc: Global, optionals: &[&[usize]]) -> Result<Vec<Vec<usize>>, Fail> {
     let mut rounds = Vec::new(alloc);
     for round in optionals {
-        let mut copy = Vec::new(alloc);
-        copy.extend_from_slice(round)?;
-        rounds.push(copy)?;
+        rounds.push(Vec::from_slice(alloc, round)?)?;
     }
     Ok(rounds)
 }
@@ -79,106 +73,60 @@ pub(crate) fn word(bytes: &'static [u8], sign: Sign) -> Word<'static> {
     }
 }
 
+type Found = Option<usize>;
 /// The number of the declared name that a word names in a scope where some optionals are enabled.
-fn named(
-    alloc: Global,
-    word: &Word<'static>,
-    scope: &[usize],
-    flags: &[bool],
-) -> Result<Option<usize>, Fail> {
+fn named(alloc: Global, word: &Word, scope: &[usize], flags: &[bool]) -> Result<Found, Fail> {
     let spaces = spaces(alloc)?;
     let names = Names::checked(&spaces, entries(alloc, DECLARED)?).ok_or("they do not rise")?;
-    let mut enabled = Vec::new(alloc);
-    enabled.extend_from_slice(flags)?;
+    let enabled = OptSet::of(Vec::from_slice(alloc, flags)?);
     if !are_numbers(&spaces, scope) {
         return Err(Fail::from("no namespace"));
     }
-    Ok(names.resolve(&spaces, word, scope, &OptSet::of(enabled)))
+    Ok(names.resolve(&spaces, word, scope, &enabled))
 }
 
 /// A word, what it wants, its scope, the enabled optionals, and the number of the declared name that it names.
-type Row = (
-    &'static [u8],
-    Sign,
-    &'static [usize],
-    &'static [bool],
-    Option<usize>,
-);
-
-const NAMED: &[(&str, &[Row])] = &[
-    (
-        "the first namespace of the scope that has the name",
-        &[
-            (b"x", Sign::Types, &[1, 2, 0], &[], Some(4)),
-            (b"x", Sign::Types, &[2, 1, 0], &[], Some(5)),
-            (b"x", Sign::Types, &[3, 1, 0], &[], Some(4)),
-            (b"y", Sign::Roles, &[3, 1, 2, 0], &[], Some(6)),
-        ],
-    ),
-    (
-        "the global namespace, last",
-        &[
-            (b"o", Sign::Types, &[2, 0], &[], Some(0)),
-            (b"x", Sign::Types, &[0], &[], Some(1)),
-            (b"y", Sign::Roles, &[1, 0], &[], None),
-        ],
-    ),
-    (
-        "a leading dot asks the global namespace alone",
-        &[
-            (b".x", Sign::Types, &[1, 2, 0], &[], Some(1)),
-            (b".y", Sign::Roles, &[2, 0], &[], None),
-            (b".p.x", Sign::Types, &[2, 0], &[], Some(4)),
-        ],
-    ),
-    (
-        "names before a dot are those of namespaces",
-        &[
-            (b"p.x", Sign::Types, &[0], &[], Some(4)),
-            (b"r.x", Sign::Types, &[1, 0], &[], Some(5)),
-            (b"q.z", Sign::Classes, &[1, 0], &[], Some(8)),
-            (b"q.z", Sign::Classes, &[2, 0], &[], None),
-            (b"p.q.z", Sign::Classes, &[2, 1, 0], &[], Some(8)),
-            (b"p.r.x", Sign::Types, &[0], &[], None),
-            (b"s.x", Sign::Types, &[1, 2, 0], &[], None),
-        ],
-    ),
-    (
-        "a name of another name space hides nothing",
-        &[
-            (b"x", Sign::Roles, &[1, 2, 0], &[], Some(2)),
-            (b"y", Sign::Types, &[2, 0], &[], None),
-            (b"x", Sign::Users, &[1, 2, 0], &[], None),
-            (b"x", Sign::Classes, &[1, 2, 0], &[], None),
-        ],
-    ),
-    (
-        "a permission is no name",
-        &[(b"x", Sign::Permission, &[1, 2, 0], &[], None)],
-    ),
-    (
-        "a name in an optional is there where that is enabled",
-        &[
-            (b"o", Sign::Types, &[1, 0], &[], Some(0)),
-            (b"o", Sign::Types, &[1, 0], &[false], Some(0)),
-            (b"o", Sign::Types, &[1, 0], &[true], Some(3)),
-            (b"q.x", Sign::Types, &[1, 0], &[true, false], None),
-            (b"q.x", Sign::Types, &[1, 0], &[true, true], Some(7)),
-            (b"q.x", Sign::Types, &[1, 0], &[false, false, true], Some(7)),
-        ],
-    ),
+const NAMED: &[(&[u8], Sign, &[usize], &[bool], Found)] = &[
+    // The first namespace of the scope that has the name.
+    (b"x", Sign::Types, &[1, 2, 0], &[], Some(4)),
+    (b"x", Sign::Types, &[2, 1, 0], &[], Some(5)),
+    (b"x", Sign::Types, &[3, 1, 0], &[], Some(4)),
+    (b"y", Sign::Roles, &[3, 1, 2, 0], &[], Some(6)),
+    (b"o", Sign::Types, &[2, 0], &[], Some(0)),
+    (b"x", Sign::Types, &[0], &[], Some(1)),
+    (b"y", Sign::Roles, &[1, 0], &[], None),
+    // A leading dot asks the global namespace alone.
+    (b".x", Sign::Types, &[1, 2, 0], &[], Some(1)),
+    (b".y", Sign::Roles, &[2, 0], &[], None),
+    (b".p.x", Sign::Types, &[2, 0], &[], Some(4)),
+    // Names before a dot are those of namespaces.
+    (b"p.x", Sign::Types, &[0], &[], Some(4)),
+    (b"r.x", Sign::Types, &[1, 0], &[], Some(5)),
+    (b"q.z", Sign::Classes, &[1, 0], &[], Some(8)),
+    (b"q.z", Sign::Classes, &[2, 0], &[], None),
+    (b"p.q.z", Sign::Classes, &[2, 1, 0], &[], Some(8)),
+    (b"p.r.x", Sign::Types, &[0], &[], None),
+    (b"s.x", Sign::Types, &[1, 2, 0], &[], None),
+    // A name of another name space hides nothing.
+    (b"x", Sign::Roles, &[1, 2, 0], &[], Some(2)),
+    (b"y", Sign::Types, &[2, 0], &[], None),
+    (b"x", Sign::Users, &[1, 2, 0], &[], None),
+    (b"x", Sign::Classes, &[1, 2, 0], &[], None),
+    (b"x", Sign::Permission, &[1, 2, 0], &[], None),
+    // A name in an optional is there where that is enabled.
+    (b"o", Sign::Types, &[1, 0], &[], Some(0)),
+    (b"o", Sign::Types, &[1, 0], &[false], Some(0)),
+    (b"o", Sign::Types, &[1, 0], &[true], Some(3)),
+    (b"q.x", Sign::Types, &[1, 0], &[true, false], None),
+    (b"q.x", Sign::Types, &[1, 0], &[true, true], Some(7)),
+    (b"q.x", Sign::Types, &[1, 0], &[false, false, true], Some(7)),
 ];
 
 #[test]
 fn words_name_the_first_that_is_declared(rt: HostRuntime) -> Result<(), Fail> {
-    for &(name, rows) in NAMED {
-        for &(bytes, sign, scope, flags, wanted) in rows {
-            assert_eq!(rt;
-                named(rt.alloc(), &word(bytes, sign), scope, flags)?,
-                wanted,
-                "{name}"
-            );
-        }
+    for &(bytes, sign, scope, flags, wanted) in NAMED {
+        let got = named(rt.alloc(), &word(bytes, sign), scope, flags)?;
+        assert_eq!(rt; got, wanted, "{bytes:?} {sign:?} {scope:?} {flags:?}");
     }
     Ok(())
 }
@@ -227,11 +175,8 @@ const NUMBERED: &[(usize, &[u8], usize)] = &[
 fn each_namespace_has_one_number(rt: HostRuntime) -> Result<(), Fail> {
     for &(outer, name, wanted) in NUMBERED {
         let mut spaces = spaces(rt.alloc())?;
-        assert_eq!(rt;
-            number(&mut spaces, outer, name)?,
-            wanted,
-            "{outer} {name:?}"
-        );
+        let got = number(&mut spaces, outer, name)?;
+        assert_eq!(rt; got, wanted, "{outer} {name:?}");
     }
     Ok(())
 }

@@ -1,7 +1,6 @@
 //! Choices of optionals, right and wrong: what `check` says of them, and that what is chosen is right.
 
-use crate::answers::{Question, answer_to, lines};
-use crate::policies::FIRST;
+use crate::answers::{FIRST, Question, is_answer, lines};
 use cil_macros::Instances;
 use cil_names::{OptSet, declare, permissions_of};
 use cil_optionals::guesses::guess;
@@ -9,341 +8,116 @@ use cil_optionals::laws::greatest_in_rounds;
 use cil_optionals::{Chosen, Reason, base_faults, check, greatest_counted};
 use cil_syntax::Failure;
 use std::alloc::Global;
+use std::test::Fail;
 
-// The first policy has the statements 0 to 8. Those of the module behind it have the numbers from 9 on: first those that are
-// in no optional, then what is in each of these.
+// The first policy has the statements 0 to 8. The module behind it has those from 9 on: first all in no optional, then those in each.
 
 /// The optional 9 has the rule 11, the optional 10 the type 12 and the rule 13.
 const CHAIN: &str =
     "(optional A (allow a x (file (read))))(optional B (type x)(allow x nobody (file (read))))";
 
-const NOBODY: Reason = Reason::Missing {
-    optional: 10,
-    instance: 13,
-    word: 1,
-};
+/// Why an optional is left out: its number, and the statement and the word that names nothing; or else what is round it is out.
+type Why = (u32, Option<(u32, u32)>);
 
-const NO_X: Reason = Reason::Missing {
-    optional: 9,
-    instance: 11,
-    word: 1,
-};
+/// The word `nobody` of the optional 10, and `x` of the optional 9.
+const NOBODY: Why = (10, Some((13, 1)));
 
+const NO_X: Why = (9, Some((11, 1)));
 /// The optional 9 has the type 11 and the rule 12, the optional 10 the type 13 and the rule 14.
 const MUTUAL: &str =
     "(optional A (type x)(allow x y (file (read))))(optional B (type y)(allow y x (file (read))))";
-
 /// The optional 9 has the statement 10, and the optional 11 with the type 12.
 const NESTED: &str = "(optional A (roletype r nobody)(optional B (type z)))";
 
-const OUTER_OUT: Reason = Reason::Missing {
-    optional: 9,
-    instance: 10,
-    word: 1,
-};
+const OUTER_OUT: Why = (9, Some((10, 1)));
 
-const PARENT_OUT: Reason = Reason::ParentOut { optional: 11 };
+/// A module without optionals, and a number of nothing.
+const NONE: &str = "(type z)";
 
-/// What a choice is about, the module behind the first policy, the optionals that are in, the reasons of the others, and
-/// whether that is right.
-const CHOICES: &[(&str, &str, &[usize], &[Reason], bool)] = &[
-    ("a chain", CHAIN, &[], &[NOBODY, NO_X], true),
+const NO: u32 = u32::MAX;
+
+/// What a row is about, `right` or what is wrong; the optionals that are in, and why the others are out.
+type Row = (&'static str, &'static [usize], &'static [Why]);
+
+/// Modules behind the first policy, and choices for them.
+const CHOICES: &[(&str, &[Row])] = &[
     (
-        "a chain, the other order",
         CHAIN,
-        &[],
-        &[NO_X, NOBODY],
-        false,
-    ),
-    (
-        "a chain, one without a reason",
-        CHAIN,
-        &[],
-        &[NOBODY],
-        false,
-    ),
-    ("a chain, no reasons", CHAIN, &[], &[], false),
-    ("a chain, all are in", CHAIN, &[9, 10], &[], false),
-    (
-        "a chain, one is in whose word names nothing",
-        CHAIN,
-        &[9],
-        &[NOBODY],
-        false,
-    ),
-    (
-        "a chain, one twice",
-        CHAIN,
-        &[],
-        &[NOBODY, NOBODY, NO_X],
-        false,
-    ),
-    (
-        "a chain, one twice at the end",
-        CHAIN,
-        &[],
-        &[NOBODY, NO_X, NO_X],
-        false,
-    ),
-    (
-        "a chain, one is in and out",
-        CHAIN,
-        &[10],
-        &[NOBODY, NO_X],
-        false,
-    ),
-    (
-        "a word that its own optional declares",
-        CHAIN,
-        &[],
         &[
-            Reason::Missing {
-                optional: 10,
-                instance: 13,
-                word: 0,
-            },
-            NO_X,
+            ("right", &[], &[NOBODY, NO_X]),
+            ("the other order", &[], &[NO_X, NOBODY]),
+            ("one without a reason", &[], &[NOBODY]),
+            ("no reasons", &[], &[]),
+            ("all are in", &[9, 10], &[]),
+            ("one with a missing name is in", &[9], &[NOBODY]),
+            ("one twice", &[], &[NOBODY, NOBODY, NO_X]),
+            ("one twice at the end", &[], &[NOBODY, NO_X, NO_X]),
+            ("one is in and out", &[10], &[NOBODY, NO_X]),
+            ("what it declares", &[], &[(10, Some((13, 0))), NO_X]),
+            ("a permission", &[], &[NOBODY, (9, Some((11, 3)))]),
+            ("no such word", &[], &[(10, Some((13, 4))), NO_X]),
+            ("a word of another", &[], &[NOBODY, (9, Some((13, 1)))]),
+            ("a word outside", &[], &[NOBODY, (9, Some((8, 1)))]),
+            ("no optional is round it", &[], &[NOBODY, (9, None)]),
+            ("no numbers", &[], &[NOBODY, NO_X, (NO, Some((NO, NO)))]),
+            ("no such statement", &[], &[(10, Some((NO, 1))), NO_X]),
+            ("parent of none", &[], &[NOBODY, NO_X, (14, None)]),
+            ("no optional", &[], &[NOBODY, NO_X, (11, Some((11, 1)))]),
+            ("a number of nothing is in", &[14], &[NOBODY, NO_X]),
+            ("a number far from all is in", &[30], &[NOBODY, NO_X]),
+            ("what is no optional is in", &[11], &[NOBODY, NO_X]),
         ],
-        false,
     ),
     (
-        "a permission that is there",
-        CHAIN,
-        &[],
-        &[
-            NOBODY,
-            Reason::Missing {
-                optional: 9,
-                instance: 11,
-                word: 3,
-            },
-        ],
-        false,
-    ),
-    (
-        "a word that is not there",
-        CHAIN,
-        &[],
-        &[
-            Reason::Missing {
-                optional: 10,
-                instance: 13,
-                word: 4,
-            },
-            NO_X,
-        ],
-        false,
-    ),
-    (
-        "the word of another optional",
-        CHAIN,
-        &[],
-        &[
-            NOBODY,
-            Reason::Missing {
-                optional: 9,
-                instance: 13,
-                word: 1,
-            },
-        ],
-        false,
-    ),
-    (
-        "the word of a statement outside",
-        CHAIN,
-        &[],
-        &[
-            NOBODY,
-            Reason::Missing {
-                optional: 9,
-                instance: 8,
-                word: 1,
-            },
-        ],
-        false,
-    ),
-    (
-        "no optional is round it",
-        CHAIN,
-        &[],
-        &[NOBODY, Reason::ParentOut { optional: 9 }],
-        false,
-    ),
-    (
-        "numbers of nothing",
-        CHAIN,
-        &[],
-        &[
-            NOBODY,
-            NO_X,
-            Reason::Missing {
-                optional: 4294967295,
-                instance: 4294967295,
-                word: 4294967295,
-            },
-        ],
-        false,
-    ),
-    (
-        "a statement of no number",
-        CHAIN,
-        &[],
-        &[
-            Reason::Missing {
-                optional: 10,
-                instance: 4294967295,
-                word: 1,
-            },
-            NO_X,
-        ],
-        false,
-    ),
-    (
-        "the parent of no number",
-        CHAIN,
-        &[],
-        &[NOBODY, NO_X, Reason::ParentOut { optional: 14 }],
-        false,
-    ),
-    (
-        "a reason for what is no optional",
-        CHAIN,
-        &[],
-        &[
-            NOBODY,
-            NO_X,
-            Reason::Missing {
-                optional: 11,
-                instance: 11,
-                word: 1,
-            },
-        ],
-        false,
-    ),
-    (
-        "a number of nothing is in",
-        CHAIN,
-        &[14],
-        &[NOBODY, NO_X],
-        false,
-    ),
-    (
-        "a number far from all is in",
-        CHAIN,
-        &[30],
-        &[NOBODY, NO_X],
-        false,
-    ),
-    (
-        "what is no optional is in",
-        CHAIN,
-        &[11],
-        &[NOBODY, NO_X],
-        false,
-    ),
-    ("two that need each other", MUTUAL, &[9, 10], &[], true),
-    (
-        "two that need each other are out: a good set that is not the greatest",
         MUTUAL,
-        &[],
         &[
-            Reason::Missing {
-                optional: 9,
-                instance: 12,
-                word: 1,
-            },
-            Reason::Missing {
-                optional: 10,
-                instance: 14,
-                word: 1,
-            },
+            ("right", &[9, 10], &[]),
+            // A good set, and not the greatest.
+            ("both out", &[], &[(9, Some((12, 1))), (10, Some((14, 1)))]),
+            ("one of two is out", &[9], &[(10, Some((14, 1)))]),
         ],
-        false,
     ),
     (
-        "one of two that need each other is out",
-        MUTUAL,
-        &[9],
-        &[Reason::Missing {
-            optional: 10,
-            instance: 14,
-            word: 1,
-        }],
-        false,
-    ),
-    (
-        "an optional in another",
         NESTED,
-        &[],
-        &[OUTER_OUT, PARENT_OUT],
-        true,
-    ),
-    (
-        "the inner one first",
-        NESTED,
-        &[],
-        &[PARENT_OUT, OUTER_OUT],
-        false,
-    ),
-    ("the inner one stays", NESTED, &[11], &[OUTER_OUT], false),
-    (
-        "the word of an inner optional, which has none",
-        NESTED,
-        &[],
         &[
-            OUTER_OUT,
-            Reason::Missing {
-                optional: 11,
-                instance: 12,
-                word: 0,
-            },
+            ("right", &[], &[OUTER_OUT, (11, None)]),
+            ("the inner one first", &[], &[(11, None), OUTER_OUT]),
+            ("the inner one stays", &[11], &[OUTER_OUT]),
+            ("it has no word", &[], &[OUTER_OUT, (11, Some((12, 0)))]),
+            ("an outer word", &[], &[OUTER_OUT, (11, Some((10, 1)))]),
         ],
-        false,
     ),
-    (
-        "a word of the outer optional for the inner one",
-        NESTED,
-        &[],
-        &[
-            OUTER_OUT,
-            Reason::Missing {
-                optional: 11,
-                instance: 10,
-                word: 1,
-            },
-        ],
-        false,
-    ),
-    ("no optionals", "(type z)", &[], &[], true),
-    ("no optionals, and one is in", "(type z)", &[9], &[], false),
-    (
-        "no optionals, and one is out",
-        "(type z)",
-        &[],
-        &[Reason::ParentOut { optional: 0 }],
-        false,
-    ),
+    (NONE, &[("right", &[], &[]), ("one is in", &[9], &[])]),
+    (NONE, &[("one is out", &[], &[(0, None)])]),
 ];
 
 /// What `check` says of a choice.
 #[derive(Drop)]
-struct Checked {
-    enabled: &'static [usize],
-    reasons: &'static [Reason],
-}
+struct Checked(&'static [usize], &'static [Why]);
 
 /// More flags than the policies have statements.
 const FLAGS: usize = 32;
 
+fn reason(optional: u32, why: Option<(u32, u32)>) -> Reason {
+    match why {
+        Some((instance, word)) => Reason::Missing {
+            optional,
+            instance,
+            word,
+        },
+        None => Reason::ParentOut { optional },
+    }
+}
+
 /// A choice. None where there is no memory.
-fn choice(alloc: Global, enabled: &[usize], reasons: &[Reason]) -> Option<Chosen> {
+fn choice(alloc: Global, enabled: &[usize], reasons: &[Why]) -> Option<Chosen> {
     let mut flags = Vec::new(alloc);
     for number in 0..FLAGS {
         flags.push(enabled.iter().any(|one| *one == number)).ok()?;
     }
     let mut listed = Vec::new(alloc);
-    for reason in reasons {
-        listed.push(*reason).ok()?;
+    for &(optional, why) in reasons {
+        listed.push(reason(optional, why)).ok()?;
     }
     Some(Chosen {
         enabled: OptSet::of(flags),
@@ -353,14 +127,10 @@ fn choice(alloc: Global, enabled: &[usize], reasons: &[Reason]) -> Option<Chosen
 
 impl Question for Checked {
     fn answer(&self, alloc: Global, instances: &Instances) -> Option<String> {
-        let Ok(names) = declare(alloc, instances) else {
-            return None;
-        };
-        let Ok(permissions) = permissions_of(alloc, &names, instances) else {
-            return None;
-        };
+        let names = declare(alloc, instances).ok()?;
+        let permissions = permissions_of(alloc, &names, instances).ok()?;
         let permissions = permissions.as_slice();
-        let chosen = choice(alloc, self.enabled, self.reasons)?;
+        let chosen = choice(alloc, self.0, self.1)?;
         let is_right = check(alloc, &*instances, &names, permissions, &chosen).ok()?;
         let mut out = String::new(alloc);
         write!(out, "{is_right}").ok()?;
@@ -368,16 +138,25 @@ impl Question for Checked {
     }
 }
 
+/// Whether `check` says of each choice for a module what it has to.
+fn are_judged(alloc: Global, text: &str, choices: &[Row]) -> bool {
+    for &(about, enabled, reasons) in choices {
+        let want = if about == "right" { "true" } else { "false" };
+        if !is_answer(alloc, &[FIRST, text], &Checked(enabled, reasons), want) {
+            return false;
+        }
+    }
+    true
+}
+
 #[test]
 fn choices_of_optionals_are_checked(rt: HostRuntime) {
-    for &(about, text, enabled, reasons, want) in CHOICES {
-        let answer = answer_to(rt.alloc(), &[FIRST, text], &Checked { enabled, reasons });
-        let want = if want { "true" } else { "false" };
-        assert!(rt; answer.is_some_and(|got| got.as_str() == want), "{about}");
+    for &(text, choices) in CHOICES {
+        assert!(rt; are_judged(rt.alloc(), text, choices), "{text}");
     }
 }
 
-/// What `check` says of what is chosen, how many optionals that leaves out, and the look-ups it took.
+/// How many optionals what is chosen leaves out, and the look-ups it took. None where it is not right.
 struct Picked;
 
 impl Question for Picked {
@@ -430,191 +209,95 @@ impl Question for InRounds {
     }
 }
 
-/// What a choice leaves out and takes, as `Picked` and `Guessed` answer.
 fn count_line(alloc: Global, is_right: bool, removals: u64, lookups: u64) -> Option<String> {
-    let mut line = String::new(alloc);
-    write!(line, "{is_right} {removals} {lookups}").ok()?;
-    Some(line)
+    if !is_right {
+        return None;
+    }
+    format!(in alloc; "{removals} {lookups}").ok()
 }
 
-/// A number, as `InRounds` answers.
 fn number_line(alloc: Global, number: u64) -> Option<String> {
-    let mut line = String::new(alloc);
-    write!(line, "{number}").ok()?;
-    Some(line)
+    format!(in alloc; "{number}").ok()
 }
 
-/// Whether a question about a module behind the first policy has this answer.
-fn is_answered<Q: Question>(alloc: Global, text: &str, question: &Q, want: Option<String>) -> bool {
-    let Some(want) = want else {
+/// Whether the choice and the guess are right, leave out so many optionals, as rounds do, and take so many look-ups.
+fn is_chosen_so(alloc: Global, text: &str, want: &str) -> bool {
+    let Some((removals, _)) = want.split_once(' ') else {
         return false;
     };
-    answer_to(alloc, &[FIRST, text], question).is_some_and(|got| got.as_str() == want.as_str())
+    is_answer(alloc, &[FIRST, text], &Picked, want)
+        && is_answer(alloc, &[FIRST, text], &Guessed, want)
+        && is_answer(alloc, &[FIRST, text], &InRounds, removals)
 }
 
-/// Whether what is chosen behind the first policy, and what is guessed, leaves out so many optionals and takes so many look-ups,
-/// and rounds leave out as many.
-fn is_chosen_so(alloc: Global, text: &str, removals: u64, lookups: u64) -> bool {
-    is_answered(
-        alloc,
-        text,
-        &Picked,
-        count_line(alloc, true, removals, lookups),
-    ) && is_answered(
-        alloc,
-        text,
-        &Guessed,
-        count_line(alloc, true, removals, lookups),
-    ) && is_answered(alloc, text, &InRounds, number_line(alloc, removals))
-}
-
-/// Modules behind the first policy, how many optionals are left out, and how many look-ups that takes.
-const PICKED: &[(&str, u64, u64)] = &[
-    ("(type z)", 0, 0),
-    // The type `x`, and the word `x` in both.
-    (CHAIN, 2, 3),
-    (MUTUAL, 0, 0),
-    // The type `z`.
-    (NESTED, 2, 1),
+/// Modules behind the first policy, and behind arrows how many optionals are left out, and how many look-ups that takes.
+const PICKED: &[&str] = &[
+    "(type z) => 0 0",
+    "(optional A (allow a x (file (read))))(optional B (type x)(allow x nobody (file (read)))) => 2 3",
+    "(optional A (type x)(allow x y (file (read))))(optional B (type y)(allow y x (file (read)))) => 0 0",
+    "(optional A (roletype r nobody)(optional B (type z))) => 2 1",
     // In an optional that is in, one is out; another has what that declares: the type `y`, and the word `y`.
-    (
-        "(optional A (type z)(optional B (type y)(roletype r nobody)))(optional C (roletype r z))(optional D (roletype r y))",
-        2,
-        2,
-    ),
+    "(optional A (type z)(optional B (type y)(roletype r nobody)))(optional C (roletype r z))(optional D (roletype r y)) => 2 2",
     // One name in three optionals, of which one is in: two types `x`, and no word, since the name is declared.
-    (
-        "(optional o (type x)(roletype r nobody))(optional o (type x)(roletype r x))(optional o (type x)(roletype r none))(optional p (roletype r x))",
-        2,
-        2,
-    ),
+    "(optional o (type x)(roletype r nobody))(optional o (type x)(roletype r x))(optional o (type x)(roletype r none))(optional p (roletype r x)) => 2 2",
     // The same, and none is in: two types `x`, and a word.
-    (
-        "(optional o (type x)(roletype r nobody))(optional o (type x)(roletype r none))(optional p (roletype r x))",
-        3,
-        3,
-    ),
-    // A name that is declared outside too: one type, and no word.
-    (
-        "(type z)(optional o (type z)(roletype r nobody))(optional p (roletype r z))",
-        1,
-        1,
-    ),
-    // One word twice: the type, and twice the word.
-    (
-        "(optional o (type x)(roletype r nobody))(optional p (allow x x (file (read))))",
-        2,
-        3,
-    ),
-    // A word outside all optionals is not looked at.
-    (
-        "(optional o (role x)(roletype r nobody))(type x)(roletype r x)",
-        1,
-        1,
-    ),
-    // A class that is missing, a permission that is, and a macro.
-    (
-        "(optional o (allow a b (dir (read))))(optional p (allow a b (file (write))))(optional q (call m (a)))",
-        3,
-        0,
-    ),
-    // A macro that is called twice, once where its name is there.
-    (
-        "(macro m () (optional o (allow a x (file (open)))))(call m)(block n (type x)(roletype .r x)(call m))",
-        1,
-        0,
-    ),
+    "(optional o (type x)(roletype r nobody))(optional o (type x)(roletype r none))(optional p (roletype r x)) => 3 3",
+    "(type z)(optional o (type z)(roletype r nobody))(optional p (roletype r z)) => 1 1",
+    "(optional o (type x)(roletype r nobody))(optional p (allow x x (file (read)))) => 2 3",
+    "(optional o (role x)(roletype r nobody))(type x)(roletype r x) => 1 1",
+    "(optional o (allow a b (dir (read))))(optional p (allow a b (file (write))))(optional q (call m (a))) => 3 0",
+    "(macro m () (optional o (allow a x (file (open)))))(call m)(block n (type x)(roletype .r x)(call m)) => 1 0",
     // A template that is inherited twice, and a nearer name that is out: the types `k.x` and `n.x`, and a word for each.
-    (
-        "(block t (blockabstract t)(optional o (type x)(roletype .r nobody))(optional p (roletype .r x)))(block k (blockinherit t))(block n (blockinherit t))(type x)",
-        2,
-        4,
-    ),
+    "(block t (blockabstract t)(optional o (type x)(roletype .r nobody))(optional p (roletype .r x)))(block k (blockinherit t))(block n (blockinherit t))(type x) => 2 4",
     // A nearer name that is out, behind which one stays: the type `b.x`, and the word, which goes on to name `x`.
-    (
-        "(block b (optional o (type x)(roletype .r nobody))(optional p (roletype .r x)))(type x)",
-        1,
-        2,
-    ),
+    "(block b (optional o (type x)(roletype .r nobody))(optional p (roletype .r x)))(type x) => 1 2",
     // The same where the one behind it is out too: two types `x`, and the word for each.
-    (
-        "(block b (optional o (type x)(roletype .r nobody))(optional p (roletype .r x)))(optional q (type x)(roletype r nobody))",
-        3,
-        4,
-    ),
+    "(block b (optional o (type x)(roletype .r nobody))(optional p (roletype .r x)))(optional q (type x)(roletype r nobody)) => 3 4",
     // The same where the one behind it is in an optional that is in: the type `b.x`, and the word.
-    (
-        "(block b (optional o (type x)(roletype .r nobody))(optional p (roletype .r x)))(optional q (type x))",
-        1,
-        2,
-    ),
-    // Three in a ring, of which one has a name that is missing.
-    (
-        "(optional o (type x)(roletype r y))(optional p (type y)(roletype r z))(optional q (type z)(roletype r x)(roletype r nobody))",
-        3,
-        6,
-    ),
-    // Optionals in one another, of which the middle one is out.
-    (
-        "(optional o (type x)(optional p (roletype r nobody)(optional q (roletype r x)(optional s))))(optional t (roletype r x))",
-        3,
-        0,
-    ),
+    "(block b (optional o (type x)(roletype .r nobody))(optional p (roletype .r x)))(optional q (type x)) => 1 2",
+    "(optional o (type x)(roletype r y))(optional p (type y)(roletype r z))(optional q (type z)(roletype r x)(roletype r nobody)) => 3 6",
+    "(optional o (type x)(optional p (roletype r nobody)(optional q (roletype r x)(optional s))))(optional t (roletype r x)) => 3 0",
 ];
 
 #[test]
-fn what_is_chosen_is_right(rt: HostRuntime) {
-    for &(text, removals, lookups) in PICKED {
-        assert!(rt; is_chosen_so(rt.alloc(), text, removals, lookups), "{text}");
+fn what_is_chosen_is_right(rt: HostRuntime) -> Result<(), Fail> {
+    for row in PICKED {
+        let (text, want) = row.split_once(" => ").ok_or("no row")?;
+        assert!(rt; is_chosen_so(rt.alloc(), text, want), "{row}");
     }
+    Ok(())
 }
 
-/// A chain of 1,000 optionals, each of which declares a type and wants that of the next. The name of the last is that of this
-/// number, which no optional declares or the first.
+/// 1,000 optionals, each of which declares a type and wants that of the next, the last one that of this number.
 fn long_chain(alloc: Global, last: u32) -> Option<String> {
     let mut text = String::new(alloc);
-    for number in 0..1000_u32 {
-        let wanted = if number == 999 { last } else { number + 1 };
-        write!(
-            text,
-            "(optional o{number} (type x{number})(roletype r x{wanted}))"
-        )
-        .ok()?;
+    for at in 0..1000_u32 {
+        let next = if at == 999 { last } else { at + 1 };
+        write!(text, "(optional o{at} (type x{at})(roletype r x{next}))").ok()?;
     }
     Some(text)
 }
 
 #[test]
-fn a_chain_takes_a_look_up_for_each_type_and_each_word(rt: HostRuntime) {
+fn a_chain_takes_a_look_up_for_each_type_and_each_word(rt: HostRuntime) -> Result<(), Fail> {
     // All are out: 1,000 types, and 999 words, since nothing declares the last.
-    for &(last, removals, lookups) in &[(1000, 1000, 1999), (0, 0, 0)] {
-        let Some(text) = long_chain(rt.alloc(), last) else {
-            assert!(rt; false, "no memory");
-            return;
-        };
-        assert!(rt;
-            is_chosen_so(rt.alloc(), text.as_str(), removals, lookups),
-            "{last}"
-        );
+    for &(last, want) in &[(1000, "1000 1999"), (0, "0 0")] {
+        let text = long_chain(rt.alloc(), last).ok_or("no memory")?;
+        assert!(rt; is_chosen_so(rt.alloc(), text.as_str(), want), "{last}");
     }
+    Ok(())
 }
 
 /// The faults of words outside all optionals, where these are in force.
 #[derive(Drop)]
-struct Judged {
-    enabled: &'static [usize],
-}
+struct Judged(&'static [usize]);
 
 impl Question for Judged {
     fn answer(&self, alloc: Global, instances: &Instances) -> Option<String> {
-        let Ok(names) = declare(alloc, instances) else {
-            return None;
-        };
-        let Ok(permissions) = permissions_of(alloc, &names, instances) else {
-            return None;
-        };
+        let names = declare(alloc, instances).ok()?;
+        let permissions = permissions_of(alloc, &names, instances).ok()?;
         let permissions = permissions.as_slice();
-        let chosen = choice(alloc, self.enabled, &[])?;
+        let chosen = choice(alloc, self.0, &[])?;
         match base_faults(alloc, &*instances, &names, permissions, &chosen) {
             Ok(()) => Some(String::new(alloc)),
             Err(Failure::Faults(faults)) => lines(alloc, &faults),
@@ -636,7 +319,8 @@ const BASE: &[(&[usize], &str)] = &[
 #[test]
 fn words_outside_optionals_are_judged_by_any_choice(rt: HostRuntime) {
     for &(enabled, want) in BASE {
-        let answer = answer_to(rt.alloc(), &[FIRST, OUTSIDE], &Judged { enabled });
-        assert!(rt; answer.is_some_and(|got| got.as_str() == want), "{want}");
+        let question = Judged(enabled);
+        let is_so = is_answer(rt.alloc(), &[FIRST, OUTSIDE], &question, want);
+        assert!(rt; is_so, "{enabled:?}");
     }
 }

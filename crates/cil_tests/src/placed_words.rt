@@ -1,30 +1,46 @@
-//! What the words of modules with blocks and macros mean, and the want of memory where this is asked.
+//! What placed words name, and the entries that they could name, whatever is enabled.
 
-use crate::answers::{lines, show_entry};
-use crate::policies::set_of;
-use cil_blocks::{Namespaces, inherit};
-use cil_macros::{Instances, expand};
-use cil_modset::ModuleSet;
-use cil_names::{Lookup, Meaning, Names, OptSet, Words, declare, permissions_of, words_of};
-use cil_syntax::{Failure, written};
+ghost use Rattle.cil_macros.specs.Items.{items_in, namespaces_in};
+ghost use Rattle.cil_macros.specs.Items.{items_in};
+ghost use Rattle.cil_names.specs.Entries.{AreEntries};
+ghost use Rattle.std.specs.Prelude.{◌<◌, length};
+
+use crate::answers::{Question, is_answer, lines, row_holds, show_entry};
+use crate::look_ups::word;
+use cil_blocks::Namespaces;
+use cil_macros::Instances;
+use cil_names::{
+    Candidates, Lookup, Meaning, Names, OptSet, Words, add_candidates, are_numbers, declare,
+    permissions_of, word_asked, words_of,
+};
+use cil_syntax::{Failure, Sign};
 use std::alloc::Global;
 
-/// What the words of modules mean, or all that is wrong in the first step that has a fault. None where what they mean cannot be
-/// shown, for want of memory.
-fn meant(alloc: Global, modules: &ModuleSet) -> Result<Option<String>, Failure> {
-    let program = written(alloc, modules)?;
-    let stands = inherit(alloc, &program)?;
-    let instances = expand(alloc, &stands)?;
-    let names = declare(alloc, &instances)?;
-    let permissions = permissions_of(alloc, &names, &instances)?;
+/// What the words of modules without optionals name, or all faults. None where it cannot be shown, for want of memory.
+fn named(alloc: Global, instances: &Instances) -> Result<Option<String>, Failure> {
+    let names = declare(alloc, instances)?;
+    let permissions = permissions_of(alloc, &names, instances)?;
     let enabled = OptSet::of(Vec::new(alloc));
     let lookup = Lookup {
-        spaces: instances.namespaces(),
+        namespaces: instances.namespaces(),
         names: &names,
         enabled: &enabled,
     };
-    let words = words_of(alloc, &lookup, permissions.as_slice(), &instances)?;
-    Ok(shown(alloc, &instances, &names, &words))
+    let words = words_of(alloc, &lookup, permissions.as_slice(), instances)?;
+    Ok(shown(alloc, instances, &names, &words))
+}
+
+/// The same, or the lines of the faults.
+struct NamedWords;
+
+impl Question for NamedWords {
+    fn answer(&self, alloc: Global, instances: &Instances) -> Option<String> {
+        match named(alloc, instances) {
+            Ok(shown) => shown,
+            Err(Failure::Faults(faults)) => lines(alloc, &faults),
+            Err(Failure::NoMemory) => None,
+        }
+    }
 }
 
 /// For each statement with words, in order, the entries that these name, or `-`, in brackets with commas between.
@@ -58,30 +74,142 @@ fn show_row(
     Some(())
 }
 
-/// What the words of some texts mean, or the lines of what is wrong. None where there is no memory.
-pub(crate) fn answer(alloc: Global, texts: &[&str]) -> Option<String> {
-    let modules = set_of(alloc, texts).ok()?;
-    match meant(alloc, &modules) {
-        Ok(shown) => shown,
-        Err(Failure::Faults(faults)) => lines(alloc, &faults),
-        Err(Failure::NoMemory) => None,
+/// Texts, and behind arrows what their words name, or the faults: of declarations that differ, and of words that name nothing.
+const NAMED: &[&str] = &[
+    "(class c (q p))(macro m ((type x)) (allow x self (c (p q))))(type a)(call m (a)) => [Macro m, Type_ a][Type_ a, Class c, -, -]",
+    "(class w (p))(class w (q)) => 36 0 7 . w\n36 0 20 . w\n",
+    "(class c (q))(macro m ((type x)) (allow x self (c (p))))(block p (call m (b))) => 41 0 51 p p\n41 0 74 p b\n",
+];
+
+#[test]
+fn words_name_entries_or_are_reported(rt: HostRuntime) {
+    for row in NAMED {
+        assert!(rt; row_holds(rt.alloc(), row, &NamedWords), "{row}");
     }
 }
 
-/// Whether a text has this answer, at once or when it is asked again.
-fn is_answered(alloc: Global, text: &str, want: &str) -> bool {
-    let answer = match answer(alloc, &[text]) {
-        None => answer(alloc, &[text]),
-        answer => answer,
-    };
-    answer.is_some_and(|got| got.as_str() == want)
+/// A class word, a permission word, the namespaces of their scope, and the class that is named, or `-`.
+type Row = (&'static [u8], &'static [u8], &'static [usize], &'static str);
+
+/// Three namespaces, which have the numbers in the order in which they are reached: `p` the number 1, `r` 2.
+const TEXT: &str = "(class c (q))(block p (class c (p)))(block r (type x))";
+
+/// The class of a permission is the first one of the scope. Others are rows of `rows/names.session`.
+const PERMISSIONS: &[Row] = &[
+    (b"c", b".p", &[1, 0], "-"),
+    (b"c", b"p", &[2, 1, 0], "Class p.c"),
+    (b".p.c", b"p", &[2, 0], "Class p.c"),
+];
+
+/// What the permission word of a row names: the kind and the qualified name of the class, or `-`.
+#[derive(Drop)]
+struct PermissionWord(Row);
+
+impl Question for PermissionWord {
+    fn answer(&self, alloc: Global, instances: &Instances) -> Option<String> {
+        let names = declare(alloc, instances).ok()?;
+        let mut out = String::new(alloc);
+        match class_named(alloc, &names, instances, self.0)? {
+            Some(d) => {
+                let entry = names.entries().get(d)?;
+                show_entry(alloc, &mut out, instances.namespaces(), entry)?;
+            }
+            None => write!(out, "-").ok()?,
+        }
+        Some(out)
+    }
+}
+
+/// The number of the class that the permission word of a row names. None where there is no memory, or no such namespace.
+fn class_named(
+    alloc: Global,
+    names: &Names,
+    instances: &Instances,
+    row: Row,
+) -> Option<Option<usize>>
+    requires { AreEntries (namespaces_in instances.now) (items_in instances.now) names.now }
+{
+    let (class, permission, scope, _) = row;
+    let spaces = instances.namespaces();
+    if !are_numbers(spaces, scope) {
+        return None;
+    }
+    let permissions = permissions_of(alloc, names, instances).ok()?;
+    let class = word(class, Sign::Classes);
+    let permission = word(permission, Sign::Permission);
+    Some(names.resolve_permission(spaces, permissions.as_slice(), &class, &permission, scope))
 }
 
 #[test]
-fn a_refused_growth_is_no_missing_name(rt: HostRuntime) {
-    let text = "(class c (q p))(macro m ((type x)) (allow x self (c (p q))))(type a)(call m (a))";
-    let words = "[Macro m, Type_ a][Type_ a, Class c, -, -]";
-    assert!(rt; is_answered(rt.alloc(), text, words));
-    let text = "(class c (q))(macro m ((type x)) (allow x self (c (p))))(block p (call m (b)))";
-    assert!(rt; is_answered(rt.alloc(), text, "41 0 51 p p\n41 0 74 p b\n"));
+fn permission_words_name_the_class_that_has_them(rt: HostRuntime) {
+    for &row in PERMISSIONS {
+        let question = PermissionWord(row);
+        assert!(rt; is_answer(rt.alloc(), &[TEXT], &question, row.3), "{row:?}");
+    }
+}
+
+/// A text, and behind an arrow each word of its statements with the entries that it could name.
+const LISTED: &[&str] = &[
+    "(type t)(block p (type t)(role r)(roletype r t)) => r: Role p.r; t: Type_ p.t, Type_ t; ",
+    "(type t)(block p (type t)(roletype object_r .t)) => object_r: Role object_r; .t: Type_ t; ",
+    "(class t (p))(roletype object_r t) => object_r: Role object_r; t: -; ",
+    // A class word, and then its permissions: they are those of the first class that it names.
+    "(type t)(class c (r))(block p (class c (w))(allow t self (c (r w)))) => t: Type_ t; c: Class p.c, Class c; r: -; w: Class p.c; ",
+    "(type t)(allow t self (c (r))) => t: Type_ t; c: -; r: -; ",
+    // A call, and a statement of the body: an argument is looked up where the call stands.
+    "(macro m ((type x)) (roletype object_r x))(type t)(block p (type t)(call m (t))) => m: Macro m; t: Type_ p.t, Type_ t; object_r: Role object_r; t: Type_ p.t, Type_ t; ",
+    "(block a (type t))(block b (blockinherit a)) => ",
+];
+
+/// Which words are asked for, and what they could name.
+struct Listed;
+
+impl Question for Listed {
+    fn answer(&self, alloc: Global, instances: &Instances) -> Option<String> {
+        let names = declare(alloc, instances).ok()?;
+        let permissions = permissions_of(alloc, &names, instances).ok()?;
+        let permissions = permissions.as_slice();
+        let mut out = String::new(alloc);
+        for at in 0..instances.len() {
+            let mut lists = Candidates::new(alloc);
+            add_candidates(alloc, &names, permissions, &*instances, at, &mut lists).ok()?;
+            show_statement(alloc, &mut out, instances, &names, at, &lists)?;
+        }
+        Some(out)
+    }
+}
+
+/// Adds each word of a statement with its candidates. None where there is no memory, or as many words as lists.
+fn show_statement(
+    alloc: Global,
+    out: &mut String,
+    instances: &Instances,
+    names: &Names,
+    at: usize,
+    lists: &Candidates,
+) -> Option<()>
+    requires { at < length (items_in instances.now) }
+{
+    for number in 0..lists.len() {
+        let word = word_asked(alloc, instances, at, number).ok()??;
+        let bytes = str::from_utf8(word.word.bytes.as_slice()).ok()?;
+        write!(out, "{bytes}: ").ok()?;
+        let list = lists.row(number);
+        for (i, d) in list.iter().enumerate() {
+            write!(out, "{}", if i > 0 { ", " } else { "" }).ok()?;
+            show_entry(alloc, out, instances.namespaces(), names.entries().get(*d)?)?;
+        }
+        write!(out, "{}", if list.is_empty() { "-; " } else { "; " }).ok()?;
+    }
+    match word_asked(alloc, instances, at, lists.len()).ok()? {
+        Some(_) => None,
+        None => Some(()),
+    }
+}
+
+#[test]
+fn words_could_name_these(rt: HostRuntime) {
+    for row in LISTED {
+        assert!(rt; row_holds(rt.alloc(), row, &Listed), "{row}");
+    }
 }

@@ -1,183 +1,188 @@
-//! Where statements stand: their namespaces, and the scopes in which their words are looked up.
+//! Where statements are, in which scopes their words are looked up, and what these mean: arguments, or themselves.
 
-use crate::policies::set_of;
+use crate::answers::{Question, row_holds};
 use cil_blocks::spelled::spelled;
-use cil_blocks::{Namespaces, ScopeList, Spaces, inherit};
-use cil_modset::ModuleSet;
-use cil_syntax::{Program, written};
+use cil_blocks::{Namespaces, ScopeList, Spaces};
+use cil_macros::Instances;
+use cil_syntax::{Statement, Word};
 use std::alloc::Global;
-use std::test::Fail;
 
-/// Modules, and a line for each that stands in them, in order: the statement by its number, its namespace, and behind a colon its
-/// scope. A dot alone is the global namespace.
-const PLACES: &[(&[&str], &str)] = &[
-    (&[], ""),
-    (
-        &["(type x)(block b (type y))"],
-        "0 .: .\n1 .: .\n2 b: b .\n",
-    ),
-    // A block in a block.
-    (
-        &["(block a (block c (type x)))"],
-        "0 .: .\n1 a: a .\n2 a.c: a.c a .\n",
-    ),
+/// A module, and behind an arrow a line for each statement that is there by blocks, in order: its number, behind a stroke the place in this list of
+/// the block or the blockinherit that opened it, its namespace, and behind a colon its scope. A dot alone is the global namespace.
+/// In a last line are those that calls bring, each with the place of its call. Places and numbers count from 0.
+const PLACES: &[&str] = &[
+    " => ",
+    "(type x)(block b (type y)) => 0 .: .\n1 .: .\n2/1 b: b .\n",
+    "(block a (block c (type x))) => 0 .: .\n1/0 a: a .\n2/1 a.c: a.c a .\n",
     // A block that is inherited in another one, and one in a block of its own: what is round that one comes behind.
-    (
-        &["(block p (type x))(block n (blockinherit p))"],
-        "0 .: .\n2 .: .\n1 p: p .\n3 n: n .\n1 n: n .\n",
-    ),
-    (
-        &["(block l (block p (type x)))(block n (blockinherit l.p))"],
-        "0 .: .\n3 .: .\n1 l: l .\n4 n: n .\n2 l.p: l.p l .\n2 n: n l .\n",
-    ),
-    (
-        &["(block l (block t (blockabstract t)(type x)))(block o (block n (blockinherit l.t)))"],
-        "0 .: .\n4 .: .\n1 l: l .\n5 o: o .\n6 o.n: o.n o .\n2 o.n: o.n o l .\n3 o.n: o.n o l .\n",
-    ),
+    "(block p (type x))(block n (blockinherit p)) => 0 .: .\n2 .: .\n1/0 p: p .\n3/1 n: n .\n1/3 n: n .\n",
+    "(block l (block p (type x)))(block n (blockinherit l.p)) => 0 .: .\n3 .: .\n1/0 l: l .\n4/1 n: n .\n2/2 l.p: l.p l .\n2/3 n: n l .\n",
+    "(block l (block t (blockabstract t)(type x)))(block o (block n (blockinherit l.t))) => 0 .: .\n4 .: .\n1/0 l: l .\n5/1 o: o .\n6/3 o.n: o.n o .\n2/4 o.n: o.n o l .\n3/4 o.n: o.n o l .\n",
     // A block in what is inherited: its new namespace comes first.
-    (
-        &["(block l (block p (block q (type x))))(block n (blockinherit l.p))"],
-        "0 .: .\n4 .: .\n1 l: l .\n5 n: n .\n2 l.p: l.p l .\n2 n: n l .\n3 l.p.q: l.p.q l.p l .\n3 n.q: n.q n l .\n",
-    ),
-    // In the global namespace, which stays the last.
-    (
-        &["(block l (block p (block c (type x))))(blockinherit l.p)"],
-        "0 .: .\n4 .: .\n1 l: l .\n2 .: l .\n2 l.p: l.p l .\n3 c: c l .\n3 l.p.c: l.p.c l.p l .\n",
-    ),
-    // One block by two ways, and by one way twice.
-    (
-        &[
-            "(block l (block p (type x)))(block m (block q (blockinherit l.p)))(block n (blockinherit m.q)(blockinherit l.p))",
-        ],
-        "0 .: .\n3 .: .\n6 .: .\n1 l: l .\n4 m: m .\n7 n: n .\n8 n: n .\n2 l.p: l.p l .\n5 m.q: m.q m .\n5 n: n m .\n2 n: n l .\n2 m.q: m.q m l .\n2 n: n m l .\n",
-    ),
-    (
-        &["(block p (block x (type y)))(block n (blockinherit p)(blockinherit p))"],
-        "0 .: .\n3 .: .\n1 p: p .\n4 n: n .\n5 n: n .\n2 p.x: p.x p .\n1 n: n .\n1 n: n .\n2 n.x: n.x n .\n2 n.x: n.x n .\n",
-    ),
-    // Templates one in another, and one that inherits the other: what is round the outer target comes first.
-    (
-        &[
-            "(block a (blockabstract a)(block c (blockabstract c)(type x)))(block n (blockinherit a))(block k (blockinherit a.c))",
-        ],
-        "0 .: .\n5 .: .\n7 .: .\n6 n: n .\n8 k: k .\n1 n: n .\n2 n: n .\n3 k: k a .\n4 k: k a .\n",
-    ),
-    (
-        &[
-            "(block g (block t (blockabstract t)(type x)))(block h (block u (blockabstract u)(blockinherit g.t)))(block n (blockinherit h.u))",
-        ],
-        "0 .: .\n4 .: .\n8 .: .\n1 g: g .\n5 h: h .\n9 n: n .\n6 n: n h .\n7 n: n h .\n2 n: n h g .\n3 n: n h g .\n",
-    ),
+    "(block l (block p (block q (type x))))(block n (blockinherit l.p)) => 0 .: .\n4 .: .\n1/0 l: l .\n5/1 n: n .\n2/2 l.p: l.p l .\n2/3 n: n l .\n3/4 l.p.q: l.p.q l.p l .\n3/5 n.q: n.q n l .\n",
+    "(block l (block p (block c (type x))))(blockinherit l.p) => 0 .: .\n4 .: .\n1/0 l: l .\n2/1 .: l .\n2/2 l.p: l.p l .\n3/3 c: c l .\n3/4 l.p.c: l.p.c l.p l .\n",
+    "(block l (block p (type x)))(block m (block q (blockinherit l.p)))(block n (blockinherit m.q)(blockinherit l.p)) => 0 .: .\n3 .: .\n6 .: .\n1/0 l: l .\n4/1 m: m .\n7/2 n: n .\n8/2 n: n .\n2/3 l.p: l.p l .\n5/4 m.q: m.q m .\n5/5 n: n m .\n2/6 n: n l .\n2/8 m.q: m.q m l .\n2/9 n: n m l .\n",
+    "(block p (block x (type y)))(block n (blockinherit p)(blockinherit p)) => 0 .: .\n3 .: .\n1/0 p: p .\n4/1 n: n .\n5/1 n: n .\n2/2 p.x: p.x p .\n1/3 n: n .\n1/4 n: n .\n2/6 n.x: n.x n .\n2/7 n.x: n.x n .\n",
+    "(block a (blockabstract a)(block c (blockabstract c)(type x)))(block n (blockinherit a))(block k (blockinherit a.c)) => 0 .: .\n5 .: .\n7 .: .\n6/1 n: n .\n8/2 k: k .\n1/3 n: n .\n2/3 n: n .\n3/4 k: k a .\n4/4 k: k a .\n",
+    "(block g (block t (blockabstract t)(type x)))(block h (block u (blockabstract u)(blockinherit g.t)))(block n (blockinherit h.u)) => 0 .: .\n4 .: .\n8 .: .\n1/0 g: g .\n5/1 h: h .\n9/2 n: n .\n6/5 n: n h .\n7/5 n: n h .\n2/7 n: n h g .\n3/7 n: n h g .\n",
     // Blocks between inherited blocks come before all that is round a target.
-    (
-        &[
-            "(block g (block t (block d (type x))))(block h (block u (blockabstract u)(block c (blockinherit g.t))))(block n (blockinherit h.u))",
-        ],
-        "0 .: .\n4 .: .\n9 .: .\n1 g: g .\n5 h: h .\n10 n: n .\n2 g.t: g.t g .\n6 n: n h .\n7 n: n h .\n3 g.t.d: g.t.d g.t g .\n8 n.c: n.c n h .\n2 n.c: n.c n h g .\n3 n.c.d: n.c.d n.c n h g .\n",
-    ),
-    // A target that is found where its template is written alone.
-    (
-        &[
-            "(block lib (block w (type x))(block t (blockabstract t)(blockinherit w)))(block n (blockinherit lib.t))",
-        ],
-        "0 .: .\n6 .: .\n1 lib: lib .\n3 lib: lib .\n7 n: n .\n2 lib.w: lib.w lib .\n4 n: n lib .\n5 n: n lib .\n2 n: n lib .\n",
-    ),
-    // A namespace that would come twice counts at its first place.
-    (
-        &["(block a (block c (type x))(blockinherit c))"],
-        "0 .: .\n1 a: a .\n3 a: a .\n2 a.c: a.c a .\n2 a: a .\n",
-    ),
-    (
-        &["(block a (block c (type x))(block d (blockinherit c)))"],
-        "0 .: .\n1 a: a .\n3 a: a .\n2 a.c: a.c a .\n4 a.d: a.d a .\n2 a.d: a.d a .\n",
-    ),
-    (
-        &["(block a (block b (block c (type x)))(block d (blockinherit b.c)))"],
-        "0 .: .\n1 a: a .\n4 a: a .\n2 a.b: a.b a .\n5 a.d: a.d a .\n3 a.b.c: a.b.c a.b a .\n3 a.d: a.d a a.b .\n",
-    ),
+    "(block g (block t (block d (type x))))(block h (block u (blockabstract u)(block c (blockinherit g.t))))(block n (blockinherit h.u)) => 0 .: .\n4 .: .\n9 .: .\n1/0 g: g .\n5/1 h: h .\n10/2 n: n .\n2/3 g.t: g.t g .\n6/5 n: n h .\n7/5 n: n h .\n3/6 g.t.d: g.t.d g.t g .\n8/8 n.c: n.c n h .\n2/10 n.c: n.c n h g .\n3/11 n.c.d: n.c.d n.c n h g .\n",
+    "(block lib (block w (type x))(block t (blockabstract t)(blockinherit w)))(block n (blockinherit lib.t)) => 0 .: .\n6 .: .\n1/0 lib: lib .\n3/0 lib: lib .\n7/1 n: n .\n2/2 lib.w: lib.w lib .\n4/4 n: n lib .\n5/4 n: n lib .\n2/7 n: n lib .\n",
+    "(block a (block c (type x))(blockinherit c)) => 0 .: .\n1/0 a: a .\n3/0 a: a .\n2/1 a.c: a.c a .\n2/2 a: a .\n",
+    "(block a (block c (type x))(block d (blockinherit c))) => 0 .: .\n1/0 a: a .\n3/0 a: a .\n2/1 a.c: a.c a .\n4/2 a.d: a.d a .\n2/4 a.d: a.d a .\n",
+    "(block a (block b (block c (type x)))(block d (blockinherit b.c))) => 0 .: .\n1/0 a: a .\n4/0 a: a .\n2/1 a.b: a.b a .\n5/2 a.d: a.d a .\n3/3 a.b.c: a.b.c a.b a .\n3/4 a.d: a.d a a.b .\n",
+    // What calls bring: the nearest calls first, and those of a template in each place where it is inherited.
+    "(macro a () (type x))(macro b () (call a ())(type y))(call b ()) => 0 .: .\n2 .: .\n5 .: .\n| 3/2 4/2 1/3\n",
+    "(block a (blockabstract a)(macro m () (type x))(call m ()))(block n (blockinherit a))(block k (blockinherit a)) => 0 .: .\n5 .: .\n7 .: .\n6/1 n: n .\n8/2 k: k .\n1/3 n: n .\n2/3 n: n .\n4/3 n: n .\n1/4 k: k .\n2/4 k: k .\n4/4 k: k .\n| 3/7 3/10\n",
+    "(call m ())(macro m () (type x)(type y)) => 0 .: .\n1 .: .\n| 2/0 3/0\n",
 ];
 
-/// Adds the namespace of a number.
-fn show_space(
-    alloc: Global,
-    out: &mut String,
-    namespaces: &Namespaces,
-    number: usize,
-) -> Result<(), Fail> {
-    if number == 0 {
-        write!(out, ".")?;
-        return Ok(());
+/// What is placed in a module.
+struct Placed;
+
+impl Question for Placed {
+    fn answer(&self, alloc: Global, instances: &Instances) -> Option<String> {
+        let mut out = String::new(alloc);
+        show_standing(alloc, &mut out, instances.spaces())?;
+        for (i, one) in instances.called().iter().enumerate() {
+            let (statement, opener) = (one.statement, one.opener);
+            let bar = if i > 0 { "" } else { "|" };
+            write!(out, "{bar} {statement}/{opener}").ok()?;
+        }
+        if !instances.called().is_empty() {
+            write!(out, "\n").ok()?;
+        }
+        Some(out)
     }
-    if number > namespaces.len() {
-        return Err(Fail::from("no namespace"));
-    }
-    let bytes = spelled(alloc, namespaces, number)?;
-    let name = str::from_utf8(bytes.as_slice()).ok().ok_or("no text")?;
-    write!(out, "{name}")?;
-    Ok(())
 }
 
-/// Adds the namespace and the scope of an entry, in a line of their own.
-fn show_place(
-    alloc: Global,
-    out: &mut String,
-    spaces: &Spaces,
-    rank: usize,
-    scope: &mut ScopeList,
-) -> Result<(), Fail> {
-    write!(out, " ")?;
-    let space = spaces.space(rank).ok_or("no place")?;
-    show_space(alloc, out, spaces.namespaces(), space)?;
-    write!(out, ":")?;
-    spaces.scope_into(alloc, rank, scope)?;
-    for number in scope.as_slice() {
-        write!(out, " ")?;
-        show_space(alloc, out, spaces.namespaces(), *number)?;
-    }
-    write!(out, "\n")?;
-    Ok(())
-}
-
-/// All that stands, a line for each.
-fn shown(alloc: Global, spaces: &Spaces) -> Result<String, Fail> {
-    let mut out = String::new(alloc);
-    let mut scope = ScopeList::new(alloc);
+/// Adds a line for each statement that is there by blocks.
+fn show_standing(alloc: Global, out: &mut String, spaces: &Spaces) -> Option<()> {
     for (rank, entry) in spaces.entries().iter().enumerate() {
         let statement = entry.statement;
-        write!(out, "{statement}")?;
-        show_place(alloc, &mut out, spaces, rank, &mut scope)?;
+        write!(out, "{statement}").ok()?;
+        if let Some(opener) = entry.opener {
+            write!(out, "/{opener}").ok()?;
+        }
+        show_place(alloc, out, spaces, rank)?;
     }
-    Ok(out)
+    Some(())
 }
 
-/// The same of a program in which nothing is wrong with the blocks.
-fn inherited(alloc: Global, program: &Program) -> Result<String, Fail> {
-    match inherit(alloc, program) {
-        Ok(spaces) => shown(alloc, &spaces),
-        Err(_) => Err(Fail::from("refused")),
+/// Adds the namespace and the scope of an entry.
+fn show_place(alloc: Global, out: &mut String, spaces: &Spaces, rank: usize) -> Option<()> {
+    write!(out, " ").ok()?;
+    show_space(alloc, out, spaces.namespaces(), spaces.space(rank)?)?;
+    write!(out, ":").ok()?;
+    let mut scope = ScopeList::new(alloc);
+    spaces.scope_into(alloc, rank, &mut scope).ok()?;
+    for number in scope.as_slice() {
+        write!(out, " ").ok()?;
+        show_space(alloc, out, spaces.namespaces(), *number)?;
     }
+    write!(out, "\n").ok()
 }
 
-/// The same of modules.
-fn placed(alloc: Global, modules: &ModuleSet) -> Result<String, Fail> {
-    match written(alloc, modules) {
-        Ok(program) => inherited(alloc, &program),
-        Err(_) => Err(Fail::from("not written")),
+/// Adds the namespace of a number.
+fn show_space(alloc: Global, out: &mut String, spaces: &Namespaces, number: usize) -> Option<()> {
+    if number == 0 || number > spaces.len() {
+        return if number == 0 {
+            write!(out, ".").ok()
+        } else {
+            None
+        };
     }
-}
-
-/// The same of some texts.
-fn placed_in(alloc: Global, texts: &[&str]) -> Result<String, Fail> {
-    let modules = set_of(alloc, texts)?;
-    placed(alloc, &modules)
+    let bytes = spelled(alloc, spaces, number).ok()?;
+    write!(out, "{}", str::from_utf8(bytes.as_slice()).ok()?).ok()
 }
 
 #[test]
-fn all_that_stands_has_its_namespace_and_its_scope(rt: HostRuntime) -> Result<(), Fail> {
-    let alloc = rt.alloc();
-    for &(texts, want) in PLACES {
-        let got = placed_in(alloc, texts)?;
-        assert_eq!(rt; got.as_str(), want, "{texts:?}");
+fn all_that_is_placed_has_its_namespace_and_its_scope(rt: HostRuntime) {
+    for row in PLACES {
+        assert!(rt; row_holds(rt.alloc(), row, &Placed), "{row}");
     }
-    Ok(())
+}
+
+/// A module, and behind an arrow a line for each placed statement of two words, in order: its place, and what its words mean. Behind the sign `@`
+/// stands the place in whose scope a word is looked up.
+const MEANINGS: &[&str] = &[
+    "(roletype r a) => 0: r@0 a@0\n",
+    // An argument is looked up where its call is, other words at their own place; a parameter serves words of its own kind.
+    "(macro m ((role x)(type y)) (roletype x y)(roletype r x))(call m (s t)) => 2: s@1 t@1\n3: r@3 x@3\n",
+    // One that is handed on, and what a body declares: that is looked up where the outermost call is.
+    "(macro a ((type y)) (type q)(roletype r y)(roletype r q))(macro b ((type x)) (call a (x)))(call b (t)) => 5: r@5 t@2\n6: r@6 q@2\n",
+    // A call in a template keeps the scope of the place where the template is inherited.
+    "(block lib (type p)(macro m ((type arg)) (allow arg a (file (open)))))(block tpl (blockabstract tpl)(type p)(call lib.m (p)))(block n (blockinherit tpl)) => 9: p@8 a@9\n",
+];
+
+/// Adds what a word means at a place.
+fn show_word<'a>(
+    out: &mut String,
+    instances: &Instances<'_, '_, 'a>,
+    at: usize,
+    word: &Word<'a>,
+) -> Option<()> {
+    if at >= instances.len() {
+        return None;
+    }
+    let meant = instances.meaning(at, word);
+    let bytes = str::from_utf8(meant.bytes.as_slice()).ok()?;
+    write!(out, " {bytes}").ok()?;
+    if let Some(scope) = meant.scope {
+        write!(out, "@{scope}").ok()?;
+    }
+    Some(())
+}
+
+/// Adds a line for what two words mean at a place.
+fn show_words<'a>(
+    out: &mut String,
+    instances: &Instances<'_, '_, 'a>,
+    at: usize,
+    first: &Word<'a>,
+    second: &Word<'a>,
+) -> Option<()> {
+    write!(out, "{at}:").ok()?;
+    show_word(out, instances, at, first)?;
+    show_word(out, instances, at, second)?;
+    write!(out, "\n").ok()
+}
+
+/// Adds a line for the statement at a place, if it has two words, or a source and a target.
+fn show_statement<'a>(
+    out: &mut String,
+    instances: &Instances<'_, '_, 'a>,
+    at: usize,
+    statement: &Statement<'a>,
+) -> Option<()> {
+    if let Some(words) = statement.two_words() {
+        return show_words(out, instances, at, &words.first, &words.second);
+    }
+    if let Some(rule) = statement.rule_parts() {
+        let target = rule.target.word(statement.at.module)?;
+        return show_words(out, instances, at, &rule.source, &target);
+    }
+    Some(())
+}
+
+/// What the words of all placed statements mean.
+struct Meanings;
+
+impl Question for Meanings {
+    fn answer(&self, alloc: Global, instances: &Instances) -> Option<String> {
+        let mut out = String::new(alloc);
+        for at in 0..instances.len() {
+            let number = instances.statement(at);
+            let statement = instances.spaces().statements().get(number)?;
+            show_statement(&mut out, instances, at, statement)?;
+        }
+        Some(out)
+    }
+}
+
+#[test]
+fn words_mean_arguments_or_themselves(rt: HostRuntime) {
+    for row in MEANINGS {
+        assert!(rt; row_holds(rt.alloc(), row, &Meanings), "{row}");
+    }
 }

@@ -8,8 +8,7 @@ use std::io;
 use std::io::{Read, Write};
 use std::test::Fail;
 
-/// A reader that gives at most so many bytes a call. Behind so many calls one fails, and those after it go on, so whoever tries
-/// again is given more.
+/// A reader that gives at most so many bytes a call. Behind so many calls one fails, and those after it go on.
 #[derive(Drop)]
 struct Failing<'a> {
     bytes: &'a [u8],
@@ -31,8 +30,7 @@ impl Read for Failing<'_> {
     }
 }
 
-/// A writer that takes at most so many bytes a call. Behind so many calls one fails, by an error or by taking nothing, and those
-/// after it go on, so whoever tries again has more out.
+/// The same of a writer, whose call fails by an error or by taking nothing.
 #[derive(Drop)]
 struct Closing {
     taken: Vec<u8>,
@@ -45,10 +43,9 @@ impl Write for Closing {
     fn write(&mut self, bytes: &[u8]) -> io::Result<usize> {
         if self.calls == 0 {
             self.calls = usize::MAX;
-            return if self.takes_nothing {
-                Ok(0)
-            } else {
-                Err(io::Error::from(io::ErrorKind::BrokenPipe))
+            return match self.takes_nothing {
+                true => Ok(0),
+                false => Err(io::Error::from(io::ErrorKind::BrokenPipe)),
             };
         }
         self.calls -= 1;
@@ -66,36 +63,39 @@ impl Write for Closing {
 
 /// 28 bytes: a request ends behind the first 5 and the first 23, and the session behind all.
 const INPUT: &[u8] = b"LIST\nINSTALL 8\n(type a)QUIT\n";
-
 /// 15 bytes: a reply ends behind the first 5 and the first 12.
 const OUTPUT: &[u8] = b"OK 0\nOK new\nOK\n";
 
+fn make_failing(step: usize, calls: usize) -> Failing<'static> {
+    let bytes = INPUT;
+    Failing { bytes, step, calls }
+}
+
+fn make_closing(alloc: Global, step: usize, calls: usize, takes_nothing: bool) -> Closing {
+    let taken = Vec::new(alloc);
+    Closing {
+        taken,
+        step,
+        calls,
+        takes_nothing,
+    }
+}
+
 /// How many modules a host has.
 fn modules_of(alloc: Global, host: &Host<u8>) -> usize {
-    match host.list(alloc) {
-        Ok(lines) => lines.len(),
-        Err(_) => 99,
-    }
+    host.list(alloc).map_or(99, |lines| lines.len())
 }
 
 /// Whether a session ends as it has to whose reader gives one byte a call, of the first of the input, and then fails.
 fn fails_to_read(alloc: Global, given: usize) -> bool {
-    let (replied, modules) = match given {
-        0..5 => (0, 0),
-        5..23 => (5, 0),
-        23..28 => (12, 1),
-        _ => (15, 1),
-    };
-    let ending = match replied {
-        15 => Served::Quit,
-        _ => Served::ReadFailed,
+    let (replied, modules, ending) = match given {
+        0..5 => (0, 0, Served::ReadFailed),
+        5..23 => (5, 0, Served::ReadFailed),
+        23..28 => (12, 1, Served::ReadFailed),
+        _ => (15, 1, Served::Quit),
     };
     let mut host: Host<u8> = Host::new(alloc, 512, 0);
-    let mut reader = Counted::new(Failing {
-        bytes: INPUT,
-        step: 1,
-        calls: given,
-    });
+    let mut reader = Counted::new(make_failing(1, given));
     let mut writer = Counted::new(Vec::new(alloc));
     let served = serve(alloc, &mut host, &mut reader, &mut writer);
     let failed = Source::failed(&reader);
@@ -118,25 +118,15 @@ fn fails_to_write(alloc: Global, step: usize, taken: usize, takes_nothing: bool)
         0..15 => Served::WriteFailed,
         _ => Served::Quit,
     };
-    // Where all requests come at once, their replies are written behind the last one. Byte by byte, each is written before the
-    // next request is read.
+    // Byte by byte, each reply is written before the next request is read; where all come at once, behind the last.
     let (read, modules) = match (step, taken) {
         (1, 0..5) => (5, 0),
         (1, 5..12) => (23, 1),
         _ => (28, 1),
     };
     let mut host: Host<u8> = Host::new(alloc, 512, 0);
-    let mut reader = Counted::new(Failing {
-        bytes: INPUT,
-        step,
-        calls: 28,
-    });
-    let mut writer = Counted::new(Closing {
-        taken: Vec::new(alloc),
-        step: 1,
-        calls: taken,
-        takes_nothing,
-    });
+    let mut reader = Counted::new(make_failing(step, 28));
+    let mut writer = Counted::new(make_closing(alloc, 1, taken, takes_nothing));
     let served = serve(alloc, &mut host, &mut reader, &mut writer);
     let failed = Sink::failed(&writer);
     served == ending
@@ -149,15 +139,9 @@ fn fails_to_write(alloc: Global, step: usize, taken: usize, takes_nothing: bool)
 #[test]
 fn a_writer_may_fail_at_each_call(rt: HostRuntime) {
     for taken in 0..17usize {
-        for &step in &[1usize, 100] {
-            assert!(rt;
-                fails_to_write(rt.alloc(), step, taken, false),
-                "behind {taken} bytes, {step} a read"
-            );
-            assert!(rt;
-                fails_to_write(rt.alloc(), step, taken, true),
-                "behind {taken} bytes, {step} a read"
-            );
+        for &(step, nothing) in &[(1usize, false), (1, true), (100, false), (100, true)] {
+            let fails = fails_to_write(rt.alloc(), step, taken, nothing);
+            assert!(rt; fails, "behind {taken} bytes, {step} a read, {nothing}");
         }
     }
 }
@@ -183,8 +167,7 @@ impl Write for Held<'_> {
     }
 }
 
-/// The other side of a `Held`: it sends a part only when this many bytes have come out to it, and it fails where it is asked for
-/// more before, or behind its last part.
+/// The other side of a `Held`: it sends a part when this many bytes are out, and fails where it is asked before, or behind the last.
 #[derive(Drop)]
 struct Asking<'a> {
     parts: &'a [(usize, &'a [u8])],
@@ -205,8 +188,11 @@ impl Read for Asking<'_> {
     }
 }
 
-/// What comes in call by call, each behind as many bytes of replies as have to be out before it, all replies, and how the session ends.
-const ASKED: &[(&[(usize, &[u8])], &[u8], Served)] = &[
+/// What comes in by a call, behind as many bytes of replies as have to be out before it.
+type Part = (usize, &'static [u8]);
+
+/// What comes in call by call, all replies, and how the session ends.
+const ASKED: &[(&[Part], &[u8], Served)] = &[
     // Each reply is out before more is read: behind a whole request, within a line, within a body, behind a body.
     (
         &[
@@ -227,32 +213,20 @@ const ASKED: &[(&[(usize, &[u8])], &[u8], Served)] = &[
     // An empty part is the end of the input: nothing is asked for behind it.
     (&[(0, b"LIST\n"), (5, b"")], b"OK 0\n", Served::End),
     (&[(0, b"")], b"", Served::End),
-    (
-        &[(0, b"LIST\nLI"), (5, b"")],
-        b"OK 0\nERR 83\n",
-        Served::Fault(83),
-    ),
-    (
-        &[(0, b"INSTALL 67108865\n")],
-        b"ERR 84\n",
-        Served::Fault(84),
-    ),
+    (CUT_IN_A_LINE, b"OK 0\nERR 83\n", Served::Fault(83)),
+    (TOO_LONG, b"ERR 84\n", Served::Fault(84)),
 ];
 
+const CUT_IN_A_LINE: &[Part] = &[(0, b"LIST\nLI"), (5, b"")];
+
+const TOO_LONG: &[Part] = &[(0, b"INSTALL 67108865\n")];
+
 /// Whether a session with a client that waits for its replies ends so, with all replies out.
-fn answers_as_asked(
-    alloc: Global,
-    parts: &[(usize, &[u8])],
-    output: &[u8],
-    ending: Served,
-) -> bool {
-    let out = Cell::new(0);
+fn answers_so(alloc: Global, parts: &[Part], output: &[u8], ending: Served) -> bool {
+    let (bytes, out) = (Vec::new(alloc), Cell::new(0));
     let mut host: Host<u8> = Host::new(alloc, 512, 0);
     let mut reader = Counted::new(Asking { parts, out: &out });
-    let mut writer = Counted::new(Held {
-        bytes: Vec::new(alloc),
-        out: &out,
-    });
+    let mut writer = Counted::new(Held { bytes, out: &out });
     let served = serve(alloc, &mut host, &mut reader, &mut writer);
     let is_out = out.get() == output.len();
     served == ending && is_out && writer.into_inner().bytes.as_slice() == output
@@ -261,10 +235,7 @@ fn answers_as_asked(
 #[test]
 fn each_reply_is_out_before_more_is_asked_for(rt: HostRuntime) {
     for &(parts, output, ending) in ASKED {
-        assert!(rt;
-            answers_as_asked(rt.alloc(), parts, output, ending),
-            "{output:?}"
-        );
+        assert!(rt; answers_so(rt.alloc(), parts, output, ending), "{output:?}");
     }
 }
 
@@ -274,12 +245,7 @@ fn stops_in_a_long_reply(alloc: Global) -> Result<bool, Fail> {
     let body = vec![in alloc; b' '; 70_000]?;
     host.install(alloc, body.as_slice())?;
     let mut reader = Counted::new(b"EXPORT\nINSTALL 8\n(type a)QUIT\n".as_slice());
-    let mut writer = Counted::new(Closing {
-        taken: Vec::new(alloc),
-        step: 10,
-        calls: 3,
-        takes_nothing: false,
-    });
+    let mut writer = Counted::new(make_closing(alloc, 10, 3, false));
     let served = serve(alloc, &mut host, &mut reader, &mut writer);
     let is_front = writer.into_inner().taken.as_slice()
         == b"OK 70021\nCILB\x01\0\0\0\0\0\0\0\x01\0\0\0\0\0\x01\x11".as_slice();
@@ -319,4 +285,21 @@ fn a_failed_flush_is_a_failed_write(rt: HostRuntime) {
     assert_eq!(rt; served, Served::WriteFailed);
     assert_eq!(rt; Sink::failed(&writer), 1);
     assert_eq!(rt; writer.into_inner().calls, 1);
+}
+
+/// Inputs that end in a request: in a line, in a body, and before one.
+const CUT: &[&[u8]] = &[b"LIST", b"INSTALL 10\n(typ", b"INSTALL 1\n"];
+
+#[test]
+fn a_request_that_is_cut_changes_nothing(rt: HostRuntime) {
+    let alloc = rt.alloc();
+    let mut host: Host<u8> = Host::new(alloc, 512, 0);
+    for &input in CUT {
+        let mut reader = Counted::new(input);
+        let mut writer = Counted::new(Vec::new(alloc));
+        let served = serve(alloc, &mut host, &mut reader, &mut writer);
+        assert_eq!(rt; served, Served::Fault(83));
+        assert_eq!(rt; writer.into_inner().as_slice(), b"ERR 83\n".as_slice());
+        assert_eq!(rt; modules_of(alloc, &host), 0);
+    }
 }

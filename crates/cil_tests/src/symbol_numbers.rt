@@ -1,10 +1,7 @@
-//! The numbers of declared symbols, and the permissions of classes.
+//! The numbers of declared symbols.
 
-use crate::answers::{Question, answer_to, show_entry};
 use crate::look_ups::{Declared, entries, spaces};
-use cil_blocks::Namespaces;
-use cil_macros::Instances;
-use cil_names::{Lookup, Names, Numbering, OptSet, declare, numbered, permissions_of};
+use cil_names::{Lookup, Names, Numbering, OptSet, numbered};
 use cil_syntax::{Bytes, Kind};
 use std::alloc::Global;
 use std::test::Fail;
@@ -38,22 +35,22 @@ fn numbers(alloc: Global, declared: &[Declared], flags: &[bool]) -> Result<Strin
     let names = Names::checked(&spaces, entries(alloc, declared)?).ok_or("they do not rise")?;
     let enabled = OptSet::of(Vec::from_slice(alloc, flags)?);
     let lookup = Lookup {
-        spaces: &spaces,
+        namespaces: &spaces,
         names: &names,
         enabled: &enabled,
     };
     show_numbers(alloc, &numbered(alloc, &lookup)?)
 }
 
-/// What the rows below are about, the declared names by namespace, name and name space, and for some sets of optionals the
-/// users, roles, types and classes, and the number of each name.
-type Numbered = (
-    &'static str,
-    &'static [Declared],
-    &'static [(&'static [bool], &'static str)],
-);
+const KINDS: &str = "(p.q.u u)(object_r p.r r.a z)(p.q.t)(c p.c) 0 0 1 3 1 1 2 0 0";
 
-const NUMBERED: &[Numbered] = &[
+const IN_ORDER: &str = "()()(p p-x p.X p.q.x p.x p0 pa q r.a)() 0 1 5 6 7 2 4 8 3";
+
+/// Some sets of optionals, the users, roles, types and classes there, and the number of each name.
+type Sets = &'static [(&'static [bool], &'static str)];
+
+/// What a row is about, the declared names by namespace, name and name space, and what they are by sets of optionals.
+const NUMBERED: &[(&str, &[Declared], Sets)] = &[
     ("nothing", &[], &[(&[], "()()()()")]),
     (
         "each kind in a section of its own",
@@ -68,10 +65,7 @@ const NUMBERED: &[Numbered] = &[
             (3, b"t", Kind::Type_, &[]),
             (3, b"u", Kind::User, &[]),
         ],
-        &[(
-            &[],
-            "(p.q.u u)(object_r p.r r.a z)(p.q.t)(c p.c) 0 0 1 3 1 1 2 0 0",
-        )],
+        &[(&[], KINDS)],
     ),
     (
         // A hyphen comes before the dot, digits and letters come behind it.
@@ -87,10 +81,7 @@ const NUMBERED: &[Numbered] = &[
             (2, b"a", Kind::Type_, &[]),
             (3, b"x", Kind::Type_, &[]),
         ],
-        &[(
-            &[],
-            "()()(p p-x p.X p.q.x p.x p0 pa q r.a)() 0 1 5 6 7 2 4 8 3",
-        )],
+        &[(&[], IN_ORDER)],
     ),
     (
         "aliases, attributes, class maps, blocks and macros have no section",
@@ -138,86 +129,9 @@ const NUMBERED: &[Numbered] = &[
 fn symbols_are_numbered_by_their_names(rt: HostRuntime) -> Result<(), Fail> {
     for &(name, declared, rows) in NUMBERED {
         for &(flags, wanted) in rows {
-            assert_eq!(rt;
-                numbers(rt.alloc(), declared, flags)?.as_str(),
-                wanted,
-                "{name}"
-            );
+            let got = numbers(rt.alloc(), declared, flags)?;
+            assert_eq!(rt; got.as_str(), wanted, "{name}");
         }
-    }
-    Ok(())
-}
-
-/// The declared names with the permissions of each.
-struct ListedPermissions {}
-
-impl Question for ListedPermissions {
-    fn answer(&self, alloc: Global, instances: &Instances) -> Option<String> {
-        let names = declare(alloc, instances).ok()?;
-        let permissions = permissions_of(alloc, &names, instances).ok()?;
-        show_permissions(
-            alloc,
-            instances.namespaces(),
-            &names,
-            permissions.as_slice(),
-        )
-    }
-}
-
-/// The permissions of each declared name.
-fn show_permissions(
-    alloc: Global,
-    spaces: &Namespaces,
-    names: &Names,
-    permissions: &[Vec<Bytes>],
-) -> Option<String> {
-    let mut out = String::new(alloc);
-    for (entry, listed) in names.entries().iter().zip(permissions) {
-        write!(out, "[").ok()?;
-        show_entry(alloc, &mut out, spaces, entry)?;
-        show_names(&mut out, listed.as_slice())?;
-        write!(out, "]").ok()?;
-    }
-    Some(out)
-}
-
-/// A text, and the permissions of each declared name.
-const LISTED: &[(&str, &str)] = &[
-    ("", "[Role object_r()]"),
-    ("(class w ())", "[Role object_r()][Class w()]"),
-    (
-        "(class file (read append open))",
-        "[Class file(append open read)][Role object_r()]",
-    ),
-    // In byte order, each once.
-    (
-        "(block p (block q (class w (b a_ a B a1 b a-))))",
-        "[Role object_r()][Class p.q.w(B a a- a1 a_ b)]",
-    ),
-    (
-        "(class w (q p))(class w (q p))",
-        "[Role object_r()][Class w(p q)]",
-    ),
-    (
-        "(block p (class w (c a))(class v (d))(block q (class w ())))(block r (class w (b a)))",
-        "[Role object_r()][Class p.v(d)][Class p.w(a c)][Class r.w(a b)][Class p.q.w()]",
-    ),
-    (
-        "(class w (p))(type w)(type p)(allow p w (w (p)))(macro m ((class w)))",
-        "[Macro m()][Role object_r()][Type_ p()][Type_ w()][Class w(p)]",
-    ),
-    // A class of a template, in each namespace that inherits it.
-    (
-        "(block t (blockabstract t)(class w (q p)))(block n (blockinherit t))(block k (blockinherit t)(class v (p)))",
-        "[Role object_r()][Class n.w(p q)][Class k.v(p)][Class k.w(p q)]",
-    ),
-];
-
-#[test]
-fn classes_have_the_permissions_that_are_listed(rt: HostRuntime) -> Result<(), Fail> {
-    for &(text, wanted) in LISTED {
-        let got = answer_to(rt.alloc(), &[text], &ListedPermissions {}).ok_or("no answer")?;
-        assert_eq!(rt; got.as_str(), wanted, "{text}");
     }
     Ok(())
 }

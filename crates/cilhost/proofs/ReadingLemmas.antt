@@ -8,7 +8,7 @@ use Rattle.cil_sexpr.specs.declared.fault.ReadError.{ReadError}
 use Rattle.cil_sexpr.specs.declared.fault.ReadError.TheVariants as read
 use Rattle.cil_sexpr.specs.declared.fault.ReadFault.{ReadFault}
 use Rattle.cil_sexpr.specs.Faults.{FaultOf}
-use Rattle.cil_sexpr.specs.Lists.{contains_cases, contains_here, contains_none}
+use Rattle.cil_base.specs.Lists.{contains_cases, contains_here, contains_none}
 use Rattle.cil_sexpr.specs.Refusal.{Refuses}
 use Rattle.cil_sexpr.specs.Text.{IsReadable}
 use Rattle.cil_modset.proofs.RisingLemmas.{rising_none}

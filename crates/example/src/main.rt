@@ -3,10 +3,12 @@
 //! `stdout` has what it prints, and the gate compares.
 #![tactic(auto)]
 
-use cil_decide::{Tables, class_named, compile, decide, parse_context, permission_at};
-use cil_modset::{ModuleSet, NoMemory};
+use cil_base::NoMemory;
+use cil_decide::{class_named, decide, parse_context, permission_at};
+use cil_faults::{Failure, render};
+use cil_modset::ModuleSet;
 use cil_sexpr::ReadError;
-use cil_syntax::{Failure, render};
+use cil_tables::{Tables, compile};
 use std::alloc::Global;
 use std::io::{self, Write};
 use std::process::ExitCode;

@@ -1,6 +1,6 @@
 use Rattle.std.proofs.Common.{arith}
 use Rattle.cil_syntax.specs.Program.{program_of}
-use Rattle.cil_sexpr.specs.Places.{there_as}
+use Rattle.cil_base.specs.Places.{there_as}
 use Rattle.cil_blocks.proofs.ProgramLemmas.{program_length}
 use Rattle.cil_blocks.proofs.StepLemmas.{all_cycles, is_on_cycle, no_cycle, on_no_cycle, one_cycle, steps_stay}
 use Rattle.cil_blocks.proofs.cycles.cycles_of.Goals as goal

@@ -3,7 +3,7 @@ use Rattle.cil_syntax.specs.Program.{program_of}
 use Rattle.cil_blocks.specs.Contents.{is_named}
 use Rattle.cil_blocks.specs.Doubled.{AreThose, is_named_at, only_if}
 use Rattle.cil_blocks.proofs.Kept.{counted_more, only_those}
-use Rattle.cil_sexpr.specs.Places.{there_as}
+use Rattle.cil_base.specs.Places.{there_as}
 use Rattle.cil_blocks.proofs.NameLemmas.{keyword_some}
 use Rattle.cil_blocks.proofs.doubled.named_numbers.Goals as goal
 

@@ -1,15 +1,15 @@
 use Rattle.std.proofs.Common.{List, ◌≡◌, sym, subst}
 use Rattle.cil_syntax.specs.declared.program.Statement.{Statement}
-use Rattle.cil_syntax.specs.Fails.{AreFaults}
+use Rattle.cil_faults.specs.Fails.{AreFaults}
 use Rattle.cil_syntax.specs.Program.{program_of}
-use Rattle.cil_syntax.specs.Refusal.{Fails}
+use Rattle.cil_faults.specs.Refusal.{Fails}
 use Rattle.cil_blocks.specs.declared.entry.Entry.{Entry}
 use Rattle.cil_blocks.specs.Entries.{AreOpened}
 use Rattle.cil_blocks.specs.InheritFaults.{InheritStep}
 use Rattle.cil_blocks.specs.Places.{ArePlaces, AreStandings, Standings, all_numbered, statements_in}
 use Rattle.cil_blocks.proofs.InheritLemmas.{are_contents, fails_so, is_none, is_some, no_more, over_so}
 use Rattle.cil_blocks.proofs.inheritance.inherit.Goals as goal
-use Rattle.cil_syntax.proofs.RefusalLemmas.{refused}
+use Rattle.cil_faults.proofs.RefusalLemmas.{refused}
 
 pub returns-in_err-check_blocks : goal.returns-in_err-check_blocks
 returns-in_err-check_blocks c =

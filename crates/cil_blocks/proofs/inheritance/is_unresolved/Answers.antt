@@ -4,7 +4,7 @@ use Rattle.cil_syntax.specs.Program.{program_of}
 use Rattle.cil_blocks.specs.Contents.{is_inheriting}
 use Rattle.cil_blocks.proofs.FirstNamed.{nothing_there}
 use Rattle.cil_blocks.proofs.InheritLemmas.{unresolved_is}
-use Rattle.cil_sexpr.specs.Places.{there_as}
+use Rattle.cil_base.specs.Places.{there_as}
 use Rattle.cil_blocks.proofs.NameLemmas.{keyword_some}
 use Rattle.cil_blocks.proofs.ProgramLemmas.{program_length}
 use Rattle.cil_blocks.proofs.inheritance.is_unresolved.Goals as goal

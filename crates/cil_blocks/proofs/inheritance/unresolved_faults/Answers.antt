@@ -1,6 +1,6 @@
 use Rattle.std.proofs.Common.{ℕ, ◌∙◌, ap}
 use Rattle.std.specs.List.{flat_map}
-use Rattle.cil_syntax.specs.declared.code.FaultCode.TheVariants as causes
+use Rattle.cil_faults.specs.declared.code.FaultCode.TheVariants as causes
 use Rattle.cil_syntax.specs.Program.{program_of}
 use Rattle.cil_blocks.specs.Entries.{statement_at}
 use Rattle.cil_blocks.specs.Reports.{IsUnresolved, target_fault}

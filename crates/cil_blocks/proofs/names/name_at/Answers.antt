@@ -1,5 +1,5 @@
 use Rattle.std.proofs.Common.{sym}
-use Rattle.cil_sexpr.specs.Places.{not_there, there_as}
+use Rattle.cil_base.specs.Places.{not_there, there_as}
 use Rattle.cil_blocks.proofs.NameLemmas.{name_none, no_name, some_name}
 use Rattle.cil_blocks.proofs.names.name_at.Goals as goal
 

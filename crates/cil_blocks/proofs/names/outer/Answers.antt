@@ -1,4 +1,4 @@
-use Rattle.cil_sexpr.specs.Places.{not_there, there_as}
+use Rattle.cil_base.specs.Places.{not_there, there_as}
 use Rattle.cil_blocks.proofs.NameLemmas.{space_none, space_some}
 use Rattle.cil_blocks.proofs.names.outer.Goals as goal
 

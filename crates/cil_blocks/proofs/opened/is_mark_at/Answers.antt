@@ -1,16 +1,13 @@
 use Rattle.std.proofs.Common.{sym, ◌∙◌, ap}
-use Rattle.cil_syntax.specs.Written.{Written, is_abstraction}
-use Rattle.cil_sexpr.specs.Places.{not_there, there_as}
-use Rattle.cil_blocks.proofs.NameLemmas.{at_none, keyword_some}
+use Rattle.cil_syntax.specs.declared.program.Statement.{Statement}
+use Rattle.cil_syntax.specs.Written.{is_abstraction}
+use Rattle.cil_base.specs.Places.{there_as}
+use Rattle.cil_blocks.proofs.NameLemmas.{keyword_some}
 use Rattle.cil_blocks.proofs.opened.is_mark_at.Goals as goal
 
-pub returns-in-None : goal.returns-in-None
-returns-in-None c =
-    sym (ap (λ (w : Written). is_abstraction w.statement.keyword)
-    (at_none c.args.statements.now c.requires c.args.number (not_there c.args.statements.now c.args.number c.in-None.ensures.lookup.3)))
-
-pub returns-in-Some : goal.returns-in-Some
-returns-in-Some c =
+pub returns : goal.returns
+returns c =
     c.is_mark.ensures
-    ∙ sym (ap is_abstraction (keyword_some c.args.statements.now c.requires c.args.number _
-    (there_as c.args.statements.now c.args.number c.in-Some.statement.now c.in-Some.ensures.lookup.3.0 c.in-Some.ensures.lookup.1)))
+    ∙ ap (λ (s : Statement). is_abstraction s.keyword) (sym c.index-statements-number.is)
+    ∙ sym (ap is_abstraction (keyword_some c.args.statements.now c.requires.nested c.args.number c.index-statements-number.result
+    (there_as c.args.statements.now c.args.number c.index-statements-number.result c.requires.within c.index-statements-number.is)))

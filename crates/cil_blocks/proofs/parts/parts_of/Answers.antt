@@ -1,7 +1,7 @@
 use Rattle.std.proofs.Common.{arith, length, refl, sym, ◌∙◌, ap}
 use Rattle.std.specs.Prelude.{Some}
 use Rattle.cil_syntax.specs.Program.{program_of}
-use Rattle.cil_sexpr.specs.Places.{is_there}
+use Rattle.cil_base.specs.Places.{is_there}
 use Rattle.cil_blocks.proofs.PartLemmas.{all_parts, part_added, within_so}
 use Rattle.cil_blocks.proofs.ProgramLemmas.{program_length}
 use Rattle.cil_blocks.proofs.parts.parts_of.Goals as goal

@@ -1,7 +1,7 @@
 use Rattle.std.proofs.Common.{◌∙◌, inl, inr, refl, sym}
 use Rattle.std.specs.Prelude.{None, Some}
 use Rattle.cil_syntax.specs.Program.{program_of}
-use Rattle.cil_sexpr.specs.Places.{not_there, there_as}
+use Rattle.cil_base.specs.Places.{not_there, there_as}
 use Rattle.cil_blocks.proofs.NameLemmas.{keyword_some}
 use Rattle.cil_blocks.proofs.PlacingLemmas.{inheriting, not_inheriting, nothing_inherited}
 use Rattle.cil_blocks.proofs.places.inherited_at.Goals as goal

@@ -1,5 +1,5 @@
 use Rattle.std.proofs.Common.{rules, ◌≡◌, suc, arith}
-use Rattle.cil_sexpr.specs.Places.{there_as}
+use Rattle.cil_base.specs.Places.{there_as}
 use Rattle.cil_blocks.proofs.PlaceLemmas.{place_next, place_past, top_of}
 use Rattle.cil_blocks.proofs.places.place_at.Goals as goal
 

@@ -3,7 +3,7 @@ use Rattle.std.proofs.lemmas.Cmp.{nat_list_cmp_total}
 use Rattle.std.proofs.lemmas.Map.Lookups.{exact_bytes}
 use Rattle.std.proofs.lemmas.Fn.{always_returns_same}
 use Rattle.cil_syntax.specs.Program.{program_of}
-use Rattle.cil_sexpr.specs.Lists.{text_cmp}
+use Rattle.cil_base.specs.Lists.{text_cmp}
 use Rattle.cil_blocks.specs.Seeds.{own_name}
 use Rattle.cil_blocks.proofs.RunLemmas.{weak}
 use Rattle.cil_blocks.proofs.reach.by_own_name.Goals as goal

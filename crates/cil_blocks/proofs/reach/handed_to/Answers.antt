@@ -2,7 +2,7 @@ use Rattle.std.proofs.Common.{ℕ, ◌∙◌, ap}
 use Rattle.std.specs.List.{flat_map}
 use Rattle.cil_blocks.specs.Named.{targets_in}
 use Rattle.cil_blocks.specs.Seeds.{bodies, handed_to}
-use Rattle.cil_sexpr.specs.MadeLists.{all_flat}
+use Rattle.cil_base.specs.MadeLists.{all_flat}
 use Rattle.cil_blocks.proofs.reach.handed_to.Goals as goal
 
 pub returns : goal.returns

@@ -1,7 +1,7 @@
 use Rattle.std.proofs.Common.{sym, ◌∙◌, ap}
 use Rattle.cil_syntax.specs.Written.{Written}
 use Rattle.cil_blocks.specs.Contents.{is_named}
-use Rattle.cil_sexpr.specs.Places.{not_there, there_as}
+use Rattle.cil_base.specs.Places.{not_there, there_as}
 use Rattle.cil_blocks.proofs.NameLemmas.{at_none, keyword_some}
 use Rattle.cil_blocks.proofs.reach.is_named_at.Goals as goal
 

@@ -4,7 +4,7 @@ use Rattle.std.specs.Option.{option_eq}
 use Rattle.std.proofs.Math.Dec.{eqb}
 use Rattle.indexmap.specs.IndexSet.{insert_key}
 use Rattle.cil_blocks.specs.Seeds.{IsHanded, handed_to}
-use Rattle.cil_sexpr.specs.Places.{is_there}
+use Rattle.cil_base.specs.Places.{is_there}
 use Rattle.cil_blocks.proofs.Reached.{all_opened, at_first, one_opened, same_those}
 use Rattle.cil_blocks.proofs.reach.reached_from.Goals as goal
 

@@ -6,7 +6,7 @@ use Rattle.cil_syntax.specs.Terms.{Terms}
 use Rattle.cil_syntax.specs.declared.term.Word.{Word}
 use Rattle.cil_blocks.specs.Entries.{statement_at}
 use Rattle.cil_blocks.specs.Reports.{fault_of_name}
-use Rattle.cil_sexpr.specs.Places.{not_there, there_as}
+use Rattle.cil_base.specs.Places.{not_there, there_as}
 use Rattle.cil_blocks.proofs.NameLemmas.{args_some, at_none}
 use Rattle.cil_blocks.proofs.ReportLemmas.{no_name_fault, none_added}
 use Rattle.cil_blocks.proofs.reports.report_name.Goals as goal

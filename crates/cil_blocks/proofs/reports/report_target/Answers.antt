@@ -1,12 +1,12 @@
 use Rattle.std.proofs.Common.{◌++◌, ◌∷◌, [], List, ℕ, sym, ◌∙◌, ap}
 use Rattle.cil_syntax.specs.Written.{Written}
 use Rattle.cil_syntax.specs.Program.{program_of}
-use Rattle.cil_syntax.specs.Reported.{fault_at}
+use Rattle.cil_faults.specs.Reported.{fault_at}
 use Rattle.cil_syntax.specs.Said.{all_said}
 use Rattle.cil_blocks.specs.Contents.{first_word}
 use Rattle.cil_blocks.specs.Entries.{statement_at}
 use Rattle.cil_blocks.specs.Reports.{fault_of_word}
-use Rattle.cil_sexpr.specs.Places.{not_there, there_as}
+use Rattle.cil_base.specs.Places.{not_there, there_as}
 use Rattle.cil_blocks.proofs.NameLemmas.{args_some, at_none}
 use Rattle.cil_blocks.proofs.ReportLemmas.{no_target_fault, none_added}
 use Rattle.cil_blocks.proofs.TargetsSo.{no_word, some_word}

@@ -5,7 +5,7 @@ use Rattle.std.proofs.lemmas.Cmp.{nat_list_cmp_total}
 use Rattle.std.proofs.lemmas.Map.Lookups.{exact_bytes}
 use Rattle.cil_syntax.specs.Program.{program_of}
 use Rattle.cil_blocks.specs.Doubled.{AreAlike}
-use Rattle.cil_sexpr.specs.Lists.{text_cmp}
+use Rattle.cil_base.specs.Lists.{text_cmp}
 use Rattle.cil_blocks.specs.Seeds.{own_name}
 use Rattle.cil_blocks.proofs.RunLemmas.{before_parted, is_before, is_upto, of_key, sorted_left, upto_parted}
 use Rattle.cil_blocks.proofs.seeds.alike_in.Goals as goal

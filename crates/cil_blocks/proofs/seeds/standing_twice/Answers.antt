@@ -3,7 +3,7 @@ use Rattle.std.specs.Prelude.{None, slice_get}
 use Rattle.indexmap.specs.IndexSet.{insert_key}
 use Rattle.cil_syntax.specs.Program.{program_of}
 use Rattle.cil_blocks.specs.Seeds.{IsDoubledBy, IsNext, Pair}
-use Rattle.cil_sexpr.specs.Places.{is_there}
+use Rattle.cil_base.specs.Places.{is_there}
 use Rattle.cil_blocks.proofs.Reached.{all_told, at_first, none_told, one_opened, one_told, pair_eq, those_over}
 use Rattle.cil_blocks.proofs.seeds.standing_twice.Goals as goal
 

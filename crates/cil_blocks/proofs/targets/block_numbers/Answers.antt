@@ -1,7 +1,7 @@
 use Rattle.std.proofs.Common.{arith, ap, subst}
 use Rattle.cil_syntax.specs.Program.{program_of}
 use Rattle.cil_blocks.specs.Contents.{is_block}
-use Rattle.cil_sexpr.specs.Places.{there_as}
+use Rattle.cil_base.specs.Places.{there_as}
 use Rattle.cil_blocks.proofs.NameLemmas.{keyword_some}
 use Rattle.cil_blocks.proofs.TargetLemmas.{AreBlocksUpTo, block_more}
 use Rattle.cil_blocks.proofs.targets.block_numbers.Goals as goal

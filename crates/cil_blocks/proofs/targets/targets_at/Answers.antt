@@ -1,11 +1,11 @@
 use Rattle.std.proofs.Common.{sym, ◌∙◌, ap, subst}
-use Rattle.cil_sexpr.specs.Lists.{contains_none}
+use Rattle.cil_base.specs.Lists.{contains_none}
 use Rattle.cil_syntax.specs.Program.{program_of}
 use Rattle.cil_syntax.specs.Scopes.{scope_at}
 use Rattle.cil_syntax.specs.Said.{all_said}
 use Rattle.cil_blocks.specs.Contents.{first_word}
 use Rattle.cil_blocks.specs.Named.{AreFirstNamed, IsAsked, space_in}
-use Rattle.cil_sexpr.specs.Places.{not_there, there_as}
+use Rattle.cil_base.specs.Places.{not_there, there_as}
 use Rattle.cil_blocks.proofs.NameLemmas.{args_some, at_none}
 use Rattle.cil_blocks.proofs.TargetsSo.{first_below, no_targets, no_word, some_word, the_targets}
 use Rattle.cil_syntax.specs.Written.{Written}

@@ -3,7 +3,7 @@ use Rattle.cil_syntax.specs.declared.program.Statement.{Statement}
 use Rattle.cil_syntax.specs.Program.{program_of}
 use Rattle.cil_blocks.specs.Contents.{is_inheriting}
 use Rattle.cil_blocks.proofs.AllTargets.{are_targets, no_targets_of}
-use Rattle.cil_sexpr.specs.Places.{there_as}
+use Rattle.cil_base.specs.Places.{there_as}
 use Rattle.cil_blocks.proofs.NameLemmas.{keyword_some}
 use Rattle.cil_blocks.proofs.targets.targets_kept.Goals as goal
 

@@ -1,6 +1,6 @@
 use Rattle.std.proofs.Common.{◌++◌, ◌∙◌, ap, arith, length, map, subst, sym}
 use Rattle.std.specs.Prelude.{slice_get}
-use Rattle.cil_sexpr.specs.Places.{not_there, there_as}
+use Rattle.cil_base.specs.Places.{not_there, there_as}
 use Rattle.cil_macros.specs.declared.openings.Opening.{Opening}
 use Rattle.cil_macros.specs.Items.{argument_words, scoped_by}
 use Rattle.cil_macros.specs.Meant.{bounds_by}
@@ -27,7 +27,7 @@ index-requires c =
 pub standing_statement-called-requires : goal.standing_statement-called-requires
 standing_statement-called-requires c =
     let s = c.args.scene.now in
-    let p = placed_there s.spaces.now s.brought.now.called.items c.args.at c.requires.within in
+    let p = placed_there s.spaces.now s.brought.now.entries.items c.args.at c.requires.within in
     let x = body_as s.brought.now.bodies.items c.as_slice-bodies.result.now c.as_slice-bodies.ensures.value c.args.at c.in-Some.number c.in-Some.ensures.body
     c.index.result.now c.index.ensures in
     let h = macro_below s c.args.openings.now c.requires.opened c.args.at p.0 p.1 c.requires.within c.in-Some.number x in
@@ -40,7 +40,7 @@ returns-in_default-get c = λ p here.
     let x = body_as s.brought.now.bodies.items c.as_slice-bodies.result.now c.as_slice-bodies.ensures.value c.args.at c.in-Some.number c.in-Some.ensures.body
     c.index.result.now c.index.ensures in
     let k = c.standing_statement-called.result in
-    let stated = stands_by s.spaces.now s.brought.now.called.items c.entries.result.now c.index.result.now.called k c.entries.ensures.same c.standing_statement-called.ensures in
+    let stated = stands_by s.spaces.now s.brought.now.entries.items c.entries.result.now c.index.result.now.macro_rank k c.entries.ensures.same c.standing_statement-called.ensures in
     absurd (macro_missing s c.args.openings.now c.requires.opened c.args.at p here c.requires.within c.in-Some.number x k stated
     (ap (λ ys. slice_get ys k) (sym c.statements.ensures) ∙ not_there c.statements.result.now k c.in_default-get.ensures.lookup.3))
 
@@ -50,7 +50,7 @@ returns c = λ p here.
     let x = body_as s.brought.now.bodies.items c.as_slice-bodies.result.now c.as_slice-bodies.ensures.value c.args.at c.in-Some.number c.in-Some.ensures.body
     c.index.result.now c.index.ensures in
     let k = c.standing_statement-called.result in
-    let stated = stands_by s.spaces.now s.brought.now.called.items c.entries.result.now c.index.result.now.called k c.entries.ensures.same c.standing_statement-called.ensures in
+    let stated = stands_by s.spaces.now s.brought.now.entries.items c.entries.result.now c.index.result.now.macro_rank k c.entries.ensures.same c.standing_statement-called.ensures in
     let called = c.in-Some-get.called.now in
     let there = ap (λ ys. slice_get ys k) (sym c.statements.ensures) ∙ there_as c.statements.result.now k called c.in-Some-get.ensures.lookup.3.0 c.in-Some-get.ensures.lookup.1 in
     let within = c.in-Some.ensures.within in

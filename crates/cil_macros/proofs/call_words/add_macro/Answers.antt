@@ -1,6 +1,6 @@
 use Rattle.std.proofs.Common.{◌∙◌, ap, sym}
 use Rattle.std.specs.Prelude.{slice_get}
-use Rattle.cil_sexpr.specs.Places.{not_there, there_as}
+use Rattle.cil_base.specs.Places.{not_there, there_as}
 use Rattle.cil_syntax.specs.Said.{all_said}
 use Rattle.cil_blocks.specs.Contents.{first_word}
 use Rattle.cil_blocks.specs.Places.{statements_in}
@@ -14,7 +14,7 @@ pub returns-in_default : goal.returns-in_default
 returns-in_default c = λ p here.
     let s = c.args.scene.now in
     let xs = statements_in s.spaces.now in
-    let stated = stated_by s.spaces.now s.brought.now.called.items c.entries.result.now c.as_slice.result.now c.args.at c.statement_at-number.result c.entries.ensures.same
+    let stated = stated_by s.spaces.now s.brought.now.entries.items c.entries.result.now c.as_slice.result.now c.args.at c.statement_at-number.result c.entries.ensures.same
     c.as_slice.ensures.value c.statement_at-number.ensures p here in
     let gone = ap (λ ys. slice_get ys c.statement_at-number.result) (sym c.statements.ensures) ∙ not_there c.statements.result.now c.statement_at-number.result c.in_default.ensures.lookup.3 in
     no_macro_word (placed_of_scene s) c.args.at p here (first_word p.standing.statement.statement.args)
@@ -24,7 +24,7 @@ pub returns-in_default-word_and_terms : goal.returns-in_default-word_and_terms
 returns-in_default-word_and_terms c = λ p here.
     let s = c.args.scene.now in
     let xs = statements_in s.spaces.now in
-    let stated = stated_by s.spaces.now s.brought.now.called.items c.entries.result.now c.as_slice.result.now c.args.at c.statement_at-number.result c.entries.ensures.same
+    let stated = stated_by s.spaces.now s.brought.now.entries.items c.entries.result.now c.as_slice.result.now c.args.at c.statement_at-number.result c.entries.ensures.same
     c.as_slice.ensures.value c.statement_at-number.ensures p here in
     let call = c.in-Some.call.now in
     let there = ap (λ ys. slice_get ys c.statement_at-number.result) (sym c.statements.ensures)
@@ -38,7 +38,7 @@ pub returns : goal.returns
 returns c = λ p here.
     let s = c.args.scene.now in
     let xs = statements_in s.spaces.now in
-    let stated = stated_by s.spaces.now s.brought.now.called.items c.entries.result.now c.as_slice.result.now c.args.at c.statement_at-number.result c.entries.ensures.same
+    let stated = stated_by s.spaces.now s.brought.now.entries.items c.entries.result.now c.as_slice.result.now c.args.at c.statement_at-number.result c.entries.ensures.same
     c.as_slice.ensures.value c.statement_at-number.ensures p here in
     let call = c.in-Some.call.now in
     let there = ap (λ ys. slice_get ys c.statement_at-number.result) (sym c.statements.ensures)

@@ -1,6 +1,6 @@
 use Rattle.std.proofs.Common.{rules}
 use Rattle.std.proofs.lemmas.List.Sorted.{IsPartitionPoint-from_clause}
-use Rattle.cil_sexpr.specs.Places.{there_as}
+use Rattle.cil_base.specs.Places.{there_as}
 use Rattle.cil_macros.proofs.TurnLemmas.{calls_parted, is_earlier, none_behind, none_but}
 use Rattle.cil_macros.proofs.call_words.body_of.Goals as goal
 

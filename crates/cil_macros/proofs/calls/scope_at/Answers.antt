@@ -10,7 +10,7 @@ use Rattle.cil_macros.proofs.calls.scope_at.Goals as goal
 pub returns-then-from-entries : goal.returns-then-from-entries
 returns-then-from-entries c = λ p e.
     let s = c.args.spaces.now in
-    let cs = c.args.brought.now.called.items in
+    let cs = c.args.brought.now.entries.items in
     let h = c.if-from-entries.true in
     let l = ap length c.entries.ensures.same in
     let near = c.scope_place-from.ensures.near in
@@ -36,7 +36,7 @@ called_scope_at-requires-clause-within c =
 pub returns : goal.returns
 returns c = λ p e.
     let s = c.args.spaces.now in
-    let cs = c.args.brought.now.called.items in
+    let cs = c.args.brought.now.entries.items in
     let near = c.scope_place-from.ensures.near in
     let within = c.requires.within in
     let (q, there) = placed_there s cs c.scope_place-from.result (omega (arith, near, within)) in

@@ -13,6 +13,6 @@ returns-in-Some-scope c =
     let b = c.in-Some.body.now in
     let l = ap length c.entries.ensures.same in
     let m = standings_length (written_in s) (entries_in s) in
-    body_place s c.args.brought.now.called.items c.args.at b (c.in-Some.ensures.body (written_in s) (all_standing s) (m ∙ sym l) c.requires.brought.bodies) c.in-Some-scope.place
-    (subst (λ (o : Option ℕ). IfSome o (IsBodyScope (all_standing s) (placed_in s c.args.brought.now.called.items) b.call b.called)) c.in-Some-scope.is
+    body_place s c.args.brought.now.entries.items c.args.at b (c.in-Some.ensures.body (written_in s) (all_standing s) (m ∙ sym l) c.requires.brought.bodies) c.in-Some-scope.place
+    (subst (λ (o : Option ℕ). IfSome o (IsBodyScope (all_standing s) (placed_in s c.args.brought.now.entries.items) b.call b.macro_rank)) c.in-Some-scope.is
     (c.requires.brought.scopes b c.in-Some.ensures.kept))

@@ -19,7 +19,7 @@ returns-then-at-standing c = λ p e.
     let s = c.args.spaces.now in
     let h = c.if-at-standing.true in
     let l = ap length c.entries-standing.ensures.same in
-    let x = stood_at s c.args.brought.now.called.items c.args.at (omega (arith, h, l)) p e in
+    let x = stood_at s c.args.brought.now.entries.items c.args.at (omega (arith, h, l)) p e in
     subst (λ (q : Placed). IsNumber (spaces_in s) q.standing.space c.standing_space.result) (sym x.2) (c.standing_space.ensures x.0 x.1)
 
 pub unreachable-requires : goal.unreachable-requires
@@ -36,5 +36,5 @@ returns c = λ p e.
     let s = c.args.spaces.now in
     let l = ap length c.entries-standing.ensures.same in
     let m = standings_length (written_in s) (entries_in s) in
-    brought_to s c.args.brought.now.called.items c.args.brought.now.bodies.items c.requires.brought.spaces c.args.at c.in-Some.body.now c.in-Some.ensures.kept
+    brought_to s c.args.brought.now.entries.items c.args.brought.now.bodies.items c.requires.brought.spaces c.args.at c.in-Some.body.now c.in-Some.ensures.kept
     (c.in-Some.ensures.body (written_in s) (all_standing s) (m ∙ sym l) c.requires.brought.bodies) p e

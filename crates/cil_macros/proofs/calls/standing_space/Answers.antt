@@ -1,5 +1,5 @@
 use Rattle.std.proofs.Common.{◌∙◌, ap, subst, sym}
-use Rattle.cil_sexpr.specs.Places.{none_some, some_same}
+use Rattle.cil_base.specs.Places.{none_some, some_same}
 use Rattle.cil_blocks.specs.Namespaces.{IsNumber}
 use Rattle.cil_blocks.specs.Places.{Numbered, spaces_in}
 use Rattle.cil_macros.proofs.CallLemmas.{rank_there}

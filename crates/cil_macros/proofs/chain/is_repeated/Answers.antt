@@ -1,5 +1,5 @@
 use Rattle.std.proofs.Common.{◌∙◌, ◌+◌, ap, arith, false, true}
-use Rattle.cil_sexpr.specs.Places.{in_range}
+use Rattle.cil_base.specs.Places.{in_range}
 use Rattle.cil_syntax.specs.Program.{program_of}
 use Rattle.cil_blocks.specs.Contents.{same_spot}
 use Rattle.cil_blocks.specs.Entries.{standings_of}
@@ -14,7 +14,7 @@ spot_of-requires-clause-within c =
     let ss = standings_of ws c.args.entries.now in
     let l = standings_length ws c.args.entries.now in
     let b = c.in-Some.ensures ws ss l c.requires.bodies in
-    let h = in_range ss c.in-Some.body.now.called b.so.opened.macro b.so.is_macro in
+    let h = in_range ss c.in-Some.body.now.macro_rank b.so.opened.macro b.so.is_macro in
     omega (arith, h, l)
 
 pub returns-then-is_same_spot : goal.returns-then-is_same_spot
@@ -22,7 +22,7 @@ returns-then-is_same_spot c =
     let ws = program_of c.args.statements.now in
     let ss = standings_of ws c.args.entries.now in
     let b = c.in-Some.ensures ws ss (standings_length ws c.args.entries.now) c.requires.bodies in
-    c.loop-body.invariant.1 true (came_here ws ss c.args.brought.now.called.items c.args.called c.loop-body.place c.in-Some.body.now b
+    c.loop-body.invariant.1 true (came_here ws ss c.args.brought.now.entries.items c.args.called c.loop-body.place c.in-Some.body.now b
     (c.if-is_same_spot.ensures ∙ ap (same_spot c.args.called) (c.spot_of.ensures b.so.opened.macro b.so.is_macro)))
 
 pub loop-body-smaller : goal.loop-body-smaller
@@ -39,7 +39,7 @@ loop-body-preserved c =
     let h = b.before in
     let within = c.loop-body.invariant.0 in (
       omega (arith, h, within),
-      λ r so. c.loop-body.invariant.1 r (came_before ws ss c.args.brought.now.called.items c.args.called c.loop-body.place c.in-Some.body.now b
+      λ r so. c.loop-body.invariant.1 r (came_before ws ss c.args.brought.now.entries.items c.args.called c.loop-body.place c.in-Some.body.now b
           (c.if-is_same_spot.ensures ∙ ap (same_spot c.args.called) (c.spot_of.ensures b.so.opened.macro b.so.is_macro)) r so),
     )
 
@@ -47,7 +47,7 @@ pub returns : goal.returns
 returns c =
     let ws = program_of c.args.statements.now in
     let ss = standings_of ws c.args.entries.now in
-    let cs = c.args.brought.now.called.items in
+    let cs = c.args.brought.now.entries.items in
     let l = standings_length ws c.args.entries.now in
     let h = c.loop-body.invariant.0 in
     c.loop-body.invariant.1 false

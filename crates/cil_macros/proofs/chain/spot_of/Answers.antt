@@ -1,4 +1,4 @@
-use Rattle.cil_sexpr.specs.Places.{not_there, there_as}
+use Rattle.cil_base.specs.Places.{not_there, there_as}
 use Rattle.cil_macros.proofs.ChainLemmas.{spot_none, spot_some}
 use Rattle.cil_macros.proofs.chain.spot_of.Goals as goal
 

@@ -1,5 +1,5 @@
 use Rattle.std.proofs.Common.{◌∙◌, [], ap, sym}
-use Rattle.cil_sexpr.specs.Places.{some_same}
+use Rattle.cil_base.specs.Places.{some_same}
 use Rattle.cil_blocks.specs.Contents.{Standing}
 use Rattle.cil_blocks.specs.Entries.{standings_of}
 use Rattle.cil_blocks.proofs.EntryLemmas.{mapped_at, statements_from}

@@ -1,4 +1,4 @@
-use Rattle.cil_sexpr.specs.Places.{not_there, there_as}
+use Rattle.cil_base.specs.Places.{not_there, there_as}
 use Rattle.cil_macros.proofs.DeclaredLemmas.{lower_some, round_none, round_some}
 use Rattle.cil_macros.proofs.declared_names.opener_of.Goals as goal
 

@@ -6,7 +6,7 @@ use Rattle.cil_macros.specs.Macros.{all_standing}
 use Rattle.cil_macros.specs.Walks.{placed_in, written_in}
 use Rattle.cil_macros.proofs.ExpandLemmas.{no_fault, no_step, over_so, placed_few, refused_calls}
 use Rattle.cil_macros.proofs.expansion.brought_by.Goals as goal
-use Rattle.cil_syntax.proofs.RefusalLemmas.{refused}
+use Rattle.cil_faults.proofs.RefusalLemmas.{refused}
 
 pub returns-in_err-macros : goal.returns-in_err-macros
 returns-in_err-macros c =
@@ -36,7 +36,7 @@ returns-in_default c =
 pub returns-in-Some-of : goal.returns-in-Some-of
 returns-in-Some-of c =
     let s = c.args.spaces.now in
-    let cs = c.in-Some.brought.called.items in
+    let cs = c.in-Some.brought.entries.items in
     refused_calls (written_in s) (all_standing s) (placed_in s cs) (is_some _ c.in_ok-brought.field-0 c.in-Some.brought c.in-Some.is c.in_ok-brought.ensures.all)
     (placed_few s cs (is_some _ c.in_ok-brought.field-0 c.in-Some.brought c.in-Some.is c.in_ok-brought.ensures.few))
     c.in_ok-faults.faults.items c.in-Some-of.list c.in_ok-faults.ensures c.in-Some-of.ensures.faults
@@ -45,7 +45,7 @@ pub returns : goal.returns
 returns c =
     let s = c.args.spaces.now in
     let brought = c.in-Some.brought in
-    let cs = brought.called.items in
+    let cs = brought.entries.items in
     let placed = is_some _ c.in_ok-brought.field-0 brought c.in-Some.is c.in_ok-brought.ensures.all in
     let few = is_some _ c.in_ok-brought.field-0 brought c.in-Some.is c.in_ok-brought.ensures.few in
     let lawful = no_fault (written_in s) (all_standing s) (placed_in s cs) placed c.in_ok-faults.faults.items c.in_ok-faults.ensures (c.in_default-of.ensures.none.0 refl) in (

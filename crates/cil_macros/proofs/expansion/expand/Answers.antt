@@ -5,7 +5,7 @@ use Rattle.cil_macros.specs.ExpandFaults.{ExpandStep}
 use Rattle.cil_macros.specs.Macros.{all_standing}
 use Rattle.cil_macros.specs.Walks.{written_in}
 use Rattle.cil_macros.proofs.expansion.expand.Goals as goal
-use Rattle.cil_syntax.proofs.RefusalLemmas.{refused}
+use Rattle.cil_faults.proofs.RefusalLemmas.{refused}
 
 pub returns-in_err-brought : goal.returns-in_err-brought
 returns-in_err-brought c =

@@ -13,27 +13,27 @@ use Rattle.cil_macros.proofs.faults.call_faults.Goals as goal
 pub loop-at-init : goal.loop-at-init
 loop-at-init c =
     let s = c.args.source.now.spaces.now in
-    ap (λ fs. fs ++ flat_map (faults_of (written_in s) (all_standing s)) (placed_in s c.args.brought.now.called.items)) c.new-faults.ensures.items
+    ap (λ fs. fs ++ flat_map (faults_of (written_in s) (all_standing s)) (placed_in s c.args.brought.now.entries.items)) c.new-faults.ensures.items
 
 pub loop-at-preserved : goal.loop-at-preserved
 loop-at-preserved c =
     let s = c.args.source.now.spaces.now in
-    let cs = c.args.brought.now.called.items in
+    let cs = c.args.brought.now.entries.items in
     let h = c.loop-at-test.true in
     let l = ap length c.entries.ensures.same in
     let m = c.len.ensures in
-    let n = c.args.brought.now.called.ok.0 in
+    let n = c.args.brought.now.entries.ok.0 in
     let p = placed_there s cs c.loop-at.at (omega (arith, h, l, m, n)) in
     one_told (faults_of (written_in s) (all_standing s)) (placed_in s cs) c.loop-at.at p.0 c.loop-at.faults.items c.report.new.faults.items p.1 (c.in_ok-report.ensures p.0 p.1) c.loop-at.invariant
 
 pub returns : goal.returns
 returns c =
     let s = c.args.source.now.spaces.now in
-    let cs = c.args.brought.now.called.items in
+    let cs = c.args.brought.now.entries.items in
     let h = c.loop-at-test.false in
     let l = ap length c.entries.ensures.same in
     let m = c.len.ensures in
-    let n = c.args.brought.now.called.ok.0 in
+    let n = c.args.brought.now.entries.ok.0 in
     let k = placed_length (written_in s) (all_standing s) cs in
     let j = standings_length (written_in s) (entries_in s) in
     all_told (faults_of (written_in s) (all_standing s)) (placed_in s cs) c.loop-at.at c.loop-at.faults.items (omega (arith, h, l, m, n, k, j)) c.loop-at.invariant

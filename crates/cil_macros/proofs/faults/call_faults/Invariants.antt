@@ -7,5 +7,5 @@ use Rattle.cil_macros.proofs.faults.call_faults.Given as goal
 
 abbrev pub invariant-loop-at : goal.invariant-loop-at
 invariant-loop-at l =
-    l.faults.items ++ flat_map (faults_of (written_in l.source.spaces.now) (all_standing l.source.spaces.now)) (drop l.at (placed_in l.source.spaces.now l.brought.called.items))
-    ≡ flat_map (faults_of (written_in l.source.spaces.now) (all_standing l.source.spaces.now)) (placed_in l.source.spaces.now l.brought.called.items)
+    l.faults.items ++ flat_map (faults_of (written_in l.source.spaces.now) (all_standing l.source.spaces.now)) (drop l.at (placed_in l.source.spaces.now l.brought.entries.items))
+    ≡ flat_map (faults_of (written_in l.source.spaces.now) (all_standing l.source.spaces.now)) (placed_in l.source.spaces.now l.brought.entries.items)

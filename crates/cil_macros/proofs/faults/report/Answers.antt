@@ -1,6 +1,6 @@
 use Rattle.std.proofs.Common.{◌∙◌, List, ap, arith, length, sym}
 use Rattle.std.specs.Prelude.{slice_get}
-use Rattle.cil_sexpr.specs.Places.{not_there, there_as}
+use Rattle.cil_base.specs.Places.{not_there, there_as}
 use Rattle.cil_syntax.specs.declared.program.Statement.{Statement}
 use Rattle.cil_syntax.specs.Said.{all_said}
 use Rattle.cil_syntax.specs.Written.{Written}
@@ -19,7 +19,7 @@ use Rattle.cil_macros.proofs.faults.report.Goals as goal
 pub returns-in_default : goal.returns-in_default
 returns-in_default c = λ p e.
     let s = c.args.source.now.spaces.now in
-    let is = stated_by s c.args.brought.now.called.items c.entries.result.now c.as_slice.result.now c.args.at c.statement_at-number.result
+    let is = stated_by s c.args.brought.now.entries.items c.entries.result.now c.as_slice.result.now c.args.at c.statement_at-number.result
     c.entries.ensures.same c.as_slice.ensures.value c.statement_at-number.ensures p e in
     nothing_told (written_in s) (all_standing s) p c.args.faults.now.items
     (ap (λ (w : Written). first_word w.statement.args)
@@ -30,7 +30,7 @@ returns-in_default c = λ p e.
 pub returns-in_default-word_and_terms : goal.returns-in_default-word_and_terms
 returns-in_default-word_and_terms c = λ p e.
     let s = c.args.source.now.spaces.now in
-    let is = stated_by s c.args.brought.now.called.items c.entries.result.now c.as_slice.result.now c.args.at c.statement_at-number.result
+    let is = stated_by s c.args.brought.now.entries.items c.entries.result.now c.as_slice.result.now c.args.at c.statement_at-number.result
     c.entries.ensures.same c.as_slice.ensures.value c.statement_at-number.ensures p e in
     let there = ap (λ (ss : List Statement). slice_get ss c.statement_at-number.result) (sym c.statements.ensures)
     ∙ there_as c.statements.result.now c.statement_at-number.result c.in-Some.statement.now c.in-Some.ensures.lookup.3.0 c.in-Some.ensures.lookup.1 in
@@ -42,14 +42,14 @@ returns-in_default-word_and_terms c = λ p e.
 
 pub report_if-requires : goal.report_if-requires
 report_if-requires c =
-    let p = placed_there c.args.source.now.spaces.now c.args.brought.now.called.items c.args.at c.requires.within in
+    let p = placed_there c.args.source.now.spaces.now c.args.brought.now.entries.items c.args.at c.requires.within in
     let h = (c.space_at.ensures p.0 p.1).within in
     let l = ap length c.namespaces.ensures in
     omega (arith, h, l)
 
 pub report_if-requires-2 : goal.report_if-requires-2
 report_if-requires-2 c =
-    let p = placed_there c.args.source.now.spaces.now c.args.brought.now.called.items c.args.at c.requires.within in
+    let p = placed_there c.args.source.now.spaces.now c.args.brought.now.entries.items c.args.at c.requires.within in
     let h = (c.space_at.ensures p.0 p.1).within in
     let l = ap length c.namespaces.ensures in
     omega (arith, h, l)
@@ -57,7 +57,7 @@ report_if-requires-2 c =
 pub returns : goal.returns
 returns c = λ p e.
     let s = c.args.source.now.spaces.now in
-    let is = stated_by s c.args.brought.now.called.items c.entries.result.now c.as_slice.result.now c.args.at c.statement_at-number.result
+    let is = stated_by s c.args.brought.now.entries.items c.entries.result.now c.as_slice.result.now c.args.at c.statement_at-number.result
     c.entries.ensures.same c.as_slice.ensures.value c.statement_at-number.ensures p e in
     let there = ap (λ (ss : List Statement). slice_get ss c.statement_at-number.result) (sym c.statements.ensures)
     ∙ there_as c.statements.result.now c.statement_at-number.result c.in-Some.statement.now c.in-Some.ensures.lookup.3.0 c.in-Some.ensures.lookup.1 in

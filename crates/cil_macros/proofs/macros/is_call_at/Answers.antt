@@ -1,5 +1,5 @@
 use Rattle.std.proofs.Common.{sym, ◌∙◌, ap}
-use Rattle.cil_sexpr.specs.Places.{not_there, there_as}
+use Rattle.cil_base.specs.Places.{not_there, there_as}
 use Rattle.cil_syntax.specs.Written.{Written}
 use Rattle.cil_blocks.proofs.NameLemmas.{at_none, keyword_some}
 use Rattle.cil_macros.specs.Calls.{is_call}

@@ -1,5 +1,5 @@
 use Rattle.std.proofs.Common.{◌∙◌, ap, arith, length, subst}
-use Rattle.cil_sexpr.specs.Places.{in_range, there_as}
+use Rattle.cil_base.specs.Places.{in_range, there_as}
 use Rattle.cil_blocks.specs.Entries.{statement_at}
 use Rattle.cil_blocks.specs.Places.{entries_in}
 use Rattle.cil_blocks.proofs.EntryLemmas.{standings_length}
@@ -23,8 +23,8 @@ returns-in_default c = λ p here.
 pub index-requires : goal.index-requires
 index-requires c =
     let s = c.args.scene.now in
-    let n = subst (λ k. IsNumbered s.brought.now.called.items k c.args.at c.in-Some.number) (ap length c.entries-standing.ensures.same) c.in-Some.ensures in
-    let here = placed_there s.spaces.now s.brought.now.called.items c.args.at c.requires.within in
+    let n = subst (λ k. IsNumbered s.brought.now.entries.items k c.args.at c.in-Some.number) (ap length c.entries-standing.ensures.same) c.in-Some.ensures in
+    let here = placed_there s.spaces.now s.brought.now.entries.items c.args.at c.requires.within in
     let h = number_below s c.args.openings.now c.args.at c.requires here.0 here.1 c.in-Some.number n in
     let l = s.brought.now.bodies.ok.0 in
     omega (arith, h, l)
@@ -32,15 +32,15 @@ index-requires c =
 pub standing_statement-called-requires : goal.standing_statement-called-requires
 standing_statement-called-requires c =
     let s = c.args.scene.now in
-    let n = subst (λ k. IsNumbered s.brought.now.called.items k c.args.at c.in-Some.number) (ap length c.entries-standing.ensures.same) c.in-Some.ensures in
-    let here = placed_there s.spaces.now s.brought.now.called.items c.args.at c.requires.within in
+    let n = subst (λ k. IsNumbered s.brought.now.entries.items k c.args.at c.in-Some.number) (ap length c.entries-standing.ensures.same) c.in-Some.ensures in
+    let here = placed_there s.spaces.now s.brought.now.entries.items c.args.at c.requires.within in
     let h = number_below s c.args.openings.now c.args.at c.requires here.0 here.1 c.in-Some.number n in
     let b = there_as s.brought.now.bodies.items c.in-Some.number c.index.result.now h c.index.ensures in
     let first = c.requires.first n.rank n.called n.behind n.is in
     let same = n.body in
     let o = there_as c.args.openings.now c.in-Some.number c.index-openings-number.result (omega (arith, first, same)) c.index-openings-number.is in
     let m = macro_here s c.args.openings.now c.args.at c.requires here.0 here.1 c.in-Some.number n c.index.result.now b c.index-openings-number.result o in
-    let k = in_range (all_standing s.spaces.now) c.index.result.now.called _ m in
+    let k = in_range (all_standing s.spaces.now) c.index.result.now.macro_rank _ m in
     let l = standings_length (written_in s.spaces.now) (entries_in s.spaces.now) in
     let e = ap length c.entries.ensures.same in
     omega (arith, k, l, e)
@@ -48,14 +48,14 @@ standing_statement-called-requires c =
 pub returns-in-Some-argument_for : goal.returns-in-Some-argument_for
 returns-in-Some-argument_for c = λ p here.
     let s = c.args.scene.now in
-    let n = subst (λ k. IsNumbered s.brought.now.called.items k c.args.at c.in-Some.number) (ap length c.entries-standing.ensures.same) c.in-Some.ensures in
+    let n = subst (λ k. IsNumbered s.brought.now.entries.items k c.args.at c.in-Some.number) (ap length c.entries-standing.ensures.same) c.in-Some.ensures in
     let h = number_below s c.args.openings.now c.args.at c.requires p here c.in-Some.number n in
     let b = there_as s.brought.now.bodies.items c.in-Some.number c.index.result.now h c.index.ensures in
     let first = c.requires.first n.rank n.called n.behind n.is in
     let same = n.body in
     let o = there_as c.args.openings.now c.in-Some.number c.index-openings-number.result (omega (arith, first, same)) c.index-openings-number.is in
     let called = c.standing_statement-called.result in
-    let stated = stands_by s.spaces.now s.brought.now.called.items c.entries.result.now c.index.result.now.called called c.entries.ensures.same c.standing_statement-called.ensures in
+    let stated = stands_by s.spaces.now s.brought.now.entries.items c.entries.result.now c.index.result.now.macro_rank called c.entries.ensures.same c.standing_statement-called.ensures in
     let are = arguments_here s c.args.openings.now c.args.at c.requires p here c.in-Some.number n c.index.result.now b c.index-openings-number.result o called stated in
     let so = rw c.statements.ensures at c.in-Some-argument_for.ensures in
     argument_word s c.args.openings.now c.args.at c.requires p here c.in-Some.number n c.index.result.now b c.index-openings-number.result o called stated
@@ -64,14 +64,14 @@ returns-in-Some-argument_for c = λ p here.
 pub returns-then-has : goal.returns-then-has
 returns-then-has c = λ p here.
     let s = c.args.scene.now in
-    let n = subst (λ k. IsNumbered s.brought.now.called.items k c.args.at c.in-Some.number) (ap length c.entries-standing.ensures.same) c.in-Some.ensures in
+    let n = subst (λ k. IsNumbered s.brought.now.entries.items k c.args.at c.in-Some.number) (ap length c.entries-standing.ensures.same) c.in-Some.ensures in
     let h = number_below s c.args.openings.now c.args.at c.requires p here c.in-Some.number n in
     let b = there_as s.brought.now.bodies.items c.in-Some.number c.index.result.now h c.index.ensures in
     let first = c.requires.first n.rank n.called n.behind n.is in
     let same = n.body in
     let o = there_as c.args.openings.now c.in-Some.number c.index-openings-number.result (omega (arith, first, same)) c.index-openings-number.is in
     let called = c.standing_statement-called.result in
-    let stated = stands_by s.spaces.now s.brought.now.called.items c.entries.result.now c.index.result.now.called called c.entries.ensures.same c.standing_statement-called.ensures in
+    let stated = stands_by s.spaces.now s.brought.now.entries.items c.entries.result.now c.index.result.now.macro_rank called c.entries.ensures.same c.standing_statement-called.ensures in
     let are = arguments_here s c.args.openings.now c.args.at c.requires p here c.in-Some.number n c.index.result.now b c.index-openings-number.result o called stated in
     let so = rw c.statements.ensures at c.in_default-argument_for.ensures in
     let below = macro_below s c.args.openings.now c.args.at c.requires p here c.in-Some.number n c.index.result.now b c.index-openings-number.result o called stated in
@@ -84,14 +84,14 @@ returns-then-has c = λ p here.
 pub returns : goal.returns
 returns c = λ p here.
     let s = c.args.scene.now in
-    let n = subst (λ k. IsNumbered s.brought.now.called.items k c.args.at c.in-Some.number) (ap length c.entries-standing.ensures.same) c.in-Some.ensures in
+    let n = subst (λ k. IsNumbered s.brought.now.entries.items k c.args.at c.in-Some.number) (ap length c.entries-standing.ensures.same) c.in-Some.ensures in
     let h = number_below s c.args.openings.now c.args.at c.requires p here c.in-Some.number n in
     let b = there_as s.brought.now.bodies.items c.in-Some.number c.index.result.now h c.index.ensures in
     let first = c.requires.first n.rank n.called n.behind n.is in
     let same = n.body in
     let o = there_as c.args.openings.now c.in-Some.number c.index-openings-number.result (omega (arith, first, same)) c.index-openings-number.is in
     let called = c.standing_statement-called.result in
-    let stated = stands_by s.spaces.now s.brought.now.called.items c.entries.result.now c.index.result.now.called called c.entries.ensures.same c.standing_statement-called.ensures in
+    let stated = stands_by s.spaces.now s.brought.now.entries.items c.entries.result.now c.index.result.now.macro_rank called c.entries.ensures.same c.standing_statement-called.ensures in
     let are = arguments_here s c.args.openings.now c.args.at c.requires p here c.in-Some.number n c.index.result.now b c.index-openings-number.result o called stated in
     let so = rw c.statements.ensures at c.in_default-argument_for.ensures in
     let below = macro_below s c.args.openings.now c.args.at c.requires p here c.in-Some.number n c.index.result.now b c.index-openings-number.result o called stated in

@@ -1,5 +1,5 @@
 use Rattle.std.proofs.Common.{rules, Some, None, sym, ◌∙◌, arith}
-use Rattle.cil_sexpr.specs.Places.{none_some, some_same, there_as}
+use Rattle.cil_base.specs.Places.{none_some, some_same, there_as}
 use Rattle.cil_macros.proofs.NearestLemmas.{none_stands, opened_by}
 use Rattle.cil_macros.proofs.nearest.opener_of.Goals as goal
 

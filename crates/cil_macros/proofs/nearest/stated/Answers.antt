@@ -1,5 +1,5 @@
 use Rattle.std.proofs.Common.{rules}
-use Rattle.cil_sexpr.specs.Places.{not_there, there_as}
+use Rattle.cil_base.specs.Places.{not_there, there_as}
 use Rattle.cil_syntax.specs.Program.{program_of}
 use Rattle.cil_macros.proofs.NearestLemmas.{none_stands, stated_none, stated_some}
 use Rattle.cil_macros.proofs.nearest.stated.Goals as goal

@@ -13,7 +13,7 @@ use Rattle.cil_macros.proofs.nesting.next_number.Goals as goal
 pub returns-then-is_optional_at-clause-value : goal.returns-then-is_optional_at-clause-value
 returns-then-is_optional_at-clause-value c =
     let s = c.args.spaces.now in
-    let cs = c.args.brought.now.called.items in
+    let cs = c.args.brought.now.entries.items in
     let x = c.in-Some.ensures in
     let stated = stated_by s cs c.entries.result.now c.as_slice.result.now c.in-Some.opener c.statement_at-number.result c.entries.ensures.same c.as_slice.ensures.value
     c.statement_at-number.ensures x.opener x.is in
@@ -25,13 +25,13 @@ returns-then-is_optional_at-clause-value c =
 
 pub returns-in-None-clause-value : goal.returns-in-None-clause-value
 returns-in-None-clause-value c =
-    absurd (never_unknown (placed_in c.args.spaces.now c.args.brought.now.called.items) c.args.at c.args.numbers.now c.requires.before c.in-Some.opener c.in-Some.ensures
+    absurd (never_unknown (placed_in c.args.spaces.now c.args.brought.now.entries.items) c.args.at c.args.numbers.now c.requires.before c.in-Some.opener c.in-Some.ensures
     (sym c.in-None.ensures))
 
 pub returns-in-Some-get-clause-value : goal.returns-in-Some-get-clause-value
 returns-in-Some-get-clause-value c =
     let s = c.args.spaces.now in
-    let cs = c.args.brought.now.called.items in
+    let cs = c.args.brought.now.entries.items in
     let x = c.in-Some.ensures in
     let stated = stated_by s cs c.entries.result.now c.as_slice.result.now c.in-Some.opener c.statement_at-number.result c.entries.ensures.same c.as_slice.ensures.value
     c.statement_at-number.ensures x.opener x.is in

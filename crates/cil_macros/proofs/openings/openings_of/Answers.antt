@@ -1,7 +1,7 @@
 use Rattle.std.proofs.Common.{◌∙◌, [], ◌∷◌, ap, arith, length, sym}
 use Rattle.std.specs.Prelude.{slice_get}
 use Rattle.std.proofs.lemmas.List.{length-append}
-use Rattle.cil_sexpr.specs.Places.{is_there}
+use Rattle.cil_base.specs.Places.{is_there}
 use Rattle.cil_macros.proofs.CallOpening.{one_opening}
 use Rattle.cil_macros.proofs.openings.openings_of.Goals as goal
 

@@ -25,8 +25,8 @@ returns-then-standing-len-clause-many c =
     let h = c.if-standing-len.true in
     let l = ap length c.entries-standing.ensures.same in
     let m = c.len-in-loop-at.ensures in
-    let n = c.loop-at.brought.called.ok in
-    over_reached s c.requires.standings c.loop-at.at c.args.limit c.loop-at.brought.called.items (omega (arith, h, l, m, n)) c.loop-at.invariant.2
+    let n = c.loop-at.brought.entries.ok in
+    over_reached s c.requires.standings c.loop-at.at c.args.limit c.loop-at.brought.entries.items (omega (arith, h, l, m, n)) c.loop-at.invariant.2
 
 pub loop-at-preserved : goal.loop-at-preserved
 loop-at-preserved c =
@@ -36,10 +36,10 @@ loop-at-preserved c =
     let l = ap length c.entries-standing.ensures.same in
     let m = c.len.ensures in
     let m2 = c.len-in-loop-at.ensures in
-    let n = c.loop-at.brought.called.ok in (
+    let n = c.loop-at.brought.entries.ok in (
       omega (arith, h, few, m, m2),
       c.in_ok-open.ensures.brought,
-      gone_on s c.requires.standings c.loop-at.at c.loop-at.brought.called.items c.open.new.self.called.items (omega (arith, h, l, m, n)) c.loop-at.invariant.2
+      gone_on s c.requires.standings c.loop-at.at c.loop-at.brought.entries.items c.open.new.self.entries.items (omega (arith, h, l, m, n)) c.loop-at.invariant.2
           c.in_ok-open.ensures.opened,
       c.in_ok-open.ensures.turn,
     )
@@ -50,8 +50,8 @@ returns-clause-all c =
     let h = c.loop-at-test.false in
     let l = ap length c.entries-standing.ensures.same in
     let m = c.len.ensures in
-    let n = c.loop-at.brought.called.ok in
-    all_reached s c.requires.standings c.loop-at.at c.loop-at.brought.called.items (omega (arith, h, l, m, n)) c.loop-at.invariant.2
+    let n = c.loop-at.brought.entries.ok in
+    all_reached s c.requires.standings c.loop-at.at c.loop-at.brought.entries.items (omega (arith, h, l, m, n)) c.loop-at.invariant.2
 
 pub returns-clause-turn : goal.returns-clause-turn
 returns-clause-turn c =
@@ -59,5 +59,5 @@ returns-clause-turn c =
     let h = c.loop-at-test.false in
     let l = ap length c.entries-standing.ensures.same in
     let m = c.len.ensures in
-    let n = c.loop-at.brought.called.ok in
-    all_in_turn s c.loop-at.brought.called.items c.loop-at.brought.bodies.items c.loop-at.at c.loop-at.invariant.1.bodies (omega (arith, h, l, m, n)) c.loop-at.invariant.3
+    let n = c.loop-at.brought.entries.ok in
+    all_in_turn s c.loop-at.brought.entries.items c.loop-at.brought.bodies.items c.loop-at.at c.loop-at.invariant.1.bodies (omega (arith, h, l, m, n)) c.loop-at.invariant.3

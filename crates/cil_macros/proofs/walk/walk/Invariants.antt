@@ -6,8 +6,8 @@ use Rattle.cil_macros.proofs.walk.walk.Given as goal
 abbrev pub invariant-loop-at : goal.invariant-loop-at
 invariant-loop-at l =
     (l.at ≤ l.limit) × AreBrought l.source.spaces.now l.brought
-    × AreReached l.source.spaces.now l.at l.brought.called.items
-    × AreInTurn l.source.spaces.now l.brought.called.items l.brought.bodies.items l.at
+    × AreReached l.source.spaces.now l.at l.brought.entries.items
+    × AreInTurn l.source.spaces.now l.brought.entries.items l.brought.bodies.items l.at
 
 abbrev pub decreases-loop-at : goal.decreases-loop-at
 decreases-loop-at l = l.limit + 1 - l.at

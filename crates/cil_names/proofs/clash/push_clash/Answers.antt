@@ -1,17 +1,14 @@
 use Rattle.std.proofs.Common.{◌∙◌, ap}
-use Rattle.cil_syntax.specs.Written.{qualified}
+use Rattle.cil_faults.specs.Namespaces.{qualified}
 use Rattle.cil_blocks.specs.Namespaces.{space_at}
-use Rattle.cil_names.proofs.DeclareStatements.{fault_pushed, never_nameless, never_nothing}
+use Rattle.cil_names.proofs.DeclareStatements.{fault_pushed, never_nameless}
 use Rattle.cil_names.proofs.clash.push_clash.Goals as goal
 
 pub returns-in_default : goal.returns-in_default
-returns-in_default c = absurd (never_nothing c.args.instances.now c.args.at c.args.row.now c.requires c.in_default.ensures)
-
-pub returns-in_default-declared_name : goal.returns-in_default-declared_name
-returns-in_default-declared_name c =
-    absurd (never_nameless c.args.instances.now c.args.at c.args.row.now c.requires c.in-Some.statement.now c.in-Some.ensures c.in_default-declared_name.ensures)
+returns-in_default c =
+    absurd (never_nameless c.args.instances.now c.args.at c.args.row.now c.requires c.statement_there-statement.result.now c.statement_there-statement.ensures c.in_default.ensures)
 
 pub returns : goal.returns
 returns c =
-    fault_pushed c.args.instances.now c.args.at c.args.row.now c.requires c.in-Some.statement.now c.in-Some.ensures c.in-Some-declared_name.name.at _ _ _ _
-    c.in-Some-declared_name.ensures (c.in_ok-space.ensures ∙ ap (λ ss. qualified (space_at ss c.args.row.now.space)) c.namespaces.ensures.value) c.in_ok-push_fault_in.ensures
+    fault_pushed c.args.instances.now c.args.at c.args.row.now c.requires c.statement_there-statement.result.now c.statement_there-statement.ensures c.in-Some.name.at _ _ _ _
+    c.in-Some.ensures (c.in_ok-space.ensures ∙ ap (λ ss. qualified (space_at ss c.args.row.now.space)) c.namespaces.ensures.value) c.in_ok-push_fault_in.ensures

@@ -1,8 +1,8 @@
 use Rattle.std.specs.Prelude.{Contains}
 use Rattle.std.specs.List.{flat_map}
 use Rattle.std.proofs.Common.{map, sym, ◌∙◌, ap, subst}
-use Rattle.cil_syntax.specs.declared.fault.Fault.{Fault}
-use Rattle.cil_syntax.proofs.RefusalLemmas.{fails_alike, refused}
+use Rattle.cil_faults.specs.declared.fault.Fault.{Fault}
+use Rattle.cil_faults.proofs.RefusalLemmas.{fails_alike, refused}
 use Rattle.cil_blocks.specs.Namespaces.{AreNamespaces}
 use Rattle.cil_macros.specs.Items.{items_in, namespaces_in}
 use Rattle.cil_names.specs.DeclareRows.{AreRowsIn}

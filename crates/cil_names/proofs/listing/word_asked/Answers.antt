@@ -1,10 +1,6 @@
 use Rattle.cil_macros.specs.Items.{all_placed, item_at}
-use Rattle.cil_names.proofs.AskedLemmas.{none_told, told_so}
-use Rattle.cil_names.proofs.ReadingLemmas.{none_said}
+use Rattle.cil_names.proofs.AskedLemmas.{told_so}
 use Rattle.cil_names.proofs.listing.word_asked.Goals as goal
-
-pub returns-in_default : goal.returns-in_default
-returns-in_default c = none_told (item_at c.args.instances.now c.args.at) c.args.number (none_said c.args.instances.now c.args.at c.in_default.ensures)
 
 pub returns : goal.returns
 returns c =

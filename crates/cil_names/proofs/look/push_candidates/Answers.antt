@@ -8,22 +8,22 @@ use Rattle.cil_names.proofs.look.push_candidates.Goals as goal
 pub loop-from-preserved : goal.loop-from-preserved
 loop-from-preserved c =
     let k : ℕ = get_or c.asked_scope-from-items.result.now c.loop-from.from-index 0 in
-    let there = asked_there c.args.spaces.now c.args.entries.now c.args.word.now c.path_of-path.result.global c.path_of-path.result.names.now (search rules) k c.named_in.result c.named_in.ensures in
-    let more : c.push_listed.new.found.items ≡ c.loop-from.found.items ++ could_name c.args.spaces.now c.args.entries.now c.args.word.now k =
+    let there = asked_there c.args.namespaces.now c.args.entries.now c.args.word.now c.path_of-path.result.global c.path_of-path.result.names.now (search rules) k c.named_in.result c.named_in.ensures in
+    let more : c.push_listed.new.found.items ≡ c.loop-from.found.items ++ could_name c.args.namespaces.now c.args.entries.now c.args.word.now k =
     c.in_ok-push_listed.ensures.found ∙ ap (λ l. c.loop-from.found.items ++ l) there in (
-      rw more (passed_on (could_name c.args.spaces.now c.args.entries.now c.args.word.now) c.asked_scope-from-items.result.now c.loop-from.from-index k 0 (search (rules, arith)) refl
+      rw more (passed_on (could_name c.args.namespaces.now c.args.entries.now c.args.word.now) c.asked_scope-from-items.result.now c.loop-from.from-index k 0 (search (rules, arith)) refl
           c.loop-from.found.items _ c.loop-from.invariant.0),
       (let a = c.loop-from.invariant.1 in let b = c.in_ok-push_listed.ensures.none_lost in omega (arith, a, b)),
     )
 
 pub returns-clause-found : goal.returns-clause-found
 returns-clause-found c =
-    all_passed (could_name c.args.spaces.now c.args.entries.now c.args.word.now) c.asked_scope-from-items.result.now c.loop-from.from-index (search (rules, arith)) c.loop-from.found.items _ c.loop-from.invariant.0
+    all_passed (could_name c.args.namespaces.now c.args.entries.now c.args.word.now) c.asked_scope-from-items.result.now c.loop-from.from-index (search (rules, arith)) c.loop-from.found.items _ c.loop-from.invariant.0
     ∙ ap (λ l. c.args.found.now.items ++ l)
-    (sym (whole c.args.spaces.now c.args.entries.now c.args.word.now c.args.scope.now c.path_of-path.result.global
+    (sym (whole c.args.namespaces.now c.args.entries.now c.args.word.now c.args.scope.now c.path_of-path.result.global
     (is_global c.args.word.now.bytes c.path_of-path.result.global c.path_of-path.result.names.now (search rules)) ∙ sym (search rules)))
 
 pub returns-in_default-clause-found : goal.returns-in_default-clause-found
 returns-in_default-clause-found c =
     let old = c.args.found.now.items in
-    sym (ap (λ l. old ++ l) (could_name_none c.args.spaces.now c.args.entries.now (scoped c.args.spaces.now c.args.scope.now c.args.word.now) c.in_default.ensures) ∙ append-nil old)
+    sym (ap (λ l. old ++ l) (could_name_none c.args.namespaces.now c.args.entries.now (scoped c.args.namespaces.now c.args.scope.now c.args.word.now) c.in_default.ensures) ∙ append-nil old)

@@ -7,5 +7,5 @@ use Rattle.cil_names.proofs.look.resolve.Given as goal
 
 abbrev pub invariant-loop-from : goal.invariant-loop-from
 invariant-loop-from l =
-    find (is_known l.known l.entries) (flat_map (could_name l.spaces l.entries l.word) l.from-items)
-    ≡ find (is_known l.known l.entries) (flat_map (could_name l.spaces l.entries l.word) (drop l.from-index l.from-items))
+    find (is_known l.known l.entries) (flat_map (could_name l.namespaces l.entries l.word) l.from-items)
+    ≡ find (is_known l.known l.entries) (flat_map (could_name l.namespaces l.entries l.word) (drop l.from-index l.from-items))

@@ -6,4 +6,4 @@ use Rattle.cil_names.proofs.numbers.given.Given as goal
 
 abbrev pub invariant-loop-entry : goal.invariant-loop-entry
 invariant-loop-entry l =
-    l.names.items ++ flat_map (name_given l.spaces (is_in l.enabled) l.kind) (drop l.entry-index l.entries) ≡ flat_map (name_given l.spaces (is_in l.enabled) l.kind) l.entries
+    l.names.items ++ flat_map (name_given l.namespaces (is_in l.enabled) l.kind) (drop l.entry-index l.entries) ≡ flat_map (name_given l.namespaces (is_in l.enabled) l.kind) l.entries

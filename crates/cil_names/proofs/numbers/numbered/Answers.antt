@@ -10,12 +10,12 @@ numbers_of-requires-clause-rising c = all_rise c.in_ok-sections.sections (λ kin
 
 pub returns-clause-numbers : goal.returns-clause-numbers
 returns-clause-numbers c =
-    numbers_are c.args.lookup.now.spaces.now c.args.lookup.now.names.now (is_in c.args.lookup.now.enabled.now) (names_of c.in_ok-sections.sections) c.in_ok-numbers.numbers.items
+    numbers_are c.args.lookup.now.namespaces.now c.args.lookup.now.names.now (is_in c.args.lookup.now.enabled.now) (names_of c.in_ok-sections.sections) c.in_ok-numbers.numbers.items
     (search rules) (search rules)
 
 pub returns-clause-apart : goal.returns-clause-apart
 returns-clause-apart c =
     λ plain.
-    all_apart c.args.lookup.now.spaces.now c.are_namespaces.ensures c.args.lookup.now.names.now c.requires plain (is_in c.args.lookup.now.enabled.now) (names_of c.in_ok-sections.sections) c.in_ok-numbers.numbers.items
-    (numbers_are c.args.lookup.now.spaces.now c.args.lookup.now.names.now (is_in c.args.lookup.now.enabled.now) (names_of c.in_ok-sections.sections) c.in_ok-numbers.numbers.items
+    all_apart c.args.lookup.now.namespaces.now c.are_namespaces.ensures c.args.lookup.now.names.now c.requires plain (is_in c.args.lookup.now.enabled.now) (names_of c.in_ok-sections.sections) c.in_ok-numbers.numbers.items
+    (numbers_are c.args.lookup.now.namespaces.now c.args.lookup.now.names.now (is_in c.args.lookup.now.enabled.now) (names_of c.in_ok-sections.sections) c.in_ok-numbers.numbers.items
     (search rules) (search rules))

@@ -6,14 +6,14 @@ use Rattle.cil_names.proofs.numbers.numbers_of.Goals as goal
 
 pub spelled-requires : goal.spelled-requires
 spelled-requires c =
-    entry_within c.args.spaces.now c.args.entries.now c.requires.ordered c.loop-entry.entry-index c.entry-item.result c.loop-entry-test.true c.entry-item.is
+    entry_within c.args.namespaces.now c.args.entries.now c.requires.ordered c.loop-entry.entry-index c.entry-item.result c.loop-entry-test.true c.entry-item.is
 
 pub loop-entry-preserved : goal.loop-entry-preserved
 loop-entry-preserved c =
-    mapped_on (λ (e : Entry). place_in (names_of c.args.sections.now e.kind) (spelled_of c.args.spaces.now e)) c.args.entries.now c.loop-entry.entry-index c.entry-item.result _
+    mapped_on (λ (e : Entry). place_in (names_of c.args.sections.now e.kind) (spelled_of c.args.namespaces.now e)) c.args.entries.now c.loop-entry.entry-index c.entry-item.result _
     c.loop-entry-test.true c.entry-item.is c.loop-entry.numbers.items _ _ _ c.loop-entry.invariant c.in_ok-push.ensures.items (search rules)
 
 pub returns : goal.returns
 returns c =
-    all_mapped (λ (e : Entry). place_in (names_of c.args.sections.now e.kind) (spelled_of c.args.spaces.now e)) c.args.entries.now c.loop-entry.entry-index c.loop-entry.numbers.items _
+    all_mapped (λ (e : Entry). place_in (names_of c.args.sections.now e.kind) (spelled_of c.args.namespaces.now e)) c.args.entries.now c.loop-entry.entry-index c.loop-entry.numbers.items _
     c.loop-entry-test.false c.loop-entry.invariant

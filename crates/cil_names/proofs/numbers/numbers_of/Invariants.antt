@@ -5,5 +5,5 @@ use Rattle.cil_names.proofs.numbers.numbers_of.Given as goal
 
 abbrev pub invariant-loop-entry : goal.invariant-loop-entry
 invariant-loop-entry l =
-    l.numbers.items ++ map (λ (e : Entry). place_in (names_of l.sections e.kind) (spelled_of l.spaces e)) (drop l.entry-index l.entries)
-    ≡ map (λ (e : Entry). place_in (names_of l.sections e.kind) (spelled_of l.spaces e)) l.entries
+    l.numbers.items ++ map (λ (e : Entry). place_in (names_of l.sections e.kind) (spelled_of l.namespaces e)) (drop l.entry-index l.entries)
+    ≡ map (λ (e : Entry). place_in (names_of l.sections e.kind) (spelled_of l.namespaces e)) l.entries

@@ -2,9 +2,9 @@ use Rattle.std.proofs.Common.{rules}
 use Rattle.std.proofs.lemmas.Fn.{always_returns_same}
 use Rattle.std.proofs.lemmas.Cmp.{nat_list_cmp_total}
 use Rattle.std.proofs.lemmas.Map.Lookups.{exact_bytes}
-use Rattle.cil_sexpr.specs.Lists.{text_cmp}
+use Rattle.cil_base.specs.Lists.{text_cmp}
 use Rattle.cil_names.proofs.NumberLemmas.{place_found}
-use Rattle.cil_names.proofs.SearchLemmas.{answered_by, searched}
+use Rattle.cil_base.proofs.SearchLemmas.{answered_by, searched}
 use Rattle.cil_names.proofs.numbers.place_among.Goals as goal
 
 pub returns : goal.returns

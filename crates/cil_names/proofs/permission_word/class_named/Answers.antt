@@ -7,4 +7,4 @@ use Rattle.cil_names.proofs.permission_word.class_named.Goals as goal
 pub returns-clause-within : goal.returns-clause-within
 returns-clause-within c =
     subst (λ (r : Option ℕ). IfSome r (λ d. d < length c.args.entries.now)) (search rules)
-    (found_within (is_in []) c.args.entries.now (candidates_of c.args.spaces.now c.args.entries.now (scoped c.args.spaces.now c.args.scope.now c.args.class.now)))
+    (found_within (is_in []) c.args.entries.now (candidates_of c.args.namespaces.now c.args.entries.now (scoped c.args.namespaces.now c.args.scope.now c.args.class.now)))

@@ -5,14 +5,14 @@ use Rattle.cil_names.proofs.permission_word.class_with.Goals as goal
 
 pub with_permission-requires : goal.with_permission-requires
 with_permission-requires c =
-    class_rises c.args.spaces.now c.args.entries.now c.args.permissions.now (scoped c.args.spaces.now c.args.scope.now c.args.class.now) c.class_of-found.result c.class_of-found.ensures
+    class_rises c.args.namespaces.now c.args.entries.now c.args.permissions.now (scoped c.args.namespaces.now c.args.scope.now c.args.class.now) c.class_of-found.result c.class_of-found.ensures
 
 pub returns-clause-value : goal.returns-clause-value
 returns-clause-value c = λ xs entries permissions.
-    c.with_permission.ensures.value c.args.spaces.now c.args.entries.now c.args.permissions.now (scoped c.args.spaces.now c.args.scope.now c.args.class.now)
-    (scoped c.args.spaces.now c.args.scope.now c.args.permission.now) xs c.class_of-found.ensures (search rules) entries permissions
+    c.with_permission.ensures.value c.args.namespaces.now c.args.entries.now c.args.permissions.now (scoped c.args.namespaces.now c.args.scope.now c.args.class.now)
+    (scoped c.args.namespaces.now c.args.scope.now c.args.permission.now) xs c.class_of-found.ensures (search rules) entries permissions
 
 pub returns-clause-within : goal.returns-clause-within
 returns-clause-within c =
-    class_within c.args.spaces.now c.args.entries.now c.args.permissions.now (scoped c.args.spaces.now c.args.scope.now c.args.class.now) c.class_of-found.result c.class_of-found.ensures
+    class_within c.args.namespaces.now c.args.entries.now c.args.permissions.now (scoped c.args.namespaces.now c.args.scope.now c.args.class.now) c.class_of-found.result c.class_of-found.ensures
     c.with_permission.result c.with_permission.ensures.entry

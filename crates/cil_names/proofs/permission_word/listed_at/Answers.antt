@@ -1,5 +1,5 @@
-use Rattle.cil_sexpr.specs.Rising.{rising_nothing}
-use Rattle.cil_sexpr.specs.Lists.{text_cmp}
+use Rattle.cil_base.specs.Rising.{rising_nothing}
+use Rattle.cil_base.specs.Lists.{text_cmp}
 use Rattle.cil_names.proofs.permission_word.listed_at.Goals as goal
 
 pub returns-in-None-clause-sorted : goal.returns-in-None-clause-sorted

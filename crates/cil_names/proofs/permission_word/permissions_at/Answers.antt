@@ -1,8 +1,8 @@
 use Rattle.std.proofs.Common.{rules, ◌≡◌, ◌∙◌, ap, sym}
 use Rattle.std.specs.Prelude.{Some, slice_get}
 use Rattle.std.proofs.lemmas.Option.{slice_get-get_or}
-use Rattle.cil_sexpr.specs.Rising.{rising_nothing}
-use Rattle.cil_sexpr.specs.Lists.{text_cmp}
+use Rattle.cil_base.specs.Rising.{rising_nothing}
+use Rattle.cil_base.specs.Lists.{text_cmp}
 use Rattle.cil_names.proofs.ListedLemmas.{listed_of_class, listed_of_itself, listed_of_none}
 use Rattle.cil_names.proofs.permission_word.permissions_at.Goals as goal
 

@@ -1,4 +1,4 @@
-use Rattle.cil_sexpr.specs.Places.{contains_at}
+use Rattle.cil_base.specs.Places.{contains_at}
 use Rattle.cil_names.proofs.DeclareRunLemmas.{next_parted, next_above, row_within, some_within}
 use Rattle.cil_names.proofs.run.run_at.Goals as goal
 

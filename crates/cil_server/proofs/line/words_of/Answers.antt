@@ -1,7 +1,7 @@
 use Rattle.std.specs.Prelude.{◌==◌}
 use Rattle.std.proofs.Common.{◌≡◌, [], ◌∷◌, ap, rules}
 use Rattle.std.proofs.lemmas.Fn.{always_returns_same}
-use Rattle.cil_decide.specs.Parts.{all_left, left, none_left, part_read}
+use Rattle.cil_base.specs.Parts.{all_left, left, none_left, part_read}
 use Rattle.cil_server.specs.Asked.{by_words, words_of}
 use Rattle.cil_server.proofs.line.words_of.Goals as goal
 

@@ -1,6 +1,6 @@
 use Rattle.std.specs.Prelude.{decimal}
 use Rattle.std.proofs.Common.{◌∷◌, ◌∙◌, ap, subst}
-use Rattle.cil_syntax.specs.Printed.{printed_space}
+use Rattle.cil_faults.specs.Printed.{printed_space}
 use Rattle.cil_server.specs.Replies.{spaced}
 use Rattle.cil_server.specs.Streams.{Tells}
 use Rattle.cil_server.proofs.StreamLemmas.{tells_four}

@@ -1,6 +1,6 @@
 use Rattle.std.proofs.Common.{rules, get_or, sym}
 use Rattle.std.proofs.lemmas.List.Quantifiers.{position-Some}
-use Rattle.cil_sexpr.specs.Places.{is_there}
+use Rattle.cil_base.specs.Places.{is_there}
 use Rattle.cil_blocks.specs.Namespaces.{Key}
 use Rattle.cil_blocks.proofs.NamespaceKeys.{has_none, number_found, same_key}
 use Rattle.cil_blocks.proofs.NamespaceLemmas.{child_missing}

@@ -1,6 +1,6 @@
 use Rattle.std.proofs.Common.{suc, ◌≡◌, ◌∙◌, ap, arith, sym}
 use Rattle.std.specs.Prelude.{slice_get}
-use Rattle.cil_sexpr.specs.Places.{there_as}
+use Rattle.cil_base.specs.Places.{there_as}
 use Rattle.cil_blocks.proofs.NamespaceKeys.{inner_key}
 use Rattle.cil_blocks.proofs.namespaces.Namespaces.get.Goals as goal
 

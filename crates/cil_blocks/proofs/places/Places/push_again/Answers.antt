@@ -1,5 +1,5 @@
 use Rattle.std.proofs.Common.{sym}
-use Rattle.cil_sexpr.specs.Places.{get_contains}
+use Rattle.cil_base.specs.Places.{get_contains}
 use Rattle.cil_blocks.proofs.PlaceLemmas.{again_more, chosen_more, none_chosen}
 use Rattle.cil_blocks.proofs.places.Places.push_again.Goals as goal
 

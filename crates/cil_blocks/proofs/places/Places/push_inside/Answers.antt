@@ -1,5 +1,5 @@
 use Rattle.std.proofs.Common.{sym, subst}
-use Rattle.cil_sexpr.specs.Places.{get_contains}
+use Rattle.cil_base.specs.Places.{get_contains}
 use Rattle.cil_blocks.specs.declared.places.Place.{Place}
 use Rattle.cil_blocks.specs.Placing.{AreChosen}
 use Rattle.cil_blocks.proofs.PlaceLemmas.{kept_more, last_more, none_chosen, one_longer, place_more}

@@ -12,7 +12,7 @@ use Rattle.cil_macros.proofs.chain.Brought.open_optional.Goals as goal
 pub statement_at-number-requires : goal.statement_at-number-requires
 statement_at-number-requires c =
     let s = c.args.source.now.spaces.now in
-    let cs = c.args.self.now.called.items in
+    let cs = c.args.self.now.entries.items in
     let below = optional_below (written_in s) (all_standing s) cs c.args.self.now.bodies.items c.args.at c.args.body [] c.requires.brought.bodies c.requires.optional in
     let l = ap length c.entries.ensures.same in
     let n = ap length c.as_slice.ensures.value in
@@ -22,7 +22,7 @@ statement_at-number-requires c =
 pub returns-clause-brought : goal.returns-clause-brought
 returns-clause-brought c =
     let s = c.args.source.now.spaces.now in
-    let cs = c.args.self.now.called.items in
+    let cs = c.args.self.now.entries.items in
     let bs = c.args.self.now.bodies.items in
     let numbers = c.parts_at.result.now in
     let new = c.push_called.new.called.items in
@@ -37,7 +37,7 @@ returns-clause-brought c =
 pub returns-clause-opened : goal.returns-clause-opened
 returns-clause-opened c =
     let s = c.args.source.now.spaces.now in
-    let cs = c.args.self.now.called.items in
+    let cs = c.args.self.now.entries.items in
     placed_inside s cs c.args.self.now.bodies.items c.args.at c.args.body c.parts_at.result.now c.push_called.new.called.items c.in_ok-push_called.ensures c.requires.brought.bodies c.requires.optional
     c.args.source.now.parts.now c.requires.source.parts c.statement_at-number.result
     (stated_by s cs c.entries.result.now c.as_slice.result.now c.args.at c.statement_at-number.result c.entries.ensures.same c.as_slice.ensures.value c.statement_at-number.ensures)
@@ -46,7 +46,7 @@ returns-clause-opened c =
 pub returns-clause-turn : goal.returns-clause-turn
 returns-clause-turn c =
     let s = c.args.source.now.spaces.now in
-    let cs = c.args.self.now.called.items in
+    let cs = c.args.self.now.entries.items in
     let bs = c.args.self.now.bodies.items in
     let new = c.push_called.new.called.items in
     let below = optional_below (written_in s) (all_standing s) cs bs c.args.at c.args.body [] c.requires.brought.bodies c.requires.optional in

@@ -1,6 +1,6 @@
 use Rattle.std.proofs.Common.{rules, ◌∙◌, List, ap, arith, length, refl, subst, sym}
 use Rattle.std.specs.Prelude.{slice_get}
-use Rattle.cil_sexpr.specs.Places.{there_as}
+use Rattle.cil_base.specs.Places.{there_as}
 use Rattle.cil_syntax.specs.declared.program.Statement.{Statement}
 use Rattle.cil_syntax.specs.Program.{IsNested, program_of}
 use Rattle.cil_blocks.specs.Contents.{is_optional}
@@ -14,7 +14,7 @@ use Rattle.cil_macros.proofs.chain.Brought.optional_body.Goals as goal
 pub returns-in_err-before : goal.returns-in_err-before
 returns-in_err-before c =
     let s = c.args.source.now.spaces.now in
-    let cs = c.args.self.now.called.items in
+    let cs = c.args.self.now.entries.items in
     let l = ap length c.entries.ensures.same in
     let h = c.in_err-before.ensures in
     let so : OpensAsCall s cs c.args.at = stands_there s cs c.args.at (omega (arith, h, l)) in
@@ -23,7 +23,7 @@ returns-in_err-before c =
 pub returns-in_err-called : goal.returns-in_err-called
 returns-in_err-called c =
     let s = c.args.source.now.spaces.now in
-    let cs = c.args.self.now.called.items in
+    let cs = c.args.self.now.entries.items in
     let l = ap length c.entries.ensures.same in
     let h = c.in_err-called.ensures.lookup.3 in
     let v = ap length c.deref.ensures.value in
@@ -34,7 +34,7 @@ returns-in_err-called c =
 pub returns-else-is_optional_at : goal.returns-else-is_optional_at
 returns-else-is_optional_at c =
     let s = c.args.source.now.spaces.now in
-    let cs = c.args.self.now.called.items in
+    let cs = c.args.self.now.entries.items in
     let l = ap length c.entries.ensures.same in
     let k = c.in_ok-before.ensures in
     let d = c.in_ok-called.called.now in

@@ -2,7 +2,7 @@ use Rattle.std.proofs.Common.{◌∙◌, ap}
 use Rattle.cil_syntax.specs.declared.kind.Keyword.{Keyword}
 use Rattle.cil_syntax.specs.Table.{entry_of}
 use Rattle.cil_blocks.proofs.NameLemmas.{keyword_some}
-use Rattle.cil_sexpr.specs.Places.{is_there}
+use Rattle.cil_base.specs.Places.{is_there}
 use Rattle.cil_macros.proofs.DeclaredLemmas.{no_kind, no_round, one_more}
 use Rattle.cil_macros.proofs.declared_names.Declared.add.Goals as goal
 

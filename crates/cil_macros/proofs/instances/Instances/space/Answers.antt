@@ -26,4 +26,4 @@ returns c =
     let h = c.if-at-len.false in
     let l = c.len.ensures.places in
     let placed = placed_so c.args.self.now c.args.at (omega (arith, h, l)) in
-    rw (← c.self.view_is) (c.space_at.ensures (placed_at (c.self.inside.spaces.now, c.self.inside.brought.called.items) c.args.at) (rw (← c.self.view_is) at placed))
+    rw (← c.self.view_is) (c.space_at.ensures (placed_at (c.self.inside.spaces.now, c.self.inside.brought.entries.items) c.args.at) (rw (← c.self.view_is) at placed))

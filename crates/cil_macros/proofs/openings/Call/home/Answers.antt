@@ -1,6 +1,6 @@
 use Rattle.std.proofs.Common.{◌∙◌, ap, arith, length, subst, sym}
 use Rattle.std.specs.Prelude.{slice_get}
-use Rattle.cil_sexpr.specs.Places.{there_as}
+use Rattle.cil_base.specs.Places.{there_as}
 use Rattle.cil_macros.specs.declared.openings.Opening.{Opening}
 use Rattle.cil_macros.specs.Meant.{scope_there}
 use Rattle.cil_macros.specs.Openings.{IsNumbered}
@@ -19,7 +19,7 @@ pub returns-in-Some : goal.returns-in-Some
 returns-in-Some c = λ p here.
     let call = c.args.self.now in
     let s = call.scene.now in
-    let n = subst (λ k. IsNumbered s.brought.now.called.items k call.at c.in-Some.number) (ap length c.entries-standing.ensures.same) c.in-Some.ensures in
+    let n = subst (λ k. IsNumbered s.brought.now.entries.items k call.at c.in-Some.number) (ap length c.entries-standing.ensures.same) c.in-Some.ensures in
     let first = c.requires.first n.rank n.called n.behind n.is in
     let same = n.body in
     let o = there_as call.openings.now c.in-Some.number c.index-self-number.result (omega (arith, first, same)) c.index-self-number.is in

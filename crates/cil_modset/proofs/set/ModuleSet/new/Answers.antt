@@ -1,4 +1,4 @@
-use Rattle.cil_sexpr.specs.Lists.{contains_none}
+use Rattle.cil_base.specs.Lists.{contains_none}
 use Rattle.cil_modset.proofs.RisingLemmas.{rising_none}
 use Rattle.cil_modset.proofs.set.ModuleSet.new.Goals as goal
 

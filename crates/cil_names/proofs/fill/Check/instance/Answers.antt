@@ -8,7 +8,7 @@ use Rattle.cil_names.proofs.fill.Check.instance.Goals as goal
 pub returns-then-not-is_worded_at-clause-words : goal.returns-then-not-is_worded_at-clause-words
 returns-then-not-is_worded_at-clause-words c =
     let k = c.args.self.now in
-    unworded_meanings k.lookup.spaces.now k.lookup.names.now (is_in k.lookup.enabled.now) (item_at k.instances.now c.args.at) c.args.words.now.items
+    unworded_meanings k.lookup.namespaces.now k.lookup.names.now (is_in k.lookup.enabled.now) (item_at k.instances.now c.args.at) c.args.words.now.items
     (unworded_says k.instances.now c.args.at (sym c.is_worded_at.ensures ∙ c.if-not-is_worded_at.true))
 
 pub returns-then-not-is_worded_at-clause-faults : goal.returns-then-not-is_worded_at-clause-faults

@@ -1,7 +1,7 @@
 use Rattle.std.proofs.Common.{◌++◌, ◌∙◌, ap, append-nil, map, sym}
 use Rattle.std.specs.List.{flat_map}
 use Rattle.std.proofs.lemmas.List.Folds.{flat_map-map}
-use Rattle.cil_sexpr.specs.MadeLists.{all_mapped, one_mapped}
+use Rattle.cil_base.specs.MadeLists.{all_mapped, one_mapped}
 use Rattle.cil_macros.specs.declared.placed_word.PlacedWord.{PlacedWord}
 use Rattle.cil_names.specs.Judging.{enabled_in, meant_in, scoped_in, space_in}
 use Rattle.cil_names.specs.Resolves.{Word as AWord}

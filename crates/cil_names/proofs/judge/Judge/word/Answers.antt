@@ -10,7 +10,7 @@ returns-in_ok-report-clause-faults c =
     let j = c.args.self.now in
     let w = scoped_in j c.args.word.now in
     word_told xs (enabled_in j) (space_in j) w _ _ _
-    (sym (answered_found j.filling.lookup.spaces.now xs j.filling.lookup.names.now (enabled_in j) w c.in_ok-named.named (c.in_ok-named.ensures.names xs knows.entries)) ∙ search rules)
+    (sym (answered_found j.filling.lookup.namespaces.now xs j.filling.lookup.names.now (enabled_in j) w c.in_ok-named.named (c.in_ok-named.ensures.names xs knows.entries)) ∙ search rules)
     (search rules) c.in_ok-report.ensures
 
 pub returns-else-is_none-clause-faults : goal.returns-else-is_none-clause-faults
@@ -19,4 +19,4 @@ returns-else-is_none-clause-faults c =
     let j = c.args.self.now in
     let w = scoped_in j c.args.word.now in
     word_not_told xs (enabled_in j) (space_in j) w _
-    (sym (answered_found j.filling.lookup.spaces.now xs j.filling.lookup.names.now (enabled_in j) w c.in_ok-named.named (c.in_ok-named.ensures.names xs knows.entries)) ∙ search rules)
+    (sym (answered_found j.filling.lookup.namespaces.now xs j.filling.lookup.names.now (enabled_in j) w c.in_ok-named.named (c.in_ok-named.ensures.names xs knows.entries)) ∙ search rules)

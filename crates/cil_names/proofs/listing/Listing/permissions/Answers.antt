@@ -1,6 +1,6 @@
 use Rattle.std.proofs.Common.{◌++◌, ◌∷◌, [], ◌∙◌, ap, rules, sym}
 use Rattle.std.proofs.lemmas.Simd.{map-map}
-use Rattle.cil_sexpr.specs.MadeLists.{all_mapped, one_mapped}
+use Rattle.cil_base.specs.MadeLists.{all_mapped, one_mapped}
 use Rattle.cil_macros.specs.declared.placed_word.PlacedWord.{PlacedWord}
 use Rattle.cil_names.specs.Asked.{spaces_by}
 use Rattle.cil_names.specs.Entries.{listed}

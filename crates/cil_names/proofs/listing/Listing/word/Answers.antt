@@ -10,13 +10,13 @@ use Rattle.cil_names.proofs.listing.Listing.word.Goals as goal
 pub push_word-requires-clause-within : goal.push_word-requires-clause-within
 push_word-requires-clause-within c =
     let l = c.args.self.now in
-    numbers_within c.namespaces-spaces.result.now l.reading.instances.now c.namespaces-spaces.ensures.value c.args.word.now _ (rw (← c.as_slice.ensures) at c.in_ok-scope.ensures)
+    numbers_within c.namespaces-namespaces.result.now l.reading.instances.now c.namespaces-namespaces.ensures.value c.args.word.now _ (rw (← c.as_slice.ensures) at c.in_ok-scope.ensures)
 
 pub returns : goal.returns
 returns c = λ xs entries permissions.
     let l = c.args.self.now in
-    let ss = c.namespaces-spaces.result.now in
-    let same = c.namespaces-spaces.ensures.value in
+    let ss = c.namespaces-namespaces.result.now in
+    let same = c.namespaces-namespaces.ensures.value in
     let old = c.args.candidates.now in
     c.in_ok-push_word.ensures
     ∙ ap (λ (es : List Entry). old ++ candidates_of ss es (scoped ss c.as_slice.result.now c.args.word.now.word) ∷ []) c.entries-entries.ensures.value

@@ -1,7 +1,7 @@
 use Rattle.std.proofs.Common.{◌≡◌, ◌∙◌, sym, refl, subst, true, false}
 use Rattle.std.specs.List.Sorted.{IsStrictlySortedBy}
 use Rattle.std.specs.Ordering.{on}
-use Rattle.cil_sexpr.specs.Places.{get_at, get_contains}
+use Rattle.cil_base.specs.Places.{get_at, get_contains}
 use Rattle.cil_names.specs.Entries.{key_cmp, key_of}
 use Rattle.cil_names.proofs.names.Names.checked.Goals as goal
 

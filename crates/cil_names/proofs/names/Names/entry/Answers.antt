@@ -5,5 +5,5 @@ use Rattle.cil_names.proofs.names.Names.entry.Goals as goal
 
 pub returns : goal.returns
 returns c =
-    entry_in_space c.args.spaces.now c.are_namespaces.ensures c.args.self.now c.requires.ordered c.args.name.now c.args.sign (space_at c.args.spaces.now c.args.space) c.args.space
+    entry_in_space c.args.namespaces.now c.are_namespaces.ensures c.args.self.now c.requires.ordered c.args.name.now c.args.sign (space_at c.args.namespaces.now c.args.space) c.args.space
     (record { within = c.requires.within; is = refl }) c.entry_in.result (search rules)

@@ -7,11 +7,11 @@ use Rattle.cil_names.proofs.names.Names.resolve.Goals as goal
 pub returns-clause-names : goal.returns-clause-names
 returns-clause-names c =
     λ xs entries.
-    subst (IsAnswer c.args.spaces.now xs c.args.self.now (is_in c.args.enabled.now) (scoped c.args.spaces.now c.args.scope.now c.args.word.now))
+    subst (IsAnswer c.args.namespaces.now xs c.args.self.now (is_in c.args.enabled.now) (scoped c.args.namespaces.now c.args.scope.now c.args.word.now))
     (search rules)
-    (answer_is c.args.spaces.now c.are_namespaces.ensures xs c.args.self.now entries (is_in c.args.enabled.now) (scoped c.args.spaces.now c.args.scope.now c.args.word.now))
+    (answer_is c.args.namespaces.now c.are_namespaces.ensures xs c.args.self.now entries (is_in c.args.enabled.now) (scoped c.args.namespaces.now c.args.scope.now c.args.word.now))
 
 pub returns-clause-within : goal.returns-clause-within
 returns-clause-within c =
     subst (λ (r : Option ℕ). IfSome r (λ d. d < length c.args.self.now)) (search rules)
-    (found_within (is_in c.args.enabled.now) c.args.self.now (candidates_of c.args.spaces.now c.args.self.now (scoped c.args.spaces.now c.args.scope.now c.args.word.now)))
+    (found_within (is_in c.args.enabled.now) c.args.self.now (candidates_of c.args.namespaces.now c.args.self.now (scoped c.args.namespaces.now c.args.scope.now c.args.word.now)))

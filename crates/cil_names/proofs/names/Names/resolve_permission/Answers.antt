@@ -15,6 +15,6 @@ pub returns-clause-names : goal.returns-clause-names
 returns-clause-names c =
     λ xs s entries permissions.
     let value = rw c.entries.ensures.value at c.class_with.ensures.value in
-    subst (IsAnswerFor c.args.spaces.now xs c.args.self.now s (Permission (scoped c.args.spaces.now c.args.scope.now c.args.class.now) (scoped c.args.spaces.now c.args.scope.now c.args.permission.now)))
+    subst (IsAnswerFor c.args.namespaces.now xs c.args.self.now s (Permission (scoped c.args.namespaces.now c.args.scope.now c.args.class.now) (scoped c.args.namespaces.now c.args.scope.now c.args.permission.now)))
     (sym (value xs entries permissions))
-    (permission_answer c.args.spaces.now c.are_namespaces.ensures xs c.args.self.now entries s (scoped c.args.spaces.now c.args.scope.now c.args.class.now) (scoped c.args.spaces.now c.args.scope.now c.args.permission.now))
+    (permission_answer c.args.namespaces.now c.are_namespaces.ensures xs c.args.self.now entries s (scoped c.args.namespaces.now c.args.scope.now c.args.class.now) (scoped c.args.namespaces.now c.args.scope.now c.args.permission.now))

@@ -1,5 +1,5 @@
 use Rattle.std.proofs.Common.{◌++◌, ◌∷◌, [], ◌∙◌, ap, map, sym}
-use Rattle.cil_sexpr.specs.MadeLists.{all_mapped, one_mapped}
+use Rattle.cil_base.specs.MadeLists.{all_mapped, one_mapped}
 use Rattle.cil_macros.specs.declared.placed_word.PlacedWord.{PlacedWord}
 use Rattle.cil_macros.specs.Items.{all_placed}
 use Rattle.cil_names.specs.Asked.{asked_by, wanted_by}

@@ -1,5 +1,5 @@
 use Rattle.std.proofs.Common.{◌++◌, ◌∙◌, ap, map}
-use Rattle.cil_sexpr.specs.MadeLists.{all_mapped, one_mapped}
+use Rattle.cil_base.specs.MadeLists.{all_mapped, one_mapped}
 use Rattle.cil_macros.specs.declared.placed_word.PlacedWord.{PlacedWord}
 use Rattle.cil_names.specs.Readings.{meant_by, scoped_there}
 use Rattle.cil_names.proofs.ReadingLemmas.{call_meant}

@@ -5,7 +5,7 @@ use Rattle.cil_syntax.specs.declared.term.Term.TheVariants as variants
 use Rattle.cil_sexpr.specs.View.{nodes_of}
 use Rattle.cil_syntax.specs.Shapes.{cells_of, operands, read_row, set_of}
 use Rattle.cil_syntax.specs.Spelling.{same_bytes}
-use Rattle.cil_syntax.specs.Terms.{spot_at}
+use Rattle.cil_faults.specs.Spots.{spot_at}
 use Rattle.cil_syntax.specs.Told.{IsTold, Tells}
 use Rattle.cil_syntax.proofs.Heads.{all_told, looked_up_told, list_told, operator_told, operator_stops}
 use Rattle.cil_syntax.proofs.ItemsRead.{more_read, stop_told, all_read, many_more, many_end}

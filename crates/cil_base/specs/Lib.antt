@@ -1,0 +1,17 @@
+pub mod Among
+pub mod Counts
+pub mod Decided
+pub mod Found
+pub mod Gives
+pub mod Listing
+pub mod Lists
+pub mod MadeLists
+pub mod NameNumbers
+pub mod Parts
+pub mod Paths
+pub mod Places
+pub mod Queue
+pub mod Records
+pub mod Rising
+pub mod Searches
+pub mod Sorted

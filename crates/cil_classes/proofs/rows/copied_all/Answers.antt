@@ -1,0 +1,15 @@
+use Rattle.std.proofs.Common.{[], ◌∷◌, ◌++◌, ◌∙◌, ap}
+use Rattle.std.proofs.lemmas.List.{map-id}
+use Rattle.cil_base.specs.MadeLists.{one_mapped, all_mapped}
+use Rattle.cil_classes.proofs.rows.copied_all.Goals as goal
+
+pub loop-name-init : goal.loop-name-init
+loop-name-init c = c.new-copies.ensures.items
+
+pub loop-name-preserved : goal.loop-name-preserved
+loop-name-preserved c =
+    one_mapped (λ n. n) _ _ _ _ [] _ _ c.loop-name-test.true c.name-item.is c.loop-name.invariant
+    (c.in_ok-push.ensures.items ∙ ap (λ name. c.loop-name.copies.items ++ name ∷ []) (c.in_ok-copy_of.ensures ∙ c.as_slice.ensures))
+
+pub returns : goal.returns
+returns c = all_mapped (λ n. n) _ _ [] _ c.loop-name-test.false c.loop-name.invariant ∙ map-id _

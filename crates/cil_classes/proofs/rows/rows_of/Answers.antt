@@ -1,0 +1,16 @@
+use Rattle.std.proofs.Common.{ap, ◌∙◌}
+use Rattle.cil_names.specs.Unresolved.{listed_at}
+use Rattle.cil_classes.proofs.ClassRowLemmas.{listed_all, listed_begun, listed_more}
+use Rattle.cil_classes.proofs.rows.rows_of.Goals as goal
+
+pub loop-number-init : goal.loop-number-init
+loop-number-init c = listed_begun c.args.names.now c.args.places.now c.args.permissions.now _ c.new-rows.ensures.items
+
+pub loop-number-preserved : goal.loop-number-preserved
+loop-number-preserved c =
+    listed_more c.args.names.now c.args.places.now c.args.permissions.now c.loop-number.number _ _ _ _ c.loop-number-test.true c.index-names-number.is
+    (c.in_ok-copy_of.ensures ∙ c.as_slice.ensures) (c.in_ok-permissions_at.ensures ∙ ap (listed_at c.args.permissions.now) c.number_at.ensures) c.in_ok-push.ensures.items
+    c.loop-number.invariant
+
+pub returns : goal.returns
+returns c = listed_all c.args.names.now c.args.places.now c.args.permissions.now _ _ c.loop-number-test.false c.loop-number.invariant

@@ -1,7 +1,0 @@
-use Rattle.cil_macros.specs.Items.{items_in}
-use Rattle.cil_names.specs.Entries.{is_in}
-use Rattle.cil_decide.proofs.LineLemmas.{HasLines}
-use Rattle.cil_decide.proofs.lines.optional_lines.Given as goal
-
-abbrev pub invariant-loop-at : goal.invariant-loop-at
-invariant-loop-at l = HasLines (is_in l.enabled) (items_in l.instances) l.at l.lines.items

@@ -1,0 +1,67 @@
+-- The numbers of the causes of faults. This project's profile.
+use Rattle.std.specs.Prelude.{◌≡◌, ℕ, ◌==◌, if◌then◌else◌, refl}
+use Rattle.std.proofs.Common.{sym, ◌∙◌, ap}
+use Rattle.cil_faults.specs.declared.code.FaultCode.{FaultCode}
+use Rattle.cil_faults.specs.declared.code.FaultCode.TheVariants.{UnknownStatement, Unsupported, BadShape, BadPlace, BadName, ReservedName, ParameterClash, NameTwice, InheritUnresolved, InheritCycle, CallCycle, CallArguments, Clash, ExpansionLimit, Unresolved, ClassWide}
+
+-- the number of a cause
+abbrev pub number_of : FaultCode → ℕ
+number_of UnknownStatement = 21
+number_of Unsupported = 22
+number_of BadShape = 23
+number_of BadPlace = 24
+number_of BadName = 25
+number_of ReservedName = 26
+number_of ParameterClash = 27
+number_of NameTwice = 31
+number_of InheritUnresolved = 32
+number_of InheritCycle = 33
+number_of CallCycle = 34
+number_of CallArguments = 35
+number_of Clash = 36
+number_of ExpansionLimit = 38
+number_of Unresolved = 41
+number_of ClassWide = 55
+
+-- the cause of a number
+numbered : ℕ → FaultCode
+numbered n =
+    if n == 21 then UnknownStatement
+    else (if n == 22 then Unsupported
+    else (if n == 23 then BadShape
+    else (if n == 24 then BadPlace
+    else (if n == 25 then BadName
+    else (if n == 26 then ReservedName
+    else (if n == 27 then ParameterClash
+    else (if n == 31 then NameTwice
+    else (if n == 32 then InheritUnresolved
+    else (if n == 33 then InheritCycle
+    else (if n == 34 then CallCycle
+    else (if n == 35 then CallArguments
+    else (if n == 36 then Clash
+    else (if n == 38 then ExpansionLimit
+    else (if n == 41 then Unresolved
+    else ClassWide))))))))))))))
+
+numbered-number_of : (c : FaultCode) → numbered (number_of c) ≡ c
+unfolding numbered
+numbered-number_of UnknownStatement = refl
+numbered-number_of Unsupported = refl
+numbered-number_of BadShape = refl
+numbered-number_of BadPlace = refl
+numbered-number_of BadName = refl
+numbered-number_of ReservedName = refl
+numbered-number_of ParameterClash = refl
+numbered-number_of NameTwice = refl
+numbered-number_of InheritUnresolved = refl
+numbered-number_of InheritCycle = refl
+numbered-number_of CallCycle = refl
+numbered-number_of CallArguments = refl
+numbered-number_of Clash = refl
+numbered-number_of ExpansionLimit = refl
+numbered-number_of Unresolved = refl
+numbered-number_of ClassWide = refl
+
+-- no two causes have one number
+pub one_cause : (c d : FaultCode) → number_of c ≡ number_of d → c ≡ d
+one_cause c d e = sym (numbered-number_of c) ∙ ap numbered e ∙ numbered-number_of d

@@ -1,0 +1,10 @@
+pub mod Codes
+pub mod Fails
+pub mod FaultOrder
+pub mod First
+pub mod Laws
+pub mod Namespaces
+pub mod Printed
+pub mod Refusal
+pub mod Reported
+pub mod Spots

@@ -1,0 +1,62 @@
+-- What is known of the words of items and of the numbers of their symbols.
+use Rattle.std.specs.Prelude.{◌≡◌, ℕ, List, slice_get, Some, ◌++◌, map, Option}
+use Rattle.cil_names.specs.Declarations.{Symbol, name_of}
+use Rattle.cil_syntax.specs.declared.kind.Kind.{Kind}
+use Rattle.cil_syntax.specs.declared.term.Word.{Word}
+use Rattle.cil_syntax.specs.Terms.{Term}
+use Rattle.cil_names.specs.declared.entry.Entry.{Entry}
+use Rattle.cil_blocks.specs.declared.namespaces.Space.{Space}
+use Rattle.cil_names.specs.Entries.{AreEntries, is_in}
+use Rattle.cil_macros.specs.Item.{Item, OptSet, words_in}
+use Rattle.cil_syntax.specs.Scopes.{ScopedWord}
+use Rattle.cil_names.specs.Meanings.{meanings, meant}
+use Rattle.cil_names.specs.Numbers.{AreNumbers}
+use Rattle.cil_blocks.specs.Namespaces.{AreNamespaces}
+use Rattle.cil_names.specs.declared.known.Known.{Known}
+use Rattle.cil_names.specs.Members.{StandsFor}
+
+-- the symbol has this number: its name stands there
+abbrev pub IsNumbered : List (List ℕ) → Symbol → ℕ → Type 0
+IsNumbered names t n = slice_get names n ≡ Some (name_of t)
+
+-- what is known of the names of items: their namespaces, their declared names, and the sections that number these
+pub record AreKnown (ss : List Space) (xs : List Item) (es : List Entry) (s : OptSet) (names : Kind → List (List ℕ)) (numbers : List ℕ) : Type 0 where
+  pub namespaces : AreNamespaces ss
+  pub entries : AreEntries ss xs es
+  pub numbered : AreNumbers ss es s names numbers
+
+-- the number of the one symbol for which a word stands
+pub record IsNumberFor (xs : List Item) (s : OptSet) (kind : Kind) (names : List (List ℕ)) (w : ScopedWord) (n : ℕ) : Type 0 where
+  pub symbol : Symbol
+  pub stands : StandsFor xs s kind w symbol
+  pub only_symbol : (t : Symbol) → StandsFor xs s kind w t → t ≡ symbol
+  pub numbered : IsNumbered names symbol n
+  pub only_number : (k : ℕ) → IsNumbered names symbol k → k ≡ n
+
+-- the word stands for nothing of this kind
+abbrev pub StandsForNothing : List Item → OptSet → Kind → ScopedWord → Type 0
+StandsForNothing xs s kind w = (t : Symbol) → StandsFor xs s kind w t → ⊥
+
+abbrev pub enabled_in : Known → OptSet
+enabled_in k = is_in k.lookup.enabled.now
+
+-- the items are those of which this is known, and these are the sections of their names
+abbrev pub IsKnown : Known → List Item → (Kind → List (List ℕ)) → Type 0
+IsKnown k xs names = AreKnown k.lookup.namespaces.now xs k.lookup.names.now (enabled_in k) names k.numbers.now
+
+-- what a word means
+abbrev pub meant_in : Known → ScopedWord → Option ℕ
+meant_in k w = meant k.lookup.namespaces.now k.lookup.names.now (enabled_in k) w
+
+-- what the words of an item mean
+abbrev pub row_in : Known → Item → List (Option ℕ)
+row_in k x = meanings k.lookup.namespaces.now k.lookup.names.now (enabled_in k) x
+
+-- what the words of a term mean, where each says this
+abbrev pub meant_by : Known → (Word → ScopedWord) → Term Word → List (Option ℕ)
+meant_by k f t = map (λ w. meant_in k (f w)) (words_in t)
+
+-- the meanings begin with those of the words of a term
+pub record BeginWith (k : Known) (f : Word → ScopedWord) (t : Term Word) (words : List (Option ℕ)) : Type 0 where
+  pub more : List (Option ℕ)
+  pub are : words ≡ meant_by k f t ++ more

@@ -1,0 +1,200 @@
+-- The records of allow rules.
+use Rattle.std.specs.Prelude.{Contains, Option, Some, None}
+use Rattle.std.specs.List.Retain.{DiffersFromLast, IsFiltered}
+use Rattle.std.specs.List.Sorted.{IsPermutation, IsSorted}
+use Rattle.std.specs.Ordering.{eq_by_cmp}
+use Rattle.std.proofs.Common.{◌≡◌, ℕ, ◌++◌, true, false, List, [], ◌∷◌, drop, get_or, length, map, refl, sym, ◌∙◌, ap, subst}
+use Rattle.std.proofs.Math.Seq.{drop-append_seam}
+use Rattle.std.proofs.lemmas.Bool.{true≢false}
+use Rattle.std.proofs.lemmas.List.{append-nil, length-map, map-append}
+use Rattle.std.proofs.lemmas.Option.{none-some, same_Some}
+use Rattle.cil_base.specs.Gives.{Gives}
+use Rattle.cil_syntax.specs.Forms.{rule_form}
+use Rattle.cil_syntax.specs.declared.kind.Keyword.TheVariants as keywords
+use Rattle.cil_syntax.specs.declared.kind.Kind.TheVariants as kinds
+use Rattle.cil_syntax.specs.declared.term.Word.{Word}
+use Rattle.cil_syntax.specs.Terms.{Term, Leaf, Terms, nil, cons}
+use Rattle.cil_macros.specs.Item.{Item, OptSet, all_words_in, is_enabled, words_in}
+use Rattle.cil_syntax.specs.Scopes.{ScopedWord}
+use Rattle.cil_base.proofs.SortedLists.{sorted_list}
+use Rattle.cil_names.specs.declared.known.Known.{Known}
+use Rattle.cil_classes.specs.declared.row.Class.{Class}
+use Rattle.cil_rules.specs.declared.rule.Numbers.{Numbers}
+use Rattle.cil_rules.specs.declared.rule.Rule.{Rule}
+use Rattle.cil_rules.specs.declared.rule.Target.{Target}
+use Rattle.cil_rules.specs.Records.{Case, HasTarget, IsCase, IsRuleOf, CaseBy}
+use Rattle.cil_names.specs.Known.{BeginWith, IsNumberFor, StandsForNothing, enabled_in, meant_by, meant_in, row_in}
+use Rattle.cil_names.specs.Members.{StandsFor}
+use Rattle.cil_classes.specs.Pairs.{HasPair}
+use Rattle.cil_base.specs.Records.{AreRecordsOf, IsRecordOf}
+use Rattle.cil_classes.specs.Masks.{GivesNothing, IsGiven}
+use Rattle.cil_rules.specs.Order.{rule_cmp, rule_total, one_rule}
+use Rattle.std.proofs.lemmas.Simd.{map-map}
+use Rattle.cil_macros.proofs.FormLemmas.{across, all_across, all_words_across, no_rule, rule_across}
+use Rattle.cil_rules.proofs.TargetLemmas.{IsReached, only_number}
+
+-- ---- the meanings of the words of a rule
+
+rule_leaves : (source : Word) (target class_permission : Term Word) → all_words_in (cons (Leaf source) (cons target (cons class_permission nil))) ≡ source ∷ words_in target ++ (words_in class_permission ++ [])
+unfolding all_words_in
+rule_leaves source target class_permission = refl
+
+module _ (k : Known) (x : Item) (f : Word → ScopedWord) (args : Terms Word) (says : x.args ≡ all_across f args) (source : Word) (target class_permission : Term Word)
+    (said : args ≡ cons (Leaf source) (cons target (cons class_permission nil))) (words : List (Option ℕ)) (are : words ≡ row_in k x) where
+  abbrev by_meaning : Word → Option ℕ
+  by_meaning w = meant_in k (f w)
+
+  all_meant : words ≡ by_meaning source ∷ meant_by k f target ++ meant_by k f class_permission
+  all_meant =
+      are
+      ∙ ap (λ ts. map (meant_in k) (all_words_in ts)) says
+      ∙ ap (map (meant_in k)) (all_words_across f args)
+      ∙ map-map (meant_in k) f (all_words_in args)
+      ∙ ap (map by_meaning) (ap all_words_in said ∙ rule_leaves source target class_permission)
+      ∙ ap (λ ms. by_meaning source ∷ ms) (map-append by_meaning (words_in target) (words_in class_permission ++ [])
+      ∙ ap (λ ls. map by_meaning (words_in target) ++ map by_meaning ls) (append-nil (words_in class_permission)))
+
+  -- the first is that of the source
+  pub source_means : (r : Option ℕ) → r ≡ get_or words 0 None → r ≡ by_meaning source
+  source_means r first = first ∙ ap (λ ws. get_or ws 0 None) all_meant
+
+  module _ (of_target : List (Option ℕ)) (behind_source : of_target ≡ drop 1 words) where
+    target_there : of_target ≡ meant_by k f target ++ meant_by k f class_permission
+    target_there = behind_source ∙ ap (drop 1) all_meant
+
+    -- behind it are those of the target
+    pub target_begins : BeginWith k f target of_target
+    target_begins = record { more = meant_by k f class_permission; are = target_there }
+
+    -- and behind these those of the class permission
+    pub class_begins : (of_class : List (Option ℕ)) → of_class ≡ drop (length (words_in target)) of_target → BeginWith k f class_permission of_class
+    class_begins of_class behind_target = record {
+      more = [];
+      are =
+          behind_target
+          ∙ ap (drop (length (words_in target))) target_there
+          ∙ ap (λ n. drop n (meant_by k f target ++ meant_by k f class_permission)) (sym (length-map (words_in target) by_meaning))
+          ∙ drop-append_seam (meant_by k f target) (meant_by k f class_permission)
+          ∙ sym (append-nil (meant_by k f class_permission));
+    }
+
+-- ---- the record of one statement
+
+same_case : (a b : Case) → a.source ≡ b.source → a.target ≡ b.target → a.class_permission ≡ b.class_permission → a.class_ ≡ b.class_ → a ≡ b
+same_case a b s t p c = λ i. record { source = s i; target = t i; class_permission = p i; class_ = c i }
+
+module _ (xs : List Item) (k : Known) (x : Item) where
+  abbrev IsCaseOf : Case → Type 0
+  IsCaseOf = CaseBy xs (enabled_in k) x
+
+  pub other_keyword : (x.keyword ≡ keywords.Allow → ⊥) → (c : Case) → IsCaseOf c → ⊥
+  other_keyword differ c by = differ by.is_keyword
+
+  pub left_out : is_enabled (enabled_in k) x ≡ false → (c : Case) → IsCaseOf c → ⊥
+  left_out out c by = true≢false (sym by.enabled ∙ out)
+
+  module _ (f : Word → ScopedWord) (args : Terms Word) (says : x.args ≡ all_across f args) where
+    pub other_terms : rule_form args ≡ None → (c : Case) → IsCaseOf c → ⊥
+    other_terms none c by = none-some (c.source, c.target, c.class_permission) (sym (no_rule f args none) ∙ ap rule_form (sym says ∙ by.says))
+
+    module _ (source : Word) (target class_permission : Term Word) (said : args ≡ cons (Leaf source) (cons target (cons class_permission nil))) where
+      is_rule : x.args ≡ cons (Leaf (f source)) (cons (across f target) (cons (across f class_permission) nil))
+      is_rule = says ∙ ap (all_across f) said ∙ rule_across f source target class_permission
+
+      is_parts : (c : Case) → IsCaseOf c → ◌≡◌ {A = ScopedWord × Term ScopedWord × Term ScopedWord} (c.source, c.target, c.class_permission) (f source, across f target, across f class_permission)
+      is_parts c by = same_Some (c.source, c.target, c.class_permission) (f source, across f target, across f class_permission) (ap rule_form (sym by.says ∙ is_rule))
+
+      source_of : (c : Case) → IsCaseOf c → c.source ≡ f source
+      source_of c by = ap (λ r. r.0) (is_parts c by)
+
+      target_of : (c : Case) → IsCaseOf c → c.target ≡ across f target
+      target_of c by = ap (λ r. r.1) (is_parts c by)
+
+      class_of : (c : Case) → IsCaseOf c → c.class_permission ≡ across f class_permission
+      class_of c by = ap (λ r. r.2) (is_parts c by)
+
+      pub without_source : StandsForNothing xs (enabled_in k) kinds.Type_ (f source) → (c : Case) → IsCaseOf c → ⊥
+      without_source none c by = none by.source.0 (subst (λ w. StandsFor xs (enabled_in k) kinds.Type_ w by.source.0) (source_of c by) by.source.1)
+
+      pub without_target : (HasTarget xs (enabled_in k) (across f target) → ⊥) → (c : Case) → IsCaseOf c → ⊥
+      without_target none c by = none (subst (HasTarget xs (enabled_in k)) (target_of c by) by.target)
+
+      pub without_permission : GivesNothing xs (enabled_in k) (across f class_permission) → (c : Case) → IsCaseOf c → ⊥
+      without_permission none c by =
+          none c.class_ by.permission.0 (subst (λ t. HasPair xs (enabled_in k) t c.class_ by.permission.0) (class_of c by) by.permission.1)
+
+      module _ (types : List (List ℕ)) (classes : List Class) (n : ℕ) (number : IsNumberFor xs (enabled_in k) kinds.Type_ types (f source) n) (sources : Numbers) (one : sources ≡ n ∷ [])
+          (reached : Target) (is_reached : IsReached xs (enabled_in k) types (across f target) reached) (class_ mask : ℕ)
+          (given : IsGiven xs (enabled_in k) classes (across f class_permission) class_ mask) where
+        abbrev its_case : Case
+        its_case = record { source = f source; target = across f target; class_permission = across f class_permission; class_ = given.symbol }
+
+        abbrev its_rule : Rule
+        its_rule = record { source = sources; target = reached; class = class_; mask = mask }
+
+        one_case : (c : Case) → IsCaseOf c → c ≡ its_case
+        one_case c by =
+            same_case c its_case (source_of c by) (target_of c by) (class_of c by)
+            (given.only_symbol c.class_ by.permission.0 (subst (λ t. HasPair xs (enabled_in k) t c.class_ by.permission.0) (class_of c by) by.permission.1))
+
+        is_record : IsRuleOf xs (enabled_in k) types classes its_case its_rule
+        is_record = record {
+          source = only_number xs (enabled_in k) types (f source) n sources number one;
+          target = is_reached.1;
+          row = given.row;
+          is_row = given.is_row;
+          named = given.named;
+          mask = λ bit. (
+            (λ set. let b = (given.bits bit).0 set in record { permission = b.0; is_permission = b.1; gives = b.2 }),
+            (λ b. (given.bits bit).1 (b.permission, b.is_permission, b.gives)),
+          );
+        }
+
+        pub a_rule : x.keyword ≡ keywords.Allow → is_enabled (enabled_in k) x ≡ true
+            → IsRecordOf (CaseBy xs (enabled_in k)) (IsRuleOf xs (enabled_in k) types classes) x (Some its_rule)
+        a_rule is enabled = (
+          (
+            its_case,
+            record {
+              enabled = enabled;
+              is_keyword = is;
+              says = is_rule;
+              source = (number.symbol, number.stands);
+              target = is_reached.0;
+              permission = given.some;
+            },
+          ),
+          λ c by. subst (λ d. IsRuleOf xs (enabled_in k) types classes d its_rule) (sym (one_case c by)) is_record,
+        )
+
+-- ---- the records of all statements
+
+module _ (xs : List Item) (s : OptSet) (types : List (List ℕ)) (classes : List Class) (raw : List Rule)
+    (are : AreRecordsOf (CaseBy xs s) (IsRuleOf xs s types classes) xs raw) where
+  as_case : (x : Item) (k : Case) → Contains xs x → CaseBy xs s x k → IsCase xs s keywords.Allow k
+  as_case x k c by = record {
+    rule = record { item = x; is_item = c; enabled = by.enabled; is_keyword = by.is_keyword; says = by.says };
+    source = by.source;
+    target = by.target;
+    permission = by.permission;
+  }
+
+  of_case : (k : Case) (is : IsCase xs s keywords.Allow k) → CaseBy xs s is.rule.item k
+  of_case k is = record {
+    enabled = is.rule.enabled;
+    is_keyword = is.rule.is_keyword;
+    says = is.rule.says;
+    source = is.source;
+    target = is.target;
+    permission = is.permission;
+  }
+
+  pub rules_listed : (ys zs : List Rule) → IsPermutation raw ys → IsSorted rule_cmp ys → IsFiltered (DiffersFromLast (eq_by_cmp rule_cmp)) [] ys zs
+      → Gives rule_cmp (IsCase xs s keywords.Allow) (IsRuleOf xs s types classes) zs
+  rules_listed ys zs moved sorted kept =
+      let list = sorted_list rule_cmp rule_total one_rule raw ys zs moved sorted kept in
+      record {
+        rising = list.rising;
+        each = λ k is. let r = are.each is.rule.item k is.rule.is_item (of_case k is) in (r.0, r.1, (list.members r.0).1 r.2);
+        only = λ y c. let o = are.only y ((list.members y).0 c) in (o.1, as_case o.0 o.1 o.2 o.3, o.4);
+      }

@@ -1,0 +1,17 @@
+-- What the record of a rule covers. The SELinux Notebook, "Computing Access Decisions".
+use Rattle.std.specs.Prelude.{◌≡◌, ℕ, Contains, IsBitSet}
+use Rattle.cil_rules.specs.declared.rule.Rule.{Rule}
+use Rattle.cil_rules.specs.declared.rule.Target.{Target}
+use Rattle.cil_rules.specs.declared.rule.Target.TheVariants.{Types, Itself}
+
+-- the target type is one that a rule reaches from the source type
+abbrev pub Reaches : Target → ℕ → ℕ → Type 0
+Reaches (Types numbers) source target = Contains numbers target
+Reaches Itself source target = source ≡ target
+
+-- the rule covers the permission
+pub record Covers (r : Rule) (source target class_ bit : ℕ) : Type 0 where
+  pub has_source : Contains r.source source
+  pub has_target : Reaches r.target source target
+  pub of_class : r.class ≡ class_
+  pub permits : IsBitSet r.mask bit

@@ -1,0 +1,5 @@
+pub mod Covered
+pub mod Covers
+pub mod Kept
+pub mod Order
+pub mod Records

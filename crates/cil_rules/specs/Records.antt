@@ -1,0 +1,81 @@
+-- The record of a rule, by the statement that says it. This project's profile.
+use Rattle.std.specs.Prelude.{◌≡◌, ◌↔◌, ℕ, List, slice_get, Some, IsBitSet, true}
+use Rattle.std.specs.Ordering.{nat_cmp}
+use Rattle.cil_base.specs.Lists.{Lists}
+use Rattle.cil_syntax.specs.declared.kind.Keyword.{Keyword}
+use Rattle.cil_syntax.specs.declared.kind.Kind.TheVariants as kinds
+use Rattle.cil_syntax.specs.declared.term.Op.TheVariants as ops
+use Rattle.cil_syntax.specs.Terms.{Term, Leaf, Name, Form, nil, cons}
+use Rattle.cil_classes.specs.declared.row.Class.{Class}
+use Rattle.cil_rules.specs.declared.rule.Rule.{Rule}
+use Rattle.cil_rules.specs.declared.rule.Target.{Target}
+use Rattle.cil_rules.specs.declared.rule.Target.TheVariants.{Types, Itself}
+use Rattle.cil_names.specs.Says.{Says}
+use Rattle.cil_names.specs.Declarations.{Symbol, name_of}
+use Rattle.cil_macros.specs.Item.{Item, OptSet, is_enabled}
+use Rattle.cil_syntax.specs.Scopes.{ScopedWord}
+use Rattle.cil_names.specs.Members.{StandsFor}
+use Rattle.cil_classes.specs.Pairs.{HasPair}
+use Rattle.cil_names.specs.Known.{IsNumbered}
+use Rattle.cil_syntax.specs.declared.kind.Keyword.TheVariants as keywords
+
+-- what one record is about: the words of one statement, and one class
+pub record Case : Type 0 where
+  pub source : ScopedWord
+  pub target : Term ScopedWord
+  pub class_permission : Term ScopedWord
+  pub class_ : Symbol
+
+-- the target reaches some type
+abbrev pub HasTarget : List Item → OptSet → Term ScopedWord → Type 0
+HasTarget xs s (Leaf w) = (t : Symbol) × StandsFor xs s kinds.Type_ w t
+HasTarget xs s (Name at name) = ⊥
+HasTarget xs s (Form at ops.Itself parts) = Unit {0}
+HasTarget xs s (Form at op parts) = ⊥
+
+-- an enabled rule with this first word says so, and has a source, a target and a permission of the class: a record without one of them
+-- covers nothing, and is not kept
+pub record IsCase (xs : List Item) (s : OptSet) (keyword : Keyword) (k : Case) : Type 0 where
+  pub rule : Says xs s keyword (cons (Leaf k.source) (cons k.target (cons k.class_permission nil)))
+  pub source : (t : Symbol) × StandsFor xs s kinds.Type_ k.source t
+  pub target : HasTarget xs s k.target
+  pub permission : (p : List ℕ) × HasPair xs s k.class_permission k.class_ p
+
+-- the number of a type for which the word stands
+pub record HasNumber (xs : List Item) (s : OptSet) (types : List (List ℕ)) (w : ScopedWord) (n : ℕ) : Type 0 where
+  pub kind : Symbol
+  pub stands : StandsFor xs s kinds.Type_ w kind
+  pub numbered : IsNumbered types kind n
+
+-- the target of a record: the numbers of its types, or the source itself
+abbrev pub IsTargetOf : List Item → OptSet → List (List ℕ) → Term ScopedWord → Target → Type 0
+IsTargetOf xs s types (Leaf w) (Types numbers) = Lists nat_cmp (HasNumber xs s types w) numbers
+IsTargetOf xs s types (Leaf w) Itself = ⊥
+IsTargetOf xs s types (Name at name) target = ⊥
+IsTargetOf xs s types (Form at ops.Itself parts) (Types numbers) = ⊥
+IsTargetOf xs s types (Form at ops.Itself parts) Itself = Unit {0}
+IsTargetOf xs s types (Form at op parts) target = ⊥
+
+-- the bit stands for a permission of the class that the class permission gives
+pub record HasBit (xs : List Item) (s : OptSet) (k : Case) (row : Class) (bit : ℕ) : Type 0 where
+  pub permission : List ℕ
+  pub is_permission : slice_get row.permissions bit ≡ Some permission
+  pub gives : HasPair xs s k.class_permission k.class_ permission
+
+-- the record of a case, by the sections that number types and classes
+pub record IsRuleOf (xs : List Item) (s : OptSet) (types : List (List ℕ)) (classes : List Class) (k : Case) (r : Rule) : Type 0 where
+  pub source : Lists nat_cmp (HasNumber xs s types k.source) r.source
+  pub target : IsTargetOf xs s types k.target r.target
+  pub row : Class
+  pub is_row : slice_get classes r.class ≡ Some row
+  pub named : row.name ≡ name_of k.class_
+  pub mask : (bit : ℕ) → IsBitSet r.mask bit ↔ HasBit xs s k row bit
+
+-- the statement is enabled, and the case is one of it
+pub record CaseBy (xs : List Item) (s : OptSet) (x : Item) (k : Case) : Type 0 where
+  pub enabled : is_enabled s x ≡ true
+  pub is_keyword : x.keyword ≡ keywords.Allow
+  pub says : x.args ≡ cons (Leaf k.source) (cons k.target (cons k.class_permission nil))
+  pub source : (t : Symbol) × StandsFor xs s kinds.Type_ k.source t
+  pub target : HasTarget xs s k.target
+  pub permission : (p : List ℕ) × HasPair xs s k.class_permission k.class_ p

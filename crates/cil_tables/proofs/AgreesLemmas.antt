@@ -1,0 +1,276 @@
+-- What the tables of items say is what the items say.
+use Rattle.std.specs.Prelude.{Some, slice_get}
+use Rattle.std.specs.List.Sorted.{IsStrictlySortedBy}
+use Rattle.std.proofs.Common.{◌≡◌, ℕ, List, [], ◌∷◌, refl, sym, ◌∙◌, ap, subst, inl, inr}
+use Rattle.std.proofs.lemmas.Cmp.{nat_list_cmp_total}
+use Rattle.std.proofs.lemmas.Map.Lookups.{exact_bytes}
+use Rattle.cil_base.specs.Lists.{Lists, text_cmp}
+use Rattle.cil_base.specs.Places.{get_at, get_contains}
+use Rattle.cil_syntax.specs.declared.kind.Keyword.{Keyword}
+use Rattle.cil_syntax.specs.declared.kind.Keyword.TheVariants as keywords
+use Rattle.cil_syntax.specs.declared.kind.Kind.{Kind}
+use Rattle.cil_syntax.specs.declared.kind.Kind.TheVariants as kinds
+use Rattle.cil_syntax.specs.declared.term.Op.TheVariants as ops
+use Rattle.cil_syntax.specs.Terms.{Term, Leaf, Name, Form}
+use Rattle.cil_tables.specs.declared.context.Context.{Context as Numbers}
+use Rattle.cil_classes.specs.declared.row.Class.{Class}
+use Rattle.cil_rules.specs.declared.rule.Target.{Target}
+use Rattle.cil_rules.specs.declared.rule.Target.TheVariants.{Types, Itself}
+use Rattle.cil_tables.specs.Agrees.{Agrees, SameContext, SamePermission}
+use Rattle.cil_names.specs.Says.{AreJoined}
+use Rattle.cil_tables.specs.Contexts.{Context, IsValid}
+use Rattle.cil_rules.specs.Covered.{IsCovered, IsTarget}
+use Rattle.cil_rules.specs.Records.{Case, HasNumber, HasTarget, IsTargetOf}
+use Rattle.cil_tables.specs.Links.{IsLink}
+use Rattle.cil_tables.specs.Compiled.{IsNameOf, IsTable}
+use Rattle.cil_names.specs.Known.{IsNumbered}
+use Rattle.std.proofs.lemmas.Option.{same_Some}
+use Rattle.cil_names.specs.Declarations.{Declared, Symbol, name_of}
+use Rattle.cil_macros.specs.Item.{Item, OptSet}
+use Rattle.cil_syntax.specs.Scopes.{ScopedWord}
+use Rattle.cil_base.proofs.SearchLemmas.{one_number as one_of_key}
+use Rattle.cil_tables.specs.Meaning.{IsAllowed, IsContext}
+use Rattle.cil_rules.specs.Covers.{Reaches}
+use Rattle.cil_names.specs.Members.{StandsFor}
+use Rattle.cil_classes.specs.Pairs.{HasPair, of_class}
+use Rattle.cil_tables.specs.Table.{Table}
+use Rattle.cil_classes.specs.Row.{class_cmp}
+use Rattle.cil_base.proofs.NameSearches.{number_is}
+
+-- a class has one number in rows that rise by name
+pub one_class_number : (rows : List Class) (i j : ℕ) (r q : Class) → IsStrictlySortedBy class_cmp rows → slice_get rows i ≡ Some r → slice_get rows j ≡ Some q → r.name ≡ q.name → i ≡ j
+one_class_number rows i j r q rising at bt same = one_of_key (λ (c : Class). c.name) text_cmp nat_list_cmp_total exact_bytes rows i j r q rising at bt same
+
+one_number : (names : List (List ℕ)) (n m : ℕ) (name : List ℕ) → IsStrictlySortedBy text_cmp names → slice_get names n ≡ Some name → slice_get names m ≡ Some name → n ≡ m
+one_number names n m name rising at bt = (number_is names name m bt rising).only n at
+
+pair_declared : (xs : List Item) (s : OptSet) (cp : Term ScopedWord) (c : Symbol) (p : List ℕ) → HasPair xs s cp c p → Declared xs s kinds.Class c
+pair_declared xs s cp c p (of_class at word expression d q stands has named) = stands.declared
+
+-- declared symbols whose qualified names are spelled alike are one
+abbrev pub HaveOneSymbol : List Item → OptSet → Type 0
+HaveOneSymbol xs s = (kind j : Kind) (t u : Symbol) → Declared xs s kind t → Declared xs s j u → name_of t ≡ name_of u → t ≡ u
+
+module _ (xs : List Item) (s : OptSet) (one : HaveOneSymbol xs s) where
+  -- two symbols with one number are one
+  one_numbered : (names : List (List ℕ)) (n : ℕ) (j k : Kind) (a b : Symbol) → Declared xs s j a → Declared xs s k b → IsNumbered names a n → IsNumbered names b n → a ≡ b
+  one_numbered names n j k a b d e x y = one j k a b d e (same_Some _ _ (sym x ∙ y))
+
+  -- a name of a section is that of a declared symbol
+  named_symbol : (names : List (List ℕ)) (kind : Kind) → Lists text_cmp (IsNameOf xs s kind) names → (name : List ℕ) (n : ℕ) → slice_get names n ≡ Some name
+      → IsNameOf xs s kind name
+  named_symbol names kind listed name n at = (listed.members name).0 (get_contains names n name at)
+
+  -- and has the number of the name
+  numbered_there : (names : List (List ℕ)) (kind : Kind) (name : List ℕ) (n : ℕ) → slice_get names n ≡ Some name → (of : IsNameOf xs s kind name) → IsNumbered names of.symbol n
+  numbered_there names kind name n at of = at ∙ ap Some (sym of.named)
+
+  number_of_symbol : (names : List (List ℕ)) (kind : Kind) → Lists text_cmp (IsNameOf xs s kind) names → (t : Symbol) → Declared xs s kind t → (n : ℕ) × IsNumbered names t n
+  number_of_symbol names kind listed t d = let at = get_at names (name_of t) ((listed.members (name_of t)).1 (record { symbol = t; declared = d; named = refl })) in (at.0, at.2)
+
+  module _ (t : Table) (table : IsTable xs s t) where
+    -- ---- contexts
+
+    joined_from : (keyword : Keyword) (j k : Kind) (holders helds : List (List ℕ)) (a b : Symbol) (n m : ℕ) → Declared xs s j a → Declared xs s k b
+        → IsNumbered holders a n → IsNumbered helds b m → IsLink xs s keyword j k holders helds (record { holder = n; held = m }) → AreJoined xs s keyword j k a b
+    joined_from keyword j k holders helds a b n m d e x y link =
+        subst (λ z. AreJoined xs s keyword j k z b) (one_numbered holders n j j link.holder a link.joined.has_holder.declared d link.holder_number x)
+        (subst (λ z. AreJoined xs s keyword j k link.holder z) (one_numbered helds m k k link.held b link.joined.has_held.declared e link.held_number y) link.joined)
+
+    reads : (text : List ℕ) (n : Numbers) → IsContext t text n → (c : Context) × IsValid xs s text c × SameContext xs s t n c
+    reads text n is =
+        let user = named_symbol t.users kinds.User table.users is.user n.user is.a_user in
+        let role = named_symbol t.roles kinds.Role table.roles is.role n.role is.a_role in
+        let kind = named_symbol t.types kinds.Type_ table.types is.kind n.kind is.a_type in
+        let user_at = numbered_there t.users kinds.User is.user n.user is.a_user user in
+        let role_at = numbered_there t.roles kinds.Role is.role n.role is.a_role role in
+        let kind_at = numbered_there t.types kinds.Type_ is.kind n.kind is.a_type kind in (
+          record { user = user.symbol; role = role.symbol; kind = kind.symbol },
+          record {
+            parts = is.parts ∙ (λ i. sym user.named i ∷ sym role.named i ∷ sym kind.named i ∷ []);
+            a_user = user.declared;
+            a_role = role.declared;
+            a_type = kind.declared;
+            admitted = elim is.admitted [
+              | inl e ↦ inl (role.named ∙ e)
+              | inr both ↦ inr (
+                joined_from keywords.UserRole kinds.User kinds.Role t.users t.roles _ _ n.user n.role user.declared role.declared user_at role_at ((table.user_roles.members _).0 both.role),
+                joined_from keywords.RoleType kinds.Role kinds.Type_ t.roles t.types _ _ n.role n.kind role.declared kind.declared role_at kind_at ((table.role_types.members _).0 both.kind),
+              )
+            ];
+          },
+          record { user = user_at; role = role_at; kind = kind_at; a_user = user.declared; a_role = role.declared; a_type = kind.declared },
+        )
+
+    finds : (text : List ℕ) (c : Context) → IsValid xs s text c → (n : Numbers) × IsContext t text n × SameContext xs s t n c
+    finds text c is =
+        let user = number_of_symbol t.users kinds.User table.users c.user is.a_user in
+        let role = number_of_symbol t.roles kinds.Role table.roles c.role is.a_role in
+        let kind = number_of_symbol t.types kinds.Type_ table.types c.kind is.a_type in (
+          record { user = user.0; role = role.0; kind = kind.0 },
+          record {
+            user = name_of c.user;
+            role = name_of c.role;
+            kind = name_of c.kind;
+            parts = is.parts;
+            a_user = user.1;
+            a_role = role.1;
+            a_type = kind.1;
+            admitted = elim is.admitted [
+              | inl e ↦ inl e
+              | inr both ↦ inr (record {
+                role = (table.user_roles.members (record { holder = user.0; held = role.0 })).1
+                    (record { holder = c.user; held = c.role; joined = both.0; holder_number = user.1; held_number = role.1 });
+                kind = (table.role_types.members (record { holder = role.0; held = kind.0 })).1
+                    (record { holder = c.role; held = c.kind; joined = both.1; holder_number = role.1; held_number = kind.1 });
+              })
+            ];
+          },
+          record { user = user.1; role = role.1; kind = kind.1; a_user = is.a_user; a_role = is.a_role; a_type = is.a_type },
+        )
+
+    -- ---- rules
+
+    stands_there : (w : ScopedWord) (n : ℕ) (a : Symbol) → Declared xs s kinds.Type_ a → IsNumbered t.types a n → HasNumber xs s t.types w n → StandsFor xs s kinds.Type_ w a
+    stands_there w n a d x has =
+        subst (StandsFor xs s kinds.Type_ w) (one_numbered t.types n kinds.Type_ kinds.Type_ has.kind a has.stands.declared d has.numbered x) has.stands
+
+    module _ (n m : ℕ) (a b : Symbol) (da : Declared xs s kinds.Type_ a) (db : Declared xs s kinds.Type_ b) (na : IsNumbered t.types a n) (nb : IsNumbered t.types b m) where
+      target_there : (term : Term ScopedWord) (target : Target) → IsTargetOf xs s t.types term target → Reaches target n m → IsTarget xs s a b term
+      target_there (Leaf w) (Types ns) is c = stands_there w m b db nb ((is.members m).0 c)
+      target_there (Leaf w) Itself is c = absurd is
+      target_there (Name at name) target is c = absurd is
+      target_there (Form at ops.Itself parts) (Types ns) is c = absurd is
+      target_there (Form at ops.Itself parts) Itself is c = one_numbered t.types m kinds.Type_ kinds.Type_ a b da db (subst (IsNumbered t.types a) c na) nb
+      target_there (Form at ops.Listed parts) target is c = absurd is
+      target_there (Form at ops.ClassPermissions parts) target is c = absurd is
+      target_there (Form at ops.Union parts) target is c = absurd is
+      target_there (Form at ops.Not parts) target is c = absurd is
+      target_there (Form at ops.And parts) target is c = absurd is
+      target_there (Form at ops.Or parts) target is c = absurd is
+      target_there (Form at ops.Xor parts) target is c = absurd is
+      target_there (Form at ops.All parts) target is c = absurd is
+      target_there (Form at ops.LeftOut parts) target is c = absurd is
+      target_there (Form at ops.Parameters parts) target is c = absurd is
+      target_there (Form at ops.Parameter parts) target is c = absurd is
+      target_there (Form at ops.TypeKind parts) target is c = absurd is
+      target_there (Form at ops.RoleKind parts) target is c = absurd is
+      target_there (Form at ops.UserKind parts) target is c = absurd is
+      target_there (Form at ops.ClassKind parts) target is c = absurd is
+      target_there (Form at ops.NameKind parts) target is c = absurd is
+      target_there (Form at ops.TextKind parts) target is c = absurd is
+      target_there (Form at ops.Arguments parts) target is c = absurd is
+      target_there (Form at ops.UnreadList parts) target is c = absurd is
+      target_there (Form at ops.UnreadText parts) target is c = absurd is
+
+      number_unique : a ≡ b → n ≡ m
+      number_unique e = one_number t.types n m (name_of a) table.types.rising na (subst (λ z. IsNumbered t.types z m) (sym e) nb)
+
+      target_back : (term : Term ScopedWord) (target : Target) → IsTargetOf xs s t.types term target → IsTarget xs s a b term → Reaches target n m
+      target_back (Leaf w) (Types ns) is st = (is.members m).1 (record { kind = b; stands = st; numbered = nb })
+      target_back (Leaf w) Itself is st = absurd is
+      target_back (Name at name) target is st = absurd is
+      target_back (Form at ops.Itself parts) (Types ns) is st = absurd is
+      target_back (Form at ops.Itself parts) Itself is st = number_unique st
+      target_back (Form at ops.Listed parts) target is st = absurd is
+      target_back (Form at ops.ClassPermissions parts) target is st = absurd is
+      target_back (Form at ops.Union parts) target is st = absurd is
+      target_back (Form at ops.Not parts) target is st = absurd is
+      target_back (Form at ops.And parts) target is st = absurd is
+      target_back (Form at ops.Or parts) target is st = absurd is
+      target_back (Form at ops.Xor parts) target is st = absurd is
+      target_back (Form at ops.All parts) target is st = absurd is
+      target_back (Form at ops.LeftOut parts) target is st = absurd is
+      target_back (Form at ops.Parameters parts) target is st = absurd is
+      target_back (Form at ops.Parameter parts) target is st = absurd is
+      target_back (Form at ops.TypeKind parts) target is st = absurd is
+      target_back (Form at ops.RoleKind parts) target is st = absurd is
+      target_back (Form at ops.UserKind parts) target is st = absurd is
+      target_back (Form at ops.ClassKind parts) target is st = absurd is
+      target_back (Form at ops.NameKind parts) target is st = absurd is
+      target_back (Form at ops.TextKind parts) target is st = absurd is
+      target_back (Form at ops.Arguments parts) target is st = absurd is
+      target_back (Form at ops.UnreadList parts) target is st = absurd is
+      target_back (Form at ops.UnreadText parts) target is st = absurd is
+
+      has_target : (term : Term ScopedWord) → IsTarget xs s a b term → HasTarget xs s term
+      has_target (Leaf w) st = (b, st)
+      has_target (Name at name) st = absurd st
+      has_target (Form at ops.Itself parts) st = tt
+      has_target (Form at ops.Listed parts) st = absurd st
+      has_target (Form at ops.ClassPermissions parts) st = absurd st
+      has_target (Form at ops.Union parts) st = absurd st
+      has_target (Form at ops.Not parts) st = absurd st
+      has_target (Form at ops.And parts) st = absurd st
+      has_target (Form at ops.Or parts) st = absurd st
+      has_target (Form at ops.Xor parts) st = absurd st
+      has_target (Form at ops.All parts) st = absurd st
+      has_target (Form at ops.LeftOut parts) st = absurd st
+      has_target (Form at ops.Parameters parts) st = absurd st
+      has_target (Form at ops.Parameter parts) st = absurd st
+      has_target (Form at ops.TypeKind parts) st = absurd st
+      has_target (Form at ops.RoleKind parts) st = absurd st
+      has_target (Form at ops.UserKind parts) st = absurd st
+      has_target (Form at ops.ClassKind parts) st = absurd st
+      has_target (Form at ops.NameKind parts) st = absurd st
+      has_target (Form at ops.TextKind parts) st = absurd st
+      has_target (Form at ops.Arguments parts) st = absurd st
+      has_target (Form at ops.UnreadList parts) st = absurd st
+      has_target (Form at ops.UnreadText parts) st = absurd st
+
+    module _ (n m : Numbers) (a b : Context) (number bit : ℕ) (c : Symbol) (p : List ℕ) (sa : SameContext xs s t n a) (sb : SameContext xs s t m b)
+        (sp : SamePermission xs s t number bit c p) where
+      allowed_there : IsAllowed t n.kind m.kind number bit → IsCovered xs s keywords.Allow a.kind b.kind c p
+      allowed_there is =
+          let r = is.rule in
+          let k = table.allow.only r is.is_rule in
+          let gives = k.2 in
+          let asked = k.1 in
+          let row : gives.row ≡ sp.row = same_Some _ _ (sym gives.is_row ∙ ap (slice_get t.classes) is.covers.of_class ∙ sp.is_row) in
+          let class_ : k.0.class_ ≡ c =
+          one kinds.Class kinds.Class k.0.class_ c (pair_declared xs s k.0.class_permission k.0.class_ asked.permission.0 asked.permission.1) sp.a_class
+          (sym gives.named ∙ ap (λ z. z.name) row ∙ sp.named) in
+          let has = (gives.mask bit).0 is.covers.permits in
+          let permission : has.permission ≡ p = same_Some _ _ (sym has.is_permission ∙ ap (λ z. slice_get z.permissions bit) row ∙ sp.is_permission) in
+          record {
+            source_word = k.0.source;
+            target_term = k.0.target;
+            class_permission = k.0.class_permission;
+            rule = asked.rule;
+            has_source = stands_there k.0.source n.kind a.kind sa.a_type sa.kind ((gives.source.members n.kind).0 is.covers.has_source);
+            has_target = target_there n.kind m.kind a.kind b.kind sa.a_type sb.a_type sa.kind sb.kind k.0.target r.target gives.target is.covers.has_target;
+            permits = subst (λ q. HasPair xs s k.0.class_permission c q) permission (subst (λ z. HasPair xs s k.0.class_permission z has.permission) class_ has.gives);
+          }
+
+      allowed_back : IsCovered xs s keywords.Allow a.kind b.kind c p → IsAllowed t n.kind m.kind number bit
+      allowed_back is =
+          let k : Case = record { source = is.source_word; target = is.target_term; class_permission = is.class_permission; class_ = c } in
+          let found = table.allow.each k (record {
+            rule = is.rule;
+            source = (a.kind, is.has_source);
+            target = has_target n.kind m.kind a.kind b.kind sa.a_type sb.a_type sa.kind sb.kind is.target_term is.has_target;
+            permission = (p, is.permits);
+          }) in
+          let r = found.0 in
+          let gives = found.1 in
+          let class_number : r.class ≡ number = one_class_number t.classes r.class number gives.row sp.row table.classes.rising gives.is_row sp.is_row (gives.named ∙ sym sp.named) in
+          let row : gives.row ≡ sp.row = same_Some _ _ (sym gives.is_row ∙ ap (slice_get t.classes) class_number ∙ sp.is_row) in
+          record {
+            row = sp.row;
+            is_row = sp.is_row;
+            rule = r;
+            is_rule = found.2;
+            covers = record {
+              has_source = (gives.source.members n.kind).1 (record { kind = a.kind; stands = is.has_source; numbered = sa.kind });
+              has_target = target_back n.kind m.kind a.kind b.kind sa.a_type sb.a_type sa.kind sb.kind is.target_term r.target gives.target is.has_target;
+              of_class = class_number;
+              permits = (gives.mask bit).1 (record { permission = p; is_permission = ap (λ z. slice_get z.permissions bit) row ∙ sp.is_permission; gives = is.permits });
+            };
+          }
+
+    pub table_agrees : Agrees xs s t
+    table_agrees = record {
+      read = reads;
+      found = finds;
+      allowed = λ n m a b number bit c p sa sb sp. (allowed_there n m a b number bit c p sa sb sp, allowed_back n m a b number bit c p sa sb sp);
+    }

@@ -1,0 +1,134 @@
+-- Readable modules compile to tables or have a list of faults: step after step, as the compiler takes them.
+use Rattle.std.proofs.Common.{◌≡◌, ℕ, false, List, map, refl, inl, inr}
+use Rattle.cil_base.specs.Lists.{Lists}
+use Rattle.cil_faults.specs.declared.failure.Failure.TheVariants.{Faults}
+use Rattle.cil_faults.specs.declared.fault.Fault.{Fault}
+use Rattle.cil_syntax.specs.declared.kind.Keyword.{Keyword}
+use Rattle.cil_syntax.specs.declared.kind.Keyword.TheVariants as keywords
+use Rattle.cil_syntax.specs.Laws.{AlwaysHaveProgramOrFaults}
+use Rattle.cil_faults.specs.Laws.{Outcome as StepOutcome, succeeds, fails as step_fails}
+use Rattle.cil_syntax.specs.Written.{Written, IsWritten, ShapeFault, is_macro, written_cmp}
+use Rattle.cil_blocks.specs.Contents.{Standing, Stands, is_named, standing_cmp}
+use Rattle.cil_blocks.specs.InheritFaults.{InheritStep}
+use Rattle.cil_blocks.specs.Laws.{HaveFlatContents}
+use Rattle.cil_macros.specs.Calls.{IsPlaced, placed_cmp}
+use Rattle.cil_macros.specs.ExpandFaults.{ExpandStep}
+use Rattle.cil_macros.specs.Laws.{HaveFlatInstances}
+use Rattle.cil_tables.specs.CompileRefusal.{CompileFails}
+use Rattle.cil_tables.specs.Compiled.{IsTable}
+use Rattle.cil_classes.specs.Faults.{ClassFault}
+use Rattle.cil_names.specs.Faults.{ClashFault, ResolveFault}
+use Rattle.cil_macros.specs.Items.{AreItems, item_of}
+use Rattle.cil_macros.specs.Placed.{Placed}
+use Rattle.cil_macros.specs.Item.{Item, nobody}
+use Rattle.cil_tables.specs.Laws.{AlwaysCompilesOrFails, AreFlatModules, Outcome, compiles, fails}
+use Rattle.cil_tables.specs.Table.{Table, IsOrderly}
+use Rattle.cil_optionals.specs.Greatest.{IsGreatest}
+use Rattle.cil_optionals.specs.Laws.{FlatIsGreatest}
+use Rattle.cil_tables.proofs.AgreesLemmas.{table_agrees}
+use Rattle.cil_tables.proofs.CompileLemmas.{IsFront, clash_fails, expand_fails, front_of, inherit_fails, nothing_wrong, widths_fail, words_fail}
+use Rattle.cil_tables.proofs.FlatLemmas.{AreFlat, one_flat}
+use Rattle.cil_tables.proofs.FlatPrograms.{flat_keyword, flat_statement, items_flat, without_optionals}
+use Rattle.cil_tables.proofs.FiniteFaults.{finite_clashes, finite_unresolved, finite_wide, step_outcome}
+use Rattle.cil_tables.proofs.TablesExist.{tables}
+use Rattle.cil_tables.proofs.WideClasses.{few}
+
+-- ---- tables are orderly where no class is too wide
+
+module _ (xs : List Item) (none : (f : Fault) → ClassFault nobody xs f → ⊥) where
+  orderly : (t : Table) → IsTable xs nobody t → IsOrderly t
+  orderly t is = record {
+    users = is.users.rising;
+    roles = is.roles.rising;
+    types = is.types.rising;
+    classes = is.classes.rising;
+    each_class = λ row c. let k = is.classes.only row c in record { permissions = k.2.permissions.rising; few = few xs nobody none k.0 row k.1 k.2 };
+    user_roles = is.user_roles.rising;
+    role_types = is.role_types.rising;
+  }
+
+-- ---- the steps
+
+module _ (modules : List (List ℕ)) (program : List Written) (is_program : Lists written_cmp (IsWritten modules) program) (standings : List Standing)
+    (are_standings : Lists standing_cmp (Stands program) standings) (placed : List Placed) (are_placed : Lists placed_cmp (IsPlaced program standings) placed) (modules_flat : AreFlatModules modules)
+    (front : IsFront modules) (without : FlatIsGreatest) where
+  items : List Item
+  items = map (item_of program standings placed) placed
+
+  are_items : AreItems modules items
+  unfolding items
+  are_items = record {
+    program = program;
+    is_program = is_program;
+    standings = standings;
+    are_standings = are_standings;
+    placed = placed;
+    are_placed = are_placed;
+    items = refl;
+  }
+
+  flat : AreFlat items
+  unfolding items
+  flat =
+      items_flat program (λ w c. flat_statement modules modules_flat w ((is_program.members w).0 c)) standings (λ s c. (are_standings.members s).0 c) placed are_placed
+
+  greatest : IsGreatest items nobody
+  unfolding items
+  greatest =
+      without items
+      (without_optionals program standings (λ s c. (are_standings.members s).0 c) (flat_keyword modules modules_flat program is_program) placed are_placed)
+
+  failed : (fs : List Fault) → CompileFails modules (Faults fs) → Outcome modules
+  failed fs h = fails fs h.0 h.1
+
+  without_faults : ((f : Fault) → ClashFault items f → ⊥) → ((f : Fault) → ResolveFault nobody items f → ⊥) → ((f : Fault) → ClassFault nobody items f → ⊥) → Outcome modules
+  without_faults apart named narrow =
+      let t = tables items flat in
+      compiles t.0 (orderly items narrow t.0 t.1) (record {
+        items = items;
+        enabled = nobody;
+        policy = record { are_items = are_items; greatest = greatest };
+        no_faults = nothing_wrong modules items are_items front apart nobody greatest named narrow;
+        table = t.1;
+        agrees = table_agrees items nobody (one_flat items flat) t.0 t.1;
+      })
+
+  outcome : Outcome modules
+  outcome = elim (step_outcome (ClashFault items) (finite_clashes items)) [
+    | inl clash ↦ failed clash.0 (clash_fails modules items are_items front (Faults clash.0) clash.1)
+    | inr apart ↦ elim (step_outcome (ResolveFault nobody items) (finite_unresolved items nobody)) [
+      | inl lost ↦ failed lost.0 (words_fail modules items are_items front apart nobody greatest (Faults lost.0) lost.1)
+      | inr named ↦ elim (step_outcome (ClassFault nobody items) (finite_wide items nobody)) [
+        | inl broad ↦ failed broad.0 (widths_fail modules items are_items front apart nobody greatest named (Faults broad.0) broad.1)
+        | inr narrow ↦ without_faults apart named narrow
+      ]
+    ]
+  ]
+
+not_macro : (k : Keyword) → is_named k ≡ false → is_macro k ≡ false
+not_macro keywords.Macro e = cc
+not_macro k e = refl
+
+by_calls : FlatIsGreatest → (modules : List (List ℕ)) (program : List Written) (standings : List Standing) → AreFlatModules modules → Lists written_cmp (IsWritten modules) program
+    → ((f : Fault) → ShapeFault modules f → ⊥) → Lists standing_cmp (Stands program) standings → ((f : Fault) → InheritStep program f → ⊥)
+    → StepOutcome (Lists placed_cmp (IsPlaced program standings)) (ExpandStep program standings) → Outcome modules
+by_calls without modules program standings modules_flat is shape are blocks (succeeds placed all calls) =
+    outcome modules program is standings are placed all modules_flat (front_of modules program standings is are shape blocks calls) without
+by_calls without modules program standings modules_flat is shape are blocks (step_fails faults wrong) =
+    let refused = expand_fails modules program standings is are shape blocks (Faults faults) wrong in fails faults refused.0 refused.1
+
+by_blocks : HaveFlatInstances → FlatIsGreatest → (modules : List (List ℕ)) (program : List Written) → AreFlatModules modules → Lists written_cmp (IsWritten modules) program
+    → ((f : Fault) → ShapeFault modules f → ⊥) → StepOutcome (Lists standing_cmp (Stands program)) (InheritStep program) → Outcome modules
+by_blocks instances without modules program modules_flat is shape (succeeds contents are blocks) =
+    by_calls without modules program contents modules_flat is shape are blocks
+    (instances program contents is.rising are (λ w c. not_macro w.statement.keyword (flat_statement modules modules_flat w ((is.members w).0 c)).no_name))
+by_blocks instances without modules program modules_flat is shape (step_fails faults are) =
+    let refused = inherit_fails modules program is shape (Faults faults) are in fails faults refused.0 refused.1
+
+by_shape : HaveFlatContents → HaveFlatInstances → FlatIsGreatest → (modules : List (List ℕ)) → AreFlatModules modules → StepOutcome (Lists written_cmp (IsWritten modules)) (ShapeFault modules) → Outcome modules
+by_shape blocks instances without modules modules_flat (succeeds program is none) =
+    by_blocks instances without modules program modules_flat is none (blocks program is.rising (λ w c. flat_statement modules modules_flat w ((is.members w).0 c)))
+by_shape blocks instances without modules modules_flat (step_fails faults are) = fails faults (inl are) are.some
+
+pub always_compiles_or_fails : AlwaysHaveProgramOrFaults → HaveFlatContents → HaveFlatInstances → FlatIsGreatest → AlwaysCompilesOrFails
+always_compiles_or_fails law blocks instances without modules readable modules_flat = by_shape blocks instances without modules modules_flat (law modules readable)

@@ -1,0 +1,132 @@
+-- The records of tables are finite: links, and the cases of rules.
+use Rattle.std.specs.Prelude.{Contains}
+use Rattle.std.proofs.Common.{◌≡◌, ℕ, true, List, refl, ap, subst, inl, inr}
+use Rattle.cil_base.specs.Decided.{Decided, decided_both, same_bool}
+use Rattle.cil_syntax.specs.declared.kind.Keyword.{Keyword}
+use Rattle.cil_syntax.specs.declared.kind.Kind.{Kind}
+use Rattle.cil_syntax.specs.declared.kind.Kind.TheVariants as kinds
+use Rattle.cil_syntax.specs.declared.term.Op.TheVariants as ops
+use Rattle.cil_syntax.specs.Terms.{Term, Leaf, Name, Form, nil, cons}
+use Rattle.cil_tables.specs.declared.tables.Link.{Link}
+use Rattle.cil_rules.specs.Records.{Case, HasTarget, IsCase}
+use Rattle.cil_tables.specs.Links.{IsLink}
+use Rattle.cil_names.specs.Known.{IsNumbered}
+use Rattle.cil_syntax.proofs.DecidedEquality.{keyword_is}
+use Rattle.cil_names.specs.Declarations.{Symbol, name_of}
+use Rattle.cil_macros.specs.Item.{Item, OptSet, is_enabled}
+use Rattle.cil_syntax.specs.Scopes.{ScopedWord}
+use Rattle.cil_names.specs.Members.{StandsFor}
+use Rattle.cil_classes.specs.Pairs.{HasPair}
+use Rattle.cil_tables.proofs.Finite.{Finite, decided_some, finite_all, finite_given, finite_list, finite_one, finite_same}
+use Rattle.cil_tables.proofs.FinitePolicy.{Three, finite_classes, finite_numbers, finite_stands, finite_three, finite_two}
+
+module _ (xs : List Item) (s : OptSet) (keyword : Keyword) where
+  -- an enabled statement with this first word
+  abbrev IsOn : Item → Type 0
+  IsOn x = (is_enabled s x ≡ true) × (x.keyword ≡ keyword)
+
+  decided_on : (x : Item) → Decided (IsOn x)
+  decided_on x = decided_both (same_bool (is_enabled s x) true) (keyword_is x.keyword keyword)
+
+  -- ---- links
+
+  module _ (holder_kind held_kind : Kind) (holders helds : List (List ℕ)) where
+    link_of : ℕ → ℕ → Link
+    link_of m n = record { holder = m; held = n }
+
+    abbrev Numbers : Symbol → Symbol → Link → Type 0
+    Numbers t u l = (m : ℕ) × IsNumbered holders t m × ((n : ℕ) × IsNumbered helds u n × (link_of m n ≡ l))
+
+    finite_pair_numbers : (t u : Symbol) → Finite (Numbers t u)
+    finite_pair_numbers t u =
+        finite_all (λ m l. (n : ℕ) × IsNumbered helds u n × (link_of m n ≡ l)) (IsNumbered holders t) (finite_numbers holders (name_of t))
+        (λ m e. finite_all (λ n l. link_of m n ≡ l) (IsNumbered helds u) (finite_numbers helds (name_of u)) (λ n f. finite_one (link_of m n)))
+
+    abbrev Joins : ScopedWord × ScopedWord → Link → Type 0
+    Joins p l = (t : Symbol) × StandsFor xs s holder_kind p.0 t × ((u : Symbol) × StandsFor xs s held_kind p.1 u × Numbers t u l)
+
+    finite_joins : (p : ScopedWord × ScopedWord) → Finite (Joins p)
+    finite_joins p =
+        finite_all (λ t l. (u : Symbol) × StandsFor xs s held_kind p.1 u × Numbers t u l) (StandsFor xs s holder_kind p.0) (finite_stands xs s holder_kind p.0)
+        (λ t st. finite_all (λ u l. Numbers t u l) (StandsFor xs s held_kind p.1) (finite_stands xs s held_kind p.1) (λ u su. finite_pair_numbers t u))
+
+    abbrev Links : Item → Link → Type 0
+    Links x l = IsOn x × ((p : ScopedWord × ScopedWord) × (x.args ≡ cons (Leaf p.0) (cons (Leaf p.1) nil)) × Joins p l)
+
+    finite_links_of : (x : Item) → Finite (Links x)
+    finite_links_of x =
+        finite_given (IsOn x) (λ l. (p : ScopedWord × ScopedWord) × (x.args ≡ cons (Leaf p.0) (cons (Leaf p.1) nil)) × Joins p l) (decided_on x)
+        (finite_all Joins (λ p. x.args ≡ cons (Leaf p.0) (cons (Leaf p.1) nil)) (finite_two x.args) (λ p e. finite_joins p))
+
+    pub finite_links : Finite (IsLink xs s keyword holder_kind held_kind holders helds)
+    unfolding link_of
+    finite_links =
+        finite_same (λ l. (x : Item) × Contains xs x × Links x l) (IsLink xs s keyword holder_kind held_kind holders helds)
+        (λ l h. let x = h.0 in let j = h.2.1 in let t = j.2 in let u = t.2 in let m = u.2 in let n = m.2 in record {
+          holder = t.0;
+          held = u.0;
+          joined = record {
+            holder_word = j.0.0;
+            held_word = j.0.1;
+            statement = record { item = x; is_item = h.1; enabled = h.2.0.0; is_keyword = h.2.0.1; says = j.1 };
+            has_holder = t.1;
+            has_held = u.1;
+          };
+          holder_number = subst (λ k. IsNumbered holders t.0 k) (ap (λ (k : Link). k.holder) n.2) m.1;
+          held_number = subst (λ k. IsNumbered helds u.0 k) (ap (λ (k : Link). k.held) n.2) n.1;
+        })
+        (λ l is. let j = is.joined in let a = j.statement in (
+          a.item,
+          a.is_item,
+          (
+            (a.enabled, a.is_keyword),
+            (
+              (j.holder_word, j.held_word),
+              a.says,
+              (is.holder, j.has_holder, (is.held, j.has_held, (l.holder, is.holder_number, (l.held, is.held_number, refl)))),
+            ),
+          ),
+        ))
+        (finite_all Links (Contains xs) (finite_list xs) (λ x c. finite_links_of x))
+
+  -- ---- cases
+
+  decided_target : (t : Term ScopedWord) → Decided (HasTarget xs s t)
+  decided_target (Leaf w) = decided_some (StandsFor xs s kinds.Type_ w) (finite_stands xs s kinds.Type_ w)
+  decided_target (Name at bytes) = inr (λ h. h)
+  decided_target (Form at ops.Itself parts) = inl tt
+  decided_target (Form at op parts) = inr (λ h. h)
+
+  case_of : Three → Symbol → Case
+  case_of q c = record { source = q.0; target = q.1; class_permission = q.2; class_ = c }
+
+  abbrev Reaches : Three → Type 0
+  Reaches q = ((t : Symbol) × StandsFor xs s kinds.Type_ q.0 t) × HasTarget xs s q.1
+
+  abbrev Cases : Item → Case → Type 0
+  Cases x k =
+      IsOn x × ((q : Three) × (x.args ≡ cons (Leaf q.0) (cons q.1 (cons q.2 nil)))
+      × (Reaches q × ((c : Symbol) × ((p : List ℕ) × HasPair xs s q.2 c p) × (case_of q c ≡ k))))
+
+  finite_cases_of : (x : Item) → Finite (Cases x)
+  finite_cases_of x =
+      finite_given (IsOn x) _ (decided_on x)
+      (finite_all (λ q k. Reaches q × ((c : Symbol) × ((p : List ℕ) × HasPair xs s q.2 c p) × (case_of q c ≡ k)))
+      (λ q. x.args ≡ cons (Leaf q.0) (cons q.1 (cons q.2 nil))) (finite_three x.args)
+      (λ q e. finite_given (Reaches q) (λ k. (c : Symbol) × ((p : List ℕ) × HasPair xs s q.2 c p) × (case_of q c ≡ k))
+      (decided_both (decided_some (StandsFor xs s kinds.Type_ q.0) (finite_stands xs s kinds.Type_ q.0)) (decided_target q.1))
+      (finite_all (λ c k. case_of q c ≡ k) (λ c. (p : List ℕ) × HasPair xs s q.2 c p) (finite_classes xs s q.2) (λ c h. finite_one (case_of q c)))))
+
+  pub finite_cases : Finite (IsCase xs s keyword)
+  unfolding case_of
+  finite_cases =
+      finite_same (λ k. (x : Item) × Contains xs x × Cases x k) (IsCase xs s keyword)
+      (λ k h. let q = h.2.1 in subst (IsCase xs s keyword) q.2.1.2 (record {
+        rule = record { item = h.0; is_item = h.1; enabled = h.2.0.0; is_keyword = h.2.0.1; says = q.1 };
+        source = q.2.0.0;
+        target = q.2.0.1;
+        permission = q.2.1.1;
+      }))
+      (λ k is. let a = is.rule in
+      (a.item, a.is_item, ((a.enabled, a.is_keyword), ((k.source, k.target, k.class_permission), a.says, ((is.source, is.target), (k.class_, is.permission, refl))))))
+      (finite_all Cases (Contains xs) (finite_list xs) (λ x c. finite_cases_of x))

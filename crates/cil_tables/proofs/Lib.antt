@@ -1,0 +1,16 @@
+pub mod AgreesLemmas
+pub mod AlwaysCompiles
+pub mod CompileLemmas
+pub mod Finite
+pub mod FiniteFaults
+pub mod FinitePolicy
+pub mod FiniteRecords
+pub mod FlatLemmas
+pub mod FlatPrograms
+pub mod JoinLemmas
+pub mod LinkLemmas
+pub mod NamedLemmas
+pub mod OneTable
+pub mod PlainLemmas
+pub mod TablesExist
+pub mod WideClasses

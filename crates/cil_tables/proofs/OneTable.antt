@@ -1,0 +1,163 @@
+-- Modules have one answer.
+use Rattle.std.specs.Prelude.{Contains, ◌↔◌, slice_get, IsBitSet}
+use Rattle.std.specs.Ordering.{nat_cmp}
+use Rattle.std.specs.Int.{bit_at}
+use Rattle.std.specs.List.Sorted.{IsStrictlySortedBy}
+use Rattle.std.proofs.lemmas.Nat.Bits.{bit_at-lt, same_from_bits}
+use Rattle.std.proofs.Common.{◌≡◌, ℕ, zero, suc, true, ◌<◌, List, [], ◌∷◌, refl, sym, ◌∙◌, ap, subst, inl, inr, arith}
+use Rattle.std.proofs.lemmas.Cmp.{nat_cmp_total, nat_list_cmp_total, on_total}
+use Rattle.cil_base.specs.Lists.{Lists, text_cmp, one_list, same_members}
+use Rattle.cil_faults.specs.declared.fault.Fault.{Fault}
+use Rattle.cil_syntax.specs.declared.kind.Keyword.TheVariants as keywords
+use Rattle.cil_syntax.specs.declared.kind.Kind.TheVariants as kinds
+use Rattle.cil_syntax.specs.declared.term.Op.TheVariants as ops
+use Rattle.cil_faults.specs.Fails.{AreFaults}
+use Rattle.cil_faults.specs.FaultOrder.{fault_cmp, fault_total}
+use Rattle.cil_syntax.specs.Terms.{Term, Leaf, Name, Form}
+use Rattle.cil_classes.specs.declared.row.Class.{Class}
+use Rattle.cil_rules.specs.declared.rule.Rule.{Rule}
+use Rattle.cil_rules.specs.declared.rule.Target.{Target}
+use Rattle.cil_rules.specs.declared.rule.Target.TheVariants.{Types, Itself}
+use Rattle.cil_tables.specs.Agrees.{Compiles}
+use Rattle.cil_rules.specs.Records.{Case, HasBit, HasNumber, IsRuleOf, IsTargetOf}
+use Rattle.cil_tables.specs.Links.{IsLink}
+use Rattle.cil_tables.specs.Compiled.{IsNameOf, IsTable}
+use Rattle.cil_classes.specs.ClassRows.{IsRowOf}
+use Rattle.std.proofs.lemmas.Option.{same_Some}
+use Rattle.cil_names.specs.Declarations.{Symbol}
+use Rattle.cil_faults.specs.First.{AreFirst}
+use Rattle.cil_tables.specs.Faults.{ArePolicyFaults, steps}
+use Rattle.cil_macros.specs.Item.{Item, OptSet}
+use Rattle.cil_syntax.specs.Scopes.{ScopedWord}
+use Rattle.cil_names.specs.Resolves.{has_permission}
+use Rattle.cil_tables.specs.Table.{Table, link_cmp, link_total}
+use Rattle.cil_classes.specs.Row.{class_cmp}
+use Rattle.cil_rules.specs.Order.{rule_cmp, rule_total, same_rules}
+use Rattle.cil_tables.proofs.AgreesLemmas.{one_class_number}
+use Rattle.cil_classes.proofs.BitLemmas.{set_is_one}
+use Rattle.cil_tables.proofs.CompileLemmas.{policy_moved}
+
+-- ---- one list of faults
+
+never_empty : (P : Fault → Type 0) (f g : List Fault) → AreFaults P f → g ≡ [] → ((x : Fault) → P x → ⊥) → ⊥
+never_empty P [] g a e none = let h = a.some in omega (arith, h)
+never_empty P (x ∷ f) g a e none = none x ((a.listed.members x).0 (0, omega arith, refl))
+
+one_first : (ss : List (Fault → Type 0)) (f g : List Fault) → AreFirst ss f → AreFirst ss g → f ≡ g
+one_first [] f g a b = a ∙ sym b
+one_first (step ∷ ss) f g (inl a) (inl b) = one_list fault_cmp fault_total step f g a.listed b.listed
+one_first (step ∷ ss) f g (inl a) (inr b) = absurd (never_empty step f [] a refl b.0)
+one_first (step ∷ ss) f g (inr a) (inl b) = absurd (never_empty step g [] b refl a.0)
+one_first (step ∷ ss) f g (inr a) (inr b) = one_first ss f g a.1 b.1
+
+pub one_list_of_faults : (modules : List (List ℕ)) (faults others : List Fault) → ArePolicyFaults modules faults → ArePolicyFaults modules others → faults ≡ others
+one_list_of_faults modules faults others a b = one_first (steps modules) faults others a b
+
+-- ---- one table
+
+below_two : (m n : ℕ) → m < 2 → n < 2 → (m ≡ 1 → n ≡ 1) → (n ≡ 1 → m ≡ 1) → m ≡ n
+below_two zero zero l k there back = refl
+below_two zero (suc zero) l k there back = back refl
+below_two (suc zero) zero l k there back = sym (there refl)
+below_two (suc zero) (suc zero) l k there back = refl
+below_two (suc (suc m)) n l k there back = absurd (omega (arith, l))
+below_two m (suc (suc n)) l k there back = absurd (omega (arith, k))
+
+-- masks with the same bits are one
+same_masks : (a b : ℕ) → ((bit : ℕ) → IsBitSet a bit ↔ IsBitSet b bit) → a ≡ b
+same_masks a b same =
+    same_from_bits a b
+    (λ i. below_two (bit_at a i) (bit_at b i) (bit_at-lt a i) (bit_at-lt b i) (λ e. (set_is_one b i).0 ((same i).0 ((set_is_one a i).1 e)))
+    (λ e. (set_is_one a i).0 ((same i).1 ((set_is_one b i).1 e))))
+
+same_row : (a b : Class) → a.name ≡ b.name → a.permissions ≡ b.permissions → a ≡ b
+same_row a b n p = λ i. record { name = n i; permissions = p i }
+
+same_table : (t u : Table) → t.users ≡ u.users → t.roles ≡ u.roles → t.types ≡ u.types → t.classes ≡ u.classes → t.user_roles ≡ u.user_roles
+    → t.role_types ≡ u.role_types → t.allow ≡ u.allow → t ≡ u
+same_table t u a b c d e f g =
+    λ i. record { users = a i; roles = b i; types = c i; classes = d i; user_roles = e i; role_types = f i; allow = g i }
+
+module _ (xs : List Item) (s : OptSet) where
+  one_row : (c : Symbol) (a b : Class) → IsRowOf xs c a → IsRowOf xs c b → a ≡ b
+  one_row c a b p q =
+      same_row a b (p.named ∙ sym q.named)
+      (one_list text_cmp nat_list_cmp_total (λ z. has_permission xs c z ≡ true) a.permissions b.permissions p.permissions q.permissions)
+
+  module _ (types : List (List ℕ)) (classes : List Class) where
+    one_target : (term : Term ScopedWord) (a b : Target) → IsTargetOf xs s types term a → IsTargetOf xs s types term b → a ≡ b
+    one_target (Leaf w) (Types m) (Types n) p q = ap Types (one_list nat_cmp nat_cmp_total (HasNumber xs s types w) m n p q)
+    one_target (Leaf w) (Types m) Itself p q = absurd q
+    one_target (Leaf w) Itself b p q = absurd p
+    one_target (Name at name) a b p q = absurd p
+    one_target (Form at ops.Itself parts) Itself Itself p q = refl
+    one_target (Form at ops.Itself parts) (Types m) b p q = absurd p
+    one_target (Form at ops.Itself parts) Itself (Types m) p q = absurd q
+    one_target (Form at ops.Listed parts) a b p q = absurd p
+    one_target (Form at ops.ClassPermissions parts) a b p q = absurd p
+    one_target (Form at ops.Union parts) a b p q = absurd p
+    one_target (Form at ops.Not parts) a b p q = absurd p
+    one_target (Form at ops.And parts) a b p q = absurd p
+    one_target (Form at ops.Or parts) a b p q = absurd p
+    one_target (Form at ops.Xor parts) a b p q = absurd p
+    one_target (Form at ops.All parts) a b p q = absurd p
+    one_target (Form at ops.LeftOut parts) a b p q = absurd p
+    one_target (Form at ops.Parameters parts) a b p q = absurd p
+    one_target (Form at ops.Parameter parts) a b p q = absurd p
+    one_target (Form at ops.TypeKind parts) a b p q = absurd p
+    one_target (Form at ops.RoleKind parts) a b p q = absurd p
+    one_target (Form at ops.UserKind parts) a b p q = absurd p
+    one_target (Form at ops.ClassKind parts) a b p q = absurd p
+    one_target (Form at ops.NameKind parts) a b p q = absurd p
+    one_target (Form at ops.TextKind parts) a b p q = absurd p
+    one_target (Form at ops.Arguments parts) a b p q = absurd p
+    one_target (Form at ops.UnreadList parts) a b p q = absurd p
+    one_target (Form at ops.UnreadText parts) a b p q = absurd p
+
+    one_record : (k : Case) (a b : Rule) → IsStrictlySortedBy class_cmp classes → IsRuleOf xs s types classes k a → IsRuleOf xs s types classes k b → a ≡ b
+    one_record k a b rising p q =
+        let number = one_class_number classes a.class b.class p.row q.row rising p.is_row q.is_row (p.named ∙ sym q.named) in
+        let row : p.row ≡ q.row = same_Some _ _ (sym p.is_row ∙ ap (slice_get classes) number ∙ q.is_row) in
+        same_rules a b (one_list nat_cmp nat_cmp_total (HasNumber xs s types k.source) a.source b.source p.source q.source)
+        (one_target k.target a.target b.target p.target q.target) number
+        (same_masks a.mask b.mask (λ bit. (
+          (λ b. (q.mask bit).1 (subst (λ r. HasBit xs s k r bit) row ((p.mask bit).0 b))),
+          (λ b. (p.mask bit).1 (subst (λ r. HasBit xs s k r bit) (sym row) ((q.mask bit).0 b))),
+        )))
+
+  module _ (t u : Table) (a : IsTable xs s t) (b : IsTable xs s u) where
+    rows_within : (t u : Table) → IsTable xs s t → IsTable xs s u → (r : Class) → Contains t.classes r → Contains u.classes r
+    rows_within t u a b r c =
+        let k = a.classes.only r c in
+        let q = b.classes.each k.0 k.1 in
+        subst (Contains u.classes) (one_row k.0 q.0 r q.1 k.2) q.2
+
+    one_classes : t.classes ≡ u.classes
+    one_classes = same_members class_cmp (on_total (λ c. c.name) nat_list_cmp_total) t.classes u.classes a.classes.rising b.classes.rising (rows_within t u a b) (rows_within u t b a)
+
+    rules_within : (t u : Table) → IsTable xs s t → IsTable xs s u → t.types ≡ u.types → t.classes ≡ u.classes → (r : Rule) → Contains t.allow r → Contains u.allow r
+    rules_within t u a b types classes r c =
+        let k = a.allow.only r c in
+        let q = b.allow.each k.0 k.1 in
+        let here = subst (λ z. IsRuleOf xs s z u.classes k.0 r) types (subst (λ z. IsRuleOf xs s t.types z k.0 r) classes k.2) in
+        subst (Contains u.allow) (one_record u.types u.classes k.0 q.0 r b.classes.rising q.1 here) q.2
+
+    pub equal_tables : t ≡ u
+    equal_tables =
+        let users : t.users ≡ u.users = one_list text_cmp nat_list_cmp_total (IsNameOf xs s kinds.User) t.users u.users a.users b.users in
+        let roles : t.roles ≡ u.roles = one_list text_cmp nat_list_cmp_total (IsNameOf xs s kinds.Role) t.roles u.roles a.roles b.roles in
+        let types : t.types ≡ u.types = one_list text_cmp nat_list_cmp_total (IsNameOf xs s kinds.Type_) t.types u.types a.types b.types in
+        let user_roles : Lists link_cmp (IsLink xs s keywords.UserRole kinds.User kinds.Role u.users u.roles) t.user_roles =
+        subst (λ z. Lists link_cmp (IsLink xs s keywords.UserRole kinds.User kinds.Role u.users z) t.user_roles) roles
+        (subst (λ z. Lists link_cmp (IsLink xs s keywords.UserRole kinds.User kinds.Role z t.roles) t.user_roles) users a.user_roles) in
+        let role_types : Lists link_cmp (IsLink xs s keywords.RoleType kinds.Role kinds.Type_ u.roles u.types) t.role_types =
+        subst (λ z. Lists link_cmp (IsLink xs s keywords.RoleType kinds.Role kinds.Type_ u.roles z) t.role_types) types
+        (subst (λ z. Lists link_cmp (IsLink xs s keywords.RoleType kinds.Role kinds.Type_ z t.types) t.role_types) roles a.role_types) in
+        same_table t u users roles types one_classes
+        (one_list link_cmp link_total (IsLink xs s keywords.UserRole kinds.User kinds.Role u.users u.roles) t.user_roles u.user_roles user_roles b.user_roles)
+        (one_list link_cmp link_total (IsLink xs s keywords.RoleType kinds.Role kinds.Type_ u.roles u.types) t.role_types u.role_types role_types b.role_types)
+        (same_members rule_cmp rule_total t.allow u.allow a.allow.rising b.allow.rising (rules_within t u a b types one_classes) (rules_within u t b a (sym types) (sym one_classes)))
+
+pub one_table : (modules : List (List ℕ)) (t u : Table) → Compiles modules t → Compiles modules u → t ≡ u
+one_table modules t u a b =
+    equal_tables b.items b.enabled t u (policy_moved modules a.items b.items a.enabled b.enabled a.policy b.policy (λ ys r. IsTable ys r t) a.table) b.table

@@ -1,0 +1,50 @@
+-- What tables say is what the policy says. This project's profile.
+use Rattle.std.specs.Prelude.{◌≡◌, ◌↔◌, ℕ, List, [], slice_get, Some}
+use Rattle.cil_syntax.specs.declared.kind.Keyword.TheVariants as keywords
+use Rattle.cil_syntax.specs.declared.kind.Kind.TheVariants as kinds
+use Rattle.cil_tables.specs.declared.context.Context.{Context as Numbers}
+use Rattle.cil_classes.specs.declared.row.Class.{Class}
+use Rattle.cil_tables.specs.Contexts.{Context, IsValid}
+use Rattle.cil_rules.specs.Covered.{IsCovered}
+use Rattle.cil_names.specs.Known.{IsNumbered}
+use Rattle.cil_tables.specs.Compiled.{IsTable}
+use Rattle.cil_names.specs.Declarations.{Declared, Symbol, name_of}
+use Rattle.cil_tables.specs.Faults.{ArePolicyFaults}
+use Rattle.cil_macros.specs.Item.{Item, OptSet}
+use Rattle.cil_optionals.specs.Policy.{ArePolicy}
+use Rattle.cil_tables.specs.Meaning.{IsContext, IsAllowed}
+use Rattle.cil_tables.specs.Table.{Table}
+
+-- the numbers of a context are those of three declared symbols
+pub record SameContext (xs : List Item) (s : OptSet) (t : Table) (n : Numbers) (c : Context) : Type 0 where
+  pub user : IsNumbered t.users c.user n.user
+  pub role : IsNumbered t.roles c.role n.role
+  pub kind : IsNumbered t.types c.kind n.kind
+  pub a_user : Declared xs s kinds.User c.user
+  pub a_role : Declared xs s kinds.Role c.role
+  pub a_type : Declared xs s kinds.Type_ c.kind
+
+-- the number and the bit are those of a permission of a declared class
+pub record SamePermission (xs : List Item) (s : OptSet) (t : Table) (number bit : ℕ) (c : Symbol) (permission : List ℕ) : Type 0 where
+  pub row : Class
+  pub is_row : slice_get t.classes number ≡ Some row
+  pub named : row.name ≡ name_of c
+  pub a_class : Declared xs s kinds.Class c
+  pub is_permission : slice_get row.permissions bit ≡ Some permission
+
+-- the tables admit the contexts that are valid, and allow what an enabled rule covers
+pub record Agrees (xs : List Item) (s : OptSet) (t : Table) : Type 0 where
+  pub read : (text : List ℕ) (n : Numbers) → IsContext t text n → (c : Context) × IsValid xs s text c × SameContext xs s t n c
+  pub found : (text : List ℕ) (c : Context) → IsValid xs s text c → (n : Numbers) × IsContext t text n × SameContext xs s t n c
+  pub allowed : (n m : Numbers) (a b : Context) (number bit : ℕ) (c : Symbol) (permission : List ℕ) → SameContext xs s t n a → SameContext xs s t m b
+      → SamePermission xs s t number bit c permission
+      → IsAllowed t n.kind m.kind number bit ↔ IsCovered xs s keywords.Allow a.kind b.kind c permission
+
+-- modules compile to the tables: they have no fault, the tables are those of their policy, and they say what it says
+pub record Compiles (modules : List (List ℕ)) (t : Table) : Type 0 where
+  pub items : List Item
+  pub enabled : OptSet
+  pub policy : ArePolicy modules items enabled
+  pub no_faults : ArePolicyFaults modules []
+  pub table : IsTable items enabled t
+  pub agrees : Agrees items enabled t

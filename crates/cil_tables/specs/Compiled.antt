@@ -1,0 +1,32 @@
+-- The tables of a policy: each section is the list of a set of records, in its order. This project's profile.
+use Rattle.std.specs.Prelude.{◌≡◌, ℕ, List}
+use Rattle.cil_base.specs.Gives.{Gives}
+use Rattle.cil_base.specs.Lists.{Lists, text_cmp}
+use Rattle.cil_syntax.specs.declared.kind.Keyword.TheVariants as keywords
+use Rattle.cil_syntax.specs.declared.kind.Kind.{Kind}
+use Rattle.cil_syntax.specs.declared.kind.Kind.TheVariants as kinds
+use Rattle.cil_classes.specs.declared.row.Class.{Class}
+use Rattle.cil_names.specs.Declarations.{Declared, Symbol, name_of}
+use Rattle.cil_macros.specs.Item.{Item, OptSet}
+use Rattle.cil_tables.specs.Table.{Table, link_cmp}
+use Rattle.cil_classes.specs.Row.{class_cmp}
+use Rattle.cil_rules.specs.Order.{rule_cmp}
+use Rattle.cil_classes.specs.ClassRows.{IsRowOf}
+use Rattle.cil_tables.specs.Links.{IsLink}
+use Rattle.cil_rules.specs.Records.{IsCase, IsRuleOf}
+
+-- the qualified name of a declared symbol of this kind
+pub record IsNameOf (xs : List Item) (s : OptSet) (kind : Kind) (name : List ℕ) : Type 0 where
+  pub symbol : Symbol
+  pub declared : Declared xs s kind symbol
+  pub named : name_of symbol ≡ name
+
+-- the tables of items, where these optionals are enabled
+pub record IsTable (xs : List Item) (s : OptSet) (t : Table) : Type 0 where
+  pub users : Lists text_cmp (IsNameOf xs s kinds.User) t.users
+  pub roles : Lists text_cmp (IsNameOf xs s kinds.Role) t.roles
+  pub types : Lists text_cmp (IsNameOf xs s kinds.Type_) t.types
+  pub classes : Gives class_cmp (Declared xs s kinds.Class) (IsRowOf xs) t.classes
+  pub user_roles : Lists link_cmp (IsLink xs s keywords.UserRole kinds.User kinds.Role t.users t.roles) t.user_roles
+  pub role_types : Lists link_cmp (IsLink xs s keywords.RoleType kinds.Role kinds.Type_ t.roles t.types) t.role_types
+  pub allow : Gives rule_cmp (IsCase xs s keywords.Allow) (IsRuleOf xs s t.types t.classes) t.allow

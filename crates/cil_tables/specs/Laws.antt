@@ -1,0 +1,43 @@
+-- Laws of policies: modules have one answer, tables or a list of faults. This project's profile.
+use Rattle.std.specs.Prelude.{◌≡◌, ℕ, ◌<◌, Bool, true, false, List, length}
+use Rattle.cil_faults.specs.declared.fault.Fault.{Fault}
+use Rattle.cil_syntax.specs.declared.kind.Keyword.{Keyword}
+use Rattle.cil_syntax.specs.declared.kind.Keyword.TheVariants as keywords
+use Rattle.cil_syntax.specs.Laws.{AreReadable}
+use Rattle.cil_syntax.specs.Written.{IsWritten, Written}
+use Rattle.cil_tables.specs.Agrees.{Compiles}
+use Rattle.cil_tables.specs.Faults.{ArePolicyFaults}
+use Rattle.cil_tables.specs.Table.{Table, IsOrderly}
+
+-- modules compile to one table
+abbrev pub HasOneTable : Type 0
+HasOneTable = (modules : List (List ℕ)) (t u : Table) → Compiles modules t → Compiles modules u → t ≡ u
+
+-- modules have one list of faults, which is empty where they compile
+abbrev pub HasOneListOfFaults : Type 0
+HasOneListOfFaults = (modules : List (List ℕ)) (faults others : List Fault) → ArePolicyFaults modules faults → ArePolicyFaults modules others → faults ≡ others
+
+-- what the contract of `compile` accepts of tables and of faults, memory apart: tables to which the modules compile, or the list of their faults.
+-- The lines that tell of optionals are no part of it
+pub data Outcome (modules : List (List ℕ)) : Type 0 where
+  compiles : (t : Table) → IsOrderly t → Compiles modules t → Outcome modules
+  fails : (faults : List Fault) → ArePolicyFaults modules faults → 0 < length faults → Outcome modules
+
+-- what is neither a block, a macro or an optional, nor opens one
+abbrev pub is_flat : Keyword → Bool
+is_flat keywords.Block = false
+is_flat keywords.BlockAbstract = false
+is_flat keywords.BlockInherit = false
+is_flat keywords.Macro = false
+is_flat keywords.Call = false
+is_flat keywords.Optional = false
+is_flat keyword = true
+
+-- all that is written in the modules is such
+abbrev pub AreFlatModules : List (List ℕ) → Type 0
+AreFlatModules modules = (w : Written) → IsWritten modules w → is_flat w.statement.keyword ≡ true
+
+-- readable modules compile to tables, or they have a list of faults. It is said of modules without blocks, macros and optionals:
+-- with them it rests on the contents of blocks and what calls bring being finite, or more than 1,000,000
+abbrev pub AlwaysCompilesOrFails : Type 0
+AlwaysCompilesOrFails = (modules : List (List ℕ)) → AreReadable modules → AreFlatModules modules → Outcome modules

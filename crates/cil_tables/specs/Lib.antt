@@ -1,0 +1,10 @@
+pub mod Agrees
+pub mod CompileAnswer
+pub mod CompileRefusal
+pub mod Compiled
+pub mod Contexts
+pub mod Faults
+pub mod Laws
+pub mod Links
+pub mod Meaning
+pub mod Table

@@ -1,0 +1,65 @@
+-- How the tables are read: which contexts they admit, and what they answer. The SELinux Notebook, "Security Context" and
+-- "Computing Access Decisions"; CIL Reference Guide, "Role Statements" on object_r.
+use Rattle.std.specs.Prelude.{◌≡◌, ◌⊎◌, ℕ, ◌<◌, ◌==◌, List, [], ◌∷◌, length, codes, Contains, slice_get, Some}
+use Rattle.std.specs.List.{slice_split}
+use Rattle.cil_tables.specs.declared.context.Context.{Context}
+use Rattle.cil_classes.specs.declared.row.Class.{Class}
+use Rattle.cil_rules.specs.declared.rule.Rule.{Rule}
+use Rattle.cil_tables.specs.Table.{Table}
+use Rattle.cil_rules.specs.Covers.{Covers}
+
+-- the role that every policy has, and that every user may have with every type
+abbrev pub object_role : List ℕ
+object_role = codes "object_r"
+
+-- the parts of a text between its colons
+abbrev pub parts_of : List ℕ → List (List ℕ)
+parts_of = slice_split (λ b. b == 58)
+
+-- ---- contexts
+
+-- the role may stand in a context of the user and the type: the user has the role and the role has the type
+pub record HasBoth (t : Table) (n : Context) : Type 0 where
+  pub role : Contains t.user_roles record { holder = n.user; held = n.role }
+  pub kind : Contains t.role_types record { holder = n.role; held = n.kind }
+
+-- the text `user:role:type` is the context of these numbers, and the context is valid
+pub record IsContext (t : Table) (text : List ℕ) (n : Context) : Type 0 where
+  pub user : List ℕ
+  pub role : List ℕ
+  pub kind : List ℕ
+  pub parts : parts_of text ≡ user ∷ role ∷ kind ∷ []
+  pub a_user : slice_get t.users n.user ≡ Some user
+  pub a_role : slice_get t.roles n.role ≡ Some role
+  pub a_type : slice_get t.types n.kind ≡ Some kind
+  pub admitted : (role ≡ object_role) ⊎ HasBoth t n
+
+-- ---- classes and permissions
+
+-- the class of a number
+pub record IsClassAt (t : Table) (class_ : ℕ) (name : List ℕ) : Type 0 where
+  pub row : Class
+  pub is_row : slice_get t.classes class_ ≡ Some row
+  pub named : row.name ≡ name
+
+-- the permission of a bit of a class
+pub record IsPermissionAt (t : Table) (class_ bit : ℕ) (name : List ℕ) : Type 0 where
+  pub row : Class
+  pub is_row : slice_get t.classes class_ ≡ Some row
+  pub permission : slice_get row.permissions bit ≡ Some name
+
+-- ---- decisions
+
+-- the class has a row in the tables, and some rule of them covers the permission
+pub record IsAllowed (t : Table) (source target class_ bit : ℕ) : Type 0 where
+  pub row : Class
+  pub is_row : slice_get t.classes class_ ≡ Some row
+  pub rule : Rule
+  pub is_rule : Contains t.allow rule
+  pub covers : Covers rule source target class_ bit
+
+-- a denied permission is audited: so is every permission of the class
+pub record IsAudited (t : Table) (class_ bit : ℕ) : Type 0 where
+  pub row : Class
+  pub is_row : slice_get t.classes class_ ≡ Some row
+  pub within : bit < length row.permissions

@@ -1,0 +1,49 @@
+-- The value of a policy's tables. This project's profile; what the sections hold is what The SELinux Notebook asks for in
+-- "Security Context" and "Computing Access Decisions".
+use Rattle.cil_base.specs.Paths.{both_equal, same_by}
+use Rattle.std.specs.Prelude.{◌≡◌, ℕ, List, Contains}
+use Rattle.std.specs.Cmp.{IsTotalOrder}
+use Rattle.std.specs.Ordering.{nat_cmp, on, then_cmp}
+use Rattle.std.specs.declared.cmp.Ordering.{Ordering}
+use Rattle.std.specs.declared.cmp.Ordering.TheVariants.{Equal}
+use Rattle.std.specs.List.Sorted.{IsStrictlySortedBy}
+use Rattle.std.proofs.lemmas.Cmp.{then_total, on_total, nat_cmp_total}
+use Rattle.cil_base.specs.Lists.{text_cmp}
+use Rattle.cil_classes.specs.declared.row.Class.{Class}
+use Rattle.cil_tables.specs.declared.tables.Link.{Link}
+use Rattle.cil_rules.specs.declared.rule.Rule.{Rule}
+use Rattle.cil_classes.specs.Row.{IsOrderlyClass, class_cmp}
+
+pub record Table : Type 0 where
+  pub users : List (List ℕ)
+  pub roles : List (List ℕ)
+  pub types : List (List ℕ)
+  pub classes : List Class
+  pub user_roles : List Link
+  pub role_types : List Link
+  pub allow : List Rule
+
+-- links stand in the order of their holders, and of what these hold
+abbrev pub link_cmp : Link → Link → Ordering
+link_cmp = then_cmp (on (λ l. l.holder) nat_cmp) (on (λ l. l.held) nat_cmp)
+
+-- any two links have an order
+pub link_total : IsTotalOrder link_cmp
+link_total = then_total (on_total (λ l. l.holder) nat_cmp_total) (on_total (λ l. l.held) nat_cmp_total)
+
+pub same_ends : (a b : Link) → a.holder ≡ b.holder → a.held ≡ b.held → a ≡ b
+same_ends a b p q = λ i. record { holder = p i; held = q i }
+
+-- two links that tie are one
+pub one_link : (a b : Link) → link_cmp a b ≡ Equal → a ≡ b
+one_link a b e = let both = both_equal _ _ e in same_ends a b (same_by _ _ both.0) (same_by _ _ both.1)
+
+-- what is true of every table: each list of names rises, so a name is found by halving, and has one number; so do links
+pub record IsOrderly (t : Table) : Type 0 where
+  pub users : IsStrictlySortedBy text_cmp t.users
+  pub roles : IsStrictlySortedBy text_cmp t.roles
+  pub types : IsStrictlySortedBy text_cmp t.types
+  pub classes : IsStrictlySortedBy class_cmp t.classes
+  pub each_class : (c : Class) → Contains t.classes c → IsOrderlyClass c
+  pub user_roles : IsStrictlySortedBy link_cmp t.user_roles
+  pub role_types : IsStrictlySortedBy link_cmp t.role_types

@@ -1,0 +1,178 @@
+//! The compiler: from modules to the tables of their policy, or exactly its faults.
+
+ghost use Rattle.std.specs.Prelude.{ℕ, IfOk, IfErr, List, map};
+ghost use Rattle.cil_faults.specs.declared.fault.Fault.{Fault};
+ghost use Rattle.cil_syntax.specs.Program.{IsNested};
+ghost use Rattle.cil_blocks.specs.Places.{AreStandings, statements_in};
+ghost use Rattle.cil_macros.specs.Items.{items_in, namespaces_in};
+ghost use Rattle.cil_names.specs.declared.entry.Entry.{Entry as AnEntry};
+ghost use Rattle.cil_names.specs.Entries.{AreEntries, is_in};
+ghost use Rattle.cil_names.specs.Meanings.{meanings};
+ghost use Rattle.cil_names.specs.Numbers.{ArePlainNames};
+ghost use Rattle.cil_names.specs.Rows.{IsTableOf};
+ghost use Rattle.cil_names.specs.Unresolved.{ArePermissions};
+ghost use Rattle.cil_tables.specs.CompileAnswer.{IsCompiled, IsCompiledOf, StandsIn};
+ghost use Rattle.cil_tables.specs.CompileRefusal.{CompileFails, ItemsFail};
+ghost use Rattle.cil_tables.specs.Compiled.{IsTable};
+ghost use Rattle.cil_classes.specs.Faults.{ClassFault};
+
+use crate::links::{Joins, links_of};
+use crate::tables::Tables;
+use cil_base::{Bytes, Names, NoMemory};
+use cil_blocks::{Spaces, inherit};
+use cil_classes::{check_widths, class_rows};
+use cil_faults::Failure;
+use cil_macros::{Instances, expand};
+use cil_modset::ModuleSet;
+use cil_names::{
+    Known, Lookup, Numbering, Sections, Words, declare, numbered, permissions_of, words_of,
+};
+use cil_optionals::{Chosen, OptionalLine, Reason, WhyLine, greatest, optional_lines, why_lines};
+use cil_rules::rules_of;
+use cil_syntax::{Keyword, Kind, written};
+use std::alloc::Global;
+
+/// What modules compile to.
+#[derive(Debug, Drop)]
+pub struct Compiled {
+    /// The tables of the policy.
+    pub tables: Tables,
+    /// A line for each optional of the policy, sorted.
+    pub optionals: Vec<OptionalLine>,
+    /// A reason for each optional that is left out, in an order in which they can be removed.
+    pub why: Vec<Reason>,
+    /// The lines of these reasons, in their order.
+    pub reasons: Vec<WhyLine>,
+}
+
+/// Compiles a set of modules. The optionals that are in force are the greatest set of those whose words all name something.
+/// The tables are the same for the same modules, whatever the order in which they came: each section is the list of a set in a
+/// stated order. (CIL Reference Guide.)
+///
+/// Errors: the faults of the first step that has some (shape, blocks, calls, the limit of instances, clashing declarations,
+/// unresolved words outside optionals, classes that are too wide), or out of memory.
+pub fn compile(alloc: Global, modules: &ModuleSet) -> Result<Compiled, Failure>
+    ensures compiled { IfOk result (IsCompiled modules.now) }
+    ensures faults { IfErr result (CompileFails modules.now) }
+{
+    let program = written(alloc, modules)?;
+    // What is known of the statements of every program.
+    program.statements();
+    let stands = inherit(alloc, &program)?;
+    let compiled = standing_policy(alloc, &stands)?;
+    Ok(compiled)
+}
+
+/// What all that stands compiles to.
+///
+/// Errors: the faults of the first step that has some (calls, the limit of instances, clashing declarations, unresolved words
+/// outside optionals, classes that are too wide), or out of memory.
+fn standing_policy(alloc: Global, stands: &Spaces) -> Result<Compiled, Failure>
+    requires standings { AreStandings stands.now }
+    requires nested { IsNested (statements_in stands.now) }
+    ensures compiled { IfOk result (λ compiled. (modules : List (List ℕ)) → StandsIn modules stands.now → IsCompiled modules compiled) }
+    ensures faults { IfErr result (λ failure. (modules : List (List ℕ)) → StandsIn modules stands.now → CompileFails modules failure) }
+{
+    let instances = expand(alloc, stands)?;
+    // What is known of all that is placed.
+    instances.called();
+    let compiled = placed_policy(alloc, &instances)?;
+    Ok(compiled)
+}
+
+/// What all that is placed compiles to.
+///
+/// Errors: the faults of the first step that has some (clashing declarations, unresolved words outside optionals, classes that are
+/// too wide), or out of memory.
+fn placed_policy(alloc: Global, instances: &Instances) -> Result<Compiled, Failure>
+    requires { (es : List AnEntry) → AreEntries (namespaces_in instances.now) (items_in instances.now) es → ArePlainNames (namespaces_in instances.now) es }
+    ensures compiled { IfOk result (IsCompiledOf (items_in instances.now)) }
+    ensures faults { IfErr result (ItemsFail (items_in instances.now)) }
+{
+    let names = declare(alloc, instances)?;
+    let permissions = permissions_of(alloc, &names, instances)?;
+    let permissions = permissions.as_slice();
+    let chosen = greatest(alloc, &*instances, &names, permissions)?;
+    let lookup = Lookup {
+        namespaces: instances.namespaces(),
+        names: &names,
+        enabled: &chosen.enabled,
+    };
+    let words = words_of(alloc, &lookup, permissions, instances)?;
+    check_widths(alloc, &lookup, permissions, instances)?;
+    let tables = tables_of(alloc, instances, &lookup, &words, permissions)?;
+    let optionals = optional_lines(alloc, instances, &chosen.enabled)?;
+    let reasons = why_lines(alloc, instances, chosen.reasons.as_slice())?;
+    let Chosen {
+        enabled: _,
+        reasons: why,
+    } = chosen;
+    Ok(Compiled {
+        tables,
+        optionals,
+        why,
+        reasons,
+    })
+}
+
+/// The tables of all that is placed, where its words have these meanings.
+fn tables_of(
+    alloc: Global,
+    instances: &Instances,
+    lookup: &Lookup,
+    words: &Words,
+    permissions: &[Vec<Bytes>],
+) -> Result<Tables, NoMemory>
+    requires entries { AreEntries lookup.now.namespaces.now (items_in instances.now) lookup.now.names.now }
+    requires permissions { ArePermissions lookup.now.namespaces.now lookup.now.names.now (items_in instances.now) permissions.now }
+    requires plain { ArePlainNames lookup.now.namespaces.now lookup.now.names.now }
+    requires table { IsTableOf (map (meanings lookup.now.namespaces.now lookup.now.names.now (is_in lookup.now.enabled.now)) (items_in instances.now)) words.now }
+    requires few { (f : Fault) → ClassFault (is_in lookup.now.enabled.now) (items_in instances.now) f → ⊥ }
+    ensures { IfOk result (IsTable (items_in instances.now) (is_in lookup.now.enabled.now)) }
+{
+    // What is known of the numbers of namespaces.
+    lookup.namespaces.are_namespaces();
+    let numbering = numbered(alloc, lookup)?;
+    let classes = class_rows(alloc, lookup, &numbering, permissions)?;
+    let known = Known {
+        lookup: *lookup,
+        words,
+        numbers: numbering.numbers.as_slice(),
+    };
+    let user_roles = links_of(alloc, instances, &known, USER_ROLES)?;
+    let role_types = links_of(alloc, instances, &known, ROLE_TYPES)?;
+    let allow = rules_of(alloc, instances, &known, classes.as_slice())?;
+    let Numbering {
+        sections,
+        numbers: _,
+    } = numbering;
+    let Sections {
+        users,
+        roles,
+        types,
+        classes: _,
+    } = sections;
+    Ok(Tables {
+        users: Names::from_vec(users),
+        roles: Names::from_vec(roles),
+        types: Names::from_vec(types),
+        classes,
+        user_roles,
+        role_types,
+        allow,
+    })
+}
+
+/// The statements that give users their roles.
+const USER_ROLES: Joins = Joins {
+    keyword: Keyword::UserRole,
+    holder_kind: Kind::User,
+    held_kind: Kind::Role,
+};
+
+/// The statements that give roles their types.
+const ROLE_TYPES: Joins = Joins {
+    keyword: Keyword::RoleType,
+    holder_kind: Kind::Role,
+    held_kind: Kind::Type_,
+};

@@ -1,0 +1,18 @@
+//! The tables of a policy, and the compiler that makes them: from modules to tables, or exactly the faults of the first step that
+//! has some.
+//!
+//! Start at `compile` in `compiler.rt`. Its contract says by `specs/Agrees.antt` that the tables are those of the modules and say what
+//! the modules say. `specs/Table.antt` is the value of tables, `specs/Compiled.antt` which tables a policy has, `specs/Faults.antt` what
+//! is wrong with one, `specs/Contexts.antt` which contexts are valid, and `specs/Meaning.antt` how tables are read. `laws.rt` says
+//! that modules have one answer. Questions to tables are a crate above.
+#![tactic(auto)]
+
+mod compiler;
+mod context;
+pub mod laws;
+mod links;
+pub mod tables;
+
+pub use compiler::{Compiled, compile};
+pub use context::Context;
+pub use tables::{Link, Tables};

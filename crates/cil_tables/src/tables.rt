@@ -1,0 +1,162 @@
+//! The tables of a compiled policy: what its modules say, as sorted lists of names and numbers.
+//!
+//! Each section is the list of a set in a stated order, so equal policies have equal tables. A symbol is numbered by
+//! its place in its section, counted from 0.
+
+ghost use Rattle.std.specs.Prelude.{◌≡◌, refl};
+ghost use Rattle.std.specs.Cmp.{eq_by_cmp_equiv, partial_equiv_from_equiv, partial_order_from_total};
+ghost use Rattle.std.specs.Ordering.{as_partial_cmp, eq_by_cmp};
+ghost use Rattle.cil_tables.specs.Table.{link_cmp, link_total};
+
+use cil_base::{Bytes, Names};
+use cil_classes::Class;
+use cil_rules::Rule;
+use std::cmp::Ordering;
+use std::marker::Model;
+
+/// A user that has a role, or a role that has a type.
+#[derive(Clone, Copy, Debug)]
+pub struct Link {
+    /// The number of the user, or of the role.
+    pub holder: usize,
+    /// The number of the role, or of the type.
+    pub held: usize,
+}
+
+impl PartialEq for Link {
+    ghost eq = { eq_by_cmp link_cmp };
+
+    ghost laws = { partial_equiv_from_equiv (eq_by_cmp_equiv link_total) };
+
+    fn eq(&self, other: &Link) -> bool {
+        self.cmp(other) == Ordering::Equal
+    }
+}
+
+impl Eq for Link {
+    ghost laws = { eq_by_cmp_equiv link_total };
+}
+
+impl PartialOrd for Link {
+    ghost partial_cmp = { as_partial_cmp link_cmp };
+
+    ghost laws = { partial_order_from_total link_total };
+
+    fn partial_cmp(&self, other: &Link) -> Option<Ordering> {
+        Some(self.cmp(other))
+    }
+}
+
+impl Ord for Link {
+    ghost cmp = { link_cmp };
+
+    ghost total = { link_total };
+
+    ghost matches_partial_cmp = { λ a b. refl };
+
+    ghost matches_eq = { λ a b. refl };
+
+    fn cmp(&self, other: &Link) -> Ordering {
+        self.holder
+            .cmp(&other.holder)
+            .then(self.held.cmp(&other.held))
+    }
+}
+
+/// The tables of a policy.
+#[derive(Debug, Drop)]
+pub struct Tables {
+    pub(crate) users: Names,
+    pub(crate) roles: Names,
+    pub(crate) types: Names,
+    pub(crate) classes: Vec<Class>,
+    pub(crate) user_roles: Vec<Link>,
+    pub(crate) role_types: Vec<Link>,
+    pub(crate) allow: Vec<Rule>,
+}
+
+impl Model for Tables {
+    ghost use Rattle.cil_tables.specs.Table.{Table, IsOrderly};
+
+    ghost Value = { Table };
+
+    ghost view = { λ a. record {
+      users = a.users;
+      roles = a.roles;
+      types = a.types;
+      classes = a.classes.items;
+      user_roles = a.user_roles.items;
+      role_types = a.role_types.items;
+      allow = a.allow.items;
+    } };
+
+    ghost invariant = { λ a. IsOrderly record {
+      users = a.users;
+      roles = a.roles;
+      types = a.types;
+      classes = a.classes.items;
+      user_roles = a.user_roles.items;
+      role_types = a.role_types.items;
+      allow = a.allow.items;
+    } };
+}
+
+impl Tables {
+    ghost use Rattle.std.specs.Prelude.{◌≡◌};
+    ghost use Rattle.cil_tables.specs.Table.{IsOrderly};
+
+    /// The names of the users, in byte order.
+    pub fn users(&self) -> &[Bytes]
+        ensures names { result.now ≡ self.now.users }
+        ensures orderly { IsOrderly self.now }
+    {
+        self.users.as_slice()
+    }
+
+    /// The names of the roles, in byte order.
+    pub fn roles(&self) -> &[Bytes]
+        ensures names { result.now ≡ self.now.roles }
+        ensures orderly { IsOrderly self.now }
+    {
+        self.roles.as_slice()
+    }
+
+    /// The names of the types, in byte order.
+    pub fn types(&self) -> &[Bytes]
+        ensures names { result.now ≡ self.now.types }
+        ensures orderly { IsOrderly self.now }
+    {
+        self.types.as_slice()
+    }
+
+    /// The rows of the classes, in byte order of their names.
+    pub fn classes(&self) -> &[Class]
+        ensures rows { result.now ≡ self.now.classes }
+        ensures orderly { IsOrderly self.now }
+    {
+        self.classes.as_slice()
+    }
+
+    /// The users with their roles.
+    pub fn user_roles(&self) -> &[Link]
+        ensures links { result.now ≡ self.now.user_roles }
+        ensures orderly { IsOrderly self.now }
+    {
+        self.user_roles.as_slice()
+    }
+
+    /// The roles with their types.
+    pub fn role_types(&self) -> &[Link]
+        ensures links { result.now ≡ self.now.role_types }
+        ensures orderly { IsOrderly self.now }
+    {
+        self.role_types.as_slice()
+    }
+
+    /// The records of the allow rules.
+    pub fn allow(&self) -> &[Rule]
+        ensures rules { result.now ≡ self.now.allow }
+    {
+        self.allow.as_slice()
+    }
+}
