@@ -382,6 +382,12 @@ def long_fault_words(size):
     return [f"{text}(block b{inherit(last)})"]
 
 
+def far_names(size):
+    """One name in very many blocks, and words of that name in optionals outside, whose scope has none of these blocks."""
+    blocks = "".join(pieces(size // 2, "(block b{:x}(type x))".format))
+    return [blocks + "(optional a(roletype object_r x))" * (size // 2 // 33)]
+
+
 def class_copies(size):
     """A class that lists one permission very often, inherited very often."""
     text, last = doubled(size // 30, f"(class c({' a' * (size // 2)}))")
@@ -571,6 +577,7 @@ FORMS = {
     "wide-class": (wide_class, LONGEST, load), "listed": (listed, ALL, load),
     "unresolved": (unresolved, 15_000_000, load), "unlisted": (unlisted, ALL, load),
     "long-fault-words": (long_fault_words, LONGEST, load), "class-copies": (class_copies, LONGEST, load),
+    "far-names": (far_names, LONGEST, load),
     "permission-copies": (permission_copies, LONGEST, load), "dots": (dots, LONGEST, load),
     "pairs": (pairs, LONGEST, load), "flood": (flood, LONGEST, load),
     "same-optionals": (same_optionals, 11_000_000, lines), "optional-chain": (optional_chain, LONGEST, lines),

@@ -6,7 +6,8 @@ use Rattle.cil_syntax.specs.declared.kind.Keyword.{Keyword}
 use Rattle.cil_syntax.specs.declared.kind.Keyword.TheVariants as keywords
 use Rattle.cil_syntax.specs.declared.program.Statement.{Statement}
 use Rattle.cil_syntax.specs.declared.term.Word.{Word}
-use Rattle.cil_syntax.specs.Program.{IsNested, begins_with_word, is_begun, program_of}
+use Rattle.cil_syntax.specs.Program.{IsNested, begins_as, begins_with_word, is_begun, program_of}
+use Rattle.cil_syntax.specs.Table.{entry_of}
 use Rattle.cil_syntax.specs.Spelling.{is_name}
 use Rattle.cil_syntax.specs.Terms.{Leaf, Name, Form, Terms, nil, cons}
 use Rattle.cil_syntax.specs.Written.{Named, Written, named_in_front}
@@ -23,11 +24,13 @@ word_there (cons (Name at name) ts) e = absurd (let f : false ≡ true = e in cc
 word_there (cons (Form at op parts) ts) e = absurd (let f : false ≡ true = e in cc)
 
 name_in : (k : Keyword) (args : Terms Word) → is_named k ≡ true → is_begun k args ≡ true → (x : Named) × (named_in_front args ≡ Some x)
+unfolding begins_as entry_of
 name_in keywords.Block args k e = name_there (named_in_front args) e
 name_in keywords.Macro args k e = name_there (named_in_front args) e
 name_in kw args k e = absurd (let f : false ≡ true = k in cc)
 
 word_in : (k : Keyword) (args : Terms Word) → is_inheriting k ≡ true → is_begun k args ≡ true → (x : Word) × (first_word args ≡ Some x)
+unfolding begins_as
 word_in keywords.BlockInherit args k e = word_there args e
 word_in kw args k e = absurd (let f : false ≡ true = k in cc)
 

@@ -44,16 +44,7 @@ zeros_all names i places over are = are ∙ ap length (take_all i names over)
 
 class_kind : (k : Kind) → nat_eq (kind_number k) 7 ≡ true → k ≡ kinds.Class
 class_kind kinds.Class e = refl
-class_kind kinds.Type_ e = absurd cc
-class_kind kinds.TypeAlias e = absurd cc
-class_kind kinds.TypeAttribute e = absurd cc
-class_kind kinds.Role e = absurd cc
-class_kind kinds.RoleAttribute e = absurd cc
-class_kind kinds.User e = absurd cc
-class_kind kinds.UserAttribute e = absurd cc
-class_kind kinds.ClassMap e = absurd cc
-class_kind kinds.Block e = absurd cc
-class_kind kinds.Macro e = absurd cc
+class_kind k e = absurd cc
 
 pub class_parts : (s : OptSet) (e : Entry) → is_of s kinds.Class e ≡ true → (e.kind ≡ kinds.Class) × (is_declared_in s e ≡ true)
 class_parts s e is =

@@ -15,7 +15,9 @@ use Rattle.cil_syntax.specs.declared.term.Term.TheVariants as variants
 use Rattle.cil_syntax.specs.declared.term.Word.{Word}
 use Rattle.cil_syntax.specs.Forms.{kind_and_name, parameter_form}
 use Rattle.cil_syntax.specs.Said.{all_said, said_of, word_in}
-use Rattle.cil_syntax.specs.Shapes.{Cell, Inner, a_list, any_text, is_spelled, looked_up, read_list, read_string, read_word}
+use Rattle.cil_syntax.specs.Shapes.{Cell, Inner, a_list, any_text, looked_up}
+use Rattle.cil_syntax.specs.Readings.{head_word, read_list}
+use Rattle.cil_syntax.specs.Words.{is_spelled, read_string, read_word}
 use Rattle.cil_syntax.specs.Spelling.{is_reserved}
 use Rattle.cil_syntax.specs.Terms.{Term, Leaf, Name, Form, Terms, nil, cons}
 use Rattle.cil_faults.specs.Spots.{spot_at}
@@ -41,7 +43,7 @@ leaf_text w = refl
 
 -- a list that was kept
 abbrev list_cell : Spot → Terms Word → Cell
-list_cell at parts = record { at = at; face = a_list; read = read_list at (cells_in parts) }
+list_cell at parts = record { at = at; face = a_list (head_word (cells_in parts)); read = read_list at (cells_in parts) }
 
 module _ (at : Spot) (parts : Terms Word) where
   list_or_text_word : (sign : Sign) (text : Bool) → is_some (sound ((if text then text_cell at parts else list_cell at parts).read (looked_up sign))) ≡ false

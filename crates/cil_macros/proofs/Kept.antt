@@ -5,7 +5,9 @@ use Rattle.cil_sexpr.specs.Tree.{Node, Word as TextWord, Quoted, Branch, Nodes, 
 use Rattle.cil_syntax.specs.declared.kind.Sign.TheVariants as signs
 use Rattle.cil_syntax.specs.declared.term.Op.TheVariants as ops
 use Rattle.cil_syntax.specs.declared.term.Word.{Word}
-use Rattle.cil_syntax.specs.Shapes.{Reading, a_list, cell_of, cells_of, formed, joined, many, read_list, read_row, read_string, read_word, reads, unread}
+use Rattle.cil_syntax.specs.Shapes.{Reading, a_list, many, unread}
+use Rattle.cil_syntax.specs.Readings.{head_word, cell_of, cells_of, formed, joined, read_list, read_row}
+use Rattle.cil_syntax.specs.Words.{read_string, read_word, reads}
 use Rattle.cil_syntax.specs.Terms.{Term, Leaf, Name, Form, Terms, nil, cons, spot_of}
 use Rattle.cil_macros.specs.Laws.{AreKept}
 use Rattle.cil_macros.specs.Parameters.{cell_in, cells_in}
@@ -40,7 +42,7 @@ module _ (m : ℕ) where
     reads_as_node : (n : Node) → cell_in (kept n) ≡ cell_of m n
     reads_as_node (TextWord place bytes) = refl
     reads_as_node (Quoted place bytes) = refl
-    reads_as_node (Branch place inner) = ap (λ cs. record { at = spot_of m place; face = a_list; read = read_list (spot_of m place) cs }) (read_as_nodes inner)
+    reads_as_node (Branch place inner) = ap (λ cs. record { at = spot_of m place; face = a_list (head_word cs); read = read_list (spot_of m place) cs }) (read_as_nodes inner)
 
     read_as_nodes : (ns : Nodes) → cells_in (all_kept ns) ≡ cells_of m ns
     read_as_nodes none = refl

@@ -38,6 +38,7 @@ unfolding entry_of
 inside_by keywords.Block c own may so here = so (both_left (allows c.nesting nestings.InBlock) true may)
 inside_by keywords.Macro c own may so here = absurd (let f : false ≡ true = here in cc)
 inside_by keywords.Optional c own may so here = absurd (let f : false ≡ true = here in cc)
+inside_by keywords.BooleanIf c own may so here = absurd (let f : false ≡ true = here in cc)
 inside_by k c own may so here = so here
 
 module _ (ss : List Statement) (nested : IsNested ss) where

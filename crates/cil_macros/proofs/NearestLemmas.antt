@@ -12,7 +12,7 @@ use Rattle.cil_syntax.specs.declared.kind.Keyword.TheVariants as keywords
 use Rattle.cil_syntax.specs.declared.program.Statement.{Statement}
 use Rattle.cil_faults.specs.declared.spot.Spot.{Spot}
 use Rattle.cil_syntax.specs.declared.term.Word.{Word}
-use Rattle.cil_syntax.specs.Program.{IsNested, begins_with_word, is_begun, program_of, statement_of}
+use Rattle.cil_syntax.specs.Program.{IsNested, begins_as, begins_with_word, is_begun, program_of, statement_of}
 use Rattle.cil_syntax.specs.Terms.{Leaf, Name, Form, Terms, nil, cons}
 use Rattle.cil_syntax.specs.Written.{Written}
 use Rattle.cil_blocks.specs.declared.entry.Entry.{Entry}
@@ -109,6 +109,7 @@ pub reached_itself : (all : List Standing) (at : ℕ) (s : Standing) → slice_g
 reached_itself all at s e = record { by = s; is = e; so = refl }
 
 begun_word : (k : Keyword) (args : Terms Word) → is_inheriting k ≡ true → is_begun k args ≡ true → begins_with_word args ≡ true
+unfolding begins_as
 begun_word keywords.BlockInherit args e f = f
 begun_word k args e f = absurd (let g : false ≡ true = e in cc)
 

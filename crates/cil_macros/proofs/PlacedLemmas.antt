@@ -10,7 +10,7 @@ use Rattle.cil_base.specs.Lists.{Lists}
 use Rattle.cil_base.specs.Lists.{contains_none}
 use Rattle.cil_syntax.specs.declared.program.Statement.{Statement}
 use Rattle.cil_syntax.specs.declared.term.Word.{Word}
-use Rattle.cil_syntax.specs.Program.{IsNested, is_begun, statement_of}
+use Rattle.cil_syntax.specs.Program.{IsNested, begins_as, is_begun, statement_of}
 use Rattle.cil_syntax.specs.Written.{Written}
 use Rattle.cil_syntax.specs.Scopes.{ScopedWord}
 use Rattle.cil_syntax.specs.Terms.{Term}
@@ -68,6 +68,7 @@ module _ (i : Kept) where
   module _ (nested : IsNested (statements_in i.0)) (at n : ℕ) (so : (placed_at i at).standing.statement ≡ statement_at (written_in i.0) n) where
     -- the number is one of a statement: none that is placed is what no program has
     number_below : Contains (written_in i.0) (placed_at i at).standing.statement → n < length (statements_in i.0)
+    unfolding begins_as
     number_below c = elim (cases_lt n (length (statements_in i.0))) [
       | inl less ↦ less
       | inr ge ↦

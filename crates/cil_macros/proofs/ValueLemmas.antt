@@ -14,7 +14,9 @@ use Rattle.cil_syntax.specs.declared.term.Term.{the_lemmas}
 use Rattle.cil_syntax.specs.declared.term.Term.TheVariants as variants
 use Rattle.cil_syntax.specs.declared.term.Word.{Word}
 use Rattle.cil_syntax.specs.Said.{all_said, said_of, word_in}
-use Rattle.cil_syntax.specs.Shapes.{Cell, Inner, a_list, a_string, is_spelled, read_list, read_string, read_word, word_faults}
+use Rattle.cil_syntax.specs.Shapes.{Cell, Inner, a_list, a_string}
+use Rattle.cil_syntax.specs.Readings.{head_word, read_list}
+use Rattle.cil_syntax.specs.Words.{is_spelled, read_string, read_word, word_faults}
 use Rattle.cil_syntax.specs.Terms.{Term, Leaf, Name, Form, Terms, nil, cons}
 use Rattle.cil_faults.specs.Spots.{spot_at}
 use Rattle.cil_syntax.specs.Written.{Written}
@@ -55,7 +57,7 @@ string_value ops.TextKind at bytes value e = sym (some_same (kept_text at bytes)
 string_value kind at bytes value e = cc
 
 list_value : (kind : Op) (at : Spot) (cells : List Cell) (value : Term Word)
-    → read_argument (argument_kind kind) (record { at = at; face = a_list; read = read_list at cells }) ≡ Some value → ⊥
+    → read_argument (argument_kind kind) (record { at = at; face = a_list (head_word cells); read = read_list at cells }) ≡ Some value → ⊥
 unfolding read_list
 list_value ops.TypeKind at cells value e = cc
 list_value kind at cells value e = cc
@@ -75,7 +77,7 @@ form_value : (kind : Op) (at : Spot) (op : Op) (parts : Terms Word) (value : Ter
 unfolding cell_in
 form_value kind at op parts value e = by (is_text op) e
   where
-    by : (b : Bool) → read_argument (argument_kind kind) (if b then text_cell at parts else record { at = at; face = a_list; read = read_list at (cells_in parts) }) ≡ Some value
+    by : (b : Bool) → read_argument (argument_kind kind) (if b then text_cell at parts else record { at = at; face = a_list (head_word (cells_in parts)); read = read_list at (cells_in parts) }) ≡ Some value
         → value ≡ kept_text at (string_in parts)
     by true f = string_value kind at (string_in parts) value (ap (read_argument (argument_kind kind)) (sym (text_is_string at parts)) ∙ f)
     by false f = absurd (list_value kind at (cells_in parts) value f)

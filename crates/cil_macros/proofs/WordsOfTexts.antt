@@ -9,7 +9,8 @@ use Rattle.cil_syntax.specs.declared.term.Op.TheVariants as ops
 use Rattle.cil_faults.specs.declared.spot.Spot.{Spot}
 use Rattle.cil_syntax.specs.declared.term.Word.{Word}
 use Rattle.cil_syntax.specs.Scopes.{ScopedWord}
-use Rattle.cil_syntax.specs.Shapes.{Inner, Reading, Shape, a_list, read_list}
+use Rattle.cil_syntax.specs.Shapes.{Inner, Reading, Shape, a_list}
+use Rattle.cil_syntax.specs.Readings.{head_word, read_list}
 use Rattle.cil_syntax.specs.Slices.{AreWritten, EachText, EachTextIn}
 use Rattle.cil_syntax.specs.Terms.{Term, Leaf, Name, Form, Terms, nil, cons}
 use Rattle.cil_syntax.specs.Written.{Written}
@@ -77,7 +78,7 @@ module _ (P : Spot → List ℕ → Type 0) (empty : (at : Spot) → P at []) wh
   text_has at (cons (Form bt op parts) ts) h shape = string_has P at [] (empty at) shape
 
   form_has : (at : Spot) (parts : Terms Word) (b : Bool) → (b ≡ true → FrontText P at parts) → EachCell P (cells_in parts) → (shape : Shape) → IsPlain shape
-      → Has P ((if b then text_cell at parts else record { at = at; face = a_list; read = read_list at (cells_in parts) }).read shape)
+      → Has P ((if b then text_cell at parts else record { at = at; face = a_list (head_word (cells_in parts)); read = read_list at (cells_in parts) }).read shape)
   form_has at parts true h e shape p = text_has at parts (h refl) shape
   form_has at parts false h e shape p = list_has P at (cells_in parts) e shape p
 

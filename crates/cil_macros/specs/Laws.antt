@@ -8,7 +8,8 @@ use Rattle.cil_syntax.specs.declared.kind.Sign.TheVariants as signs
 use Rattle.cil_syntax.specs.declared.term.Word.{Word}
 use Rattle.cil_syntax.specs.Program.{IsNested, program_of}
 use Rattle.cil_syntax.specs.Scopes.{ScopedWord}
-use Rattle.cil_syntax.specs.Shapes.{Inner, cell_of, unread}
+use Rattle.cil_syntax.specs.Shapes.{Inner, unread}
+use Rattle.cil_syntax.specs.Readings.{cell_of}
 use Rattle.cil_syntax.specs.Slices.{AreWritten, EachText, EachTextIn}
 use Rattle.cil_syntax.specs.Terms.{Term, Terms}
 use Rattle.cil_faults.specs.Laws.{Outcome}

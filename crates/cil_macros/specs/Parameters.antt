@@ -7,7 +7,9 @@ use Rattle.cil_syntax.specs.declared.term.Op.{Op}
 use Rattle.cil_syntax.specs.declared.term.Op.TheVariants as ops
 use Rattle.cil_faults.specs.declared.spot.Spot.{Spot}
 use Rattle.cil_syntax.specs.declared.term.Word.{Word}
-use Rattle.cil_syntax.specs.Shapes.{Shape, looked_up, any_text, Inner, Reading, a_word, a_string, a_list, Cell, read_word, read_string, read_list}
+use Rattle.cil_syntax.specs.Shapes.{Shape, looked_up, any_text, Inner, Reading, a_word, a_string, a_list, Cell}
+use Rattle.cil_syntax.specs.Readings.{head_word, read_list}
+use Rattle.cil_syntax.specs.Words.{read_word, read_string}
 use Rattle.cil_syntax.specs.Terms.{Term, Leaf, Name, Form, Terms, nil, cons}
 use Rattle.cil_syntax.specs.Written.{Named}
 
@@ -61,18 +63,26 @@ place_number of_classes = 3
 place_number of_blocks = 4
 place_number of_texts = 5
 
--- the place where a word stands; a permission and an argument that is not read yet are at none
+-- the place where a word stands. A permission and an argument that is not read yet are at none; the places of the other
+-- name spaces come with the kinds of parameters that serve them
 abbrev pub place_of : Sign → Option Place
 place_of signs.Types = Some of_types
+place_of signs.PlainType = Some of_types
+place_of signs.TypeAttributes = Some of_types
+place_of signs.TypeAliases = Some of_types
 place_of signs.Roles = Some of_roles
+place_of signs.PlainRole = Some of_roles
+place_of signs.RoleAttributes = Some of_roles
 place_of signs.Users = Some of_users
+place_of signs.PlainUser = Some of_users
+place_of signs.UserAttributes = Some of_users
 place_of signs.Classes = Some of_classes
 place_of signs.PlainClass = Some of_classes
-place_of signs.Permission = None
+place_of signs.ClassMaps = Some of_classes
 place_of signs.Blocks = Some of_blocks
 place_of signs.Macros = Some of_blocks
 place_of signs.Text = Some of_texts
-place_of signs.Unread = None
+place_of sign = None
 
 -- what an argument of a kind is, and where it may be put
 pub record ArgumentKind : Type 0 where
@@ -131,7 +141,7 @@ unfoldable mutual
   pub cell_in : Term Word → Cell
   cell_in (Leaf w) = record { at = w.at; face = a_word w.bytes; read = read_word w.at w.bytes }
   cell_in (Name at bytes) = record { at = at; face = a_string; read = read_string at bytes }
-  cell_in (Form at op parts) = if is_text op then text_cell at parts else record { at = at; face = a_list; read = read_list at (cells_in parts) }
+  cell_in (Form at op parts) = if is_text op then text_cell at parts else record { at = at; face = a_list (head_word (cells_in parts)); read = read_list at (cells_in parts) }
 
   pub cells_in : Terms Word → List Cell
   cells_in nil = []

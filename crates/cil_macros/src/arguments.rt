@@ -111,10 +111,13 @@ fn serves(kind: Op, sign: Sign) -> bool
     ensures { result ≡ serves_sign (argument_kind kind) sign }
 {
     match kind {
-        Op::TypeKind => matches!(sign, Sign::Types),
-        Op::RoleKind => matches!(sign, Sign::Roles),
-        Op::UserKind => matches!(sign, Sign::Users),
-        Op::ClassKind => matches!(sign, Sign::Classes | Sign::PlainClass),
+        Op::TypeKind => matches!(
+            sign,
+            Sign::Types | Sign::PlainType | Sign::TypeAttributes | Sign::TypeAliases
+        ),
+        Op::RoleKind => matches!(sign, Sign::Roles | Sign::PlainRole | Sign::RoleAttributes),
+        Op::UserKind => matches!(sign, Sign::Users | Sign::PlainUser | Sign::UserAttributes),
+        Op::ClassKind => matches!(sign, Sign::Classes | Sign::PlainClass | Sign::ClassMaps),
         Op::NameKind | Op::TextKind => matches!(sign, Sign::Text),
         _ => false,
     }

@@ -1,12 +1,11 @@
 -- What look-up answers is what a word names.
 use Rattle.std.proofs.Common.{◌≡◌, ℕ, zero, suc, ◌&&◌, ◌||◌, Bool, true, false, cond, List, [], ◌∷◌, ◌++◌, get_or, map, refl, sym, ◌∙◌, ap, subst, inl, inr}
-use Rattle.std.specs.Prelude.{IfSome, ◌<◌, length, Option, Some, None, MatchOption, find, slice_get}
-use Rattle.std.specs.List.{flat_map, list_any}
+use Rattle.std.specs.Prelude.{IfSome, nat_eq, ◌<◌, length, Option, Some, None, MatchOption, find, slice_get}
+use Rattle.std.specs.List.{flat_map, list_all, list_any}
 use Rattle.std.specs.Option.{option_map, option_map_or}
-use Rattle.std.proofs.lemmas.Bool.{cases_Bool, true≢false}
+use Rattle.std.proofs.lemmas.Bool.{and_parts, cases_Bool, eqb-true, true≢false}
 use Rattle.cil_base.specs.Places.{get_contains}
 use Rattle.cil_syntax.specs.declared.kind.Kind.{Kind}
-use Rattle.cil_syntax.specs.declared.kind.Kind.TheVariants as kinds
 use Rattle.cil_syntax.specs.declared.kind.Sign.{Sign}
 use Rattle.cil_syntax.specs.declared.kind.Sign.TheVariants as signs
 use Rattle.cil_faults.specs.Namespaces.{Namespace}
@@ -14,10 +13,11 @@ use Rattle.cil_syntax.specs.Scopes.{asked, spaces_asked, ScopedWord}
 use Rattle.std.proofs.Math.Bool.{or-false}
 use Rattle.cil_names.specs.declared.entry.Entry.{Entry}
 use Rattle.cil_blocks.specs.declared.namespaces.Space.{Space}
-use Rattle.cil_names.specs.Entries.{AreEntries, AreOrdered, IsAnswer, IsNamed, candidate, candidates_of, is_declared_at, is_declared_in, is_entry_of, is_in, key_cmp, key_of, listed, place_where, rank}
+use Rattle.cil_names.specs.Entries.{AreEntries, AreOrdered, IsAnswer, IsNamed, candidate, candidates_of, is_declared_at, is_declared_in, is_entry_of, is_in, by_name_cmp, key_of, listed, place_where, rank}
 use Rattle.cil_macros.specs.Item.{Item, OptSet}
 use Rattle.cil_names.specs.Resolves.{found_in, has}
-use Rattle.cil_syntax.specs.Kinds.{is_wanted}
+use Rattle.cil_syntax.specs.Kinds.{is_wanted, kind_number, kinds_of}
+use Rattle.cil_syntax.proofs.KindLemmas.{one_kind}
 use Rattle.cil_blocks.specs.Namespaces.{AreNamespaces}
 use Rattle.cil_names.proofs.DeclLemmas.{has_as}
 use Rattle.cil_names.proofs.CandidateLemmas.{parts_of, place_is}
@@ -30,97 +30,51 @@ use Rattle.cil_blocks.proofs.NamespaceLemmas.{same_number}
 
 abbrev rank_for : Sign → ℕ
 rank_for signs.Types = 0
+rank_for signs.PlainType = 0
+rank_for signs.TypeAttributes = 0
+rank_for signs.TypeAliases = 0
 rank_for signs.Roles = 1
+rank_for signs.PlainRole = 1
+rank_for signs.RoleAttributes = 1
 rank_for signs.Users = 2
+rank_for signs.PlainUser = 2
+rank_for signs.UserAttributes = 2
 rank_for signs.Classes = 3
 rank_for signs.PlainClass = 3
+rank_for signs.ClassMaps = 3
 rank_for signs.Blocks = 4
 rank_for signs.Macros = 4
-rank_for signs.Permission = 0
-rank_for signs.Text = 0
-rank_for signs.Unread = 0
+rank_for signs.Commons = 5
+rank_for signs.ClassPermissions = 6
+rank_for signs.NamedPermissions = 6
+rank_for signs.MappedPermissions = 6
+rank_for signs.Booleans = 7
+rank_for signs.Sensitivities = 8
+rank_for signs.SensitivityAliases = 8
+rank_for signs.Categories = 9
+rank_for signs.CategoryAliases = 9
+rank_for signs.CategorySets = 9
+rank_for signs.Levels = 10
+rank_for signs.LevelRanges = 11
+rank_for sign = 0
+
+-- the kinds that a word may name, one by one
+ranked_alike : (sign : Sign) → list_all (λ k. nat_eq (rank k) (rank_for sign)) (kinds_of sign) ≡ true
+ranked_alike signs.Types = refl
+ranked_alike sign = refl
+
+rank_among : (ks : List Kind) (r : ℕ) (kind : Kind) → list_all (λ k. nat_eq (rank k) r) ks ≡ true
+    → list_any (λ k. nat_eq (kind_number k) (kind_number kind)) ks ≡ true → rank kind ≡ r
+rank_among [] r kind all any = absurd (true≢false (sym any))
+rank_among (k ∷ ks) r kind all any =
+    let (here, later) = and_parts (nat_eq (rank k) r) (list_all (λ k. nat_eq (rank k) r) ks) all in
+    elim (cases_Bool (nat_eq (kind_number k) (kind_number kind))) [
+      | inl is ↦ ap rank (sym (one_kind k kind is)) ∙ eqb-true (rank k) r here
+      | inr not ↦ rank_among ks r kind later (sym (ap (λ b. b || list_any (λ k. nat_eq (kind_number k) (kind_number kind)) ks) not) ∙ any)
+    ]
 
 rank_is : (sign : Sign) (kind : Kind) → is_wanted sign kind ≡ true → rank kind ≡ rank_for sign
-rank_is signs.Types kinds.Type_ e = refl
-rank_is signs.Types kinds.TypeAlias e = refl
-rank_is signs.Types kinds.TypeAttribute e = refl
-rank_is signs.Types kinds.Role e = absurd (true≢false (sym e))
-rank_is signs.Types kinds.RoleAttribute e = absurd (true≢false (sym e))
-rank_is signs.Types kinds.User e = absurd (true≢false (sym e))
-rank_is signs.Types kinds.UserAttribute e = absurd (true≢false (sym e))
-rank_is signs.Types kinds.Class e = absurd (true≢false (sym e))
-rank_is signs.Types kinds.ClassMap e = absurd (true≢false (sym e))
-rank_is signs.Types kinds.Block e = absurd (true≢false (sym e))
-rank_is signs.Types kinds.Macro e = absurd (true≢false (sym e))
-rank_is signs.Roles kinds.Type_ e = absurd (true≢false (sym e))
-rank_is signs.Roles kinds.TypeAlias e = absurd (true≢false (sym e))
-rank_is signs.Roles kinds.TypeAttribute e = absurd (true≢false (sym e))
-rank_is signs.Roles kinds.Role e = refl
-rank_is signs.Roles kinds.RoleAttribute e = refl
-rank_is signs.Roles kinds.User e = absurd (true≢false (sym e))
-rank_is signs.Roles kinds.UserAttribute e = absurd (true≢false (sym e))
-rank_is signs.Roles kinds.Class e = absurd (true≢false (sym e))
-rank_is signs.Roles kinds.ClassMap e = absurd (true≢false (sym e))
-rank_is signs.Roles kinds.Block e = absurd (true≢false (sym e))
-rank_is signs.Roles kinds.Macro e = absurd (true≢false (sym e))
-rank_is signs.Users kinds.Type_ e = absurd (true≢false (sym e))
-rank_is signs.Users kinds.TypeAlias e = absurd (true≢false (sym e))
-rank_is signs.Users kinds.TypeAttribute e = absurd (true≢false (sym e))
-rank_is signs.Users kinds.Role e = absurd (true≢false (sym e))
-rank_is signs.Users kinds.RoleAttribute e = absurd (true≢false (sym e))
-rank_is signs.Users kinds.User e = refl
-rank_is signs.Users kinds.UserAttribute e = refl
-rank_is signs.Users kinds.Class e = absurd (true≢false (sym e))
-rank_is signs.Users kinds.ClassMap e = absurd (true≢false (sym e))
-rank_is signs.Users kinds.Block e = absurd (true≢false (sym e))
-rank_is signs.Users kinds.Macro e = absurd (true≢false (sym e))
-rank_is signs.Classes kinds.Type_ e = absurd (true≢false (sym e))
-rank_is signs.Classes kinds.TypeAlias e = absurd (true≢false (sym e))
-rank_is signs.Classes kinds.TypeAttribute e = absurd (true≢false (sym e))
-rank_is signs.Classes kinds.Role e = absurd (true≢false (sym e))
-rank_is signs.Classes kinds.RoleAttribute e = absurd (true≢false (sym e))
-rank_is signs.Classes kinds.User e = absurd (true≢false (sym e))
-rank_is signs.Classes kinds.UserAttribute e = absurd (true≢false (sym e))
-rank_is signs.Classes kinds.Class e = refl
-rank_is signs.Classes kinds.ClassMap e = refl
-rank_is signs.Classes kinds.Block e = absurd (true≢false (sym e))
-rank_is signs.Classes kinds.Macro e = absurd (true≢false (sym e))
-rank_is signs.PlainClass kinds.Type_ e = absurd (true≢false (sym e))
-rank_is signs.PlainClass kinds.TypeAlias e = absurd (true≢false (sym e))
-rank_is signs.PlainClass kinds.TypeAttribute e = absurd (true≢false (sym e))
-rank_is signs.PlainClass kinds.Role e = absurd (true≢false (sym e))
-rank_is signs.PlainClass kinds.RoleAttribute e = absurd (true≢false (sym e))
-rank_is signs.PlainClass kinds.User e = absurd (true≢false (sym e))
-rank_is signs.PlainClass kinds.UserAttribute e = absurd (true≢false (sym e))
-rank_is signs.PlainClass kinds.Class e = refl
-rank_is signs.PlainClass kinds.ClassMap e = absurd (true≢false (sym e))
-rank_is signs.PlainClass kinds.Block e = absurd (true≢false (sym e))
-rank_is signs.PlainClass kinds.Macro e = absurd (true≢false (sym e))
-rank_is signs.Blocks kinds.Type_ e = absurd (true≢false (sym e))
-rank_is signs.Blocks kinds.TypeAlias e = absurd (true≢false (sym e))
-rank_is signs.Blocks kinds.TypeAttribute e = absurd (true≢false (sym e))
-rank_is signs.Blocks kinds.Role e = absurd (true≢false (sym e))
-rank_is signs.Blocks kinds.RoleAttribute e = absurd (true≢false (sym e))
-rank_is signs.Blocks kinds.User e = absurd (true≢false (sym e))
-rank_is signs.Blocks kinds.UserAttribute e = absurd (true≢false (sym e))
-rank_is signs.Blocks kinds.Class e = absurd (true≢false (sym e))
-rank_is signs.Blocks kinds.ClassMap e = absurd (true≢false (sym e))
-rank_is signs.Blocks kinds.Block e = refl
-rank_is signs.Blocks kinds.Macro e = absurd (true≢false (sym e))
-rank_is signs.Macros kinds.Type_ e = absurd (true≢false (sym e))
-rank_is signs.Macros kinds.TypeAlias e = absurd (true≢false (sym e))
-rank_is signs.Macros kinds.TypeAttribute e = absurd (true≢false (sym e))
-rank_is signs.Macros kinds.Role e = absurd (true≢false (sym e))
-rank_is signs.Macros kinds.RoleAttribute e = absurd (true≢false (sym e))
-rank_is signs.Macros kinds.User e = absurd (true≢false (sym e))
-rank_is signs.Macros kinds.UserAttribute e = absurd (true≢false (sym e))
-rank_is signs.Macros kinds.Class e = absurd (true≢false (sym e))
-rank_is signs.Macros kinds.ClassMap e = absurd (true≢false (sym e))
-rank_is signs.Macros kinds.Block e = absurd (true≢false (sym e))
-rank_is signs.Macros kinds.Macro e = refl
-rank_is signs.Permission kind e = absurd (true≢false (sym e))
-rank_is signs.Text kind e = absurd (true≢false (sym e))
-rank_is signs.Unread kind e = absurd (true≢false (sym e))
+rank_is sign kind e = rank_among (kinds_of sign) (rank_for sign) kind (ranked_alike sign) e
 
 -- ---- a name of a namespace is that of one entry
 
@@ -132,7 +86,7 @@ module _ (ss : List Space) (are : AreNamespaces ss) (es : List Entry) (ordered :
   one_entry i j d e p q t u =
       let (ds, dn, dw) = parts_of ss name sign n d t in
       let (fs, fn, fw) = parts_of ss name sign n e u in
-      one_number key_of key_cmp key_total one_key es i j d e ordered.rising p q
+      one_number key_of by_name_cmp key_total one_key es i j d e ordered.rising p q
       (same_key d e
       (same_number ss are n d.space e.space (record { within = ordered.within d (get_contains es i d p); is = ds }) (record { within = ordered.within e (get_contains es j e q); is = fs }))
       (dn ∙ sym fn) (rank_is sign d.kind dw ∙ sym (rank_is sign e.kind fw)))

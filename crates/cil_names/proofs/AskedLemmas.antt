@@ -16,7 +16,6 @@ use Rattle.cil_syntax.specs.declared.term.Term as rust
 use Rattle.cil_syntax.specs.declared.term.Word.{Word as RustWord}
 use Rattle.cil_syntax.specs.Said.{word_in}
 use Rattle.cil_syntax.specs.Scopes.{ScopedWord}
-use Rattle.cil_syntax.specs.Terms.{nil}
 use Rattle.cil_macros.specs.declared.placed_word.PlacedWord.{PlacedWord}
 use Rattle.cil_macros.specs.Item.{Item, all_replaced, all_words_in, words_in}
 use Rattle.cil_macros.specs.Items.{scoped_by}
@@ -25,7 +24,6 @@ use Rattle.cil_names.specs.declared.asked.Asked.{Asked}
 use Rattle.cil_names.specs.Asked.{wanted_by}
 use Rattle.cil_names.specs.Resolves.{Wanted, Word as AWord, Permission as APermission, all_wanted_in, told_at, told_word, wanted_in, words_of, words_of_class}
 use Rattle.cil_names.specs.Unresolved.{term_with, terms_with}
-use Rattle.cil_names.proofs.ReadingLemmas.{none_wanted}
 use Rattle.cil_names.proofs.UnresolvedLemmas.{scoped_form, scoped_leaf, scoped_name}
 
 -- one more, mapped

@@ -1,8 +1,8 @@
 -- Whether two declarations, symbols or name spaces are equal.
-use Rattle.std.proofs.Common.{◌≡◌, ℕ, zero, suc, refl, ap}
+use Rattle.std.proofs.Common.{◌≡◌, ℕ, [], ◌∷◌, get_or, refl, ap}
 use Rattle.cil_base.specs.Decided.{Decided, by_number, decided_both, decided_same, same_list, same_text}
 use Rattle.cil_syntax.proofs.DecidedEquality.{kind_is, same_namespace, same_terms, sign_is}
-use Rattle.cil_names.specs.Declarations.{Bare, Declaration, NameSpace, Symbol, of_blocks, of_classes, of_roles, of_types, of_users}
+use Rattle.cil_names.specs.Declarations.{Bare, Declaration, NameSpace, Symbol, of_blocks, of_booleans, of_categories, of_class_permissions, of_classes, of_commons, of_level_ranges, of_levels, of_roles, of_sensitivities, of_types, of_users}
 
 -- ---- name spaces, by their numbers
 
@@ -12,21 +12,25 @@ rank_from of_roles = 1
 rank_from of_users = 2
 rank_from of_classes = 3
 rank_from of_blocks = 4
+rank_from of_commons = 5
+rank_from of_class_permissions = 6
+rank_from of_booleans = 7
+rank_from of_sensitivities = 8
+rank_from of_categories = 9
+rank_from of_levels = 10
+rank_from of_level_ranges = 11
 
 pub name_space_at : ℕ → NameSpace
-name_space_at zero = of_types
-name_space_at (suc zero) = of_roles
-name_space_at (suc (suc zero)) = of_users
-name_space_at (suc (suc (suc zero))) = of_classes
-name_space_at (suc (suc (suc (suc n)))) = of_blocks
+name_space_at n =
+    get_or
+    (of_types ∷ of_roles ∷ of_users ∷ of_classes ∷ of_blocks ∷ of_commons ∷ of_class_permissions ∷ of_booleans ∷ of_sensitivities
+    ∷ of_categories ∷ of_levels ∷ of_level_ranges ∷ [])
+    n of_types
 
 pub ranked_back : (n : NameSpace) → name_space_at (rank_from n) ≡ n
 unfolding rank_from name_space_at
 ranked_back of_types = refl
-ranked_back of_roles = refl
-ranked_back of_users = refl
-ranked_back of_classes = refl
-ranked_back of_blocks = refl
+ranked_back n = refl
 
 pub same_name_space : (a b : NameSpace) → Decided (a ≡ b)
 same_name_space = by_number rank_from name_space_at ranked_back

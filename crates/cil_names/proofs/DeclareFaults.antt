@@ -24,7 +24,7 @@ use Rattle.cil_names.specs.declared.run.Run.{Run}
 use Rattle.cil_names.specs.Declarations.{Declaration, declared_by, name_space, of_blocks}
 use Rattle.cil_names.specs.DeclareRows.{AreAlike, IsRowAt, TellsDiffering, declaration_of, is_row_enabled, object_row, round_at, row_key}
 use Rattle.cil_names.specs.DeclareRuns.{faults_at, faults_named, row_faults, run_faults, run_key}
-use Rattle.cil_names.specs.Entries.{Key, key_cmp, rank}
+use Rattle.cil_names.specs.Entries.{Key, by_name_cmp, rank}
 use Rattle.cil_names.specs.Faults.{ClashFault, clash}
 use Rattle.cil_names.proofs.DeclareDecided.{name_space_at, rank_from, ranked_back, same_declaration}
 use Rattle.cil_names.proofs.DeclareDone.{AreRunsOf, declared_row, is_row, item_within, place_of, row_declared, run_of, space_within}
@@ -37,16 +37,7 @@ use Rattle.cil_base.proofs.SearchLemmas.{one_number}
 ranked : (k : Kind) → rank k ≡ rank_from (name_space k)
 unfolding rank_from
 ranked kinds.Type_ = refl
-ranked kinds.TypeAlias = refl
-ranked kinds.TypeAttribute = refl
-ranked kinds.Role = refl
-ranked kinds.RoleAttribute = refl
-ranked kinds.User = refl
-ranked kinds.UserAttribute = refl
-ranked kinds.Class = refl
-ranked kinds.ClassMap = refl
-ranked kinds.Block = refl
-ranked kinds.Macro = refl
+ranked k = refl
 
 pub same_name_space : (j k : Kind) → rank j ≡ rank k → name_space j ≡ name_space k
 same_name_space j k e =
@@ -155,7 +146,7 @@ module _ (i : Kept) (rows : List Row) (runs : List Run) (of : AreRunsOf i rows r
       let (j, below_j, at_j) = get_at runs m in_m in
       let (k, below_k, at_k) = get_at runs n in_n in
       let same = sym ((of.are.each m in_m).same a a_in) ∙ key ∙ (of.are.each n in_n).same b b_in in
-      let numbers = one_number run_key key_cmp key_total one_key runs j k m n of.are.rising at_j at_k same in
+      let numbers = one_number run_key by_name_cmp key_total one_key runs j k m n of.are.rising at_j at_k same in
       ap (λ o. unwrap_or o m) (sym at_j ∙ ap (slice_get runs) numbers ∙ at_k)
 
   fault_told : (run : Run) → Contains runs run → (b : Bool) → run.differing ≡ b → (f : Fault) → b ≡ true → Contains (flat_map (row_faults i) run.rows.now) f

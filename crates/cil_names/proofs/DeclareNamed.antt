@@ -20,7 +20,7 @@ use Rattle.cil_macros.specs.Items.{Kept, item_at, items_in, namespaces_in}
 use Rattle.cil_names.specs.Declarations.{Declaration, IsDeclaration, declared_by}
 use Rattle.cil_names.specs.DeclareRows.{IsRow, declaration_of, is_row_enabled, round_at}
 use Rattle.cil_names.specs.DeclareRuns.{Said, entry_of_run, is_always, has_none, listed_unless, rounds_by, run_key, said_by}
-use Rattle.cil_names.specs.Entries.{AreEntries, AreOrdered, AreRounds, IsEntryFor, KeepRounds, IsRoundOf, Key, is_declared_in, key_cmp, key_of, rank}
+use Rattle.cil_names.specs.Entries.{AreEntries, AreOrdered, AreRounds, IsEntryFor, KeepRounds, IsRoundOf, Key, is_declared_in, by_name_cmp, key_of, rank}
 use Rattle.cil_macros.specs.Item.{Item, OptSet, everybody}
 use Rattle.cil_blocks.specs.Namespaces.{space_at}
 use Rattle.cil_names.proofs.DeclareFaults.{alike_of, all_enabled, one_name_space}
@@ -111,10 +111,10 @@ keys_run : (kept : Kept) (runs : List Run) → map run_key runs ≡ map key_said
 keys_run kept [] = refl
 keys_run kept (run ∷ runs) = ap (λ z. run_key run ∷ z) (keys_run kept runs)
 
-pub entries_rise : (kept : Kept) (es : List Entry) (runs : List Run) → map said_by es ≡ map (entry_of_run kept) runs → IsStrictlySortedBy (on run_key key_cmp) runs → IsStrictlySortedBy (on key_of key_cmp) es
+pub entries_rise : (kept : Kept) (es : List Entry) (runs : List Run) → map said_by es ≡ map (entry_of_run kept) runs → IsStrictlySortedBy (on run_key by_name_cmp) runs → IsStrictlySortedBy (on key_of by_name_cmp) es
 entries_rise kept es runs says up =
-    unmap_rises key_of key_cmp es
-    (subst (IsStrictlySortedBy key_cmp) (keys_run kept runs ∙ ap (map key_said) (sym says) ∙ sym (keys_said es)) (rises_map run_key key_cmp runs up))
+    unmap_rises key_of by_name_cmp es
+    (subst (IsStrictlySortedBy by_name_cmp) (keys_run kept runs ∙ ap (map key_said) (sym says) ∙ sym (keys_said es)) (rises_map run_key by_name_cmp runs up))
 
 -- ---- the optionals round the declaration of a row
 
@@ -143,7 +143,7 @@ module _ (i : Kept) (rows : List Row) (runs : List Run) (of : AreRunsOf i rows r
   one_run a b ca cb same =
       let (m, below_m, at_m) = get_at runs a ca in
       let (n, below_n, at_n) = get_at runs b cb in
-      same_Some a b (sym at_m ∙ ap (slice_get runs) (one_number run_key key_cmp key_total one_key runs m n a b of.are.rising at_m at_n same) ∙ at_n)
+      same_Some a b (sym at_m ∙ ap (slice_get runs) (one_number run_key by_name_cmp key_total one_key runs m n a b of.are.rising at_m at_n same) ∙ at_n)
 
   pub keep_rounds : KeepRounds (namespaces_in i) (items_in i) es
   unfolding rounds_by

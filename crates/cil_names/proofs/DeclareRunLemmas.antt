@@ -19,7 +19,7 @@ use Rattle.cil_names.specs.declared.run.Run.{Run}
 use Rattle.cil_macros.specs.Items.{Kept}
 use Rattle.cil_names.specs.DeclareRows.{AreAlike, declaration_of, row_key}
 use Rattle.cil_names.specs.DeclareRuns.{AreRuns, IsNextRun, IsRun, rows_in, run_key}
-use Rattle.cil_names.specs.Entries.{Key, key_cmp}
+use Rattle.cil_names.specs.Entries.{Key, by_name_cmp}
 use Rattle.cil_names.proofs.OrderLemmas.{key_total, one_key}
 
 -- ---- the first items of a list, and the others
@@ -31,13 +31,13 @@ first_of_take (suc n) (y ∷ ys) x some within is = subst (Contains (y ∷ take 
 
 -- ---- keys
 
-pub weak : IsStrictWeakOrder (λ (x y : Row). is_lt (key_cmp (row_key x) (row_key y)))
+pub weak : IsStrictWeakOrder (λ (x y : Row). is_lt (by_name_cmp (row_key x) (row_key y)))
 weak = ranks_by key_total row_key
 
-pub equal_keys : (a b : Key) → is_lt (key_cmp a b) ≡ false → is_lt (key_cmp b a) ≡ false → b ≡ a
+pub equal_keys : (a b : Key) → is_lt (by_name_cmp a b) ≡ false → is_lt (by_name_cmp b a) ≡ false → b ≡ a
 equal_keys a b = by _ refl
   where
-    by : (o : Ordering) → key_cmp a b ≡ o → is_lt (key_cmp a b) ≡ false → is_lt (key_cmp b a) ≡ false → b ≡ a
+    by : (o : Ordering) → by_name_cmp a b ≡ o → is_lt (by_name_cmp a b) ≡ false → is_lt (by_name_cmp b a) ≡ false → b ≡ a
     by Less e p q = absurd (true≢false (sym (ap is_lt e) ∙ p))
     by Equal e p q = sym (one_key a b e)
     by Greater e p q = absurd (true≢false (sym (ap is_lt (key_total.antisymm b a ∙ ap ordering_reverse e)) ∙ q))
@@ -47,24 +47,24 @@ less_of Less e = refl
 less_of Equal e = absurd (false≢true e)
 less_of Greater e = absurd (false≢true e)
 
-never_below : (k : Key) → is_lt (key_cmp k k) ≡ true → ⊥
+never_below : (k : Key) → is_lt (by_name_cmp k k) ≡ true → ⊥
 never_below k e =
-    let l = less_of (key_cmp k k) e in
+    let l = less_of (by_name_cmp k k) e in
     let turned : Less ≡ ordering_reverse Less = sym l ∙ key_total.antisymm k k ∙ ap ordering_reverse l in cc
 
 -- ---- the rows with the key of the first
 
 -- the row does not stand behind those of the key
 abbrev pub is_upto : Row → Row → Bool
-is_upto first r = not (is_lt (key_cmp (row_key first) (row_key r)))
+is_upto first r = not (is_lt (by_name_cmp (row_key first) (row_key r)))
 
-module _ (first : Row) (rest : List Row) (sorted : IsSortedByKey row_key key_cmp rest) where
-  far : (i j : ℕ) (d : Row) → i ≤ j → j < length rest → is_lt (key_cmp (row_key (get_or rest j d)) (row_key (get_or rest i d))) ≡ false
-  far = sorted_far (λ x y. is_lt (key_cmp (row_key x) (row_key y))) weak rest sorted
+module _ (first : Row) (rest : List Row) (sorted : IsSortedByKey row_key by_name_cmp rest) where
+  far : (i j : ℕ) (d : Row) → i ≤ j → j < length rest → is_lt (by_name_cmp (row_key (get_or rest j d)) (row_key (get_or rest i d))) ≡ false
+  far = sorted_far (λ x y. is_lt (by_name_cmp (row_key x) (row_key y))) weak rest sorted
 
   pub parted : IsPartitionedBy (is_upto first) rest
   parted i j d a b h =
-      ap not (weak.chain first (get_or rest j d) (get_or rest i d) (not-true (is_lt (key_cmp (row_key first) (row_key (get_or rest j d)))) h) (far i j d a b))
+      ap not (weak.chain first (get_or rest j d) (get_or rest i d) (not-true (is_lt (by_name_cmp (row_key first) (row_key (get_or rest j d)))) h) (far i j d a b))
 
   module _ (n : ℕ) (bound : n ≤ length rest) (some : 0 < length rest) (is_first : first ≡ get_or rest 0 first)
       (point : IsPartitionPoint (λ r. is_upto first r ≡ true) (λ r. is_upto first r ≡ false) rest n) where
@@ -72,7 +72,7 @@ module _ (first : Row) (rest : List Row) (sorted : IsSortedByKey row_key key_cmp
     at_least_one (suc m) e = omega arith
     at_least_one zero e =
         absurd (never_below (row_key first)
-        (not-false (is_lt (key_cmp (row_key first) (row_key first)))
+        (not-false (is_lt (by_name_cmp (row_key first) (row_key first)))
         (subst (λ r. is_upto first r ≡ false) (sym is_first) (point.1 0 first (omega (arith, e)) some))))
 
     pub first_within : Contains (take n rest) first
@@ -81,9 +81,9 @@ module _ (first : Row) (rest : List Row) (sorted : IsSortedByKey row_key key_cmp
     pub same_keys : (r : Row) → Contains (take n rest) r → row_key r ≡ row_key first
     same_keys r c =
         equal_keys (row_key first) (row_key r)
-        (not-true (is_lt (key_cmp (row_key first) (row_key r))) (in_take (λ x. is_upto first x ≡ true) n rest (λ k d a b. point.0 k d (omega arith) a) r c))
-        (in_take (λ x. is_lt (key_cmp (row_key x) (row_key first)) ≡ false) n rest
-        (λ k d a b. subst (λ x. is_lt (key_cmp (row_key (get_or rest k d)) (row_key x)) ≡ false) (first_is d) (far 0 k d (omega arith) b)) r c)
+        (not-true (is_lt (by_name_cmp (row_key first) (row_key r))) (in_take (λ x. is_upto first x ≡ true) n rest (λ k d a b. point.0 k d (omega arith) a) r c))
+        (in_take (λ x. is_lt (by_name_cmp (row_key x) (row_key first)) ≡ false) n rest
+        (λ k d a b. subst (λ x. is_lt (by_name_cmp (row_key (get_or rest k d)) (row_key x)) ≡ false) (first_is d) (far 0 k d (omega arith) b)) r c)
       where
         first_is : (d : Row) → get_or rest 0 d ≡ first
         first_is d = in_front rest d some ∙ sym is_first
@@ -92,17 +92,17 @@ module _ (first : Row) (rest : List Row) (sorted : IsSortedByKey row_key key_cmp
             in_front [] d h = absurd (omega (arith, h))
             in_front (x ∷ xs) d h = refl
 
-    pub keys_above : (r : Row) → Contains (drop n rest) r → key_cmp (row_key first) (row_key r) ≡ Less
+    pub keys_above : (r : Row) → Contains (drop n rest) r → by_name_cmp (row_key first) (row_key r) ≡ Less
     keys_above r c =
-        less_of (key_cmp (row_key first) (row_key r))
-        (not-false (is_lt (key_cmp (row_key first) (row_key r))) (in_drop (λ x. is_upto first x ≡ false) n rest (λ k d a b. point.1 k d a b) r c))
+        less_of (by_name_cmp (row_key first) (row_key r))
+        (not-false (is_lt (by_name_cmp (row_key first) (row_key r))) (in_drop (λ x. is_upto first x ≡ false) n rest (λ k d a b. point.1 k d a b) r c))
 
 -- what is left of sorted rows is sorted
-pub sorted_left : (n : ℕ) (xs : List Row) → IsSortedByKey row_key key_cmp xs → IsSortedByKey row_key key_cmp (drop n xs)
+pub sorted_left : (n : ℕ) (xs : List Row) → IsSortedByKey row_key by_name_cmp xs → IsSortedByKey row_key by_name_cmp (drop n xs)
 sorted_left n xs sorted k d low within =
     let len = length-drop n xs in
-    ap is_lt (λ i. key_cmp (row_key (get_or-drop n xs (k + 1) d i)) (row_key (get_or-drop n xs k d i)))
-    ∙ subst (λ m. is_lt (key_cmp (row_key (get_or xs m d)) (row_key (get_or xs (n + k) d))) ≡ false) (let e : (n + k) + 1 ≡ n + (k + 1) = omega arith in e)
+    ap is_lt (λ i. by_name_cmp (row_key (get_or-drop n xs (k + 1) d i)) (row_key (get_or-drop n xs k d i)))
+    ∙ subst (λ m. is_lt (by_name_cmp (row_key (get_or xs m d)) (row_key (get_or xs (n + k) d))) ≡ false) (let e : (n + k) + 1 ≡ n + (k + 1) = omega arith in e)
     (sorted (n + k) d (omega arith) (omega (arith, within, len)))
 
 -- ---- the run at a place
@@ -115,8 +115,8 @@ module _ (rows : List Row) (start n : ℕ) (rest : List Row) (is_rest : rest ≡
   pub next_parted : n ≤ length rest → drop start rows ≡ take n rest ++ drop (start + length (take n rest)) rows
   next_parted bound = sym is_rest ∙ sym (take-append-drop n rest) ∙ ap (λ z. take n rest ++ z) (sym (next_start bound))
 
-  pub next_above : (first : Row) → n ≤ length rest → ((r : Row) → Contains (drop n rest) r → key_cmp (row_key first) (row_key r) ≡ Less)
-      → (r : Row) → Contains (drop (start + length (take n rest)) rows) r → key_cmp (row_key first) (row_key r) ≡ Less
+  pub next_above : (first : Row) → n ≤ length rest → ((r : Row) → Contains (drop n rest) r → by_name_cmp (row_key first) (row_key r) ≡ Less)
+      → (r : Row) → Contains (drop (start + length (take n rest)) rows) r → by_name_cmp (row_key first) (row_key r) ≡ Less
   next_above first bound above r c = above r (subst (λ z. Contains z r) (next_start bound) c)
 
   pub row_within : (r : Row) → Contains (take n rest) r → Contains rows r
@@ -145,8 +145,8 @@ rising_push order (y ∷ ys) x up above =
 -- the runs of the rows before a place
 pub record AreRunsUpTo (i : Kept) (rows : List Row) (runs : List Run) (start : ℕ) : Type 0 where
   pub whole : flat_map rows_in runs ++ drop start rows ≡ rows
-  pub rising : IsStrictlySortedBy (on run_key key_cmp) runs
-  pub below : (run : Run) → Contains runs run → (r : Row) → Contains (drop start rows) r → key_cmp (run_key run) (row_key r) ≡ Less
+  pub rising : IsStrictlySortedBy (on run_key by_name_cmp) runs
+  pub below : (run : Run) → Contains runs run → (r : Row) → Contains (drop start rows) r → by_name_cmp (run_key run) (row_key r) ≡ Less
   pub each : (run : Run) → Contains runs run → IsRun i run
 
 pub no_runs : (i : Kept) (rows : List Row) → AreRunsUpTo i rows [] 0
@@ -164,13 +164,13 @@ module _ (i : Kept) (rows : List Row) where
             ∙ append_assoc (flat_map rows_in runs) (rows_in run) (drop (start + length run.rows.now) rows)
             ∙ ap (λ z. flat_map rows_in runs ++ z) (sym next.parted)
             ∙ up.whole;
-        rising = rising_push (on run_key key_cmp) runs run up.rising
+        rising = rising_push (on run_key by_name_cmp) runs run up.rising
             (λ r c. up.below r c run.first.now (subst (λ z. Contains z run.first.now) (sym next.parted)
             (Contains-append_left run.rows.now (drop (start + length run.rows.now) rows) run.first.now one.first)));
         below = λ r c x d. elim (Contains-append_cases runs (run ∷ []) r c) [
           | inl old ↦ up.below r old x (subst (λ z. Contains z x) (sym next.parted) (Contains-append_right run.rows.now (drop (start + length run.rows.now) rows) x d))
           | inr new ↦ elim (contains_cases r run [] new) [
-            | inl is ↦ subst (λ z. key_cmp (run_key z) (row_key x) ≡ Less) is (next.above x d)
+            | inl is ↦ subst (λ z. by_name_cmp (run_key z) (row_key x) ≡ Less) is (next.above x d)
             | inr none ↦ absurd (contains_none r none)
           ]
         ];

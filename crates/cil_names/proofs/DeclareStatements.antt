@@ -1,7 +1,7 @@
 -- The statements of instances that say what is written: their names and contents.
 use Rattle.std.specs.Prelude.{Contains, None, Some}
 use Rattle.std.proofs.Common.{◌≡◌, ℕ, ◌+◌, ◌<◌, true, List, [], ◌∷◌, ◌++◌, drop, length, refl, sym, ◌∙◌, ap, subst}
-use Rattle.cil_base.specs.Lists.{contains_here, contains_none}
+use Rattle.cil_base.specs.Lists.{contains_here}
 use Rattle.cil_faults.specs.declared.code.FaultCode.TheVariants as causes
 use Rattle.cil_faults.specs.declared.fault.Fault.{Fault}
 use Rattle.cil_syntax.specs.declared.kind.Kind.{Kind}
@@ -16,7 +16,7 @@ use Rattle.cil_syntax.specs.Said.{all_said, args_of}
 use Rattle.cil_syntax.specs.Scopes.{ScopedWord}
 use Rattle.cil_syntax.specs.Table.{entry_of}
 use Rattle.cil_syntax.specs.Terms.{Leaf, Name, Form, Terms, nil, cons}
-use Rattle.cil_syntax.specs.Written.{Statement, Written}
+use Rattle.cil_syntax.specs.Written.{Statement}
 use Rattle.cil_faults.specs.Namespaces.{qualified}
 use Rattle.cil_blocks.specs.Namespaces.{IsNumber, space_at}
 use Rattle.cil_macros.specs.Item.{all_replaced, replaced}

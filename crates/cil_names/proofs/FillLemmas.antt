@@ -14,8 +14,7 @@ use Rattle.cil_names.specs.Faults.{ResolveFault, unresolved}
 use Rattle.cil_macros.specs.Item.{Item, OptSet, all_words_in}
 use Rattle.cil_names.specs.declared.entry.Entry.{Entry}
 use Rattle.cil_names.specs.Meanings.{meanings, meant}
-use Rattle.cil_syntax.specs.Terms.{nil}
-use Rattle.cil_names.specs.Resolves.{Wanted, all_wanted_in, is_judged, resolves, told_word, words_of}
+use Rattle.cil_names.specs.Resolves.{Wanted, is_judged, resolves, told_word, words_of}
 use Rattle.cil_names.specs.Unresolved.{fault_of_word, faults_in, faults_of_all, faults_of_wanted, is_outside}
 use Rattle.cil_names.proofs.ScopeLemmas.{passed_on}
 

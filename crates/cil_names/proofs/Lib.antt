@@ -15,9 +15,12 @@ pub mod DeclareRunLemmas
 pub mod DeclareScopes
 pub mod DeclareStatements
 pub mod EntryLemmas
+pub mod FamilyLemmas
 pub mod FillLemmas
 pub mod ListedLemmas
 pub mod MeaningLemmas
+mod MemberExamples
+pub mod MemberLemmas
 pub mod NumberLemmas
 pub mod OrderLemmas
 pub mod PermissionLemmas
@@ -29,6 +32,7 @@ pub mod RisingLemmas
 pub mod RoundLemmas
 pub mod RowLemmas
 pub mod ScopeLemmas
+pub mod SoleLemmas
 pub mod SpelledLemmas
 pub mod TableLemmas
 pub mod UnresolvedLemmas

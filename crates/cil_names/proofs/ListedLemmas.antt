@@ -5,10 +5,12 @@ use Rattle.std.specs.Global.{Vec}
 use Rattle.std.specs.List.{list_any}
 use Rattle.std.specs.Option.{is_some, option_map_or}
 use Rattle.std.specs.Cmp.Lexicographic.{bytes_decides}
-use Rattle.std.proofs.lemmas.Bool.{and_parts, cases_Bool}
+use Rattle.std.proofs.lemmas.Bool.{and_parts, cases_Bool, true≢false}
 use Rattle.cil_base.specs.Searches.{any_true}
 use Rattle.cil_base.specs.Places.{get_contains}
 use Rattle.cil_base.specs.declared.bytes.Bytes.{Bytes}
+use Rattle.cil_syntax.specs.declared.kind.Kind.{Kind}
+use Rattle.cil_syntax.specs.declared.kind.Kind.TheVariants as kinds
 use Rattle.cil_syntax.specs.declared.kind.Sign.TheVariants as signs
 use Rattle.cil_syntax.specs.Spelling.{same_bytes}
 use Rattle.cil_syntax.specs.Scopes.{asked, same_space, ScopedWord}
@@ -35,6 +37,11 @@ pub answered_found : (ss : List Space) (xs : List Item) (es : List Entry) (s : O
 answered_found ss xs es s w None none = ap is_some (sym none)
 answered_found ss xs es s w (Some d) named = ap is_some (sym named.found)
 
+-- what a class alone may name, a class or a class map may name
+class_wanted : (kind : Kind) → is_wanted signs.PlainClass kind ≡ true → is_wanted signs.Classes kind ≡ true
+class_wanted kinds.Class e = refl
+class_wanted kind e = absurd (true≢false (sym e))
+
 module _ (ss : List Space) (are : AreNamespaces ss) (xs : List Item) (es : List Entry) (entries : AreEntries ss xs es) where
   -- a permission is given to a class that is declared
   no_class : (k : ℕ) (name : List ℕ) → k ≤ length ss → HasNoEntry es name signs.Classes k → (p : List ℕ) → has_permission xs (record { space = space_at ss k; name = name }) p ≡ false
@@ -43,18 +50,18 @@ module _ (ss : List Space) (are : AreNamespaces ss) (xs : List Item) (es : List 
       elim (cases_Bool (list_any (gives_permission (record { space = space_at ss k; name = name }) p) xs)) [
         | inl t ↦
             let (x, cx, gives) = any_true (gives_permission (record { space = space_at ss k; name = name }) p) xs t in
-            let (front, lists) = and_parts (is_enabled nobody x && list_any (fits name signs.Classes (space_at ss k)) (declared_by x)) (list_any (same_bytes p) (listed_permissions x.args)) gives in
-            let (on, some) = and_parts (is_enabled nobody x) (list_any (fits name signs.Classes (space_at ss k)) (declared_by x)) front in
-            let (d, cd, fit) = any_true (fits name signs.Classes (space_at ss k)) (declared_by x) some in
-            let (named, spaced) = and_parts (same_bytes d.name name && is_wanted signs.Classes d.kind) (same_space d.space (space_at ss k)) fit in
-            let (same, wanted) = and_parts (same_bytes d.name name) (is_wanted signs.Classes d.kind) named in
+            let (front, lists) = and_parts (is_enabled nobody x && list_any (fits name signs.PlainClass (space_at ss k)) (declared_by x)) (list_any (same_bytes p) (listed_permissions x.args)) gives in
+            let (on, some) = and_parts (is_enabled nobody x) (list_any (fits name signs.PlainClass (space_at ss k)) (declared_by x)) front in
+            let (d, cd, fit) = any_true (fits name signs.PlainClass (space_at ss k)) (declared_by x) some in
+            let (named, spaced) = and_parts (same_bytes d.name name && is_wanted signs.PlainClass d.kind) (same_space d.space (space_at ss k)) fit in
+            let (same, wanted) = and_parts (same_bytes d.name name) (is_wanted signs.PlainClass d.kind) named in
             let (i, e) = entries.each nobody d (by x d cx on cd) in
             absurd (none i e.entry e.at
             (they_fit name signs.Classes k e.entry
             (same_number ss are (space_at ss k) e.entry.space k
             (record { within = entries.ordered.within e.entry (get_contains es i e.entry e.at); is = e.in_space ∙ (spaces_decide d.space (space_at ss k)).0 spaced })
             (record { within = within; is = refl }))
-            (e.of_name ∙ (bytes_decides d.name name).0 same) (ap (is_wanted signs.Classes) e.of_kind ∙ wanted)))
+            (e.of_name ∙ (bytes_decides d.name name).0 same) (ap (is_wanted signs.Classes) e.of_kind ∙ class_wanted d.kind wanted)))
         | inr f ↦ f
       ]
 

@@ -124,26 +124,14 @@ all_sections P n u r t c kinds.User e = u
 all_sections P n u r t c kinds.Role e = r
 all_sections P n u r t c kinds.Type_ e = t
 all_sections P n u r t c kinds.Class e = c
-all_sections P n u r t c kinds.TypeAlias e = absurd (true≢false (sym e))
-all_sections P n u r t c kinds.TypeAttribute e = absurd (true≢false (sym e))
-all_sections P n u r t c kinds.RoleAttribute e = absurd (true≢false (sym e))
-all_sections P n u r t c kinds.UserAttribute e = absurd (true≢false (sym e))
-all_sections P n u r t c kinds.ClassMap e = absurd (true≢false (sym e))
-all_sections P n u r t c kinds.Block e = absurd (true≢false (sym e))
-all_sections P n u r t c kinds.Macro e = absurd (true≢false (sym e))
+all_sections P n u r t c kind e = absurd (true≢false (sym e))
 
 pub all_rise : (n : Sections) → ((kind : Kind) → has_section kind ≡ true → IsStrictlySortedBy text_cmp (names_of n kind)) → (kind : Kind) → IsStrictlySortedBy text_cmp (names_of n kind)
 all_rise n rise kinds.User = rise kinds.User refl
 all_rise n rise kinds.Role = rise kinds.Role refl
 all_rise n rise kinds.Type_ = rise kinds.Type_ refl
 all_rise n rise kinds.Class = rise kinds.Class refl
-all_rise n rise kinds.TypeAlias = rising_nothing text_cmp
-all_rise n rise kinds.TypeAttribute = rising_nothing text_cmp
-all_rise n rise kinds.RoleAttribute = rising_nothing text_cmp
-all_rise n rise kinds.UserAttribute = rising_nothing text_cmp
-all_rise n rise kinds.ClassMap = rising_nothing text_cmp
-all_rise n rise kinds.Block = rising_nothing text_cmp
-all_rise n rise kinds.Macro = rising_nothing text_cmp
+all_rise n rise kind = rising_nothing text_cmp
 
 -- ---- all numbers
 

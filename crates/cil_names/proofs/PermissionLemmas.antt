@@ -123,15 +123,14 @@ permissions_in (cons (Name at name) (cons (Leaf w) ts)) = refl
 permissions_in (cons (Name at name) (cons (Name bt other) ts)) = refl
 permissions_in (cons (Name at name) (cons (Form bt op parts) ts)) = refl
 
--- only a class statement declares what is wanted as a class
-class_keyword : (k : Keyword) (kind : Kind) → Contains (entry_of k).declares kind → is_wanted signs.Classes kind ≡ true → k ≡ keywords.Class
+-- only a class statement declares a class
+lacks_class : (k : Keyword) → list_any (is_wanted signs.PlainClass) (entry_of k).declares ≡ true → k ≡ keywords.Class
 unfolding entry_of
-class_keyword keywords.Class kind c wanted = refl
-class_keyword keywords.Type_ kind c wanted = absurd (elim (contains_cases kind kinds.Type_ [] c) [ inl e ↦ true≢false (sym wanted ∙ ap (is_wanted signs.Classes) (sym e)) | inr n ↦ contains_none kind n ])
-class_keyword keywords.Role kind c wanted = absurd (elim (contains_cases kind kinds.Role [] c) [ inl e ↦ true≢false (sym wanted ∙ ap (is_wanted signs.Classes) (sym e)) | inr n ↦ contains_none kind n ])
-class_keyword keywords.User kind c wanted = absurd (elim (contains_cases kind kinds.User [] c) [ inl e ↦ true≢false (sym wanted ∙ ap (is_wanted signs.Classes) (sym e)) | inr n ↦ contains_none kind n ])
-class_keyword keywords.Macro kind c wanted = absurd (elim (contains_cases kind kinds.Macro [] c) [ inl e ↦ true≢false (sym wanted ∙ ap (is_wanted signs.Classes) (sym e)) | inr n ↦ contains_none kind n ])
-class_keyword k kind c wanted = absurd (contains_none kind c)
+lacks_class keywords.Class e = refl
+lacks_class k e = absurd (true≢false (sym e))
+
+class_keyword : (k : Keyword) (kind : Kind) → Contains (entry_of k).declares kind → is_wanted signs.PlainClass kind ≡ true → k ≡ keywords.Class
+class_keyword k kind c wanted = lacks_class k (any_from (is_wanted signs.PlainClass) (entry_of k).declares kind c wanted)
 
 pub class_declares : (entry_of keywords.Class).declares ≡ kinds.Class ∷ []
 unfolding entry_of
@@ -182,11 +181,11 @@ module _ (x : Item) where
 
   gives_only : (c : Symbol) (p : List ℕ) → gives_permission c p x ≡ true → Gives c p
   gives_only c p e =
-      let (front, lists) = and_parts (is_enabled nobody x && list_any (fits c.name signs.Classes c.space) (declared_by x)) (list_any (same_bytes p) (listed_permissions x.args)) e in
-      let (on, some) = and_parts (is_enabled nobody x) (list_any (fits c.name signs.Classes c.space) (declared_by x)) front in
-      let (d, cd, fit) = any_true (fits c.name signs.Classes c.space) (declared_by x) some in
-      let (named, spaced) = and_parts (same_bytes d.name c.name && is_wanted signs.Classes d.kind) (same_space d.space c.space) fit in
-      let (same, wanted) = and_parts (same_bytes d.name c.name) (is_wanted signs.Classes d.kind) named in
+      let (front, lists) = and_parts (is_enabled nobody x && list_any (fits c.name signs.PlainClass c.space) (declared_by x)) (list_any (same_bytes p) (listed_permissions x.args)) e in
+      let (on, some) = and_parts (is_enabled nobody x) (list_any (fits c.name signs.PlainClass c.space) (declared_by x)) front in
+      let (d, cd, fit) = any_true (fits c.name signs.PlainClass c.space) (declared_by x) some in
+      let (named, spaced) = and_parts (same_bytes d.name c.name && is_wanted signs.PlainClass d.kind) (same_space d.space c.space) fit in
+      let (same, wanted) = and_parts (same_bytes d.name c.name) (is_wanted signs.PlainClass d.kind) named in
       let is = front_of (entry_of x.keyword).declares x.args d cd in
       record {
         declares = record {
@@ -204,7 +203,7 @@ module _ (x : Item) where
   gives_from c p g =
       and_from _ _
       (and_from _ _ (ap (list_all nobody) g.declares.outside)
-      (any_from (fits c.name signs.Classes c.space) (declared_by x) d (subst (λ ds. Contains ds d) (sym declared) (contains_here d []))
+      (any_from (fits c.name signs.PlainClass c.space) (declared_by x) d (subst (λ ds. Contains ds d) (sym declared) (contains_here d []))
       (and_from _ _ (and_from _ _ ((bytes_decides c.name c.name).1 refl) refl) ((spaces_decide x.space c.space).1 g.spaced))))
       g.lists
     where

@@ -15,7 +15,7 @@ use Rattle.cil_syntax.specs.declared.kind.Kind.{Kind}
 use Rattle.std.proofs.lemmas.Option.{same_Some}
 use Rattle.cil_names.specs.declared.entry.Entry.{Entry}
 use Rattle.cil_blocks.specs.declared.namespaces.Space.{Space}
-use Rattle.cil_names.specs.Entries.{AreOrdered, key_cmp, key_of, rank}
+use Rattle.cil_names.specs.Entries.{AreOrdered, by_name_cmp, key_of, rank}
 use Rattle.cil_macros.specs.Item.{OptSet}
 use Rattle.cil_names.specs.Numbers.{AreApart, AreNumbers, ArePlain, ArePlainNames, IsPlain, has_section, spelled_of}
 use Rattle.cil_blocks.specs.Namespaces.{AreNamespaces, space_at}
@@ -110,7 +110,7 @@ module _ (ss : List Space) (are : AreNamespaces ss) (es : List Entry) (ordered :
       let cf = get_contains es k f q in
       let whole : e.name ∷ space_at ss e.space ≡ f.name ∷ space_at ss f.space =
       spelled_one (e.name ∷ space_at ss e.space) (f.name ∷ space_at ss f.space) (plain_symbol e ce) (plain_symbol f cf) same in
-      one_number key_of key_cmp key_total one_key es d k e f ordered.rising p q
+      one_number key_of by_name_cmp key_total one_key es d k e f ordered.rising p q
       (same_key e f
       (same_number ss are (space_at ss f.space) e.space f.space (record { within = ordered.within e ce; is = ap names_behind whole }) (record { within = ordered.within f cf; is = refl }))
       (ap name_first whole) (ap rank kinds))

@@ -18,7 +18,7 @@ use Rattle.cil_blocks.specs.Namespaces.{space_at}
 use Rattle.cil_macros.specs.declared.placed_word.PlacedWord.{PlacedWord}
 use Rattle.cil_macros.specs.Calls.{is_call}
 use Rattle.cil_macros.specs.Item.{all_replaced, all_words_in, replaced, words_in}
-use Rattle.cil_macros.specs.Items.{Kept, all_placed, item_at, leaves, namespaces_in, placed_at, says, says_as_written, scope_by, scoped_by}
+use Rattle.cil_macros.specs.Items.{Kept, all_placed, leaves, namespaces_in, placed_at, says, says_as_written, scope_by, scoped_by}
 use Rattle.cil_macros.specs.Macros.{all_standing}
 use Rattle.cil_macros.specs.Placed.{Placed}
 use Rattle.cil_macros.specs.Walks.{IsScope, written_in}

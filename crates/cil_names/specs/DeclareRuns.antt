@@ -16,7 +16,7 @@ use Rattle.cil_names.specs.declared.entry.Entry.{Entry}
 use Rattle.cil_names.specs.declared.row.Row.{Row}
 use Rattle.cil_names.specs.declared.run.Run.{Run}
 use Rattle.cil_names.specs.DeclareRows.{TellsDiffering, round_at, row_key}
-use Rattle.cil_names.specs.Entries.{Key, key_cmp}
+use Rattle.cil_names.specs.Entries.{Key, by_name_cmp}
 
 abbrev pub run_key : Run → Key
 run_key run = row_key run.first.now
@@ -34,13 +34,13 @@ pub record IsRun (i : Kept) (run : Run) : Type 0 where
 pub record IsNextRun (i : Kept) (rows : List Row) (start : ℕ) (run : Run) : Type 0 where
   pub some : 0 < length run.rows.now
   pub parted : drop start rows ≡ run.rows.now ++ drop (start + length run.rows.now) rows
-  pub above : (r : Row) → Contains (drop (start + length run.rows.now) rows) r → key_cmp (row_key run.first.now) (row_key r) ≡ Less
+  pub above : (r : Row) → Contains (drop (start + length run.rows.now) rows) r → by_name_cmp (row_key run.first.now) (row_key r) ≡ Less
   pub is_run : IsRun i run
 
 -- the runs are these rows, parted by their keys
 pub record AreRuns (i : Kept) (rows : List Row) (runs : List Run) : Type 0 where
   pub whole : flat_map rows_in runs ≡ rows
-  pub rising : IsStrictlySortedBy (on run_key key_cmp) runs
+  pub rising : IsStrictlySortedBy (on run_key by_name_cmp) runs
   pub each : (run : Run) → Contains runs run → IsRun i run
 
 -- ---- faults

@@ -18,7 +18,7 @@ use Rattle.cil_names.specs.declared.entry.Entry.{Entry}
 use Rattle.cil_names.specs.declared.look.KnownBy.{KnownBy}
 use Rattle.cil_names.specs.declared.look.KnownBy.TheVariants as known
 use Rattle.cil_blocks.specs.declared.namespaces.Space.{Space}
-use Rattle.cil_names.specs.Declarations.{Declaration, IsDeclaration, NameSpace, declared_by, of_types, of_roles, of_users, of_classes, of_blocks, name_space}
+use Rattle.cil_names.specs.Declarations.{Declaration, IsDeclaration, NameSpace, declared_by, of_types, of_roles, of_users, of_classes, of_blocks, of_commons, of_class_permissions, of_booleans, of_sensitivities, of_categories, of_levels, of_level_ranges, name_space}
 use Rattle.cil_macros.specs.Item.{Item, OptSet, everybody}
 use Rattle.cil_names.specs.Resolves.{found_in}
 use Rattle.cil_syntax.specs.Kinds.{is_wanted}
@@ -44,15 +44,23 @@ rank kind = rank_of (name_space kind)
     rank_of of_users = 2
     rank_of of_classes = 3
     rank_of of_blocks = 4
+    rank_of of_commons = 5
+    rank_of of_class_permissions = 6
+    rank_of of_booleans = 7
+    rank_of of_sensitivities = 8
+    rank_of of_categories = 9
+    rank_of of_levels = 10
+    rank_of of_level_ranges = 11
 
--- what tells entries apart: the number of the namespace, the name, and the name space
+-- what distinguishes entries: the number of the namespace, the name, and the name space
 pub record Key : Type 0 where
   pub space : ℕ
   pub name : List ℕ
   pub rank : ℕ
 
-abbrev pub key_cmp : Key → Key → Ordering
-key_cmp = then_cmp (then_cmp (on (λ (k : Key). k.space) nat_cmp) (on (λ (k : Key). k.name) text_cmp)) (on (λ (k : Key). k.rank) nat_cmp)
+-- by the name, then by the name space, and last by the number of the namespace: all entries of a name are side by side
+abbrev pub by_name_cmp : Key → Key → Ordering
+by_name_cmp = then_cmp (then_cmp (on (λ (k : Key). k.name) text_cmp) (on (λ (k : Key). k.rank) nat_cmp)) (on (λ (k : Key). k.space) nat_cmp)
 
 abbrev pub key_of : Entry → Key
 key_of e = record { space = e.space; name = e.name; rank = rank e.kind }
@@ -123,7 +131,7 @@ candidates_of ss es w = flat_map (λ n. listed (candidate ss es (asked w.bytes).
 
 -- the entries rise, and stand in namespaces
 pub record AreOrdered (ss : List Space) (es : List Entry) : Type 0 where
-  pub rising : IsStrictlySortedBy (on key_of key_cmp) es
+  pub rising : IsStrictlySortedBy (on key_of by_name_cmp) es
   pub within : (e : Entry) → Contains es e → e.space ≤ length ss
 
 -- ---- what a word names

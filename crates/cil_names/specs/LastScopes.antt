@@ -1,5 +1,5 @@
 -- The scope that was filled last.
-use Rattle.std.specs.Prelude.{◌<◌, ℕ, IfSome, Some, length}
+use Rattle.std.specs.Prelude.{◌<◌, IfSome, Some, length}
 use Rattle.cil_macros.specs.Items.{Kept, all_placed, items_in, namespaces_in, scope_by}
 use Rattle.cil_macros.specs.Walks.{IsScope}
 use Rattle.cil_names.specs.declared.last_scope.LastScope.{LastScope}

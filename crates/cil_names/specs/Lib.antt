@@ -5,12 +5,14 @@ pub mod Declarations
 pub mod DeclareRows
 pub mod DeclareRuns
 pub mod Entries
+pub mod Family
 pub mod Faults
 pub mod Judging
 pub mod Known
 pub mod LastScopes
 pub mod Laws
 pub mod Meanings
+pub mod MemberLaws
 pub mod Members
 pub mod Numbers
 pub mod PermissionWords
@@ -19,5 +21,7 @@ pub mod Readings
 pub mod Resolves
 pub mod Rows
 pub mod Says
+pub mod Soles
+pub mod Spaces
 pub mod Unresolved
 pub mod Worded

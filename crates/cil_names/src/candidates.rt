@@ -3,6 +3,7 @@
 ghost use Rattle.std.specs.Prelude.{◌≡◌, ◌≤◌, length, slice_range};
 
 use crate::entry::Entry;
+use crate::guesses::Guesses;
 use crate::look::{push_candidates, push_listed};
 use crate::table::{end_at, start_at};
 use cil_base::NoMemory;
@@ -74,6 +75,7 @@ impl Candidates {
         &mut self,
         namespaces: &Namespaces,
         entries: &[Entry],
+        guesses: &Guesses,
         word: &Word,
         scope: &[usize],
     ) -> Result<(), NoMemory>
@@ -82,7 +84,7 @@ impl Candidates {
         ensures { OnOk result (self.new ≡ self.old ++ candidates_of namespaces.now entries.now (scoped namespaces.now scope.now word.now) ∷ []) }
     {
         self.starts.push(self.numbers.len())?;
-        push_candidates(&mut self.numbers, namespaces, entries, word, scope)?;
+        push_candidates(&mut self.numbers, namespaces, entries, guesses, word, scope)?;
         Ok(())
     }
 

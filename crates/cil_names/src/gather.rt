@@ -33,7 +33,7 @@ pub fn declare<'a>(alloc: Global, instances: &Instances<'_, '_, 'a>) -> Result<N
     let faults = clashes(alloc, instances, runs.as_slice())?;
     refuse(faults)?;
     let entries = entries_of(alloc, instances, runs.as_slice())?;
-    Ok(Names::of(entries))
+    Ok(Names::of(alloc, entries)?)
 }
 
 /// The entries of runs.

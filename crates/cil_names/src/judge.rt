@@ -217,15 +217,21 @@ impl<'r, 's, 'p, 'a> Judge<'r, 's, 'p, 'a> {
         let lookup = &self.filling.lookup;
         lookup.namespaces.are_namespaces();
         let entries = lookup.names.entries();
+        let guesses = lookup.names.guesses();
         if entries[d].always {
-            return Ok(permissions_at(entries, self.permissions, d));
+            return Ok(permissions_at(entries, guesses, self.permissions, d));
         }
         let scope = self.filling.reading.scope_of(self.filling.alloc, class)?;
-        let Some(outside) = class_named(lookup.namespaces, entries, &class.word, scope.as_slice())
-        else {
+        let Some(outside) = class_named(
+            lookup.namespaces,
+            entries,
+            guesses,
+            &class.word,
+            scope.as_slice(),
+        ) else {
             return Ok(&[]);
         };
-        Ok(permissions_at(entries, self.permissions, outside))
+        Ok(permissions_at(entries, guesses, self.permissions, outside))
     }
 
     /// Reports the words among some terms that are not listed.

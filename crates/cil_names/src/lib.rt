@@ -1,7 +1,8 @@
 //! What words name: declared names as entries, and look-up in scopes. Namespaces are numbers, as cil_blocks has them.
 //!
-//! Start at `gather.rt` (`declare`) and `names.rt` (`Names::resolve`, `Names::candidates`). `fill.rt` looks up each word of
-//! each statement once, and reports those that name nothing; `numbers.rt` numbers the declared symbols by their names.
+//! Start at `gather.rt` (`declare`) and `names.rt` (`Names::resolve`, `Names::candidates`); `guesses.rt` guesses where names
+//! are, and `once.rt` checks the guesses. `fill.rt` looks up each word of each statement once, and reports those that name
+//! nothing; `numbers.rt` numbers the declared symbols by their names.
 //! `specs/Resolves.antt` says what a word names, over statements as `Item.antt` of cil_macros has them; `specs/Declarations.antt`
 //! what is declared; `specs/Entries.antt` how entries and numbers of namespaces stand for that; `laws.rt` says that what a
 //! word means is the entry that it names. `permission_word.rt` has what permission words name
@@ -16,6 +17,7 @@ mod content;
 mod entry;
 mod fill;
 mod gather;
+mod guesses;
 mod judge;
 mod kinds;
 mod known;
@@ -27,6 +29,7 @@ mod meaning;
 mod meanings_behind;
 mod names;
 mod numbers;
+mod once;
 mod opt_set;
 mod permission_word;
 mod permissions;

@@ -148,8 +148,13 @@ impl Listing<'_, '_, '_, '_> {
     {
         let scope = self.reading.scope_of(self.alloc, word)?;
         let namespaces = self.reading.instances.namespaces();
-        let entries = self.names.entries();
-        candidates.push_word(namespaces, entries, &word.word, scope.as_slice())?;
+        candidates.push_word(
+            namespaces,
+            self.names.entries(),
+            self.names.guesses(),
+            &word.word,
+            scope.as_slice(),
+        )?;
         Ok(())
     }
 
@@ -177,10 +182,10 @@ impl Listing<'_, '_, '_, '_> {
     {
         let scope = self.reading.scope_of(self.alloc, class)?;
         let namespaces = self.reading.instances.namespaces();
-        let entries = self.names.entries();
         Ok(class_of(
             namespaces,
-            entries,
+            self.names.entries(),
+            self.names.guesses(),
             self.permissions,
             &class.word,
             scope.as_slice(),

@@ -1,16 +1,19 @@
 //! Look-up, over namespaces and a slice of entries.
 
-ghost use Rattle.std.specs.Prelude.{◌≡◌, ◌↔◌, ◌∷◌, List, MatchOption, length, ℕ, ◌≤◌, ◌++◌, All, IfOk, OnOk, IsTrue, find, map};
+ghost use Rattle.std.specs.Prelude.{◌≡◌, ◌↔◌, ◌∷◌, List, IfSome, MatchOption, length, ℕ, ◌≤◌, ◌++◌, All, IfOk, OnOk, IsTrue, find, map};
 ghost use Rattle.std.specs.List.{list_all, list_any};
 ghost use Rattle.std.specs.List.Sorted.{IsStrictlySortedBy};
 ghost use Rattle.std.specs.Ordering.{on};
 ghost use Rattle.cil_syntax.specs.Scopes.{IsDotless, names_backwards};
-ghost use Rattle.cil_names.specs.Entries.{AreOrdered, HasNoEntry, IsEntryAt, candidate, candidates_of, is_declared_in, is_in, is_known, key_cmp, key_of, listed, scoped};
+ghost use Rattle.cil_names.specs.Entries.{AreOrdered, HasNoEntry, IsEntryAt, candidate, candidates_of, is_declared_in, is_in, is_known, by_name_cmp, key_of, listed, scoped};
+ghost use Rattle.cil_names.specs.Soles.{IsSole};
 ghost use Rattle.cil_base.specs.Found.{IsFound, IsMissing};
 ghost use Rattle.cil_blocks.specs.Namespaces.{space_at};
 
 use crate::entry::Entry;
+use crate::guesses::Guesses;
 use crate::kinds::{rank_of, rank_wanted, wants};
+use crate::once::sole;
 use crate::opt_set::{are_set, is_set};
 use cil_base::NoMemory;
 use cil_blocks::Namespaces;
@@ -33,22 +36,79 @@ pub fn are_numbers(namespaces: &Namespaces, numbers: &[usize]) -> bool
 
 /// The place of the entry with this key.
 fn place_of(entries: &[Entry], space: usize, name: &[u8], rank: u8) -> Option<usize>
-    requires { IsStrictlySortedBy (on key_of key_cmp) entries.now }
+    requires { IsStrictlySortedBy (on key_of by_name_cmp) entries.now }
     ensures { MatchOption result (IsMissing key_of entries.now (record { space = space; name = name.now; rank = rank })) (IsFound key_of entries.now (record { space = space; name = name.now; rank = rank })) }
 {
     entries
         .binary_search_by(|e| {
-            e.space
-                .cmp(&space)
-                .then(e.name.as_slice().cmp(name))
+            e.name
+                .as_slice()
+                .cmp(name)
                 .then(rank_of(e.kind).cmp(&rank))
+                .then(e.space.cmp(&space))
         })
         .ok()
 }
 
-/// The number of the entry of a wanted kind under this name in a namespace. It costs one search by halving.
-pub fn entry_in(entries: &[Entry], space: usize, name: &[u8], sign: Sign) -> Option<usize>
-    requires { IsStrictlySortedBy (on key_of key_cmp) entries.now }
+/// The number of the entry of a wanted kind under this name in a namespace. It costs one hash for a name that one entry has,
+/// and else one search by halving.
+pub fn entry_in(
+    entries: &[Entry],
+    guesses: &Guesses,
+    space: usize,
+    name: &[u8],
+    sign: Sign,
+) -> Option<usize>
+    requires { IsStrictlySortedBy (on key_of by_name_cmp) entries.now }
+    ensures { MatchOption result (HasNoEntry entries.now name.now sign space) (IsEntryAt entries.now name.now sign space) }
+{
+    let rank = rank_wanted(sign)?;
+    entry_of(
+        entries,
+        sole(entries, guesses, name, rank),
+        space,
+        name,
+        sign,
+    )
+}
+
+/// The same, where the one entry of the name is given, or none. So a word looks up its name once, and not once for each
+/// namespace of its scope.
+fn entry_of(
+    entries: &[Entry],
+    sole: Option<usize>,
+    space: usize,
+    name: &[u8],
+    sign: Sign,
+) -> Option<usize>
+    requires sorted { IsStrictlySortedBy (on key_of by_name_cmp) entries.now }
+    requires sole { IfSome sole (IsSole entries.now name.now sign) }
+    ensures { MatchOption result (HasNoEntry entries.now name.now sign space) (IsEntryAt entries.now name.now sign space) }
+{
+    match sole {
+        Some(place) => at_once(entries, place, space, name, sign),
+        None => by_halving(entries, space, name, sign),
+    }
+}
+
+/// The entry at a place, which is the one of its name, if it is of a wanted kind and in a namespace.
+fn at_once(entries: &[Entry], place: usize, space: usize, name: &[u8], sign: Sign) -> Option<usize>
+    requires { IsSole entries.now name.now sign place }
+    ensures { MatchOption result (HasNoEntry entries.now name.now sign space) (IsEntryAt entries.now name.now sign space) }
+{
+    let entry = entries.get(place)?;
+    if entry.space != space {
+        return None;
+    }
+    if !wants(sign, entry.kind) {
+        return None;
+    }
+    Some(place)
+}
+
+/// The same by halving.
+fn by_halving(entries: &[Entry], space: usize, name: &[u8], sign: Sign) -> Option<usize>
+    requires { IsStrictlySortedBy (on key_of by_name_cmp) entries.now }
     ensures { MatchOption result (HasNoEntry entries.now name.now sign space) (IsEntryAt entries.now name.now sign space) }
 {
     let rank = rank_wanted(sign)?;
@@ -59,25 +119,41 @@ pub fn entry_in(entries: &[Entry], space: usize, name: &[u8], sign: Sign) -> Opt
     Some(place)
 }
 
-/// The number of the entry that a path could name in a namespace, whatever is enabled.
+/// The place of the one entry that a path without dots could name, if that was guessed.
+fn sole_of(entries: &[Entry], guesses: &Guesses, path: &Path, sign: Sign) -> Option<usize>
+    requires { IsStrictlySortedBy (on key_of by_name_cmp) entries.now }
+    ensures { IfSome result (IsSole entries.now path.now.names.now sign) }
+{
+    if !path.dotless {
+        return None;
+    }
+    let rank = rank_wanted(sign)?;
+    sole(entries, guesses, path.names, rank)
+}
+
+/// The number of the entry that a path could name in a namespace, whatever is enabled. Where the path has no dots, the one
+/// entry that it could name is given, or none.
 fn named_in(
     namespaces: &Namespaces,
     entries: &[Entry],
+    guesses: &Guesses,
+    sole: Option<usize>,
     from: usize,
     path: &Path,
     sign: Sign,
 ) -> Option<usize>
     requires entries { AreOrdered namespaces.now entries.now }
+    requires sole { IfSome sole (IsSole entries.now path.now.names.now sign) }
     requires within { from ≤ length namespaces.now }
     requires dotless { IsTrue path.now.dotless → IsDotless path.now.names.now }
     ensures { (name : List ℕ) (inner : List (List ℕ)) → names_backwards path.now.names.now ≡ name ∷ inner → result ≡ candidate namespaces.now entries.now name sign (inner ++ space_at namespaces.now from) }
 {
     namespaces.are_namespaces();
     if path.dotless {
-        return entry_in(entries, from, path.names, sign);
+        return entry_of(entries, sole, from, path.names, sign);
     }
     let place = asked_in(namespaces, from, path.names)?;
-    entry_in(entries, place.space, place.name, sign)
+    entry_in(entries, guesses, place.space, place.name, sign)
 }
 
 /// The numbers of the entries that a word could name, whatever is enabled, in the order of its scope.
@@ -85,6 +161,7 @@ pub fn candidates(
     alloc: Global,
     namespaces: &Namespaces,
     entries: &[Entry],
+    guesses: &Guesses,
     word: &Word,
     scope: &[usize],
 ) -> Result<Vec<usize>, NoMemory>
@@ -93,7 +170,7 @@ pub fn candidates(
     ensures { IfOk result (λ ds. ds.items ≡ candidates_of namespaces.now entries.now (scoped namespaces.now scope.now word.now)) }
 {
     let mut found = Vec::new(alloc);
-    push_candidates(&mut found, namespaces, entries, word, scope)?;
+    push_candidates(&mut found, namespaces, entries, guesses, word, scope)?;
     Ok(found)
 }
 
@@ -103,6 +180,7 @@ pub fn push_candidates(
     found: &mut Vec<usize>,
     namespaces: &Namespaces,
     entries: &[Entry],
+    guesses: &Guesses,
     word: &Word,
     scope: &[usize],
 ) -> Result<(), NoMemory>
@@ -115,11 +193,10 @@ pub fn push_candidates(
         return Ok(());
     };
     let path = path_of(word.bytes.as_slice());
+    let sole = sole_of(entries, guesses, &path, word.sign);
     for from in asked_scope(path.global, scope) {
-        push_listed(
-            found,
-            named_in(namespaces, entries, *from, &path, word.sign),
-        )?;
+        let named = named_in(namespaces, entries, guesses, sole, *from, &path, word.sign);
+        push_listed(found, named)?;
     }
     Ok(())
 }
@@ -150,6 +227,7 @@ pub enum KnownBy<'r> {
 pub fn resolve(
     namespaces: &Namespaces,
     entries: &[Entry],
+    guesses: &Guesses,
     known: KnownBy<'_>,
     word: &Word,
     scope: &[usize],
@@ -162,8 +240,9 @@ pub fn resolve(
         return None;
     };
     let path = path_of(word.bytes.as_slice());
+    let sole = sole_of(entries, guesses, &path, word.sign);
     for from in asked_scope(path.global, scope) {
-        let named = named_in(namespaces, entries, *from, &path, word.sign);
+        let named = named_in(namespaces, entries, guesses, sole, *from, &path, word.sign);
         let declared = where_declared(known, entries, named);
         if declared.is_some() {
             return declared;

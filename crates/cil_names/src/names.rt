@@ -7,7 +7,7 @@ ghost use Rattle.std.specs.Ordering.{on};
 ghost use Rattle.cil_base.specs.Lists.{text_cmp};
 ghost use Rattle.cil_base.specs.declared.bytes.Bytes.{Bytes as Text};
 ghost use Rattle.cil_names.specs.declared.entry.Entry.{Entry};
-ghost use Rattle.cil_names.specs.Entries.{AreEntries, AreOrdered, HasNoEntryIn, IsAnswer, IsEntryIn, candidates_of, is_declared_at, is_in, key_cmp, key_of, listed, scoped};
+ghost use Rattle.cil_names.specs.Entries.{AreEntries, AreOrdered, HasNoEntryIn, IsAnswer, IsEntryIn, candidates_of, is_declared_at, is_in, by_name_cmp, key_of, listed, scoped};
 ghost use Rattle.cil_macros.specs.Item.{Item, OptSet as OptionalSet};
 ghost use Rattle.cil_names.specs.PermissionWords.{IsAnswerFor, wanted_candidates};
 ghost use Rattle.cil_names.specs.Resolves.{Permission};
@@ -15,6 +15,7 @@ ghost use Rattle.cil_blocks.specs.Namespaces.{space_at};
 ghost use Rattle.cil_names.specs.Unresolved.{ArePermissions};
 
 use crate::entry::Entry;
+use crate::guesses::Guesses;
 use crate::kinds::rank_of;
 use crate::look::{self, KnownBy};
 use crate::opt_set::OptSet;
@@ -25,11 +26,12 @@ use cil_syntax::{Bytes, Sign, Word};
 use std::alloc::Global;
 use std::marker::Model;
 
-/// The declared names of a policy: an entry for each name of a name space in a namespace, by rising number of the
-/// namespace, name and name space. The number of an entry is its place. Contracts see them as a list.
+/// The declared names of a policy: an entry for each name of a name space in a namespace, by rising name, name space and
+/// number of the namespace. The number of an entry is its place. Contracts see them as a list.
 #[derive(Debug, Drop)]
 pub struct Names<'a> {
     entries: Vec<Entry<'a>>,
+    guesses: Guesses,
 }
 
 impl<'a> Model for Names<'a> {
@@ -37,53 +39,63 @@ impl<'a> Model for Names<'a> {
     ghost use Rattle.std.specs.List.Sorted.{IsStrictlySortedBy};
     ghost use Rattle.std.specs.Ordering.{on};
     ghost use Rattle.cil_names.specs.declared.entry.Entry.{Entry};
-    ghost use Rattle.cil_names.specs.Entries.{key_cmp, key_of};
+    ghost use Rattle.cil_names.specs.Entries.{by_name_cmp, key_of};
 
     ghost Value = { List Entry };
 
     ghost view = { λ a. a.entries.items };
 
-    ghost invariant = { λ a. IsStrictlySortedBy (on key_of key_cmp) a.entries.items };
+    ghost invariant = { λ a. IsStrictlySortedBy (on key_of by_name_cmp) a.entries.items };
 }
 
 impl<'a> Names<'a> {
     ghost use Rattle.std.specs.Prelude.{◌≡◌, MatchOption};
-    ghost use Rattle.cil_names.specs.Entries.{AreOrdered, key_cmp, key_of};
+    ghost use Rattle.cil_names.specs.Entries.{AreOrdered, by_name_cmp, key_of};
     ghost use Rattle.std.specs.List.Sorted.{IsStrictlySortedBy};
     ghost use Rattle.std.specs.Ordering.{on};
 
-    /// These entries.
-    pub fn of(entries: Vec<Entry<'a>>) -> Names<'a>
-        requires { IsStrictlySortedBy (on key_of key_cmp) entries.items }
-        ensures { result ≡ entries.entry.items }
+    /// These entries. Error: out of memory.
+    pub fn of(alloc: Global, entries: Vec<Entry<'a>>) -> Result<Names<'a>, NoMemory>
+        requires { IsStrictlySortedBy (on key_of by_name_cmp) entries.items }
+        ensures { IfOk result (λ names. names ≡ entries.entry.items) }
     {
-        Names { entries }
+        let guesses = Guesses::of(alloc, entries.as_slice())?;
+        Ok(Names { entries, guesses })
     }
 
-    /// These entries; none where they do not rise, or one is in none of the namespaces.
-    pub fn checked(namespaces: &Namespaces, entries: Vec<Entry<'a>>) -> Option<Names<'a>>
-        ensures { MatchOption result (AreOrdered namespaces.now entries.entry.items → ⊥)
-            (λ names. (names ≡ entries.entry.items) × AreOrdered namespaces.now names) }
+    /// These entries; none where they do not rise, or one is in none of the namespaces. Error: out of memory.
+    pub fn checked(
+        alloc: Global,
+        namespaces: &Namespaces,
+        entries: Vec<Entry<'a>>,
+    ) -> Result<Option<Names<'a>>, NoMemory>
+        ensures { IfOk result (λ made. MatchOption made (AreOrdered namespaces.now entries.entry.items → ⊥)
+            (λ names. (names ≡ entries.entry.items) × AreOrdered namespaces.now names)) }
     {
         if !rise(entries.as_slice()) {
-            return None;
+            return Ok(None);
         }
         if !are_within(namespaces, entries.as_slice()) {
-            return None;
+            return Ok(None);
         }
-        Some(Names { entries })
+        Ok(Some(Names::of(alloc, entries)?))
     }
 
     /// The entries, in order.
     pub fn entries(&self) -> &[Entry<'a>]
         ensures value { result.now ≡ self.now }
-        ensures rising { IsStrictlySortedBy (on key_of key_cmp) result.now }
+        ensures rising { IsStrictlySortedBy (on key_of by_name_cmp) result.now }
     {
         self.entries.as_slice()
     }
 
+    /// Where the entries of names may be.
+    pub(crate) fn guesses(&self) -> &Guesses {
+        &self.guesses
+    }
+
     /// The number of the entry of a wanted kind under this name in the namespace of this number, whatever is enabled. It
-    /// costs one search by halving.
+    /// costs one hash for a name that one entry has, and else one search by halving.
     pub fn entry(
         &self,
         namespaces: &Namespaces,
@@ -96,11 +108,13 @@ impl<'a> Names<'a> {
         ensures { MatchOption result (HasNoEntryIn namespaces.now self.now name.now sign (space_at namespaces.now space)) (IsEntryIn namespaces.now self.now name.now sign (space_at namespaces.now space)) }
     {
         namespaces.are_namespaces();
-        look::entry_in(self.entries.as_slice(), space, name, sign)
+        let entries = self.entries.as_slice();
+        look::entry_in(entries, &self.guesses, space, name, sign)
     }
 
-    /// The numbers of the entries that a word could name, whatever is enabled, in the order of its scope. Each
-    /// namespace of the scope costs one search by halving, and one hash for each name before a dot.
+    /// The numbers of the entries that a word could name, whatever is enabled, in the order of its scope. A word without
+    /// dots costs one hash, and a step for each namespace of its scope, if one entry has its name. Else each namespace
+    /// costs one search by halving, and one hash for each name before a dot.
     pub fn candidates(
         &self,
         alloc: Global,
@@ -112,7 +126,14 @@ impl<'a> Names<'a> {
         requires within { All (λ k. k ≤ length namespaces.now) scope.now }
         ensures { IfOk result (λ ds. ds.items ≡ candidates_of namespaces.now self.now (scoped namespaces.now scope.now word.now)) }
     {
-        look::candidates(alloc, namespaces, self.entries.as_slice(), word, scope)
+        look::candidates(
+            alloc,
+            namespaces,
+            self.entries.as_slice(),
+            &self.guesses,
+            word,
+            scope,
+        )
     }
 
     /// The number of the entry that a word names in a scope where these optionals are enabled. It costs what
@@ -135,6 +156,7 @@ impl<'a> Names<'a> {
         look::resolve(
             namespaces,
             self.entries.as_slice(),
+            &self.guesses,
             KnownBy::Enabled(enabled.as_slice()),
             word,
             scope,
@@ -168,6 +190,7 @@ impl<'a> Names<'a> {
         class_with(
             namespaces,
             self.entries(),
+            self.guesses(),
             permissions,
             class,
             permission,
@@ -176,15 +199,16 @@ impl<'a> Names<'a> {
     }
 }
 
-/// Whether entries rise by the numbers of their namespaces, names and name spaces.
+/// Whether entries rise by their names, name spaces and the numbers of their namespaces.
 fn rise(entries: &[Entry]) -> bool
-    ensures { IsTrue result ↔ IsStrictlySortedBy (on key_of key_cmp) entries.now }
+    ensures { IsTrue result ↔ IsStrictlySortedBy (on key_of by_name_cmp) entries.now }
 {
     entries.is_sorted_by(|a, b| {
-        a.space
-            .cmp(&b.space)
-            .then(a.name.as_slice().cmp(b.name.as_slice()))
+        a.name
+            .as_slice()
+            .cmp(b.name.as_slice())
             .then(rank_of(a.kind).cmp(&rank_of(b.kind)))
+            .then(a.space.cmp(&b.space))
             .is_lt()
     })
 }

@@ -12,7 +12,7 @@ ghost use Rattle.cil_blocks.specs.declared.namespaces.Space.{Space};
 ghost use Rattle.cil_syntax.specs.Scopes.{ScopedWord};
 ghost use Rattle.cil_names.specs.Classes.{IsClassFor};
 ghost use Rattle.cil_names.specs.declared.entry.Entry.{Entry as Declared};
-ghost use Rattle.cil_names.specs.Entries.{AreEntries, AreOrdered, key_cmp, key_of, scoped};
+ghost use Rattle.cil_names.specs.Entries.{AreEntries, AreOrdered, by_name_cmp, key_of, scoped};
 ghost use Rattle.cil_macros.specs.Item.{Item, nobody};
 ghost use Rattle.cil_names.specs.Meanings.{meant};
 ghost use Rattle.cil_names.specs.PermissionWords.{class_with as the_class_with, has_permission_at};
@@ -20,6 +20,7 @@ ghost use Rattle.cil_blocks.specs.Namespaces.{AreNamespaces};
 ghost use Rattle.cil_names.specs.Unresolved.{ArePermissions, listed_at as listed_for};
 
 use crate::entry::Entry;
+use crate::guesses::Guesses;
 use crate::kinds::wants;
 use crate::look::{KnownBy, entry_in, resolve};
 use crate::numbers::place_among;
@@ -31,6 +32,7 @@ use cil_syntax::{Bytes, Sign, Word};
 pub fn class_named(
     namespaces: &Namespaces,
     entries: &[Entry],
+    guesses: &Guesses,
     class: &Word,
     scope: &[usize],
 ) -> Option<usize>
@@ -39,13 +41,25 @@ pub fn class_named(
     ensures value { result ≡ meant namespaces.now entries.now nobody (scoped namespaces.now scope.now class.now) }
     ensures within { IfSome result (λ d. d < length entries.now) }
 {
-    resolve(namespaces, entries, KnownBy::Enabled(&[]), class, scope)
+    resolve(
+        namespaces,
+        entries,
+        guesses,
+        KnownBy::Enabled(&[]),
+        class,
+        scope,
+    )
 }
 
 /// The permissions of the class that has the name of an entry, in byte order; none where no class has it. They are given
 /// as a list for each entry.
-pub fn permissions_at<'s>(entries: &[Entry], permissions: &'s [Vec<Bytes>], d: usize) -> &'s [Bytes]
-    requires rising { IsStrictlySortedBy (on key_of key_cmp) entries.now }
+pub fn permissions_at<'s>(
+    entries: &[Entry],
+    guesses: &Guesses,
+    permissions: &'s [Vec<Bytes>],
+    d: usize,
+) -> &'s [Bytes]
+    requires rising { IsStrictlySortedBy (on key_of by_name_cmp) entries.now }
     requires sorted { (v : Vector Text) → Contains permissions.now v → IsStrictlySortedBy text_cmp v.items }
     requires within { d < length entries.now }
     ensures sorted { IsStrictlySortedBy text_cmp result.now }
@@ -56,7 +70,8 @@ pub fn permissions_at<'s>(entries: &[Entry], permissions: &'s [Vec<Bytes>], d: u
     if wants(Sign::Classes, entry.kind) {
         return listed_at(permissions, d);
     }
-    let Some(class) = entry_in(entries, entry.space, entry.name.as_slice(), Sign::Classes) else {
+    let name = entry.name.as_slice();
+    let Some(class) = entry_in(entries, guesses, entry.space, name, Sign::Classes) else {
         return &[];
     };
     listed_at(permissions, class)
@@ -95,6 +110,7 @@ pub struct Class<'s> {
 pub fn class_of<'s>(
     namespaces: &Namespaces,
     entries: &[Entry],
+    guesses: &Guesses,
     permissions: &'s [Vec<Bytes>],
     class: &Word,
     scope: &[usize],
@@ -105,10 +121,10 @@ pub fn class_of<'s>(
     ensures { IsClassFor namespaces.now entries.now permissions.now (scoped namespaces.now scope.now class.now) result }
 {
     namespaces.are_namespaces();
-    let entry = class_named(namespaces, entries, class, scope)?;
+    let entry = class_named(namespaces, entries, guesses, class, scope)?;
     Some(Class {
         entry,
-        permissions: permissions_at(entries, permissions, entry),
+        permissions: permissions_at(entries, guesses, permissions, entry),
     })
 }
 
@@ -130,6 +146,7 @@ pub fn with_permission(class: Option<Class>, permission: &[u8]) -> Option<usize>
 pub fn class_with(
     namespaces: &Namespaces,
     entries: &[Entry],
+    guesses: &Guesses,
     permissions: &[Vec<Bytes>],
     class: &Word,
     permission: &Word,
@@ -142,6 +159,6 @@ pub fn class_with(
         → result ≡ the_class_with namespaces.now entries.now xs (scoped namespaces.now scope.now class.now) (scoped namespaces.now scope.now permission.now) }
     ensures within { IfSome result (λ d. d < length entries.now) }
 {
-    let found = class_of(namespaces, entries, permissions, class, scope);
+    let found = class_of(namespaces, entries, guesses, permissions, class, scope);
     with_permission(found, permission.bytes.as_slice())
 }

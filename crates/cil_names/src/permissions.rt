@@ -7,11 +7,12 @@ ghost use Rattle.cil_base.specs.Lists.{Lists, text_cmp};
 ghost use Rattle.cil_syntax.specs.Said.{all_said};
 ghost use Rattle.cil_macros.specs.Item.{Item, names_in};
 ghost use Rattle.cil_macros.specs.Items.{item_at, items_in, namespaces_in};
-ghost use Rattle.cil_names.specs.Entries.{AreOrdered, key_cmp, key_of};
+ghost use Rattle.cil_names.specs.Entries.{AreOrdered, by_name_cmp, key_of};
 ghost use Rattle.cil_names.specs.Permissions.{AreEmpty, AreListed};
 ghost use Rattle.cil_names.specs.Unresolved.{ArePermissions};
 
 use crate::entry::Entry;
+use crate::guesses::Guesses;
 use crate::look::entry_in;
 use crate::names::Names;
 use crate::reading::is_at;
@@ -37,8 +38,11 @@ pub fn permissions_of(
     let entries = names.entries();
     let mut lists = no_lists(alloc, entries)?;
     let mut last = no_statements(alloc, entries)?;
+    let guesses = names.guesses();
     for at in 0..instances.len() {
-        add_listed(alloc, &mut lists, &mut last, entries, instances, at)?;
+        add_listed(
+            alloc, &mut lists, &mut last, entries, guesses, instances, at,
+        )?;
     }
     Ok(lists)
 }
@@ -72,10 +76,11 @@ fn add_listed(
     lists: &mut Vec<Vec<Bytes>>,
     last: &mut Vec<Option<usize>>,
     entries: &[Entry],
+    guesses: &Guesses,
     instances: &Instances,
     at: usize,
 ) -> Result<(), NoMemory>
-    requires rising { IsStrictlySortedBy (on key_of key_cmp) entries.now }
+    requires rising { IsStrictlySortedBy (on key_of by_name_cmp) entries.now }
     requires len { length lists.old.items ≡ length entries.now }
     requires last_len { length last.old.items ≡ length entries.now }
     requires within { at < length (items_in instances.now) }
@@ -96,7 +101,8 @@ fn add_listed(
     let Some(name) = statement.declared_class() else {
         return Ok(());
     };
-    let Some(class) = entry_in(entries, instances.space(at), name.bytes, Sign::Classes) else {
+    let space = instances.space(at);
+    let Some(class) = entry_in(entries, guesses, space, name.bytes, Sign::Classes) else {
         return Ok(());
     };
     let Some(items) = statement.listed_behind_name() else {

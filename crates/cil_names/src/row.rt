@@ -3,7 +3,7 @@
 ghost use Rattle.std.specs.Prelude.{◌≡◌, ◌↔◌, ◌+◌, ◌<◌, [], IfOk, IsTrue, OnOk, length};
 ghost use Rattle.cil_macros.specs.Items.{items_in};
 ghost use Rattle.cil_names.specs.DeclareRows.{AreAllRows, AreRowsUpTo, object_row, round_at, row_key};
-ghost use Rattle.cil_names.specs.Entries.{key_cmp};
+ghost use Rattle.cil_names.specs.Entries.{by_name_cmp};
 
 use crate::kinds::rank_of;
 use cil_base::NoMemory;
@@ -78,14 +78,15 @@ fn push_rows<'a>(
 }
 
 impl Row<'_> {
-    /// The order of rows: by namespace, name and name space.
+    /// The order of rows: by name, name space and namespace.
     pub fn compare(&self, other: &Row) -> Ordering
-        ensures { result ≡ key_cmp (row_key self.now) (row_key other.now) }
+        ensures { result ≡ by_name_cmp (row_key self.now) (row_key other.now) }
     {
-        self.space
-            .cmp(&other.space)
-            .then(self.name.as_slice().cmp(other.name.as_slice()))
+        self.name
+            .as_slice()
+            .cmp(other.name.as_slice())
             .then(rank_of(self.kind).cmp(&rank_of(other.kind)))
+            .then(self.space.cmp(&other.space))
     }
 
     /// Whether the declaring instance is in no optional.

@@ -8,7 +8,7 @@ ghost use Rattle.cil_names.specs.declared.row.Row.{Row};
 ghost use Rattle.cil_names.specs.DeclareRows.{AreAlike, AreRowsIn, IsRow, SaysWritten, TellsDiffering, bare_terms, content_at, declaration_of, row_key};
 ghost use Rattle.cil_names.specs.DeclareRuns.{AreRuns, IsNextRun};
 ghost use Rattle.cil_names.specs.Declarations.{name_space, of_blocks};
-ghost use Rattle.cil_names.specs.Entries.{key_cmp};
+ghost use Rattle.cil_names.specs.Entries.{by_name_cmp};
 ghost use Rattle.cil_names.specs.Worded.{IsOfStatement, IsWordless};
 
 use crate::content::{Comparison, ReadAt, is_same_content};
@@ -34,7 +34,7 @@ pub struct Run<'r, 'a> {
 /// The rows in the order of their keys.
 pub fn sorted_rows<'a>(mut rows: Vec<Row<'a>>) -> Vec<Row<'a>>
     ensures same { IsPermutation rows.entry.items result.items }
-    ensures sorted { IsSortedByKey row_key key_cmp result.items }
+    ensures sorted { IsSortedByKey row_key by_name_cmp result.items }
 {
     rows.sort_unstable_by(|a, b| a.compare(b));
     rows
@@ -46,7 +46,7 @@ pub fn runs_of<'r, 'a>(
     instances: &Instances<'_, '_, 'a>,
     rows: &'r [Row<'a>],
 ) -> Result<Vec<Run<'r, 'a>>, NoMemory>
-    requires sorted { IsSortedByKey row_key key_cmp rows.now }
+    requires sorted { IsSortedByKey row_key by_name_cmp rows.now }
     requires rows { AreRowsIn instances.now rows.now }
     ensures { IfOk result (λ runs. AreRuns instances.now rows.now runs.items) }
 {
@@ -67,7 +67,7 @@ fn run_at<'r, 'a>(
     rows: &'r [Row<'a>],
     start: usize,
 ) -> Result<Run<'r, 'a>, NoMemory>
-    requires sorted { IsSortedByKey row_key key_cmp rows.now }
+    requires sorted { IsSortedByKey row_key by_name_cmp rows.now }
     requires rows { AreRowsIn instances.now rows.now }
     requires within { start < length rows.now }
     ensures { IfOk result (IsNextRun instances.now rows.now start) }
@@ -92,13 +92,13 @@ fn from<'r, 'a>(rows: &'r [Row<'a>], start: usize) -> &'r [Row<'a>]
 
 /// How many of sorted rows have the key of the first.
 fn run_length(rest: &[Row], first: &Row) -> usize
-    requires sorted { IsSortedByKey row_key key_cmp rest.now }
+    requires sorted { IsSortedByKey row_key by_name_cmp rest.now }
     requires some { 0 < length rest.now }
     requires first { first.now ≡ get_or rest.now 0 first.now }
     ensures within { result ≤ length rest.now }
     ensures first { Contains (take result rest.now) first.now }
     ensures same { (r : Row) → Contains (take result rest.now) r → row_key r ≡ row_key first.now }
-    ensures above { (r : Row) → Contains (drop result rest.now) r → key_cmp (row_key first.now) (row_key r) ≡ Less }
+    ensures above { (r : Row) → Contains (drop result rest.now) r → by_name_cmp (row_key first.now) (row_key r) ≡ Less }
 {
     rest.partition_point(|row| !first.compare(row).is_lt())
 }
@@ -285,6 +285,9 @@ fn is_of_blocks(kind: Kind) -> bool
         Kind::Block | Kind::Macro => true,
         Kind::Type_ | Kind::TypeAlias | Kind::TypeAttribute => false,
         Kind::Role | Kind::RoleAttribute | Kind::User | Kind::UserAttribute => false,
-        Kind::Class | Kind::ClassMap => false,
+        Kind::Class | Kind::ClassMap | Kind::Common | Kind::ClassPermission => false,
+        Kind::Boolean | Kind::Sensitivity | Kind::SensitivityAlias => false,
+        Kind::Category | Kind::CategoryAlias | Kind::CategorySet => false,
+        Kind::Level | Kind::LevelRange => false,
     }
 }

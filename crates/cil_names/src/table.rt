@@ -127,6 +127,7 @@ impl<'r, 's, 'p, 'a> Filling<'r, 's, 'p, 'a> {
         let named = resolve(
             lookup.namespaces,
             lookup.names.entries(),
+            lookup.names.guesses(),
             KnownBy::Flagged(self.declared),
             &word.word,
             scope.as_slice(),

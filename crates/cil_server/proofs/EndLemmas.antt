@@ -35,12 +35,12 @@ cut_short j rest none c = subst (IsCutShort rest) (same j.left) (subst (λ z. Is
 -- ---- what the writer has
 
 -- at first nothing was told
-told_at_first : (o : OutputState) (before : List ℕ) → o.written ≡ Some before → o.waiting ≡ [] → o.has_failed ≡ false → Holds before o []
+pub told_at_first : (o : OutputState) (before : List ℕ) → o.written ≡ Some before → o.waiting ≡ [] → o.has_failed ≡ false → Holds before o []
 told_at_first o before known none sound =
     subst (λ z. HoldsIn before z o []) (sym known) ([], sym (append-nil before), subst (λ b. IsHeld b o.waiting [] []) (sym sound) (sym none))
 
 -- at last all that was told is written
-told_at_last : (q : OutputState) (before told : List ℕ) → q.waiting ≡ [] → q.has_failed ≡ false → Holds before q told → q.written ≡ Some (before ++ told)
+pub told_at_last : (q : OutputState) (before told : List ℕ) → q.waiting ≡ [] → q.has_failed ≡ false → Holds before q told → q.written ≡ Some (before ++ told)
 told_at_last q before told none sound h = by_written q.written h
   where
     by_written : (o : Option (List ℕ)) → HoldsIn before o q told → o ≡ Some (before ++ told)
@@ -51,7 +51,7 @@ told_at_last q before told none sound h = by_written q.written h
         ap Some (h.1 ∙ ap (λ z. before ++ z) (sym same))
 
 -- or the first of it
-told_in_part : (q : OutputState) (before told : List ℕ) → q.has_failed ≡ true → Holds before q told → (front : List ℕ) × IsFront front told × (q.written ≡ Some (before ++ front))
+pub told_in_part : (q : OutputState) (before told : List ℕ) → q.has_failed ≡ true → Holds before q told → (front : List ℕ) × IsFront front told × (q.written ≡ Some (before ++ front))
 told_in_part q before told broken h = by_written q.written h
   where
     by_written : (o : Option (List ℕ)) → HoldsIn before o q told → (front : List ℕ) × IsFront front told × (o ≡ Some (before ++ front))
@@ -100,7 +100,7 @@ sound_write served.Quit j p q at writes sound = refl
 sound_write served.End j p q at writes sound = refl
 sound_write (served.Fault code) j p q at writes sound = refl
 
-counted : (o q : OutputState) (a b : Bool) → Writes o q → o.has_failed ≡ a → q.has_failed ≡ b → q.failures + one_if a ≡ o.failures + one_if b
+pub counted : (o q : OutputState) (a b : Bool) → Writes o q → o.has_failed ≡ a → q.has_failed ≡ b → q.failures + one_if a ≡ o.failures + one_if b
 counted o q a b w e f = ap (λ z. q.failures + one_if z) (sym e) ∙ w.counts ∙ ap (λ z. o.failures + one_if z) f
 
 module _ (i : InputState) (o : OutputState) (j : InputState) (p q : OutputState) (ending : Served) where

@@ -1,6 +1,7 @@
 pub mod EndLemmas
 pub mod InputLemmas
 pub mod LineLemmas
+pub mod LoadLemmas
 pub mod NameLemmas
 pub mod OutputLemmas
 pub mod SessionLemmas

@@ -1,6 +1,6 @@
 -- The replies of requests, as steps of the model host.
 use Rattle.std.specs.Prelude.{Result, Ok, Err, codes, length, map}
-use Rattle.std.proofs.Common.{None, ◌≡◌, ℕ, List, ◌++◌, sym, subst}
+use Rattle.std.proofs.Common.{None, ◌≡◌, ℕ, List, ◌++◌, refl, sym, subst}
 use Rattle.cil_modset.specs.Bundle.{bundle}
 use Rattle.cil_faults.specs.declared.failure.Failure.{Failure}
 use Rattle.cil_faults.specs.declared.failure.Failure.TheVariants as failures
@@ -20,7 +20,10 @@ use Rattle.cil_host.specs.Machine.{Queries, State, TellsNothing, TellsOptionals,
 use Rattle.cil_host.specs.Refusal.{Loads as LoadsHost}
 use Rattle.cil_server.specs.Asked.{Request}
 use Rattle.cil_server.specs.Asked.Request.{Asks, AsksOptionals, AsksWhy, Exports, Lists, Loads}
-use Rattle.cil_server.specs.Replies.{newline, no_memory, of_decision, of_export, of_host_error, of_list, of_optionals, of_query_fault, of_why, ok, refused, spaced}
+use Rattle.cil_server.specs.Load.{IsLoaded}
+use Rattle.cil_server.specs.declared.loading.LoadEnd.{LoadEnd}
+use Rattle.cil_server.specs.declared.loading.LoadEnd.TheVariants as ends
+use Rattle.cil_server.specs.Replies.{newline, no_memory, of_decision, of_export, of_host_error, of_list, of_load, of_optionals, of_query_fault, of_why, ok, refused, spaced}
 use Rattle.cil_server.specs.Step.{MayLack, NeedsPolicy, Step}
 use Rattle.cil_server.specs.Turns.{IsAnswered, TellsDecision}
 
@@ -39,21 +42,26 @@ module _ (tells : List ℕ → Type 0) where
   pub lists_lack : (h : State) → tells no_memory → IsAnswered h Lists h tells
   lists_lack h told = record { reply = no_memory; step = Step.lack MayLack.lists; told = told }
 
-  pub loaded : (old new : State) (u : Loaded) (r : Result Loaded Failure) → r ≡ Ok u → LoadsHost old new r → tells ok → IsAnswered old Loads new tells
-  loaded old new u r e l told = record { reply = ok; step = Step.load (Ok u) (subst (LoadsHost old new) e l); told = told }
+  pub loaded : (old new : State) (u : Loaded) (r : Result Loaded Failure) → r ≡ Ok u → LoadsHost old new r → tells ok → IsLoaded old new tells ends.Loaded
+  loaded old new u r e l told = record { result = Ok u; loads = subst (LoadsHost old new) e l; told = told; is_end = refl }
 
   pub load_refused : (old new : State) (faults : List Fault) (r : Result Loaded Failure) (lines : List ℕ) (count : ℕ) → r ≡ Err (failures.Faults faults) → LoadsHost old new r
-      → lines ≡ printed faults → count ≡ length faults → tells (codes "FAULTS" ++ spaced count ++ newline ++ lines) → IsAnswered old Loads new tells
+      → lines ≡ printed faults → count ≡ length faults → tells (codes "FAULTS" ++ spaced count ++ newline ++ lines) → IsLoaded old new tells ends.Refused
   load_refused old new faults r lines count e l f n told = record {
-    reply = codes "FAULTS" ++ spaced (length faults) ++ newline ++ printed faults;
-    step = Step.load (Err (failures.Faults faults)) (subst (LoadsHost old new) e l);
+    result = Err (failures.Faults faults);
+    loads = subst (LoadsHost old new) e l;
     told = subst (λ z. tells (codes "FAULTS" ++ spaced (length faults) ++ newline ++ z)) f (subst (λ k. tells (codes "FAULTS" ++ spaced k ++ newline ++ lines)) n told);
+    is_end = refl;
   }
 
-  pub load_lacks : (old new : State) (failure : Failure) (r : Result Loaded Failure) → r ≡ Err failure → LoadsHost old new r → tells no_memory → IsAnswered old Loads new tells
+  -- of a load that fails, want of memory may be told in any case
+  pub load_lacks : (old new : State) (failure : Failure) (r : Result Loaded Failure) → r ≡ Err failure → LoadsHost old new r → tells no_memory → IsLoaded old new tells ends.NoMemory
   load_lacks old new failure r e l told =
       let same : LoadsHost old new (Err failure) = subst (LoadsHost old new) e l in
-      record { reply = no_memory; step = subst (λ h. Step old Loads no_memory h) (sym same.1) (Step.lack MayLack.loads); told = told }
+      record { result = Err failures.NoMemory; loads = (tt, same.1); told = told; is_end = refl }
+
+  pub load_answers : (old new : State) (ending : LoadEnd) → IsLoaded old new tells ending → IsAnswered old Loads new tells
+  load_answers old new ending l = record { reply = of_load l.result; step = Step.load l.result l.loads; told = l.told }
 
   -- no policy is loaded, or there is no memory
   pub declined_by_host : (h : State) (request : Request) (e : HostError) → NeedsPolicy request → ((h.loaded ≡ None → ⊥) → MayLack h request) → TellsNothing h e → tells (of_host_error e)

@@ -3,6 +3,7 @@ pub mod Devices
 pub mod Given
 pub mod Laws
 pub mod Lines
+pub mod Load
 pub mod Replies
 pub mod Session
 pub mod Step

@@ -2,13 +2,15 @@
 //!
 //! Start at `serve` in `session.rt`. What it promises is in `specs/Session.antt`: how a stream is cut into requests, what the model host
 //! of `specs/Step.antt` replies to each, how a session ends, and what a reader or a writer that fails leaves. `devices.rt` has what
-//! a session reads from and writes to. `laws.rt` says of the grammar of lines, `specs/Lines.antt`, that a line asks for what it is spelled as.
+//! a session reads from and writes to. `load` in `loading.rt` is the request LOAD without a session: `specs/Load.antt` has its promise.
+//! `laws.rt` says of the grammar of lines, `specs/Lines.antt`, that a line asks for what it is spelled as.
 #![tactic(auto)]
 
 mod devices;
 mod input;
 pub mod laws;
 mod line;
+mod loading;
 mod output;
 mod replies;
 mod requests;
@@ -18,5 +20,7 @@ mod streams;
 mod turn;
 
 pub use devices::{Counted, Sink, Source};
+pub use loading::{LoadEnd, load};
+pub use output::{Output, new_chunk};
 pub use served::Served;
 pub use session::serve;

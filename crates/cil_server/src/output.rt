@@ -13,10 +13,12 @@ use std::marker::Model;
 /// How many bytes wait at most.
 const CHUNK: usize = 65_536;
 
-/// The bytes that wait to be written. Once the writer has failed, nothing more is written. Contracts see these bytes, those that are
-/// written, and whether the writer has failed.
+/// A buffer in front of a writer, through which the bytes of a reply go. Once the writer has failed, nothing more is written.
+///
+/// Contracts see the bytes that wait, those that are written, and whether the writer has failed (`OutputState` of `specs/Streams.antt`);
+/// `Tells` says there what it is to write some bytes through it.
 #[derive(Drop)]
-pub(crate) struct Output<'a, W: Sink> {
+pub struct Output<'a, W: Sink> {
     writer: &'a mut W,
     bytes: Vec<u8>,
     failed: bool,
@@ -34,15 +36,16 @@ impl<'a, W: Sink> Model for Output<'a, W> {
     ghost invariant = { λ a. (length a.bytes.items ≤ buffer_size) × (a.failed ≡ false → W.failed a.writer.now < most_failures) };
 }
 
-/// Room for the bytes that wait.
-pub(crate) fn new_chunk(alloc: Global) -> Result<Vec<u8>, NoMemory>
+/// The memory of an `Output`: room for the bytes that wait. Fails out of memory.
+pub fn new_chunk(alloc: Global) -> Result<Vec<u8>, NoMemory>
     ensures { IfOk result (λ chunk. chunk.items ≡ []) }
 {
     Ok(Vec::with_capacity(alloc, CHUNK)?)
 }
 
 impl<'a, W: Sink> Output<'a, W> {
-    pub(crate) fn new(writer: &'a mut W, chunk: Vec<u8>) -> Output<'a, W>
+    /// A buffer with this memory, in front of a writer. Nothing waits yet.
+    pub fn new(writer: &'a mut W, chunk: Vec<u8>) -> Output<'a, W>
         requires empty { chunk.items ≡ [] }
         requires sound { W.failed writer.old < most_failures }
         ensures written { result.written ≡ W.contents writer.old }
@@ -58,8 +61,8 @@ impl<'a, W: Sink> Output<'a, W> {
         }
     }
 
-    /// Gives the writer back. The bytes that wait are lost.
-    pub(crate) fn into_writer(self) -> &'a mut W
+    /// Gives the writer back. The bytes that wait are lost: call `flush` first.
+    pub fn into_writer(self) -> &'a mut W
         ensures writer { result.ghost_name ≡ self.entry.writer }
         ensures written { W.contents result.now ≡ self.entry.written }
         ensures failures { W.failed result.now ≡ self.entry.failures }
@@ -67,8 +70,8 @@ impl<'a, W: Sink> Output<'a, W> {
         self.writer
     }
 
-    /// Whether a call of the writer has failed. From then on all replies are lost.
-    pub(crate) fn has_failed(&self) -> bool
+    /// Whether a call of the writer has failed. From then on all bytes are lost.
+    pub fn has_failed(&self) -> bool
         ensures failed { result ≡ self.now.has_failed }
         ensures few { length self.now.waiting ≤ buffer_size }
     {
@@ -76,7 +79,7 @@ impl<'a, W: Sink> Output<'a, W> {
     }
 
     /// Tells some bytes. It takes no memory beside that of the buffer: what does not fit is written at once.
-    pub(crate) fn put(&mut self, bytes: &[u8])
+    pub fn put(&mut self, bytes: &[u8])
         ensures { Tells self.old self.new bytes.now }
     {
         if bytes.len() > CHUNK.saturating_sub(self.bytes.len()) {
@@ -99,7 +102,7 @@ impl<'a, W: Sink> Output<'a, W> {
     }
 
     /// Writes all that waits.
-    pub(crate) fn flush(&mut self)
+    pub fn flush(&mut self)
         ensures told { Tells self.old self.new [] }
         ensures none { self.new.waiting ≡ [] }
         ensures idle { self.old.waiting ≡ [] → self.new ≡ self.old }

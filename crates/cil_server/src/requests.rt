@@ -2,10 +2,12 @@
 
 ghost use Rattle.std.specs.Prelude.{◌≡◌, false};
 ghost use Rattle.cil_server.specs.Asked.Request.{Asks, Exports, Imports, Installs, Lists, Loads, AsksOptionals, AsksWhy};
+ghost use Rattle.cil_server.specs.Load.{IsLoaded};
 ghost use Rattle.cil_server.specs.Streams.{Tells};
 ghost use Rattle.cil_server.specs.Turns.{IsAnswered};
 
 use crate::devices::Sink;
+use crate::loading::LoadEnd;
 use crate::output::Output;
 use crate::replies::{
     put_bundle, put_decision, put_faults, put_host_error, put_imported, put_installed, put_lines,
@@ -66,18 +68,35 @@ pub(crate) fn list<S: Drop, W: Sink>(alloc: Global, host: &Host<S>, output: &mut
     }
 }
 
-/// LOAD: loads the modules, or tells their faults.
-pub(crate) fn load<S: Drop, W: Sink>(alloc: Global, host: &mut Host<S>, output: &mut Output<'_, W>)
+/// LOAD: loads the modules, or tells their faults. Returns how it ended; whether the writer fails does not count.
+pub(crate) fn load<S: Drop, W: Sink>(
+    alloc: Global,
+    host: &mut Host<S>,
+    output: &mut Output<'_, W>,
+) -> LoadEnd
     requires { output.old.has_failed ≡ false }
-    ensures { IsAnswered host.old Loads host.new (Tells output.old output.new) }
+    ensures answers { IsAnswered host.old Loads host.new (Tells output.old output.new) }
+    ensures loads { IsLoaded host.old host.new (Tells output.old output.new) result }
 {
     match host.load(alloc) {
-        Ok(_) => output.put(b"OK\n"),
+        Ok(_) => {
+            output.put(b"OK\n");
+            LoadEnd::Loaded
+        }
         Err(Failure::Faults(faults)) => match render(alloc, &faults) {
-            Ok(lines) => put_faults(output, faults.len(), lines.as_slice()),
-            Err(NoMemory) => put_refused(output, 0),
+            Ok(lines) => {
+                put_faults(output, faults.len(), lines.as_slice());
+                LoadEnd::Refused
+            }
+            Err(NoMemory) => {
+                put_refused(output, 0);
+                LoadEnd::NoMemory
+            }
         },
-        Err(Failure::NoMemory) => put_refused(output, 0),
+        Err(Failure::NoMemory) => {
+            put_refused(output, 0);
+            LoadEnd::NoMemory
+        }
     }
 }
 

@@ -54,7 +54,9 @@ impl<'r, 'w, R: Source, W: Sink> Streams<'r, 'w, R, W> {
             },
             Line::Export => export(alloc, host, &mut self.output),
             Line::List => list(alloc, host, &mut self.output),
-            Line::Load => load(alloc, host, &mut self.output),
+            Line::Load => {
+                load(alloc, host, &mut self.output);
+            }
             Line::Optionals => optionals(alloc, host, &mut self.output),
             Line::Why => why(alloc, host, &mut self.output),
             Line::Ask(

@@ -4,18 +4,21 @@ ghost use Rattle.std.specs.Prelude.{◌≡◌, ◌<◌, ◌≤◌, length, IsPer
 ghost use Rattle.std.specs.List.Sorted.{IsNonDecreasingBy, IsPartitionPoint};
 ghost use Rattle.cil_settle.specs.Walk.{leaving};
 
-/// A support: when the node `from` goes out, the node `to` loses it. Two equal edges are two supports.
+/// An edge of a graph. It is a support for `settle`: when the node `from` goes out, the node `to` loses it. Two equal edges are two
+/// supports.
 #[derive(Clone, Copy)]
 pub struct Edge {
-    /// The node that supports the other.
+    /// The node that the edge leaves: the one that supports the other.
     pub from: usize,
-    /// The node that loses a support when the other goes out.
+    /// The node to which it leads: the one that loses a support when the other goes out.
     pub to: usize,
-    /// Whether the loss of this support counts as a look-up. It has no effect on what goes out.
+    /// Whether the loss of this support counts as a look-up. It has no effect on what goes out,
+    /// nor on cycles.
     pub counted: bool,
 }
 
-/// Sorts edges by the nodes that they leave, as `settle` takes them. What goes out does not depend on their order.
+/// Sorts edges by the nodes that they leave, as `settle` and `cycles_of` take them. What these answer does not depend on their
+/// order.
 pub fn sort_edges(edges: &mut [Edge])
     ensures sorted { IsNonDecreasingBy (λ e. e.from) edges.new }
     ensures same { IsPermutation edges.old edges.new }

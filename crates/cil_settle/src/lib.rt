@@ -1,14 +1,23 @@
-//! Which nodes of a graph go out, and in what order, where a node goes out as soon as it has lost as many supports as it needs.
+//! Two questions to a graph: which nodes go out, and in what order, where a node goes out as soon as it has lost as many supports
+//! as it needs; and which nodes lie on a cycle, with ranks that fall along each edge where none does.
 //!
 //! Start at `settled.rt`: `settle` is one walk in n log n steps. `specs/Settled.antt` says which order is right, `specs/Laws.antt`
-//! that only one set of nodes is, and `specs/Sums.antt` what the edges of several passes say together. A node is a number here;
-//! the crates above say what it stands for, as an optional, a declared name or a word of a policy.
+//! that only one set of nodes is, and `specs/Sums.antt` what the edges of several passes say together. `cycles_of`, in `cycles.rt`,
+//! guesses, and checks the guess by two such walks; `specs/Cycles.antt` says what a cycle is. A node is a number here; the crates
+//! above say what it stands for, as an optional, a declared name, a word or a set of a policy.
 #![tactic(auto)]
 
+mod check;
+mod cycles;
 mod edge;
+mod guess;
 pub mod laws;
+mod plain;
+mod reach;
 mod settled;
 mod supports;
 
+pub use cycles::{Cycles, cycles_of, guessed_cycles};
 pub use edge::{Edge, sort_edges};
+pub use plain::searched_cycles;
 pub use settled::{Settled, settle};

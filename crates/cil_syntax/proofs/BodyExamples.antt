@@ -10,9 +10,12 @@ use Rattle.cil_syntax.specs.declared.kind.Sign.TheVariants as signs
 use Rattle.cil_syntax.specs.declared.term.Op.TheVariants as ops
 use Rattle.cil_faults.specs.declared.spot.Spot.{Spot}
 use Rattle.cil_syntax.specs.declared.term.Word.{Word}
-use Rattle.cil_syntax.specs.Shapes.{Inner, Reading, reads, read_word, read_string, read_row, read_list, cell_of, cells_of}
+use Rattle.cil_syntax.specs.Shapes.{Inner, Reading}
+use Rattle.cil_syntax.specs.Words.{reads, read_word, read_string}
+use Rattle.cil_syntax.specs.Heads.{begins_with, first_words, heads}
+use Rattle.cil_syntax.specs.Readings.{read_row, read_list, cell_of, cells_of}
 use Rattle.cil_syntax.specs.declared.kind.Nesting.TheVariants as nestings
-use Rattle.cil_syntax.specs.Table.{entry_of, effective, set_aside_words, later_words, left_out_words}
+use Rattle.cil_syntax.specs.Table.{entry_of, rules, containers, types, classes, users, set_aside_words, later_words, left_out_words}
 use Rattle.cil_syntax.specs.Terms.{Term, Leaf, Name, Form, Terms, nil, cons}
 use Rattle.cil_syntax.specs.Written.{Context, at_top, Verdict, Refused, Shaped, by_entry, verdict_of}
 
@@ -51,7 +54,7 @@ blocks : (read keywords.Block (next (word 7 (codes "b")) none) ≡ reads (cons (
     × (read keywords.Block none ≡ None)
     × (read keywords.Block (next (string 7) none) ≡ None)
     × (faults_of (read keywords.Block (next (word 7 (codes "all")) none)) ≡ fault causes.ReservedName 7 (codes "all") ∷ [])
-unfolding cells_of cell_of read_row read_word read_string read_list entry_of
+unfolding cells_of cell_of read_row read_word read_string read_list heads first_words begins_with entry_of
 blocks = (refl, refl, refl, refl, refl, refl)
 
 -- `(blockabstract b)`, `(blockinherit .a.b)`, `(blockinherit (a))`, `(blockinherit a b)`
@@ -59,7 +62,7 @@ block_words : (read keywords.BlockAbstract (next (word 15 (codes "b")) none) ≡
     × (read keywords.BlockInherit (next (word 14 (codes ".a.b")) none) ≡ reads (cons (leaf 14 signs.Blocks (codes ".a.b")) nil) [])
     × (read keywords.BlockInherit (next (list 14 (next (word 15 (codes "a")) none)) none) ≡ None)
     × (read keywords.BlockInherit (next (word 14 (codes "a")) (next (word 16 (codes "b")) none)) ≡ None)
-unfolding cells_of cell_of read_row read_word read_string read_list entry_of
+unfolding cells_of cell_of read_row read_word read_string read_list heads first_words begins_with entry_of
 block_words = (refl, refl, refl, refl)
 
 -- `(macro m PARAMETERS (x))`
@@ -79,7 +82,7 @@ macros : (read keywords.Macro (macro none) ≡ reads (cons (Name (spot 7) (codes
     × (read keywords.Macro (macro (next (list 10 (next (word 11 (codes "type")) none)) none)) ≡ None)
     × (read keywords.Macro (macro (next (word 10 (codes "type")) (next (word 15 (codes "x")) none))) ≡ None)
     × (read keywords.Macro (next (word 7 (codes "m")) (next (word 9 (codes "x")) none)) ≡ None)
-unfolding cells_of cell_of read_row read_word read_string read_list entry_of
+unfolding cells_of cell_of read_row read_word read_string read_list heads first_words begins_with entry_of
 macros = (refl, refl, refl, refl, refl, refl, refl)
 
 -- `(call m)`, `(call m (p))`, `(call m (all (b) "a"))`, `(call m a)`, `(call m (a) (b))`, `(call (m))`
@@ -94,13 +97,13 @@ calls : (read keywords.Call (next (word 6 (codes "m")) none) ≡ reads (cons (le
     × (read keywords.Call (next (word 6 (codes "m")) (next (word 8 (codes "a")) none)) ≡ None)
     × (read keywords.Call (next (word 6 (codes "m")) (next (list 8 none) (next (list 11 none) none))) ≡ None)
     × (read keywords.Call (next (list 6 (next (word 7 (codes "m")) none)) none) ≡ None)
-unfolding cells_of cell_of read_row read_word read_string read_list entry_of
+unfolding cells_of cell_of read_row read_word read_string read_list heads first_words begins_with entry_of
 calls = (refl, refl, refl, refl, refl, refl)
 
 -- a set-aside statement has any contents, and says nothing
 set_aside_statements : (read keywords.SetAside none ≡ reads nil [])
     × (read keywords.SetAside (next (string 9) (next (word 13 (codes "all")) (next (list 17 (next (list 18 none) none)) none))) ≡ reads nil [])
-unfolding cells_of cell_of read_row read_word read_string read_list entry_of
+unfolding cells_of cell_of read_row read_word read_string read_list heads first_words begins_with entry_of
 set_aside_statements = (refl, refl)
 
 -- ---- places, and names of parameters
@@ -132,7 +135,7 @@ macro_places : (told in_macro keywords.Block (next (word 7 (codes "b")) none) �
     × (told in_macro keywords.Class none ≡ fault causes.BadPlace 0 (codes "class") ∷ [])
     × (told in_macro keywords.SetAside none ≡ fault causes.BadPlace 0 [] ∷ [])
     × (told in_macro keywords.Call (next (word 6 (codes "m")) none) ≡ [])
-unfolding cells_of cell_of read_row read_word read_string read_list entry_of
+unfolding cells_of cell_of read_row read_word read_string read_list heads first_words begins_with entry_of
 macro_places = (refl, refl, refl, refl, refl, refl)
 
 -- `(blockabstract b)` on top, in the block a.b and with other words: of another block it is 24 and no 25 or 26, and 23
@@ -144,7 +147,7 @@ abstractions : (told at_top keywords.BlockAbstract (next (word 15 (codes "b")) n
     × (told in_block keywords.BlockAbstract (next (word 15 (codes "all")) none) ≡ fault causes.BadPlace 0 (codes "blockabstract") ∷ [])
     × (told in_block keywords.BlockAbstract none ≡ fault causes.BadShape 0 (codes "blockabstract") ∷ [])
     × (told in_block keywords.BlockInherit (next (word 14 (codes "c")) none) ≡ [])
-unfolding cells_of cell_of read_row read_word read_string read_list entry_of
+unfolding cells_of cell_of read_row read_word read_string read_list heads first_words begins_with entry_of
 abstractions = (refl, refl, refl, refl, refl, refl, refl)
 
 -- a parameter that is named twice, and three times: 27 at each later one
@@ -154,7 +157,7 @@ parameters : (told at_top keywords.Macro (macro (next (parameter 10 (codes "type
     × (told at_top keywords.Macro (macro (next (parameter 10 (codes "type") (codes "x"))
     (next (parameter 20 (codes "type") (codes "x")) (next (parameter 30 (codes "type") (codes "x")) none))))
     ≡ fault causes.ParameterClash 28 (codes "x") ∷ fault causes.ParameterClash 38 (codes "x") ∷ [])
-unfolding cells_of cell_of read_row read_word read_string read_list entry_of
+unfolding cells_of cell_of read_row read_word read_string read_list heads first_words begins_with entry_of
 parameters = (refl, refl, refl)
 
 -- `(type x)` and `(type y)` in the body of a macro with the parameter x, and `(type x)` on top
@@ -164,7 +167,7 @@ a_type name = list 0 (next (word 1 (codes "type")) (next (word 6 name) none))
 declared_in_macro : (faults_by (verdict_of 7 in_macro (a_type (codes "x"))) ≡ fault causes.ParameterClash 6 (codes "x") ∷ [])
     × (faults_by (verdict_of 7 in_macro (a_type (codes "y"))) ≡ [])
     × (faults_by (verdict_of 7 at_top (a_type (codes "x"))) ≡ [])
-unfolding verdict_of cells_of cell_of read_row read_word read_string read_list effective entry_of
+unfolding verdict_of cells_of cell_of read_row read_word read_string read_list heads first_words begins_with rules containers types classes users entry_of
 declared_in_macro = (refl, refl, refl)
 
 -- ---- the first word
@@ -180,5 +183,5 @@ by_first_word : (verdict_of 7 at_top (of_word (codes "filecon")) ≡ Shaped (rec
     × (verdict_of 7 in_macro (of_word (codes "macro")) ≡ Refused (fault causes.BadPlace 0 (codes "macro")))
     × (verdict_of 7 in_macro (of_word (codes "optional")) ≡ Refused (fault causes.BadShape 0 (codes "optional")))
     × (verdict_of 7 at_top (of_word (codes "booleanif")) ≡ Refused (fault causes.Unsupported 0 (codes "booleanif")))
-unfolding verdict_of cells_of cell_of read_row read_word read_string read_list effective entry_of set_aside_words later_words left_out_words
+unfolding verdict_of cells_of cell_of read_row read_word read_string read_list heads first_words begins_with rules containers types classes users entry_of set_aside_words later_words left_out_words
 by_first_word = (refl, refl, refl, refl, refl, refl)

@@ -1,7 +1,7 @@
 -- Whether two values are equal: kinds, signs, statements' keywords, positions, namespaces, terms.
 use Rattle.std.specs.Cmp.Lexicographic.{bytes_decides, pointwise_decides}
-use Rattle.std.proofs.Common.{◌≡◌, ℕ, true, false, List, refl, sym, ◌∙◌, ap, inl, inr, arith}
-use Rattle.std.specs.Prelude.{◌==◌, if◌then◌else◌, nat_eq}
+use Rattle.std.proofs.Common.{◌≡◌, ℕ, true, false, List, [], ◌∷◌, get_or, refl, sym, ◌∙◌, ap, inl, inr, arith}
+use Rattle.std.specs.Prelude.{nat_eq}
 use Rattle.std.proofs.lemmas.Bool.{cases_Bool}
 use Rattle.cil_base.specs.Decided.{Decided, by_number, decided_both, decided_same, same_list, same_number, same_text}
 use Rattle.cil_syntax.specs.declared.kind.Keyword.{Keyword}
@@ -37,9 +37,9 @@ kind_is a b = elim (cases_Bool (nat_eq (kind_number a) (kind_number b))) [
 
 keyword_number : Keyword → ℕ
 keyword_number keywords.Type_ = 0
-keyword_number keywords.Role = 1
-keyword_number keywords.User = 2
-keyword_number keywords.Class = 3
+keyword_number keywords.Class = 1
+keyword_number keywords.Role = 2
+keyword_number keywords.User = 3
 keyword_number keywords.RoleType = 4
 keyword_number keywords.UserRole = 5
 keyword_number keywords.Allow = 6
@@ -49,26 +49,69 @@ keyword_number keywords.BlockInherit = 9
 keyword_number keywords.Macro = 10
 keyword_number keywords.Call = 11
 keyword_number keywords.Optional = 12
-keyword_number keywords.SetAside = 13
+keyword_number keywords.Common = 13
+keyword_number keywords.ClassCommon = 14
+keyword_number keywords.ClassMap = 15
+keyword_number keywords.ClassMapping = 16
+keyword_number keywords.ClassPermission = 17
+keyword_number keywords.ClassPermissionSet = 18
+keyword_number keywords.ClassOrder = 19
+keyword_number keywords.TypeAlias = 20
+keyword_number keywords.TypeAliasActual = 21
+keyword_number keywords.TypeAttribute = 22
+keyword_number keywords.TypeAttributeSet = 23
+keyword_number keywords.ExpandTypeAttribute = 24
+keyword_number keywords.TypeTransition = 25
+keyword_number keywords.TypeChange = 26
+keyword_number keywords.TypeMember = 27
+keyword_number keywords.RoleAttribute = 28
+keyword_number keywords.RoleAttributeSet = 29
+keyword_number keywords.RoleAllow = 30
+keyword_number keywords.RoleTransition = 31
+keyword_number keywords.UserAttribute = 32
+keyword_number keywords.UserAttributeSet = 33
+keyword_number keywords.UserLevel = 34
+keyword_number keywords.UserRange = 35
+keyword_number keywords.Boolean = 36
+keyword_number keywords.BooleanIf = 37
+keyword_number keywords.AuditAllow = 38
+keyword_number keywords.DontAudit = 39
+keyword_number keywords.NeverAllow = 40
+keyword_number keywords.Constrain = 41
+keyword_number keywords.MlsConstrain = 42
+keyword_number keywords.Mls = 43
+keyword_number keywords.Sensitivity = 44
+keyword_number keywords.SensitivityAlias = 45
+keyword_number keywords.SensitivityAliasActual = 46
+keyword_number keywords.SensitivityOrder = 47
+keyword_number keywords.SensitivityCategory = 48
+keyword_number keywords.Category = 49
+keyword_number keywords.CategoryAlias = 50
+keyword_number keywords.CategoryAliasActual = 51
+keyword_number keywords.CategoryOrder = 52
+keyword_number keywords.CategorySet = 53
+keyword_number keywords.Level = 54
+keyword_number keywords.LevelRange = 55
+keyword_number keywords.RangeTransition = 56
+keyword_number keywords.SetAside = 57
 
 keyword_at : ℕ → Keyword
 keyword_at n =
-    if n == 0 then keywords.Type_
-    else (if n == 1 then keywords.Role
-    else (if n == 2 then keywords.User
-    else (if n == 3 then keywords.Class
-    else (if n == 4 then keywords.RoleType
-    else (if n == 5 then keywords.UserRole
-    else (if n == 6 then keywords.Allow
-    else (if n == 7 then keywords.Block
-    else (if n == 8 then keywords.BlockAbstract
-    else (if n == 9 then keywords.BlockInherit
-    else (if n == 10 then keywords.Macro
-    else (if n == 11 then keywords.Call
-    else (if n == 12 then keywords.Optional
-    else keywords.SetAside))))))))))))
+    get_or
+    (keywords.Type_ ∷ keywords.Class ∷ keywords.Role ∷ keywords.User ∷ keywords.RoleType ∷ keywords.UserRole ∷ keywords.Allow ∷
+    keywords.Block ∷ keywords.BlockAbstract ∷ keywords.BlockInherit ∷ keywords.Macro ∷ keywords.Call ∷ keywords.Optional ∷
+    keywords.Common ∷ keywords.ClassCommon ∷ keywords.ClassMap ∷ keywords.ClassMapping ∷ keywords.ClassPermission ∷
+    keywords.ClassPermissionSet ∷ keywords.ClassOrder ∷ keywords.TypeAlias ∷ keywords.TypeAliasActual ∷ keywords.TypeAttribute ∷
+    keywords.TypeAttributeSet ∷ keywords.ExpandTypeAttribute ∷ keywords.TypeTransition ∷ keywords.TypeChange ∷ keywords.TypeMember ∷
+    keywords.RoleAttribute ∷ keywords.RoleAttributeSet ∷ keywords.RoleAllow ∷ keywords.RoleTransition ∷ keywords.UserAttribute ∷
+    keywords.UserAttributeSet ∷ keywords.UserLevel ∷ keywords.UserRange ∷ keywords.Boolean ∷ keywords.BooleanIf ∷ keywords.AuditAllow
+    ∷ keywords.DontAudit ∷ keywords.NeverAllow ∷ keywords.Constrain ∷ keywords.MlsConstrain ∷ keywords.Mls ∷ keywords.Sensitivity ∷
+    keywords.SensitivityAlias ∷ keywords.SensitivityAliasActual ∷ keywords.SensitivityOrder ∷ keywords.SensitivityCategory ∷
+    keywords.Category ∷ keywords.CategoryAlias ∷ keywords.CategoryAliasActual ∷ keywords.CategoryOrder ∷ keywords.CategorySet ∷
+    keywords.Level ∷ keywords.LevelRange ∷ keywords.RangeTransition ∷ keywords.SetAside ∷ [])
+    n keywords.Type_
 
-keyword_back : (k : Keyword) → keyword_at (keyword_number k) ≡ k
+keyword_back : (x : Keyword) → keyword_at (keyword_number x) ≡ x
 unfolding keyword_number keyword_at
 keyword_back keywords.Type_ = refl
 keyword_back k = refl
@@ -78,30 +121,47 @@ keyword_is = by_number keyword_number keyword_at keyword_back
 
 sign_number : Sign → ℕ
 sign_number signs.Types = 0
-sign_number signs.Roles = 1
-sign_number signs.Users = 2
-sign_number signs.Classes = 3
-sign_number signs.Permission = 4
-sign_number signs.PlainClass = 5
-sign_number signs.Blocks = 6
-sign_number signs.Macros = 7
-sign_number signs.Text = 8
-sign_number signs.Unread = 9
+sign_number signs.PlainType = 1
+sign_number signs.TypeAttributes = 2
+sign_number signs.TypeAliases = 3
+sign_number signs.Roles = 4
+sign_number signs.PlainRole = 5
+sign_number signs.RoleAttributes = 6
+sign_number signs.Users = 7
+sign_number signs.PlainUser = 8
+sign_number signs.UserAttributes = 9
+sign_number signs.Classes = 10
+sign_number signs.Permission = 11
+sign_number signs.PlainClass = 12
+sign_number signs.ClassMaps = 13
+sign_number signs.Commons = 14
+sign_number signs.ClassPermissions = 15
+sign_number signs.NamedPermissions = 16
+sign_number signs.MappedPermissions = 17
+sign_number signs.Booleans = 18
+sign_number signs.Sensitivities = 19
+sign_number signs.SensitivityAliases = 20
+sign_number signs.Categories = 21
+sign_number signs.CategoryAliases = 22
+sign_number signs.CategorySets = 23
+sign_number signs.Levels = 24
+sign_number signs.LevelRanges = 25
+sign_number signs.Blocks = 26
+sign_number signs.Macros = 27
+sign_number signs.Text = 28
+sign_number signs.Unread = 29
 
 sign_at : ℕ → Sign
 sign_at n =
-    if n == 0 then signs.Types
-    else (if n == 1 then signs.Roles
-    else (if n == 2 then signs.Users
-    else (if n == 3 then signs.Classes
-    else (if n == 4 then signs.Permission
-    else (if n == 5 then signs.PlainClass
-    else (if n == 6 then signs.Blocks
-    else (if n == 7 then signs.Macros
-    else (if n == 8 then signs.Text
-    else signs.Unread))))))))
+    get_or
+    (signs.Types ∷ signs.PlainType ∷ signs.TypeAttributes ∷ signs.TypeAliases ∷ signs.Roles ∷ signs.PlainRole ∷ signs.RoleAttributes ∷
+    signs.Users ∷ signs.PlainUser ∷ signs.UserAttributes ∷ signs.Classes ∷ signs.Permission ∷ signs.PlainClass ∷ signs.ClassMaps ∷
+    signs.Commons ∷ signs.ClassPermissions ∷ signs.NamedPermissions ∷ signs.MappedPermissions ∷ signs.Booleans ∷ signs.Sensitivities ∷
+    signs.SensitivityAliases ∷ signs.Categories ∷ signs.CategoryAliases ∷ signs.CategorySets ∷ signs.Levels ∷ signs.LevelRanges ∷
+    signs.Blocks ∷ signs.Macros ∷ signs.Text ∷ signs.Unread ∷ [])
+    n signs.Types
 
-sign_back : (s : Sign) → sign_at (sign_number s) ≡ s
+sign_back : (x : Sign) → sign_at (sign_number x) ≡ x
 unfolding sign_number sign_at
 sign_back signs.Types = refl
 sign_back s = refl
@@ -118,45 +178,65 @@ op_number ops.And = 4
 op_number ops.Or = 5
 op_number ops.Xor = 6
 op_number ops.All = 7
-op_number ops.Itself = 8
-op_number ops.LeftOut = 9
-op_number ops.Parameters = 10
-op_number ops.Parameter = 11
-op_number ops.TypeKind = 12
-op_number ops.RoleKind = 13
-op_number ops.UserKind = 14
-op_number ops.ClassKind = 15
-op_number ops.NameKind = 16
-op_number ops.TextKind = 17
-op_number ops.Arguments = 18
-op_number ops.UnreadList = 19
-op_number ops.UnreadText = 20
+op_number ops.Range = 8
+op_number ops.Group = 9
+op_number ops.Equal = 10
+op_number ops.Unequal = 11
+op_number ops.Dominates = 12
+op_number ops.DominatedBy = 13
+op_number ops.Incomparable = 14
+op_number ops.SourceUser = 15
+op_number ops.TargetUser = 16
+op_number ops.SourceRole = 17
+op_number ops.TargetRole = 18
+op_number ops.SourceType = 19
+op_number ops.TargetType = 20
+op_number ops.SourceLow = 21
+op_number ops.TargetLow = 22
+op_number ops.SourceHigh = 23
+op_number ops.TargetHigh = 24
+op_number ops.Yes = 25
+op_number ops.No = 26
+op_number ops.TrueBranch = 27
+op_number ops.FalseBranch = 28
+op_number ops.Unordered = 29
+op_number ops.Level = 30
+op_number ops.LevelRange = 31
+op_number ops.Itself = 32
+op_number ops.LeftOut = 33
+op_number ops.Parameters = 34
+op_number ops.Parameter = 35
+op_number ops.TypeKind = 36
+op_number ops.RoleKind = 37
+op_number ops.UserKind = 38
+op_number ops.BooleanKind = 39
+op_number ops.ClassKind = 40
+op_number ops.ClassMapKind = 41
+op_number ops.ClassPermissionKind = 42
+op_number ops.SensitivityKind = 43
+op_number ops.CategoryKind = 44
+op_number ops.CategorySetKind = 45
+op_number ops.LevelKind = 46
+op_number ops.LevelRangeKind = 47
+op_number ops.NameKind = 48
+op_number ops.TextKind = 49
+op_number ops.Arguments = 50
+op_number ops.UnreadList = 51
+op_number ops.UnreadText = 52
 
 op_at : ℕ → Op
 op_at n =
-    if n == 0 then ops.Listed
-    else (if n == 1 then ops.ClassPermissions
-    else (if n == 2 then ops.Union
-    else (if n == 3 then ops.Not
-    else (if n == 4 then ops.And
-    else (if n == 5 then ops.Or
-    else (if n == 6 then ops.Xor
-    else (if n == 7 then ops.All
-    else (if n == 8 then ops.Itself
-    else (if n == 9 then ops.LeftOut
-    else (if n == 10 then ops.Parameters
-    else (if n == 11 then ops.Parameter
-    else (if n == 12 then ops.TypeKind
-    else (if n == 13 then ops.RoleKind
-    else (if n == 14 then ops.UserKind
-    else (if n == 15 then ops.ClassKind
-    else (if n == 16 then ops.NameKind
-    else (if n == 17 then ops.TextKind
-    else (if n == 18 then ops.Arguments
-    else (if n == 19 then ops.UnreadList
-    else ops.UnreadText)))))))))))))))))))
+    get_or
+    (ops.Listed ∷ ops.ClassPermissions ∷ ops.Union ∷ ops.Not ∷ ops.And ∷ ops.Or ∷ ops.Xor ∷ ops.All ∷ ops.Range ∷ ops.Group ∷ ops.Equal
+    ∷ ops.Unequal ∷ ops.Dominates ∷ ops.DominatedBy ∷ ops.Incomparable ∷ ops.SourceUser ∷ ops.TargetUser ∷ ops.SourceRole ∷
+    ops.TargetRole ∷ ops.SourceType ∷ ops.TargetType ∷ ops.SourceLow ∷ ops.TargetLow ∷ ops.SourceHigh ∷ ops.TargetHigh ∷ ops.Yes ∷
+    ops.No ∷ ops.TrueBranch ∷ ops.FalseBranch ∷ ops.Unordered ∷ ops.Level ∷ ops.LevelRange ∷ ops.Itself ∷ ops.LeftOut ∷ ops.Parameters
+    ∷ ops.Parameter ∷ ops.TypeKind ∷ ops.RoleKind ∷ ops.UserKind ∷ ops.BooleanKind ∷ ops.ClassKind ∷ ops.ClassMapKind ∷
+    ops.ClassPermissionKind ∷ ops.SensitivityKind ∷ ops.CategoryKind ∷ ops.CategorySetKind ∷ ops.LevelKind ∷ ops.LevelRangeKind ∷
+    ops.NameKind ∷ ops.TextKind ∷ ops.Arguments ∷ ops.UnreadList ∷ ops.UnreadText ∷ [])
+    n ops.Listed
 
-op_back : (o : Op) → op_at (op_number o) ≡ o
+op_back : (x : Op) → op_at (op_number x) ≡ x
 unfolding op_number op_at
 op_back ops.Listed = refl
 op_back o = refl

@@ -12,10 +12,10 @@ use Rattle.cil_base.specs.Lists.{contains_cases, contains_none}
 use Rattle.cil_sexpr.specs.Text.{IsText}
 use Rattle.cil_sexpr.specs.Tree.{Node, Word as TextWord, Quoted, Branch, Nodes, none, next, span_of, inner_of, IsBetween, AreInOrder}
 use Rattle.cil_modset.specs.Modules.{module_of}
-use Rattle.cil_syntax.specs.Table.{Body, plain, behind, entry_of}
-use Rattle.cil_syntax.specs.Standpoints.{Standpoint, Opening, closed, opened, opening_by, opening_of, found_from, found_behind}
-use Rattle.cil_syntax.specs.Written.{Context, at_top, Verdict, Refused, Shaped, verdict_of, IsItem, first, later, skipped, within, inside_of, FoundIn, top, inside}
-use Rattle.cil_syntax.proofs.PlacesApart.{start_of, apart_from, apart_behind, strictly, behind_verdict}
+use Rattle.cil_syntax.specs.Table.{Body, plain, behind, branched, entry_of}
+use Rattle.cil_syntax.specs.Standpoints.{Standpoint, Opening, closed, opened, forked, opening_by, opening_of, found_from, found_behind, found_inside}
+use Rattle.cil_syntax.specs.Written.{Context, at_top, Verdict, Refused, Shaped, verdict_of, IsItem, first, later, skipped, beside, all_behind_first, within, inside_of, FoundIn, top, inside}
+use Rattle.cil_syntax.proofs.PlacesApart.{start_of, apart_from, apart_behind, apart_inside, strictly, behind_verdict, skipped_zero}
 
 abbrev pub place_order : Standpoint → Standpoint → Ordering
 place_order = on start_of nat_cmp
@@ -30,7 +30,7 @@ rises_one f = (tt, tt)
 
 module _ (m : ℕ) where
   mutual
-    unfolding found_from found_behind
+    unfolding found_from found_behind found_inside
 
     rises_from : (c : Context) (n : Node) (from to : ℕ) → IsBetween from to n → IsStrictlySortedBy place_order (found_from m c n)
     rises_from c (TextWord place bytes) from to b = rises_one (record { context = c; node = TextWord place bytes })
@@ -53,6 +53,16 @@ module _ (m : ℕ) where
         (λ x y d e. let p = (apart_from m c n from to b.0).0 x d in let q = (apart_behind m (opened c zero) ns (span_of n).end to b.1).0 y e in
         less_from (start_of x) (start_of y) (omega (arith, p.1, q.0)))
     rises_behind (opened c (suc k)) (next n ns) from to b = rises_behind (opened c k) ns (span_of n).end to b.1
+    rises_behind (forked c zero) (next n ns) from to b =
+        rising_join place_order (found_inside m c n) (found_behind m (forked c zero) ns) (rises_inside c n from to b.0) (rises_behind (forked c zero) ns (span_of n).end to b.1)
+        (λ x y d e. let p = (apart_inside m c n from to b.0).0 x d in let q = (apart_behind m (forked c zero) ns (span_of n).end to b.1).0 y e in
+        less_from (start_of x) (start_of y) (omega (arith, p.1, q.0)))
+    rises_behind (forked c (suc k)) (next n ns) from to b = rises_behind (forked c k) ns (span_of n).end to b.1
+
+    rises_inside : (c : Context) (n : Node) (from to : ℕ) → IsBetween from to n → IsStrictlySortedBy place_order (found_inside m c n)
+    rises_inside c (TextWord place bytes) from to b = rises_none
+    rises_inside c (Quoted place bytes) from to b = rises_none
+    rises_inside c (Branch place inner) from to b = rises_behind (opened c (suc zero)) inner place.start place.end b.3
 
   -- ---- what the list has is found
 
@@ -70,6 +80,7 @@ module _ (m : ℕ) where
     abbrev IsOpen : Opening → Nodes → Type 0
     IsOpen closed ns = Unit {0}
     IsOpen (opened d k) ns = (q : Node) → IsItem q (skipped k ns) → FoundIn modules m d q
+    IsOpen (forked d k) ns = (q : Node) → IsItem q (all_behind_first (skipped k ns)) → FoundIn modules m d q
 
     open_by : (c : Context) (n : Node) (v : Verdict) → verdict_of m c n ≡ v → FoundIn modules m c n → IsOpen (opening_of c v) (inner_of n)
     open_by c n (Refused i) e f = tt
@@ -77,9 +88,21 @@ module _ (m : ℕ) where
       open_body : (b : Body) → (entry_of s.keyword).body ≡ b → IsOpen (opening_by (inside_of c s) b) (inner_of n)
       open_body plain is = tt
       open_body (behind k place) is = λ q i. inside c n q s faults f e (subst (λ b. IsItem q (within b (inner_of n))) (sym is) i)
+      open_body (branched k) is = λ q i. inside c n q s faults f e (subst (λ b. IsItem q (within b (inner_of n))) (sym is) i)
+
+    in_first : (us vs : Nodes) (q : Node) → IsItem q us → IsItem q (beside us vs)
+    unfolding beside
+    in_first none vs q i = elim i [ ]
+    in_first (next a us) vs q first = first
+    in_first (next a us) vs q (later i) = later (in_first us vs q i)
+
+    in_second : (us vs : Nodes) (q : Node) → IsItem q vs → IsItem q (beside us vs)
+    unfolding beside
+    in_second none vs q i = i
+    in_second (next a us) vs q i = later (in_second us vs q i)
 
     mutual
-      unfolding found_from found_behind skipped
+      unfolding found_from found_behind found_inside skipped all_behind_first
 
       found_of : (c : Context) (n : Node) → FoundIn modules m c n → AreFound (found_from m c n)
       found_of c (TextWord place bytes) f = found_one (record { context = c; node = TextWord place bytes }) f
@@ -95,6 +118,17 @@ module _ (m : ℕ) where
       found_in (opened d zero) (next n ns) h =
           found_join (found_from m d n) (found_behind m (opened d zero) ns) (found_of d n (h n first)) (found_in (opened d zero) ns (λ q i. h q (later (unskipped ns q i))))
       found_in (opened d (suc k)) (next n ns) h = found_in (opened d k) ns h
+      found_in (forked d zero) (next n ns) h =
+          found_join (found_inside m d n) (found_behind m (forked d zero) ns)
+          (found_within d n (λ q i. h q (in_first (skipped 1 (inner_of n)) (all_behind_first ns) q i)))
+          (found_in (forked d zero) ns
+          (λ q i. h q (in_second (skipped 1 (inner_of n)) (all_behind_first ns) q (subst (λ ks. IsItem q (all_behind_first ks)) (skipped_zero ns) i))))
+      found_in (forked d (suc k)) (next n ns) h = found_in (forked d k) ns h
+
+      found_within : (d : Context) (n : Node) → ((q : Node) → IsItem q (skipped 1 (inner_of n)) → FoundIn modules m d q) → AreFound (found_inside m d n)
+      found_within d (TextWord place bytes) h = λ f c. absurd (contains_none f c)
+      found_within d (Quoted place bytes) h = λ f c. absurd (contains_none f c)
+      found_within d (Branch place inner) h = found_in (opened d (suc zero)) inner h
 
       unskipped : (ns : Nodes) (q : Node) → IsItem q (skipped zero ns) → IsItem q ns
       unskipped none q i = i

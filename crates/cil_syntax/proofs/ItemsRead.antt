@@ -9,12 +9,13 @@ use Rattle.cil_base.specs.Places.{drop_at}
 use Rattle.cil_faults.specs.declared.fault.Fault.{Fault}
 use Rattle.cil_syntax.specs.declared.stop.Stop.{Stop}
 use Rattle.cil_syntax.specs.declared.stop.Stop.TheVariants.{OtherShape, NoMemory}
-use Rattle.cil_syntax.specs.declared.shape.Shape as shapes
 use Rattle.cil_syntax.specs.declared.term.Term as rust
 use Rattle.cil_syntax.specs.declared.term.Word.{Word}
 use Rattle.cil_syntax.specs.Laid.{items_of, shape_of}
 use Rattle.cil_syntax.specs.Said.{said_of, terms_of}
-use Rattle.cil_syntax.specs.Shapes.{Inner, Reading, reads, Shape, many, joined, read_row, Cell, cell_of, cells_of}
+use Rattle.cil_syntax.specs.Shapes.{Inner, Reading, Shape, many, Cell}
+use Rattle.cil_syntax.specs.Words.{reads}
+use Rattle.cil_syntax.specs.Readings.{joined, read_row, cell_of, cells_of}
 use Rattle.cil_syntax.specs.Terms.{Term, Terms, nil, cons}
 use Rattle.cil_syntax.specs.Told.{told, IsTold, AreTold, Tells, TellAll, before, behind, AreRead}
 use Rattle.cil_syntax.specs.Written.{fault_in}
@@ -88,14 +89,14 @@ all_read m space whole rest old new terms r end =
 
 module _ (m : ℕ) (text : List ℕ) (ns : List nodes.Node) where
   -- the cells from a node on
-  abbrev from_node : ℕ → List Cell
+  abbrev pub from_node : ℕ → List Cell
   from_node i = cells_of m (nodes_of text (drop i ns))
 
-  cells_more : (i : ℕ) (n : nodes.Node) → i < length ns → n ≡ get_or ns i n → from_node i ≡ cell_of m (node_of text n) ∷ from_node (i + 1)
+  pub cells_more : (i : ℕ) (n : nodes.Node) → i < length ns → n ≡ get_or ns i n → from_node i ≡ cell_of m (node_of text n) ∷ from_node (i + 1)
   unfolding cells_of
   cells_more i n within is = ap (λ ks. cells_of m (nodes_of text ks)) (drop_at ns i n n within is)
 
-  no_cells : (i : ℕ) → length ns ≤ i → from_node i ≡ []
+  pub no_cells : (i : ℕ) → length ns ≤ i → from_node i ≡ []
   unfolding cells_of
   no_cells i over = ap (λ ks. cells_of m (nodes_of text ks)) (drop_all i ns over)
 
@@ -109,8 +110,8 @@ module _ (m : ℕ) (text : List ℕ) (ns : List nodes.Node) where
     unfolding read_row
     many_end over = ap (read_row (many shape)) (no_cells i over)
 
-  module _ (ss : List shapes.Shape) (long : length ns ≡ length ss) (i : ℕ) where
-    pub items_more : (n : nodes.Node) (s : shapes.Shape) → i < length ns → n ≡ get_or ns i n → s ≡ get_or ss i s
+  module _ {S : Type 0} (shape_of : S → Shape) (ss : List S) (long : length ns ≡ length ss) (i : ℕ) where
+    pub items_more : (n : nodes.Node) (s : S) → i < length ns → n ≡ get_or ns i n → s ≡ get_or ss i s
         → read_row (items_of (map shape_of (drop i ss))) (from_node i)
         ≡ joined ((cell_of m (node_of text n)).read (shape_of s)) (read_row (items_of (map shape_of (drop (i + 1) ss))) (from_node (i + 1)))
     unfolding read_row
@@ -144,9 +145,9 @@ unfolding cells_of
 length-cells m text [] = refl
 length-cells m text (n ∷ ns) = ap suc (length-cells m text ns)
 
-pub wrong_length : (m : ℕ) (space : List ℕ) (text : List ℕ) (ns : List nodes.Node) (ss : List shapes.Shape) (old : List Fault) → length ns ≢ length ss
+pub wrong_length : {S : Type 0} (shape_of : S → Shape) (m : ℕ) (space : List ℕ) (text : List ℕ) (ns : List nodes.Node) (ss : List S) (old : List Fault) → length ns ≢ length ss
     → AreTold m space (read_row (items_of (map shape_of ss)) (cells_of m (nodes_of text ns))) old old None
-wrong_length m space text ns ss old h =
+wrong_length shape_of m space text ns ss old h =
     subst (λ r. AreTold m space r old old None)
     (sym (wrong_cells (map shape_of ss) (cells_of m (nodes_of text ns)) (λ e. h (sym (length-cells m text ns) ∙ e ∙ length-map ss shape_of))))
     ([], sym (append-nil old))

@@ -1,14 +1,17 @@
 -- Nodes read by shapes.
-use Rattle.std.proofs.Common.{◌≡◌, ℕ, Bool, true, false, if◌then◌else◌, List, map, length, refl, sym, ◌∙◌, ap, subst, Bor, rules}
+use Rattle.std.proofs.Common.{◌≡◌, ℕ, Bool, true, false, if◌then◌else◌, List, [], ◌∷◌, map, length, refl, sym, ◌∙◌, ap, subst, Bor, rules}
 use Rattle.cil_sexpr.specs.declared.node.Node as nodes
 use Rattle.cil_sexpr.specs.Tree.{Node, Word, Quoted, Branch}
-use Rattle.cil_sexpr.specs.View.{nodes_of}
-use Rattle.cil_syntax.specs.Shapes.{Row, Shape, declared_name, looked_up, set_of, fixed, left_out, any_left_out, either, list_of, unread, any_text, many, counted, statements, anything, is_meant, read_word, read_string, read_list, read_row, Cell, cell_of, cells_of}
-use Rattle.std.specs.Prelude.{Result}
+use Rattle.cil_sexpr.specs.View.{node_of, nodes_of}
+use Rattle.cil_syntax.specs.Shapes.{Row, Shape, declared_name, looked_up, expression, fixed, left_out, any_left_out, either, list_of, tagged, unread, any_text, many, counted, led, statements, anything, is_meant, Cell}
+use Rattle.cil_syntax.specs.Readings.{is_led, read_list, read_row, cell_of, cells_of}
+use Rattle.cil_syntax.specs.Words.{read_word, read_string}
+use Rattle.std.specs.Prelude.{Result, Some, None, slice_get}
 use Rattle.cil_faults.specs.declared.fault.Fault.{Fault}
 use Rattle.cil_syntax.specs.declared.shape.Row.{the_lemmas}
 use Rattle.cil_syntax.specs.declared.shape.Shape as shapes
 use Rattle.cil_syntax.specs.declared.term.Term as rust
+use Rattle.cil_syntax.specs.declared.kind.Language.{Language}
 use Rattle.cil_syntax.specs.declared.kind.Sign.{Sign}
 use Rattle.cil_syntax.specs.declared.shape.Row as rows
 use Rattle.cil_syntax.specs.declared.term.Op.{Op}
@@ -21,7 +24,7 @@ use Rattle.std.proofs.lemmas.List.{length-map}
 use Rattle.cil_syntax.proofs.ItemsRead.{length-cells}
 
 -- one of two shapes reads as the one that is meant
-either_read : (m : ℕ) (n : Node) (first second : Shape)
+pub either_read : (m : ℕ) (n : Node) (first second : Shape)
     → (cell_of m n).read (either first second) ≡ (if is_meant first (cell_of m n).face then (cell_of m n).read first else (cell_of m n).read second)
 unfolding cell_of read_word read_string read_list
 either_read m (Word place bytes) first second = refl
@@ -70,8 +73,11 @@ name_view = search (rules, the_lemmas)
 pub looked_up_view : (sign : Sign) → shape_of (shapes.LookedUp sign) ≡ looked_up sign
 looked_up_view sign = search (rules, the_lemmas)
 
-pub set_view : (sign : Sign) → shape_of (shapes.SetOf sign) ≡ set_of sign
-set_view sign = search (rules, the_lemmas)
+pub expression_view : (language : Language) → shape_of (shapes.Expression language) ≡ expression language
+expression_view language = search (rules, the_lemmas)
+
+pub tagged_view : (b : Bor (List ℕ)) (op : Op) (row : rows.Row) → shape_of (shapes.Tagged b op row) ≡ tagged b.now op (row_of row)
+tagged_view b op row = search (rules, the_lemmas)
 
 pub fixed_view : (b : Bor (List ℕ)) (op : Op) → shape_of (shapes.Fixed b op) ≡ fixed b.now op
 fixed_view b op = search (rules, the_lemmas)
@@ -88,8 +94,14 @@ either_is a b = search (rules, the_lemmas)
 pub listed_view : (op : Op) (row : rows.Row) → shape_of (shapes.ListOf op row) ≡ list_of op (row_of row)
 listed_view op row = search (rules, the_lemmas)
 
-pub body_view : (b : Bor (List shapes.Shape)) → row_of (rows.Body b) ≡ items_before statements (map shape_of b.now)
-body_view b = search (rules, the_lemmas)
+pub then_view : (b : Bor (List shapes.Shape)) (row : Bor rows.Row) → row_of (rows.Then b row) ≡ items_before (row_of row.now) (map shape_of b.now)
+then_view b row = search (rules, the_lemmas)
+
+pub led_view : (shape : Bor shapes.Shape) (first second : Bor rows.Row) → row_of (rows.Led shape first second) ≡ led (shape_of shape.now) (row_of first.now) (row_of second.now)
+led_view shape first second = search (rules, the_lemmas)
+
+pub statements_view : row_of rows.Statements ≡ statements
+statements_view = search (rules, the_lemmas)
 
 pub anything_view : row_of rows.Anything ≡ anything
 anything_view = search (rules, the_lemmas)
@@ -100,7 +112,7 @@ unread_view = search (rules, the_lemmas)
 pub text_view : shape_of shapes.AnyText ≡ any_text
 text_view = search (rules, the_lemmas)
 
-pub ruleset the_views = (body_view, anything_view, unread_view, text_view, items_view, many_view, one_of_view, name_view, looked_up_view, set_view, fixed_view, left_out_view, any_view, either_is, listed_view)
+pub ruleset the_views = (then_view, led_view, statements_view, expression_view, tagged_view, anything_view, unread_view, text_view, items_view, many_view, one_of_view, name_view, looked_up_view, fixed_view, left_out_view, any_view, either_is, listed_view)
 
 -- ---- which of two rows reads some items
 
@@ -134,3 +146,38 @@ module _ (m : ℕ) (space : List ℕ) (text : List ℕ) (ns : List nodes.Node) (
   second_row_told other told =
       subst (λ w. TellAll m space w old new r)
       (sym (ap (λ w. read_row w cells_there) row_is ∙ not_as_many cells_there _ _ _ (λ e. other (counts e)))) told
+
+-- ---- by the first item
+
+module _ (m : ℕ) (text : List ℕ) (ns : List nodes.Node) (shape : Shape) where
+  pub none_led : None ≡ slice_get ns 0 → false ≡ is_led shape (cells_of m (nodes_of text ns))
+  unfolding cells_of
+  none_led e = empty ns e where
+    empty : (ks : List nodes.Node) → None ≡ slice_get ks 0 → false ≡ is_led shape (cells_of m (nodes_of text ks))
+    empty [] f = refl
+    empty (k ∷ ks) f = absurd cc
+
+  pub led_so : (n : nodes.Node) (b : Bool) → Some n ≡ slice_get ns 0 → b ≡ is_meant shape (cell_of m (node_of text n)).face → b ≡ is_led shape (cells_of m (nodes_of text ns))
+  unfolding cells_of
+  led_so n b e meant = some ns e where
+    some : (ks : List nodes.Node) → Some n ≡ slice_get ks 0 → b ≡ is_led shape (cells_of m (nodes_of text ks))
+    some [] f = absurd cc
+    some (k ∷ ks) f = meant ∙ ap (λ x. is_meant shape (cell_of m (node_of text x)).face) (let same : n ≡ k = cc in same)
+
+module _ (m : ℕ) (space : List ℕ) (cells : List Cell) (row : rows.Row) (shape : Bor shapes.Shape) (first second : Bor rows.Row) (is : row ≡ rows.Led shape first second) (old new : List Fault)
+    (r : Result (Vec rust.Term) Stop) (b : Bool) (led_by : b ≡ is_led (shape_of shape.now) cells) where
+  led_read : (c : Bool) → b ≡ c → read_row (row_of row) cells ≡ (if c then read_row (row_of first.now) cells else read_row (row_of second.now) cells)
+  unfolding read_row
+  led_read c e =
+      ap (λ w. read_row w cells) (ap row_of is ∙ led_view shape first second)
+      ∙ ap (λ x. if x then read_row (row_of first.now) cells else read_row (row_of second.now) cells) (sym led_by ∙ e)
+
+  pub led_told : b ≡ true → TellAll m space (read_row (row_of first.now) cells) old new r → TellAll m space (read_row (row_of row) cells) old new r
+  led_told e told = subst (λ w. TellAll m space w old new r) (sym (led_read true e)) told
+
+  pub not_led_told : b ≡ false → TellAll m space (read_row (row_of second.now) cells) old new r → TellAll m space (read_row (row_of row) cells) old new r
+  not_led_told e told = subst (λ w. TellAll m space w old new r) (sym (led_read false e)) told
+
+pub statements_told : (m : ℕ) (space : List ℕ) (cells : List Cell) (row : rows.Row) (old new : List Fault) (r : Result (Vec rust.Term) Stop) → row ≡ rows.Statements
+    → TellAll m space (read_row statements cells) old new r → TellAll m space (read_row (row_of row) cells) old new r
+statements_told m space cells row old new r is told = subst (λ w. TellAll m space (read_row w cells) old new r) (sym (ap row_of is ∙ statements_view)) told

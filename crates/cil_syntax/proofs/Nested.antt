@@ -1,5 +1,5 @@
 -- What was read without fault is in order as a program: each statement stands where it may, and begins as it should.
-use Rattle.std.proofs.Common.{◌≡◌, ℕ, true, ◌&&◌, not, List, [], ◌∷◌, map, refl, sym, ◌∙◌, ap, subst, inl, inr}
+use Rattle.std.proofs.Common.{◌≡◌, ℕ, true, ◌&&◌, not, List, [], ◌∷◌, ◌++◌, map, refl, sym, ◌∙◌, ap, subst, inl, inr}
 use Rattle.std.specs.Prelude.{Contains, Some, None}
 use Rattle.std.specs.List.Sorted.{IsStrictlySortedBy}
 use Rattle.std.proofs.lemmas.List.Elements.{Contains-append_cases}
@@ -13,10 +13,10 @@ use Rattle.cil_syntax.specs.declared.kind.Keyword.TheVariants as keywords
 use Rattle.cil_syntax.specs.declared.program.Statement as program
 use Rattle.cil_syntax.specs.declared.term.Word.{Word}
 use Rattle.cil_syntax.specs.Grammar.{FitsRow, name, word, one, as_many, not_as_many}
-use Rattle.cil_syntax.specs.Program.{IsNested, begins_with_name, begins_with_word, is_begun, program_of}
+use Rattle.cil_syntax.specs.Program.{IsNested, begins_as, begins_with_name, begins_with_word, is_begun, program_of}
 use Rattle.cil_syntax.specs.Shapes.{Row, item, declared_name, looked_up}
 use Rattle.cil_syntax.specs.Spelling.{same_bytes}
-use Rattle.cil_syntax.specs.Table.{Entry, effective, entry_of, set_aside, set_aside_words, table}
+use Rattle.cil_syntax.specs.Table.{Entry, classes, containers, effective, entry_of, users, rules, set_aside, set_aside_words, table, types, in_rules, in_containers, in_types, in_classes, in_users}
 use Rattle.cil_syntax.specs.Terms.{Terms}
 use Rattle.cil_syntax.specs.Told.{AreUnder}
 use Rattle.cil_syntax.specs.Written.{Written, allows, is_abstraction, is_outside, may_stand, names_its_block, IsWritten, written, ShapeFault, inner, fault_of, written_cmp}
@@ -31,19 +31,45 @@ word_begun : (m : ℕ) (sign : _) (row : Row) (ns : Nodes) (ts : Terms Word) →
 word_begun m sign row ns ts (one shape r n ms t us (word s place bytes free spelled) rest) = refl
 
 begun : (k : Keyword) (m : ℕ) (ns : Nodes) (ts : Terms Word) → FitsRow m (entry_of k).row ns ts → is_begun k ts ≡ true
-unfolding entry_of
-begun keywords.Type_ m ns ts fit = name_begun m _ ns ts fit
-begun keywords.Role m ns ts fit = name_begun m _ ns ts fit
-begun keywords.User m ns ts fit = name_begun m _ ns ts fit
-begun keywords.Class m ns ts fit = name_begun m _ ns ts fit
-begun keywords.Block m ns ts fit = name_begun m _ ns ts fit
-begun keywords.BlockAbstract m ns ts fit = word_begun m _ _ ns ts fit
-begun keywords.BlockInherit m ns ts fit = word_begun m _ _ ns ts fit
-begun keywords.Macro m ns ts fit = name_begun m _ ns ts fit
+unfolding entry_of begins_as
 begun keywords.Call m ns ts (as_many count first second xs us long fit) = word_begun m _ _ ns ts fit
 begun keywords.Call m ns ts (not_as_many count first second xs us other fit) = word_begun m _ _ ns ts fit
-begun keywords.Optional m ns ts fit = name_begun m _ ns ts fit
-begun k m ns ts fit = refl
+begun keywords.BlockAbstract m ns ts fit = word_begun m _ _ ns ts fit
+begun keywords.BlockInherit m ns ts fit = word_begun m _ _ ns ts fit
+begun keywords.RoleType m ns ts fit = refl
+begun keywords.UserRole m ns ts fit = refl
+begun keywords.Allow m ns ts fit = refl
+begun keywords.SetAside m ns ts fit = refl
+begun keywords.ClassCommon m ns ts fit = refl
+begun keywords.ClassMapping m ns ts fit = refl
+begun keywords.ClassPermissionSet m ns ts fit = refl
+begun keywords.ClassOrder m ns ts fit = refl
+begun keywords.TypeAliasActual m ns ts fit = refl
+begun keywords.TypeAttributeSet m ns ts fit = refl
+begun keywords.ExpandTypeAttribute m ns ts fit = refl
+begun keywords.TypeTransition m ns ts fit = refl
+begun keywords.TypeChange m ns ts fit = refl
+begun keywords.TypeMember m ns ts fit = refl
+begun keywords.RoleAttributeSet m ns ts fit = refl
+begun keywords.RoleAllow m ns ts fit = refl
+begun keywords.RoleTransition m ns ts fit = refl
+begun keywords.UserAttributeSet m ns ts fit = refl
+begun keywords.UserLevel m ns ts fit = refl
+begun keywords.UserRange m ns ts fit = refl
+begun keywords.BooleanIf m ns ts fit = refl
+begun keywords.AuditAllow m ns ts fit = refl
+begun keywords.DontAudit m ns ts fit = refl
+begun keywords.NeverAllow m ns ts fit = refl
+begun keywords.Constrain m ns ts fit = refl
+begun keywords.MlsConstrain m ns ts fit = refl
+begun keywords.Mls m ns ts fit = refl
+begun keywords.SensitivityAliasActual m ns ts fit = refl
+begun keywords.SensitivityOrder m ns ts fit = refl
+begun keywords.SensitivityCategory m ns ts fit = refl
+begun keywords.CategoryAliasActual m ns ts fit = refl
+begun keywords.CategoryOrder m ns ts fit = refl
+begun keywords.RangeTransition m ns ts fit = refl
+begun k m ns ts fit = name_begun m _ ns ts fit
 
 -- ---- entries and keywords
 
@@ -72,13 +98,23 @@ module _ {X Y : Type 0} (f : X → Y) (P : Y → Type 0) where
   of_mapped h [] y c = absurd (contains_none y c)
   of_mapped h (x ∷ xs) y c = elim (contains_cases y (f x) (map f xs) c) [ inl e ↦ subst P e (h x) | inr d ↦ of_mapped h xs y d ]
 
+own_listed : (ks : List Keyword) (entry : Entry) → Contains (map entry_of ks) entry → IsOwn entry
+own_listed ks entry c = of_mapped entry_of IsOwn own_entry ks entry c
+
 own_in : (entry : Entry) → Contains table entry → IsOwn entry
-unfolding effective
+unfolding rules containers types classes users
 own_in entry c =
     elim (Contains-append_cases effective (map set_aside set_aside_words) entry c) [
-      | inl d ↦ of_mapped entry_of IsOwn own_entry
-          (keywords.Type_ ∷ keywords.Role ∷ keywords.User ∷ keywords.Class ∷ keywords.RoleType ∷ keywords.UserRole ∷ keywords.Allow
-          ∷ keywords.Block ∷ keywords.BlockAbstract ∷ keywords.BlockInherit ∷ keywords.Macro ∷ keywords.Call ∷ keywords.Optional ∷ []) entry d
+      | inl d ↦ elim (Contains-append_cases rules (containers ++ (types ++ (classes ++ users))) entry d) [
+        | inl e ↦ own_listed in_rules entry e
+        | inr e ↦ elim (Contains-append_cases containers (types ++ (classes ++ users)) entry e) [
+          | inl f ↦ own_listed in_containers entry f
+          | inr f ↦ elim (Contains-append_cases types (classes ++ users) entry f) [
+            | inl g ↦ own_listed in_types entry g
+            | inr g ↦ elim (Contains-append_cases classes users entry g) [ inl h ↦ own_listed in_classes entry h | inr h ↦ own_listed in_users entry h ]
+          ]
+        ]
+      ]
       | inr d ↦ of_mapped set_aside IsOwn own_aside set_aside_words entry d
     ]
 

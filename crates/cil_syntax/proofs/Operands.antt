@@ -1,13 +1,12 @@
 -- The operands of an operator, and forms over terms that were read.
-use Rattle.std.proofs.Common.{◌≡◌, ◌≢◌, ℕ, ◌+◌, ◌<◌, Bool, true, false, if◌then◌else◌, List, [], ◌∷◌, length, take, drop, ◌-◌, refl, sym, ◌∙◌, ap, subst, arith, rules}
+use Rattle.std.proofs.Common.{◌≡◌, ◌≢◌, ℕ, Bool, true, false, if◌then◌else◌, List, [], ◌∷◌, length, ◌++◌, refl, sym, ◌∙◌, ap, subst, arith, rules, append_assoc}
 use Rattle.std.specs.Prelude.{Option, Some, None, Result, Ok, Err, IsErrAnd}
 use Rattle.std.specs.declared.vec.Vec.{Vec}
 use Rattle.std.specs.declared.alloc.Global.{Global}
-use Rattle.std.proofs.lemmas.List.{append-nil, length-drop, take_rest}
+use Rattle.std.proofs.lemmas.List.{append-nil}
 use Rattle.cil_sexpr.specs.declared.node.Node as nodes
 use Rattle.cil_sexpr.specs.View.{nodes_of}
 use Rattle.cil_faults.specs.declared.fault.Fault.{Fault}
-use Rattle.cil_syntax.specs.declared.kind.Sign.{Sign}
 use Rattle.cil_syntax.specs.declared.stop.Stop.{Stop}
 use Rattle.cil_syntax.specs.declared.stop.Stop.TheVariants.{OtherShape, NoMemory}
 use Rattle.cil_syntax.specs.declared.term.Op.{Op}
@@ -17,14 +16,15 @@ use Rattle.cil_syntax.specs.declared.term.Term.{the_lemmas}
 use Rattle.cil_syntax.specs.declared.term.Term.TheVariants as variants
 use Rattle.cil_syntax.specs.declared.term.Word.{Word}
 use Rattle.cil_syntax.specs.Said.{said_of, all_said}
-use Rattle.cil_syntax.specs.Shapes.{Reading, Shape, set_of, Row, close, item, many, joined, read_row, formed, is_negation, operands, Cell, cells_of}
+use Rattle.cil_syntax.specs.Shapes.{Inner, Reading, Shape, Row, close, item, many, Cell}
+use Rattle.cil_syntax.specs.Readings.{joined, read_row, formed, cells_of}
 use Rattle.cil_syntax.specs.Terms.{Form, Terms}
 use Rattle.cil_faults.specs.Spots.{spot_at}
-use Rattle.cil_syntax.specs.Told.{IsTold, AreTold, Tells, TellAll}
-use Rattle.cil_syntax.proofs.ItemsRead.{joined-none, length-cells}
+use Rattle.cil_syntax.specs.Told.{told, IsTold, AreTold, Tells, TellAll}
+use Rattle.cil_syntax.proofs.ItemsRead.{joined-none, length-cells, told-append}
 
 -- some of one shape: one, or two
-abbrev some_of : Shape → Bool → Row
+abbrev pub some_of : Shape → Bool → Row
 some_of shape single = if single then item shape close else item shape (item shape close)
 
 no_operands : (shape : Shape) (single : Bool) (cells : List Cell) → length cells ≢ (if single then 1 else 2) → read_row (some_of shape single) cells ≡ None
@@ -70,37 +70,34 @@ stop_formed m space at op r old new OtherShape (Err x) told handed =
     subst (λ y. Tells m space (formed at op [] r) old new (Err y)) (sym handed) (none_formed m space at op r old new told)
 stop_formed m space at op r old new NoMemory (Err x) told handed = subst (λ y. Tells m space (formed at op [] r) old new (Err y)) (sym handed) tt
 
-module _ (m : ℕ) (space : List ℕ) (at : Spot) (op : Op) (sign : Sign) (text : List ℕ) (ns : List nodes.Node) where
-  abbrev behind_head : List Cell
-  behind_head = cells_of m (nodes_of text (drop 1 ns))
+-- a form with faults in front of those of its parts
+pub faulted : (m : ℕ) (space : List ℕ) (at : Spot) (op : Op) (fs : List Inner) (r : Option (Reading (Terms Word))) (old mid new : List Fault) (t : Option rust.Term)
+    → mid ≡ old ++ told m space fs → IsTold m space (formed at op [] r) mid new t → IsTold m space (formed at op fs r) old new t
+faulted m space at op fs None old mid new None e h = (told m space fs ++ h.0, h.1 ∙ ap (λ x. x ++ h.0) e ∙ append_assoc old (told m space fs) h.0)
+faulted m space at op fs None old mid new (Some t) e h = absurd h
+faulted m space at op fs (Some r) old mid new None e h = absurd h
+faulted m space at op fs (Some r) old mid new (Some t) e h = (h.0, told-append m space old mid new fs r.faults e h.1)
 
-  -- as many operands as there should be
+-- the same of an answer that may be an error
+pub faulted_so : (m : ℕ) (space : List ℕ) (at : Spot) (op : Op) (fs : List Inner) (r : Option (Reading (Terms Word))) (old mid new : List Fault) (answer : Result rust.Term Stop)
+    → mid ≡ old ++ told m space fs → Tells m space (formed at op [] r) mid new answer → Tells m space (formed at op fs r) old new answer
+faulted_so m space at op fs r old mid new (Ok t) e h = faulted m space at op fs r old mid new (Some t) e h
+faulted_so m space at op fs r old mid new (Err OtherShape) e h = faulted m space at op fs r old mid new None e h
+faulted_so m space at op fs r old mid new (Err NoMemory) e h = tt
+
+-- ---- one operand or two, of one shape
+
+module _ (m : ℕ) (space : List ℕ) (text : List ℕ) (ns : List nodes.Node) (shape : Shape) (single : Bool) where
   abbrev counted : ℕ
-  counted = if is_negation op then 1 else 2
+  counted = if single then 1 else 2
 
-  one_less : (n : ℕ) → length ns ≡ n + 1 → length behind_head ≡ n
-  one_less n h = length-cells m text (drop 1 ns) ∙ (let e = length-drop 1 ns in let g : length (drop 1 ns) ≡ n = omega (arith, e, h) in g)
-
-  one_more : (n : ℕ) → 0 < n → length behind_head ≡ n → length ns ≡ n + 1
-  one_more n some h =
-      let less : length (drop 1 ns) ≡ n = sym (length-cells m text (drop 1 ns)) ∙ h in
-      let e = length-drop 1 ns in omega (arith, e, less, some)
-
-  some_counted : (b : Bool) → 0 < (if b then 1 else 2)
-  some_counted true = omega arith
-  some_counted false = omega arith
-
-  pub wrong_operands : (old : List Fault) → (length ns ≡ counted + 1 → ⊥)
-      → IsTold m space (formed at op [] (read_row (operands sign op) behind_head)) old old None
+  pub wrong_operands : (old : List Fault) → length ns ≢ counted → AreTold m space (read_row (some_of shape single) (cells_of m (nodes_of text ns))) old old None
   wrong_operands old h =
-      let nothing = no_operands (set_of sign) (is_negation op) behind_head (λ e. h (one_more counted (some_counted (is_negation op)) e)) in
-      subst (λ r. IsTold m space (formed at op [] r) old old None) (sym nothing) ([], sym (append-nil old))
+      subst (λ r. AreTold m space r old old None) (sym (no_operands shape single (cells_of m (nodes_of text ns)) (λ e. h (sym (length-cells m text ns) ∙ e)))) ([], sym (append-nil old))
 
   -- as many as there should be are read as any number is
-  pub operands_counted : (r : Result (Vec rust.Term Global) Stop) (old new : List Fault) → length ns ≡ counted + 1
-      → TellAll m space (read_row (many (set_of sign)) (cells_of m (nodes_of text (take (length ns - 1) (drop 1 ns))))) old new r
-      → TellAll m space (read_row (operands sign op) behind_head) old new r
+  pub operands_counted : (r : Result (Vec rust.Term Global) Stop) (old new : List Fault) → length ns ≡ counted
+      → TellAll m space (read_row (many shape) (cells_of m (nodes_of text ns))) old new r
+      → TellAll m space (read_row (some_of shape single) (cells_of m (nodes_of text ns))) old new r
   operands_counted r old new long told =
-      subst (λ w. TellAll m space w old new r)
-      (ap (λ ks. read_row (many (set_of sign)) (cells_of m (nodes_of text ks))) (take_rest ns 1)
-      ∙ sym (right_operands (set_of sign) (is_negation op) behind_head (one_less counted long))) told
+      subst (λ w. TellAll m space w old new r) (sym (right_operands shape single (cells_of m (nodes_of text ns)) (length-cells m text ns ∙ long))) told

@@ -1,6 +1,6 @@
 -- Places are apart: a place of a module is that of one node at most that stands where a statement must.
 use Rattle.std.proofs.Common.{◌≡◌, ℕ, zero, suc, ◌+◌, ◌<◌, ◌≤◌, List, [], ◌∷◌, ◌++◌, refl, sym, ◌∙◌, ap, subst, inl, inr, arith}
-use Rattle.std.specs.Prelude.{Contains}
+use Rattle.std.specs.Prelude.{◌⊎◌, Contains}
 use Rattle.std.proofs.lemmas.List.Elements.{Contains-append_left, Contains-append_right, Contains-append_cases}
 use Rattle.cil_base.specs.Lists.{contains_here, contains_later, contains_cases, contains_none}
 use Rattle.cil_sexpr.specs.Laws.{HasOneTree}
@@ -10,9 +10,9 @@ use Rattle.cil_modset.specs.Modules.{module_of}
 use Rattle.cil_syntax.specs.declared.kind.Keyword.{Keyword}
 use Rattle.cil_syntax.specs.declared.kind.Keyword.TheVariants as keywords
 use Rattle.cil_syntax.specs.Shapes.{Inner}
-use Rattle.cil_syntax.specs.Table.{Body, plain, behind, entry_of}
-use Rattle.cil_syntax.specs.Standpoints.{Standpoint, Opening, closed, opened, opening_by, opening_of, found_from, found_behind}
-use Rattle.cil_syntax.specs.Written.{Statement, Context, at_top, Verdict, Refused, Shaped, verdict_of, IsItem, first, later, skipped, within, inside_of, body_of, FoundIn, top, inside}
+use Rattle.cil_syntax.specs.Table.{Body, plain, behind, branched, entry_of}
+use Rattle.cil_syntax.specs.Standpoints.{Standpoint, Opening, closed, opened, forked, opening_by, opening_of, found_from, found_behind, found_inside}
+use Rattle.cil_syntax.specs.Written.{Statement, Context, at_top, Verdict, Refused, Shaped, verdict_of, IsItem, first, later, skipped, beside, all_behind_first, within, inside_of, body_of, FoundIn, top, inside}
 
 abbrev pub start_of : Standpoint → ℕ
 start_of f = (span_of f.node).start
@@ -70,13 +70,28 @@ joined_points from mid to fs gs a b h k = (
 abbrev pub IsBehind : Opening → Type 0
 IsBehind closed = Unit {0}
 IsBehind (opened c k) = 0 < k
+IsBehind (forked c k) = 0 < k
 
 behind_word : (c : Context) (k : Keyword) → IsBehind (opening_by c (entry_of k).body)
 unfolding entry_of
 behind_word c keywords.Block = omega arith
 behind_word c keywords.Macro = omega arith
 behind_word c keywords.Optional = omega arith
+behind_word c keywords.BooleanIf = omega arith
 behind_word c k = tt
+
+pub skipped_zero : (ns : Nodes) → skipped zero ns ≡ ns
+unfolding skipped
+skipped_zero none = refl
+skipped_zero (next n ns) = refl
+
+pub skipped_none : (k : ℕ) → skipped k none ≡ none
+unfolding skipped
+skipped_none k = refl
+
+pub no_item : (n : Node) (ns : Nodes) → ns ≡ none → IsItem n ns → ⊥
+no_item n none e i = elim i [ ]
+no_item n (next q ns) e i = let f : next q ns ≡ none = e in cc
 
 pub behind_verdict : (c : Context) (v : Verdict) → IsBehind (opening_of c v)
 behind_verdict c (Refused i) = tt
@@ -94,7 +109,7 @@ not_empty from to (next n ns) o = let p = placed from to n o.0 in let q = not_em
 
 module _ (m : ℕ) where
   mutual
-    unfolding found_from found_behind
+    unfolding found_from found_behind found_inside
 
     pub apart_from : (c : Context) (n : Node) (from to : ℕ) → IsBetween from to n → AllFrom (span_of n).start (span_of n).end (found_from m c n) × AreApart (found_from m c n)
     apart_from c (TextWord place bytes) from to b = one_point (record { context = c; node = TextWord place bytes }) place.start place.end (omega arith) b.1
@@ -119,6 +134,20 @@ module _ (m : ℕ) where
     apart_behind (opened c (suc k)) (next n ns) from to b =
         let p = placed from to n b.0 in
         widened (span_of n).end to from to (found_behind m (opened c k) ns) (omega (arith, p.0, p.1)) (omega arith) (apart_behind (opened c k) ns (span_of n).end to b.1)
+    apart_behind (forked c zero) (next n ns) from to b =
+        let p = placed from to n b.0 in
+        let q = not_empty (span_of n).end to ns b.1 in
+        joined_points from (span_of n).end to (found_inside m c n) (found_behind m (forked c zero) ns) (omega (arith, p.0, p.1)) q
+        (widened (span_of n).start (span_of n).end from (span_of n).end (found_inside m c n) p.0 (omega arith) (apart_inside c n from to b.0))
+        (apart_behind (forked c zero) ns (span_of n).end to b.1)
+    apart_behind (forked c (suc k)) (next n ns) from to b =
+        let p = placed from to n b.0 in
+        widened (span_of n).end to from to (found_behind m (forked c k) ns) (omega (arith, p.0, p.1)) (omega arith) (apart_behind (forked c k) ns (span_of n).end to b.1)
+
+    pub apart_inside : (c : Context) (n : Node) (from to : ℕ) → IsBetween from to n → AllFrom (span_of n).start (span_of n).end (found_inside m c n) × AreApart (found_inside m c n)
+    apart_inside c (TextWord place bytes) from to b = no_points place.start place.end
+    apart_inside c (Quoted place bytes) from to b = no_points place.start place.end
+    apart_inside c (Branch place inner) from to b = apart_behind (opened c (suc zero)) inner place.start place.end b.3
 
     pub strictly : (o : Opening) (ns : Nodes) (from to : ℕ) → AreInOrder from to ns → IsBehind o → (f : Standpoint) → Contains (found_behind m o ns) f → from < start_of f
     strictly o none from to b i f c = absurd (contains_none f c)
@@ -126,6 +155,9 @@ module _ (m : ℕ) where
     strictly (opened d zero) (next n ns) from to b i f c = absurd (omega (arith, i))
     strictly (opened d (suc k)) (next n ns) from to b i f c =
         let p = placed from to n b.0 in let x = (apart_behind (opened d k) ns (span_of n).end to b.1).0 f c in omega (arith, p.0, p.1, x.0)
+    strictly (forked d zero) (next n ns) from to b i f c = absurd (omega (arith, i))
+    strictly (forked d (suc k)) (next n ns) from to b i f c =
+        let p = placed from to n b.0 in let x = (apart_behind (forked d k) ns (span_of n).end to b.1).0 f c in omega (arith, p.0, p.1, x.0)
 
   -- ---- the list has what is found, and nothing else
 
@@ -151,14 +183,41 @@ module _ (m : ℕ) where
       Contains-append_right (found_from m c q) (found_behind m (opened c zero) ns) _ (item_behind c zero ns n (all_items ns n i))
   item_behind c (suc k) (next q ns) n i = item_behind c k ns n i
 
+  -- an item of two lists of nodes is one of the first or of the second
+  pub beside_cases : (us vs : Nodes) (n : Node) → IsItem n (beside us vs) → IsItem n us ⊎ IsItem n vs
+  unfolding beside
+  beside_cases none vs n i = inr i
+  beside_cases (next a us) vs n first = inl first
+  beside_cases (next a us) vs n (later i) = elim (beside_cases us vs n i) [ inl j ↦ inl (later j) | inr j ↦ inr j ]
+
+  -- what is behind the first item of a list is found inside it
+  item_inside : (c : Context) (q n : Node) → IsItem n (skipped 1 (inner_of q)) → Contains (found_inside m c q) (record { context = c; node = n })
+  unfolding found_inside
+  item_inside c (TextWord place bytes) n i = absurd (no_item n (skipped 1 none) (skipped_none 1) i)
+  item_inside c (Quoted place bytes) n i = absurd (no_item n (skipped 1 none) (skipped_none 1) i)
+  item_inside c (Branch place inner) n i = item_behind c 1 inner n i
+
+  item_forked : (c : Context) (k : ℕ) (ns : Nodes) (n : Node) → IsItem n (all_behind_first (skipped k ns)) → Contains (found_behind m (forked c k) ns) (record { context = c; node = n })
+  unfolding found_behind skipped all_behind_first
+  item_forked c k none n i = elim i [ ]
+  item_forked c zero (next q ns) n i =
+      elim (beside_cases (skipped 1 (inner_of q)) (all_behind_first ns) n i) [
+        | inl j ↦ Contains-append_left (found_inside m c q) (found_behind m (forked c zero) ns) _ (item_inside c q n j)
+        | inr j ↦ Contains-append_right (found_inside m c q) (found_behind m (forked c zero) ns) _
+            (item_forked c zero ns n (subst (λ ks. IsItem n (all_behind_first ks)) (sym (skipped_zero ns)) j))
+      ]
+  item_forked c (suc k) (next q ns) n i = item_forked c k ns n i
+
   item_opened : (c : Context) (body : Body) (ns : Nodes) (n : Node) → IsItem n (within body ns) → Contains (found_behind m (opening_by c body) ns) (record { context = c; node = n })
   item_opened c plain ns n i = elim i [ ]
   item_opened c (behind k place) ns n i = item_behind c k ns n i
+  item_opened c (branched k) ns n i = item_forked c k ns n i
 
   no_items : (body : Body) (n : Node) → IsItem n (within body none) → ⊥
-  unfolding skipped
+  unfolding skipped all_behind_first
   no_items plain n i = elim i [ ]
   no_items (behind k place) n i = elim i [ ]
+  no_items (branched k) n i = elim i [ ]
 
   -- what stands in a node of the list is in the list
   abbrev IsClosed : List Standpoint → Type 0
@@ -197,7 +256,7 @@ module _ (m : ℕ) where
       ]
 
   mutual
-    unfolding found_from found_behind
+    unfolding found_from found_behind found_inside
 
     closed_from : (c : Context) (n : Node) → IsClosed (found_from m c n)
     closed_from c (TextWord place bytes) = closed_leaf (record { context = c; node = TextWord place bytes }) refl
@@ -211,6 +270,14 @@ module _ (m : ℕ) where
     closed_behind (opened c zero) (next n ns) =
         closed_join (found_from m c n) (found_behind m (opened c zero) ns) (closed_from c n) (closed_behind (opened c zero) ns)
     closed_behind (opened c (suc k)) (next n ns) = closed_behind (opened c k) ns
+    closed_behind (forked c zero) (next n ns) =
+        closed_join (found_inside m c n) (found_behind m (forked c zero) ns) (closed_inside c n) (closed_behind (forked c zero) ns)
+    closed_behind (forked c (suc k)) (next n ns) = closed_behind (forked c k) ns
+
+    closed_inside : (c : Context) (n : Node) → IsClosed (found_inside m c n)
+    closed_inside c (TextWord place bytes) = closed_none
+    closed_inside c (Quoted place bytes) = closed_none
+    closed_inside c (Branch place inner) = closed_behind (opened c (suc zero)) inner
 
   -- what is found is in the list of its tree
   record IsListed (modules : List (List ℕ)) (c : Context) (n : Node) : Type 0 where

@@ -1,23 +1,28 @@
 -- What is read of some cells is made of their bytes: a property of what nodes hold is one of each word that is read of them.
-use Rattle.std.specs.Prelude.{◌≡◌, ◌≢◌, ◌++◌, ◌&&◌, cond, map, ℕ, zero, suc, ◌+◌, ◌-◌, ◌≤◌, ◌==◌, length, Bool, true, false, if◌then◌else◌, List, [], ◌∷◌, codes, Option, Some, None, slice_range}
+use Rattle.std.specs.Prelude.{◌≡◌, ◌≢◌, ◌++◌, cond, map, ℕ, zero, suc, ◌+◌, ◌-◌, ◌≤◌, ◌==◌, length, Bool, true, false, if◌then◌else◌, List, [], ◌∷◌, codes, Option, Some, None, slice_range}
 use Rattle.std.proofs.Common.{refl, sym, ◌∙◌, ap, subst, arith, take, drop}
 use Rattle.std.proofs.lemmas.List.{length-drop, length-take-le}
-use Rattle.std.specs.Option.{option_map_or}
+use Rattle.std.specs.Prelude.{◌&&◌, find}
+use Rattle.std.specs.List.{list_all}
 use Rattle.cil_sexpr.specs.Text.{IsText, IsNode, AreNodes}
 use Rattle.cil_sexpr.specs.Tree.{Node, Word as TextWord, Quoted, Branch, Nodes, none, next, span_of, inner_of}
 use Rattle.cil_modset.specs.Modules.{module_of}
-use Rattle.cil_faults.specs.declared.code.FaultCode.TheVariants as causes
+use Rattle.cil_syntax.specs.declared.kind.Language.{Language}
+use Rattle.cil_syntax.specs.declared.kind.Language.TheVariants as languages
 use Rattle.cil_syntax.specs.declared.kind.Sign.{Sign}
 use Rattle.cil_syntax.specs.declared.term.Op.{Op}
 use Rattle.cil_syntax.specs.declared.term.Op.TheVariants as ops
 use Rattle.cil_faults.specs.declared.spot.Spot.{Spot}
 use Rattle.cil_syntax.specs.declared.term.Word.{Word}
-use Rattle.cil_syntax.specs.Shapes.{Inner, inner_at, word_of, Reading, Shape, declared_name, looked_up, set_of, fixed, left_out, any_left_out, either, list_of, unread, any_text, Row, close, item, many, counted, statements, anything, Face, a_word, a_string, a_list, Cell, all_lists, is_meant, joined, formed, operands, operator_of, is_negation, read_operator, read_set, read_word, read_string, read_list, read_row, cell_of, cells_of}
+use Rattle.cil_syntax.specs.Shapes.{Inner, Reading, Shape, declared_name, looked_up, expression, fixed, left_out, any_left_out, either, list_of, tagged, unread, any_text, Row, close, item, many, counted, led, statements, anything, Face, a_word, a_string, a_list, Cell, is_meant, is_this_word, is_of_sets, word_sign}
+use Rattle.cil_syntax.specs.Readings.{all_lists, is_led, joined, formed, head_word, refused_head, read_behind, read_by_head, read_expression, read_tagged, read_list, read_row, cell_of, cells_of}
+use Rattle.cil_syntax.specs.Heads.{Head, heads, has_ranges, begins_with, first_words, head_in, one_operand, other_op, other_row}
+use Rattle.cil_syntax.specs.Words.{read_sole, read_word, read_string}
 use Rattle.cil_syntax.specs.Slices.{AreWritten, EachText, EachTextIn, WordsAreSlices}
 use Rattle.cil_syntax.specs.Spelling.{same_bytes}
-use Rattle.cil_syntax.specs.Table.{Body, plain, behind, Entry, entry_of, effective, entry_named, named_in, set_aside, set_aside_words, table}
+use Rattle.cil_syntax.specs.Table.{Body, plain, behind, branched, Entry, entry_of, effective, entry_named, named_in, rules, containers, types, classes, users, set_aside, set_aside_words, table}
 use Rattle.cil_syntax.specs.Terms.{Term, Leaf, Name, Form, Terms, nil, cons, spot_of}
-use Rattle.cil_syntax.specs.Written.{Context, Verdict, Refused, Shaped, by_reading, by_entry, by_head, by_items, may_stand, names_its_block, verdict_of, IsItem, first, later, skipped, within, body_of, FoundIn, top, inside, Written, IsWritten, written}
+use Rattle.cil_syntax.specs.Written.{Context, Verdict, Refused, Shaped, by_reading, by_entry, by_head, by_items, may_stand, names_its_block, verdict_of, IsItem, first, later, skipped, beside, all_behind_first, within, body_of, FoundIn, top, inside, Written, IsWritten, written}
 
 -- ---- rows in which no list is a kept string
 
@@ -25,12 +30,13 @@ abbrev mutual
   pub IsPlain : Shape → Type 0
   IsPlain declared_name = Unit {0}
   IsPlain (looked_up sign) = Unit {0}
-  IsPlain (set_of sign) = Unit {0}
+  IsPlain (expression language) = Unit {0}
   IsPlain (fixed word op) = Unit {0}
   IsPlain (left_out word) = Unit {0}
   IsPlain any_left_out = Unit {0}
   IsPlain (either a b) = IsPlain a × IsPlain b
   IsPlain (list_of op row) = (op ≢ ops.UnreadText) × IsPlainRow row
+  IsPlain (tagged word op row) = (op ≢ ops.UnreadText) × IsPlainRow row
   IsPlain unread = Unit {0}
   IsPlain any_text = Unit {0}
 
@@ -39,6 +45,7 @@ abbrev mutual
   IsPlainRow (item shape row) = IsPlain shape × IsPlainRow row
   IsPlainRow (many shape) = IsPlain shape
   IsPlainRow (counted count a b) = IsPlainRow a × IsPlainRow b
+  IsPlainRow (led shape a b) = IsPlainRow a × IsPlainRow b
   IsPlainRow statements = Unit {0}
   IsPlainRow anything = Unit {0}
 
@@ -66,104 +73,125 @@ both_plain : (xs ys : List Entry) → ArePlain xs → ArePlain ys → ArePlain (
 both_plain [] ys h k = k
 both_plain (x ∷ xs) ys h k = (h.0, both_plain xs ys h.1 k)
 
-and_left : (a b : Bool) → (a && b) ≡ true → a ≡ true
-and_left true b e = refl
-and_left false b e = e
+-- ---- that it is so is decided by computing
 
-and_right : (a b : Bool) → (a && b) ≡ true → b ≡ true
-and_right true b e = e
-and_right false b e = absurd (let f : false ≡ true = e in cc)
+abbrev not_text : Op → Bool
+not_text ops.UnreadText = false
+not_text op = true
 
--- the operator is not that of a kept string
-abbrev is_no_text : Op → Bool
-is_no_text ops.UnreadText = false
-is_no_text op = true
-
-no_text : (op : Op) → is_no_text op ≡ true → op ≢ ops.UnreadText
-no_text ops.UnreadText e = absurd (let f : false ≡ true = e in cc)
-no_text op e = λ f. cc
+text_apart : (op : Op) → not_text op ≡ true → op ≢ ops.UnreadText
+text_apart op h e = let f : true ≡ false = sym h ∙ ap not_text e in cc
 
 abbrev mutual
-  plain_shape : Shape → Bool
-  plain_shape declared_name = true
-  plain_shape (looked_up sign) = true
-  plain_shape (set_of sign) = true
-  plain_shape (fixed word op) = true
-  plain_shape (left_out word) = true
-  plain_shape any_left_out = true
-  plain_shape (either a b) = plain_shape a && plain_shape b
-  plain_shape (list_of op row) = is_no_text op && plain_row row
-  plain_shape unread = true
-  plain_shape any_text = true
+  is_plain : Shape → Bool
+  is_plain declared_name = true
+  is_plain (looked_up sign) = true
+  is_plain (expression language) = true
+  is_plain (fixed word op) = true
+  is_plain (left_out word) = true
+  is_plain any_left_out = true
+  is_plain (either a b) = is_plain a && is_plain b
+  is_plain (list_of op row) = not_text op && is_plain_row row
+  is_plain (tagged word op row) = not_text op && is_plain_row row
+  is_plain unread = true
+  is_plain any_text = true
 
-  plain_row : Row → Bool
-  plain_row close = true
-  plain_row (item shape row) = plain_shape shape && plain_row row
-  plain_row (many shape) = plain_shape shape
-  plain_row (counted count a b) = plain_row a && plain_row b
-  plain_row statements = true
-  plain_row anything = true
+  is_plain_row : Row → Bool
+  is_plain_row close = true
+  is_plain_row (item shape row) = is_plain shape && is_plain_row row
+  is_plain_row (many shape) = is_plain shape
+  is_plain_row (counted count a b) = is_plain_row a && is_plain_row b
+  is_plain_row (led shape a b) = is_plain_row a && is_plain_row b
+  is_plain_row statements = true
+  is_plain_row anything = true
+
+both_true : (a b : Bool) → (a && b) ≡ true → (a ≡ true) × (b ≡ true)
+both_true true b h = (refl, h)
+both_true false b h = absurd (let f : false ≡ true = h in cc)
 
 mutual
-  shape_so : (s : Shape) → plain_shape s ≡ true → IsPlain s
-  shape_so declared_name e = tt
-  shape_so (looked_up sign) e = tt
-  shape_so (set_of sign) e = tt
-  shape_so (fixed word op) e = tt
-  shape_so (left_out word) e = tt
-  shape_so any_left_out e = tt
-  shape_so (either a b) e = (shape_so a (and_left (plain_shape a) (plain_shape b) e), shape_so b (and_right (plain_shape a) (plain_shape b) e))
-  shape_so (list_of op row) e = (no_text op (and_left (is_no_text op) (plain_row row) e), row_so row (and_right (is_no_text op) (plain_row row) e))
-  shape_so unread e = tt
-  shape_so any_text e = tt
+  plain_so : (shape : Shape) → is_plain shape ≡ true → IsPlain shape
+  plain_so declared_name h = tt
+  plain_so (looked_up sign) h = tt
+  plain_so (expression language) h = tt
+  plain_so (fixed word op) h = tt
+  plain_so (left_out word) h = tt
+  plain_so any_left_out h = tt
+  plain_so (either a b) h = (plain_so a (both_true (is_plain a) (is_plain b) h).0, plain_so b (both_true (is_plain a) (is_plain b) h).1)
+  plain_so (list_of op row) h = (text_apart op (both_true (not_text op) (is_plain_row row) h).0, row_so row (both_true (not_text op) (is_plain_row row) h).1)
+  plain_so (tagged word op row) h = (text_apart op (both_true (not_text op) (is_plain_row row) h).0, row_so row (both_true (not_text op) (is_plain_row row) h).1)
+  plain_so unread h = tt
+  plain_so any_text h = tt
 
-  row_so : (r : Row) → plain_row r ≡ true → IsPlainRow r
-  row_so close e = tt
-  row_so (item shape row) e = (shape_so shape (and_left (plain_shape shape) (plain_row row) e), row_so row (and_right (plain_shape shape) (plain_row row) e))
-  row_so (many shape) e = shape_so shape e
-  row_so (counted count a b) e = (row_so a (and_left (plain_row a) (plain_row b) e), row_so b (and_right (plain_row a) (plain_row b) e))
-  row_so statements e = tt
-  row_so anything e = tt
+  row_so : (row : Row) → is_plain_row row ≡ true → IsPlainRow row
+  row_so close h = tt
+  row_so (item shape row) h = (plain_so shape (both_true (is_plain shape) (is_plain_row row) h).0, row_so row (both_true (is_plain shape) (is_plain_row row) h).1)
+  row_so (many shape) h = plain_so shape h
+  row_so (counted count a b) h = (row_so a (both_true (is_plain_row a) (is_plain_row b) h).0, row_so b (both_true (is_plain_row a) (is_plain_row b) h).1)
+  row_so (led shape a b) h = (row_so a (both_true (is_plain_row a) (is_plain_row b) h).0, row_so b (both_true (is_plain_row a) (is_plain_row b) h).1)
+  row_so statements h = tt
+  row_so anything h = tt
 
-abbrev plain_rows : List Entry → Bool
-plain_rows [] = true
-plain_rows (x ∷ xs) = plain_row x.row && plain_rows xs
+abbrev has_plain_row : Entry → Bool
+has_plain_row e = is_plain_row e.row
 
-rows_so : (es : List Entry) → plain_rows es ≡ true → ArePlain es
-rows_so [] e = tt
-rows_so (x ∷ xs) e = (row_so x.row (and_left (plain_row x.row) (plain_rows xs) e), rows_so xs (and_right (plain_row x.row) (plain_rows xs) e))
+entries_so : (es : List Entry) → list_all has_plain_row es ≡ true → ArePlain es
+entries_so [] h = tt
+entries_so (e ∷ es) h = (row_so e.row (both_true (has_plain_row e) (list_all has_plain_row es) h).0, entries_so es (both_true (has_plain_row e) (list_all has_plain_row es) h).1)
 
 effective_plain : ArePlain effective
-unfolding effective entry_of
-effective_plain = rows_so effective refl
+unfolding rules containers types classes users entry_of
+effective_plain = entries_so effective refl
 
 table_plain : ArePlain table
 table_plain = both_plain effective (map set_aside set_aside_words) effective_plain (aside_plain set_aside_words)
 
--- ---- operators
+-- ---- heads
 
-abbrev IsPlainOperator : Option Op → Type 0
-IsPlainOperator None = Unit {0}
-IsPlainOperator (Some op) = op ≢ ops.UnreadText
+abbrev IsPlainHead : Option Head → Type 0
+IsPlainHead None = Unit {0}
+IsPlainHead (Some h) = (h.op ≢ ops.UnreadText) × IsPlainRow h.row
 
-one_operator : (b : Bool) (x y : Option Op) → IsPlainOperator x → IsPlainOperator y → IsPlainOperator (if b then x else y)
-one_operator true x y h k = h
-one_operator false x y h k = k
+abbrev ArePlainHeads : List Head → Type 0
+ArePlainHeads [] = Unit {0}
+ArePlainHeads (h ∷ hs) = IsPlainHead (Some h) × ArePlainHeads hs
 
-plain_operator : (face : Face) → IsPlainOperator (operator_of face)
-plain_operator (a_word bytes) =
-    one_operator (same_bytes bytes (codes "not")) _ _ (λ e. cc)
-    (one_operator (same_bytes bytes (codes "and")) _ _ (λ e. cc)
-    (one_operator (same_bytes bytes (codes "or")) _ _ (λ e. cc) (one_operator (same_bytes bytes (codes "xor")) _ _ (λ e. cc) tt)))
-plain_operator a_string = tt
-plain_operator a_list = tt
+abbrev is_plain_head : Head → Bool
+is_plain_head h = not_text h.op && is_plain_row h.row
+
+heads_so : (hs : List Head) → list_all is_plain_head hs ≡ true → ArePlainHeads hs
+heads_so [] e = tt
+heads_so (h ∷ hs) e =
+    let one = both_true (not_text h.op) (is_plain_row h.row) (both_true (is_plain_head h) (list_all is_plain_head hs) e).0 in
+    ((text_apart h.op one.0, row_so h.row one.1), heads_so hs (both_true (is_plain_head h) (list_all is_plain_head hs) e).1)
+
+range_plain : (b : Bool) (hs : List Head) → list_all is_plain_head hs ≡ true → list_all is_plain_head (if b then hs else []) ≡ true
+range_plain true hs e = e
+range_plain false hs e = refl
+
+heads_plain : (language : Language) → ArePlainHeads (heads language)
+unfolding heads
+heads_plain (languages.Sets sign) = heads_so (heads (languages.Sets sign)) (range_plain (has_ranges sign) _ refl)
+heads_plain languages.Conditions = heads_so (heads languages.Conditions) refl
+heads_plain languages.Constraints = heads_so (heads languages.Constraints) refl
+heads_plain languages.LevelConstraints = heads_so (heads languages.LevelConstraints) refl
+
+one_head : (b : Bool) (x y : Option Head) → IsPlainHead x → IsPlainHead y → IsPlainHead (cond b x y)
+one_head true x y h k = h
+one_head false x y h k = k
+
+head_plain : (there : List (List ℕ)) (hs : List Head) → ArePlainHeads hs → IsPlainHead (find (λ h. begins_with h.words there) hs)
+head_plain there [] e = tt
+head_plain there (h ∷ hs) e =
+    one_head (begins_with h.words there) (Some h) (find (λ (k : Head). begins_with k.words there) hs) e.0 (head_plain there hs e.1)
+
+other_plain : (b : Bool) → (if b then ops.Union else ops.Group) ≢ ops.UnreadText
+other_plain true e = cc
+other_plain false e = cc
 
 one_row : (b : Bool) (x y : Row) → IsPlainRow x → IsPlainRow y → IsPlainRow (if b then x else y)
 one_row true x y h k = h
 one_row false x y h k = k
-
-plain_operands : (sign : Sign) (op : Op) → IsPlainRow (operands sign op)
-plain_operands sign op = one_row (is_negation op) _ _ (tt, tt) (tt, (tt, tt))
 
 module _ (P : Spot → List ℕ → Type 0) where
   -- the string of a kept string has the property at the place of its form
@@ -218,16 +246,23 @@ module _ (P : Spot → List ℕ → Type 0) where
 
   -- ---- words and strings
 
+  sole_has : (at : Spot) (bytes : List ℕ) → P at bytes → (o : Option Sign) (every : Bool) → Has (read_sole at o every bytes)
+  sole_has at bytes p None every = tt
+  sole_has at bytes p (Some sign) true = ((λ e. tt), tt)
+  sole_has at bytes p (Some sign) false = p
+
   pub word_has : (at : Spot) (bytes : List ℕ) → P at bytes → (shape : Shape) → Has (read_word at bytes shape)
   unfolding read_word
   word_has at bytes p declared_name = p
   word_has at bytes p (looked_up sign) = p
-  word_has at bytes p (set_of sign) = one_has (same_bytes bytes (codes "all")) _ _ ((λ e. tt), tt) p
+  word_has at bytes p (expression language) =
+      sole_has at bytes p (word_sign language) (is_of_sets language && same_bytes bytes (codes "all"))
   word_has at bytes p (fixed word op) = one_has (same_bytes bytes word) _ _ ((λ e. tt), tt) tt
   word_has at bytes p (left_out word) = one_has (same_bytes bytes word) _ _ ((λ e. tt), tt) tt
   word_has at bytes p any_left_out = ((λ e. tt), tt)
   word_has at bytes p (either a b) = one_has (is_meant a (a_word bytes)) _ _ (word_has at bytes p a) (word_has at bytes p b)
   word_has at bytes p (list_of op row) = tt
+  word_has at bytes p (tagged word op row) = tt
   word_has at bytes p unread = p
   word_has at bytes p any_text = p
 
@@ -235,12 +270,13 @@ module _ (P : Spot → List ℕ → Type 0) where
   unfolding read_string
   string_has at bytes p declared_name = tt
   string_has at bytes p (looked_up sign) = tt
-  string_has at bytes p (set_of sign) = tt
+  string_has at bytes p (expression language) = tt
   string_has at bytes p (fixed word op) = tt
   string_has at bytes p (left_out word) = tt
   string_has at bytes p any_left_out = tt
   string_has at bytes p (either a b) = one_has (is_meant a a_string) _ _ (string_has at bytes p a) (string_has at bytes p b)
   string_has at bytes p (list_of op row) = tt
+  string_has at bytes p (tagged word op row) = tt
   string_has at bytes p unread = ((λ e. p), (p, tt))
   string_has at bytes p any_text = ((λ e. p), (p, tt))
 
@@ -264,29 +300,40 @@ module _ (P : Spot → List ℕ → Type 0) where
   row_has (many shape) [] p e = tt
   row_has (many shape) (c ∷ cs) p e = joined_have (c.read shape) (read_row (many shape) cs) (e.0 shape p) (row_has (many shape) cs p e.1)
   row_has (counted count a b) cs p e = one_have (length cs == count) _ _ (row_has a cs p.0 e) (row_has b cs p.1 e)
+  row_has (led shape a b) cs p e = one_have (is_led shape cs) _ _ (row_has a cs p.0 e) (row_has b cs p.1 e)
   row_has statements cs p e = one_have (all_lists cs) _ _ tt tt
   row_has anything cs p e = tt
 
-  headed_has : (at : Spot) (sign : Sign) (c : Cell) (cs : List Cell) → EachCell (c ∷ cs) → (o : Option Op) → IsPlainOperator o
-      → Has (option_map_or (read_operator at sign c cs) o (formed at ops.Union [] (read_row (many (set_of sign)) (c ∷ cs))))
-  headed_has at sign c cs e None f = formed_has at ops.Union [] _ (λ e. cc) (row_has (many (set_of sign)) (c ∷ cs) tt e)
-  headed_has at sign c cs e (Some op) f =
-      formed_has at op (inner_at c.at causes.Unsupported (word_of c.face) ∷ []) _ f (row_has (operands sign op) cs (plain_operands sign op) e.1)
+  behind_has : (row : Row) (cs : List Cell) → IsPlainRow row → EachCell cs → Have (read_behind row cs)
+  behind_has row [] p e = tt
+  behind_has row (c ∷ cs) p e = row_has row cs p e.1
 
-  set_has : (at : Spot) (sign : Sign) (cs : List Cell) → EachCell cs → Has (read_set at sign cs)
-  set_has at sign [] e = formed_has at ops.Union [] _ (λ e. cc) (row_has (many (set_of sign)) [] tt e)
-  set_has at sign (c ∷ cs) e = headed_has at sign c cs e (operator_of c.face) (plain_operator c.face)
+  headed_has : (at : Spot) (language : Language) (cs : List Cell) → EachCell cs → (o : Option Head) → IsPlainHead o → Has (read_by_head at language cs o)
+  headed_has at language cs e None f =
+      formed_has at (other_op language) [] _ (other_plain (is_of_sets language))
+      (row_has (other_row language) cs (one_row (is_of_sets language) (many (expression language)) (one_operand language) tt (tt, tt)) e)
+  headed_has at language cs e (Some h) f = formed_has at h.op (refused_head h.taken cs) _ f.0 (behind_has h.row cs f.1 e)
+
+  expression_has : (at : Spot) (language : Language) (cs : List Cell) → EachCell cs → Has (read_expression at language cs)
+  expression_has at language cs e =
+      headed_has at language cs e (head_in language (first_words cs)) (head_plain (first_words cs) (heads language) (heads_plain language))
+
+  tagged_has : (at : Spot) (word : List ℕ) (op : Op) (row : Row) (cs : List Cell) → op ≢ ops.UnreadText → IsPlainRow row → EachCell cs
+      → Has (read_tagged at word op row cs)
+  tagged_has at word op row [] f p e = tt
+  tagged_has at word op row (c ∷ cs) f p e = one_has (is_this_word word c.face) _ _ (formed_has at op [] _ f (row_has row cs p e.1)) tt
 
   pub list_has : (at : Spot) (cs : List Cell) → EachCell cs → (shape : Shape) → IsPlain shape → Has (read_list at cs shape)
   unfolding read_list
   list_has at cs e declared_name p = tt
   list_has at cs e (looked_up sign) p = tt
-  list_has at cs e (set_of sign) p = set_has at sign cs e
+  list_has at cs e (expression language) p = expression_has at language cs e
   list_has at cs e (fixed word op) p = tt
   list_has at cs e (left_out word) p = tt
   list_has at cs e any_left_out p = tt
-  list_has at cs e (either a b) p = one_has (is_meant a a_list) _ _ (list_has at cs e a p.0) (list_has at cs e b p.1)
+  list_has at cs e (either a b) p = one_has (is_meant a (a_list (head_word cs))) _ _ (list_has at cs e a p.0) (list_has at cs e b p.1)
   list_has at cs e (list_of op row) p = formed_has at op [] _ p.0 (row_has row cs p.1 e)
+  list_has at cs e (tagged word op row) p = tagged_has at word op row cs p.0 p.1 e
   list_has at cs e unread p = formed_has at ops.UnreadList [] _ (λ e. cc) (row_has (many unread) cs tt e)
   list_has at cs e any_text p = tt
 
@@ -341,7 +388,7 @@ module _ (P : Spot → List ℕ → Type 0) where
     head_has context at (a_word word) cs e =
         entry_has context at word cs e (entry_named word) (found_plain table word table_plain)
     head_has context at a_string cs e = tt
-    head_has context at a_list cs e = tt
+    head_has context at (a_list head) cs e = tt
 
     items_have : (context : Context) (at : Spot) (cs : List Cell) → EachCell cs → VerdictHas (by_items context at cs)
     items_have context at [] e = tt
@@ -370,9 +417,21 @@ module _ (P : Spot → List ℕ → Type 0) where
     skipped_have zero (next n ns) h = h
     skipped_have (suc k) (next n ns) h = skipped_have k ns h.1
 
+    beside_have : (ns ms : Nodes) → NodesHave ns → NodesHave ms → NodesHave (beside ns ms)
+    unfolding beside
+    beside_have none ms h k = k
+    beside_have (next n ns) ms h k = (h.0, beside_have ns ms h.1 k)
+
+    behind_first_have : (ns : Nodes) → NodesHave ns → NodesHave (all_behind_first ns)
+    unfolding all_behind_first
+    behind_first_have none h = tt
+    behind_first_have (next n ns) h =
+        beside_have (skipped 1 (inner_of n)) (all_behind_first ns) (skipped_have 1 (inner_of n) (inner_has n h.0)) (behind_first_have ns h.1)
+
     within_have : (body : Body) (ns : Nodes) → NodesHave ns → NodesHave (within body ns)
     within_have plain ns h = tt
     within_have (behind k nesting) ns h = skipped_have k ns h
+    within_have (branched k) ns h = behind_first_have (skipped k ns) (skipped_have k ns h)
 
     found_has : (modules : List (List ℕ)) → ((tree : Nodes) → IsText (module_of modules m) tree → NodesHave tree)
         → (context : Context) (n : Node) → FoundIn modules m context n → NodeHas n

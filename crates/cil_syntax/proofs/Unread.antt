@@ -1,10 +1,10 @@
 -- Nodes that are kept as they are, and lists behind items.
-use Rattle.std.proofs.Common.{◌≡◌, ℕ, suc, zero, ◌-◌, ◌<◌, ◌≤◌, Bool, true, false, if◌then◌else◌, ◌&&◌, List, [], ◌∷◌, length, take, drop, map, refl, sym, ◌∙◌, ap, subst, arith, rules}
-use Rattle.std.specs.Prelude.{Option, Some, None, Result}
+use Rattle.std.proofs.Common.{◌≡◌, ℕ, Bool, true, false, if◌then◌else◌, ◌&&◌, List, [], ◌∷◌, refl, sym, ◌∙◌, ap, subst, rules}
+use Rattle.std.specs.Prelude.{Some, None, Result}
 use Rattle.std.specs.List.{list_all}
 use Rattle.std.specs.declared.vec.Vec.{Vec}
 use Rattle.std.specs.declared.alloc.Global.{Global}
-use Rattle.std.proofs.lemmas.List.{append-nil, length-map, take_rest}
+use Rattle.std.proofs.lemmas.List.{append-nil}
 use Rattle.cil_sexpr.specs.declared.node.Node as nodes
 use Rattle.cil_sexpr.specs.declared.node.Node.{the_lemmas}
 use Rattle.cil_sexpr.specs.declared.node.Span.{Span}
@@ -17,13 +17,13 @@ use Rattle.cil_syntax.specs.declared.shape.Shape as shapes
 use Rattle.cil_syntax.specs.declared.stop.Stop.{Stop}
 use Rattle.cil_syntax.specs.declared.term.Op.TheVariants as ops
 use Rattle.cil_syntax.specs.declared.term.Term as rust
-use Rattle.cil_syntax.specs.declared.term.Word.{Word}
-use Rattle.cil_syntax.specs.Laid.{items_before, items_of, row_of, shape_of}
-use Rattle.cil_syntax.specs.Shapes.{Reading, Shape, unread, any_text, many, statements, anything, is_list, all_lists, joined, formed, read_word, read_string, read_list, read_row, Cell, cell_of, cells_of}
-use Rattle.cil_syntax.specs.Terms.{Terms, spot_of}
-use Rattle.cil_syntax.specs.Told.{AreTold, Tells, TellAll, is_branch, kept_as}
+use Rattle.cil_syntax.specs.Laid.{row_of, shape_of}
+use Rattle.cil_syntax.specs.Words.{reads, read_word, read_string}
+use Rattle.cil_syntax.specs.Shapes.{unread, any_text, many, statements, anything, is_list, Cell}
+use Rattle.cil_syntax.specs.Readings.{all_lists, formed, read_list, read_row, cell_of, cells_of}
+use Rattle.cil_syntax.specs.Terms.{nil, spot_of}
+use Rattle.cil_syntax.specs.Told.{AreTold, Tells, is_branch, kept_as}
 use Rattle.cil_syntax.proofs.Heads.{word_view, quoted_view, list_read}
-use Rattle.cil_syntax.proofs.ItemsRead.{joined-none, length-cells}
 
 -- ---- nodes
 
@@ -74,27 +74,7 @@ anything_told m space cells row old terms is empty =
     let view : row_of rows.Anything ≡ anything = search (rules, rows.the_lemmas) in
     subst (λ x. AreTold m space (read_row x cells) old old (Some terms)) (sym (ap row_of is ∙ view)) (rw empty refl, sym (append-nil old))
 
--- ---- items, and lists behind them
-
--- as many items as there are shapes, and then lists
-one_later : (a : Option (Reading _)) (b : Bool) (r : Option (Reading (Terms Word))) → joined a (if b then r else None) ≡ (if b then joined a r else None)
-one_later a true r = refl
-one_later a false r = joined-none a
-
-body_read : (ss : List Shape) (cells : List Cell) → length ss ≤ length cells
-    → read_row (items_before statements ss) cells ≡ (if all_lists (drop (length ss) cells) then read_row (items_of ss) (take (length ss) cells) else None)
-unfolding read_row
-body_read [] cells long = refl
-body_read (s ∷ ss) [] long = absurd (omega (arith, long))
-body_read (s ∷ ss) (c ∷ cs) long =
-    ap (joined (c.read s)) (body_read ss cs (omega (arith, long)))
-    ∙ one_later (c.read s) (all_lists (drop (length ss) cs)) (read_row (items_of ss) (take (length ss) cs))
-
-too_short : (ss : List Shape) (cells : List Cell) → length cells < length ss → read_row (items_before statements ss) cells ≡ None
-unfolding read_row
-too_short [] cells short = absurd (omega (arith, short))
-too_short (s ∷ ss) [] short = refl
-too_short (s ∷ ss) (c ∷ cs) short = ap (joined (c.read s)) (too_short ss cs (omega (arith, short))) ∙ joined-none (c.read s)
+-- ---- lists
 
 -- a node is a list where its cell is one
 list_faced : (m : ℕ) (n : Node) → is_list (cell_of m n).face ≡ is_branch n
@@ -109,50 +89,17 @@ module _ (m : ℕ) (space : List ℕ) (text : List ℕ) where
   lists_seen [] = refl
   lists_seen (n ∷ ns) = λ i. list_faced m (node_of text n) i && lists_seen ns i
 
-  cells_dropped : (k : ℕ) (ns : List nodes.Node) → drop k (cells_of m (nodes_of text ns)) ≡ cells_of m (nodes_of text (drop k ns))
-  unfolding cells_of
-  cells_dropped zero ns = refl
-  cells_dropped (suc k) [] = refl
-  cells_dropped (suc k) (n ∷ ns) = cells_dropped k ns
+  -- statements are lists, each judged by itself
+  statements_read : (ns : List nodes.Node) (b : Bool) → b ≡ list_all (λ n. is_branch (node_of text n)) ns
+      → read_row statements (cells_of m (nodes_of text ns)) ≡ (if b then reads nil [] else None)
+  unfolding read_row
+  statements_read ns b e = ap (λ x. if x then reads nil [] else None) (lists_seen ns ∙ sym e)
 
-  cells_taken : (k : ℕ) (ns : List nodes.Node) → take k (cells_of m (nodes_of text ns)) ≡ cells_of m (nodes_of text (take k ns))
-  unfolding cells_of
-  cells_taken zero ns = refl
-  cells_taken (suc k) [] = refl
-  cells_taken (suc k) (n ∷ ns) = ap (λ cs. cell_of m (node_of text n) ∷ cs) (cells_taken k ns)
+  pub lists_told : (ns : List nodes.Node) (old : List Fault) (v : Vec rust.Term Global) (b : Bool) → b ≡ list_all (λ n. is_branch (node_of text n)) ns → b ≡ true → v.items ≡ []
+      → AreTold m space (read_row statements (cells_of m (nodes_of text ns))) old old (Some v)
+  lists_told ns old v b e h empty =
+      subst (λ w. AreTold m space w old old (Some v)) (sym (statements_read ns true (sym h ∙ e))) (rw empty refl, sym (append-nil old))
 
-  module _ (ns : List nodes.Node) (ss : List shapes.Shape) (old : List Fault) where
-    abbrev whole : Option (Reading (Terms Word))
-    whole = read_row (items_before statements (map shape_of ss)) (cells_of m (nodes_of text ns))
-
-    nothing_told : whole ≡ None → AreTold m space whole old old None
-    nothing_told e = subst (λ w. AreTold m space w old old None) (sym e) ([], sym (append-nil old))
-
-    pub short_told : length ns < length ss → AreTold m space whole old old None
-    short_told short =
-        let cells = length-cells m text ns in
-        let shapes = length-map ss shape_of in
-        nothing_told (too_short (map shape_of ss) (cells_of m (nodes_of text ns)) (omega (arith, cells, shapes, short)))
-
-    module _ (long : length ss ≤ length ns) where
-      -- by what stands behind the items
-      split_read : (b : Bool) → b ≡ list_all (λ n. is_branch (node_of text n)) (take (length ns - length ss) (drop (length ss) ns))
-          → whole ≡ (if b then read_row (items_of (map shape_of ss)) (cells_of m (nodes_of text (take (length ss) ns))) else None)
-      split_read b e =
-          let cells = length-cells m text ns in
-          let shapes = length-map ss shape_of in
-          body_read (map shape_of ss) (cells_of m (nodes_of text ns)) (omega (arith, cells, shapes, long))
-          ∙ ap (λ k. if all_lists (drop k (cells_of m (nodes_of text ns))) then read_row (items_of (map shape_of ss)) (take k (cells_of m (nodes_of text ns))) else None) shapes
-          ∙ ap (λ x. if x then read_row (items_of (map shape_of ss)) (take (length ss) (cells_of m (nodes_of text ns))) else None)
-          (ap all_lists (cells_dropped (length ss) ns) ∙ lists_seen (drop (length ss) ns) ∙ ap (list_all (λ n. is_branch (node_of text n))) (sym (take_rest ns (length ss))) ∙ sym e)
-          ∙ ap (λ cs. if b then read_row (items_of (map shape_of ss)) cs else None) (cells_taken (length ss) ns)
-
-      pub no_lists_told : (b : Bool) → b ≡ list_all (λ n. is_branch (node_of text n)) (take (length ns - length ss) (drop (length ss) ns)) → b ≡ false → AreTold m space whole old old None
-      no_lists_told b e is = nothing_told (split_read b e ∙ ap (λ x. if x then read_row (items_of (map shape_of ss)) (cells_of m (nodes_of text (take (length ss) ns))) else None) is)
-
-      pub body_told : (new : List Fault) (r : Result (Vec rust.Term Global) Stop) (b : Bool)
-          → b ≡ list_all (λ n. is_branch (node_of text n)) (take (length ns - length ss) (drop (length ss) ns)) → b ≡ true
-          → TellAll m space (read_row (items_of (map shape_of ss)) (cells_of m (nodes_of text (take (length ss) ns)))) old new r → TellAll m space whole old new r
-      body_told new r b e is told =
-          subst (λ w. TellAll m space w old new r)
-          (sym (split_read b e ∙ ap (λ x. if x then read_row (items_of (map shape_of ss)) (cells_of m (nodes_of text (take (length ss) ns))) else None) is)) told
+  pub no_lists_told : (ns : List nodes.Node) (old : List Fault) (b : Bool) → b ≡ list_all (λ n. is_branch (node_of text n)) ns → b ≡ false
+      → AreTold m space (read_row statements (cells_of m (nodes_of text ns))) old old None
+  no_lists_told ns old b e h = subst (λ w. AreTold m space w old old None) (sym (statements_read ns false (sym h ∙ e))) ([], sym (append-nil old))

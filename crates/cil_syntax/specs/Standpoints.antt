@@ -4,7 +4,7 @@ use Rattle.std.specs.Prelude.{ℕ, zero, suc, List, [], ◌∷◌, ◌++◌, map
 use Rattle.std.specs.List.{flat_map}
 use Rattle.cil_sexpr.specs.Tree.{Node, Word as TextWord, Quoted, Branch, Nodes, none, next}
 use Rattle.cil_faults.specs.declared.fault.Fault.{Fault}
-use Rattle.cil_syntax.specs.Table.{Body, plain, behind, entry_of}
+use Rattle.cil_syntax.specs.Table.{Body, plain, behind, branched, entry_of}
 use Rattle.cil_syntax.specs.Written.{Context, Written, Verdict, Refused, Shaped, fault_of, verdict_of, inside_of}
 
 -- a node, and where it stands
@@ -12,14 +12,17 @@ pub record Standpoint : Type 0 where
   pub context : Context
   pub node : Node
 
--- what a statement has inside: nothing, or statements in a context behind so many items
+-- what a statement has inside: nothing; statements in a context behind so many items; or in the lists there, each behind
+-- its first item
 pub data Opening : Type 0 where
   closed : Opening
   opened : (context : Context) (skipped : ℕ) → Opening
+  forked : (context : Context) (skipped : ℕ) → Opening
 
 abbrev pub opening_by : Context → Body → Opening
 opening_by inner plain = closed
 opening_by inner (behind k nesting) = opened inner k
+opening_by inner (branched k) = forked inner k
 
 -- what a node has inside, by what is said of it
 abbrev pub opening_of : Context → Verdict → Opening
@@ -40,6 +43,14 @@ unfoldable mutual
   found_behind m closed (next n ns) = []
   found_behind m (opened c zero) (next n ns) = found_from m c n ++ found_behind m (opened c zero) ns
   found_behind m (opened c (suc k)) (next n ns) = found_behind m (opened c k) ns
+  found_behind m (forked c zero) (next n ns) = found_inside m c n ++ found_behind m (forked c zero) ns
+  found_behind m (forked c (suc k)) (next n ns) = found_behind m (forked c k) ns
+
+  -- those behind the first item of a list
+  pub found_inside : ℕ → Context → Node → List Standpoint
+  found_inside m c (TextWord place bytes) = []
+  found_inside m c (Quoted place bytes) = []
+  found_inside m c (Branch place inner) = found_behind m (opened c 1) inner
 
 -- the faults of a node, and the statement that it is, by what is said of it
 abbrev pub faults_by : ℕ → Context → Verdict → List Fault

@@ -6,9 +6,11 @@
 #![tactic(auto)]
 
 mod clashes;
+mod expressions;
 mod forms;
 mod kept;
 mod kind;
+mod language;
 pub mod laws;
 mod path;
 mod place;
@@ -16,7 +18,6 @@ mod program;
 mod reader;
 mod rows;
 mod set_aside;
-mod sets;
 mod shape;
 mod spelling;
 mod stop;
@@ -33,7 +34,7 @@ pub use cil_faults::{
 pub use forms::{
     ClassParts, DeclaredName, Parameter, RuleParts, WordAndTerms, WordPair, word_and_terms,
 };
-pub use kind::{Keyword, Kind, Nesting, Sign};
+pub use kind::{Keyword, Kind, Language, Nesting, Sign};
 pub use path::{Path, PathParts, parted, path_of};
 pub use place::joined;
 pub use program::{Program, Statement, written};

@@ -8,8 +8,8 @@ ghost use Rattle.cil_syntax.specs.Said.{all_said, args_of};
 ghost use Rattle.cil_syntax.specs.Spelling.{is_one_of, same_bytes};
 ghost use Rattle.cil_syntax.specs.Program.{statement_of};
 ghost use Rattle.cil_syntax.specs.Table.{Entry as of_table};
-ghost use Rattle.cil_syntax.specs.Table.{behind, entry_of};
-ghost use Rattle.cil_syntax.specs.Written.{Context, allows, at_top, bytes_of, depth_of, front_word, innermost, inside_of, is_abstraction, is_macro, may_stand, named_in_front, names_its_block, parameters_of, parameters_round};
+ghost use Rattle.cil_syntax.specs.Table.{entry_of};
+ghost use Rattle.cil_syntax.specs.Written.{Context, allows, at_top, bytes_of, depth_of, front_word, innermost, inside_of, is_abstraction, is_macro, may_stand, named_in_front, names_its_block, nesting_within, parameters_of, parameters_round};
 
 use crate::clashes::{NameAt, is_named, name_of_front, parameters_of};
 use crate::kind::{Keyword, Nesting};
@@ -150,7 +150,7 @@ impl<'a> Place<'a> {
         number: usize,
         nesting: Nesting,
     ) -> Result<Place<'a>, NoMemory>
-        ensures round { IfOk result (λ place. (context : Context) → IsAround context self.now → (k : ℕ) → (entry_of statement.now.keyword).body ≡ behind k nesting → IsAround (inside_of context (statement_of statement.now)) place) }
+        ensures round { IfOk result (λ place. (context : Context) → IsAround context self.now → nesting ≡ nesting_within (entry_of statement.now.keyword).body context.nesting → IsAround (inside_of context (statement_of statement.now)) place) }
         ensures under { IfOk result (λ place. place.under ≡ Some number) }
     {
         let blocks = self.blocks_inside(alloc, statement)?;

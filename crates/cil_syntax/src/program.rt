@@ -6,7 +6,7 @@ ghost use Rattle.cil_sexpr.specs.Text.{IsReadable};
 ghost use Rattle.cil_sexpr.specs.View.{node_of, nodes_of};
 ghost use Rattle.cil_syntax.specs.Program.{program_of};
 ghost use Rattle.cil_faults.specs.Refusal.{Answers};
-ghost use Rattle.cil_syntax.specs.Standpoints.{found_behind, found_from, opened};
+ghost use Rattle.cil_syntax.specs.Standpoints.{forked, found_behind, found_from, found_inside, opened};
 ghost use Rattle.cil_syntax.specs.Told.{AreJudgedHere, IsModuleRead, StandsIn};
 ghost use Rattle.cil_syntax.specs.Written.{IsWritten, ShapeFault, at_top, written_cmp};
 
@@ -43,7 +43,7 @@ pub struct Program<'a> {
 impl<'a> Model for Program<'a> {
     ghost use Rattle.std.specs.Prelude.{List};
     ghost use Rattle.cil_syntax.specs.declared.program.Statement.{Statement};
-    ghost use Rattle.cil_syntax.specs.Program.{IsNested};
+    ghost use Rattle.cil_syntax.specs.Depths.{IsProgram};
     ghost use Rattle.cil_syntax.specs.contracts.term.Term as term;
     ghost use Rattle.std.specs.Coded.{codes};
     ghost use denote.Signature.{static_lft};
@@ -54,17 +54,19 @@ impl<'a> Model for Program<'a> {
 
     ghost view = { λ p. p.statements.items };
 
-    ghost invariant = { λ p. IsNested p.statements.items };
+    ghost invariant = { λ p. IsProgram p.statements.items };
 }
 
 impl<'a> Program<'a> {
     ghost use Rattle.std.specs.Prelude.{◌≡◌};
+    ghost use Rattle.cil_syntax.specs.Depths.{AreShallow};
     ghost use Rattle.cil_syntax.specs.Program.{IsNested};
 
-    /// The statements, in order. Where each stands follows from their numbers.
+    /// The statements, in order. Where each stands follows from their numbers. Their terms nest at most 127 deep.
     pub fn statements(&self) -> &[Statement<'a>]
         ensures same { result.now ≡ self.now }
         ensures nested { IsNested self.now }
+        ensures shallow { AreShallow self.now }
     {
         self.statements.as_slice()
     }
@@ -131,6 +133,40 @@ impl<'r, 'a> Reader<'r, 'a> {
         Ok(())
     }
 
+    /// Reads what is behind the first item of each of the nodes behind so many as statements.
+    #[cycle(bodies)]
+    fn judge_branches(
+        &self,
+        nodes: &[Node],
+        skipped: usize,
+        statements: &mut Vec<Statement<'a>>,
+        faults: &mut Vec<Fault>,
+    ) -> Result<(), NoMemory>
+        ensures { OnOk result (AreJudgedHere self.now (λ context. found_behind self.now.number (forked context skipped) (nodes_of self.now.text.now nodes.now)) statements.old.items statements.new.items faults.old.items faults.new.items) }
+    {
+        for index in skipped..nodes.len() {
+            self.judge_branch(&nodes[index], statements, faults)?;
+        }
+        Ok(())
+    }
+
+    /// Reads what is behind the first item of a node as statements.
+    #[cycle(bodies)]
+    fn judge_branch(
+        &self,
+        node: &Node,
+        statements: &mut Vec<Statement<'a>>,
+        faults: &mut Vec<Fault>,
+    ) -> Result<(), NoMemory>
+        ensures { OnOk result (AreJudgedHere self.now (λ context. found_inside self.now.number context (node_of self.now.text.now node.now)) statements.old.items statements.new.items faults.old.items faults.new.items) }
+    {
+        match node {
+            Node::Word(_) => Ok(()),
+            Node::Quoted(_) => Ok(()),
+            Node::List(_, items) => self.judge_all(items.as_slice(), 1, statements, faults),
+        }
+    }
+
     /// Reads a node as a statement, and then those inside it.
     #[cycle(bodies)]
     fn judge_in(
@@ -162,6 +198,14 @@ impl<'r, 'a> Reader<'r, 'a> {
             Node::Word(_) => Ok(()),
             Node::Quoted(_) => Ok(()),
             Node::List(_, items) => {
+                if body.branched {
+                    return reader.judge_branches(
+                        items.as_slice(),
+                        body.skipped,
+                        statements,
+                        faults,
+                    );
+                }
                 reader.judge_all(items.as_slice(), body.skipped, statements, faults)
             }
         }

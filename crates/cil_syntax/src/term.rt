@@ -95,6 +95,54 @@ pub enum Op {
     Xor,
     /// All that there is.
     All,
+    /// From one category to another.
+    Range,
+    /// The one expression in a list.
+    Group,
+    /// Two things are equal, or have the same value.
+    Equal,
+    /// They are not.
+    Unequal,
+    /// The first dominates the second.
+    Dominates,
+    /// The second dominates the first.
+    DominatedBy,
+    /// Neither dominates the other.
+    Incomparable,
+    /// A variable of a constraint: the user of the source.
+    SourceUser,
+    /// The user of the target.
+    TargetUser,
+    /// The role of the source.
+    SourceRole,
+    /// The role of the target.
+    TargetRole,
+    /// The type of the source.
+    SourceType,
+    /// The type of the target.
+    TargetType,
+    /// The low level of the source.
+    SourceLow,
+    /// The low level of the target.
+    TargetLow,
+    /// The high level of the source.
+    SourceHigh,
+    /// The high level of the target.
+    TargetHigh,
+    /// The word `true`.
+    Yes,
+    /// The word `false`.
+    No,
+    /// The statements that count where a condition is true.
+    TrueBranch,
+    /// The statements that count where it is false.
+    FalseBranch,
+    /// The word `unordered` in front of classes.
+    Unordered,
+    /// A level: a sensitivity, and its categories.
+    Level,
+    /// A range: a low and a high level.
+    LevelRange,
     /// The source itself.
     Itself,
     /// A word that is not supported, and that is reported.
@@ -109,8 +157,24 @@ pub enum Op {
     RoleKind,
     /// The kind of a parameter: users.
     UserKind,
+    /// The kind of a parameter: a boolean.
+    BooleanKind,
     /// The kind of a parameter: a class.
     ClassKind,
+    /// The kind of a parameter: a class map.
+    ClassMapKind,
+    /// The kind of a parameter: a class and its permissions, or their name.
+    ClassPermissionKind,
+    /// The kind of a parameter: a sensitivity.
+    SensitivityKind,
+    /// The kind of a parameter: a category.
+    CategoryKind,
+    /// The kind of a parameter: categories.
+    CategorySetKind,
+    /// The kind of a parameter: a level.
+    LevelKind,
+    /// The kind of a parameter: a range of levels.
+    LevelRangeKind,
     /// The kind of a parameter: a name.
     NameKind,
     /// The kind of a parameter: a string.

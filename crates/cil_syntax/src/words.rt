@@ -3,7 +3,9 @@
 ghost use Rattle.std.specs.Prelude.{◌≡◌, ◌∷◌, ◌++◌, [], OnOk, slice_range};
 ghost use Rattle.cil_sexpr.specs.View.{node_of};
 ghost use Rattle.cil_syntax.specs.Around.{space_of};
-ghost use Rattle.cil_syntax.specs.Shapes.{any_left_out, cell_of, declared_name, fixed as fixed_shape, inner_at, is_spelled, left_out, looked_up, read_left_out as left_out_reading, word_faults};
+ghost use Rattle.cil_syntax.specs.Shapes.{any_left_out, declared_name, fixed as fixed_shape, left_out, looked_up};
+ghost use Rattle.cil_syntax.specs.Readings.{cell_of};
+ghost use Rattle.cil_syntax.specs.Words.{inner_at, is_spelled, read_left_out as left_out_reading, word_faults};
 ghost use Rattle.cil_faults.specs.Spots.{spot_at};
 ghost use Rattle.cil_syntax.specs.Told.{Tells, told};
 
@@ -22,15 +24,35 @@ pub fn is_spelled_for(sign: Sign, word: &[u8]) -> bool
 {
     match sign {
         Sign::Permission => is_name(word),
-        Sign::Types => is_path(word),
-        Sign::Roles => is_path(word),
-        Sign::Users => is_path(word),
-        Sign::Classes => is_path(word),
-        Sign::PlainClass => is_path(word),
-        Sign::Blocks => is_path(word),
-        Sign::Macros => is_path(word),
         Sign::Text => true,
         Sign::Unread => true,
+        Sign::Types
+        | Sign::PlainType
+        | Sign::TypeAttributes
+        | Sign::TypeAliases
+        | Sign::Roles
+        | Sign::PlainRole
+        | Sign::RoleAttributes
+        | Sign::Users
+        | Sign::PlainUser
+        | Sign::UserAttributes
+        | Sign::Classes
+        | Sign::PlainClass
+        | Sign::ClassMaps
+        | Sign::Commons
+        | Sign::ClassPermissions
+        | Sign::NamedPermissions
+        | Sign::MappedPermissions
+        | Sign::Booleans
+        | Sign::Sensitivities
+        | Sign::SensitivityAliases
+        | Sign::Categories
+        | Sign::CategoryAliases
+        | Sign::CategorySets
+        | Sign::Levels
+        | Sign::LevelRanges
+        | Sign::Blocks
+        | Sign::Macros => is_path(word),
     }
 }
 
@@ -54,7 +76,7 @@ impl<'r, 'a> Reader<'r, 'a> {
     }
 
     /// Reads a declared name. A string or a list is none.
-    #[tactic(auto, unfolding(crate::specs::Shapes::cell_of, crate::specs::Shapes::read_word, crate::specs::Shapes::read_string, crate::specs::Shapes::read_list))]
+    #[tactic(auto, unfolding(crate::specs::Readings::cell_of, crate::specs::Words::read_word, crate::specs::Words::read_string, crate::specs::Readings::read_list))]
     pub(crate) fn read_name(&self, node: &Node, faults: &mut Vec<Fault>) -> Result<Term<'a>, Stop>
         ensures { Tells self.now.number (space_of self.now.place.now) ((cell_of self.now.number (node_of self.now.text.now node.now)).read declared_name) faults.old.items faults.new.items result }
     {
@@ -67,7 +89,7 @@ impl<'r, 'a> Reader<'r, 'a> {
     }
 
     /// Reads a word that is looked up. A string or a list is none.
-    #[tactic(auto, unfolding(crate::specs::Shapes::cell_of, crate::specs::Shapes::read_word, crate::specs::Shapes::read_string, crate::specs::Shapes::read_list))]
+    #[tactic(auto, unfolding(crate::specs::Readings::cell_of, crate::specs::Words::read_word, crate::specs::Words::read_string, crate::specs::Readings::read_list))]
     pub(crate) fn read_looked_up(
         &self,
         sign: Sign,
@@ -103,7 +125,7 @@ impl<'r, 'a> Reader<'r, 'a> {
     }
 
     /// Reads one word, as it is.
-    #[tactic(auto, unfolding(crate::specs::Shapes::cell_of, crate::specs::Shapes::read_word, crate::specs::Shapes::read_string, crate::specs::Shapes::read_list))]
+    #[tactic(auto, unfolding(crate::specs::Readings::cell_of, crate::specs::Words::read_word, crate::specs::Words::read_string, crate::specs::Readings::read_list))]
     pub(crate) fn read_fixed(
         &self,
         fixed: &[u8],
@@ -123,7 +145,7 @@ impl<'r, 'a> Reader<'r, 'a> {
     }
 
     /// Reads one word that is not supported.
-    #[tactic(auto, unfolding(crate::specs::Shapes::cell_of, crate::specs::Shapes::read_word, crate::specs::Shapes::read_string, crate::specs::Shapes::read_list))]
+    #[tactic(auto, unfolding(crate::specs::Readings::cell_of, crate::specs::Words::read_word, crate::specs::Words::read_string, crate::specs::Readings::read_list))]
     pub(crate) fn read_this_left_out(
         &self,
         word: &[u8],
@@ -143,7 +165,7 @@ impl<'r, 'a> Reader<'r, 'a> {
     }
 
     /// Reads any word, which is not supported.
-    #[tactic(auto, unfolding(crate::specs::Shapes::cell_of, crate::specs::Shapes::read_word, crate::specs::Shapes::read_string, crate::specs::Shapes::read_list))]
+    #[tactic(auto, unfolding(crate::specs::Readings::cell_of, crate::specs::Words::read_word, crate::specs::Words::read_string, crate::specs::Readings::read_list))]
     pub(crate) fn read_any_left_out(
         &self,
         node: &Node,

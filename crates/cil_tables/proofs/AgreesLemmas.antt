@@ -142,26 +142,7 @@ module _ (xs : List Item) (s : OptSet) (one : HaveOneSymbol xs s) where
       target_there (Name at name) target is c = absurd is
       target_there (Form at ops.Itself parts) (Types ns) is c = absurd is
       target_there (Form at ops.Itself parts) Itself is c = one_numbered t.types m kinds.Type_ kinds.Type_ a b da db (subst (IsNumbered t.types a) c na) nb
-      target_there (Form at ops.Listed parts) target is c = absurd is
-      target_there (Form at ops.ClassPermissions parts) target is c = absurd is
-      target_there (Form at ops.Union parts) target is c = absurd is
-      target_there (Form at ops.Not parts) target is c = absurd is
-      target_there (Form at ops.And parts) target is c = absurd is
-      target_there (Form at ops.Or parts) target is c = absurd is
-      target_there (Form at ops.Xor parts) target is c = absurd is
-      target_there (Form at ops.All parts) target is c = absurd is
-      target_there (Form at ops.LeftOut parts) target is c = absurd is
-      target_there (Form at ops.Parameters parts) target is c = absurd is
-      target_there (Form at ops.Parameter parts) target is c = absurd is
-      target_there (Form at ops.TypeKind parts) target is c = absurd is
-      target_there (Form at ops.RoleKind parts) target is c = absurd is
-      target_there (Form at ops.UserKind parts) target is c = absurd is
-      target_there (Form at ops.ClassKind parts) target is c = absurd is
-      target_there (Form at ops.NameKind parts) target is c = absurd is
-      target_there (Form at ops.TextKind parts) target is c = absurd is
-      target_there (Form at ops.Arguments parts) target is c = absurd is
-      target_there (Form at ops.UnreadList parts) target is c = absurd is
-      target_there (Form at ops.UnreadText parts) target is c = absurd is
+      target_there (Form at op parts) target is c = absurd is
 
       number_unique : a ≡ b → n ≡ m
       number_unique e = one_number t.types n m (name_of a) table.types.rising na (subst (λ z. IsNumbered t.types z m) (sym e) nb)
@@ -172,51 +153,13 @@ module _ (xs : List Item) (s : OptSet) (one : HaveOneSymbol xs s) where
       target_back (Name at name) target is st = absurd is
       target_back (Form at ops.Itself parts) (Types ns) is st = absurd is
       target_back (Form at ops.Itself parts) Itself is st = number_unique st
-      target_back (Form at ops.Listed parts) target is st = absurd is
-      target_back (Form at ops.ClassPermissions parts) target is st = absurd is
-      target_back (Form at ops.Union parts) target is st = absurd is
-      target_back (Form at ops.Not parts) target is st = absurd is
-      target_back (Form at ops.And parts) target is st = absurd is
-      target_back (Form at ops.Or parts) target is st = absurd is
-      target_back (Form at ops.Xor parts) target is st = absurd is
-      target_back (Form at ops.All parts) target is st = absurd is
-      target_back (Form at ops.LeftOut parts) target is st = absurd is
-      target_back (Form at ops.Parameters parts) target is st = absurd is
-      target_back (Form at ops.Parameter parts) target is st = absurd is
-      target_back (Form at ops.TypeKind parts) target is st = absurd is
-      target_back (Form at ops.RoleKind parts) target is st = absurd is
-      target_back (Form at ops.UserKind parts) target is st = absurd is
-      target_back (Form at ops.ClassKind parts) target is st = absurd is
-      target_back (Form at ops.NameKind parts) target is st = absurd is
-      target_back (Form at ops.TextKind parts) target is st = absurd is
-      target_back (Form at ops.Arguments parts) target is st = absurd is
-      target_back (Form at ops.UnreadList parts) target is st = absurd is
-      target_back (Form at ops.UnreadText parts) target is st = absurd is
+      target_back (Form at op parts) target is st = absurd is
 
       has_target : (term : Term ScopedWord) → IsTarget xs s a b term → HasTarget xs s term
       has_target (Leaf w) st = (b, st)
       has_target (Name at name) st = absurd st
       has_target (Form at ops.Itself parts) st = tt
-      has_target (Form at ops.Listed parts) st = absurd st
-      has_target (Form at ops.ClassPermissions parts) st = absurd st
-      has_target (Form at ops.Union parts) st = absurd st
-      has_target (Form at ops.Not parts) st = absurd st
-      has_target (Form at ops.And parts) st = absurd st
-      has_target (Form at ops.Or parts) st = absurd st
-      has_target (Form at ops.Xor parts) st = absurd st
-      has_target (Form at ops.All parts) st = absurd st
-      has_target (Form at ops.LeftOut parts) st = absurd st
-      has_target (Form at ops.Parameters parts) st = absurd st
-      has_target (Form at ops.Parameter parts) st = absurd st
-      has_target (Form at ops.TypeKind parts) st = absurd st
-      has_target (Form at ops.RoleKind parts) st = absurd st
-      has_target (Form at ops.UserKind parts) st = absurd st
-      has_target (Form at ops.ClassKind parts) st = absurd st
-      has_target (Form at ops.NameKind parts) st = absurd st
-      has_target (Form at ops.TextKind parts) st = absurd st
-      has_target (Form at ops.Arguments parts) st = absurd st
-      has_target (Form at ops.UnreadList parts) st = absurd st
-      has_target (Form at ops.UnreadText parts) st = absurd st
+      has_target (Form at op parts) st = absurd st
 
     module _ (n m : Numbers) (a b : Context) (number bit : ℕ) (c : Symbol) (p : List ℕ) (sa : SameContext xs s t n a) (sb : SameContext xs s t m b)
         (sp : SamePermission xs s t number bit c p) where

@@ -113,7 +113,7 @@ module _ (xs : List Item) where
   unfolding has_permission candidates
   candidate c p e =
       let x = any_true (gives_permission c p) xs e in
-      let parts = and_parts (is_enabled nobody x.0 && list_any (fits c.name signs.Classes c.space) (declared_by x.0)) (list_any (same_bytes p) (listed_permissions x.0.args)) x.2 in
+      let parts = and_parts (is_enabled nobody x.0 && list_any (fits c.name signs.PlainClass c.space) (declared_by x.0)) (list_any (same_bytes p) (listed_permissions x.0.args)) x.2 in
       let q = any_true (same_bytes p) (listed_permissions x.0.args) parts.1 in
       contains_flat (λ y. listed_permissions y.args) xs x.0 p x.1 (subst (Contains (listed_permissions x.0.args)) (sym ((bytes_decides p q.0).0 q.2)) q.1)
 

@@ -15,6 +15,7 @@ use Rattle.cil_names.specs.Known.{IsNumbered}
 use Rattle.cil_syntax.specs.Scopes.{asked, ScopedWord}
 use Rattle.cil_syntax.proofs.DecidedEquality.{kind_is, same_namespace}
 use Rattle.cil_names.proofs.DeclareDecided.{same_symbol}
+use Rattle.cil_names.proofs.MemberLemmas.{found_of, named_of, stands_by, wanted_of}
 use Rattle.cil_names.specs.Declarations.{Declaration, declared_by, IsDeclaration, object, by, object_role, Declared, Symbol, name_of}
 use Rattle.cil_macros.specs.Item.{Item, OptSet, is_enabled}
 use Rattle.cil_names.specs.Members.{StandsFor}
@@ -205,7 +206,8 @@ module _ (xs : List Item) (s : OptSet) where
   pub finite_stands : (kind : Kind) (w : ScopedWord) → Finite (StandsFor xs s kind w)
   finite_stands kind w =
       finite_same (λ t. Declared xs s kind t × ((is_wanted w.sign kind ≡ true) × ((found_in xs s w ≡ Some t.space) × (t.name ≡ (asked w.bytes).name)))) (StandsFor xs s kind w)
-      (λ t h. record { wanted = h.1.0; found = h.1.1.0; named = h.1.1.1; declared = h.0 }) (λ t st. (st.declared, (st.wanted, (st.found, st.named))))
+      (λ t h. stands_by xs s kind w t h.1.0 h.1.1.0 h.1.1.1 h.0)
+      (λ t st. (st.declared, (wanted_of xs s kind w t st, (found_of xs s kind w t st, named_of xs s kind w t st))))
       (finite_where (Declared xs s kind) (λ t. (is_wanted w.sign kind ≡ true) × ((found_in xs s w ≡ Some t.space) × (t.name ≡ (asked w.bytes).name))) (finite_declared kind)
       (λ t d. decided_both (same_bool (is_wanted w.sign kind) true)
       (decided_both (is_this same_namespace (found_in xs s w) t.space) (same_text t.name (asked w.bytes).name))))

@@ -30,6 +30,7 @@ flat_body keywords.BlockInherit e = absurd cc
 flat_body keywords.Macro e = absurd cc
 flat_body keywords.Call e = absurd cc
 flat_body keywords.Optional e = absurd cc
+flat_body keywords.BooleanIf e = absurd cc
 flat_body k e = refl
 
 flat_block : (k : Keyword) → is_flat k ≡ true → is_block k ≡ false

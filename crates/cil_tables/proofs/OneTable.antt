@@ -93,26 +93,7 @@ module _ (xs : List Item) (s : OptSet) where
     one_target (Form at ops.Itself parts) Itself Itself p q = refl
     one_target (Form at ops.Itself parts) (Types m) b p q = absurd p
     one_target (Form at ops.Itself parts) Itself (Types m) p q = absurd q
-    one_target (Form at ops.Listed parts) a b p q = absurd p
-    one_target (Form at ops.ClassPermissions parts) a b p q = absurd p
-    one_target (Form at ops.Union parts) a b p q = absurd p
-    one_target (Form at ops.Not parts) a b p q = absurd p
-    one_target (Form at ops.And parts) a b p q = absurd p
-    one_target (Form at ops.Or parts) a b p q = absurd p
-    one_target (Form at ops.Xor parts) a b p q = absurd p
-    one_target (Form at ops.All parts) a b p q = absurd p
-    one_target (Form at ops.LeftOut parts) a b p q = absurd p
-    one_target (Form at ops.Parameters parts) a b p q = absurd p
-    one_target (Form at ops.Parameter parts) a b p q = absurd p
-    one_target (Form at ops.TypeKind parts) a b p q = absurd p
-    one_target (Form at ops.RoleKind parts) a b p q = absurd p
-    one_target (Form at ops.UserKind parts) a b p q = absurd p
-    one_target (Form at ops.ClassKind parts) a b p q = absurd p
-    one_target (Form at ops.NameKind parts) a b p q = absurd p
-    one_target (Form at ops.TextKind parts) a b p q = absurd p
-    one_target (Form at ops.Arguments parts) a b p q = absurd p
-    one_target (Form at ops.UnreadList parts) a b p q = absurd p
-    one_target (Form at ops.UnreadText parts) a b p q = absurd p
+    one_target (Form at op parts) a b p q = absurd p
 
     one_record : (k : Case) (a b : Rule) → IsStrictlySortedBy class_cmp classes → IsRuleOf xs s types classes k a → IsRuleOf xs s types classes k b → a ≡ b
     one_record k a b rising p q =

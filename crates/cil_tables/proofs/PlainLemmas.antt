@@ -11,7 +11,7 @@ use Rattle.cil_syntax.specs.declared.kind.Keyword.TheVariants as keywords
 use Rattle.cil_syntax.specs.declared.kind.Kind.{Kind}
 use Rattle.cil_faults.specs.declared.spot.Spot.{Spot}
 use Rattle.cil_syntax.specs.declared.term.Word.{Word}
-use Rattle.cil_syntax.specs.Program.{is_begun}
+use Rattle.cil_syntax.specs.Program.{begins_as, begins_with_declared, is_begun, is_begun_as}
 use Rattle.cil_syntax.specs.Spelling.{is_name}
 use Rattle.cil_syntax.specs.Table.{entry_of}
 use Rattle.cil_syntax.specs.Terms.{Name, Terms, cons}
@@ -59,6 +59,7 @@ named None e = absurd (let f : false ≡ true = e in cc)
 named (Some x) e = e
 
 block_named : (k : Keyword) (args : Terms Word) → is_block k ≡ true → is_begun k args ≡ true → is_name (bytes_of (named_in_front args)) ≡ true
+unfolding begins_as
 block_named keywords.Block args b e = named (named_in_front args) e
 block_named k args b e = absurd (let f : false ≡ true = b in cc)
 
@@ -88,16 +89,20 @@ module _ (ws : List Written) (begun : AreBegun ws) where
 
     -- ---- what it declares
 
+    with_declared : (ks : List Kind) (kind : Kind) (at : Spot) (name : List ℕ) (rest : Terms Word) → Contains ks kind
+        → is_begun_as (begins_with_declared ks) (cons (Name at name) rest) ≡ true → is_name name ≡ true
+    with_declared [] kind at name rest c e = absurd (contains_none kind c)
+    with_declared (k ∷ ks) kind at name rest c e = e
+
     begins_with : (k : Keyword) (kind : Kind) (at : Spot) (name : List ℕ) (rest : Terms Word) → Contains (entry_of k).declares kind → is_begun k (cons (Name at name) rest) ≡ true
         → is_name name ≡ true
-    unfolding entry_of
-    begins_with keywords.Type_ kind at name rest c e = e
-    begins_with keywords.Role kind at name rest c e = e
-    begins_with keywords.User kind at name rest c e = e
-    begins_with keywords.Class kind at name rest c e = e
-    begins_with keywords.Block kind at name rest c e = e
-    begins_with keywords.Macro kind at name rest c e = e
-    begins_with k kind at name rest c e = absurd (contains_none kind c)
+    unfolding begins_as entry_of
+    begins_with keywords.Block kind at name rest c e = absurd (contains_none kind c)
+    begins_with keywords.Optional kind at name rest c e = absurd (contains_none kind c)
+    begins_with keywords.BlockAbstract kind at name rest c e = absurd (contains_none kind c)
+    begins_with keywords.BlockInherit kind at name rest c e = absurd (contains_none kind c)
+    begins_with keywords.Call kind at name rest c e = absurd (contains_none kind c)
+    begins_with k kind at name rest c e = with_declared (entry_of k).declares kind at name rest c e
 
     declared_well : (ps : List Placed) (p : Placed) → IsPlaced ws ss p → (d : Declaration) → Contains (declared_by (item_of ws ss ps p)) d → AreNames (d.name ∷ d.space)
     declared_well ps p is d c =

@@ -31,6 +31,7 @@ is_flat keywords.BlockInherit = false
 is_flat keywords.Macro = false
 is_flat keywords.Call = false
 is_flat keywords.Optional = false
+is_flat keywords.BooleanIf = false
 is_flat keyword = true
 
 -- all that is written in the modules is such

@@ -13,11 +13,15 @@ mod fault_lists;
 #[cfg(test)]
 mod forms;
 #[cfg(test)]
+mod graph_cycles;
+#[cfg(test)]
 mod growths;
 #[cfg(test)]
 mod look_ups;
 #[cfg(test)]
 mod module_sets;
+#[cfg(test)]
+mod number_sets;
 #[cfg(test)]
 mod optional_choices;
 #[cfg(test)]

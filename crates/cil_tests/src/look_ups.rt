@@ -15,13 +15,13 @@ pub(crate) type Declared = (usize, &'static [u8], Kind, &'static [&'static [usiz
 /// Declared names, in order.
 const DECLARED: &[Declared] = &[
     (0, b"o", Kind::Type_, &[]),
-    (0, b"x", Kind::Type_, &[]),
-    (0, b"x", Kind::Role, &[]),
     (1, b"o", Kind::Type_, &[&[0]]),
+    (0, b"x", Kind::Type_, &[]),
     (1, b"x", Kind::Type_, &[]),
     (2, b"x", Kind::TypeAttribute, &[]),
-    (2, b"y", Kind::Role, &[]),
     (3, b"x", Kind::Type_, &[&[0, 1], &[2]]),
+    (0, b"x", Kind::Role, &[]),
+    (2, b"y", Kind::Role, &[]),
     (3, b"z", Kind::Class, &[]),
 ];
 
@@ -74,41 +74,53 @@ pub(crate) fn word(bytes: &'static [u8], sign: Sign) -> Word<'static> {
 }
 
 type Found = Option<usize>;
-/// The number of the declared name that a word names in a scope where some optionals are enabled.
-fn named(alloc: Global, word: &Word, scope: &[usize], flags: &[bool]) -> Result<Found, Fail> {
-    let spaces = spaces(alloc)?;
-    let names = Names::checked(&spaces, entries(alloc, DECLARED)?).ok_or("they do not rise")?;
+/// The number of the declared name that a word names in a scope of some namespaces where some optionals are enabled.
+fn named_among(
+    alloc: Global,
+    spaces: &Spaces,
+    declared: &[Declared],
+    word: &Word,
+    scope: &[usize],
+    flags: &[bool],
+) -> Result<Found, Fail> {
+    let names = Names::checked(alloc, spaces, entries(alloc, declared)?)?.ok_or(
+        "they do not rise",
+    )?;
     let enabled = OptSet::of(Vec::from_slice(alloc, flags)?);
-    if !are_numbers(&spaces, scope) {
+    if !are_numbers(spaces, scope) {
         return Err(Fail::from("no namespace"));
     }
-    Ok(names.resolve(&spaces, word, scope, &enabled))
+    Ok(names.resolve(spaces, word, scope, &enabled))
+}
+
+fn named(alloc: Global, word: &Word, scope: &[usize], flags: &[bool]) -> Result<Found, Fail> {
+    named_among(alloc, &spaces(alloc)?, DECLARED, word, scope, flags)
 }
 
 /// A word, what it wants, its scope, the enabled optionals, and the number of the declared name that it names.
 const NAMED: &[(&[u8], Sign, &[usize], &[bool], Found)] = &[
     // The first namespace of the scope that has the name.
-    (b"x", Sign::Types, &[1, 2, 0], &[], Some(4)),
-    (b"x", Sign::Types, &[2, 1, 0], &[], Some(5)),
-    (b"x", Sign::Types, &[3, 1, 0], &[], Some(4)),
-    (b"y", Sign::Roles, &[3, 1, 2, 0], &[], Some(6)),
+    (b"x", Sign::Types, &[1, 2, 0], &[], Some(3)),
+    (b"x", Sign::Types, &[2, 1, 0], &[], Some(4)),
+    (b"x", Sign::Types, &[3, 1, 0], &[], Some(3)),
+    (b"y", Sign::Roles, &[3, 1, 2, 0], &[], Some(7)),
     (b"o", Sign::Types, &[2, 0], &[], Some(0)),
-    (b"x", Sign::Types, &[0], &[], Some(1)),
+    (b"x", Sign::Types, &[0], &[], Some(2)),
     (b"y", Sign::Roles, &[1, 0], &[], None),
     // A leading dot asks the global namespace alone.
-    (b".x", Sign::Types, &[1, 2, 0], &[], Some(1)),
+    (b".x", Sign::Types, &[1, 2, 0], &[], Some(2)),
     (b".y", Sign::Roles, &[2, 0], &[], None),
-    (b".p.x", Sign::Types, &[2, 0], &[], Some(4)),
+    (b".p.x", Sign::Types, &[2, 0], &[], Some(3)),
     // Names before a dot are those of namespaces.
-    (b"p.x", Sign::Types, &[0], &[], Some(4)),
-    (b"r.x", Sign::Types, &[1, 0], &[], Some(5)),
+    (b"p.x", Sign::Types, &[0], &[], Some(3)),
+    (b"r.x", Sign::Types, &[1, 0], &[], Some(4)),
     (b"q.z", Sign::Classes, &[1, 0], &[], Some(8)),
     (b"q.z", Sign::Classes, &[2, 0], &[], None),
     (b"p.q.z", Sign::Classes, &[2, 1, 0], &[], Some(8)),
     (b"p.r.x", Sign::Types, &[0], &[], None),
     (b"s.x", Sign::Types, &[1, 2, 0], &[], None),
     // A name of another name space hides nothing.
-    (b"x", Sign::Roles, &[1, 2, 0], &[], Some(2)),
+    (b"x", Sign::Roles, &[1, 2, 0], &[], Some(6)),
     (b"y", Sign::Types, &[2, 0], &[], None),
     (b"x", Sign::Users, &[1, 2, 0], &[], None),
     (b"x", Sign::Classes, &[1, 2, 0], &[], None),
@@ -116,10 +128,10 @@ const NAMED: &[(&[u8], Sign, &[usize], &[bool], Found)] = &[
     // A name in an optional is there where that is enabled.
     (b"o", Sign::Types, &[1, 0], &[], Some(0)),
     (b"o", Sign::Types, &[1, 0], &[false], Some(0)),
-    (b"o", Sign::Types, &[1, 0], &[true], Some(3)),
+    (b"o", Sign::Types, &[1, 0], &[true], Some(1)),
     (b"q.x", Sign::Types, &[1, 0], &[true, false], None),
-    (b"q.x", Sign::Types, &[1, 0], &[true, true], Some(7)),
-    (b"q.x", Sign::Types, &[1, 0], &[false, false, true], Some(7)),
+    (b"q.x", Sign::Types, &[1, 0], &[true, true], Some(5)),
+    (b"q.x", Sign::Types, &[1, 0], &[false, false, true], Some(5)),
 ];
 
 #[test]
@@ -131,10 +143,103 @@ fn words_name_the_first_that_is_declared(rt: HostRuntime) -> Result<(), Fail> {
     Ok(())
 }
 
+/// Names of one letter or two whose hashes begin at one of 64 slots, more than have room there.
+const ALIKE: &[Declared] = &[
+    (0, b"bp", Kind::Type_, &[]),
+    (0, b"cg", Kind::Type_, &[]),
+    (0, b"df", Kind::Type_, &[]),
+    (0, b"gs", Kind::Type_, &[]),
+    (0, b"i", Kind::Type_, &[]),
+    (0, b"iq", Kind::Type_, &[]),
+    (0, b"jh", Kind::Type_, &[]),
+];
+
+const ONE: &[Declared] = &[(1, b"x", Kind::Type_, &[&[0]])];
+
+/// Declared names, a word for types, its scope, and the number of the declared name that it names where optional 0 is enabled.
+const NAMED_AMONG: &[(&[Declared], &[u8], &[usize], Found)] = &[
+    (&[], b"x", &[1, 0], None),
+    // One name, in a namespace that is in the scope or is not.
+    (ONE, b"x", &[3, 1, 0], Some(0)),
+    (ONE, b"x", &[2, 0], None),
+    (ONE, b".x", &[1, 0], None),
+    (ONE, b"p.x", &[2, 0], Some(0)),
+    (ONE, b"y", &[1, 0], None),
+    // The first name and the last one, and those that find no room for a guess.
+    (ALIKE, b"bp", &[1, 0], Some(0)),
+    (ALIKE, b"gs", &[0], Some(3)),
+    (ALIKE, b"i", &[0], Some(4)),
+    (ALIKE, b"iq", &[1, 0], Some(5)),
+    (ALIKE, b"jh", &[1, 0], Some(6)),
+    (ALIKE, b"nd", &[1, 0], None),
+    (ALIKE, b"jh", &[1], None),
+];
+
+#[test]
+fn few_names_and_names_of_one_hash(rt: HostRuntime) -> Result<(), Fail> {
+    let alloc = rt.alloc();
+    for &(declared, bytes, scope, wanted) in NAMED_AMONG {
+        let word = word(bytes, Sign::Types);
+        let got = named_among(alloc, &spaces(alloc)?, declared, &word, scope, &[true])?;
+        assert_eq!(rt; got, wanted, "{bytes:?} {scope:?}");
+    }
+    Ok(())
+}
+
+/// A hundred namespaces in one another, whose numbers rise.
+fn nested(alloc: Global) -> Result<Spaces, Fail> {
+    let mut spaces = Namespaces::global(alloc);
+    for outer in 0..100 {
+        number(&mut spaces, outer, b"q")?;
+    }
+    Ok(spaces)
+}
+
+/// The number of the type `x` that a word names in a scope, where each of these namespaces and the global one has a type and a
+/// role `x`: those of types come first, by their namespaces.
+fn named_in_each(alloc: Global, scope: &[usize], sign: Sign) -> Result<Found, Fail> {
+    let spaces = nested(alloc)?;
+    let mut declared = Vec::new(alloc);
+    for kind in [Kind::Type_, Kind::Role] {
+        for space in 0..101 {
+            let one: Declared = (space, b"x", kind, &[]);
+            declared.push(one)?;
+        }
+    }
+    named_among(
+        alloc,
+        &spaces,
+        declared.as_slice(),
+        &word(b"x", sign),
+        scope,
+        &[],
+    )
+}
+
+/// A scope, what a word wants, and the number of what it names.
+const IN_EACH: &[(&[usize], Sign, usize)] = &[
+    (&[57, 56, 0], Sign::Types, 57),
+    (&[100, 0], Sign::Types, 100),
+    (&[0, 100], Sign::Types, 0),
+    (&[1, 0], Sign::Roles, 102),
+    (&[100, 0], Sign::Roles, 201),
+];
+
+#[test]
+fn one_name_in_a_hundred_namespaces(rt: HostRuntime) -> Result<(), Fail> {
+    for &(scope, sign, wanted) in IN_EACH {
+        let got = named_in_each(rt.alloc(), scope, sign)?;
+        assert_eq!(rt; got, Some(wanted), "{scope:?}");
+    }
+    Ok(())
+}
+
 /// The numbers of the declared names that a word could name in a scope, whatever is enabled.
 fn could_name(alloc: Global, word: &Word<'static>, scope: &[usize]) -> Result<Vec<usize>, Fail> {
     let spaces = spaces(alloc)?;
-    let names = Names::checked(&spaces, entries(alloc, DECLARED)?).ok_or("they do not rise")?;
+    let names = Names::checked(alloc, &spaces, entries(alloc, DECLARED)?)?.ok_or(
+        "they do not rise",
+    )?;
     if !are_numbers(&spaces, scope) {
         return Err(Fail::from("no namespace"));
     }
@@ -143,12 +248,12 @@ fn could_name(alloc: Global, word: &Word<'static>, scope: &[usize]) -> Result<Ve
 
 /// A word, what it wants, its scope, and the numbers of the declared names that it could name.
 const CANDIDATES: &[(&[u8], Sign, &[usize], &[usize])] = &[
-    (b"x", Sign::Types, &[1, 2, 0], &[4, 5, 1]),
-    (b"x", Sign::Types, &[3, 2, 1, 0], &[7, 5, 4, 1]),
-    (b".x", Sign::Types, &[1, 2, 0], &[1]),
-    (b"o", Sign::Types, &[1, 0], &[3, 0]),
-    (b"p.q.x", Sign::Types, &[1, 0], &[7]),
-    (b"x", Sign::Roles, &[1, 2, 0], &[2]),
+    (b"x", Sign::Types, &[1, 2, 0], &[3, 4, 2]),
+    (b"x", Sign::Types, &[3, 2, 1, 0], &[5, 4, 3, 2]),
+    (b".x", Sign::Types, &[1, 2, 0], &[2]),
+    (b"o", Sign::Types, &[1, 0], &[1, 0]),
+    (b"p.q.x", Sign::Types, &[1, 0], &[5]),
+    (b"x", Sign::Roles, &[1, 2, 0], &[6]),
     (b"x", Sign::Permission, &[1, 2, 0], &[]),
 ];
 
@@ -184,9 +289,11 @@ fn each_namespace_has_one_number(rt: HostRuntime) -> Result<(), Fail> {
 /// One more class, and whether the declared names rise with it at their end.
 const ONE_MORE_NAME: &[(usize, &[u8], bool)] = &[
     (3, b"zz", true),
+    (0, b"zz", true),
     (4, b"zz", false),
     (3, b"z", false),
-    (2, b"zz", false),
+    (2, b"z", false),
+    (3, b"y", false),
 ];
 
 fn with_name(alloc: Global, space: usize, name: &'static [u8]) -> Result<bool, Fail> {
@@ -198,7 +305,7 @@ fn with_name(alloc: Global, space: usize, name: &'static [u8]) -> Result<bool, F
         always: true,
         rounds: Vec::new(alloc),
     })?;
-    Ok(Names::checked(&spaces(alloc)?, entries).is_some())
+    Ok(Names::checked(alloc, &spaces(alloc)?, entries)?.is_some())
 }
 
 #[test]

@@ -127,8 +127,12 @@ fn choice(alloc: Global, enabled: &[usize], reasons: &[Why]) -> Option<Chosen> {
 
 impl Question for Checked {
     fn answer(&self, alloc: Global, instances: &Instances) -> Option<String> {
-        let names = declare(alloc, instances).ok()?;
-        let permissions = permissions_of(alloc, &names, instances).ok()?;
+        let Ok(names) = declare(alloc, instances) else {
+            return None;
+        };
+        let Ok(permissions) = permissions_of(alloc, &names, instances) else {
+            return None;
+        };
         let permissions = permissions.as_slice();
         let chosen = choice(alloc, self.0, self.1)?;
         let is_right = check(alloc, &*instances, &names, permissions, &chosen).ok()?;
@@ -294,8 +298,12 @@ struct Judged(&'static [usize]);
 
 impl Question for Judged {
     fn answer(&self, alloc: Global, instances: &Instances) -> Option<String> {
-        let names = declare(alloc, instances).ok()?;
-        let permissions = permissions_of(alloc, &names, instances).ok()?;
+        let Ok(names) = declare(alloc, instances) else {
+            return None;
+        };
+        let Ok(permissions) = permissions_of(alloc, &names, instances) else {
+            return None;
+        };
         let permissions = permissions.as_slice();
         let chosen = choice(alloc, self.0, &[])?;
         match base_faults(alloc, &*instances, &names, permissions, &chosen) {

@@ -32,7 +32,9 @@ fn show_numbers(alloc: Global, numbering: &Numbering) -> Result<String, Fail> {
 /// The numbers of declared names where some optionals are enabled.
 fn numbers(alloc: Global, declared: &[Declared], flags: &[bool]) -> Result<String, Fail> {
     let spaces = spaces(alloc)?;
-    let names = Names::checked(&spaces, entries(alloc, declared)?).ok_or("they do not rise")?;
+    let names = Names::checked(alloc, &spaces, entries(alloc, declared)?)?.ok_or(
+        "they do not rise",
+    )?;
     let enabled = OptSet::of(Vec::from_slice(alloc, flags)?);
     let lookup = Lookup {
         namespaces: &spaces,
@@ -42,28 +44,28 @@ fn numbers(alloc: Global, declared: &[Declared], flags: &[bool]) -> Result<Strin
     show_numbers(alloc, &numbered(alloc, &lookup)?)
 }
 
-const KINDS: &str = "(p.q.u u)(object_r p.r r.a z)(p.q.t)(c p.c) 0 0 1 3 1 1 2 0 0";
+const KINDS: &str = "(p.q.u u)(object_r p.r r.a z)(p.q.t)(c p.c) 2 0 1 0 1 0 1 0 3";
 
-const IN_ORDER: &str = "()()(p p-x p.X p.q.x p.x p0 pa q r.a)() 0 1 5 6 7 2 4 8 3";
+const IN_ORDER: &str = "()()(p p-x p.X p.q.x p.x p0 pa q r.a)() 2 8 0 1 5 6 7 4 3";
 
 /// Some sets of optionals, the users, roles, types and classes there, and the number of each name.
 type Sets = &'static [(&'static [bool], &'static str)];
 
-/// What a row is about, the declared names by namespace, name and name space, and what they are by sets of optionals.
+/// What a row is about, the declared names by name, name space and namespace, and what they are by sets of optionals.
 const NUMBERED: &[(&str, &[Declared], Sets)] = &[
     ("nothing", &[], &[(&[], "()()()()")]),
     (
         "each kind in a section of its own",
         &[
-            (0, b"c", Kind::Class, &[]),
-            (0, b"object_r", Kind::Role, &[]),
-            (0, b"u", Kind::User, &[]),
-            (0, b"z", Kind::Role, &[]),
-            (1, b"c", Kind::Class, &[]),
-            (1, b"r", Kind::Role, &[]),
             (2, b"a", Kind::Role, &[]),
+            (0, b"c", Kind::Class, &[]),
+            (1, b"c", Kind::Class, &[]),
+            (0, b"object_r", Kind::Role, &[]),
+            (1, b"r", Kind::Role, &[]),
             (3, b"t", Kind::Type_, &[]),
+            (0, b"u", Kind::User, &[]),
             (3, b"u", Kind::User, &[]),
+            (0, b"z", Kind::Role, &[]),
         ],
         &[(&[], KINDS)],
     ),
@@ -71,14 +73,14 @@ const NUMBERED: &[(&str, &[Declared], Sets)] = &[
         // A hyphen comes before the dot, digits and letters come behind it.
         "qualified names in byte order",
         &[
+            (1, b"X", Kind::Type_, &[]),
+            (2, b"a", Kind::Type_, &[]),
             (0, b"p", Kind::Type_, &[]),
             (0, b"p-x", Kind::Type_, &[]),
             (0, b"p0", Kind::Type_, &[]),
             (0, b"pa", Kind::Type_, &[]),
             (0, b"q", Kind::Type_, &[]),
-            (1, b"X", Kind::Type_, &[]),
             (1, b"x", Kind::Type_, &[]),
-            (2, b"a", Kind::Type_, &[]),
             (3, b"x", Kind::Type_, &[]),
         ],
         &[(&[], IN_ORDER)],
@@ -111,16 +113,16 @@ const NUMBERED: &[(&str, &[Declared], Sets)] = &[
         "names in optionals, where these are enabled",
         &[
             (0, b"a", Kind::Type_, &[&[0]]),
+            (1, b"a", Kind::Type_, &[&[1]]),
             (0, b"b", Kind::Type_, &[]),
             (0, b"c", Kind::Type_, &[&[1, 0], &[2]]),
-            (1, b"a", Kind::Type_, &[&[1]]),
         ],
         &[
             (&[], "()()(b)() 0 0 0 0"),
-            (&[true], "()()(a b)() 0 1 0 0"),
-            (&[false, true], "()()(b p.a)() 0 0 0 1"),
-            (&[true, true], "()()(a b c p.a)() 0 1 2 3"),
-            (&[false, false, true], "()()(b c)() 0 0 1 0"),
+            (&[true], "()()(a b)() 0 0 1 0"),
+            (&[false, true], "()()(b p.a)() 0 1 0 0"),
+            (&[true, true], "()()(a b c p.a)() 0 3 1 2"),
+            (&[false, false, true], "()()(b c)() 0 0 0 1"),
         ],
     ),
 ];

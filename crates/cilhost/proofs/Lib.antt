@@ -1,2 +1,4 @@
-mod ArgumentLemmas
-mod ReadingLemmas
+pub mod ArgumentLemmas
+pub mod CheckLemmas
+pub mod LocateLemmas
+pub mod ReadingLemmas

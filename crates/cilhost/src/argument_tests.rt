@@ -26,6 +26,11 @@ const WRONG: &[(&[&str], &str)] = &[
         "unexpected argument '--cache'",
     ),
     (&["session", "good.cil", "-x"], "unexpected argument '-x'"),
+    (
+        &["check"],
+        "the following required arguments were not provided",
+    ),
+    (&["check", "good.cil", "-x"], "unexpected argument '-x'"),
     (&["help", "serve"], "unrecognized subcommand 'serve'"),
 ];
 
@@ -76,6 +81,11 @@ const HELP: &[(&[&str], &str)] = &[
     ),
     (&["session", "--help"], "`head -c PLACE FILE | wc -l`"),
     (&["help", "session"], "AV source target class"),
+    (&["-h"], "check"),
+    (&["check", "-h"], "Usage: cilhost check <FILE>..."),
+    (&["locate", "-h"], "Usage: cilhost locate"),
+    (&["check", "--help"], "1  the policy is refused"),
+    (&["help", "check"], "cilhost check base.cil app.cil"),
 ];
 
 /// Whether help is on standard output, and nothing else.
@@ -117,6 +127,40 @@ fn a_session_is_asked_for_by_its_name(rt: HostRuntime) -> Result<(), Fail> {
     for &(words, status, messages) in SESSIONS {
         assert!(rt;
             program(rt.alloc(), words)?.is(status, "", messages),
+            "{words:?}"
+        );
+    }
+    Ok(())
+}
+
+/// Words that ask for a check, and the status, the output and the messages that it ends with.
+const CHECKS: &[(&[&str], Status, &str, &str)] = &[
+    (&["check", "good.cil"], Status::Done, "OK\n", ""),
+    (
+        &["check", "faulty.cil"],
+        Status::Refused,
+        "FAULTS 1\n41 0 20 . a\n",
+        "",
+    ),
+    (
+        &["check", "good.cil", "bad.cil"],
+        Status::Refused,
+        "",
+        "cilhost: bad.cil: refused 3 8\n",
+    ),
+    (
+        &["check", "--", "-x"],
+        Status::Failed,
+        "",
+        "cilhost: -x: failed\n",
+    ),
+];
+
+#[test]
+fn a_check_is_asked_for_by_its_name(rt: HostRuntime) -> Result<(), Fail> {
+    for &(words, status, output, messages) in CHECKS {
+        assert!(rt;
+            program(rt.alloc(), words)?.is(status, output, messages),
             "{words:?}"
         );
     }

@@ -1,21 +1,33 @@
 //! The arguments of the program: their words, and what they ask for.
 
-ghost use Rattle.std.specs.Prelude.{◌≡◌, ℕ, List, IfErr, IfOk, map, string_bytes};
+ghost use Rattle.std.specs.Prelude.{◌≡◌, ◌⊎◌, ℕ, List, IfErr, IfOk, codes, false, map, string_bytes};
+ghost use Rattle.clap.specs.Simple.{app_of};
+ghost use Rattle.clap.specs.Walk.{rule_of};
 ghost use Rattle.clap.specs.Words.{kind_of};
-ghost use Rattle.cilhost.specs.Arguments.{AreOfSession, AskForSession};
+ghost use Rattle.cilhost.specs.Arguments.{AreOf, AskForCheck, AskForSession};
+ghost use Rattle.cilhost.specs.Commands.{IsCommand, check, file_rule, locate, optionals_rule, program, session};
 
 use crate::error::Error;
 use crate::help;
 use clap::error::ErrorKind;
 use clap::{Arg, ArgAction, ArgMatches, Command};
-use std::alloc::Global;
+use std::alloc::{AllocError, Global};
 use std::rt::Env;
 use std::{env, io};
 
 /// The name of the subcommand that serves requests.
 pub const SESSION: &str = "session";
 
-/// The name of its files.
+/// The name of the subcommand that checks a policy.
+pub const CHECK: &str = "check";
+
+/// The name of the subcommand that says where the faults of a policy are.
+pub const LOCATE: &str = "locate";
+
+/// The name of its flag, which asks for the optionals that are left out too.
+pub const OPTIONALS: &str = "optionals";
+
+/// The name of the files of a subcommand.
 pub const FILE: &str = "FILE";
 
 /// The arguments of the program, its own name first. Fails out of memory, or where the arguments are not text.
@@ -29,20 +41,20 @@ pub fn words<R: Env + AllocGlobal>(rt: &R) -> Result<Vec<String>, Error<'static>
 
 /// What the words ask for. The error is clap's: words that it does not accept, out of memory, or a request for help or the version.
 pub fn matches<'a>(alloc: Global, words: &'a [String]) -> Result<ArgMatches<'a>, clap::Error>
-    ensures session { (files : List (List ℕ)) → AskForSession (map string_bytes words.now) files → IfOk result (AreOfSession files) }
-    ensures accepts { (files : List (List ℕ)) → AskForSession (map string_bytes words.now) files
+    ensures session { (files : List (List ℕ)) → AskForSession (map string_bytes words.now) files → IfOk result (AreOf (codes "session") files) }
+    ensures check { (files : List (List ℕ)) → AskForCheck (map string_bytes words.now) files → IfOk result (AreOf (codes "check") files) }
+    ensures accepts { (files : List (List ℕ)) → AskForSession (map string_bytes words.now) files ⊎ AskForCheck (map string_bytes words.now) files
         → IfErr result (λ error. kind_of error ≡ ErrorKind.OutOfMemory) }
 {
-    let file = Arg::new(alloc, FILE)
-        .action(ArgAction::Append)
-        .num_args(0..)
-        .help(help::FILE);
-    let session = Command::new(alloc, SESSION)
-        .about(help::SESSION)
-        .long_about(help::SESSION_LONG)
-        .after_long_help(help::REQUESTS)
-        .arg(file)?;
-    let program = Command::new(alloc, "cilhost")
+    let program = program_command(alloc)?;
+    program.try_get_matches_from(words)
+}
+
+fn program_command<'a>(alloc: Global) -> Result<Command<'a>, AllocError>
+    ensures { IfOk result (λ command. app_of command ≡ program) }
+{
+    let session = session_command(alloc)?;
+    let with_session = Command::new(alloc, "cilhost")
         .version("0.1.0")
         .about(help::PROGRAM)
         .long_about(help::PROGRAM_LONG)
@@ -50,5 +62,61 @@ pub fn matches<'a>(alloc: Global, words: &'a [String]) -> Result<ArgMatches<'a>,
         .subcommand_required(true)
         .arg_required_else_help(true)
         .subcommand(session)?;
-    program.try_get_matches_from(words)
+    let check = check_command(alloc)?;
+    let with_check = with_session.subcommand(check)?;
+    let locate = locate_command(alloc)?;
+    with_check.subcommand(locate)
+}
+
+fn session_command<'a>(alloc: Global) -> Result<Command<'a>, AllocError>
+    ensures { IfOk result (IsCommand session) }
+{
+    Command::new(alloc, SESSION)
+        .about(help::SESSION)
+        .long_about(help::SESSION_LONG)
+        .after_long_help(help::REQUESTS)
+        .arg(file_argument(alloc, 0))
+}
+
+fn check_command<'a>(alloc: Global) -> Result<Command<'a>, AllocError>
+    ensures { IfOk result (IsCommand check) }
+{
+    Command::new(alloc, CHECK)
+        .about(help::CHECK)
+        .long_about(help::CHECK_LONG)
+        .after_long_help(help::CHECK_MORE)
+        .arg(file_argument(alloc, 1))
+}
+
+fn locate_command<'a>(alloc: Global) -> Result<Command<'a>, AllocError>
+    ensures { IfOk result (IsCommand locate) }
+{
+    let over_files = Command::new(alloc, LOCATE)
+        .about(help::LOCATE)
+        .long_about(help::LOCATE_LONG)
+        .after_long_help(help::LOCATE_MORE)
+        .arg(file_argument(alloc, 1))?;
+    over_files.arg(optionals_argument(alloc))
+}
+
+fn optionals_argument<'a>(alloc: Global) -> Arg<'a>
+    ensures rule { rule_of result ≡ optionals_rule }
+    ensures local { result.global ≡ false }
+{
+    Arg::new(alloc, OPTIONALS)
+        .long(OPTIONALS)
+        .action(ArgAction::SetTrue)
+        .help(help::OPTIONALS)
+}
+
+/// The files of a subcommand, of which there are this many at least.
+fn file_argument<'a>(alloc: Global, least: usize) -> Arg<'a>
+    ensures rule { rule_of result ≡ file_rule least }
+    ensures local { result.global ≡ false }
+{
+    Arg::new(alloc, FILE)
+        .action(ArgAction::Append)
+        .num_args(least..)
+        .required(least != 0)
+        .help(help::FILE)
 }

@@ -2,7 +2,7 @@
 
 use crate::status::Status;
 use cil_sexpr::{ReadError, ReadFault};
-use std::alloc::AllocError;
+use std::alloc::{AllocError, AllocFailed};
 use std::io::{self, ErrorKind, Write};
 
 /// The name in a message for the standard input and output.
@@ -79,6 +79,17 @@ impl From<AllocError> for Error<'_> {
     ghost from_gives = { λ _ e. e ≡ NoMemory };
 
     fn from(_error: AllocError) -> Self {
+        Error::NoMemory
+    }
+}
+
+impl<T: Drop> From<AllocFailed<T>> for Error<'_> {
+    ghost use Rattle.std.specs.Prelude.{◌≡◌};
+    ghost use Rattle.cilhost.specs.declared.error.Error.TheVariants.{NoMemory};
+
+    ghost from_gives = { λ _ e. e ≡ NoMemory };
+
+    fn from(_error: AllocFailed<T>) -> Self {
         Error::NoMemory
     }
 }

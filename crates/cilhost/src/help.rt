@@ -19,8 +19,8 @@ it refuses everything else in CIL by name, with fault 22.";
 pub const EXAMPLE: &str = "Example:
   printf 'LOAD\\nAV u:r:a u:r:b file\\nQUIT\\n' | cilhost session base.cil app.cil
 
-`cilhost session --help` describes the requests of a session, and what the numbers in its replies
-mean.";
+`cilhost check FILE..` says by its exit status whether a policy is accepted. `cilhost session
+--help` describes the requests of a session, and what the numbers in its replies mean.";
 
 /// What a session does, in one line.
 pub const SESSION: &str = "Installs files, then answers requests from standard input";
@@ -36,8 +36,69 @@ block, blockabstract, blockinherit, macro, call and optional. Statements that la
 the like, such as filecon, and settings, such as policycap, are accepted and have no effect. For now
 LOAD refuses everything else in CIL by name, with fault 22.";
 
-/// What a file of a session is.
+/// What a file is.
 pub const FILE: &str = "A module, as text in CIL, of at most 4194304 bytes";
+
+/// What a check does, in one line.
+pub const CHECK: &str = "Installs files, loads them, and prints OK or the faults of the policy";
+
+/// What a check does.
+pub const CHECK_LONG: &str = "Installs files, loads them, and prints OK or the faults of the policy.
+
+The FILEs are installed from left to right, and then loaded together. Standard output has the reply
+of LOAD: OK, or FAULTS with how many there are, and a line for each. A FILE that cannot be read as
+CIL ends the check before that: standard error says which, and where. Standard input is not read.";
+
+/// What a check prints, an example and the exit statuses.
+pub const CHECK_MORE: &str =
+    "Faults of a policy, one a line after FAULTS: NUMBER MODULE PLACE NAMESPACE WORD
+  `cilhost session --help` describes these lines, what each number means, and how to get from MODULE
+  and PLACE to a file and a line.
+
+Example:
+  $ cilhost check base.cil app.cil
+  OK
+
+Exit status:
+  0  the policy is accepted
+  1  the policy is refused: standard output has its faults. Or a FILE was refused: standard error
+     has its first fault, with its number and its place in bytes
+  2  wrong arguments
+  3  a file or standard output failed
+  4  out of memory. If it was LOAD that ran out of memory, its reply is ERR 0";
+
+/// What `locate` does, in one line.
+pub const LOCATE: &str = "Says of each fault of a policy the file, the line and the column";
+
+/// What `locate` does.
+pub const LOCATE_LONG: &str = "Says of each fault of a policy the file, the line and the column.
+
+The FILEs are loaded together, as by `cilhost check`. Standard output has for each fault a line
+FILE:LINE:COLUMN: NUMBER: SENTENCE: WORD, in the order of the FILEs and then of places, and behind
+it the line of the source with a mark under the word. Lines and columns count from 1, columns in
+bytes. A fault whose namespace is not the global one says (in NAMESPACE). A fault of the whole
+policy has policy: in place of FILE:LINE:COLUMN:. A FILE that cannot be read as CIL is reported in
+the same form, and then nothing is loaded. Standard input is not read.";
+
+/// What the flag `--optionals` asks for.
+pub const OPTIONALS: &str = "If there is no fault, say which optionals are left out, and why";
+
+/// An example of `locate` and the exit statuses.
+pub const LOCATE_MORE: &str = "Example:
+  $ cilhost locate base.cil web.cil
+  web.cil:12:12: 41: unresolved name: nobody (in web.app)
+     12 |     (allow nobody self (file (read)))
+        |            ^~~~~~
+  cilhost: 1 fault in 1 of 2 files
+
+The last line is on standard error. `cilhost session --help` says what each NUMBER means.
+
+Exit status:
+  0  there is no fault
+  1  there are faults, or a FILE that cannot be read as CIL
+  2  wrong arguments
+  3  a file or standard output failed
+  4  out of memory";
 
 /// The requests of a session, the numbers in its replies, an example and the exit statuses.
 pub const REQUESTS: &str = "Requests:
@@ -86,7 +147,7 @@ Faults of a policy, one a line after FAULTS: NUMBER MODULE PLACE NAMESPACE WORD
   41  a word outside optionals that names nothing
   55  a class of more than 32 permissions
 
-From MODULE and PLACE to a file and a line:
+From MODULE and PLACE to a file and a line: `cilhost locate FILE..` prints both. In a session:
   1. LIST replies OK, and then a line for each module: MODULE 0 is the first of these lines. It
      begins with the SHA-256 of the module.
   2. `sha256sum FILE..` prints the SHA-256 of each FILE: the file is the one with the same.

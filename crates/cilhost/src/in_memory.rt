@@ -3,6 +3,8 @@
 ghost use Rattle.std.specs.Prelude.{◌≡◌, Some, find, option_map};
 ghost use Rattle.std.specs.Str.{bytes_eq};
 
+use crate::check::run_check;
+use crate::locate::run_locate;
 use crate::program::{Streams, run};
 use crate::session::run_session;
 use crate::status::Status;
@@ -94,10 +96,11 @@ impl Write for Closed {
     }
 }
 
-/// Files that are modules, and files that are not.
+/// Files that are modules, one of which has a fault without the others, and files that are no modules.
 pub const FILLED: MemorySystem<'static> = MemorySystem {
     files: &[
         ("good.cil", b"(type a)", None),
+        ("faulty.cil", b"(role r)(roletype r a)", None),
         ("bad.cil", b"(type b))", None),
         ("worse.cil", b"(type c", None),
         ("empty.cil", b"", None),
@@ -151,6 +154,30 @@ pub fn session(alloc: Global, mut system: MemorySystem<'_>, files: &[&str], inpu
     };
     let status = run_session(alloc, files, &mut system, &mut streams);
     what_is_left(status, streams)
+}
+
+/// A search for the faults of files in memory.
+pub fn located(alloc: Global, mut system: MemorySystem<'_>, files: &[&str]) -> Left {
+    let mut output = Counted::new(Vec::new(alloc));
+    let mut messages = Vec::new(alloc);
+    let status = run_locate(alloc, files, false, &mut system, &mut output, &mut messages);
+    Left {
+        status,
+        output: output.into_inner(),
+        messages,
+    }
+}
+
+/// A check of files in memory.
+pub fn check(alloc: Global, mut system: MemorySystem<'_>, files: &[&str]) -> Left {
+    let mut output = Counted::new(Vec::new(alloc));
+    let mut messages = Vec::new(alloc);
+    let status = run_check(alloc, files, &mut system, &mut output, &mut messages);
+    Left {
+        status,
+        output: output.into_inner(),
+        messages,
+    }
 }
 
 /// The program over some words behind its name, with the files above and no input.

@@ -1,17 +1,19 @@
 //! The program: it compiles the SELinux policy modules that it is given, and answers queries.
 //!
 //! Start at `run` in `program.rt`, which is the program over its words and its streams, and at `run_session` in
-//! `session.rt`. `specs/Ends.antt` says what each end is called and which number it has. Requests and their
+//! `session.rt` and `run_check` in `check.rt`. `specs/Ends.antt` says what each end is called and which number it has. Requests and their
 //! replies are a crate below.
 #![tactic(auto)]
 
 #[cfg(test)]
 mod argument_tests;
 mod arguments;
+mod check;
 mod error;
 mod help;
 #[cfg(test)]
 mod in_memory;
+mod locate;
 mod program;
 mod session;
 mod status;

@@ -1,15 +1,19 @@
 //! The program over its words and its streams.
 
-ghost use Rattle.std.specs.Prelude.{◌≡◌, ◌≢◌, ◌⊎◌, ◌<◌, ℕ, List, IfErr, map, string_bytes};
+ghost use Rattle.std.specs.Prelude.{◌≡◌, ◌≢◌, ◌⊎◌, ◌<◌, ℕ, Bool, List, IfErr, map, string_bytes};
 ghost use Rattle.clap.specs.Words.{kind_of};
 ghost use Rattle.cil_server.specs.Devices.{most_failures};
-ghost use Rattle.cilhost.specs.Arguments.{AskForSession};
+ghost use Rattle.cilhost.specs.Arguments.{AskForCheck, AskForSession};
+ghost use Rattle.cilhost.specs.Checks.{HasChecked, RunsCheck};
 ghost use Rattle.cilhost.specs.Ends.{HasServedNothing, answer_to, error_status};
+ghost use Rattle.cilhost.specs.Located.{HasLocated};
 ghost use Rattle.cilhost.specs.Sessions.{IsSession, RunsSession};
 ghost use Rattle.std.specs.Borrow.{Bor};
 
-use crate::arguments::{FILE, SESSION, matches};
+use crate::arguments::{CHECK, FILE, LOCATE, OPTIONALS, SESSION, matches};
+use crate::check::run_check;
 use crate::error::{Error, STREAMS};
+use crate::locate::run_locate;
 use crate::session::run_session;
 use crate::status::Status;
 use crate::system::System;
@@ -43,7 +47,17 @@ pub fn run<Y: System, R: Source, W: Sink, E: Write>(
         → RunsSession (Y.holds system.old) (Y.failure system.old) (Y.failure system.new) names
         (record { bytes = R.rest streams.old.input; failures = R.failed streams.old.input }) (record { bytes = R.rest streams.new.input; failures = R.failed streams.new.input })
         (record { bytes = W.contents streams.old.output; failures = W.failed streams.old.output }) (record { bytes = W.contents streams.new.output; failures = W.failed streams.new.output }) result }
-    ensures unserved { result ≡ Status.Refused → HasServedNothing streams.old streams.new }
+    // A check that is asked for by its name, over such files.
+    ensures check { (names : List (List ℕ)) → AskForCheck (map string_bytes words.now) names
+        → RunsCheck (Y.holds system.old) (Y.failure system.old) (Y.failure system.new) names streams.old.output streams.new.output
+        (record { bytes = W.contents streams.old.output; failures = W.failed streams.old.output }) (record { bytes = W.contents streams.new.output; failures = W.failed streams.new.output }) result
+        × (streams.new.input ≡ streams.old.input) }
+    // Where the status is that of a refusal, nothing was read or written, or a check has replied, or faults were located.
+    ensures unserved { result ≡ Status.Refused → HasServedNothing streams.old streams.new
+        ⊎ ((streams.new.input ≡ streams.old.input) × (((files : List (Bor (List ℕ))) × HasChecked (Y.holds system.old) (Y.failure system.old) (Y.failure system.new) files
+        (record { bytes = W.contents streams.old.output; failures = W.failed streams.old.output }) (record { bytes = W.contents streams.new.output; failures = W.failed streams.new.output }) result)
+        ⊎ ((names : List (Bor (List ℕ))) × (optionals : Bool) × HasLocated (Y.holds system.old) (Y.failure system.old) (Y.failure system.new) names optionals
+        (record { bytes = W.contents streams.old.output; failures = W.failed streams.old.output }) (record { bytes = W.contents streams.new.output; failures = W.failed streams.new.output }) result))) }
     // The input is read by a session alone.
     ensures only { (streams.new.input ≡ streams.old.input)
         ⊎ ((files : List (Bor (List ℕ))) × IsSession (Y.holds system.old) (Y.failure system.old) (Y.failure system.new) files
@@ -54,14 +68,34 @@ pub fn run<Y: System, R: Source, W: Sink, E: Write>(
         Ok(matches) => matches,
         Err(error) => return answer(alloc, error, streams),
     };
-    let Some((name, session)) = matches.subcommand() else {
+    let Some((name, arguments)) = matches.subcommand() else {
         return Status::Usage;
     };
-    if name != SESSION {
-        return Status::Usage;
+    let files = arguments.get_strs(FILE).unwrap_or(&[]);
+    if name == SESSION {
+        return run_session(alloc, files, system, streams);
     }
-    let files = session.get_strs(FILE).unwrap_or(&[]);
-    run_session(alloc, files, system, streams)
+    if name == CHECK {
+        return run_check(
+            alloc,
+            files,
+            system,
+            &mut streams.output,
+            &mut streams.messages,
+        );
+    }
+    if name == LOCATE {
+        let optionals = arguments.get_flag(OPTIONALS);
+        return run_locate(
+            alloc,
+            files,
+            optionals,
+            system,
+            &mut streams.output,
+            &mut streams.messages,
+        );
+    }
+    Status::Usage
 }
 
 /// Prints the help or the version that was asked for, or what is wrong with the words.

@@ -21,7 +21,7 @@ use std::io::Write;
 const CAPACITY: usize = 512;
 
 /// How many bytes of a file are read: one more than a module may have, so that the host refuses a longer one.
-const LONGEST: u64 = LONGEST_TEXT as u64 + 1;
+pub(crate) const LONGEST: u64 = LONGEST_TEXT as u64 + 1;
 
 /// Installs the files from the left, each read and installed before the next, and then serves the requests of
 /// the input on the output. A file that is refused, or cannot be opened or read, ends the session before anything is served.
@@ -52,7 +52,7 @@ pub fn run_session<Y: System, R: Source, W: Sink, E: Write>(
 }
 
 /// A host with just the files, and no policy yet.
-fn prepared<'a, Y: System>(
+pub fn prepared<'a, Y: System>(
     alloc: Global,
     files: &[&'a str],
     system: &mut Y,

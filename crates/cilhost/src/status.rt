@@ -7,7 +7,7 @@ use cil_server::Served;
 pub enum Status {
     /// All that was asked for was done.
     Done,
-    /// A file is no module.
+    /// A file is no module, or the policy of the files has faults.
     Refused,
     /// The arguments were wrong, or the requests came to be so wrong that the session ended.
     Usage,

@@ -56,7 +56,7 @@ returns c =
     c.as_slice.ensures.value c.in_ok-runs.ensures in
     let told = c.in_ok-faults.ensures ∙ ap (flat_map (run_faults kept)) c.as_slice-2.ensures.value in
     let none : (f : Fault) → Contains (flat_map (run_faults kept) runs) f → ⊥ = λ f d. c.in_ok-refuse.ensures.told.1 f (subst (λ fs. Contains fs f) (sym told) d) in (
-      subst (AreEntries (namespaces_in kept) (items_in kept)) (sym c.of.ensures)
+      subst (AreEntries (namespaces_in kept) (items_in kept)) (sym c.in_ok-of.ensures)
           (are_named kept rows runs of (none_differ kept rows runs of none) c.in_ok-entries.entries.items (c.in_ok-entries.ensures ∙ ap (map (entry_of_run kept)) c.as_slice-3.ensures.value)),
       (λ f d. none f (clash_back kept rows runs of f d)),
     )

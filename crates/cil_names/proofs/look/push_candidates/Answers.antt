@@ -8,7 +8,7 @@ use Rattle.cil_names.proofs.look.push_candidates.Goals as goal
 pub loop-from-preserved : goal.loop-from-preserved
 loop-from-preserved c =
     let k : ℕ = get_or c.asked_scope-from-items.result.now c.loop-from.from-index 0 in
-    let there = asked_there c.args.namespaces.now c.args.entries.now c.args.word.now c.path_of-path.result.global c.path_of-path.result.names.now (search rules) k c.named_in.result c.named_in.ensures in
+    let there = asked_there c.args.namespaces.now c.args.entries.now c.args.word.now c.path_of-path.result.global c.path_of-path.result.names.now (search rules) k c.named_in-named.result c.named_in-named.ensures in
     let more : c.push_listed.new.found.items ≡ c.loop-from.found.items ++ could_name c.args.namespaces.now c.args.entries.now c.args.word.now k =
     c.in_ok-push_listed.ensures.found ∙ ap (λ l. c.loop-from.found.items ++ l) there in (
       rw more (passed_on (could_name c.args.namespaces.now c.args.entries.now c.args.word.now) c.asked_scope-from-items.result.now c.loop-from.from-index k 0 (search (rules, arith)) refl

@@ -34,7 +34,7 @@ pub returns-in_default-entry_in-clause-listed : goal.returns-in_default-entry_in
 returns-in_default-entry_in-clause-listed c = λ xs ordered known are.
     let i = c.args.instances.now in
     let name = c.in-Some.name in
-    kept_unknown (namespaces_in i) c.args.entries.now xs (item_at i c.args.at) (subst AreNamespaces c.namespaces.ensures.value c.namespaces.ensures.once) ordered c.space.result c.space.ensures name.bytes.now
+    kept_unknown (namespaces_in i) c.args.entries.now xs (item_at i c.args.at) (subst AreNamespaces c.namespaces.ensures.value c.namespaces.ensures.once) ordered c.space-space.result c.space-space.ensures name.bytes.now
     (one_declared i c.args.at c.statement_there-statement.result.now c.statement_there-statement.ensures name.at name.bytes.now c.in-Some.ensures (c.is_outside.ensures.0 c.if-not-is_outside.false)) c.args.lists.now.items
     c.in_default-entry_in.ensures are
 
@@ -42,7 +42,7 @@ pub returns-in_default-listed_behind_name-clause-listed : goal.returns-in_defaul
 returns-in_default-listed_behind_name-clause-listed c = λ xs ordered known are.
     let i = c.args.instances.now in
     let name = c.in-Some.name in
-    kept_unlisted (namespaces_in i) c.args.entries.now xs (item_at i c.args.at) (subst AreNamespaces c.namespaces.ensures.value c.namespaces.ensures.once) ordered c.space.result c.space.ensures name.bytes.now
+    kept_unlisted (namespaces_in i) c.args.entries.now xs (item_at i c.args.at) (subst AreNamespaces c.namespaces.ensures.value c.namespaces.ensures.once) ordered c.space-space.result c.space-space.ensures name.bytes.now
     (one_declared i c.args.at c.statement_there-statement.result.now c.statement_there-statement.ensures name.at name.bytes.now c.in-Some.ensures (c.is_outside.ensures.0 c.if-not-is_outside.false))
     (word_at i c.args.at) (args_of c.statement_there-statement.result.now)
     (said_by_class i c.args.at c.statement_there-statement.result.now c.statement_there-statement.ensures name.at name.bytes.now c.in-Some.ensures) c.args.lists.now.items
@@ -67,7 +67,7 @@ returns-then-is_at-clause-listed c = λ xs ordered known are.
     let last : slice_get c.args.last.now.items class_ ≡ Some (Some c.statement-number.result) =
     slice_get-get_or c.args.last.now.items class_ c.index.result.now (class_within _ _ _ _ _ _ c.requires.last_len c.in-Some-entry_in.ensures)
     ∙ ap Some (sym c.index.ensures ∙ c.is_at.ensures.0 c.if-is_at.true) in
-    kept_again (namespaces_in i) c.args.entries.now xs (item_at i c.args.at) (subst AreNamespaces c.namespaces.ensures.value c.namespaces.ensures.once) ordered c.space.result c.space.ensures name.bytes.now
+    kept_again (namespaces_in i) c.args.entries.now xs (item_at i c.args.at) (subst AreNamespaces c.namespaces.ensures.value c.namespaces.ensures.once) ordered c.space-space.result c.space-space.ensures name.bytes.now
     (one_declared i c.args.at s c.statement_there-statement.ensures name.at name.bytes.now c.in-Some.ensures (c.is_outside.ensures.0 c.if-not-is_outside.false)) c.args.lists.now.items class_
     c.in-Some-entry_in.ensures
     (λ p t. known class_ c.statement-number.result last p
@@ -79,7 +79,7 @@ returns-clause-listed c = λ xs ordered known are.
     let i = c.args.instances.now in
     let name = c.in-Some.name in
     let s = c.statement_there-statement.result.now in
-    added (namespaces_in i) c.args.entries.now xs (item_at i c.args.at) (subst AreNamespaces c.namespaces.ensures.value c.namespaces.ensures.once) ordered c.space.result c.space.ensures name.bytes.now
+    added (namespaces_in i) c.args.entries.now xs (item_at i c.args.at) (subst AreNamespaces c.namespaces.ensures.value c.namespaces.ensures.once) ordered c.space-space.result c.space-space.ensures name.bytes.now
     (one_declared i c.args.at s c.statement_there-statement.ensures name.at name.bytes.now c.in-Some.ensures (c.is_outside.ensures.0 c.if-not-is_outside.false))
     (word_at i c.args.at) (args_of s)
     (said_by_class i c.args.at s c.statement_there-statement.ensures name.at name.bytes.now c.in-Some.ensures) c.args.lists.now.items c.in-Some-entry_in.class
@@ -93,7 +93,7 @@ returns-clause-last c = λ ordered known.
     let i = c.args.instances.now in
     let name = c.in-Some.name in
     let s = c.statement_there-statement.result.now in
-    listed_after (namespaces_in i) c.args.entries.now [] (item_at i c.args.at) (subst AreNamespaces c.namespaces.ensures.value c.namespaces.ensures.once) ordered c.space.result c.space.ensures name.bytes.now
+    listed_after (namespaces_in i) c.args.entries.now [] (item_at i c.args.at) (subst AreNamespaces c.namespaces.ensures.value c.namespaces.ensures.once) ordered c.space-space.result c.space-space.ensures name.bytes.now
     (one_declared i c.args.at s c.statement_there-statement.ensures name.at name.bytes.now c.in-Some.ensures (c.is_outside.ensures.0 c.if-not-is_outside.false))
     (word_at i c.args.at) (args_of s)
     (said_by_class i c.args.at s c.statement_there-statement.ensures name.at name.bytes.now c.in-Some.ensures) c.args.lists.now.items c.in-Some-entry_in.class

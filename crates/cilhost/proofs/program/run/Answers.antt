@@ -1,10 +1,12 @@
-use Rattle.std.proofs.Common.{ap, inl, inr, refl}
-use Rattle.cilhost.proofs.ArgumentLemmas.{files_handed_on, memory_is_no_help, memory_status, name_found, not_missing, not_other, session_is_found}
+use Rattle.std.proofs.Common.{ap, codes, inl, inr, refl}
+use Rattle.cilhost.proofs.ArgumentLemmas.{command_is_found, files_handed_on, memory_is_no_help, memory_status, name_found, not_missing, not_other, not_this}
 use Rattle.cilhost.proofs.program.run.Goals as goal
+
+-- ---- a session that is asked for
 
 pub returns-in-Err-clause-session : goal.returns-in-Err-clause-session
 returns-in-Err-clause-session g c = λ names asks.
-    let memory = c.in-Err.ensures.accepts names asks in
+    let memory = c.in-Err.ensures.accepts names (inl asks) in
     inr (
       memory_status _ _ memory c.answer.ensures.status,
       refl,
@@ -14,17 +16,77 @@ returns-in-Err-clause-session g c = λ names asks.
 
 pub returns-in_default-clause-session : goal.returns-in_default-clause-session
 returns-in_default-clause-session g c = λ names asks.
-    absurd (not_missing _ _ _ (session_is_found _ names _ (c.in-Ok.ensures.session names asks) c.subcommand.ensures.name) c.in_default.is)
+    absurd (not_missing _ _ _ (command_is_found _ _ names _ (c.in-Ok.ensures.session names asks) c.subcommand.ensures.name) c.in_default.is)
 
-pub returns-then-ne-clause-session : goal.returns-then-ne-clause-session
-returns-then-ne-clause-session g c = λ names asks.
-    let same = name_found _ _ _ _ (session_is_found _ names _ (c.in-Ok.ensures.session names asks) c.subcommand.ensures.name) c.in-Some.is in
-    absurd (not_other _ _ same c.ne.ensures c.if-ne.true)
+pub returns-then-eq-clause-session : goal.returns-then-eq-clause-session
+returns-then-eq-clause-session g c = λ names asks.
+    let same = files_handed_on _ _ names _ _ c.in-Some.arguments c.get_strs.result _ (c.in-Ok.ensures.session names asks) c.subcommand.ensures.rows c.in-Some.is c.get_strs.ensures refl in
+    inl (c.unwrap_or-files.result.now, rw c.unwrap_or-files.ensures same, c.run_session.ensures.session)
+
+pub returns-then-eq-2-clause-session : goal.returns-then-eq-2-clause-session
+returns-then-eq-2-clause-session g c = λ names asks.
+    let same = name_found _ _ _ _ (command_is_found _ _ names _ (c.in-Ok.ensures.session names asks) c.subcommand.ensures.name) c.in-Some.is in
+    absurd (not_other _ (codes "session") _ same c.eq.ensures refl c.if-eq.false)
+
+pub returns-then-eq-3-clause-session : goal.returns-then-eq-3-clause-session
+returns-then-eq-3-clause-session g c = λ names asks.
+    let same = name_found _ _ _ _ (command_is_found _ _ names _ (c.in-Ok.ensures.session names asks) c.subcommand.ensures.name) c.in-Some.is in
+    absurd (not_other _ (codes "session") _ same c.eq.ensures refl c.if-eq.false)
 
 pub returns-clause-session : goal.returns-clause-session
 returns-clause-session g c = λ names asks.
-    let same = files_handed_on _ names _ _ c.in-Some.session c.get_strs.result _ (c.in-Ok.ensures.session names asks) c.subcommand.ensures.rows c.in-Some.is c.get_strs.ensures refl in
-    inl (c.unwrap_or-files.result.now, rw c.unwrap_or-files.ensures same, c.run_session.ensures.session)
+    let same = name_found _ _ _ _ (command_is_found _ _ names _ (c.in-Ok.ensures.session names asks) c.subcommand.ensures.name) c.in-Some.is in
+    absurd (not_other _ (codes "session") _ same c.eq.ensures refl c.if-eq.false)
+
+-- ---- a check that is asked for
+
+pub returns-in-Err-clause-check : goal.returns-in-Err-clause-check
+returns-in-Err-clause-check g c = λ names asks.
+    let memory = c.in-Err.ensures.accepts names (inr asks) in
+    (inr (memory_status _ _ memory c.answer.ensures.status, refl, c.answer.ensures.unwritten (memory_is_no_help _ memory)), c.answer.ensures.unread)
+
+pub returns-in_default-clause-check : goal.returns-in_default-clause-check
+returns-in_default-clause-check g c = λ names asks.
+    absurd (not_missing _ _ _ (command_is_found _ _ names _ (c.in-Ok.ensures.check names asks) c.subcommand.ensures.name) c.in_default.is)
+
+pub returns-then-eq-clause-check : goal.returns-then-eq-clause-check
+returns-then-eq-clause-check g c = λ names asks.
+    let same = name_found _ _ _ _ (command_is_found _ _ names _ (c.in-Ok.ensures.check names asks) c.subcommand.ensures.name) c.in-Some.is in
+    absurd (not_this _ (codes "session") _ (codes "check") same c.eq.ensures refl c.if-eq.true)
+
+pub returns-then-eq-2-clause-check : goal.returns-then-eq-2-clause-check
+returns-then-eq-2-clause-check g c = λ names asks.
+    let same = files_handed_on _ _ names _ _ c.in-Some.arguments c.get_strs.result _ (c.in-Ok.ensures.check names asks) c.subcommand.ensures.rows c.in-Some.is c.get_strs.ensures refl in
+    (inl (c.unwrap_or-files.result.now, rw c.unwrap_or-files.ensures same, c.run_check.ensures.check), refl)
+
+pub returns-then-eq-3-clause-check : goal.returns-then-eq-3-clause-check
+returns-then-eq-3-clause-check g c = λ names asks.
+    let same = name_found _ _ _ _ (command_is_found _ _ names _ (c.in-Ok.ensures.check names asks) c.subcommand.ensures.name) c.in-Some.is in
+    absurd (not_other _ (codes "check") _ same c.eq-2.ensures refl c.if-eq-2.false)
+
+pub returns-clause-check : goal.returns-clause-check
+returns-clause-check g c = λ names asks.
+    let same = name_found _ _ _ _ (command_is_found _ _ names _ (c.in-Ok.ensures.check names asks) c.subcommand.ensures.name) c.in-Some.is in
+    absurd (not_other _ (codes "check") _ same c.eq-2.ensures refl c.if-eq-2.false)
+
+-- ---- what a refusal leaves
+
+pub returns-then-eq-clause-unserved : goal.returns-then-eq-clause-unserved
+returns-then-eq-clause-unserved g c = λ refused. inl (c.run_session.ensures.unserved refused)
+
+pub returns-then-eq-2-clause-unserved : goal.returns-then-eq-2-clause-unserved
+returns-then-eq-2-clause-unserved g c = λ refused. elim c.run_check.ensures.check [
+  | inl checked ↦ inr (refl, inl (c.unwrap_or-files.result.now, checked))
+  | inr stopped ↦ inl (refl, stopped.unused)
+]
+
+pub returns-then-eq-3-clause-unserved : goal.returns-then-eq-3-clause-unserved
+returns-then-eq-3-clause-unserved g c = λ refused. elim c.run_locate.ensures.locate [
+  | inl located ↦ inr (refl, inr (c.unwrap_or-files.result.now, c.get_flag-optionals.result, located))
+  | inr stopped ↦ inl (refl, stopped.unused)
+]
+
+-- ---- who reads the input
 
 pub returns-in-Err-clause-only : goal.returns-in-Err-clause-only
 returns-in-Err-clause-only g c = inl c.answer.ensures.unread
@@ -32,8 +94,14 @@ returns-in-Err-clause-only g c = inl c.answer.ensures.unread
 pub returns-in_default-clause-only : goal.returns-in_default-clause-only
 returns-in_default-clause-only g c = inl refl
 
-pub returns-then-ne-clause-only : goal.returns-then-ne-clause-only
-returns-then-ne-clause-only g c = inl refl
+pub returns-then-eq-clause-only : goal.returns-then-eq-clause-only
+returns-then-eq-clause-only g c = inr (c.unwrap_or-files.result.now, c.run_session.ensures.session)
+
+pub returns-then-eq-2-clause-only : goal.returns-then-eq-2-clause-only
+returns-then-eq-2-clause-only g c = inl refl
+
+pub returns-then-eq-3-clause-only : goal.returns-then-eq-3-clause-only
+returns-then-eq-3-clause-only g c = inl refl
 
 pub returns-clause-only : goal.returns-clause-only
-returns-clause-only g c = inr (c.unwrap_or-files.result.now, c.run_session.ensures.session)
+returns-clause-only g c = inl refl

@@ -16,7 +16,7 @@ returns c =
     let l = c.args.self.now in
     let ss = c.namespaces-namespaces.result.now in
     let same = c.namespaces-namespaces.ensures.value in
-    let found = rw c.entries-entries.ensures.value at c.class_of.ensures in
+    let found = rw c.entries.ensures.value at c.class_of.ensures in
     subst (λ (z : List Space). IsClassFor z l.names.now l.permissions.now (scoped_there l.reading c.args.class.now) c.class_of.result) same
     (subst (λ (w : ScopedWord). IsClassFor ss l.names.now l.permissions.now w c.class_of.result)
     (scoped_so ss l.reading.instances.now same c.args.class.now _ (rw (← c.as_slice.ensures) at c.in_ok-scope.ensures)) found)

@@ -19,6 +19,6 @@ returns c = λ xs entries permissions.
     let same = c.namespaces-namespaces.ensures.value in
     let old = c.args.candidates.now in
     c.in_ok-push_word.ensures
-    ∙ ap (λ (es : List Entry). old ++ candidates_of ss es (scoped ss c.as_slice.result.now c.args.word.now.word) ∷ []) c.entries-entries.ensures.value
+    ∙ ap (λ (es : List Entry). old ++ candidates_of ss es (scoped ss c.as_slice.result.now c.args.word.now.word) ∷ []) c.entries.ensures.value
     ∙ ap (λ (w : ScopedWord). old ++ candidates_of ss l.names.now w ∷ []) (scoped_so ss l.reading.instances.now same c.args.word.now _ (rw (← c.as_slice.ensures) at c.in_ok-scope.ensures))
     ∙ ap (λ (z : List Space). old ++ candidates_of z l.names.now (scoped_there l.reading c.args.word.now) ∷ []) same

@@ -71,7 +71,7 @@ returns-in-Load-clause-answers g c =
     answered_as (unread c.args.self.now.input) (unread c.args.self.now.input) c.args.host.now c.load.new.host (Tells c.args.self.now.output c.load.new.output) (line_of c.args.line)
     said.Load turns.Next (ap line_of c.in-Load.is)
     (alone (unread c.args.self.now.input) (unread c.args.self.now.input) c.args.host.now c.load.new.host (Tells c.args.self.now.output c.load.new.output) said.Load Loads refl refl refl
-    c.load.ensures)
+    c.load.ensures.answers)
 
 pub returns-in-Optionals-clause-answers : goal.returns-in-Optionals-clause-answers
 returns-in-Optionals-clause-answers g c =

@@ -1,30 +1,39 @@
+use Rattle.std.proofs.Common.{◌∙◌, ap, drop, subst, sym}
+use Rattle.std.proofs.lemmas.List.{take_rest}
+use Rattle.std.specs.Prelude.{Some, Err}
+use Rattle.cil_sexpr.specs.View.{nodes_of}
+use Rattle.cil_syntax.specs.Laid.{row_of}
+use Rattle.cil_syntax.specs.Readings.{cells_of, read_row}
+use Rattle.cil_syntax.specs.Told.{AreTold, TellAll}
 use Rattle.cil_sexpr.specs.View.{node_of}
 use Rattle.cil_syntax.specs.Laid.{shape_of}
 use Rattle.cil_syntax.proofs.ItemsRead.{more_read, stop_told, all_read, many_more, many_end, items_more, items_end, wrong_length}
-use Rattle.cil_syntax.proofs.Laid.{first_told, second_told, first_row_told, second_row_told}
-use Rattle.cil_syntax.proofs.Unread.{unread_told, text_told, anything_told, short_told, no_lists_told, body_told}
+use Rattle.cil_syntax.proofs.Laid.{first_told, second_told, first_row_told, second_row_told, led_told, not_led_told, statements_told}
+use Rattle.cil_syntax.proofs.Behind.{short_told, first_stops, second_stops, then_told}
+use Rattle.cil_syntax.proofs.Expressed.{untagged_told, tagged_told, tagged_stops}
+use Rattle.cil_syntax.proofs.Unread.{unread_told, text_told, anything_told}
 use Rattle.cil_syntax.specs.Around.{space_of}
 use Rattle.cil_syntax.proofs.reader.Reader.+nodes.Goals as goal
 
 pub read_items-returns-then-nodes-shapes : goal.read_items-returns-then-nodes-shapes
-read_items-returns-then-nodes-shapes t c = wrong_length c.args.self.now.number (space_of c.args.self.now.place.now) c.args.self.now.text.now c.args.nodes.now c.args.shapes.now _ c.if-nodes-shapes.true
+read_items-returns-then-nodes-shapes t c = wrong_length shape_of c.args.self.now.number (space_of c.args.self.now.place.now) c.args.self.now.text.now c.args.nodes.now c.args.shapes.now _ c.if-nodes-shapes.true
 
 pub read_items-returns-in_err-term : goal.read_items-returns-in_err-term
 read_items-returns-in_err-term t c =
     stop_told c.args.self.now.number (space_of c.args.self.now.place.now) _ _ _ _ _ _ _ _ _ _ c.loop-index.invariant
-    (items_more c.args.self.now.number c.args.self.now.text.now c.args.nodes.now c.args.shapes.now c.if-nodes-shapes.false _ _ _ c.loop-index-test.true c.index-nodes-index.is c.index-shapes-index.is)
+    (items_more c.args.self.now.number c.args.self.now.text.now c.args.nodes.now shape_of c.args.shapes.now c.if-nodes-shapes.false _ _ _ c.loop-index-test.true c.index-nodes-index.is c.index-shapes-index.is)
     c.in_err-term.ensures c.from_residual-in_err-term.ensures.1
 
 pub read_items-loop-index-preserved : goal.read_items-loop-index-preserved
 read_items-loop-index-preserved t c =
     more_read c.args.self.now.number (space_of c.args.self.now.place.now) _ _ _ _ _ _ _ _ c.in_ok-term.term _ c.loop-index.invariant
-    (items_more c.args.self.now.number c.args.self.now.text.now c.args.nodes.now c.args.shapes.now c.if-nodes-shapes.false _ _ _ c.loop-index-test.true c.index-nodes-index.is c.index-shapes-index.is)
+    (items_more c.args.self.now.number c.args.self.now.text.now c.args.nodes.now shape_of c.args.shapes.now c.if-nodes-shapes.false _ _ _ c.loop-index-test.true c.index-nodes-index.is c.index-shapes-index.is)
     c.in_ok-term.ensures c.in_ok-push.ensures.items
 
 pub read_items-returns : goal.read_items-returns
 read_items-returns t c =
     all_read c.args.self.now.number (space_of c.args.self.now.place.now) _ _ _ _ c.loop-index.terms c.loop-index.invariant
-    (items_end c.args.self.now.number c.args.self.now.text.now c.args.nodes.now c.args.shapes.now c.if-nodes-shapes.false _ c.loop-index-test.false)
+    (items_end c.args.self.now.number c.args.self.now.text.now c.args.nodes.now shape_of c.args.shapes.now c.if-nodes-shapes.false _ c.loop-index-test.false)
 
 pub read_many-returns-in_err-term : goal.read_many-returns-in_err-term
 read_many-returns-in_err-term t c =
@@ -76,17 +85,47 @@ read_node-returns-in-AnyText t c =
 pub read_row-returns-in-Anything : goal.read_row-returns-in-Anything
 read_row-returns-in-Anything t c = anything_told c.args.self.now.number (space_of c.args.self.now.place.now) _ c.args.row.now _ c.new.result c.in-Anything.is c.new.ensures.items
 
-pub read_before_lists-returns-then-nodes-shapes : goal.read_before_lists-returns-then-nodes-shapes
-read_before_lists-returns-then-nodes-shapes t c =
-    short_told c.args.self.now.number (space_of c.args.self.now.place.now) c.args.self.now.text.now c.args.nodes.now c.args.shapes.now _ c.if-nodes-shapes.true
+pub read_row-returns-then-is_led : goal.read_row-returns-then-is_led
+read_row-returns-then-is_led t c =
+    led_told c.args.self.now.number (space_of c.args.self.now.place.now) _ c.args.row.now c.in-Led.shape c.in-Led.first c.in-Led.second c.in-Led.is _ _ _ c.is_led.result
+    (c.is_led.ensures c.args.self.now.number) c.if-is_led.true c.read_row-then-is_led.ensures
 
-pub read_before_lists-returns-then-not-all_lists :
-    goal.read_before_lists-returns-then-not-all_lists
-read_before_lists-returns-then-not-all_lists t c =
-    no_lists_told c.args.self.now.number (space_of c.args.self.now.place.now) c.args.self.now.text.now c.args.nodes.now c.args.shapes.now _ c.if-nodes-shapes.false c.all_lists.result
-    c.all_lists.ensures c.if-not-all_lists.true
+pub read_row-returns-else-is_led : goal.read_row-returns-else-is_led
+read_row-returns-else-is_led t c =
+    not_led_told c.args.self.now.number (space_of c.args.self.now.place.now) _ c.args.row.now c.in-Led.shape c.in-Led.first c.in-Led.second c.in-Led.is _ _ _ c.is_led.result
+    (c.is_led.ensures c.args.self.now.number) c.if-is_led.false c.read_row-in-Led.ensures
 
-pub read_before_lists-returns : goal.read_before_lists-returns
-read_before_lists-returns t c =
-    body_told c.args.self.now.number (space_of c.args.self.now.place.now) c.args.self.now.text.now c.args.nodes.now c.args.shapes.now _ c.if-nodes-shapes.false _ _ c.all_lists.result
-    c.all_lists.ensures c.if-not-all_lists.false c.read_items.ensures
+pub read_row-returns-in-Statements : goal.read_row-returns-in-Statements
+read_row-returns-in-Statements t c =
+    statements_told c.args.self.now.number (space_of c.args.self.now.place.now) _ c.args.row.now _ _ _ c.in-Statements.is (c.read_statements.ensures c.args.faults.now.items)
+
+pub read_tagged-returns-then-not-is_this_word : goal.read_tagged-returns-then-not-is_this_word
+read_tagged-returns-then-not-is_this_word t c =
+    untagged_told c.args.self.now.number (space_of c.args.self.now.place.now) c.args.self.now.text.now c.args.node.now c.in-List.span c.in-List.items c.as_slice.result.now c.in-List.is c.as_slice.ensures.value c.args.word.now c.args.op _ c.in-Some.first.now c.in-Some.ensures.value c.is_this_word.result (c.is_this_word.ensures c.args.self.now.number) _ c.if-not-is_this_word.true
+
+pub read_tagged-returns-in_err-parts : goal.read_tagged-returns-in_err-parts
+read_tagged-returns-in_err-parts t c =
+    tagged_stops c.args.self.now.number (space_of c.args.self.now.place.now) c.args.self.now.text.now c.args.node.now c.in-List.span c.in-List.items c.as_slice.result.now c.in-List.is c.as_slice.ensures.value c.args.word.now c.args.op _ c.in-Some.first.now c.in-Some.ensures.value c.is_this_word.result (c.is_this_word.ensures c.args.self.now.number) _ _ _ _ c.if-not-is_this_word.false (subst (λ ks. TellAll c.args.self.now.number (space_of c.args.self.now.place.now) (read_row (row_of c.args.row.now) (cells_of c.args.self.now.number (nodes_of c.args.self.now.text.now ks))) c.args.faults.now.items c.read_row.new.faults.items (Err c.in_err-parts.field-0.0)) (take_rest c.as_slice-2.result.now 1 ∙ ap (drop 1) (c.as_slice-2.ensures.value ∙ sym c.as_slice.ensures.value)) c.in_err-parts.ensures) c.from_residual.ensures.1
+
+pub read_tagged-returns : goal.read_tagged-returns
+read_tagged-returns t c =
+    tagged_told c.args.self.now.number (space_of c.args.self.now.place.now) c.args.self.now.text.now c.args.node.now c.in-List.span c.in-List.items c.as_slice.result.now c.in-List.is c.as_slice.ensures.value c.args.word.now c.args.op _ c.in-Some.first.now c.in-Some.ensures.value c.is_this_word.result (c.is_this_word.ensures c.args.self.now.number) _ _ c.in_ok-parts.parts c.if-not-is_this_word.false (subst (λ ks. AreTold c.args.self.now.number (space_of c.args.self.now.place.now) (read_row (row_of c.args.row.now) (cells_of c.args.self.now.number (nodes_of c.args.self.now.text.now ks))) c.args.faults.now.items c.read_row.new.faults.items (Some c.in_ok-parts.parts)) (take_rest c.as_slice-2.result.now 1 ∙ ap (drop 1) (c.as_slice-2.ensures.value ∙ sym c.as_slice.ensures.value)) c.in_ok-parts.ensures)
+
+pub read_row-returns-then-nodes-shapes : goal.read_row-returns-then-nodes-shapes
+read_row-returns-then-nodes-shapes t c =
+    short_told c.args.self.now.number (space_of c.args.self.now.place.now) c.args.self.now.text.now c.args.nodes.now c.args.row.now c.in-Then.shapes c.in-Then.row c.in-Then.is _ c.if-nodes-shapes.true
+
+pub read_row-returns-in_err-first-in-Then : goal.read_row-returns-in_err-first-in-Then
+read_row-returns-in_err-first-in-Then t c =
+    first_stops c.args.self.now.number (space_of c.args.self.now.place.now) c.args.self.now.text.now c.args.nodes.now c.args.row.now c.in-Then.shapes c.in-Then.row c.in-Then.is _ _ _ _
+    c.if-nodes-shapes.false c.in_err-first-in-Then.ensures c.from_residual.ensures.1
+
+pub read_row-returns-in_err-second-in-Then : goal.read_row-returns-in_err-second-in-Then
+read_row-returns-in_err-second-in-Then t c =
+    second_stops c.args.self.now.number (space_of c.args.self.now.place.now) c.args.self.now.text.now c.args.nodes.now c.args.row.now c.in-Then.shapes c.in-Then.row c.in-Then.is _ _ _ c.in_ok-first-in-Then.first _ _
+    c.if-nodes-shapes.false c.in_ok-first-in-Then.ensures c.in_err-second-in-Then.ensures c.from_residual-in_err-second-in-Then.ensures.1
+
+pub read_row-returns-in_ok-append-in-Then : goal.read_row-returns-in_ok-append-in-Then
+read_row-returns-in_ok-append-in-Then t c =
+    then_told c.args.self.now.number (space_of c.args.self.now.place.now) c.args.self.now.text.now c.args.nodes.now c.args.row.now c.in-Then.shapes c.in-Then.row c.in-Then.is _ _ _
+    c.in_ok-first-in-Then.first c.in_ok-second-in-Then.second c.append.new.self c.if-nodes-shapes.false c.in_ok-first-in-Then.ensures c.in_ok-second-in-Then.ensures c.in_ok-append-in-Then.ensures.items

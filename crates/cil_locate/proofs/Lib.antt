@@ -1,0 +1,9 @@
+pub mod ByteLemmas
+pub mod FoundLemmas
+pub mod LineLemmas
+pub mod OrderLemmas
+pub mod OriginLemmas
+pub mod PositionLemmas
+pub mod ReadingLemmas
+pub mod RunLemmas
+pub mod ToldLemmas

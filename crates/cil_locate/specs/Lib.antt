@@ -1,0 +1,9 @@
+pub mod Files
+pub mod Found
+pub mod Lines
+pub mod Located
+pub mod Order
+pub mod Positions
+pub mod Readings
+pub mod Sentences
+pub mod Windows

@@ -1,0 +1,157 @@
+-- Entries that rise by their names: those of one name stand beside one another, so an entry whose neighbours have other names is the
+-- only one of its name.
+use Rattle.std.proofs.Common.{◌≡◌, ℕ, suc, zero, ◌+◌, ◌<◌, List, length, get_or, refl, sym, ◌∙◌, ap, inl, inr, arith, true, ◌⊎◌}
+use Rattle.std.specs.Prelude.{IfSome, Option, Some, None, slice_get}
+use Rattle.std.specs.declared.cmp.Ordering.{Ordering}
+use Rattle.std.specs.declared.cmp.Ordering.TheVariants.{Less, Equal, Greater}
+use Rattle.std.specs.Ordering.{on, ordering_reverse, ordering_then, nat_cmp}
+use Rattle.std.specs.List.Sorted.{IsStrictlySortedBy}
+use Rattle.std.proofs.lemmas.Bool.{cases_lt}
+use Rattle.std.proofs.lemmas.Option.{same_Some, none-some, slice_get-get_or, slice_get_within, get_or_from_slice_get}
+use Rattle.cil_syntax.specs.declared.kind.Kind.{Kind}
+use Rattle.cil_syntax.specs.declared.kind.Sign.{Sign}
+use Rattle.cil_syntax.specs.Kinds.{is_wanted}
+use Rattle.cil_names.specs.declared.entry.Entry.{Entry}
+use Rattle.cil_names.specs.Entries.{HasNoEntry, IsEntryAt, by_name_cmp, key_of, rank}
+use Rattle.cil_base.specs.Found.{IsFound}
+use Rattle.cil_names.proofs.EntryLemmas.{parts_fit, they_fit}
+use Rattle.cil_base.proofs.SearchLemmas.{rising_at}
+use Rattle.cil_names.specs.Soles.{IsNamedAt, IsSole, RankedName, ranked_cmp, ranked_name}
+use Rattle.cil_names.proofs.OrderLemmas.{ranked_total, one_ranked}
+
+pub named_is : (e : Entry) (name : List ℕ) (r : ℕ) → e.name ≡ name → rank e.kind ≡ r → ranked_name e ≡ record { name = name; rank = r }
+named_is e name r p q = λ i. record { name = p i; rank = q i }
+
+before_then : (o p : Ordering) → ordering_then o p ≡ Less → o ≡ Greater → ⊥
+before_then Less p e f = absurd (let g : Less ≡ Greater = f in cc)
+before_then Equal p e f = absurd (let g : Equal ≡ Greater = f in cc)
+before_then Greater p e f = absurd (let g : Greater ≡ Less = e in cc)
+
+three : (o : Ordering) → (o ≡ Less) ⊎ ((o ≡ Equal) ⊎ (o ≡ Greater))
+three Less = inl refl
+three Equal = inr (inl refl)
+three Greater = inr (inr refl)
+
+module _ (es : List Entry) (up : IsStrictlySortedBy (on key_of by_name_cmp) es) where
+  rise : (i j : ℕ) (a b : Entry) → slice_get es i ≡ Some a → slice_get es j ≡ Some b → i < j → by_name_cmp (key_of a) (key_of b) ≡ Less
+  rise i j a b at_i at_j less =
+      ap (λ x. by_name_cmp (key_of x) (key_of b)) (sym (get_or_from_slice_get es i a a at_i))
+      ∙ ap (λ y. by_name_cmp (key_of (get_or es i a)) (key_of y)) (sym (get_or_from_slice_get es j b a at_j))
+      ∙ rising_at (on key_of by_name_cmp) es i j a up less (slice_get_within es j b at_j)
+
+  not_after : (i j : ℕ) (a b : Entry) → slice_get es i ≡ Some a → slice_get es j ≡ Some b → i < j → ranked_cmp (ranked_name a) (ranked_name b) ≡ Greater → ⊥
+  not_after i j a b at_i at_j less e =
+      before_then (ranked_cmp (ranked_name a) (ranked_name b)) (nat_cmp a.space b.space) (rise i j a b at_i at_j less) e
+
+  between : (i j k : ℕ) (a b c : Entry) → slice_get es i ≡ Some a → slice_get es j ≡ Some b → slice_get es k ≡ Some c → i < j → j < k
+      → (n : RankedName) → ranked_name a ≡ n → ranked_name c ≡ n → ranked_name b ≡ n
+  between i j k a b c at_i at_j at_k below above n p q =
+      elim (three (ranked_cmp (ranked_name a) (ranked_name b))) [
+        | inl less ↦ absurd (not_after j k b c at_j at_k above (ap (λ m. ranked_cmp (ranked_name b) m) (q ∙ sym p) ∙ ranked_total.antisymm (ranked_name b) (ranked_name a) ∙ ap ordering_reverse less))
+        | inr rest ↦ elim rest [
+          | inl same ↦ sym (one_ranked (ranked_name a) (ranked_name b) same) ∙ p
+          | inr greater ↦ absurd (not_after i j a b at_i at_j below greater)
+        ]
+      ]
+
+  there : (i : ℕ) (d : Entry) → i < length es → slice_get es i ≡ Some (get_or es i d)
+  there i d within = slice_get-get_or es i d within
+
+  pub stands_alone : (n : RankedName) (d : ℕ) (x : Entry) → slice_get es d ≡ Some x → ranked_name x ≡ n
+      → (IsNamedAt es n (d + 1) → ⊥) → ((b : ℕ) → b + 1 ≡ d → IsNamedAt es n b → ⊥) → IsFound ranked_name es n d
+  stands_alone n d x at named behind before = record {
+    item = x;
+    at = at;
+    has_key = named;
+    only = λ m y at_m is. elim (cases_lt m d) [
+      | inl less ↦ elim (cases_lt (m + 1) d) [
+        | inl further ↦ absurd (near_before m y at_m is further)
+        | inr next ↦ absurd (before m (omega arith) (y, at_m, is))
+      ]
+      | inr ge ↦ elim (cases_lt d m) [
+        | inl more ↦ elim (cases_lt (d + 1) m) [
+          | inl further ↦ absurd (near_behind m y at_m is further)
+          | inr next ↦ absurd (behind (let e : m ≡ d + 1 = omega arith in (y, ap (slice_get es) (sym e) ∙ at_m, is)))
+        ]
+        | inr le ↦ omega arith
+      ]
+    ];
+  }
+    where
+      near_behind : (m : ℕ) (y : Entry) → slice_get es m ≡ Some y → ranked_name y ≡ n → d + 1 < m → ⊥
+      near_behind m y at_m is further =
+          let within : d + 1 < length es = let w = slice_get_within es m y at_m in omega (arith, w) in
+          behind (
+            get_or es (d + 1) x,
+            there (d + 1) x within,
+            between d (d + 1) m x (get_or es (d + 1) x) y at (there (d + 1) x within) at_m (omega arith) further n named is,
+          )
+
+      at_before : (m b : ℕ) (y : Entry) → slice_get es m ≡ Some y → ranked_name y ≡ n → m + 1 < d → b + 1 ≡ d → ⊥
+      at_before m b y at_m is further e =
+          let within : b < length es = let w = slice_get_within es d x at in omega (arith, w, e) in
+          before b e (get_or es b x, there b x within, between m b d y (get_or es b x) x at_m (there b x within) at (omega (arith, e, further)) (omega (arith, e)) n is named)
+
+      near_before : (m : ℕ) (y : Entry) → slice_get es m ≡ Some y → ranked_name y ≡ n → m + 1 < d → ⊥
+      near_before m y at_m is further = at_last d refl
+        where
+          at_last : (k : ℕ) → k ≡ d → ⊥
+          at_last zero e = omega (arith, e, further)
+          at_last (suc b) e = at_before m b y at_m is further (let f : b + 1 ≡ d = omega (arith, e) in f)
+
+-- ---- the one entry of a name
+
+module _ (es : List Entry) (name : List ℕ) (sign : Sign) where
+  pub sole_is : (r : ℕ) → ((kind : Kind) → is_wanted sign kind ≡ true → rank kind ≡ r) → (d : ℕ) → IsFound ranked_name es (record { name = name; rank = r }) d → IsSole es name sign d
+  sole_is r of_rank d found = record {
+    entry = found.item;
+    at = found.at;
+    named = ap (λ (k : RankedName). k.name) found.has_key;
+    only = λ m e at named wanted. found.only m e at (named_is e name r named (of_rank e.kind wanted));
+  }
+
+  module _ (d : ℕ) (sole : IsSole es name sign d) (k : ℕ) where
+    pub not_there : slice_get es d ≡ None → HasNoEntry es name sign k
+    not_there none = absurd (none-some sole.entry (sym none ∙ sole.at))
+
+    module _ (e : Entry) (at : slice_get es d ≡ Some e) where
+      same : (m : ℕ) (x : Entry) → slice_get es m ≡ Some x → x.name ≡ name → is_wanted sign x.kind ≡ true → x ≡ e
+      same m x is named wanted = same_Some x e (sym is ∙ ap (slice_get es) (sole.only m x is named wanted) ∙ at)
+
+      pub elsewhere : (e.space ≡ k → ⊥) → HasNoEntry es name sign k
+      elsewhere other m x is fits =
+          let (space, named, wanted) = parts_fit name sign k x fits in
+          other (ap (λ (e : Entry). e.space) (sym (same m x is named wanted)) ∙ space)
+
+      pub of_other : (is_wanted sign e.kind ≡ true → ⊥) → HasNoEntry es name sign k
+      of_other other m x is fits =
+          let (space, named, wanted) = parts_fit name sign k x fits in
+          other (ap (λ (e : Entry). is_wanted sign e.kind) (sym (same m x is named wanted)) ∙ wanted)
+
+      pub found_there : e.space ≡ k → is_wanted sign e.kind ≡ true → IsEntryAt es name sign k d
+      found_there space wanted = record {
+        entry = e;
+        at = at;
+        fits = they_fit name sign k e space (ap (λ (e : Entry). e.name) (same_Some e sole.entry (sym at ∙ sole.at)) ∙ sole.named) wanted;
+        only = λ m x is fits. let (s, named, w) = parts_fit name sign k x fits in sole.only m x is named w;
+      }
+
+pub soles : (es : List Entry) (name : List ℕ) (sign : Sign) (r : ℕ) → ((kind : Kind) → is_wanted sign kind ≡ true → rank kind ≡ r) → (o : Option ℕ)
+    → IfSome o (IsFound ranked_name es (record { name = name; rank = r })) → IfSome o (IsSole es name sign)
+soles es name sign r of_rank None f = tt
+soles es name sign r of_rank (Some d) f = sole_is es name sign r of_rank d f
+
+pub named_there : (es : List Entry) (name : List ℕ) (r d : ℕ) (e : Entry) → slice_get es d ≡ Some e → rank e.kind ≡ r → e.name ≡ name → IsNamedAt es (record { name = name; rank = r }) d
+named_there es name r d e at of_rank named = (e, at, named_is e name r named of_rank)
+
+pub name_there : (es : List Entry) (k : RankedName) (d : ℕ) (e : Entry) → slice_get es d ≡ Some e → IsNamedAt es k d → ranked_name e ≡ k
+name_there es k d e at (x, is, named) = ap ranked_name (same_Some e x (sym at ∙ is)) ∙ named
+
+pub at_got : (es : List Entry) (d : ℕ) (e : Entry) → d < length es → e ≡ get_or es d e → slice_get es d ≡ Some e
+at_got es d e within is = slice_get-get_or es d e within ∙ ap Some (sym is)
+
+pub its_name : (es : List Entry) (name : List ℕ) (r d : ℕ) (e : Entry) → slice_get es d ≡ Some e → IsNamedAt es (record { name = name; rank = r }) d → e.name ≡ name
+its_name es name r d e at there = ap (λ (k : RankedName). k.name) (name_there es (record { name = name; rank = r }) d e at there)
+
+pub its_rank : (es : List Entry) (name : List ℕ) (r d : ℕ) (e : Entry) → slice_get es d ≡ Some e → IsNamedAt es (record { name = name; rank = r }) d → rank e.kind ≡ r
+its_rank es name r d e at there = ap (λ (k : RankedName). k.rank) (name_there es (record { name = name; rank = r }) d e at there)

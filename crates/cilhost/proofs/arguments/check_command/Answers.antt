@@ -1,0 +1,18 @@
+use Rattle.std.proofs.Common.{ap, ap₂, false, ◌≡◌, ◌∙◌}
+use Rattle.std.specs.Prelude.{◌||◌}
+use Rattle.std.proofs.lemmas.Result.{IfOk-weaker}
+use Rattle.clap.specs.Simple.{app_of_fields, with_rule}
+use Rattle.clap.specs.declared.builder.command.Command.TheOpen.{Command-F}
+use Rattle.clap.specs.declared.builder.command.Command.{Command}
+use Rattle.clap.specs.declared.builder.command.Command.TheViews.{out-Command}
+use Rattle.cilhost.proofs.arguments.check_command.Goals as goal
+
+pub returns : goal.returns
+returns c =
+    let before : (out-Command c.after_long_help.result).has_globals ≡ false = ap (λ (f : Command-F Command). f.has_globals) c.after_long_help.ensures
+    ∙ ap (λ (f : Command-F Command). f.has_globals) c.long_about.ensures ∙ ap (λ (f : Command-F Command). f.has_globals) c.about.ensures ∙ c.new.ensures.local in
+    let described = ap app_of_fields c.after_long_help.ensures ∙ ap app_of_fields c.long_about.ensures ∙ ap app_of_fields c.about.ensures ∙ c.new.ensures.app in
+    IfOk-weaker c.arg.result _ _ (λ m adds. record {
+      is_app = adds.shape c.file_argument.ensures.local ∙ ap₂ with_rule described c.file_argument.ensures.rule;
+      local = adds.globals ∙ ap₂ (λ a b. a || b) before c.file_argument.ensures.local;
+    }) c.arg.ensures
