@@ -357,22 +357,24 @@ fn a_search_writes_each_fault_at_its_place(rt: HostRuntime) {
     }
 }
 
-/// Whether a search had no memory: before it wrote, for the output, or for its message, which are in memory too.
-fn is_short(left: &Left) -> bool {
+/// Whether a search had no memory: before it wrote, for the output, or for its message, of which it then wrote a front.
+fn is_short(left: &Left, message: &str) -> bool {
     left.status == Status::NoMemory
         || left.status == Status::Failed
-        || (left.status == Status::Refused && left.messages.is_empty())
+        || (left.status == Status::Refused
+            && left.output.as_slice() == FAULTY_LINES.as_bytes()
+            && message.as_bytes().starts_with(left.messages.as_slice()))
 }
 
 /// Passes with every growth allowed, and with any one of them refused: the search then says that there is no memory, and one that
 /// is begun anew ends well.
 #[test]
 fn a_refused_growth_of_a_search_is_told(rt: HostRuntime) {
-    let files = ["good.cil", "faulty.cil"];
+    let files = ["empty.cil", "faulty.cil"];
     let message = "cilhost: 1 fault in 1 of 2 files\n";
     let left = located(rt.alloc(), FILLED, &files);
     if !left.is(Status::Refused, FAULTY_LINES, message) {
-        assert!(rt; is_short(&left));
+        assert!(rt; is_short(&left, message));
         assert!(rt; located(rt.alloc(), FILLED, &files).is(Status::Refused, FAULTY_LINES, message));
     }
 }
