@@ -181,6 +181,26 @@ def parameter_copies(size):
     return [f"(macro m({ones})" + "(optional a)" * (size // 16) + ")"]
 
 
+def constraints(size):
+    """Constraints of one word. They are not supported yet (22), and are read as texts alone."""
+    return filled(size, "", "(constrain a(b))", "")
+
+
+def alike_heads(size):
+    """Constraints that begin like several comparisons, up to the last word. They are not supported yet (22)."""
+    return filled(size, "", "(mlsconstrain a(dom r1 r1))", "")
+
+
+def branches(size):
+    """Branches without statements. They are not supported yet (22)."""
+    return filled(size, "", "(booleanif b(true)(false))", "")
+
+
+def deep_sets(size):
+    """Rules whose permissions are 120 lists in one another."""
+    return filled(size, "(class c(e))(type b)", f"(allow b b(c{'(' * 120}e{')' * 120}))", "")
+
+
 # ---- modules
 
 def modules(size):
@@ -557,6 +577,8 @@ FORMS = {
     "strings": (strings, LONGEST, load), "long-word": (long_word, LONGEST, load), "comment": (comment, LONGEST, load),
     "long-path": (long_path, LONGEST, load), "set-aside": (set_aside, ALL, load),
     "shape-faults": (shape_faults, ALL, load), "deep-shape-faults": (deep_shape_faults, LONGEST, load),
+    "constraints": (constraints, 6_400_000, load), "alike-heads": (alike_heads, LONGEST, load),
+    "branches": (branches, 2_600_000, load), "deep-sets": (deep_sets, LONGEST, load),
     "parameters": (parameters, LONGEST, load), "parameter-names": (parameter_names, LONGEST, load),
     "parameter-copies": (parameter_copies, LONGEST, load),
     "modules": (modules, 14_000_000, load), "bundle": (rising_modules, ALL, bundle), "lists": (words, ALL, lists),

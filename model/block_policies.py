@@ -3,6 +3,7 @@ import copy
 import itertools
 
 import shapes
+import table
 from contents import Contents
 from faults import Refused
 from instances import Instances
@@ -30,7 +31,7 @@ KINDS = [b"type", b"type", b"type", b"role", b"user", b"class", b"class", b"name
 WRONG_ARGUMENTS = [Quoted(b"a"), Quoted(b""), b"all", b"self", b"1x", b"a..b", b".", [], [b"a"], [[b"a"], Quoted(b"b")]]
 NOWHERE = [b"nobody", b"k.a", b".k", b"l.l.a", b"a.k"]
 RULES = {b"roletype": (b"role", b"type"), b"userrole": (b"user", b"role")}
-WORDS = [*FLAT, *sorted(shapes.IN_BLOCKS), b"call", b"optional", b"filecon", *LATER, *UNKNOWN]
+WORDS = [*FLAT, *sorted(table.ACCEPTED.statements & table.BLOCK_ROWS.keys()), b"call", b"optional", b"filecon", *LATER, *UNKNOWN]
 
 MOST_MENDINGS = 12
 
@@ -352,7 +353,7 @@ class Draft:
     def add_set_aside(self):
         spot = self.spot(may_be_macro=self.goes_wrong("shapes"))
         items = [b"a", b"self", b"1x", Quoted(b"/x(.*)?"), [], [b"type", b"a"], [[b"block"]]]
-        keyword = self.rng.choice(sorted(shapes.SET_ASIDE))
+        keyword = self.rng.choice(sorted(table.SET_ASIDE))
         spot.body.append([keyword, *self.rng.sample(items, self.rng.randrange(3))])
 
     # ---- whole policies

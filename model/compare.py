@@ -14,15 +14,17 @@ import sys
 
 import block_sessions
 import flat_sessions
+import form_sessions
 import model
 import optional_sessions
+import table
 
 KINDS = {
     each.__name__: each
     for each in (
         flat_sessions.policies, flat_sessions.faults, flat_sessions.shapes, block_sessions.blocks,
         flat_sessions.texts, flat_sessions.bundles, flat_sessions.lines, flat_sessions.long_texts,
-        optional_sessions.optionals,
+        optional_sessions.optionals, form_sessions.forms,
     )
 }
 
@@ -42,9 +44,9 @@ def answer(program, parts):
     return ran.stdout, ran.returncode, ran.stderr
 
 
-def wanted(parts):
+def wanted(language, parts):
     """The replies of the model, one by one, and the exit status."""
-    return model.run(b"".join(parts), model.Host())
+    return model.run(b"".join(parts), model.Host(language))
 
 
 def is_alike(answered, replies, status):
@@ -67,22 +69,22 @@ def end_of(reply, given, at):
     return at + len(b"\n".join(lines)) if lines[0] == first and reply.is_right(lines[1:]) else None
 
 
-def cut_down(program, parts):
+def cut_down(program, language, parts):
     """The parts that are left when each that does not matter has been taken out."""
     at = 0
     while at < len(parts):
         fewer = parts[:at] + parts[at + 1:]
-        if is_alike(answer(program, fewer), *wanted(fewer)):
+        if is_alike(answer(program, fewer), *wanted(language, fewer)):
             at += 1
         else:
             parts = fewer
     return parts
 
 
-def told(program, kind, number):
+def told(program, language, kind, number):
     """What is printed of a session that differs."""
-    parts = cut_down(program, session(kind, number))
-    replies, status = wanted(parts)
+    parts = cut_down(program, language, session(kind, number))
+    replies, status = wanted(language, parts)
     return "\n".join([
         f"{kind} {number} differs: {b''.join(parts)!r}",
         f"    the program has {answer(program, parts)!r}",
@@ -92,11 +94,11 @@ def told(program, kind, number):
 
 def run_some(given):
     """Runs some sessions: what the model replied to loads and queries, counted, and the first session that differs."""
-    program, kind, numbers = given
+    program, language, kind, numbers = given
     counts = collections.Counter()
     for number in numbers:
         parts = session(kind, number)
-        replies, status = wanted(parts)
+        replies, status = wanted(language, parts)
         counts.update(replies_counted(b"".join(replies)))
         if program and not is_alike(answer(program, parts), replies, status):
             return counts, number
@@ -122,11 +124,13 @@ def replies_counted(replies):
                 yield "optionals, " + line.split(b" ")[4].decode()
 
 
-def run_all(program, kind, numbers, jobs):
+def run_all(given, kind, numbers):
     """Runs sessions of a kind up to the first that differs: the counts, and that session's number or nothing."""
-    some = [(program, kind, numbers[at:at + AT_A_TIME]) for at in range(0, len(numbers), AT_A_TIME)]
+    some = [
+        (given.program, given.language, kind, numbers[at:at + AT_A_TIME]) for at in range(0, len(numbers), AT_A_TIME)
+    ]
     counts = collections.Counter()
-    with multiprocessing.Pool(jobs) as pool:
+    with multiprocessing.Pool(given.jobs) as pool:
         for counted, different in pool.imap(run_some, some):
             counts += counted
             if different is not None:
@@ -134,10 +138,10 @@ def run_all(program, kind, numbers, jobs):
     return counts, None
 
 
-def are_alike(program, kind, numbers, jobs):
-    counts, different = run_all(program, kind, numbers, jobs)
+def are_alike(given, kind, numbers):
+    counts, different = run_all(given, kind, numbers)
     if different is not None:
-        print(told(program, kind, different))
+        print(told(given.program, given.language, kind, different))
         return False
     refused = counts["loads refused"]
     loads = refused + counts["loads accepted"]
@@ -145,8 +149,8 @@ def are_alike(program, kind, numbers, jobs):
     return True
 
 
-def print_census(kind, numbers, jobs):
-    counts, _ = run_all(None, kind, numbers, jobs)
+def print_census(given, kind, numbers):
+    counts, _ = run_all(given, kind, numbers)
     print(f"{kind}: {len(numbers)} sessions")
     for told_of, count in sorted(counts.items()):
         print(f"    {told_of}: {count}")
@@ -154,7 +158,7 @@ def print_census(kind, numbers, jobs):
 
 def arguments():
     parser = argparse.ArgumentParser(
-        usage="%(prog)s [--jobs JOBS] {PROGRAM | --census} [KIND [COUNT [FIRST]]]",
+        usage="%(prog)s [--jobs JOBS] [--whole] {PROGRAM | --census} [KIND [COUNT [FIRST]]]",
         description="Runs random sessions through the program and through the model, and compares their answers.",
         epilog="Kinds of sessions: " + "; ".join(f"{kind}: {made.__doc__}" for kind, made in KINDS.items()),
     )
@@ -162,15 +166,19 @@ def arguments():
                         " without it. COUNT is how many sessions of a kind (200; of long_texts, among all kinds, a"
                         " twentieth). FIRST is the number of the first; one number is one session (0).")
     parser.add_argument("--census", action="store_true", help="counts what the model replies, without the program")
+    parser.add_argument("--whole", action="store_true", help="the whole language is accepted, for sessions of forms")
     parser.add_argument("--jobs", type=int, default=1, help="how many processes run sessions at a time (1)")
     given = parser.parse_intermixed_args()
     words = given.words if given.census else given.words[1:]
     if len(words) > 3 or not (given.census or given.words):
         parser.error("PROGRAM or --census is wanted, and at most KIND, COUNT and FIRST after it")
     given.program = None if given.census else given.words[0]
+    given.language = table.WHOLE if given.whole else table.ACCEPTED
     given.kind = words[0] if words else "all"
     if given.kind not in KINDS and given.kind != "all":
         parser.error(f"there is no kind {given.kind}")
+    if given.whole and given.kind != "forms":
+        parser.error("--whole is for sessions of the kind forms")
     if not all(word.isdecimal() for word in words[1:]):
         parser.error("COUNT and FIRST are numbers")
     given.count, given.first = (int(word) for word in (*words[1:], *[str(USUAL_COUNT), "0"][len(words[1:]):]))
@@ -188,9 +196,9 @@ def main():
     for kind, count in counts.items():
         numbers = range(given.first, given.first + count)
         if given.census:
-            print_census(kind, numbers, given.jobs)
+            print_census(given, kind, numbers)
         else:
-            is_alike &= are_alike(given.program, kind, numbers, given.jobs)
+            is_alike &= are_alike(given, kind, numbers)
     sys.exit(0 if is_alike else 1)
 
 

@@ -1,12 +1,18 @@
 #!/usr/bin/env python3
 """Runs the worked examples of the rules on the model. Status: 0 all are answered as the rules say, 1 one is not.
 
-Each example is its modules, and the requests with the replies that the rules give for them. With --long there are also
-examples of nearly a million instances, which take minutes.
+Each example is its modules, and the requests with the replies that the rules give for them. The forms of statements are
+those of scripts/forms.txt, with their faults. With --long there are also examples of nearly a million instances, which
+take minutes.
 """
+import pathlib
 import sys
 
 import model
+import shapes
+import table
+from faults import Refused
+from texts import read
 
 FIRST = (
     b"(class file (open read))(user u)(role r)(type a)(type b)(userrole u r)(roletype r a)(roletype r b)"
@@ -167,6 +173,27 @@ def are_reasons(text, lines):
     return host.why().is_right(lines)
 
 
+def forms():
+    """The statements of scripts/forms.txt with their faults, and what of the language is accepted there."""
+    off = table.ACCEPTED._replace(statements=table.WHOLE.statements)
+    language = off
+    path = pathlib.Path(__file__).resolve().parent.parent / "scripts/forms.txt"
+    for line in path.read_text("utf-8").splitlines():
+        if line.startswith("#"):
+            language = table.ACCEPTED if line == "# later" else off
+        elif line:
+            end = line.rindex(")") + 1
+            yield line[:end], sorted(line[end:].split()), language
+
+
+def faults_of_form(text, language):
+    try:
+        shapes.written([read(text.encode())], language)
+    except Refused as refusal:
+        return sorted("%d@%d:%s" % (code, at, word.decode()) for code, _, at, _, word in refusal.faults)
+    return []
+
+
 def main():
     examples = EXAMPLES + (LONG if sys.argv[1:] == ["--long"] else [])
     wrong = 0
@@ -180,7 +207,13 @@ def main():
         if are_reasons(text, lines) != is_right:
             wrong += 1
             print(f"reasons, {shown}: the rules have {is_right}, the model has {are_reasons(text, lines)}")
-    print(f"{len(examples) + len(REASONS)} examples, {wrong} wrong")
+    all_forms = list(forms())
+    for text, wanted, language in all_forms:
+        found = faults_of_form(text, language)
+        if found != wanted:
+            wrong += 1
+            print(f"{text}: the rules have {wanted}, the model has {found}")
+    print(f"{len(examples) + len(REASONS)} examples and {len(all_forms)} forms, {wrong} wrong")
     sys.exit(1 if wrong else 0)
 
 

@@ -3,7 +3,8 @@ import collections
 
 from contents import MOST_INSTANCES, joined_scope, paths
 from faults import TOO_MANY, Refused, fault, stop_at
-from shapes import PLAIN_KINDS, declaring
+from shapes import declaring
+from table import PLAIN_KINDS
 from texts import RESERVED, is_path
 
 # A word that is looked up: what it wants, where it is written, its bytes, and its scope.

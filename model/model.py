@@ -1,8 +1,8 @@
 #!/usr/bin/env python3
 """The rules of `cilhost session` once more, for comparing: `model.py [FILE...]` answers a session as the program does.
 
-It was written from the rules alone, by somebody who had not read the program. It is plain and slow, it keeps everything
-in memory, and nothing in it is proved. Statements and requests that are not supported yet are refused here too.
+It was written from the rules; README.md says by whom. It is plain and slow, it keeps everything in memory, and nothing in
+it is proved. Statements and requests that are not supported yet are refused here too.
 """
 import hashlib
 import re
@@ -11,6 +11,7 @@ import sys
 from faults import Refused
 from optionals import place_of
 from policy import Policy
+from table import ACCEPTED
 from texts import LONGEST_TEXT, Unreadable, read
 
 LONGEST_LINE = 4096
@@ -59,10 +60,10 @@ def bundled(bundle):
 
 
 class Host:
-    """The trees of the installed modules by their texts, and the loaded policy."""
+    """The trees of the installed modules by their texts, and the loaded policy; and what it accepts of the language."""
 
-    def __init__(self):
-        self.modules = {}
+    def __init__(self, language=ACCEPTED):
+        self.modules, self.language = {}, language
         self.policy = None
 
     def install(self, text):
@@ -94,7 +95,7 @@ class Host:
 
     def load(self):
         try:
-            self.policy = Policy([self.modules[text] for text in sorted(self.modules)])
+            self.policy = Policy([self.modules[text] for text in sorted(self.modules)], self.language)
         except Refused as refusal:
             lines = [b"%d %d %d %s %s" % each for each in refusal.faults]
             return b"\n".join([b"FAULTS %d" % len(lines), *lines])

@@ -1,7 +1,10 @@
 """Random policies with optionals, in texts, blocks, macros and other optionals."""
 from block_policies import BASE_TYPES, MACROS, MARKS, NOWHERE, RULES, Draft, Spot, odd_contents, statements_of
 from pieces import Quoted, often
-from shapes import ANYWHERE
+from table import ACCEPTED, BLOCK_ROWS, SET_ASIDE
+
+# Statements that may be put into optionals.
+MOVABLE = ACCEPTED.statements - SET_ASIDE - BLOCK_ROWS.keys()
 
 LABELS = [b"o", b"o", b"p", b"a", b"m"]
 
@@ -237,7 +240,7 @@ class OptionalDraft(Draft):
         found = [
             (body, each)
             for module in self.modules if module.is_open
-            for body, each in statements_of(module.statements) if each[0] in ANYWHERE
+            for body, each in statements_of(module.statements) if each[0] in MOVABLE
         ]
         for body, chosen in self.rng.sample(found, min(len(found), self.rng.randrange(5))):
             label = self.rng.choice(LABELS)

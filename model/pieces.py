@@ -1,11 +1,11 @@
 """Random pieces of texts and of requests. A statement is a list of words, of strings and of lists."""
-import shapes
+import table
 from texts import RESERVED
 
 BLANK = [b" ", b"\t", b"\n", b"\r"]
 NAMES = [b"a", b"b", b"c", b"_", b"a-b", b"A", b"file", b"process", b"type", b"in", b"object_r"]
 PERMISSIONS = [b"read", b"open", b"write", b"Read", b"_x", b"a-", b"aa"]
-LATER = sorted(shapes.REFUSED)
+LATER = sorted(table.LEFT_OUT | table.WHOLE.statements - table.ACCEPTED.statements)
 FLAT = [b"allow", b"class", b"role", b"roletype", b"type", b"user", b"userrole"]
 UNKNOWN = [b"foo", b"Type", b"types", b"allows", b"typ", b"inn", b"1type", b".type", b"-", b"attribute"]
 ODD = [

@@ -5,6 +5,7 @@ from instances import Instances
 from names import OBJECT_ROLE, Names, content, declared_fault, names_of_all
 from optionals import Optionals
 from shapes import written
+from table import ACCEPTED
 
 MOST_PERMISSIONS = 32
 
@@ -12,8 +13,8 @@ MOST_PERMISSIONS = 32
 class Policy:
     """What trees of modules say, by printed names; or the faults of the first step that has some."""
 
-    def __init__(self, trees):
-        instances = Instances(Contents(written(trees)))
+    def __init__(self, trees, language=ACCEPTED):
+        instances = Instances(Contents(written(trees, language)))
         names_of_all(instances)
         self.optionals = Optionals(instances)
         names = Names(instances, self.optionals.enabled)

@@ -12,6 +12,7 @@ use Rattle.cil_blocks.specs.Contents.{Standing}
 use Rattle.cil_blocks.specs.Entries.{standings_of}
 use Rattle.cil_blocks.specs.Namespaces.{IsNumber, space_at}
 use Rattle.cil_blocks.specs.Numbers.{AreWithin, chain_numbers, with_numbers}
+use Rattle.cil_syntax.specs.Depths.{AreShallow}
 use Rattle.cil_blocks.specs.Reports.{AreContents}
 
 -- a namespace, and those in which words are looked up, by their numbers
@@ -105,4 +106,5 @@ places_in s = s.3
 
 pub record AreStandings (s : Standings) : Type 0 where
   pub contents : AreContents (statements_in s) (entries_in s)
+  pub shallow : AreShallow (statements_in s)
   pub places : ArePlaces (program_of (statements_in s)) (entries_in s) (spaces_in s) (places_in s)

@@ -25,7 +25,7 @@ impl Model for ScopeList {
 
 impl ScopeList {
     ghost use Rattle.std.specs.Prelude.{◌≡◌, ◌++◌, ◌∷◌, ◌==◌, [], OnErr, OnOk, false};
-    ghost use Rattle.std.specs.List.{list_any};
+    ghost use Rattle.std.specs.List.{IsDistinct, list_any};
     ghost use Rattle.cil_blocks.specs.Numbers.{AreGoneUp, chain_numbers, with_number, with_numbers};
 
     /// No namespaces.
@@ -42,6 +42,21 @@ impl ScopeList {
         ensures { result.now ≡ self.now }
     {
         self.numbers.as_slice()
+    }
+
+    /// Whether the namespace of a number is among them. It costs a hash.
+    pub fn contains(&self, number: usize) -> bool
+        ensures { result ≡ list_any (λ k. number == k) self.now }
+    {
+        self.numbers.contains(&number)
+    }
+
+    /// Each number is there once. The call does nothing.
+    pub fn are_apart(&self)
+        ensures { IsDistinct (λ j k. j == k) self.now }
+    {
+        // What is known of the set.
+        self.numbers.len();
     }
 
     /// Takes all numbers out. Their memory is kept.

@@ -11,13 +11,14 @@ use Rattle.cil_faults.specs.declared.spot.Spot.{Spot}
 use Rattle.cil_syntax.specs.declared.term.Word.{Word}
 use Rattle.cil_syntax.specs.Terms.{Term, Leaf, Form, nil, cons}
 use Rattle.cil_names.specs.Declarations.{Symbol, name_of}
-use Rattle.cil_macros.specs.Item.{Item, OptSet, words_in}
+use Rattle.cil_macros.specs.Item.{Item, OptSet, all_words_in}
 use Rattle.cil_syntax.specs.Scopes.{ScopedWord}
-use Rattle.cil_names.specs.Resolves.{has_permission}
+use Rattle.cil_names.specs.Resolves.{Permission as APermission, Word as AWord, has_permission, wanted_in}
 use Rattle.cil_names.specs.declared.known.Known.{Known}
 use Rattle.cil_classes.specs.declared.row.Class.{Class}
 use Rattle.cil_classes.specs.ClassRows.{AreClasses}
-use Rattle.cil_names.specs.Known.{BeginWith, IsNumberFor, StandsForNothing, meant_in}
+use Rattle.cil_names.specs.Known.{BeginWith, IsNumberFor, StandsForNothing, enabled_in, meant_in}
+use Rattle.cil_names.specs.PermissionWords.{wanted_meaning}
 use Rattle.cil_names.specs.Members.{StandsFor}
 use Rattle.cil_classes.specs.Pairs.{HasPair, of_class, names_of}
 use Rattle.cil_classes.specs.Masks.{GivesNothing, IsGiven, IsMaskFor}
@@ -27,17 +28,19 @@ use Rattle.cil_classes.proofs.MaskLemmas.{has_bit}
 
 -- ---- the class word
 
-class_leaves : (at : Spot) (w : Word) (e : Term Word) → words_in (Form at ops.ClassPermissions (cons (Leaf w) (cons e nil))) ≡ w ∷ words_in e ++ []
-unfolding words_in
-class_leaves at w e = refl
+class_wanted : (at : Spot) (w : ScopedWord) (e : Term ScopedWord)
+    → wanted_in (Form at ops.ClassPermissions (cons (Leaf w) (cons e nil))) ≡ AWord w ∷ map (APermission w) (all_words_in (cons e nil))
+unfolding wanted_in
+class_wanted at w e = refl
 
 -- the first meaning is that of the class word
-pub class_means : (k : Known) (f : Word → ScopedWord) (said : Term Word) (word : Word) (expression : Term Word) → IsClassForm said word expression → (words : List (Option ℕ))
-    → BeginWith k f said words → (r : Option ℕ) → r ≡ get_or words 0 None → r ≡ meant_in k (f word)
-class_means k f said word expression form words begin r is =
+pub class_means : (k : Known) (xs : List Item) (f : Word → ScopedWord) (said : Term Word) (word : Word) (expression : Term Word) → IsClassForm said word expression → (words : List (Option ℕ))
+    → BeginWith k xs f said words → (r : Option ℕ) → r ≡ get_or words 0 None → r ≡ meant_in k (f word)
+class_means k xs f said word expression form words begin r is =
     is
     ∙ ap (λ ws. get_or ws 0 None) begin.are
-    ∙ ap (λ ls. get_or (map (λ w. meant_in k (f w)) ls ++ begin.more) 0 None) (ap words_in form.1 ∙ class_leaves form.0 word expression)
+    ∙ ap (λ ls. get_or (map (wanted_meaning k.lookup.namespaces.now k.lookup.names.now xs (enabled_in k)) ls ++ begin.more) 0 None)
+    (ap wanted_in (ap (across f) form.1 ∙ class_across f form.0 word expression) ∙ class_wanted form.0 (f word) (across f expression))
 
 -- ---- what is given
 

@@ -52,7 +52,7 @@ pub fn given_by<'a>(
     requires within { reading.now.at < length (items_in reading.now.instances.now) }
     requires rows { AreOrderlyRows classes.now }
     ensures { (xs : List Item) (names : kinds.Kind → List (List ℕ)) → IsKnown known.now xs names → AreClasses xs (enabled_in known.now) (names variants.Class) classes.now
-        → BeginWith known.now (word_at reading.now.instances.now reading.now.at) (said_of reading.now.«module» term.now) words.now
+        → BeginWith known.now xs (word_at reading.now.instances.now reading.now.at) (said_of reading.now.«module» term.now) words.now
         → MatchOption result (GivesNothing xs (enabled_in known.now) (term_with (word_at reading.now.instances.now reading.now.at) reading.now.«module» term.now))
         (λ r. IsGiven xs (enabled_in known.now) classes.now (term_with (word_at reading.now.instances.now reading.now.at) reading.now.«module» term.now) r.class r.mask) }
 {

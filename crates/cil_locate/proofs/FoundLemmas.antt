@@ -62,12 +62,12 @@ of_policy files modules (Accepted compiled order) texts is = record { modules = 
 -- ---- what is left of a writer
 
 no_memory : (f : Found) → IsEnd f ends.NoMemory → ⊥
-no_memory (Unreadable readings) e = let h = e.2 in cc
+no_memory (Unreadable readings) e = cc
 no_memory (Refused faults order) e = let h = e.2 in cc
 no_memory (Accepted compiled order) e = cc
 
 no_failure : (f : Found) → IsEnd f ends.WriteFailed → ⊥
-no_failure (Unreadable readings) e = let h = e.2 in cc
+no_failure (Unreadable readings) e = cc
 no_failure (Refused faults order) e = let h = e.2 in cc
 no_failure (Accepted compiled order) e = cc
 

@@ -1,4 +1,5 @@
 pub mod ByteLemmas
+pub mod CountLemmas
 pub mod FoundLemmas
 pub mod LineLemmas
 pub mod OrderLemmas

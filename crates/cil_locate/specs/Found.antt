@@ -1,9 +1,10 @@
 -- What is wrong with some files, and what is written of it. This project's profile.
-use Rattle.std.specs.Prelude.{◌≡◌, ℕ, Bool, if◌then◌else◌, List, [], ◌++◌, map, Option, Some}
+use Rattle.std.specs.Prelude.{◌≡◌, ℕ, Bool, if◌then◌else◌, List, [], ◌++◌, length, map, Option, Some}
 use Rattle.cil_faults.specs.declared.failure.Failure.TheVariants as failures
 use Rattle.cil_server.specs.Devices.{IsFront}
 use Rattle.cil_tables.specs.CompileAnswer.{IsCompiled}
 use Rattle.cil_tables.specs.CompileRefusal.{CompileFails}
+use Rattle.cil_locate.specs.Counts.{AreTold, unread}
 use Rattle.cil_locate.specs.Files.{AreOrigins, SourceFile}
 use Rattle.cil_locate.specs.Located.{faults_told, key_of, key_of_note, notes_told}
 use Rattle.cil_locate.specs.Order.{AreInOrder, Key}
@@ -44,10 +45,10 @@ found_text files optionals (found.Unreadable readings) = readings_told files rea
 found_text files optionals (found.Refused faults order) = faults_told files faults order.items
 found_text files optionals (found.Accepted compiled order) = if optionals then notes_told files compiled.reasons.items order.items else []
 
--- how the search ends where all was written
+-- how the search ends where all was written: how many faults were told, and of how many files
 abbrev pub IsEnd : Found → Located → Type 0
-IsEnd (found.Unreadable readings) end = (faults files : ℕ) × (end ≡ ends.Faults faults files)
-IsEnd (found.Refused faults order) end = (count files : ℕ) × (end ≡ ends.Faults count files)
+IsEnd (found.Unreadable readings) end = end ≡ ends.Faults (unread readings.items) (unread readings.items)
+IsEnd (found.Refused faults order) end = (files : ℕ) × AreTold order.items files × (end ≡ ends.Faults (length faults) files)
 IsEnd (found.Accepted compiled order) end = end ≡ ends.Accepted
 
 -- all of what was found was written behind what was there

@@ -1,6 +1,10 @@
 //! What is wrong with some files, before any of it is written.
 
-ghost use Rattle.std.specs.Prelude.{◌≡◌, ◌↔◌, IfOk, IsTrue};
+ghost use Rattle.std.specs.Prelude.{◌≡◌, ◌↔◌, IfOk, IsTrue, List};
+ghost use Rattle.std.specs.List.Sorted.{IsStrictlySortedBy};
+ghost use Rattle.cil_locate.specs.Counts.{AreTold, unread};
+ghost use Rattle.cil_locate.specs.Files.{SourceFile};
+ghost use Rattle.cil_locate.specs.Order.{told_cmp};
 ghost use Rattle.cil_locate.specs.Found.{IsEnd, IsFound, IsFoundOf};
 ghost use Rattle.cil_locate.specs.Readings.{AreAllRead, AreTexts};
 
@@ -32,6 +36,7 @@ pub(crate) enum Found {
 impl Found {
     /// How the search ends where all of it was written.
     pub(crate) fn end(&self) -> Located
+        requires { (files : List SourceFile) × IsFound files self.now }
         ensures { IsEnd self.now result }
     {
         match self {
@@ -94,7 +99,9 @@ fn are_all_read(faults: &[Option<ReadFault>]) -> bool
 }
 
 /// How many files have a fault.
-fn unreadable(faults: &[Option<ReadFault>]) -> usize {
+fn unreadable(faults: &[Option<ReadFault>]) -> usize
+    ensures { result ≡ unread faults.now }
+{
     let mut count = 0;
     for fault in faults {
         if fault.is_some() {
@@ -105,7 +112,10 @@ fn unreadable(faults: &[Option<ReadFault>]) -> usize {
 }
 
 /// How many files are told of, in this order.
-fn files_in(order: &[Told]) -> usize {
+fn files_in(order: &[Told]) -> usize
+    requires { IsStrictlySortedBy told_cmp order.now }
+    ensures { AreTold order.now result }
+{
     let (mut count, mut last) = (0, 0);
     for told in order {
         if told.origin != last {

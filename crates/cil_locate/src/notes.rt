@@ -40,7 +40,7 @@ pub(crate) fn put_notes<W: Sink>(
 )
     ensures { Tells output.old output.new (notes_told files.now lines.now order.now) }
 {
-    let mut last = Last::start(files);
+    let mut last = Last::start();
     for told in order {
         last = put_one(output, files, lines, *told, last);
     }

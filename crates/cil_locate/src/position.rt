@@ -1,6 +1,6 @@
 //! Where a byte is in a text.
 
-ghost use Rattle.std.specs.Prelude.{◌≡◌, ◌≤◌, length};
+ghost use Rattle.std.specs.Prelude.{◌≡◌, ◌≤◌, ℕ, List, length};
 ghost use Rattle.cil_locate.specs.Positions.{position_of};
 
 /// A place in a text, with the line that it is on.
@@ -16,10 +16,9 @@ pub(crate) struct Position {
 
 impl Position {
     /// The start of every text.
-    pub(crate) fn start(text: &[u8]) -> Position
-        ensures { result ≡ position_of text.now 0 }
+    pub(crate) fn start() -> Position
+        ensures { (text : List ℕ) → result ≡ position_of text 0 }
     {
-        let _ = text;
         Position {
             at: 0,
             newlines: 0,
@@ -35,7 +34,7 @@ impl Position {
         ensures { result ≡ position_of text.now at }
     {
         let from = if at < self.at {
-            Position::start(text)
+            Position::start()
         } else {
             self
         };

@@ -1,9 +1,9 @@
 //! The faults of a policy, written in an order.
 
-ghost use Rattle.std.specs.Prelude.{◌≡◌, ◌≤◌, [], length};
+ghost use Rattle.std.specs.Prelude.{◌≡◌, ◌≤◌, List, [], length};
 ghost use Rattle.std.specs.Option.{option_map};
 ghost use Rattle.cil_server.specs.Streams.{Tells};
-ghost use Rattle.cil_locate.specs.Files.{IsLast, file_at, text_at};
+ghost use Rattle.cil_locate.specs.Files.{IsLast, SourceFile, file_at, text_at};
 ghost use Rattle.cil_locate.specs.Lines.{place_in};
 ghost use Rattle.cil_locate.specs.Located.{faults_told, told_lines};
 ghost use Rattle.cil_locate.specs.Positions.{position_of};
@@ -26,13 +26,12 @@ pub(crate) struct Last {
 
 impl Last {
     /// Before all files.
-    pub(crate) fn start(files: &[File<'_>]) -> Last
-        ensures { IsLast files.now result }
+    pub(crate) fn start() -> Last
+        ensures { (files : List SourceFile) → IsLast files result }
     {
-        let _ = files;
         Last {
             origin: 0,
-            position: Position::start(&[]),
+            position: Position::start(),
         }
     }
 
@@ -48,7 +47,7 @@ impl Last {
         let from = if self.origin == origin {
             self.position
         } else {
-            Position::start(text)
+            Position::start()
         };
         Last {
             origin,
@@ -66,7 +65,7 @@ pub(crate) fn put_faults<W: Sink>(
 )
     ensures { Tells output.old output.new (faults_told files.now faults.now order.now) }
 {
-    let mut last = Last::start(files);
+    let mut last = Last::start();
     for told in order {
         last = put_told(output, files, faults, *told, last);
     }
@@ -129,6 +128,6 @@ fn put_file<W: Sink>(output: &mut Output<'_, W>, file: &File<'_>, fault: Option<
     };
     let text = file.text();
     let at = (fault.at as usize).min(text.len());
-    let position = Position::start(text).moved_to(text, at);
+    let position = Position::start().moved_to(text, at);
     put_reading(output, file.name(), text, position, fault);
 }

@@ -9,7 +9,7 @@ use Rattle.indexmap.specs.IndexSet.{contains}
 use Rattle.cil_base.specs.MadeLists.{contains_map, from_map}
 use Rattle.cil_base.specs.Places.{get_so, in_range, is_there}
 use Rattle.cil_base.specs.Rising.{tied_places}
-use Rattle.cil_base.specs.Searches.{any_from, any_true}
+use Rattle.cil_base.specs.Searches.{any_from, any_map, any_true}
 use Rattle.cil_syntax.specs.declared.kind.Kind.{Kind}
 use Rattle.cil_syntax.specs.declared.kind.Sign.{Sign}
 use Rattle.cil_syntax.specs.declared.program.Statement.{Statement}
@@ -223,7 +223,7 @@ module _ (ws : List Written) (d : Declared) (are : AreDeclared ws d) (number : �
       )
 
   -- the table has the name in some wanted kind exactly where the body declares it
-  pub asked_so : list_any has wanted ≡ declares ws (statement_at ws number) name.now sign
+  asked_so : list_any has wanted ≡ declares ws (statement_at ws number) name.now sign
   unfolding declares
   asked_so =
       both_ways (list_any has wanted) (list_any (λ v. is_in_body (statement_at ws number) v.context.macro && declares_name name.now sign v) ws)
@@ -237,8 +237,11 @@ module _ (ws : List Written) (d : Declared) (are : AreDeclared ws d) (number : �
       any_from has wanted kind.0 kind.1
       (are (number, kind.0, name) within ∙ any_from (is_declared_by ws (number, kind.0, name)) ws v.0 v.1 kind.2))
 
+  pub asked_in_kinds : list_any (λ kind. has (kind_number kind)) (kinds_of sign) ≡ declares ws (statement_at ws number) name.now sign
+  asked_in_kinds = sym (any_map kind_number has (kinds_of sign)) ∙ asked_so
+
 -- a step over the kinds
-module _ (f : ℕ → Bool) (ks : List ℕ) (i k d : ℕ) (within : i < length ks) (is : k ≡ get_or ks i d) where
+module _ (f : Kind → Bool) (ks : List Kind) (i : ℕ) (k d : Kind) (within : i < length ks) (is : k ≡ get_or ks i d) where
   next_kind : drop i ks ≡ k ∷ drop (i + 1) ks
   next_kind = drop-cons ks i d within ∙ ap (λ y. y ∷ drop (suc i) ks) (sym is) ∙ ap (λ n. k ∷ drop n ks) (let e : suc i ≡ i + 1 = omega arith in e)
 
@@ -248,7 +251,7 @@ module _ (f : ℕ → Bool) (ks : List ℕ) (i k d : ℕ) (within : i < length k
   pub kind_later : list_any f (drop i ks) ≡ list_any f ks → false ≡ f k → list_any f (drop (i + 1) ks) ≡ list_any f ks
   kind_later so e = ap (λ b. b || list_any f (drop (i + 1) ks)) e ∙ ap (list_any f) (sym next_kind) ∙ so
 
-pub no_kind_left : (f : ℕ → Bool) (ks : List ℕ) (i : ℕ) → length ks ≤ i → list_any f (drop i ks) ≡ list_any f ks → false ≡ list_any f ks
+pub no_kind_left : (f : Kind → Bool) (ks : List Kind) (i : ℕ) → length ks ≤ i → list_any f (drop i ks) ≡ list_any f ks → false ≡ list_any f ks
 no_kind_left f ks i over so = ap (list_any f) (sym (drop_all i ks over)) ∙ so
 
 -- all statements are taken

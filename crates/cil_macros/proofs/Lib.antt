@@ -8,6 +8,7 @@ pub mod CallWordLemmas
 pub mod CalledMacros
 pub mod ChainLemmas
 pub mod DeclaredLemmas
+pub mod DepthLemmas
 pub mod EntryLemmas
 pub mod ExpandLemmas
 pub mod FaultLemmas
@@ -28,6 +29,7 @@ pub mod PlacedLemmas
 pub mod PlacedWalk
 pub mod RoundLemmas
 pub mod SameParameters
+pub mod ScopeEndLemmas
 pub mod ScopeLemmas
 pub mod ServingLemmas
 pub mod TurnLemmas

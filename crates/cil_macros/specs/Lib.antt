@@ -2,6 +2,7 @@ pub mod Asked
 pub mod CallFaults
 pub mod Calls
 pub mod DeclaredInBodies
+pub mod Depths
 pub mod Entries
 pub mod ExpandFaults
 pub mod Firsts

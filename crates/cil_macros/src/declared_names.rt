@@ -2,8 +2,7 @@
 //! costs a hash for each declaration in a body, and for each declaration a step for each statement round it, 128 at
 //! most. A look-up costs a hash for each kind that a word may name, three at most.
 
-ghost use Rattle.std.specs.Prelude.{◌≡◌, ◌<◌, ◌≤◌, IfOk, MatchOption, length, map};
-ghost use Rattle.cil_syntax.specs.Kinds.{kind_number, kinds_of};
+ghost use Rattle.std.specs.Prelude.{◌≡◌, ◌<◌, ◌≤◌, IfOk, MatchOption, length};
 ghost use Rattle.cil_syntax.specs.Program.{IsNested, program_of};
 ghost use Rattle.cil_blocks.specs.Entries.{statement_at};
 ghost use Rattle.cil_blocks.specs.Named.{rank};
@@ -12,7 +11,7 @@ ghost use Rattle.cil_macros.specs.DeclaredInBodies.{AreDeclared, IsRound, macro_
 use crate::macros::is_macro_at;
 use cil_base::NoMemory;
 use cil_blocks::names::name_at;
-use cil_syntax::{Kind, Sign, Statement};
+use cil_syntax::{Sign, Statement};
 use indexmap::IndexSet;
 use std::alloc::Global;
 
@@ -49,8 +48,8 @@ impl<'a> Declared<'a> {
     pub fn has(&self, number: usize, name: &[u8], sign: Sign) -> bool
         ensures { (ws : List Written) → AreDeclared ws self.now → number < length ws → result ≡ declares ws (statement_at ws number) name.now sign }
     {
-        for kind in kinds_wanted(sign) {
-            if self.keys.contains(&(number, *kind, name)) {
+        for kind in sign.kinds() {
+            if self.keys.contains(&(number, kind.number(), name)) {
                 return true;
             }
         }
@@ -71,7 +70,7 @@ impl<'a> Declared<'a> {
             return Ok(());
         };
         self.keys
-            .insert((round, number_of(kind), name_at(statements, number)))?;
+            .insert((round, kind.number(), name_at(statements, number)))?;
         Ok(())
     }
 }
@@ -100,68 +99,5 @@ fn opener_of(statements: &[Statement], number: usize) -> Option<usize>
     match statements.get(number) {
         None => None,
         Some(statement) => statement.under,
-    }
-}
-
-/// The number of a kind.
-fn number_of(kind: Kind) -> u8
-    ensures { result ≡ kind_number kind }
-{
-    match kind {
-        Kind::Type_ => 0,
-        Kind::TypeAlias => 1,
-        Kind::TypeAttribute => 2,
-        Kind::Role => 3,
-        Kind::RoleAttribute => 4,
-        Kind::User => 5,
-        Kind::UserAttribute => 6,
-        Kind::Class => 7,
-        Kind::ClassMap => 8,
-        Kind::Block => 9,
-        Kind::Macro => 10,
-        Kind::Common => 11,
-        Kind::ClassPermission => 12,
-        Kind::Boolean => 13,
-        Kind::Sensitivity => 14,
-        Kind::SensitivityAlias => 15,
-        Kind::Category => 16,
-        Kind::CategoryAlias => 17,
-        Kind::CategorySet => 18,
-        Kind::Level => 19,
-        Kind::LevelRange => 20,
-    }
-}
-
-/// The numbers of the kinds that a word may name.
-fn kinds_wanted(sign: Sign) -> &'static [u8]
-    ensures { result.now ≡ map kind_number (kinds_of sign) }
-{
-    match sign {
-        Sign::Types => &[0, 1, 2],
-        Sign::PlainType => &[0, 1],
-        Sign::TypeAttributes => &[2],
-        Sign::TypeAliases => &[1],
-        Sign::Roles => &[3, 4],
-        Sign::PlainRole => &[3],
-        Sign::RoleAttributes => &[4],
-        Sign::Users => &[5, 6],
-        Sign::PlainUser => &[5],
-        Sign::UserAttributes => &[6],
-        Sign::Classes => &[7, 8],
-        Sign::PlainClass => &[7],
-        Sign::ClassMaps => &[8],
-        Sign::Commons => &[11],
-        Sign::ClassPermissions | Sign::NamedPermissions | Sign::MappedPermissions => &[12],
-        Sign::Booleans => &[13],
-        Sign::Sensitivities => &[14, 15],
-        Sign::SensitivityAliases => &[15],
-        Sign::Categories => &[16, 17],
-        Sign::CategoryAliases => &[17],
-        Sign::CategorySets => &[16, 17, 18],
-        Sign::Levels => &[19],
-        Sign::LevelRanges => &[20],
-        Sign::Blocks => &[9],
-        Sign::Macros => &[10],
-        Sign::Permission | Sign::Text | Sign::Unread => &[],
     }
 }

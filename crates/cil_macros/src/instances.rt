@@ -50,15 +50,17 @@ impl<'s, 'p, 'a> Model for Instances<'s, 'p, 'a> {
 }
 
 impl<'s, 'p, 'a> Instances<'s, 'p, 'a> {
-    ghost use Rattle.std.specs.Prelude.{◌≡◌, ◌↔◌, ◌+◌, ◌<◌, ◌≤◌, ◌∷◌, [], IfOk, IfSome, IsTrue, MatchOption, OnOk, Some, length, map, slice_get, true};
+    ghost use Rattle.std.specs.Prelude.{◌≡◌, ◌↔◌, ◌+◌, ◌<◌, ◌≤◌, ◌∷◌, [], ℕ, IfOk, IfSome, IsTrue, MatchOption, OnOk, Some, length, map, slice_get, true};
     ghost use Rattle.cil_base.specs.Lists.{Lists};
     ghost use Rattle.cil_syntax.specs.Program.{statement_of};
+    ghost use Rattle.cil_syntax.specs.Scopes.{EndsGlobally};
     ghost use Rattle.cil_blocks.specs.Entries.{statement_at};
     ghost use Rattle.cil_blocks.specs.Namespaces.{AreNamespaces, IsNumber};
     ghost use Rattle.cil_macros.specs.Items.{all_placed, item_at, items_in, leaves, namespaces_in, placed_at, scope_by, scoped_by, word_at};
     ghost use Rattle.cil_blocks.specs.InheritFaults.{most_instances};
     ghost use Rattle.cil_blocks.specs.Places.{entries_in};
     ghost use Rattle.cil_macros.specs.Calls.{IsPlaced, is_call, placed_cmp};
+    ghost use Rattle.cil_macros.specs.Depths.{ArePlacedShallow, AreShallowItems};
     ghost use Rattle.cil_macros.specs.Macros.{all_standing};
     ghost use Rattle.cil_macros.specs.Item.{innermost};
     ghost use Rattle.cil_macros.specs.Meant.{meant_term};
@@ -152,6 +154,19 @@ impl<'s, 'p, 'a> Instances<'s, 'p, 'a> {
     /// Each optional round a statement is an optional of these instances, and round it are the others. The call does nothing.
     pub fn are_nested(&self)
         ensures nested { AreNested (items_in self.now) }
+    {
+        let _ = &self.spaces;
+    }
+
+    /// Each scope ends with the global namespace, which is in it once. The call does nothing.
+    pub fn are_closed(&self)
+        ensures { (at : ℕ) → at < length (items_in self.now) → EndsGlobally (scope_by (all_placed self.now) (Some at)) }
+    {}
+
+    /// The terms of what is placed nest at most 127 deep, as it is written and with the arguments put in. The call does nothing.
+    pub fn are_shallow(&self)
+        ensures written { ArePlacedShallow (all_placed self.now) }
+        ensures items { AreShallowItems (items_in self.now) }
     {
         let _ = &self.spaces;
     }

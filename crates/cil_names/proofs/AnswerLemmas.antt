@@ -13,7 +13,8 @@ use Rattle.cil_syntax.specs.Scopes.{asked, spaces_asked, ScopedWord}
 use Rattle.std.proofs.Math.Bool.{or-false}
 use Rattle.cil_names.specs.declared.entry.Entry.{Entry}
 use Rattle.cil_blocks.specs.declared.namespaces.Space.{Space}
-use Rattle.cil_names.specs.Entries.{AreEntries, AreOrdered, IsAnswer, IsNamed, candidate, candidates_of, is_declared_at, is_declared_in, is_entry_of, is_in, by_name_cmp, key_of, listed, place_where, rank}
+use Rattle.cil_names.specs.Entries.{AreEntries, AreOrdered, IsAnswer, IsNamed, candidate, candidates_of, is_declared_at, is_declared_in, is_entry_of, is_in, by_name_cmp, key_of, listed, place_where}
+use Rattle.cil_syntax.specs.NameSpaces.{rank}
 use Rattle.cil_macros.specs.Item.{Item, OptSet}
 use Rattle.cil_names.specs.Resolves.{found_in, has}
 use Rattle.cil_syntax.specs.Kinds.{is_wanted, kind_number, kinds_of}
@@ -28,35 +29,13 @@ use Rattle.cil_blocks.proofs.NamespaceLemmas.{same_number}
 
 -- ---- the kinds of one word are of one name space
 
+-- the rank of the first of some kinds
+abbrev first_rank : List Kind → ℕ
+first_rank [] = 0
+first_rank (k ∷ ks) = rank k
+
 abbrev rank_for : Sign → ℕ
-rank_for signs.Types = 0
-rank_for signs.PlainType = 0
-rank_for signs.TypeAttributes = 0
-rank_for signs.TypeAliases = 0
-rank_for signs.Roles = 1
-rank_for signs.PlainRole = 1
-rank_for signs.RoleAttributes = 1
-rank_for signs.Users = 2
-rank_for signs.PlainUser = 2
-rank_for signs.UserAttributes = 2
-rank_for signs.Classes = 3
-rank_for signs.PlainClass = 3
-rank_for signs.ClassMaps = 3
-rank_for signs.Blocks = 4
-rank_for signs.Macros = 4
-rank_for signs.Commons = 5
-rank_for signs.ClassPermissions = 6
-rank_for signs.NamedPermissions = 6
-rank_for signs.MappedPermissions = 6
-rank_for signs.Booleans = 7
-rank_for signs.Sensitivities = 8
-rank_for signs.SensitivityAliases = 8
-rank_for signs.Categories = 9
-rank_for signs.CategoryAliases = 9
-rank_for signs.CategorySets = 9
-rank_for signs.Levels = 10
-rank_for signs.LevelRanges = 11
-rank_for sign = 0
+rank_for sign = first_rank (kinds_of sign)
 
 -- the kinds that a word may name, one by one
 ranked_alike : (sign : Sign) → list_all (λ k. nat_eq (rank k) (rank_for sign)) (kinds_of sign) ≡ true

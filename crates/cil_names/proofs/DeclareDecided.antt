@@ -2,38 +2,27 @@
 use Rattle.std.proofs.Common.{◌≡◌, ℕ, [], ◌∷◌, get_or, refl, ap}
 use Rattle.cil_base.specs.Decided.{Decided, by_number, decided_both, decided_same, same_list, same_text}
 use Rattle.cil_syntax.proofs.DecidedEquality.{kind_is, same_namespace, same_terms, sign_is}
-use Rattle.cil_names.specs.Declarations.{Bare, Declaration, NameSpace, Symbol, of_blocks, of_booleans, of_categories, of_class_permissions, of_classes, of_commons, of_level_ranges, of_levels, of_roles, of_sensitivities, of_types, of_users}
+use Rattle.cil_syntax.specs.declared.name_space.NameSpace.{NameSpace}
+use Rattle.cil_syntax.specs.declared.name_space.NameSpace.TheVariants as name_spaces
+use Rattle.cil_syntax.specs.NameSpaces.{rank_in}
+use Rattle.cil_names.specs.Declarations.{Bare, Declaration, Symbol}
 
 -- ---- name spaces, by their numbers
-
-unfoldable pub rank_from : NameSpace → ℕ
-rank_from of_types = 0
-rank_from of_roles = 1
-rank_from of_users = 2
-rank_from of_classes = 3
-rank_from of_blocks = 4
-rank_from of_commons = 5
-rank_from of_class_permissions = 6
-rank_from of_booleans = 7
-rank_from of_sensitivities = 8
-rank_from of_categories = 9
-rank_from of_levels = 10
-rank_from of_level_ranges = 11
 
 pub name_space_at : ℕ → NameSpace
 name_space_at n =
     get_or
-    (of_types ∷ of_roles ∷ of_users ∷ of_classes ∷ of_blocks ∷ of_commons ∷ of_class_permissions ∷ of_booleans ∷ of_sensitivities
-    ∷ of_categories ∷ of_levels ∷ of_level_ranges ∷ [])
-    n of_types
+    (name_spaces.Types ∷ name_spaces.Roles ∷ name_spaces.Users ∷ name_spaces.Classes ∷ name_spaces.Blocks ∷ name_spaces.Commons
+    ∷ name_spaces.ClassPermissions ∷ name_spaces.Booleans ∷ name_spaces.Sensitivities ∷ name_spaces.Categories ∷ name_spaces.Levels ∷ name_spaces.LevelRanges ∷ [])
+    n name_spaces.Types
 
-pub ranked_back : (n : NameSpace) → name_space_at (rank_from n) ≡ n
-unfolding rank_from name_space_at
-ranked_back of_types = refl
+pub ranked_back : (n : NameSpace) → name_space_at (rank_in n) ≡ n
+unfolding name_space_at
+ranked_back name_spaces.Types = refl
 ranked_back n = refl
 
 pub same_name_space : (a b : NameSpace) → Decided (a ≡ b)
-same_name_space = by_number rank_from name_space_at ranked_back
+same_name_space = by_number rank_in name_space_at ranked_back
 
 -- ---- symbols
 

@@ -10,7 +10,6 @@ use Rattle.cil_base.specs.Places.{get_at}
 use Rattle.cil_faults.specs.declared.code.FaultCode.TheVariants as causes
 use Rattle.cil_faults.specs.declared.fault.Fault.{Fault}
 use Rattle.cil_syntax.specs.declared.kind.Kind.{Kind}
-use Rattle.cil_syntax.specs.declared.kind.Kind.TheVariants as kinds
 use Rattle.cil_faults.specs.declared.spot.Spot.{Spot}
 use Rattle.cil_syntax.specs.Terms.{Name, Terms, cons}
 use Rattle.cil_faults.specs.Reported.{fault_at}
@@ -21,12 +20,14 @@ use Rattle.cil_macros.specs.Item.{Item, everybody}
 use Rattle.cil_macros.specs.Items.{Kept, item_at, items_in, namespaces_in}
 use Rattle.cil_names.specs.declared.row.Row.{Row}
 use Rattle.cil_names.specs.declared.run.Run.{Run}
-use Rattle.cil_names.specs.Declarations.{Declaration, declared_by, name_space, of_blocks}
+use Rattle.cil_names.specs.Declarations.{Declaration, declared_by}
 use Rattle.cil_names.specs.DeclareRows.{AreAlike, IsRowAt, TellsDiffering, declaration_of, is_row_enabled, object_row, round_at, row_key}
 use Rattle.cil_names.specs.DeclareRuns.{faults_at, faults_named, row_faults, run_faults, run_key}
-use Rattle.cil_names.specs.Entries.{Key, by_name_cmp, rank}
+use Rattle.cil_names.specs.Entries.{Key, by_name_cmp}
+use Rattle.cil_syntax.specs.declared.name_space.NameSpace.TheVariants as name_spaces
+use Rattle.cil_syntax.specs.NameSpaces.{name_space, rank, rank_in}
 use Rattle.cil_names.specs.Faults.{ClashFault, clash}
-use Rattle.cil_names.proofs.DeclareDecided.{name_space_at, rank_from, ranked_back, same_declaration}
+use Rattle.cil_names.proofs.DeclareDecided.{name_space_at, ranked_back, same_declaration}
 use Rattle.cil_names.proofs.DeclareDone.{AreRunsOf, declared_row, is_row, item_within, place_of, row_declared, run_of, space_within}
 use Rattle.cil_names.proofs.DeclareRowLemmas.{row_declares}
 use Rattle.cil_names.proofs.OrderLemmas.{key_total, one_key}
@@ -34,17 +35,12 @@ use Rattle.cil_base.proofs.SearchLemmas.{one_number}
 
 -- ---- name spaces and their numbers
 
-ranked : (k : Kind) → rank k ≡ rank_from (name_space k)
-unfolding rank_from
-ranked kinds.Type_ = refl
-ranked k = refl
-
 pub same_name_space : (j k : Kind) → rank j ≡ rank k → name_space j ≡ name_space k
 same_name_space j k e =
-    sym (ranked_back (name_space j)) ∙ ap name_space_at (sym (ranked j) ∙ e ∙ ranked k) ∙ ranked_back (name_space k)
+    sym (ranked_back (name_space j)) ∙ ap name_space_at e ∙ ranked_back (name_space k)
 
 same_rank : (j k : Kind) → name_space j ≡ name_space k → rank j ≡ rank k
-same_rank j k e = ranked j ∙ ap rank_from e ∙ sym (ranked k)
+same_rank j k e = ap rank_in e
 
 pub one_name_space : (a b : Row) → row_key a ≡ row_key b → name_space a.kind ≡ name_space b.kind
 one_name_space a b key = same_name_space a.kind b.kind (ap (λ (k : Key). k.rank) key)
@@ -92,12 +88,12 @@ alike_of i first rows b e tells = subst (TellsDiffering i first rows) e tells
 module _ (i : Kept) (rows : List Row) (runs : List Run) (of : AreRunsOf i rows runs) where
   -- in a run with rows that differ, what differs from one of them; they are of no block
   other_of : (run : Run) → Contains runs run → run.differing ≡ true → (r : Row) → Contains run.rows.now r
-      → (x : Row) × Contains run.rows.now x × (declaration_of i r ≡ declaration_of i x → ⊥) × (name_space r.kind ≡ of_blocks → ⊥)
+      → (x : Row) × Contains run.rows.now x × (declaration_of i r ≡ declaration_of i x → ⊥) × (name_space r.kind ≡ name_spaces.Blocks → ⊥)
   other_of run c d r in_run =
       let is_run = of.are.each run c in
       let (x, in_x, apart) = differing_of i run.first.now run.rows.now run.differing d is_run.tells in
-      let name_spaces = one_name_space r run.first.now (is_run.same r in_run) in
-      let no_block : name_space r.kind ≡ of_blocks → ⊥ = λ e. apart (inl (sym name_spaces ∙ e)) in
+      let one_space = one_name_space r run.first.now (is_run.same r in_run) in
+      let no_block : name_space r.kind ≡ name_spaces.Blocks → ⊥ = λ e. apart (inl (sym one_space ∙ e)) in
       elim (same_declaration (declaration_of i run.first.now) (declaration_of i r)) [
         | inl same ↦ (x, in_x, (λ e. apart (inr (same ∙ e))), no_block)
         | inr differ ↦ (run.first.now, is_run.first, (λ e. differ (sym e)), no_block)
@@ -158,7 +154,7 @@ module _ (i : Kept) (rows : List Row) (runs : List Run) (of : AreRunsOf i rows r
   unfolding run_faults
   in_faults run c e f d = contains_flat (run_faults i) runs run f c (fault_told run c run.differing refl f e d)
 
-  alike_as : (run : Run) → Contains runs run → run.differing ≡ false → (r : Row) → Contains run.rows.now r → (name_space r.kind ≡ of_blocks → ⊥)
+  alike_as : (run : Run) → Contains runs run → run.differing ≡ false → (r : Row) → Contains run.rows.now r → (name_space r.kind ≡ name_spaces.Blocks → ⊥)
       → declaration_of i run.first.now ≡ declaration_of i r
   alike_as run c e r in_r no_block =
       let is_run = of.are.each run c in
@@ -169,10 +165,10 @@ module _ (i : Kept) (rows : List Row) (runs : List Run) (of : AreRunsOf i rows r
 
   -- two rows of one name that differ and are of no block are of a run with rows that differ
   differs_at : (run : Run) → Contains runs run → (b : Bool) → run.differing ≡ b → (r x : Row) → Contains run.rows.now r → Contains run.rows.now x
-      → (name_space r.kind ≡ of_blocks → ⊥) → name_space r.kind ≡ name_space x.kind → (declaration_of i r ≡ declaration_of i x → ⊥) → run.differing ≡ true
-  differs_at run c true e r x in_r in_x no_block name_spaces apart = e
-  differs_at run c false e r x in_r in_x no_block name_spaces apart =
-      absurd (apart (sym (alike_as run c e r in_r no_block) ∙ alike_as run c e x in_x (λ block. no_block (name_spaces ∙ block))))
+      → (name_space r.kind ≡ name_spaces.Blocks → ⊥) → name_space r.kind ≡ name_space x.kind → (declaration_of i r ≡ declaration_of i x → ⊥) → run.differing ≡ true
+  differs_at run c true e r x in_r in_x no_block one_space apart = e
+  differs_at run c false e r x in_r in_x no_block one_space apart =
+      absurd (apart (sym (alike_as run c e r in_r no_block) ∙ alike_as run c e x in_x (λ block. no_block (one_space ∙ block))))
 
   -- the row of an instance in a run with rows that differ has the fault of the instance
   told_at : (run : Run) → Contains runs run → run.differing ≡ true → (r : Row) → Contains run.rows.now r → (k : ℕ) (at : IsRowAt i k r)
@@ -193,12 +189,12 @@ module _ (i : Kept) (rows : List Row) (runs : List Run) (of : AreRunsOf i rows r
       (space_within i r (is_row i rows runs of run r in_runs in_run)) (space_within i other (is_row i rows runs of bun other in_buns in_bun))
       (ap (λ (z : Declaration). z.space) is_d ∙ apart.one_namespace ∙ sym (ap (λ (z : Declaration). z.space) is_e)) in
       let called = ap (λ (z : Declaration). z.name) is_d ∙ apart.one_name ∙ sym (ap (λ (z : Declaration). z.name) is_e) in
-      let name_spaces : name_space r.kind ≡ name_space other.kind = ap (λ (z : Declaration). name_space z.kind) is_d ∙ apart.one_name_space ∙ sym (ap (λ (z : Declaration). name_space z.kind) is_e) in
-      let ranks = same_rank r.kind other.kind name_spaces in
+      let one_space : name_space r.kind ≡ name_space other.kind = ap (λ (z : Declaration). name_space z.kind) is_d ∙ apart.one_name_space ∙ sym (ap (λ (z : Declaration). name_space z.kind) is_e) in
+      let ranks = same_rank r.kind other.kind one_space in
       let key : row_key r ≡ row_key other = λ j. record { space = number j; name = called j; rank = ranks j } in
       let one = one_run r other run bun key in_runs in_run in_buns in_bun in
-      let no_block : name_space r.kind ≡ of_blocks → ⊥ = λ h. apart.apart (sym (ap (λ (z : Declaration). name_space z.kind) is_d) ∙ h) in
-      let differs = differs_at run in_runs run.differing refl r other in_run (subst (λ m. Contains m.rows.now other) (sym one) in_bun) no_block name_spaces (λ h. apart.differ (sym is_d ∙ h ∙ is_e)) in
+      let no_block : name_space r.kind ≡ name_spaces.Blocks → ⊥ = λ h. apart.apart (sym (ap (λ (z : Declaration). name_space z.kind) is_d) ∙ h) in
+      let differs = differs_at run in_runs run.differing refl r other in_run (subst (λ m. Contains m.rows.now other) (sym one) in_bun) no_block one_space (λ h. apart.differ (sym is_d ∙ h ∙ is_e)) in
       in_faults run in_runs differs (fault_at causes.Clash at x.space name)
       (contains_flat (row_faults i) run.rows.now r (fault_at causes.Clash at x.space name) in_run (fault_there i k r of_r x same at name rest says))
 

@@ -20,7 +20,8 @@ use Rattle.cil_macros.specs.Items.{Kept, item_at, items_in, namespaces_in}
 use Rattle.cil_names.specs.Declarations.{Declaration, IsDeclaration, declared_by}
 use Rattle.cil_names.specs.DeclareRows.{IsRow, declaration_of, is_row_enabled, round_at}
 use Rattle.cil_names.specs.DeclareRuns.{Said, entry_of_run, is_always, has_none, listed_unless, rounds_by, run_key, said_by}
-use Rattle.cil_names.specs.Entries.{AreEntries, AreOrdered, AreRounds, IsEntryFor, KeepRounds, IsRoundOf, Key, is_declared_in, by_name_cmp, key_of, rank}
+use Rattle.cil_names.specs.Entries.{AreEntries, AreOrdered, AreRounds, IsEntryFor, KeepRounds, IsRoundOf, Key, is_declared_in, by_name_cmp, key_of}
+use Rattle.cil_syntax.specs.NameSpaces.{rank}
 use Rattle.cil_macros.specs.Item.{Item, OptSet, everybody}
 use Rattle.cil_blocks.specs.Namespaces.{space_at}
 use Rattle.cil_names.proofs.DeclareFaults.{alike_of, all_enabled, one_name_space}

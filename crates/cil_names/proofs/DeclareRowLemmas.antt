@@ -18,7 +18,9 @@ use Rattle.cil_syntax.specs.Scopes.{ScopedWord}
 use Rattle.cil_macros.specs.Item.{Item}
 use Rattle.cil_macros.specs.Items.{Kept, item_at, says_as_written}
 use Rattle.cil_names.specs.declared.row.Row.{Row}
-use Rattle.cil_names.specs.Declarations.{Declaration, content_of, declarations, declared_by, name_space, of_blocks, of_roles}
+use Rattle.cil_names.specs.Declarations.{Declaration, content_of, declarations, declared_by}
+use Rattle.cil_syntax.specs.declared.name_space.NameSpace.TheVariants as name_spaces
+use Rattle.cil_syntax.specs.NameSpaces.{name_space}
 use Rattle.cil_names.specs.DeclareRows.{AreRowsUpTo, IsRow, IsRowAt, behind, content_at, declaration_of, object_row}
 
 -- ---- what statements declare
@@ -47,19 +49,19 @@ holds_of p (y ∷ ys) x c e =
     let (here, later) = and_parts (p y) (list_all p ys) e in
     elim (contains_cases x y ys c) [ inl is ↦ subst (λ z. p z ≡ true) is here | inr d ↦ holds_of p ys x d later ]
 
-only_macros : (kind : Kind) → is_no_block kind ≡ true → name_space kind ≡ of_blocks → kind ≡ kinds.Macro
+only_macros : (kind : Kind) → is_no_block kind ≡ true → name_space kind ≡ name_spaces.Blocks → kind ≡ kinds.Macro
 unfolding is_no_block
 only_macros kinds.Block p e = absurd (let f : false ≡ true = p in cc)
 only_macros kinds.Macro p e = refl
 only_macros kind p e = absurd cc
 
 -- of the kinds of blocks and macros only macros are declared
-pub declared_macro : (k : Keyword) (kind : Kind) → Contains (entry_of k).declares kind → name_space kind ≡ of_blocks → kind ≡ kinds.Macro
+pub declared_macro : (k : Keyword) (kind : Kind) → Contains (entry_of k).declares kind → name_space kind ≡ name_spaces.Blocks → kind ≡ kinds.Macro
 declared_macro k kind c e = only_macros kind (holds_of is_no_block (entry_of k).declares kind c (no_blocks k)) e
 
-pub of_macro : (i : Kept) (r : Row) → IsRow i r → name_space r.kind ≡ of_blocks → r.kind ≡ kinds.Macro
+pub of_macro : (i : Kept) (r : Row) → IsRow i r → name_space r.kind ≡ name_spaces.Blocks → r.kind ≡ kinds.Macro
 of_macro i r is e = elim is [
-  | inl object ↦ absurd (let f : of_roles ≡ of_blocks = sym (ap (λ (x : Row). name_space x.kind) object) ∙ e in cc)
+  | inl object ↦ absurd (let f : name_spaces.Roles ≡ name_spaces.Blocks = sym (ap (λ (x : Row). name_space x.kind) object) ∙ e in cc)
   | inr from ↦ declared_macro (item_at i from.0).keyword r.kind from.1.kind e
 ]
 

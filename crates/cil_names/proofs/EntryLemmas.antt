@@ -9,7 +9,8 @@ use Rattle.cil_syntax.specs.declared.kind.Kind.{Kind}
 use Rattle.cil_syntax.specs.declared.kind.Sign.{Sign}
 use Rattle.cil_syntax.specs.Spelling.{same_bytes}
 use Rattle.cil_names.specs.declared.entry.Entry.{Entry}
-use Rattle.cil_names.specs.Entries.{HasNoEntry, IsEntryAt, Key, is_entry, key_of, rank}
+use Rattle.cil_names.specs.Entries.{HasNoEntry, IsEntryAt, Key, is_entry, key_of}
+use Rattle.cil_syntax.specs.NameSpaces.{rank}
 use Rattle.cil_base.specs.Found.{IsFound, IsMissing}
 use Rattle.cil_syntax.specs.Kinds.{is_wanted}
 

@@ -1,7 +1,7 @@
 -- The faults that were found are those of the step.
-use Rattle.std.specs.Prelude.{Contains, Option, if◌then◌else◌, not, ◌&&◌}
+use Rattle.std.specs.Prelude.{Contains, if◌then◌else◌, not, ◌&&◌}
 use Rattle.std.specs.List.{flat_map}
-use Rattle.std.proofs.Common.{◌≡◌, ℕ, ◌+◌, ◌<◌, true, false, List, [], ◌∷◌, ◌++◌, map, length, drop, get_or, append-nil, refl, sym, ◌∙◌, ap, subst, inl, inr}
+use Rattle.std.proofs.Common.{◌≡◌, ℕ, ◌+◌, ◌<◌, true, false, List, [], ◌∷◌, ◌++◌, length, drop, get_or, refl, sym, ◌∙◌, ap, subst, inl, inr}
 use Rattle.std.proofs.lemmas.Bool.{and_parts, and_from, cases_Bool, not-true}
 use Rattle.cil_base.specs.Lists.{contains_cases, contains_here, contains_none}
 use Rattle.cil_base.specs.MadeLists.{contains_flat, from_flat}
@@ -9,11 +9,8 @@ use Rattle.cil_faults.specs.declared.code.FaultCode.TheVariants as causes
 use Rattle.cil_faults.specs.declared.fault.Fault.{Fault}
 use Rattle.cil_faults.specs.Reported.{fault_at}
 use Rattle.cil_faults.specs.Namespaces.{Namespace}
-use Rattle.cil_blocks.specs.declared.namespaces.Space.{Space}
 use Rattle.cil_names.specs.Faults.{ResolveFault, unresolved}
-use Rattle.cil_macros.specs.Item.{Item, OptSet, all_words_in}
-use Rattle.cil_names.specs.declared.entry.Entry.{Entry}
-use Rattle.cil_names.specs.Meanings.{meanings, meant}
+use Rattle.cil_macros.specs.Item.{Item, OptSet}
 use Rattle.cil_names.specs.Resolves.{Wanted, is_judged, resolves, told_word, words_of}
 use Rattle.cil_names.specs.Unresolved.{fault_of_word, faults_in, faults_of_all, faults_of_wanted, is_outside}
 use Rattle.cil_names.proofs.ScopeLemmas.{passed_on}
@@ -57,13 +54,6 @@ module _ (xs : List Item) (s : OptSet) where
   pub faults_within : (x : Item) → is_outside x.round ≡ false → faults_in xs s x ≡ []
   faults_within x e = ap (λ b. if b then of_words x else []) e
 
-  -- what asks for nothing has no faults
-  pub unworded_faults : (x : Item) (old : List Fault) → words_of x ≡ [] → old ≡ old ++ faults_in xs s x
-  unworded_faults x old e = sym (ap (λ l. old ++ l) (elim (cases_Bool (is_outside x.round)) [
-    | inl t ↦ ap (λ b. if b then of_words x else []) t ∙ ap (faults_of_all xs s x.space) e
-    | inr f ↦ faults_within x f
-  ]) ∙ append-nil old)
-
   pub all_there : (f : Fault) → Contains (flat_map (faults_in xs s) xs) f → ResolveFault s xs f
   all_there f c =
       let (x, cx, tx) = from_flat (faults_in xs s) xs f c in
@@ -80,10 +70,6 @@ module _ (xs : List Item) (s : OptSet) where
       contains_flat (faults_in xs s) xs x _ c
       (subst (λ b. Contains (if b then of_words x else []) (fault_at causes.Unresolved (told_word w).at x.space (told_word w).bytes)) (sym (ap is_outside round))
       (contains_flat (faults_of_wanted xs s x.space) (words_of x) w _ asks (told_to xs s x.space w judged missing)))
-
--- what has no words means nothing
-pub unworded_meanings : (ss : List Space) (es : List Entry) (s : OptSet) (x : Item) (old : List (Option ℕ)) → all_words_in x.args ≡ [] → old ≡ old ++ meanings ss es s x
-unworded_meanings ss es s x old e = sym (ap (λ l. old ++ map (meant ss es s) l) e ∙ append-nil old)
 
 -- one more instance was checked
 pub told_on : {X Y : Type 0} (f : X → List Y) (xs : List X) (i : ℕ) (x : X) → i < length xs → x ≡ get_or xs i x → (before new all : List Y) → before ++ flat_map f (drop i xs) ≡ all

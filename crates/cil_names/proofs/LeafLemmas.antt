@@ -1,8 +1,8 @@
 -- The words of the terms of a module, in order, and those behind some of them.
 use Rattle.std.specs.declared.alloc.Global.{Global}
 use Rattle.std.specs.declared.vec.Vec.{Vec}
-use Rattle.std.proofs.Common.{◌≡◌, ℕ, ◌+◌, ◌<◌, ◌≤◌, List, [], ◌∷◌, ◌++◌, length, take, drop, get_or, refl, sym, ◌∙◌, ap, append_assoc}
-use Rattle.std.proofs.lemmas.List.{append-nil, drop-drop, length-append, take_more, take_all}
+use Rattle.std.proofs.Common.{◌≡◌, ℕ, ◌+◌, ◌<◌, List, [], ◌∷◌, ◌++◌, length, take, drop, get_or, refl, sym, ◌∙◌, ap, append_assoc}
+use Rattle.std.proofs.lemmas.List.{append-nil, drop-drop, length-append, take_more}
 use Rattle.cil_base.specs.declared.bytes.Bytes.{Bytes}
 use Rattle.cil_syntax.specs.declared.term.LookedUp.{LookedUp}
 use Rattle.cil_syntax.specs.declared.term.Op.{Op}
@@ -75,7 +75,6 @@ module _ (m : ℕ) where
         ∙ drop-drop (length (leaves_of x)) (length (all_leaves (take i xs))) words
         ∙ ap (λ n. drop n words) (sym (ap length (leaves_more xs i x within is) ∙ length-append (all_leaves (take i xs)) (leaves_of x)))
 
-    pub behind_all : (t : rust.Term) (at : ℕ) (op : Op) (parts : Vec rust.Term Global) (xs : List rust.Term) (i : ℕ) (rest : List Y) → t ≡ variants.Form op at parts → xs ≡ parts.items
-        → length xs ≤ i → rest ≡ drop (length (all_leaves (take i xs))) words → rest ≡ drop (length (leaves_of t)) words
-    behind_all t at op parts xs i rest is same over so_far =
-        so_far ∙ ap (λ l. drop (length l) words) (ap all_leaves (take_all i xs over ∙ same) ∙ sym (leaves_form t at op parts is))
+    pub behind_parts : (t : rust.Term) (at : ℕ) (op : Op) (parts : Vec rust.Term Global) (xs : List rust.Term) (rest : List Y) → t ≡ variants.Form op at parts → xs ≡ parts.items
+        → rest ≡ drop (length (all_leaves xs)) words → rest ≡ drop (length (leaves_of t)) words
+    behind_parts t at op parts xs rest is same so = so ∙ ap (λ l. drop (length l) words) (ap all_leaves same ∙ sym (leaves_form t at op parts is))

@@ -1,7 +1,7 @@
 pub mod AnswerLemmas
 pub mod AskedLemmas
+pub mod BehindLemmas
 pub mod CandidateLemmas
-pub mod CandidateListLemmas
 pub mod DeclLemmas
 pub mod DeclareContents
 pub mod DeclareDecided
@@ -34,8 +34,8 @@ pub mod RowLemmas
 pub mod ScopeLemmas
 pub mod SoleLemmas
 pub mod SpelledLemmas
-pub mod TableLemmas
 pub mod UnresolvedLemmas
 pub mod WordedLemmas
 pub mod StandLemmas
 pub mod LeafLemmas
+pub mod UnscopedLemmas

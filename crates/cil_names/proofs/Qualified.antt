@@ -15,7 +15,8 @@ use Rattle.cil_syntax.specs.declared.kind.Kind.{Kind}
 use Rattle.std.proofs.lemmas.Option.{same_Some}
 use Rattle.cil_names.specs.declared.entry.Entry.{Entry}
 use Rattle.cil_blocks.specs.declared.namespaces.Space.{Space}
-use Rattle.cil_names.specs.Entries.{AreOrdered, by_name_cmp, key_of, rank}
+use Rattle.cil_names.specs.Entries.{AreOrdered, by_name_cmp, key_of}
+use Rattle.cil_syntax.specs.NameSpaces.{rank}
 use Rattle.cil_macros.specs.Item.{OptSet}
 use Rattle.cil_names.specs.Numbers.{AreApart, AreNumbers, ArePlain, ArePlainNames, IsPlain, has_section, spelled_of}
 use Rattle.cil_blocks.specs.Namespaces.{AreNamespaces, space_at}

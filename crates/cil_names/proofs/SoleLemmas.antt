@@ -12,7 +12,8 @@ use Rattle.cil_syntax.specs.declared.kind.Kind.{Kind}
 use Rattle.cil_syntax.specs.declared.kind.Sign.{Sign}
 use Rattle.cil_syntax.specs.Kinds.{is_wanted}
 use Rattle.cil_names.specs.declared.entry.Entry.{Entry}
-use Rattle.cil_names.specs.Entries.{HasNoEntry, IsEntryAt, by_name_cmp, key_of, rank}
+use Rattle.cil_names.specs.Entries.{HasNoEntry, IsEntryAt, by_name_cmp, key_of}
+use Rattle.cil_syntax.specs.NameSpaces.{rank}
 use Rattle.cil_base.specs.Found.{IsFound}
 use Rattle.cil_names.proofs.EntryLemmas.{parts_fit, they_fit}
 use Rattle.cil_base.proofs.SearchLemmas.{rising_at}

@@ -17,8 +17,10 @@ use Rattle.cil_macros.specs.Items.{Kept, item_at, items_in, namespaces_in, says_
 use Rattle.cil_names.specs.declared.content.Comparison.{Comparison}
 use Rattle.cil_names.specs.declared.content.ReadAt.{ReadAt}
 use Rattle.cil_names.specs.declared.row.Row.{Row}
-use Rattle.cil_names.specs.Declarations.{Bare, Declaration, bare, content_of, declared_by, name_space, nowhere, of_blocks}
-use Rattle.cil_names.specs.Entries.{Key, rank}
+use Rattle.cil_names.specs.Declarations.{Bare, Declaration, bare, content_of, declared_by, nowhere}
+use Rattle.cil_names.specs.Entries.{Key}
+use Rattle.cil_syntax.specs.declared.name_space.NameSpace.TheVariants as name_spaces
+use Rattle.cil_syntax.specs.NameSpaces.{name_space, rank}
 
 -- ---- what a row declares
 
@@ -82,7 +84,7 @@ is_row_enabled i s r = list_all s (round_at i r.at)
 
 -- two declarations of one key are one, or are of blocks or macros, which are told apart a step before
 abbrev pub AreAlike : Declaration → Declaration → Type 0
-AreAlike d e = (name_space d.kind ≡ of_blocks) ⊎ (d ≡ e)
+AreAlike d e = (name_space d.kind ≡ name_spaces.Blocks) ⊎ (d ≡ e)
 
 -- some of these rows differs from the first, or none does
 abbrev pub TellsDiffering : Kept → Row → List Row → Bool → Type 0

@@ -18,10 +18,11 @@ use Rattle.cil_names.specs.declared.entry.Entry.{Entry}
 use Rattle.cil_names.specs.declared.look.KnownBy.{KnownBy}
 use Rattle.cil_names.specs.declared.look.KnownBy.TheVariants as known
 use Rattle.cil_blocks.specs.declared.namespaces.Space.{Space}
-use Rattle.cil_names.specs.Declarations.{Declaration, IsDeclaration, NameSpace, declared_by, of_types, of_roles, of_users, of_classes, of_blocks, of_commons, of_class_permissions, of_booleans, of_sensitivities, of_categories, of_levels, of_level_ranges, name_space}
+use Rattle.cil_names.specs.Declarations.{Declaration, IsDeclaration, declared_by}
 use Rattle.cil_macros.specs.Item.{Item, OptSet, everybody}
 use Rattle.cil_names.specs.Resolves.{found_in}
 use Rattle.cil_syntax.specs.Kinds.{is_wanted}
+use Rattle.cil_syntax.specs.NameSpaces.{rank}
 use Rattle.cil_blocks.specs.Namespaces.{space_at}
 
 -- ---- words, where namespaces are numbers
@@ -33,24 +34,6 @@ abbrev pub scoped : List Space → List ℕ → Word → ScopedWord
 scoped ss scope w = record { at = w.at; bytes = w.bytes; sign = w.sign; scope = scope_of ss scope }
 
 -- ---- entries
-
--- the number of a name space
-abbrev pub rank : Kind → ℕ
-rank kind = rank_of (name_space kind)
-  where
-    rank_of : NameSpace → ℕ
-    rank_of of_types = 0
-    rank_of of_roles = 1
-    rank_of of_users = 2
-    rank_of of_classes = 3
-    rank_of of_blocks = 4
-    rank_of of_commons = 5
-    rank_of of_class_permissions = 6
-    rank_of of_booleans = 7
-    rank_of of_sensitivities = 8
-    rank_of of_categories = 9
-    rank_of of_levels = 10
-    rank_of of_level_ranges = 11
 
 -- what distinguishes entries: the number of the namespace, the name, and the name space
 pub record Key : Type 0 where

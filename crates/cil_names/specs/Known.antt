@@ -7,9 +7,11 @@ use Rattle.cil_syntax.specs.Terms.{Term}
 use Rattle.cil_names.specs.declared.entry.Entry.{Entry}
 use Rattle.cil_blocks.specs.declared.namespaces.Space.{Space}
 use Rattle.cil_names.specs.Entries.{AreEntries, is_in}
-use Rattle.cil_macros.specs.Item.{Item, OptSet, words_in}
+use Rattle.cil_macros.specs.Item.{Item, OptSet, replaced}
 use Rattle.cil_syntax.specs.Scopes.{ScopedWord}
-use Rattle.cil_names.specs.Meanings.{meanings, meant}
+use Rattle.cil_names.specs.Meanings.{meant}
+use Rattle.cil_names.specs.PermissionWords.{meanings, wanted_meaning}
+use Rattle.cil_names.specs.Resolves.{Wanted, wanted_in}
 use Rattle.cil_names.specs.Numbers.{AreNumbers}
 use Rattle.cil_blocks.specs.Namespaces.{AreNamespaces}
 use Rattle.cil_names.specs.declared.known.Known.{Known}
@@ -48,15 +50,19 @@ IsKnown k xs names = AreKnown k.lookup.namespaces.now xs k.lookup.names.now (ena
 abbrev pub meant_in : Known → ScopedWord → Option ℕ
 meant_in k w = meant k.lookup.namespaces.now k.lookup.names.now (enabled_in k) w
 
--- what the words of an item mean
-abbrev pub row_in : Known → Item → List (Option ℕ)
-row_in k x = meanings k.lookup.namespaces.now k.lookup.names.now (enabled_in k) x
+-- what all that one of these items asks for means
+abbrev pub row_in : Known → List Item → Item → List (Option ℕ)
+row_in k xs x = meanings k.lookup.namespaces.now k.lookup.names.now xs (enabled_in k) x
 
--- what the words of a term mean, where each says this
-abbrev pub meant_by : Known → (Word → ScopedWord) → Term Word → List (Option ℕ)
-meant_by k f t = map (λ w. meant_in k (f w)) (words_in t)
+-- what a term asks for, where each word says this
+abbrev pub wanted_with : (Word → ScopedWord) → Term Word → List Wanted
+wanted_with f t = wanted_in (replaced (λ at. at) f t)
 
--- the meanings begin with those of the words of a term
-pub record BeginWith (k : Known) (f : Word → ScopedWord) (t : Term Word) (words : List (Option ℕ)) : Type 0 where
+-- what that means
+abbrev pub meant_by : Known → List Item → (Word → ScopedWord) → Term Word → List (Option ℕ)
+meant_by k xs f t = map (wanted_meaning k.lookup.namespaces.now k.lookup.names.now xs (enabled_in k)) (wanted_with f t)
+
+-- the meanings begin with those of what a term asks for
+pub record BeginWith (k : Known) (xs : List Item) (f : Word → ScopedWord) (t : Term Word) (words : List (Option ℕ)) : Type 0 where
   pub more : List (Option ℕ)
-  pub are : words ≡ meant_by k f t ++ more
+  pub are : words ≡ meant_by k xs f t ++ more

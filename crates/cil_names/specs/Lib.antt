@@ -1,5 +1,4 @@
 pub mod Asked
-pub mod CandidateLists
 pub mod Classes
 pub mod Declarations
 pub mod DeclareRows
@@ -7,7 +6,6 @@ pub mod DeclareRuns
 pub mod Entries
 pub mod Family
 pub mod Faults
-pub mod Judging
 pub mod Known
 pub mod LastScopes
 pub mod Laws

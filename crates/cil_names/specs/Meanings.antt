@@ -1,10 +1,9 @@
--- What the words of a statement mean: for each the number of the entry that it names, or nothing. This project's
--- profile.
-use Rattle.std.specs.Prelude.{ℕ, List, map, find, Option, Some, None, zero, suc}
+-- What a word means: the number of the entry that it names, or nothing. This project's profile.
+use Rattle.std.specs.Prelude.{ℕ, List, find, Option, Some, None, zero, suc}
 use Rattle.cil_names.specs.declared.entry.Entry.{Entry}
 use Rattle.cil_blocks.specs.declared.namespaces.Space.{Space}
 use Rattle.cil_names.specs.Entries.{candidates_of, is_declared_at}
-use Rattle.cil_macros.specs.Item.{Item, OptSet, all_words_in}
+use Rattle.cil_macros.specs.Item.{OptSet}
 use Rattle.cil_syntax.specs.Scopes.{ScopedWord}
 
 -- the number that is kept as the next one, so that 0 is nothing
@@ -15,7 +14,3 @@ before (suc d) = Some d
 -- what a word means: the first entry that it could name and that is declared
 abbrev pub meant : List Space → List Entry → OptSet → ScopedWord → Option ℕ
 meant ss es s w = find (is_declared_at s es) (candidates_of ss es w)
-
--- the meanings of the words of an item, in order; permissions are among its words, and mean nothing
-abbrev pub meanings : List Space → List Entry → OptSet → Item → List (Option ℕ)
-meanings ss es s x = map (meant ss es s) (all_words_in x.args)

@@ -1,18 +1,15 @@
--- How the words of a placed statement are looked up. No other crate needs these words.
-use Rattle.std.specs.Prelude.{◌≡◌, ◌<◌, ℕ, List, Option, Some, length, map}
+-- How the words of a placed statement are looked up. Only this crate and cil_words need these words.
+use Rattle.std.specs.Prelude.{◌≡◌, ◌<◌, ℕ, List, Some, length}
 use Rattle.cil_syntax.specs.declared.term.Word.{Word}
 use Rattle.cil_syntax.specs.Program.{statement_of}
 use Rattle.cil_syntax.specs.Scopes.{ScopedWord}
 use Rattle.cil_macros.specs.declared.placed_word.PlacedWord.{PlacedWord}
-use Rattle.cil_macros.specs.Item.{Item, OptSet}
+use Rattle.cil_macros.specs.Item.{Item}
 use Rattle.cil_macros.specs.Items.{all_placed, item_at, items_in, namespaces_in, placed_at, scope_by, scoped_by, word_at}
 use Rattle.cil_macros.specs.Walks.{IsScope}
 use Rattle.cil_names.specs.declared.reading.Reading.{Reading}
 use Rattle.cil_names.specs.declared.reading.ScopeNumbers.{ScopeNumbers}
 use Rattle.cil_names.specs.declared.reading.ScopeNumbers.TheVariants as numbers
-use Rattle.cil_names.specs.declared.table.Filling.{Filling}
-use Rattle.cil_names.specs.Entries.{AreOrdered, is_declared_in, is_in}
-use Rattle.cil_names.specs.Meanings.{meant}
 
 -- ---- a placed statement
 
@@ -40,23 +37,3 @@ scoped_there r w = scoped_by (all_placed r.instances.now) w
 abbrev pub numbers_in : ScopeNumbers → List ℕ
 numbers_in (numbers.Own scope) = scope.now
 numbers_in (numbers.Other scope) = scope
-
--- ---- what its words mean
-
--- the look-up is that of all that is placed, and the flags tell which names are declared
-pub record IsFilling (f : Filling) : Type 0 where
-  pub reading : IsReading f.reading
-  pub namespaces : f.lookup.namespaces.now ≡ namespaces_in f.reading.instances.now
-  pub ordered : AreOrdered f.lookup.namespaces.now f.lookup.names.now
-  pub declared : f.declared.now ≡ map (is_declared_in (is_in f.lookup.enabled.now)) f.lookup.names.now
-
-abbrev pub enabled_by : Filling → OptSet
-enabled_by f = is_in f.lookup.enabled.now
-
--- what a word means
-abbrev pub meant_by : Filling → ScopedWord → Option ℕ
-meant_by f w = meant f.lookup.namespaces.now f.lookup.names.now (enabled_by f) w
-
--- what a word of the statement means there
-abbrev pub meant_there : Filling → Word → Option ℕ
-meant_there f w = meant_by f (word_read f.reading w)

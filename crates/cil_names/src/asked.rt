@@ -1,21 +1,63 @@
 //! What a placed statement asks for, one after another: words, and permissions of classes.
 
-ghost use Rattle.std.specs.Prelude.{◌≡◌, ◌++◌, IfOk, List, MatchOption, None, OnOk, Some, length, map, slice_get, true};
+ghost use Rattle.std.specs.Prelude.{◌≡◌, ◌<◌, ◌++◌, IfOk, List, MatchOption, None, OnOk, Some, length, map, slice_get, true};
+ghost use Rattle.std.specs.List.{flat_map};
 ghost use Rattle.std.specs.Option.{option_map};
 ghost use Rattle.cil_macros.specs.Calls.{is_call};
 ghost use Rattle.cil_macros.specs.Item.{all_words_in, words_in};
-ghost use Rattle.cil_macros.specs.Items.{scoped_by};
+ghost use Rattle.cil_macros.specs.Items.{all_placed, item_at, items_in, scoped_by};
 ghost use Rattle.cil_macros.specs.Placed.{Placed};
 ghost use Rattle.cil_names.specs.Asked.{asked_by, wanted_by};
 ghost use Rattle.cil_names.specs.Readings.{IsReading, item_read, module_of, scoped_there, word_read};
-ghost use Rattle.cil_names.specs.Resolves.{all_wanted_in, told_word, wanted_in, words_of, words_of_class};
+ghost use Rattle.cil_names.specs.Resolves.{all_wanted_in, told_at, told_word, wanted_in, words_of, words_of_class};
 ghost use Rattle.cil_names.specs.Unresolved.{term_with, terms_with};
 
 use crate::reading::{Reading, is_call, says_as_written};
 use cil_base::NoMemory;
-use cil_macros::PlacedWord;
+use cil_blocks::ScopeList;
+use cil_macros::{Instances, PlacedWord};
 use cil_syntax::{Excerpt, Term, Word, word_and_terms};
 use std::alloc::Global;
+
+/// The word that is told of what the statement at a place asks for, by its number, counted from 0; none where it does not
+/// ask for so many things.
+pub fn word_asked<'a>(
+    alloc: Global,
+    instances: &Instances<'_, '_, 'a>,
+    at: usize,
+    number: usize,
+) -> Result<Option<PlacedWord<'a>>, NoMemory>
+    requires { at < length (items_in instances.now) }
+    ensures { IfOk result (λ word. MatchOption word (told_at (item_at instances.now at) number ≡ None)
+        (λ w. told_at (item_at instances.now at) number ≡ Some (scoped_by (all_placed instances.now) w))) }
+{
+    let statement = instances.statement_there(at);
+    let mut scope = ScopeList::new(alloc);
+    instances.scope_into(alloc, Some(at), &mut scope)?;
+    let reading = Reading {
+        instances,
+        at,
+        statement,
+        scope: scope.as_slice(),
+    };
+    let asked = reading.asked(alloc)?;
+    Ok(told_of(asked.as_slice(), number))
+}
+
+/// The word that is told of what some things ask for, by its number.
+fn told_of<'a>(asked: &[Asked<'a>], number: usize) -> Option<PlacedWord<'a>>
+    ensures { (ps : List Placed) → MatchOption result (slice_get (flat_map (wanted_by ps) asked.now) number ≡ None)
+        (λ w. option_map told_word (slice_get (flat_map (wanted_by ps) asked.now) number) ≡ Some (scoped_by ps w)) }
+{
+    let mut left = number;
+    for one in asked {
+        match one.told(left) {
+            Some(word) => return Some(copy_of(word)),
+            None => left -= one.len(),
+        }
+    }
+    None
+}
 
 /// Something that a statement asks for.
 #[derive(Drop)]

@@ -1,7 +1,6 @@
 //! Guesses where the one entry of a name is. Nothing is proved of them: a guess is checked where it is used.
 
 use crate::entry::Entry;
-use crate::kinds::rank_of;
 use crate::once::is_named;
 use cil_base::NoMemory;
 use std::alloc::Global;
@@ -88,7 +87,7 @@ impl Guesses {
 /// Whether one of the neighbours of an entry has its name in its name space.
 fn has_twin(entries: &[Entry], place: usize, entry: &Entry) -> bool {
     let name = entry.name.as_slice();
-    let rank = rank_of(entry.kind);
+    let rank = entry.kind.rank();
     if is_named(entries, place.wrapping_add(1), name, rank) {
         return true;
     }

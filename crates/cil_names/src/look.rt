@@ -12,7 +12,6 @@ ghost use Rattle.cil_blocks.specs.Namespaces.{space_at};
 
 use crate::entry::Entry;
 use crate::guesses::Guesses;
-use crate::kinds::{rank_of, rank_wanted, wants};
 use crate::once::sole;
 use crate::opt_set::{are_set, is_set};
 use cil_base::NoMemory;
@@ -44,7 +43,7 @@ fn place_of(entries: &[Entry], space: usize, name: &[u8], rank: u8) -> Option<us
             e.name
                 .as_slice()
                 .cmp(name)
-                .then(rank_of(e.kind).cmp(&rank))
+                .then(e.kind.rank().cmp(&rank))
                 .then(e.space.cmp(&space))
         })
         .ok()
@@ -62,7 +61,7 @@ pub fn entry_in(
     requires { IsStrictlySortedBy (on key_of by_name_cmp) entries.now }
     ensures { MatchOption result (HasNoEntry entries.now name.now sign space) (IsEntryAt entries.now name.now sign space) }
 {
-    let rank = rank_wanted(sign)?;
+    let rank = sign.rank()?;
     entry_of(
         entries,
         sole(entries, guesses, name, rank),
@@ -100,7 +99,7 @@ fn at_once(entries: &[Entry], place: usize, space: usize, name: &[u8], sign: Sig
     if entry.space != space {
         return None;
     }
-    if !wants(sign, entry.kind) {
+    if !sign.wants(entry.kind) {
         return None;
     }
     Some(place)
@@ -111,9 +110,9 @@ fn by_halving(entries: &[Entry], space: usize, name: &[u8], sign: Sign) -> Optio
     requires { IsStrictlySortedBy (on key_of by_name_cmp) entries.now }
     ensures { MatchOption result (HasNoEntry entries.now name.now sign space) (IsEntryAt entries.now name.now sign space) }
 {
-    let rank = rank_wanted(sign)?;
+    let rank = sign.rank()?;
     let place = place_of(entries, space, name, rank)?;
-    if !wants(sign, entries[place].kind) {
+    if !sign.wants(entries[place].kind) {
         return None;
     }
     Some(place)
@@ -127,7 +126,7 @@ fn sole_of(entries: &[Entry], guesses: &Guesses, path: &Path, sign: Sign) -> Opt
     if !path.dotless {
         return None;
     }
-    let rank = rank_wanted(sign)?;
+    let rank = sign.rank()?;
     sole(entries, guesses, path.names, rank)
 }
 
@@ -189,7 +188,7 @@ pub fn push_candidates(
     ensures found { OnOk result (found.new.items ≡ found.old.items ++ candidates_of namespaces.now entries.now (scoped namespaces.now scope.now word.now)) }
     ensures none_lost { length found.old.items ≤ length found.new.items }
 {
-    let Some(_rank) = rank_wanted(word.sign) else {
+    let Some(_wanted) = word.sign.name_space() else {
         return Ok(());
     };
     let path = path_of(word.bytes.as_slice());
@@ -236,7 +235,7 @@ pub fn resolve(
     requires within { All (λ k. k ≤ length namespaces.now) scope.now }
     ensures { result ≡ find (is_known known.entry entries.now) (candidates_of namespaces.now entries.now (scoped namespaces.now scope.now word.now)) }
 {
-    let Some(_rank) = rank_wanted(word.sign) else {
+    let Some(_wanted) = word.sign.name_space() else {
         return None;
     };
     let path = path_of(word.bytes.as_slice());

@@ -41,7 +41,7 @@ impl Meaning {
 
     /// The entry of this number, or nothing. A table has room for the numbers below 4,294,967,295; beyond them it is out of
     /// memory.
-    pub(crate) fn of(entry: Option<usize>) -> Result<Meaning, NoMemory>
+    pub fn of(entry: Option<usize>) -> Result<Meaning, NoMemory>
         ensures { IfOk result (λ meaning. meaning ≡ entry) }
     {
         match entry {

@@ -1,6 +1,6 @@
 //! The declared names of a policy, and what words name.
 
-ghost use Rattle.std.specs.Prelude.{◌≡◌, ◌↔◌, ◌≤◌, ◌<◌, ℕ, All, Contains, IfOk, IfSome, IsTrue, List, MatchOption, Some, find, length, slice_get};
+ghost use Rattle.std.specs.Prelude.{◌≡◌, ◌↔◌, ◌≤◌, ◌<◌, ◌++◌, ◌∷◌, [], ℕ, All, Contains, IfOk, IfSome, IsTrue, List, MatchOption, OnOk, Some, find, length, slice_get};
 ghost use Rattle.std.specs.Global.{Vec as Vector};
 ghost use Rattle.std.specs.List.Sorted.{IsStrictlySortedBy};
 ghost use Rattle.std.specs.Ordering.{on};
@@ -9,6 +9,9 @@ ghost use Rattle.cil_base.specs.declared.bytes.Bytes.{Bytes as Text};
 ghost use Rattle.cil_names.specs.declared.entry.Entry.{Entry};
 ghost use Rattle.cil_names.specs.Entries.{AreEntries, AreOrdered, HasNoEntryIn, IsAnswer, IsEntryIn, candidates_of, is_declared_at, is_in, by_name_cmp, key_of, listed, scoped};
 ghost use Rattle.cil_macros.specs.Item.{Item, OptSet as OptionalSet};
+ghost use Rattle.cil_syntax.specs.Scopes.{EndsGlobally, Scope};
+ghost use Rattle.cil_blocks.specs.declared.namespaces.Space.{Space};
+ghost use Rattle.cil_names.specs.Soles.{in_scope};
 ghost use Rattle.cil_names.specs.PermissionWords.{IsAnswerFor, wanted_candidates};
 ghost use Rattle.cil_names.specs.Resolves.{Permission};
 ghost use Rattle.cil_blocks.specs.Namespaces.{space_at};
@@ -16,12 +19,12 @@ ghost use Rattle.cil_names.specs.Unresolved.{ArePermissions};
 
 use crate::entry::Entry;
 use crate::guesses::Guesses;
-use crate::kinds::rank_of;
 use crate::look::{self, KnownBy};
 use crate::opt_set::OptSet;
 use crate::permission_word::class_with;
+use crate::unscoped::{push_in_scope, unscoped_entry};
 use cil_base::NoMemory;
-use cil_blocks::Namespaces;
+use cil_blocks::{Namespaces, ScopeList};
 use cil_syntax::{Bytes, Sign, Word};
 use std::alloc::Global;
 use std::marker::Model;
@@ -90,7 +93,7 @@ impl<'a> Names<'a> {
     }
 
     /// Where the entries of names may be.
-    pub(crate) fn guesses(&self) -> &Guesses {
+    pub fn guesses(&self) -> &Guesses {
         &self.guesses
     }
 
@@ -134,6 +137,41 @@ impl<'a> Names<'a> {
             word,
             scope,
         )
+    }
+
+    /// The number of the one entry that a word could name in every scope that ends with the global namespace, as the scope of
+    /// all that is placed does: the one entry of its name, if it is in that namespace and the word has no dots. None says
+    /// nothing. It costs one hash, and no scope.
+    pub fn unscoped(&self, word: &Word) -> Option<usize>
+        ensures candidate { IfSome result (λ d. (ss : List Space) (scope : Scope) → EndsGlobally scope → candidates_of ss self.now (in_scope scope word.now) ≡ d ∷ []) }
+        ensures within { IfSome result (λ d. d < length self.now) }
+    {
+        unscoped_entry(self.entries(), self.guesses(), word)
+    }
+
+    /// Adds the numbers of the entries that a word could name, whatever is enabled, in the order of its scope. A word without
+    /// dots costs one hash and one question to the scope, if one entry has its name. Else it costs what `candidates` costs.
+    pub fn push_candidates(
+        &self,
+        found: &mut Vec<usize>,
+        namespaces: &Namespaces,
+        word: &Word,
+        scope: &ScopeList,
+    ) -> Result<(), NoMemory>
+        requires ordered { AreOrdered namespaces.now self.now }
+        requires within { All (λ k. k ≤ length namespaces.now) scope.now }
+        ensures found { OnOk result (found.new.items ≡ found.old.items ++ candidates_of namespaces.now self.now (scoped namespaces.now scope.now word.now)) }
+        ensures none_lost { length found.old.items ≤ length found.new.items }
+    {
+        push_in_scope(
+            found,
+            namespaces,
+            self.entries(),
+            self.guesses(),
+            word,
+            scope,
+        )?;
+        Ok(())
     }
 
     /// The number of the entry that a word names in a scope where these optionals are enabled. It costs what
@@ -207,7 +245,7 @@ fn rise(entries: &[Entry]) -> bool
         a.name
             .as_slice()
             .cmp(b.name.as_slice())
-            .then(rank_of(a.kind).cmp(&rank_of(b.kind)))
+            .then(a.kind.rank().cmp(&b.kind.rank()))
             .then(a.space.cmp(&b.space))
             .is_lt()
     })

@@ -9,7 +9,6 @@ ghost use Rattle.cil_names.specs.Soles.{IsNamedAt, ranked_name};
 
 use crate::entry::Entry;
 use crate::guesses::{Guesses, WAYS};
-use crate::kinds::rank_of;
 
 /// The place of the one entry of a name in a name space, if that was guessed. It costs one hash, and says nothing where it
 /// is none.
@@ -52,7 +51,7 @@ pub fn is_named(entries: &[Entry], place: usize, name: &[u8], rank: u8) -> bool
     let Some(entry) = entries.get(place) else {
         return false;
     };
-    if rank_of(entry.kind) != rank {
+    if entry.kind.rank() != rank {
         return false;
     }
     entry.name.as_slice() == name

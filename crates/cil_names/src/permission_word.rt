@@ -21,7 +21,6 @@ ghost use Rattle.cil_names.specs.Unresolved.{ArePermissions, listed_at as listed
 
 use crate::entry::Entry;
 use crate::guesses::Guesses;
-use crate::kinds::wants;
 use crate::look::{KnownBy, entry_in, resolve};
 use crate::numbers::place_among;
 use cil_blocks::Namespaces;
@@ -67,7 +66,7 @@ pub fn permissions_at<'s>(
         → (p : List ℕ) → list_any (same_bytes p) result.now ≡ has_permission_at ss entries.now xs p d }
 {
     let entry = &entries[d];
-    if wants(Sign::Classes, entry.kind) {
+    if Sign::Classes.wants(entry.kind) {
         return listed_at(permissions, d);
     }
     let name = entry.name.as_slice();

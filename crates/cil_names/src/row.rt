@@ -5,7 +5,6 @@ ghost use Rattle.cil_macros.specs.Items.{items_in};
 ghost use Rattle.cil_names.specs.DeclareRows.{AreAllRows, AreRowsUpTo, object_row, round_at, row_key};
 ghost use Rattle.cil_names.specs.Entries.{by_name_cmp};
 
-use crate::kinds::rank_of;
 use cil_base::NoMemory;
 use cil_macros::Instances;
 use cil_syntax::{Excerpt, Kind};
@@ -85,7 +84,7 @@ impl Row<'_> {
         self.name
             .as_slice()
             .cmp(other.name.as_slice())
-            .then(rank_of(self.kind).cmp(&rank_of(other.kind)))
+            .then(self.kind.rank().cmp(&other.kind.rank()))
             .then(self.space.cmp(&other.space))
     }
 

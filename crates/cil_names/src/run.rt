@@ -3,11 +3,12 @@
 ghost use Rattle.std.specs.Prelude.{◌≡◌, ◌↔◌, ◌<◌, ◌≤◌, [], ℕ, Contains, IfOk, IfSome, IsTrue, None, Some, drop, get_or, length, take};
 ghost use Rattle.std.specs.declared.cmp.Ordering.TheVariants.{Less};
 ghost use Rattle.std.specs.List.Sorted.{IsPermutation, IsSortedByKey};
+ghost use Rattle.cil_syntax.specs.NameSpaces.{name_space};
+ghost use Rattle.cil_syntax.specs.declared.name_space.NameSpace.TheVariants as name_spaces;
 ghost use Rattle.cil_macros.specs.Items.{items_in, word_at};
 ghost use Rattle.cil_names.specs.declared.row.Row.{Row};
 ghost use Rattle.cil_names.specs.DeclareRows.{AreAlike, AreRowsIn, IsRow, SaysWritten, TellsDiffering, bare_terms, content_at, declaration_of, row_key};
 ghost use Rattle.cil_names.specs.DeclareRuns.{AreRuns, IsNextRun};
-ghost use Rattle.cil_names.specs.Declarations.{name_space, of_blocks};
 ghost use Rattle.cil_names.specs.Entries.{by_name_cmp};
 ghost use Rattle.cil_names.specs.Worded.{IsOfStatement, IsWordless};
 
@@ -17,7 +18,7 @@ use crate::row::Row;
 use crate::worded::is_worded;
 use cil_base::NoMemory;
 use cil_macros::Instances;
-use cil_syntax::{Kind, Term};
+use cil_syntax::{Kind, NameSpace, Term};
 use std::alloc::Global;
 
 /// The rows of one name of a name space in a namespace.
@@ -279,15 +280,7 @@ fn is_same_kind(a: Kind, b: Kind) -> bool
 
 /// Whether a kind is that of blocks or of macros.
 fn is_of_blocks(kind: Kind) -> bool
-    ensures { IsTrue result ↔ (name_space kind ≡ of_blocks) }
+    ensures { IsTrue result ↔ (name_space kind ≡ name_spaces.Blocks) }
 {
-    match kind {
-        Kind::Block | Kind::Macro => true,
-        Kind::Type_ | Kind::TypeAlias | Kind::TypeAttribute => false,
-        Kind::Role | Kind::RoleAttribute | Kind::User | Kind::UserAttribute => false,
-        Kind::Class | Kind::ClassMap | Kind::Common | Kind::ClassPermission => false,
-        Kind::Boolean | Kind::Sensitivity | Kind::SensitivityAlias => false,
-        Kind::Category | Kind::CategoryAlias | Kind::CategorySet => false,
-        Kind::Level | Kind::LevelRange => false,
-    }
+    kind.name_space() == NameSpace::Blocks
 }

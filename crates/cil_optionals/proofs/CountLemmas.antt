@@ -20,10 +20,9 @@ use Rattle.cil_names.specs.Resolves.{Wanted, Word, Permission, has, words_of}
 use Rattle.cil_names.proofs.AnswerLemmas.{by_place, known_live, unknown_gone}
 use Rattle.cil_names.proofs.CandidateLemmas.{place_is}
 use Rattle.cil_names.proofs.PermissionWordLemmas.{always_declared, permission_answer}
-use Rattle.cil_optionals.specs.declared.part.Part.{Part}
 use Rattle.cil_optionals.specs.Counts.{is_lost, lookups, lost_candidates, lost_in}
-use Rattle.cil_optionals.specs.PartCounts.{AreLookups, lost_among, lost_by, lost_of}
-use Rattle.cil_optionals.specs.Parts.{ArePartsOf, asked_by, part_of}
+use Rattle.cil_optionals.specs.PartCounts.{AreLookups, lost_among, lost_by, lost_inside, lost_of}
+use Rattle.cil_optionals.specs.Parts.{ArePartsOf, Part, part_of}
 
 -- ---- sums
 
@@ -93,21 +92,21 @@ module _ (ss : List Space) (are : AreNamespaces ss) (xs : List Item) (es : List 
   flagged ds = ap (λ (p : ℕ → Bool). count_by p ds) (λ i d. not (by_place s es d i))
 
   lost_words : (inside : Bool) (ws : List Wanted)
-      → lost_among flags (cond inside (map (wanted_candidates ss es xs) ws) []) ≡ cond inside (sum_by (lost_candidates xs s) ws) 0
+      → cond inside (lost_among flags (map (wanted_candidates ss es xs) ws)) 0 ≡ cond inside (sum_by (lost_candidates xs s) ws) 0
   lost_words false ws = refl
   lost_words true ws =
       sum_map (lost_of flags) (wanted_candidates ss es xs) ws
       ∙ sum_same (λ w. lost_of flags (wanted_candidates ss es xs w)) (lost_candidates xs s) ws (λ w. flagged (wanted_candidates ss es xs w) ∙ lost_wanted w)
 
-  lost_part : (x : Item) → lost_among flags (asked_by ss es xs x) ≡ lost_in xs s x
+  lost_part : (x : Item) → lost_inside flags (part_of ss es xs x) ≡ lost_in xs s x
   lost_part x = lost_words (is_some (innermost x)) (words_of x)
 
   lost_parts : (ps : List Part) → ps ≡ map (part_of ss es xs) xs → lost_by es s ps ≡ sum_by (lost_in xs s) xs
   unfolding lost_by
   lost_parts ps e =
-      ap (sum_by (λ (p : Part). lost_among flags p.asked)) e
-      ∙ sum_map (λ (p : Part). lost_among flags p.asked) (part_of ss es xs) xs
-      ∙ sum_same (λ x. lost_among flags (asked_by ss es xs x)) (lost_in xs s) xs lost_part
+      ap (sum_by (lost_inside flags)) e
+      ∙ sum_map (lost_inside flags) (part_of ss es xs) xs
+      ∙ sum_same (λ x. lost_inside flags (part_of ss es xs x)) (lost_in xs s) xs lost_part
 
 -- the look-ups are those that belong to the set
 pub lookups_are : (ss : List Space) (es : List Entry) (xs : List Item) (ps : List Part) → ArePartsOf ss es xs ps → (s : OptSet) (n : ℕ) → AreLookups xs ps es s n
@@ -131,7 +130,7 @@ lost_step i s at within b is old new so one = one ∙ (λ j. so j + cond (is j) 
 
 -- the sum of both counts, by flags for the entries
 pub counted_so : (xs : List Item) (ps : List Part) (es : List Entry) (s : OptSet) (fs : List Bool) (a b n : ℕ) → fs ≡ map (is_declared_in s) es
-    → a ≡ count_by (is_lost s) xs → b ≡ sum_by (λ (p : Part). lost_among fs p.asked) ps → n ≡ a + b → AreLookups xs ps es s n
+    → a ≡ count_by (is_lost s) xs → b ≡ sum_by (lost_inside fs) ps → n ≡ a + b → AreLookups xs ps es s n
 unfolding lost_by
 counted_so xs ps es s fs a b n f e g h =
-    h ∙ (λ i. e i + (g ∙ ap (λ (l : List Bool). sum_by (λ (p : Part). lost_among l p.asked) ps) f) i)
+    h ∙ (λ i. e i + (g ∙ ap (λ (l : List Bool). sum_by (lost_inside l) ps) f) i)

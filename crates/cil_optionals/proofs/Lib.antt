@@ -12,3 +12,4 @@ pub mod ShownLemmas
 pub mod TimeLemmas
 pub mod LineLemmas
 pub mod ReasonLines
+pub mod RowParts

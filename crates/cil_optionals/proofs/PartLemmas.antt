@@ -1,5 +1,5 @@
 -- The tests over parts say what the definitions over items say.
-use Rattle.std.specs.Prelude.{Option, Some, None, slice_get, not, map, cond, is_some, ◌==◌}
+use Rattle.std.specs.Prelude.{Option, Some, None, slice_get, not, map, ◌==◌}
 use Rattle.std.specs.List.{list_all}
 use Rattle.std.specs.Option.{option_map_or}
 use Rattle.std.proofs.Common.{◌≡◌, ℕ, Bool, true, false, ◌&&◌, ◌||◌, List, [], ◌∷◌, refl, sym, ap, ◌∙◌, arith}
@@ -12,12 +12,12 @@ use Rattle.cil_names.specs.declared.entry.Entry.{Entry}
 use Rattle.cil_names.specs.Laws.{ResolvesByCandidates}
 use Rattle.cil_names.specs.PermissionWords.{wanted_candidates}
 use Rattle.cil_names.specs.Resolves.{Wanted, resolves, words_of}
-use Rattle.cil_optionals.specs.declared.part.Part.{Part}
 use Rattle.cil_optionals.specs.declared.reason.Reason.{Reason}
 use Rattle.cil_optionals.specs.declared.reason.Reason.TheVariants.{Missing, ParentOut}
+use Rattle.cil_words.specs.Table.{asks}
 use Rattle.cil_optionals.specs.Certificate.{left_out, all_but, Holds, parent_out, missing}
 use Rattle.cil_optionals.specs.Greatest.{IsGood, is_optional_at}
-use Rattle.cil_optionals.specs.Parts.{ArePartsOf, asked_by, holds_in, is_inside, is_optional_part, is_outside, is_well, is_well_inside, lacks, left_after, names_one, parent_is_out, part_of, word_is_missing}
+use Rattle.cil_optionals.specs.Parts.{ArePartsOf, Part, holds_in, is_inside, is_optional_part, is_outside, is_well, is_well_inside, lacks, left_after, names_one, parent_is_out, part_of, word_is_missing}
 use Rattle.cil_optionals.proofs.BoolLemmas.{all_at, all_of, and_left, and_of, and_right, implied, implies, map_from, map_or, map_to, not_true, test_of, tested, true_not}
 
 -- the first of the optionals round a statement
@@ -47,10 +47,6 @@ module _ (law : ResolvesByCandidates) (ss : List Space) (es : List Entry) (xs : 
 
   pub names_is : (s : OptSet) (w : Wanted) → resolves xs s w ≡ names_one es s (cand w)
   names_is s w = law ss xs es s w of.namespaces of.entries
-
-  -- what the words of a statement in an optional could name
-  asked_is : (x : Item) (o : ℕ) → innermost x ≡ Some o → asked_by ss es xs x ≡ map cand (words_of x)
-  asked_is x o e = ap (λ z. cond (is_some z) (map cand (words_of x)) []) e
 
   -- the innermost optional round a statement is an optional
   round_there : (i : ℕ) (x : Item) (o : ℕ) → slice_get xs i ≡ Some x → innermost x ≡ Some o → is_optional_at xs o ≡ true
@@ -85,12 +81,12 @@ module _ (law : ResolvesByCandidates) (ss : List Space) (es : List Entry) (xs : 
       → word_is_missing (names_one es (all_but xs out)) o j (part_of ss es xs x) ≡ true → Holds xs out (Missing o i j)
   word_from out o i j x e h =
       let s = all_but xs out in
-      let a = and_left (is_inside o (innermost x)) (lacks (names_one es s) (asked_by ss es xs x) j) h in
-      let b = and_right (is_inside o (innermost x)) (lacks (names_one es s) (asked_by ss es xs x) j) h in
+      let a = and_left (is_inside o (innermost x)) (lacks (names_one es s) (asks ss es xs x) j) h in
+      let b = and_right (is_inside o (innermost x)) (lacks (names_one es s) (asks ss es xs x) j) h in
       let q = tested (λ p. p == o) (innermost x) a in
       let own : innermost x ≡ Some o = q.1 ∙ ap Some (equal_number q.0 o q.2) in
-      let ds = tested (λ ds. not (names_one es s ds)) (slice_get (asked_by ss es xs x) j) b in
-      let w = map_from cand (words_of x) j ds.0 (ap (λ z. slice_get z j) (sym (asked_is x o own)) ∙ ds.1) in
+      let ds = tested (λ ds. not (names_one es s ds)) (slice_get (asks ss es xs x) j) b in
+      let w = map_from cand (words_of x) j ds.0 ds.1 in
       missing o i j w.0 (record { statement = x; is_there = e; own = own; word = w.1 })
       (names_is s w.0 ∙ ap (names_one es s) (sym w.2) ∙ not_true (names_one es s ds.0) ds.2)
 
@@ -112,10 +108,10 @@ module _ (law : ResolvesByCandidates) (ss : List Space) (es : List Entry) (xs : 
       let s = all_but xs out in
       let x = own.statement in
       test_of (word_is_missing (names_one es s) o j) (slice_get ps i) (part_of ss es xs x) (part_there i x own.is_there)
-      (and_of (is_inside o (innermost x)) (lacks (names_one es s) (asked_by ss es xs x) j)
+      (and_of (is_inside o (innermost x)) (lacks (names_one es s) (asks ss es xs x) j)
       (test_of (λ p. p == o) (innermost x) o own.own (same_number o))
-      (test_of (λ ds. not (names_one es s ds)) (slice_get (asked_by ss es xs x) j) (cand w)
-      (ap (λ z. slice_get z j) (asked_is x o own.own) ∙ map_to cand (words_of x) j w own.word)
+      (test_of (λ ds. not (names_one es s ds)) (slice_get (asks ss es xs x) j) (cand w)
+      (map_to cand (words_of x) j w own.word)
       (true_not (names_one es s (cand w)) (sym (names_is s w) ∙ fails))))
 
   -- ---- what is good
@@ -124,34 +120,34 @@ module _ (law : ResolvesByCandidates) (ss : List Space) (es : List Entry) (xs : 
   AllWell s = (at : ℕ) (p : Part) → slice_get ps at ≡ Some p → is_well s (names_one es s) at p ≡ true
 
   well_inside : (s : OptSet) → AllWell s → (at : ℕ) (x : Item) (q : ℕ) → slice_get xs at ≡ Some x → innermost x ≡ Some q
-      → is_well_inside s (names_one es s) at (asked_by ss es xs x) q ≡ true
+      → is_well_inside s (names_one es s) at (asks ss es xs x) q ≡ true
   well_inside s well at x q e inside =
-      ap (λ z. option_map_or (is_well_inside s (names_one es s) at (asked_by ss es xs x)) z true) (sym inside) ∙ well at (part_of ss es xs x) (part_there at x e)
+      ap (λ z. option_map_or (is_well_inside s (names_one es s) at (asks ss es xs x)) z true) (sym inside) ∙ well at (part_of ss es xs x) (part_there at x e)
 
   pub good_from : (s : OptSet) → ((o : ℕ) → s o ≡ true → is_optional_at xs o ≡ true) → AllWell s → IsGood xs s
   good_from s optionals well = record {
     optionals = optionals;
     parents = λ o p h parent.
         let w = well_inside s well o parent.optional p parent.is_there parent.inside in
-        implied (s o) (s p) (and_left (not (s o) || s p) (not (s p) || list_all (names_one es s) (asked_by ss es xs parent.optional)) w) h;
+        implied (s o) (s p) (and_left (not (s o) || s p) (not (s p) || list_all (names_one es s) (asks ss es xs parent.optional)) w) h;
     words = λ o i j w h own.
         let x = own.statement in
         let t = well_inside s well i x o own.is_there own.own in
-        let all : list_all (names_one es s) (asked_by ss es xs x) ≡ true =
-        implied (s o) _ (and_right (not (s i) || s o) (not (s o) || list_all (names_one es s) (asked_by ss es xs x)) t) h in
+        let all : list_all (names_one es s) (asks ss es xs x) ≡ true =
+        implied (s o) _ (and_right (not (s i) || s o) (not (s o) || list_all (names_one es s) (asks ss es xs x)) t) h in
         names_is s w
-        ∙ all_at (names_one es s) (asked_by ss es xs x) j (cand w) all (ap (λ z. slice_get z j) (asked_is x o own.own) ∙ map_to cand (words_of x) j w own.word);
+        ∙ all_at (names_one es s) (asks ss es xs x) j (cand w) all (map_to cand (words_of x) j w own.word);
   }
 
   well_item : (s : OptSet) → IsGood xs s → (at : ℕ) (x : Item) → slice_get xs at ≡ Some x → (inside : Option ℕ) → innermost x ≡ inside
-      → option_map_or (is_well_inside s (names_one es s) at (asked_by ss es xs x)) inside true ≡ true
+      → option_map_or (is_well_inside s (names_one es s) at (asks ss es xs x)) inside true ≡ true
   well_item s good at x e None same = refl
   well_item s good at x e (Some q) same =
-      and_of (not (s at) || s q) (not (s q) || list_all (names_one es s) (asked_by ss es xs x))
+      and_of (not (s at) || s q) (not (s q) || list_all (names_one es s) (asks ss es xs x))
       (implies (s at) (s q) (λ h. good.parents at q h (record { optional = x; is_there = e; inside = same })))
-      (implies (s q) (list_all (names_one es s) (asked_by ss es xs x)) (λ h.
-      all_of (names_one es s) (asked_by ss es xs x) (λ j ds there.
-      let w = map_from cand (words_of x) j ds (ap (λ z. slice_get z j) (sym (asked_is x q same)) ∙ there) in
+      (implies (s q) (list_all (names_one es s) (asks ss es xs x)) (λ h.
+      all_of (names_one es s) (asks ss es xs x) (λ j ds there.
+      let w = map_from cand (words_of x) j ds there in
       ap (names_one es s) w.2 ∙ sym (names_is s w.0) ∙ good.words q at j w.0 h (record { statement = x; is_there = e; own = same; word = w.1 }))))
 
   pub good_to : (s : OptSet) → IsGood xs s → AllWell s

@@ -7,10 +7,9 @@ use Rattle.cil_base.specs.Among.{among}
 use Rattle.cil_base.specs.Counts.{count_cons}
 use Rattle.cil_names.specs.declared.entry.Entry.{Entry}
 use Rattle.cil_names.specs.Entries.{is_in}
-use Rattle.cil_optionals.specs.declared.part.Part.{Part}
 use Rattle.cil_optionals.specs.declared.reason.Reason.{Reason}
 use Rattle.cil_optionals.specs.Certificate.{left_out}
-use Rattle.cil_optionals.specs.Parts.{IsShown, is_optional_part, is_step, is_well, left_after, names_one}
+use Rattle.cil_optionals.specs.Parts.{IsShown, Part, is_optional_part, is_step, is_well, left_after, names_one}
 use Rattle.cil_optionals.specs.Removals.{IsPassed, IsReasonNow, IsTaken, IsTurned, IsWellAt, count_set}
 use Rattle.cil_optionals.proofs.BoolLemmas.{and_left}
 use Rattle.cil_optionals.proofs.ShownLemmas.{pushed}

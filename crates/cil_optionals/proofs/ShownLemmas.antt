@@ -8,11 +8,10 @@ use Rattle.cil_blocks.specs.declared.namespaces.Space.{Space}
 use Rattle.cil_macros.specs.Item.{Item, OptSet}
 use Rattle.cil_names.specs.declared.entry.Entry.{Entry}
 use Rattle.cil_names.specs.Laws.{ResolvesByCandidates}
-use Rattle.cil_optionals.specs.declared.part.Part.{Part}
 use Rattle.cil_optionals.specs.declared.reason.Reason.{Reason}
 use Rattle.cil_optionals.specs.Certificate.{left_out, Holds, InOrder, no_more, one_more, IsRight}
 use Rattle.cil_optionals.specs.Greatest.{is_optional_at}
-use Rattle.cil_optionals.specs.Parts.{ArePartsOf, IsShown, holds_in, is_optional_part, is_step, is_well, left_after, names_one}
+use Rattle.cil_optionals.specs.Parts.{ArePartsOf, IsShown, Part, holds_in, is_optional_part, is_step, is_well, left_after, names_one}
 use Rattle.cil_optionals.proofs.BoolLemmas.{and_left, and_of, and_right, any_at, map_from, not_true, true_not}
 use Rattle.cil_optionals.proofs.PartLemmas.{good_from, good_to, holds_from, holds_to, left_is, optional_same, same_number}
 

@@ -11,10 +11,9 @@ use Rattle.std.proofs.lemmas.Option.{slice_get_within, get_or_from_slice_get}
 use Rattle.cil_base.specs.Among.{among, equal_number}
 use Rattle.cil_names.specs.declared.entry.Entry.{Entry}
 use Rattle.cil_names.specs.Entries.{is_declared_at, is_in}
-use Rattle.cil_optionals.specs.declared.part.Part.{Part}
 use Rattle.cil_optionals.specs.declared.reason.Reason.{Reason}
 use Rattle.cil_optionals.specs.Certificate.{left_out}
-use Rattle.cil_optionals.specs.Parts.{IsShown, is_optional_part, is_step, is_well, left_after, names_one}
+use Rattle.cil_optionals.specs.Parts.{IsShown, Part, is_optional_part, is_step, is_well, left_after, names_one}
 use Rattle.cil_optionals.specs.Times.{AreEntryTimes, AreSteps, AreTimes, AreTimesUpTo, AreWell, IsEnabledAfter, after, names_after, noted}
 use Rattle.cil_optionals.proofs.ShownLemmas.{pushed}
 

@@ -1,6 +1,6 @@
 -- What the choice of optionals goes by: of each statement whether it is an optional, the optional round it, and what its words
 -- could name; and when each reason holds, as tests over these. No other crate needs these words.
-use Rattle.std.specs.Prelude.{◌≡◌, ℕ, Bool, true, false, ◌&&◌, ◌||◌, ◌==◌, not, cond, List, [], map, take, Option, Some, is_some, slice_get}
+use Rattle.std.specs.Prelude.{◌≡◌, ℕ, Bool, true, false, ◌&&◌, ◌||◌, ◌==◌, not, List, [], ◌∷◌, map, take, None, Option, Some, slice_get}
 use Rattle.std.specs.List.{list_all, list_any}
 use Rattle.std.specs.Option.{option_map_or}
 use Rattle.cil_base.specs.Among.{among}
@@ -8,22 +8,41 @@ use Rattle.cil_blocks.specs.Contents.{is_optional}
 use Rattle.cil_blocks.specs.Namespaces.{AreNamespaces}
 use Rattle.cil_blocks.specs.declared.namespaces.Space.{Space}
 use Rattle.cil_macros.specs.Item.{Item, OptSet, innermost}
+use Rattle.cil_macros.specs.Items.{items_in}
 use Rattle.cil_macros.specs.Rounds.{AreNested}
 use Rattle.cil_names.specs.declared.entry.Entry.{Entry}
 use Rattle.cil_names.specs.Entries.{AreEntries, is_declared_at}
-use Rattle.cil_names.specs.PermissionWords.{wanted_candidates}
-use Rattle.cil_names.specs.Resolves.{words_of}
-use Rattle.cil_optionals.specs.declared.part.Part.{Part}
+use Rattle.cil_words.specs.Table.{asks}
+use Rattle.cil_optionals.specs.declared.parts.Parts.{Parts}
 use Rattle.cil_optionals.specs.declared.reason.Reason.{Reason}
 use Rattle.cil_optionals.specs.declared.reason.Reason.TheVariants.{Missing, ParentOut}
 use Rattle.cil_optionals.specs.Certificate.{left_out}
 
--- what the words of a statement could name, if it is in an optional: the other words are judged with the whole policy
-abbrev pub asked_by : List Space → List Entry → List Item → Item → List (List ℕ)
-asked_by ss es xs x = cond (is_some (innermost x)) (map (wanted_candidates ss es xs) (words_of x)) []
+-- what the choice reads of a statement
+pub record Part : Type 0 where
+  -- whether it is an optional
+  pub optional : Bool
+  -- the number of the innermost optional round it
+  pub inside : Option ℕ
+  -- for each of its words the entries that it could name, whatever is enabled
+  pub asked : List (List ℕ)
+
+-- the part of a statement with this row of what its words could name
+abbrev pub part_with : Item → List (List ℕ) → Part
+part_with x asked = record { optional = is_optional x.keyword; inside = innermost x; asked = asked }
+
+-- the parts of statements, each with its row; one for which there is no row asks for nothing
+unfoldable pub parts_with : List Item → List (List (List ℕ)) → List Part
+parts_with [] rows = []
+parts_with (x ∷ xs) [] = part_with x [] ∷ parts_with xs []
+parts_with (x ∷ xs) (row ∷ rows) = part_with x row ∷ parts_with xs rows
+
+-- what the choice reads, as it is kept
+abbrev pub parts_in : Parts → List Part
+parts_in p = parts_with (items_in p.instances.now) p.asks.now
 
 abbrev pub part_of : List Space → List Entry → List Item → Item → Part
-part_of ss es xs x = record { optional = is_optional x.keyword; inside = innermost x; asked = asked_by ss es xs x }
+part_of ss es xs x = part_with x (asks ss es xs x)
 
 -- the parts are those of these items
 pub record ArePartsOf (ss : List Space) (es : List Entry) (xs : List Item) (ps : List Part) : Type 0 where
@@ -31,6 +50,23 @@ pub record ArePartsOf (ss : List Space) (es : List Entry) (xs : List Item) (ps :
   pub entries : AreEntries ss xs es
   pub nested : AreNested xs
   pub parts : ps ≡ map (part_of ss es xs) xs
+
+-- ---- the part of a number
+
+-- the innermost optional round a statement, and what its words could name; nothing of one that is not there
+abbrev pub inside_of : Option Part → Option ℕ
+inside_of None = None
+inside_of (Some p) = p.inside
+
+abbrev pub asked_of : Option Part → List (List ℕ)
+asked_of None = []
+asked_of (Some p) = p.asked
+
+abbrev pub inside_at : List Part → ℕ → Option ℕ
+inside_at ps at = inside_of (slice_get ps at)
+
+abbrev pub asked_at : List Part → ℕ → List (List ℕ)
+asked_at ps at = asked_of (slice_get ps at)
 
 -- ---- tests
 

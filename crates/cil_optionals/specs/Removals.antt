@@ -3,9 +3,8 @@ use Rattle.std.specs.Prelude.{◌≡◌, ℕ, ◌<◌, Bool, true, false, List, 
 use Rattle.std.specs.List.{count_by}
 use Rattle.cil_names.specs.declared.entry.Entry.{Entry}
 use Rattle.cil_names.specs.Entries.{is_in}
-use Rattle.cil_optionals.specs.declared.part.Part.{Part}
 use Rattle.cil_optionals.specs.declared.reason.Reason.{Reason}
-use Rattle.cil_optionals.specs.Parts.{is_step, is_well, left_after, names_one}
+use Rattle.cil_optionals.specs.Parts.{Part, is_step, is_well, left_after, names_one}
 
 -- how many flags are set
 unfoldable pub count_set : List Bool → ℕ

@@ -5,9 +5,8 @@ use Rattle.std.specs.List.{list_any}
 use Rattle.cil_macros.specs.Item.{OptSet}
 use Rattle.cil_names.specs.declared.entry.Entry.{Entry}
 use Rattle.cil_names.specs.Entries.{is_declared_at, is_in}
-use Rattle.cil_optionals.specs.declared.part.Part.{Part}
 use Rattle.cil_optionals.specs.declared.reason.Reason.{Reason}
-use Rattle.cil_optionals.specs.Parts.{WordTest, is_step, is_well, left_after}
+use Rattle.cil_optionals.specs.Parts.{Part, WordTest, is_step, is_well, left_after}
 
 -- what is there after so many were taken out: what stays for longer
 abbrev pub after : List ℕ → ℕ → OptSet

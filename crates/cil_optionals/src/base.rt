@@ -8,12 +8,13 @@ ghost use Rattle.cil_names.specs.Unresolved.{ArePermissions};
 
 use crate::chosen::Chosen;
 use cil_macros::Instances;
-use cil_names::{Lookup, Names, words_of};
+use cil_names::Names;
 use cil_syntax::{Bytes, Failure};
+use cil_words::{asks_of, judged};
 use std::alloc::Global;
 
 /// Judges the words of all statements that are in no optional, by the names that are declared where these optionals are in force.
-/// It looks every word up, as `words_of` of cil_names does, whose table it drops.
+/// It makes the table of what all instances ask for, and drops it.
 ///
 /// Errors: a fault 41 for each such word that names nothing, or out of memory.
 pub fn base_faults<'r, 'a>(
@@ -27,11 +28,7 @@ pub fn base_faults<'r, 'a>(
     requires permissions { ArePermissions (namespaces_in instances.now) names.now (items_in instances.now) permissions.now }
     ensures { Answers (λ done. Unit {0}) (ResolveFault (is_in chosen.now.enabled) (items_in instances.now)) result }
 {
-    let lookup = Lookup {
-        namespaces: instances.namespaces(),
-        names,
-        enabled: &chosen.enabled,
-    };
-    let _words = words_of(alloc, &lookup, permissions, instances)?;
+    let asks = asks_of(alloc, names, permissions, instances)?;
+    judged(alloc, instances, names, &asks, &chosen.enabled)?;
     Ok(())
 }

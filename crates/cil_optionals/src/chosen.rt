@@ -8,13 +8,14 @@ ghost use Rattle.cil_optionals.specs.Certificate.{IsRight};
 ghost use Rattle.cil_optionals.specs.Counts.{lookups, removals};
 ghost use Rattle.cil_optionals.specs.Greatest.{IsGreatest};
 ghost use Rattle.cil_optionals.specs.PartCounts.{AreLookups};
-ghost use Rattle.cil_optionals.specs.Parts.{IsShown};
+ghost use Rattle.cil_optionals.specs.Parts.{IsShown, parts_in};
+ghost use Rattle.cil_words.specs.Table.{AreAsks};
 
 use crate::checking::is_shown;
 use crate::counts::lookups_of;
 use crate::guesses::{Walk, guess_by};
 use crate::laws;
-use crate::part::{Part, parts_of};
+use crate::parts::{Parts, parts_of};
 use crate::reason::Reason;
 use crate::removal::by_removal;
 use cil_base::NoMemory;
@@ -22,6 +23,7 @@ use cil_macros::Instances;
 use cil_names::laws::resolves_by_candidates;
 use cil_names::{Entry, Names, OptSet};
 use cil_syntax::Bytes;
+use cil_words::{Asks, asks_of};
 use std::alloc::Global;
 
 /// A set of optionals, and why each other one is left out.
@@ -46,7 +48,8 @@ pub struct Counted {
 }
 
 /// The greatest set of optionals in which each has its parent and all words of its own statements name something, with a reason
-/// for each optional that is left out. (CIL Reference Guide, "Container Statements", "optional".) Error: out of memory.
+/// for each optional that is left out. (CIL Reference Guide, "Container Statements", "optional".) It makes the table of what all
+/// instances ask for, and drops it. Error: out of memory.
 pub fn greatest<'r, 'a>(
     alloc: Global,
     instances: &'r Instances<'_, '_, 'a>,
@@ -58,7 +61,24 @@ pub fn greatest<'r, 'a>(
     ensures right { IfOk result (λ c. IsRight (items_in instances.now) (is_in c.enabled) c.reasons.items) }
     ensures greatest { IfOk result (λ c. IsGreatest (items_in instances.now) (is_in c.enabled)) }
 {
-    let counted = greatest_counted(alloc, instances, names, permissions)?;
+    let asks = asks_of(alloc, names, permissions, instances)?;
+    let chosen = greatest_of(alloc, instances, names, &asks)?;
+    Ok(chosen)
+}
+
+/// The same, by the table of what all instances ask for. Error: out of memory.
+pub fn greatest_of<'r, 'a>(
+    alloc: Global,
+    instances: &'r Instances<'_, '_, 'a>,
+    names: &'r Names<'a>,
+    asks: &'r Asks,
+) -> Result<Chosen, NoMemory>
+    requires entries { AreEntries (namespaces_in instances.now) (items_in instances.now) names.now }
+    requires asks { AreAsks (namespaces_in instances.now) names.now (items_in instances.now) asks.now }
+    ensures right { IfOk result (λ c. IsRight (items_in instances.now) (is_in c.enabled) c.reasons.items) }
+    ensures greatest { IfOk result (λ c. IsGreatest (items_in instances.now) (is_in c.enabled)) }
+{
+    let counted = counted_of(alloc, instances, names, asks)?;
     Ok(counted.chosen)
 }
 
@@ -78,10 +98,29 @@ pub fn greatest_counted<'r, 'a>(
     ensures removals { IfOk result (λ c. c.removals ≡ removals (items_in instances.now) (is_in c.chosen.enabled)) }
     ensures lookups { IfOk result (λ c. c.lookups ≡ lookups (items_in instances.now) (is_in c.chosen.enabled)) }
 {
+    let asks = asks_of(alloc, names, permissions, instances)?;
+    let counted = counted_of(alloc, instances, names, &asks)?;
+    Ok(counted)
+}
+
+/// The same, by the table of what all instances ask for.
+fn counted_of<'r, 'a>(
+    alloc: Global,
+    instances: &'r Instances<'_, '_, 'a>,
+    names: &'r Names<'a>,
+    asks: &'r Asks,
+) -> Result<Counted, NoMemory>
+    requires entries { AreEntries (namespaces_in instances.now) (items_in instances.now) names.now }
+    requires asks { AreAsks (namespaces_in instances.now) names.now (items_in instances.now) asks.now }
+    ensures right { IfOk result (λ c. IsRight (items_in instances.now) (is_in c.chosen.enabled) c.chosen.reasons.items) }
+    ensures greatest { IfOk result (λ c. IsGreatest (items_in instances.now) (is_in c.chosen.enabled)) }
+    ensures removals { IfOk result (λ c. c.removals ≡ removals (items_in instances.now) (is_in c.chosen.enabled)) }
+    ensures lookups { IfOk result (λ c. c.lookups ≡ lookups (items_in instances.now) (is_in c.chosen.enabled)) }
+{
     laws::right_is_greatest();
     resolves_by_candidates();
-    let parts = parts_of(alloc, instances, names, permissions)?;
-    let walk = counted_by(alloc, &*instances, parts.as_slice(), names.entries())?;
+    let parts = parts_of(instances, names, asks);
+    let walk = counted_by(alloc, instances, &parts, names.entries())?;
     Ok(Counted {
         removals: walk.chosen.reasons.len() as u64,
         lookups: walk.lookups as u64,
@@ -93,11 +132,11 @@ pub fn greatest_counted<'r, 'a>(
 fn counted_by(
     alloc: Global,
     instances: &Instances,
-    parts: &[Part],
+    parts: &Parts,
     entries: &[Entry],
 ) -> Result<Walk, NoMemory>
-    ensures shown { IfOk result (λ w. IsShown parts.now entries.now (is_in w.chosen.enabled) w.chosen.reasons.items) }
-    ensures lookups { IfOk result (λ w. AreLookups (items_in instances.now) parts.now entries.now (is_in w.chosen.enabled) w.lookups) }
+    ensures shown { IfOk result (λ w. IsShown (parts_in parts.now) entries.now (is_in w.chosen.enabled) w.chosen.reasons.items) }
+    ensures lookups { IfOk result (λ w. AreLookups (items_in instances.now) (parts_in parts.now) entries.now (is_in w.chosen.enabled) w.lookups) }
 {
     let guessed = guess_by(alloc, parts, entries)?;
     if is_counted(alloc, instances, parts, entries, &guessed)? {
@@ -112,12 +151,12 @@ fn counted_by(
 fn is_counted(
     alloc: Global,
     instances: &Instances,
-    parts: &[Part],
+    parts: &Parts,
     entries: &[Entry],
     guessed: &Walk,
 ) -> Result<bool, NoMemory>
-    ensures shown { IfOk result (λ b. IsTrue b → IsShown parts.now entries.now (is_in guessed.now.chosen.enabled) guessed.now.chosen.reasons.items) }
-    ensures lookups { IfOk result (λ b. IsTrue b → AreLookups (items_in instances.now) parts.now entries.now (is_in guessed.now.chosen.enabled) guessed.now.lookups) }
+    ensures shown { IfOk result (λ b. IsTrue b → IsShown (parts_in parts.now) entries.now (is_in guessed.now.chosen.enabled) guessed.now.chosen.reasons.items) }
+    ensures lookups { IfOk result (λ b. IsTrue b → AreLookups (items_in instances.now) (parts_in parts.now) entries.now (is_in guessed.now.chosen.enabled) guessed.now.lookups) }
 {
     let lookups = lookups_of(alloc, instances, parts, entries, &guessed.chosen.enabled)?;
     if guessed.lookups != lookups {
@@ -140,7 +179,8 @@ pub fn check<'r, 'a>(
     ensures { IfOk result (λ b. IsTrue b ↔ IsRight (items_in instances.now) (is_in chosen.now.enabled) chosen.now.reasons.items) }
 {
     resolves_by_candidates();
-    let parts = parts_of(alloc, instances, names, permissions)?;
-    let right = is_shown(alloc, parts.as_slice(), names.entries(), chosen)?;
+    let asks = asks_of(alloc, names, permissions, instances)?;
+    let parts = parts_of(instances, names, &asks);
+    let right = is_shown(alloc, &parts, names.entries(), chosen)?;
     Ok(right)
 }

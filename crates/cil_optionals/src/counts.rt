@@ -1,16 +1,18 @@
 //! How many look-ups the choice of optionals takes, by what it leaves out. It costs a step for each statement, each optional round
 //! a declaration, and each entry that a word in an optional could name.
 
-ghost use Rattle.std.specs.Prelude.{◌≡◌, ◌+◌, ◌<◌, IfOk, count_by, length, sum_by};
+ghost use Rattle.std.specs.Prelude.{◌≡◌, ◌+◌, ◌<◌, IfOk, count_by, length, slice_get, sum_by};
+ghost use Rattle.std.specs.Option.{option_map_or};
 ghost use Rattle.cil_macros.specs.Items.{item_at, items_in};
 ghost use Rattle.cil_names.specs.Entries.{is_in};
 ghost use Rattle.cil_optionals.specs.Counts.{declares as declares_item, is_lost as is_lost_item};
-ghost use Rattle.cil_optionals.specs.PartCounts.{AreLookups, lost_among, lost_of};
+ghost use Rattle.cil_optionals.specs.PartCounts.{AreLookups, lost_among, lost_inside, lost_of};
+ghost use Rattle.cil_optionals.specs.Parts.{asked_at, parts_in};
 
-use crate::part::Part;
+use crate::parts::Parts;
 use cil_base::NoMemory;
 use cil_macros::Instances;
-use cil_names::{Candidates, Entry, OptSet, flags_of, is_set};
+use cil_names::{Entry, OptSet, flags_of, is_set};
 use std::alloc::Global;
 
 /// How many look-ups it takes to choose these optionals: one for each declaring statement that is left out, and one for each word
@@ -18,11 +20,11 @@ use std::alloc::Global;
 pub fn lookups_of(
     alloc: Global,
     instances: &Instances,
-    parts: &[Part],
+    parts: &Parts,
     entries: &[Entry],
     enabled: &OptSet,
 ) -> Result<usize, NoMemory>
-    ensures { IfOk result (λ n. AreLookups (items_in instances.now) parts.now entries.now (is_in enabled.now) n) }
+    ensures { IfOk result (λ n. AreLookups (items_in instances.now) (parts_in parts.now) entries.now (is_in enabled.now) n) }
 {
     let declared = flags_of(alloc, entries, enabled.as_slice())?;
     let statements = lost_statements(instances, enabled)?;
@@ -68,36 +70,46 @@ fn declares(instances: &Instances, at: usize) -> bool
 }
 
 /// How many entries that are not declared the words in optionals could name, each word by itself.
-fn lost_candidates(parts: &[Part], declared: &[bool]) -> Result<usize, NoMemory>
-    ensures { IfOk result (λ n. n ≡ sum_by (λ p. lost_among declared.now p.asked) parts.now) }
+fn lost_candidates(parts: &Parts, declared: &[bool]) -> Result<usize, NoMemory>
+    ensures { IfOk result (λ n. n ≡ sum_by (lost_inside declared.now) (parts_in parts.now)) }
 {
     let mut count = 0;
-    for part in parts {
-        let more = lost_words(&part.asked, declared)?;
+    for at in 0..parts.len() {
+        let more = lost_at(parts, at, declared)?;
         count = sum(count, more)?;
     }
     Ok(count)
 }
 
-/// The same of the words of one statement.
-fn lost_words(asked: &Candidates, declared: &[bool]) -> Result<usize, NoMemory>
-    ensures { IfOk result (λ n. n ≡ lost_among declared.now asked.now) }
+/// The same of the words of one statement; none if it is in no optional.
+fn lost_at(parts: &Parts, at: usize, declared: &[bool]) -> Result<usize, NoMemory>
+    ensures { IfOk result (λ n. n ≡ option_map_or (lost_inside declared.now) (slice_get (parts_in parts.now) at) 0) }
+{
+    if parts.inside(at).is_none() {
+        return Ok(0);
+    }
+    lost_words(parts, at, declared)
+}
+
+/// The same of the words of one statement, wherever it is.
+fn lost_words(parts: &Parts, at: usize, declared: &[bool]) -> Result<usize, NoMemory>
+    ensures { IfOk result (λ n. n ≡ lost_among declared.now (asked_at (parts_in parts.now) at)) }
 {
     let mut count = 0;
-    for word in 0..asked.len() {
-        let lost = lost_entries(asked.row(word), declared)?;
+    for word in 0..parts.count(at) {
+        let lost = lost_entries(parts.word(at, word), declared)?;
         count = sum(count, lost)?;
     }
     Ok(count)
 }
 
 /// How many of these entries are not declared.
-fn lost_entries(candidates: &[usize], declared: &[bool]) -> Result<usize, NoMemory>
+fn lost_entries(candidates: &[u32], declared: &[bool]) -> Result<usize, NoMemory>
     ensures { IfOk result (λ n. n ≡ lost_of declared.now candidates.now) }
 {
     let mut count = 0;
     for entry in candidates {
-        if !is_set(declared, *entry) {
+        if !is_set(declared, *entry as usize) {
             count = sum(count, 1)?;
         }
     }

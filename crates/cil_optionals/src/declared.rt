@@ -7,12 +7,12 @@ ghost use Rattle.cil_optionals.specs.Parts.{names_one as names_one_of};
 use cil_names::{Entry, is_declared};
 
 /// Whether one of these entries is declared.
-pub fn names_one(entries: &[Entry], flags: &[bool], candidates: &[usize]) -> bool
+pub fn names_one(entries: &[Entry], flags: &[bool], candidates: &[u32]) -> bool
     ensures { result ≡ names_one_of entries.now (is_in flags.now) candidates.now }
 {
     candidates
         .iter()
-        .any(|number| is_declared_at(entries, flags, *number))
+        .any(|number| is_declared_at(entries, flags, *number as usize))
 }
 
 /// Whether the entry of this number is declared.

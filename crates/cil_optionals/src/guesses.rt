@@ -8,7 +8,7 @@ ghost use Rattle.cil_names.specs.Unresolved.{ArePermissions};
 ghost use Rattle.cil_settle.specs.Settled.{leads_within};
 
 use crate::chosen::Chosen;
-use crate::part::{Part, parts_of};
+use crate::parts::Parts;
 use crate::reason::Reason;
 use crate::removal::{optionals_of, small};
 use cil_base::NoMemory;
@@ -16,6 +16,7 @@ use cil_macros::Instances;
 use cil_names::{Entry, Names, OptSet, is_set};
 use cil_settle::{Edge, Settled, settle, sort_edges};
 use cil_syntax::Bytes;
+use cil_words::asks_of;
 use std::alloc::Global;
 
 /// A guess at the greatest set of optionals. It is public for tests, which ask whether it is right: where it was not, the choice
@@ -29,13 +30,17 @@ pub fn guess<'r, 'a>(
     requires entries { AreEntries (namespaces_in instances.now) (items_in instances.now) names.now }
     requires permissions { ArePermissions (namespaces_in instances.now) names.now (items_in instances.now) permissions.now }
 {
-    let parts = parts_of(alloc, instances, names, permissions)?;
-    let walk = guess_by(alloc, parts.as_slice(), names.entries())?;
+    let asks = asks_of(alloc, names, permissions, instances)?;
+    let parts = Parts {
+        instances,
+        asks: &asks,
+    };
+    let walk = guess_by(alloc, &parts, names.entries())?;
     Ok(walk)
 }
 
 /// A guess by the parts of all statements.
-pub(crate) fn guess_by(alloc: Global, parts: &[Part], entries: &[Entry]) -> Result<Walk, NoMemory> {
+pub(crate) fn guess_by(alloc: Global, parts: &Parts, entries: &[Entry]) -> Result<Walk, NoMemory> {
     let mut graph = Graph {
         edges: Vec::new(alloc),
         need: Vec::new(alloc),
@@ -85,10 +90,10 @@ impl Graph {
         Ok(())
     }
 
-    fn add_statements(&mut self, parts: &[Part]) -> Result<(), NoMemory> {
+    fn add_statements(&mut self, parts: &Parts) -> Result<(), NoMemory> {
         for at in 0..parts.len() {
             self.need.push(1)?;
-            if let Some(parent) = parent_of(&parts[at]) {
+            if let Some(parent) = parent_of(parts, at) {
                 self.edge(parent, at, false)?;
             }
         }
@@ -117,9 +122,9 @@ impl Graph {
         Ok(())
     }
 
-    fn add_all_words(&mut self, parts: &[Part], entries: &[Entry]) -> Result<(), NoMemory> {
+    fn add_all_words(&mut self, parts: &Parts, entries: &[Entry]) -> Result<(), NoMemory> {
         for instance in 0..parts.len() {
-            if let Some(optional) = parts[instance].inside {
+            if let Some(optional) = parts.inside(instance) {
                 self.add_words(optional, instance, parts, entries)?;
             }
         }
@@ -130,14 +135,11 @@ impl Graph {
         &mut self,
         optional: usize,
         instance: usize,
-        parts: &[Part],
+        parts: &Parts,
         entries: &[Entry],
     ) -> Result<(), NoMemory> {
-        let Some(part) = parts.get(instance) else {
-            return Ok(());
-        };
-        for word in 0..part.asked.len() {
-            let candidates = part.asked.row(word);
+        for word in 0..parts.count(instance) {
+            let candidates = parts.word(instance, word);
             if !all_stay(entries, candidates) {
                 let own = WordNode {
                     optional,
@@ -154,7 +156,7 @@ impl Graph {
     fn add_word(
         &mut self,
         word: WordNode,
-        candidates: &[usize],
+        candidates: &[u32],
         first_entry: usize,
         entries: &[Entry],
     ) -> Result<(), NoMemory> {
@@ -163,8 +165,9 @@ impl Graph {
         self.words.push(word)?;
         self.edge(node, word.optional, false)?;
         for entry in candidates {
-            if !stays(entries, *entry) {
-                self.edge(first_entry.saturating_add(*entry), node, true)?;
+            let number = *entry as usize;
+            if !stays(entries, number) {
+                self.edge(first_entry.saturating_add(number), node, true)?;
             }
         }
         Ok(())
@@ -172,8 +175,11 @@ impl Graph {
 }
 
 /// Whether a word could name something, and only entries that stay: then it stays too, and no look-up of it is counted.
-fn all_stay(entries: &[Entry], candidates: &[usize]) -> bool {
-    !candidates.is_empty() && candidates.iter().all(|entry| stays(entries, *entry))
+fn all_stay(entries: &[Entry], candidates: &[u32]) -> bool {
+    !candidates.is_empty()
+        && candidates
+            .iter()
+            .all(|entry| stays(entries, *entry as usize))
 }
 
 /// Whether the entry of this number is declared whatever is left out.
@@ -185,8 +191,12 @@ fn stays(entries: &[Entry], number: usize) -> bool {
 }
 
 /// The optional round an optional.
-fn parent_of(part: &Part) -> Option<usize> {
-    if part.optional { part.inside } else { None }
+fn parent_of(parts: &Parts, at: usize) -> Option<usize> {
+    if parts.is_optional(at) {
+        parts.inside(at)
+    } else {
+        None
+    }
 }
 
 /// How many declaring statements have to go out before an entry does: more than there are, if one is in no optional.
@@ -220,7 +230,7 @@ fn lead_within(edges: &[Edge], count: usize) -> bool
 /// The optionals that are in none of the nodes that go out, and for each other one a reason that holds when its turn comes.
 fn chosen_from(
     alloc: Global,
-    parts: &[Part],
+    parts: &Parts,
     words: &[WordNode],
     first_word: usize,
     order: &[usize],
@@ -257,7 +267,7 @@ struct Removal {
 impl Removal {
     fn put_out(
         &mut self,
-        parts: &[Part],
+        parts: &Parts,
         words: &[WordNode],
         first_word: usize,
         node: usize,
@@ -292,14 +302,11 @@ impl Removal {
     /// Why an optional goes out now.
     fn reason(
         &self,
-        parts: &[Part],
+        parts: &Parts,
         words: &[WordNode],
         optional: usize,
     ) -> Result<Option<Reason>, NoMemory> {
-        let Some(part) = parts.get(optional) else {
-            return Ok(None);
-        };
-        if self.is_out(part.inside) {
+        if self.is_out(parts.inside(optional)) {
             return Ok(Some(Reason::ParentOut {
                 optional: small(optional)?,
             }));

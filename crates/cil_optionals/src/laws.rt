@@ -12,13 +12,14 @@ ghost use Rattle.cil_optionals.specs.Laws.{FlatIsGreatest, HasOneGreatest, HasOn
 ghost use Rattle.cil_optionals.specs.Laws.{KeepsResolving, RightIsGreatest, UnionIsGood};
 
 use crate::chosen::Chosen;
-use crate::part::parts_of;
+use crate::parts::parts_of;
 use crate::removal::by_removal;
 use cil_base::NoMemory;
 use cil_macros::Instances;
 use cil_names::Names;
 use cil_names::laws::resolves_by_candidates;
 use cil_syntax::Bytes;
+use cil_words::asks_of;
 use std::alloc::Global;
 
 /// A word that resolves goes on to resolve where more optionals are in, perhaps to a nearer name.
@@ -68,7 +69,8 @@ pub fn greatest_in_rounds<'r, 'a>(
     right_is_greatest();
     one_greatest();
     resolves_by_candidates();
-    let parts = parts_of(alloc, instances, names, permissions)?;
-    let chosen = by_removal(alloc, parts.as_slice(), names.entries())?;
+    let asks = asks_of(alloc, names, permissions, instances)?;
+    let parts = parts_of(instances, names, &asks);
+    let chosen = by_removal(alloc, &parts, names.entries())?;
     Ok(chosen)
 }

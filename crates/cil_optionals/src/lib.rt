@@ -15,12 +15,12 @@ mod declared;
 pub mod guesses;
 pub mod laws;
 mod lines;
-mod part;
+mod parts;
 mod reason;
 mod removal;
 mod times;
 
 pub use base::base_faults;
-pub use chosen::{Chosen, Counted, check, greatest, greatest_counted};
+pub use chosen::{Chosen, Counted, check, greatest, greatest_counted, greatest_of};
 pub use lines::{OptionalLine, WhyLine, optional_lines, why_lines};
 pub use reason::Reason;

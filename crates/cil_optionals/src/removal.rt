@@ -5,22 +5,21 @@ ghost use Rattle.std.specs.Prelude.{◌≡◌, IfOk, MatchOption, OnOk, length, 
 ghost use Rattle.std.specs.List.{list_all};
 ghost use Rattle.cil_names.specs.Entries.{is_in};
 ghost use Rattle.cil_optionals.specs.Certificate.{left_out};
-ghost use Rattle.cil_optionals.specs.Parts.{IsShown, lacks, names_one};
+ghost use Rattle.cil_optionals.specs.Parts.{IsShown, Part, asked_at, lacks, names_one, parts_in};
 ghost use Rattle.cil_optionals.specs.Removals.{IsPassed, IsReasonNow, IsTaken, IsTurned, IsWellAt};
 ghost use Rattle.cil_optionals.specs.declared.reason.Reason.TheVariants.{ParentOut};
-ghost use Rattle.cil_optionals.specs.declared.part.Part.{Part as ThePart};
 
 use crate::chosen::Chosen;
 use crate::declared::names_one;
-use crate::part::Part;
+use crate::parts::Parts;
 use crate::reason::Reason;
 use cil_base::NoMemory;
-use cil_names::{Candidates, Entry, OptSet, is_set};
+use cil_names::{Entry, OptSet, is_set};
 use std::alloc::Global;
 
 /// The greatest set, by passes over all statements until one takes nothing out.
-pub fn by_removal(alloc: Global, parts: &[Part], entries: &[Entry]) -> Result<Chosen, NoMemory>
-    ensures { IfOk result (λ c. IsShown parts.now entries.now (is_in c.enabled) c.reasons.items) }
+pub fn by_removal(alloc: Global, parts: &Parts, entries: &[Entry]) -> Result<Chosen, NoMemory>
+    ensures { IfOk result (λ c. IsShown (parts_in parts.now) entries.now (is_in c.enabled) c.reasons.items) }
 {
     let mut left = optionals_of(alloc, parts)?;
     let mut reasons = Vec::new(alloc);
@@ -35,26 +34,26 @@ pub fn by_removal(alloc: Global, parts: &[Part], entries: &[Entry]) -> Result<Ch
 }
 
 /// A flag for each statement: whether it is an optional.
-pub(crate) fn optionals_of(alloc: Global, parts: &[Part]) -> Result<Vec<bool>, NoMemory>
-    ensures { IfOk result (λ left. left.items ≡ map (λ (p : ThePart). p.optional) parts.now) }
+pub(crate) fn optionals_of(alloc: Global, parts: &Parts) -> Result<Vec<bool>, NoMemory>
+    ensures { IfOk result (λ left. left.items ≡ map (λ (p : Part). p.optional) (parts_in parts.now)) }
 {
     let mut left = Vec::new(alloc);
-    for part in parts {
-        left.push(part.optional)?;
+    for at in 0..parts.len() {
+        left.push(parts.is_optional(at))?;
     }
     Ok(left)
 }
 
 /// Judges all statements, each by what is left when its turn comes. It returns whether an optional was taken out.
 fn pass(
-    parts: &[Part],
+    parts: &Parts,
     entries: &[Entry],
     left: &mut Vec<bool>,
     reasons: &mut Vec<Reason>,
 ) -> Result<bool, NoMemory>
-    requires { IsTaken parts.now entries.now left.old.items reasons.old.items }
-    ensures steps { OnOk result (IsTaken parts.now entries.now left.new.items reasons.new.items) }
-    ensures passed { IfOk result (λ taken. IsPassed parts.now entries.now (length parts.now) left.old.items left.new.items taken) }
+    requires { IsTaken (parts_in parts.now) entries.now left.old.items reasons.old.items }
+    ensures steps { OnOk result (IsTaken (parts_in parts.now) entries.now left.new.items reasons.new.items) }
+    ensures passed { IfOk result (λ taken. IsPassed (parts_in parts.now) entries.now (length (parts_in parts.now)) left.old.items left.new.items taken) }
 {
     let mut taken = false;
     for at in 0..parts.len() {
@@ -66,15 +65,15 @@ fn pass(
 
 /// Judges the statement at a place, and takes out an optional if the statement is a reason to. It returns whether it did.
 fn turn(
-    parts: &[Part],
+    parts: &Parts,
     entries: &[Entry],
     left: &mut Vec<bool>,
     reasons: &mut Vec<Reason>,
     at: usize,
 ) -> Result<bool, NoMemory>
-    requires { IsTaken parts.now entries.now left.old.items reasons.old.items }
-    ensures steps { OnOk result (IsTaken parts.now entries.now left.new.items reasons.new.items) }
-    ensures turned { IfOk result (λ taken. IsTurned parts.now entries.now at left.old.items left.new.items taken) }
+    requires { IsTaken (parts_in parts.now) entries.now left.old.items reasons.old.items }
+    ensures steps { OnOk result (IsTaken (parts_in parts.now) entries.now left.new.items reasons.new.items) }
+    ensures turned { IfOk result (λ taken. IsTurned (parts_in parts.now) entries.now at left.old.items left.new.items taken) }
 {
     let Some(reason) = judged(parts, entries, left.as_slice(), at)? else {
         return Ok(false);
@@ -86,23 +85,20 @@ fn turn(
 
 /// The reason to take out an optional that the statement at a place gives; none where all is well with it.
 fn judged(
-    parts: &[Part],
+    parts: &Parts,
     entries: &[Entry],
     left: &[bool],
     at: usize,
 ) -> Result<Option<Reason>, NoMemory>
-    ensures { IfOk result (λ r. MatchOption r (IsWellAt parts.now entries.now left.now at) (IsReasonNow parts.now entries.now left.now)) }
+    ensures { IfOk result (λ r. MatchOption r (IsWellAt (parts_in parts.now) entries.now left.now at) (IsReasonNow (parts_in parts.now) entries.now left.now)) }
 {
-    let Some(part) = parts.get(at) else {
-        return Ok(None);
-    };
-    let Some(optional) = part.inside else {
+    let Some(optional) = parts.inside(at) else {
         return Ok(None);
     };
     if !is_set(left, optional) {
         return parent_out(left, at);
     }
-    let Some(word) = first_lacking(&part.asked, entries, left) else {
+    let Some(word) = first_lacking(parts, at, entries, left) else {
         return Ok(None);
     };
     Ok(Some(Reason::Missing {
@@ -124,12 +120,13 @@ fn parent_out(left: &[bool], at: usize) -> Result<Option<Reason>, NoMemory>
     }))
 }
 
-/// The number of the first word that names nothing.
-fn first_lacking(asked: &Candidates, entries: &[Entry], left: &[bool]) -> Option<usize>
-    ensures { MatchOption result (list_all (names_one entries.now (is_in left.now)) asked.now ≡ true) (λ j. lacks (names_one entries.now (is_in left.now)) asked.now j ≡ true) }
+/// The number of the first word of a statement that names nothing.
+fn first_lacking(parts: &Parts, at: usize, entries: &[Entry], left: &[bool]) -> Option<usize>
+    ensures { MatchOption result (list_all (names_one entries.now (is_in left.now)) (asked_at (parts_in parts.now) at) ≡ true)
+        (λ j. lacks (names_one entries.now (is_in left.now)) (asked_at (parts_in parts.now) at) j ≡ true) }
 {
-    for word in 0..asked.len() {
-        if !names_one(entries, left, asked.row(word)) {
+    for word in 0..parts.count(at) {
+        if !names_one(entries, left, parts.word(at, word)) {
             return Some(word);
         }
     }

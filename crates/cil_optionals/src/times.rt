@@ -5,17 +5,17 @@ ghost use Rattle.std.specs.Prelude.{◌≡◌, ◌<◌, ℕ, IfOk, cond, get_or,
 ghost use Rattle.std.specs.List.{list_all, list_any};
 ghost use Rattle.cil_names.specs.Entries.{is_declared_in};
 ghost use Rattle.cil_optionals.specs.Times.{AreEntryTimes, AreTimes, after, names_after, noted};
-ghost use Rattle.cil_optionals.specs.declared.part.Part.{Part as ThePart};
+ghost use Rattle.cil_optionals.specs.Parts.{Part, is_optional_part, parts_in};
 
-use crate::part::Part;
+use crate::parts::Parts;
 use crate::reason::Reason;
 use cil_base::NoMemory;
 use cil_names::Entry;
 use std::alloc::Global;
 
 /// For how many steps each optional is left.
-pub fn times_of(alloc: Global, parts: &[Part], reasons: &[Reason]) -> Result<Vec<usize>, NoMemory>
-    ensures { IfOk result (λ times. AreTimes parts.now reasons.now times.items) }
+pub fn times_of(alloc: Global, parts: &Parts, reasons: &[Reason]) -> Result<Vec<usize>, NoMemory>
+    ensures { IfOk result (λ times. AreTimes (parts_in parts.now) reasons.now times.items) }
 {
     let top = reasons.len() + 1;
     let mut times = times_at_start(alloc, parts, top)?;
@@ -26,20 +26,20 @@ pub fn times_of(alloc: Global, parts: &[Part], reasons: &[Reason]) -> Result<Vec
 }
 
 /// For how many steps each is there where none is taken out.
-fn times_at_start(alloc: Global, parts: &[Part], top: usize) -> Result<Vec<usize>, NoMemory>
-    ensures { IfOk result (λ times. times.items ≡ map (λ (p : ThePart). cond p.optional top 0) parts.now) }
+fn times_at_start(alloc: Global, parts: &Parts, top: usize) -> Result<Vec<usize>, NoMemory>
+    ensures { IfOk result (λ times. times.items ≡ map (λ (p : Part). cond p.optional top 0) (parts_in parts.now)) }
 {
     let mut times = Vec::new(alloc);
-    for part in parts {
-        times.push(time_at_start(part, top))?;
+    for at in 0..parts.len() {
+        times.push(time_at_start(parts, at, top))?;
     }
     Ok(times)
 }
 
-fn time_at_start(part: &Part, top: usize) -> usize
-    ensures { result ≡ cond part.now.optional top 0 }
+fn time_at_start(parts: &Parts, at: usize, top: usize) -> usize
+    ensures { result ≡ cond (is_optional_part (parts_in parts.now) at) top 0 }
 {
-    if part.optional { top } else { 0 }
+    if parts.is_optional(at) { top } else { 0 }
 }
 
 /// Notes the time at which an optional is taken out; that of one that is out already, or is no optional, stays.
@@ -71,12 +71,12 @@ pub fn is_after(times: &[usize], steps: usize, number: usize) -> bool
 }
 
 /// Whether one of these is there after so many steps.
-pub fn names_after(times: &[usize], steps: usize, candidates: &[usize]) -> bool
+pub fn names_after(times: &[usize], steps: usize, candidates: &[u32]) -> bool
     ensures { result ≡ names_after times.now steps candidates.now }
 {
     candidates
         .iter()
-        .any(|number| is_after(times, steps, *number))
+        .any(|number| is_after(times, steps, *number as usize))
 }
 
 /// For how many steps each entry is declared, but no more than `top`. It costs a step for each optional of each round.

@@ -14,7 +14,7 @@ use Rattle.cil_syntax.specs.declared.kind.Keyword.TheVariants as keywords
 use Rattle.cil_syntax.specs.declared.kind.Kind.TheVariants as kinds
 use Rattle.cil_syntax.specs.declared.term.Word.{Word}
 use Rattle.cil_syntax.specs.Terms.{Term, Leaf, Terms, nil, cons}
-use Rattle.cil_macros.specs.Item.{Item, OptSet, all_words_in, is_enabled, words_in}
+use Rattle.cil_macros.specs.Item.{Item, OptSet, is_enabled}
 use Rattle.cil_syntax.specs.Scopes.{ScopedWord}
 use Rattle.cil_base.proofs.SortedLists.{sorted_list}
 use Rattle.cil_names.specs.declared.known.Known.{Known}
@@ -23,59 +23,59 @@ use Rattle.cil_rules.specs.declared.rule.Numbers.{Numbers}
 use Rattle.cil_rules.specs.declared.rule.Rule.{Rule}
 use Rattle.cil_rules.specs.declared.rule.Target.{Target}
 use Rattle.cil_rules.specs.Records.{Case, HasTarget, IsCase, IsRuleOf, CaseBy}
-use Rattle.cil_names.specs.Known.{BeginWith, IsNumberFor, StandsForNothing, enabled_in, meant_by, meant_in, row_in}
+use Rattle.cil_names.specs.Known.{BeginWith, IsNumberFor, StandsForNothing, enabled_in, meant_by, meant_in, row_in, wanted_with}
 use Rattle.cil_names.specs.Members.{StandsFor}
+use Rattle.cil_names.specs.PermissionWords.{wanted_meaning}
+use Rattle.cil_names.specs.Resolves.{Wanted, Word as AWord, all_wanted_in, wanted_in}
 use Rattle.cil_classes.specs.Pairs.{HasPair}
 use Rattle.cil_base.specs.Records.{AreRecordsOf, IsRecordOf}
 use Rattle.cil_classes.specs.Masks.{GivesNothing, IsGiven}
 use Rattle.cil_rules.specs.Order.{rule_cmp, rule_total, one_rule}
-use Rattle.std.proofs.lemmas.Simd.{map-map}
-use Rattle.cil_macros.proofs.FormLemmas.{across, all_across, all_words_across, no_rule, rule_across}
+use Rattle.cil_macros.proofs.FormLemmas.{across, all_across, no_rule, rule_across}
 use Rattle.cil_rules.proofs.TargetLemmas.{IsReached, only_number}
 
--- ---- the meanings of the words of a rule
+-- ---- the meanings of what a rule asks for
 
-rule_leaves : (source : Word) (target class_permission : Term Word) → all_words_in (cons (Leaf source) (cons target (cons class_permission nil))) ≡ source ∷ words_in target ++ (words_in class_permission ++ [])
-unfolding all_words_in
-rule_leaves source target class_permission = refl
+rule_wanted : (source : ScopedWord) (target class_permission : Term ScopedWord)
+    → all_wanted_in (cons (Leaf source) (cons target (cons class_permission nil))) ≡ AWord source ∷ wanted_in target ++ (wanted_in class_permission ++ [])
+unfolding all_wanted_in wanted_in
+rule_wanted source target class_permission = refl
 
-module _ (k : Known) (x : Item) (f : Word → ScopedWord) (args : Terms Word) (says : x.args ≡ all_across f args) (source : Word) (target class_permission : Term Word)
-    (said : args ≡ cons (Leaf source) (cons target (cons class_permission nil))) (words : List (Option ℕ)) (are : words ≡ row_in k x) where
-  abbrev by_meaning : Word → Option ℕ
-  by_meaning w = meant_in k (f w)
+module _ (k : Known) (xs : List Item) (x : Item) (f : Word → ScopedWord) (args : Terms Word) (says : x.args ≡ all_across f args) (source : Word) (target class_permission : Term Word)
+    (said : args ≡ cons (Leaf source) (cons target (cons class_permission nil))) (words : List (Option ℕ)) (are : words ≡ row_in k xs x) where
+  abbrev by_meaning : Wanted → Option ℕ
+  by_meaning = wanted_meaning k.lookup.namespaces.now k.lookup.names.now xs (enabled_in k)
 
-  all_meant : words ≡ by_meaning source ∷ meant_by k f target ++ meant_by k f class_permission
+  all_meant : words ≡ meant_in k (f source) ∷ meant_by k xs f target ++ meant_by k xs f class_permission
   all_meant =
       are
-      ∙ ap (λ ts. map (meant_in k) (all_words_in ts)) says
-      ∙ ap (map (meant_in k)) (all_words_across f args)
-      ∙ map-map (meant_in k) f (all_words_in args)
-      ∙ ap (map by_meaning) (ap all_words_in said ∙ rule_leaves source target class_permission)
-      ∙ ap (λ ms. by_meaning source ∷ ms) (map-append by_meaning (words_in target) (words_in class_permission ++ [])
-      ∙ ap (λ ls. map by_meaning (words_in target) ++ map by_meaning ls) (append-nil (words_in class_permission)))
+      ∙ ap (λ ts. map by_meaning (all_wanted_in ts)) (says ∙ ap (all_across f) said ∙ rule_across f source target class_permission)
+      ∙ ap (map by_meaning) (rule_wanted (f source) (across f target) (across f class_permission))
+      ∙ ap (λ ms. meant_in k (f source) ∷ ms) (map-append by_meaning (wanted_with f target) (wanted_with f class_permission ++ [])
+      ∙ ap (λ ls. map by_meaning (wanted_with f target) ++ map by_meaning ls) (append-nil (wanted_with f class_permission)))
 
   -- the first is that of the source
-  pub source_means : (r : Option ℕ) → r ≡ get_or words 0 None → r ≡ by_meaning source
+  pub source_means : (r : Option ℕ) → r ≡ get_or words 0 None → r ≡ meant_in k (f source)
   source_means r first = first ∙ ap (λ ws. get_or ws 0 None) all_meant
 
   module _ (of_target : List (Option ℕ)) (behind_source : of_target ≡ drop 1 words) where
-    target_there : of_target ≡ meant_by k f target ++ meant_by k f class_permission
+    target_there : of_target ≡ meant_by k xs f target ++ meant_by k xs f class_permission
     target_there = behind_source ∙ ap (drop 1) all_meant
 
     -- behind it are those of the target
-    pub target_begins : BeginWith k f target of_target
-    target_begins = record { more = meant_by k f class_permission; are = target_there }
+    pub target_begins : BeginWith k xs f target of_target
+    target_begins = record { more = meant_by k xs f class_permission; are = target_there }
 
     -- and behind these those of the class permission
-    pub class_begins : (of_class : List (Option ℕ)) → of_class ≡ drop (length (words_in target)) of_target → BeginWith k f class_permission of_class
+    pub class_begins : (of_class : List (Option ℕ)) → of_class ≡ drop (length (wanted_with f target)) of_target → BeginWith k xs f class_permission of_class
     class_begins of_class behind_target = record {
       more = [];
       are =
           behind_target
-          ∙ ap (drop (length (words_in target))) target_there
-          ∙ ap (λ n. drop n (meant_by k f target ++ meant_by k f class_permission)) (sym (length-map (words_in target) by_meaning))
-          ∙ drop-append_seam (meant_by k f target) (meant_by k f class_permission)
-          ∙ sym (append-nil (meant_by k f class_permission));
+          ∙ ap (drop (length (wanted_with f target))) target_there
+          ∙ ap (λ n. drop n (meant_by k xs f target ++ meant_by k xs f class_permission)) (sym (length-map (wanted_with f target) by_meaning))
+          ∙ drop-append_seam (meant_by k xs f target) (meant_by k xs f class_permission)
+          ∙ sym (append-nil (meant_by k xs f class_permission));
     }
 
 -- ---- the record of one statement

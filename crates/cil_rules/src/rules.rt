@@ -41,7 +41,7 @@ pub fn rules_of(
     known: &Known,
     classes: &[Class],
 ) -> Result<Vec<Rule>, NoMemory>
-    requires table { IsTableOf (map (row_in known.now) (items_in instances.now)) known.now.words.now }
+    requires table { IsTableOf (map (row_in known.now (items_in instances.now)) (items_in instances.now)) known.now.words.now }
     requires rising { (row : ARow) → Contains classes.now row → IsStrictlySortedBy text_cmp row.permissions }
     requires few { (row : ARow) → Contains classes.now row → length row.permissions ≤ most_permissions }
     ensures { IfOk result (λ rules. (names : kinds.Kind → List (List ℕ)) → IsKnown known.now (items_in instances.now) names
@@ -62,7 +62,7 @@ fn unsorted(
     known: &Known,
     classes: &[Class],
 ) -> Result<Vec<Rule>, NoMemory>
-    requires table { IsTableOf (map (row_in known.now) (items_in instances.now)) known.now.words.now }
+    requires table { IsTableOf (map (row_in known.now (items_in instances.now)) (items_in instances.now)) known.now.words.now }
     requires rows { AreOrderlyRows classes.now }
     ensures { IfOk result (λ rules. (names : kinds.Kind → List (List ℕ)) → IsKnown known.now (items_in instances.now) names
         → AreClasses (items_in instances.now) (enabled_in known.now) (names variants.Class) classes.now
@@ -91,7 +91,7 @@ fn rule_of(
     requires within { at < length (items_in instances.now) }
     requires rows { AreOrderlyRows classes.now }
     ensures { IfOk result (λ rule. (xs : List Item) (names : kinds.Kind → List (List ℕ)) → IsKnown known.now xs names
-        → AreClasses xs (enabled_in known.now) (names variants.Class) classes.now → words.now ≡ row_in known.now (item_at instances.now at)
+        → AreClasses xs (enabled_in known.now) (names variants.Class) classes.now → words.now ≡ row_in known.now xs (item_at instances.now at)
         → IsRecordOf (CaseBy xs (enabled_in known.now)) (IsRuleOf xs (enabled_in known.now) (names variants.Type_) classes.now)
         (item_at instances.now at) rule) }
 {
@@ -114,7 +114,7 @@ fn rule_of(
         return Ok(None);
     };
     let of_target = behind_first(words);
-    let of_class = behind(of_target, parts.target);
+    let of_class = behind(of_target, parts.target, reading.module);
     let Some(given) = given_by(known, classes, parts.class_permission, &reading, of_class) else {
         return Ok(None);
     };
@@ -150,7 +150,7 @@ fn target_of(
     module: u64,
     words: &[Meaning],
 ) -> Result<Option<Target>, NoMemory>
-    ensures { IfOk result (λ r. (xs : List Item) (names : kinds.Kind → List (List ℕ)) (f : AWord → ScopedWord) → IsKnown known.now xs names → BeginWith known.now f (said_of «module» term.now) words.now
+    ensures { IfOk result (λ r. (xs : List Item) (names : kinds.Kind → List (List ℕ)) (f : AWord → ScopedWord) → IsKnown known.now xs names → BeginWith known.now xs f (said_of «module» term.now) words.now
         → MatchOption r (HasTarget xs (enabled_in known.now) (term_with f «module» term.now) → ⊥)
         (λ target. HasTarget xs (enabled_in known.now) (term_with f «module» term.now)
         × IsTargetOf xs (enabled_in known.now) (names variants.Type_) (term_with f «module» term.now) target)) }

@@ -25,7 +25,7 @@ const MOST: usize = 4_294_967_296;
 /// A set of numbers below 2^32. Contracts see it as the rising list of its members. It takes 16 bytes for each block of 64 numbers
 /// that it has some of, and nothing for the others: 16 KB at most where its numbers are below 65,536. Sets are equal if they have
 /// the same members.
-#[derive(Drop)]
+#[derive(Debug, Drop)]
 pub struct Numbers {
     parts: Vec<Part>,
 }

@@ -9,6 +9,7 @@ use Rattle.cil_syntax.specs.declared.kind.Sign.{Sign}
 use Rattle.cil_syntax.specs.declared.kind.Sign.TheVariants as signs
 use Rattle.cil_syntax.specs.declared.term.Op.TheVariants as ops
 use Rattle.cil_faults.specs.declared.spot.Spot.{Spot}
+use Rattle.cil_faults.specs.declared.fault.Fault.{Fault}
 use Rattle.cil_syntax.specs.declared.term.Word.{Word}
 use Rattle.cil_syntax.specs.Shapes.{Inner, Reading}
 use Rattle.cil_syntax.specs.Words.{reads, read_word, read_string}
@@ -17,7 +18,8 @@ use Rattle.cil_syntax.specs.Readings.{read_row, read_list, cell_of, cells_of}
 use Rattle.cil_syntax.specs.declared.kind.Nesting.TheVariants as nestings
 use Rattle.cil_syntax.specs.Table.{entry_of, rules, containers, types, classes, users, set_aside_words, later_words, left_out_words}
 use Rattle.cil_syntax.specs.Terms.{Term, Leaf, Name, Form, Terms, nil, cons}
-use Rattle.cil_syntax.specs.Written.{Context, at_top, Verdict, Refused, Shaped, by_entry, verdict_of}
+use Rattle.cil_syntax.specs.Standpoints.{all_faults, forked, found_behind, found_from, found_inside}
+use Rattle.cil_syntax.specs.Written.{Context, at_top, Verdict, Refused, Shaped, by_entry, inside_of, verdict_of}
 
 -- a word at a place, a list that begins at one, and the string "a"
 abbrev word : ℕ → List ℕ → Node
@@ -185,3 +187,27 @@ by_first_word : (verdict_of 7 at_top (of_word (codes "filecon")) ≡ Shaped (rec
     × (verdict_of 7 at_top (of_word (codes "booleanif")) ≡ Refused (fault causes.Unsupported 0 (codes "booleanif")))
 unfolding verdict_of cells_of cell_of read_row read_word read_string read_list heads first_words begins_with rules containers types classes users entry_of set_aside_words later_words left_out_words
 by_first_word = (refl, refl, refl, refl, refl, refl)
+
+-- ---- branches
+
+-- a statement at a place that has only a string behind its word
+abbrev of_word_at : ℕ → List ℕ → Node
+of_word_at at first = list at (next (word (at + 1) first) (next (string (at + 20)) none))
+
+-- what is in a booleanif in the block k
+abbrev in_branch : Context
+in_branch = inside_of
+    (record { nesting = nestings.InBlock; space = codes "k" ∷ []; under = Some (spot 3); macro = None })
+    (record { keyword = keywords.BooleanIf; at = spot 10; args = nil })
+
+abbrev fault_in_k : FaultCode → ℕ → List ℕ → Fault
+fault_in_k code at bytes = record { code = code; «module» = 7; at = at; space = codes "k"; word = bytes }
+
+-- `(booleanif b (true (typepermissive "a") (type "a")) (false (allow "a") (optional "a")))`: 22, 24, 23 and 24, each in the namespace k
+in_branches : all_faults 7 (found_behind 7 (forked in_branch 2) (next (word 11 (codes "booleanif")) (next (word 21 (codes "b"))
+    (next (list 23 (next (word 24 (codes "true")) (next (of_word_at 30 (codes "typepermissive")) (next (of_word_at 60 (codes "type")) none))))
+    (next (list 90 (next (word 91 (codes "false")) (next (of_word_at 97 (codes "allow")) (next (of_word_at 130 (codes "optional")) none)))) none)))))
+    ≡ fault_in_k causes.Unsupported 30 (codes "typepermissive") ∷ fault_in_k causes.BadPlace 60 (codes "type")
+    ∷ fault_in_k causes.BadShape 97 (codes "allow") ∷ fault_in_k causes.BadPlace 130 (codes "optional") ∷ []
+unfolding found_behind found_inside found_from verdict_of cells_of cell_of read_row read_word read_string read_list heads first_words begins_with rules containers types classes users entry_of set_aside_words later_words left_out_words
+in_branches = refl

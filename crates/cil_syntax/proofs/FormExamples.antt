@@ -272,22 +272,23 @@ constraints_2 = (refl, refl, refl, refl, refl, refl, refl, refl)
 -- `(constrain (c (p)) (eq))`
 -- `(constrain (c (p)) (eq u1 u2 u2))`
 -- `(constrain (c (p)) (eq l1 l2))`
+-- `(constrain (c (p)) (eq l2 l1))`
 -- `(constrain (c (p)) (and (eq u1 u2) (not (eq r1 r2))))`
 -- `(constrain (c (p)) (or (eq u1 u2)))`
 -- `(constrain (c (p)) ((eq u1 u2)))`
 -- `(constrain (c (p)) (((eq u1 u2))))`
--- `(constrain (c (p)) ())`
 pub constraints_3 : (found_as keywords.Constrain (list 0 (next (word 1 (codes "constrain")) (next (list 11 (next (word 12 (codes "c")) (next (list 14 (next (word 15 (codes "p")) none)) none))) (next (list 19 (next (word 20 (codes "eq")) none)) none)))) ≡ fault causes.BadShape 0 (codes "constrain") ∷ [])
     × (found_as keywords.Constrain (list 0 (next (word 1 (codes "constrain")) (next (list 11 (next (word 12 (codes "c")) (next (list 14 (next (word 15 (codes "p")) none)) none))) (next (list 19 (next (word 20 (codes "eq")) (next (word 23 (codes "u1")) (next (word 26 (codes "u2")) (next (word 29 (codes "u2")) none))))) none)))) ≡ fault causes.BadShape 0 (codes "constrain") ∷ [])
     × (found_as keywords.Constrain (list 0 (next (word 1 (codes "constrain")) (next (list 11 (next (word 12 (codes "c")) (next (list 14 (next (word 15 (codes "p")) none)) none))) (next (list 19 (next (word 20 (codes "eq")) (next (word 23 (codes "l1")) (next (word 26 (codes "l2")) none)))) none)))) ≡ fault causes.BadShape 0 (codes "constrain") ∷ [])
+    × (found_as keywords.Constrain (list 0 (next (word 1 (codes "constrain")) (next (list 11 (next (word 12 (codes "c")) (next (list 14 (next (word 15 (codes "p")) none)) none))) (next (list 19 (next (word 20 (codes "eq")) (next (word 23 (codes "l2")) (next (word 26 (codes "l1")) none)))) none)))) ≡ fault causes.BadShape 0 (codes "constrain") ∷ [])
     × (found_as keywords.Constrain (list 0 (next (word 1 (codes "constrain")) (next (list 11 (next (word 12 (codes "c")) (next (list 14 (next (word 15 (codes "p")) none)) none))) (next (list 19 (next (word 20 (codes "and")) (next (list 24 (next (word 25 (codes "eq")) (next (word 28 (codes "u1")) (next (word 31 (codes "u2")) none)))) (next (list 35 (next (word 36 (codes "not")) (next (list 40 (next (word 41 (codes "eq")) (next (word 44 (codes "r1")) (next (word 47 (codes "r2")) none)))) none))) none)))) none)))) ≡ [])
     × (found_as keywords.Constrain (list 0 (next (word 1 (codes "constrain")) (next (list 11 (next (word 12 (codes "c")) (next (list 14 (next (word 15 (codes "p")) none)) none))) (next (list 19 (next (word 20 (codes "or")) (next (list 23 (next (word 24 (codes "eq")) (next (word 27 (codes "u1")) (next (word 30 (codes "u2")) none)))) none))) none)))) ≡ fault causes.BadShape 0 (codes "constrain") ∷ [])
     × (found_as keywords.Constrain (list 0 (next (word 1 (codes "constrain")) (next (list 11 (next (word 12 (codes "c")) (next (list 14 (next (word 15 (codes "p")) none)) none))) (next (list 19 (next (list 20 (next (word 21 (codes "eq")) (next (word 24 (codes "u1")) (next (word 27 (codes "u2")) none)))) none)) none)))) ≡ [])
     × (found_as keywords.Constrain (list 0 (next (word 1 (codes "constrain")) (next (list 11 (next (word 12 (codes "c")) (next (list 14 (next (word 15 (codes "p")) none)) none))) (next (list 19 (next (list 20 (next (list 21 (next (word 22 (codes "eq")) (next (word 25 (codes "u1")) (next (word 28 (codes "u2")) none)))) none)) none)) none)))) ≡ [])
-    × (found_as keywords.Constrain (list 0 (next (word 1 (codes "constrain")) (next (list 11 (next (word 12 (codes "c")) (next (list 14 (next (word 15 (codes "p")) none)) none))) (next (list 19 none) none)))) ≡ fault causes.BadShape 0 (codes "constrain") ∷ [])
 unfolding verdict_of cells_of cell_of read_row read_word read_string read_list rules containers types classes users entry_of set_aside_words later_words left_out_words heads first_words begins_with
 constraints_3 = (refl, refl, refl, refl, refl, refl, refl, refl)
 
+-- `(constrain (c (p)) ())`
 -- `(constrain (c (p)) u1)`
 -- `(constrain (c (p)) (xor (eq u1 u2) (eq u1 u2)))`
 -- `(constrain (c (p)) (dom r1 r2))`
@@ -295,18 +296,18 @@ constraints_3 = (refl, refl, refl, refl, refl, refl, refl, refl)
 -- `(constrain (c (p)) (incomp r1 r2))`
 -- `(constrain (c (p)) (dom r2 r1))`
 -- `(constrain (c (p)) (dom r1 x))`
--- `(constrain (c (p)) (dom r1 r2 r2))`
-pub constraints_4 : (found_as keywords.Constrain (list 0 (next (word 1 (codes "constrain")) (next (list 11 (next (word 12 (codes "c")) (next (list 14 (next (word 15 (codes "p")) none)) none))) (next (word 19 (codes "u1")) none)))) ≡ fault causes.BadShape 0 (codes "constrain") ∷ [])
+pub constraints_4 : (found_as keywords.Constrain (list 0 (next (word 1 (codes "constrain")) (next (list 11 (next (word 12 (codes "c")) (next (list 14 (next (word 15 (codes "p")) none)) none))) (next (list 19 none) none)))) ≡ fault causes.BadShape 0 (codes "constrain") ∷ [])
+    × (found_as keywords.Constrain (list 0 (next (word 1 (codes "constrain")) (next (list 11 (next (word 12 (codes "c")) (next (list 14 (next (word 15 (codes "p")) none)) none))) (next (word 19 (codes "u1")) none)))) ≡ fault causes.BadShape 0 (codes "constrain") ∷ [])
     × (found_as keywords.Constrain (list 0 (next (word 1 (codes "constrain")) (next (list 11 (next (word 12 (codes "c")) (next (list 14 (next (word 15 (codes "p")) none)) none))) (next (list 19 (next (word 20 (codes "xor")) (next (list 24 (next (word 25 (codes "eq")) (next (word 28 (codes "u1")) (next (word 31 (codes "u2")) none)))) (next (list 35 (next (word 36 (codes "eq")) (next (word 39 (codes "u1")) (next (word 42 (codes "u2")) none)))) none)))) none)))) ≡ fault causes.BadShape 0 (codes "constrain") ∷ [])
     × (found_as keywords.Constrain (list 0 (next (word 1 (codes "constrain")) (next (list 11 (next (word 12 (codes "c")) (next (list 14 (next (word 15 (codes "p")) none)) none))) (next (list 19 (next (word 20 (codes "dom")) (next (word 24 (codes "r1")) (next (word 27 (codes "r2")) none)))) none)))) ≡ fault causes.Unsupported 20 (codes "dom") ∷ [])
     × (found_as keywords.Constrain (list 0 (next (word 1 (codes "constrain")) (next (list 11 (next (word 12 (codes "c")) (next (list 14 (next (word 15 (codes "p")) none)) none))) (next (list 19 (next (word 20 (codes "and")) (next (list 24 (next (word 25 (codes "domby")) (next (word 31 (codes "r1")) (next (word 34 (codes "r2")) none)))) (next (list 38 (next (word 39 (codes "eq")) (next (word 42 (codes "u1")) (next (word 45 (codes "1x")) none)))) none)))) none)))) ≡ fault causes.Unsupported 25 (codes "domby") ∷ fault causes.BadName 45 (codes "1x") ∷ [])
     × (found_as keywords.Constrain (list 0 (next (word 1 (codes "constrain")) (next (list 11 (next (word 12 (codes "c")) (next (list 14 (next (word 15 (codes "p")) none)) none))) (next (list 19 (next (word 20 (codes "incomp")) (next (word 27 (codes "r1")) (next (word 30 (codes "r2")) none)))) none)))) ≡ fault causes.Unsupported 20 (codes "incomp") ∷ [])
     × (found_as keywords.Constrain (list 0 (next (word 1 (codes "constrain")) (next (list 11 (next (word 12 (codes "c")) (next (list 14 (next (word 15 (codes "p")) none)) none))) (next (list 19 (next (word 20 (codes "dom")) (next (word 24 (codes "r2")) (next (word 27 (codes "r1")) none)))) none)))) ≡ fault causes.BadShape 0 (codes "constrain") ∷ [])
     × (found_as keywords.Constrain (list 0 (next (word 1 (codes "constrain")) (next (list 11 (next (word 12 (codes "c")) (next (list 14 (next (word 15 (codes "p")) none)) none))) (next (list 19 (next (word 20 (codes "dom")) (next (word 24 (codes "r1")) (next (word 27 (codes "x")) none)))) none)))) ≡ fault causes.BadShape 0 (codes "constrain") ∷ [])
-    × (found_as keywords.Constrain (list 0 (next (word 1 (codes "constrain")) (next (list 11 (next (word 12 (codes "c")) (next (list 14 (next (word 15 (codes "p")) none)) none))) (next (list 19 (next (word 20 (codes "dom")) (next (word 24 (codes "r1")) (next (word 27 (codes "r2")) (next (word 30 (codes "r2")) none))))) none)))) ≡ fault causes.BadShape 0 (codes "constrain") ∷ [])
 unfolding verdict_of cells_of cell_of read_row read_word read_string read_list rules containers types classes users entry_of set_aside_words later_words left_out_words heads first_words begins_with
 constraints_4 = (refl, refl, refl, refl, refl, refl, refl, refl)
 
+-- `(constrain (c (p)) (dom r1 r2 r2))`
 -- `(constrain (c (p)) (dom l1 l2))`
 -- `(constrain (c (p)) (dom u1 u2))`
 -- `(constrain (c (p)) (eq u1 "x"))`
@@ -314,18 +315,18 @@ constraints_4 = (refl, refl, refl, refl, refl, refl, refl, refl)
 -- `(mlsconstrain (c (p)) (dom l1 l2))`
 -- `(mlsconstrain (c (p)) (domby l1 h2))`
 -- `(mlsconstrain (c (p)) (incomp h1 l2))`
--- `(mlsconstrain (c (p)) (eq h1 h2))`
-pub constraints_5 : (found_as keywords.Constrain (list 0 (next (word 1 (codes "constrain")) (next (list 11 (next (word 12 (codes "c")) (next (list 14 (next (word 15 (codes "p")) none)) none))) (next (list 19 (next (word 20 (codes "dom")) (next (word 24 (codes "l1")) (next (word 27 (codes "l2")) none)))) none)))) ≡ fault causes.BadShape 0 (codes "constrain") ∷ [])
+pub constraints_5 : (found_as keywords.Constrain (list 0 (next (word 1 (codes "constrain")) (next (list 11 (next (word 12 (codes "c")) (next (list 14 (next (word 15 (codes "p")) none)) none))) (next (list 19 (next (word 20 (codes "dom")) (next (word 24 (codes "r1")) (next (word 27 (codes "r2")) (next (word 30 (codes "r2")) none))))) none)))) ≡ fault causes.BadShape 0 (codes "constrain") ∷ [])
+    × (found_as keywords.Constrain (list 0 (next (word 1 (codes "constrain")) (next (list 11 (next (word 12 (codes "c")) (next (list 14 (next (word 15 (codes "p")) none)) none))) (next (list 19 (next (word 20 (codes "dom")) (next (word 24 (codes "l1")) (next (word 27 (codes "l2")) none)))) none)))) ≡ fault causes.BadShape 0 (codes "constrain") ∷ [])
     × (found_as keywords.Constrain (list 0 (next (word 1 (codes "constrain")) (next (list 11 (next (word 12 (codes "c")) (next (list 14 (next (word 15 (codes "p")) none)) none))) (next (list 19 (next (word 20 (codes "dom")) (next (word 24 (codes "u1")) (next (word 27 (codes "u2")) none)))) none)))) ≡ fault causes.BadShape 0 (codes "constrain") ∷ [])
     × (found_as keywords.Constrain (list 0 (next (word 1 (codes "constrain")) (next (list 11 (next (word 12 (codes "c")) (next (list 14 (next (word 15 (codes "p")) none)) none))) (next (list 19 (next (word 20 (codes "eq")) (next (word 23 (codes "u1")) (next (Quoted (record { start = 26; end = 29 }) (34 ∷ 120 ∷ 34 ∷ [])) none)))) none)))) ≡ fault causes.BadShape 0 (codes "constrain") ∷ [])
     × (found_as keywords.Constrain (list 0 (next (word 1 (codes "constrain")) (next (list 11 (next (word 12 (codes "c")) (next (list 14 (next (word 15 (codes "p")) none)) none))) (next (list 19 (next (Quoted (record { start = 20; end = 24 }) (34 ∷ 101 ∷ 113 ∷ 34 ∷ [])) (next (word 25 (codes "u1")) (next (word 28 (codes "u2")) none)))) none)))) ≡ fault causes.BadShape 0 (codes "constrain") ∷ [])
     × (found_as keywords.MlsConstrain (list 0 (next (word 1 (codes "mlsconstrain")) (next (list 14 (next (word 15 (codes "c")) (next (list 17 (next (word 18 (codes "p")) none)) none))) (next (list 22 (next (word 23 (codes "dom")) (next (word 27 (codes "l1")) (next (word 30 (codes "l2")) none)))) none)))) ≡ [])
     × (found_as keywords.MlsConstrain (list 0 (next (word 1 (codes "mlsconstrain")) (next (list 14 (next (word 15 (codes "c")) (next (list 17 (next (word 18 (codes "p")) none)) none))) (next (list 22 (next (word 23 (codes "domby")) (next (word 29 (codes "l1")) (next (word 32 (codes "h2")) none)))) none)))) ≡ [])
     × (found_as keywords.MlsConstrain (list 0 (next (word 1 (codes "mlsconstrain")) (next (list 14 (next (word 15 (codes "c")) (next (list 17 (next (word 18 (codes "p")) none)) none))) (next (list 22 (next (word 23 (codes "incomp")) (next (word 30 (codes "h1")) (next (word 33 (codes "l2")) none)))) none)))) ≡ [])
-    × (found_as keywords.MlsConstrain (list 0 (next (word 1 (codes "mlsconstrain")) (next (list 14 (next (word 15 (codes "c")) (next (list 17 (next (word 18 (codes "p")) none)) none))) (next (list 22 (next (word 23 (codes "eq")) (next (word 26 (codes "h1")) (next (word 29 (codes "h2")) none)))) none)))) ≡ [])
 unfolding verdict_of cells_of cell_of read_row read_word read_string read_list rules containers types classes users entry_of set_aside_words later_words left_out_words heads first_words begins_with
 constraints_5 = (refl, refl, refl, refl, refl, refl, refl, refl)
 
+-- `(mlsconstrain (c (p)) (eq h1 h2))`
 -- `(mlsconstrain (c (p)) (neq l1 h1))`
 -- `(mlsconstrain (c (p)) (eq l2 h2))`
 -- `(mlsconstrain (c (p)) (eq l2 l1))`
@@ -333,30 +334,31 @@ constraints_5 = (refl, refl, refl, refl, refl, refl, refl, refl)
 -- `(mlsconstrain (c (p)) (dom l2 h1))`
 -- `(mlsconstrain (c (p)) (dom h1 l1))`
 -- `(mlsconstrain (c (p)) (eq l1 t2))`
--- `(mlsconstrain (c (p)) (eq l1 x))`
-pub constraints_6 : (found_as keywords.MlsConstrain (list 0 (next (word 1 (codes "mlsconstrain")) (next (list 14 (next (word 15 (codes "c")) (next (list 17 (next (word 18 (codes "p")) none)) none))) (next (list 22 (next (word 23 (codes "neq")) (next (word 27 (codes "l1")) (next (word 30 (codes "h1")) none)))) none)))) ≡ [])
+pub constraints_6 : (found_as keywords.MlsConstrain (list 0 (next (word 1 (codes "mlsconstrain")) (next (list 14 (next (word 15 (codes "c")) (next (list 17 (next (word 18 (codes "p")) none)) none))) (next (list 22 (next (word 23 (codes "eq")) (next (word 26 (codes "h1")) (next (word 29 (codes "h2")) none)))) none)))) ≡ [])
+    × (found_as keywords.MlsConstrain (list 0 (next (word 1 (codes "mlsconstrain")) (next (list 14 (next (word 15 (codes "c")) (next (list 17 (next (word 18 (codes "p")) none)) none))) (next (list 22 (next (word 23 (codes "neq")) (next (word 27 (codes "l1")) (next (word 30 (codes "h1")) none)))) none)))) ≡ [])
     × (found_as keywords.MlsConstrain (list 0 (next (word 1 (codes "mlsconstrain")) (next (list 14 (next (word 15 (codes "c")) (next (list 17 (next (word 18 (codes "p")) none)) none))) (next (list 22 (next (word 23 (codes "eq")) (next (word 26 (codes "l2")) (next (word 29 (codes "h2")) none)))) none)))) ≡ [])
     × (found_as keywords.MlsConstrain (list 0 (next (word 1 (codes "mlsconstrain")) (next (list 14 (next (word 15 (codes "c")) (next (list 17 (next (word 18 (codes "p")) none)) none))) (next (list 22 (next (word 23 (codes "eq")) (next (word 26 (codes "l2")) (next (word 29 (codes "l1")) none)))) none)))) ≡ fault causes.BadShape 0 (codes "mlsconstrain") ∷ [])
     × (found_as keywords.MlsConstrain (list 0 (next (word 1 (codes "mlsconstrain")) (next (list 14 (next (word 15 (codes "c")) (next (list 17 (next (word 18 (codes "p")) none)) none))) (next (list 22 (next (word 23 (codes "eq")) (next (word 26 (codes "h2")) (next (word 29 (codes "l2")) none)))) none)))) ≡ fault causes.BadShape 0 (codes "mlsconstrain") ∷ [])
     × (found_as keywords.MlsConstrain (list 0 (next (word 1 (codes "mlsconstrain")) (next (list 14 (next (word 15 (codes "c")) (next (list 17 (next (word 18 (codes "p")) none)) none))) (next (list 22 (next (word 23 (codes "dom")) (next (word 27 (codes "l2")) (next (word 30 (codes "h1")) none)))) none)))) ≡ fault causes.BadShape 0 (codes "mlsconstrain") ∷ [])
     × (found_as keywords.MlsConstrain (list 0 (next (word 1 (codes "mlsconstrain")) (next (list 14 (next (word 15 (codes "c")) (next (list 17 (next (word 18 (codes "p")) none)) none))) (next (list 22 (next (word 23 (codes "dom")) (next (word 27 (codes "h1")) (next (word 30 (codes "l1")) none)))) none)))) ≡ fault causes.BadShape 0 (codes "mlsconstrain") ∷ [])
     × (found_as keywords.MlsConstrain (list 0 (next (word 1 (codes "mlsconstrain")) (next (list 14 (next (word 15 (codes "c")) (next (list 17 (next (word 18 (codes "p")) none)) none))) (next (list 22 (next (word 23 (codes "eq")) (next (word 26 (codes "l1")) (next (word 29 (codes "t2")) none)))) none)))) ≡ fault causes.BadShape 0 (codes "mlsconstrain") ∷ [])
-    × (found_as keywords.MlsConstrain (list 0 (next (word 1 (codes "mlsconstrain")) (next (list 14 (next (word 15 (codes "c")) (next (list 17 (next (word 18 (codes "p")) none)) none))) (next (list 22 (next (word 23 (codes "eq")) (next (word 26 (codes "l1")) (next (word 29 (codes "x")) none)))) none)))) ≡ fault causes.BadShape 0 (codes "mlsconstrain") ∷ [])
 unfolding verdict_of cells_of cell_of read_row read_word read_string read_list rules containers types classes users entry_of set_aside_words later_words left_out_words heads first_words begins_with
 constraints_6 = (refl, refl, refl, refl, refl, refl, refl, refl)
 
+-- `(mlsconstrain (c (p)) (eq l1 x))`
 -- `(mlsconstrain (c (p)) (dom r1 r2))`
 -- `(mlsconstrain (c (p)) (dom r1 r))`
 -- `(mlsconstrain (c (p)) (or (eq t1 x) (and (dom l1 l2) (domby h1 h2))))`
 -- `(mlsconstrain (c (p)) (eq t1 t2))`
 -- `(mlsconstrain (c (p)) (eq u1 h1))`
-pub constraints_7 : (found_as keywords.MlsConstrain (list 0 (next (word 1 (codes "mlsconstrain")) (next (list 14 (next (word 15 (codes "c")) (next (list 17 (next (word 18 (codes "p")) none)) none))) (next (list 22 (next (word 23 (codes "dom")) (next (word 27 (codes "r1")) (next (word 30 (codes "r2")) none)))) none)))) ≡ fault causes.Unsupported 23 (codes "dom") ∷ [])
+pub constraints_7 : (found_as keywords.MlsConstrain (list 0 (next (word 1 (codes "mlsconstrain")) (next (list 14 (next (word 15 (codes "c")) (next (list 17 (next (word 18 (codes "p")) none)) none))) (next (list 22 (next (word 23 (codes "eq")) (next (word 26 (codes "l1")) (next (word 29 (codes "x")) none)))) none)))) ≡ fault causes.BadShape 0 (codes "mlsconstrain") ∷ [])
+    × (found_as keywords.MlsConstrain (list 0 (next (word 1 (codes "mlsconstrain")) (next (list 14 (next (word 15 (codes "c")) (next (list 17 (next (word 18 (codes "p")) none)) none))) (next (list 22 (next (word 23 (codes "dom")) (next (word 27 (codes "r1")) (next (word 30 (codes "r2")) none)))) none)))) ≡ fault causes.Unsupported 23 (codes "dom") ∷ [])
     × (found_as keywords.MlsConstrain (list 0 (next (word 1 (codes "mlsconstrain")) (next (list 14 (next (word 15 (codes "c")) (next (list 17 (next (word 18 (codes "p")) none)) none))) (next (list 22 (next (word 23 (codes "dom")) (next (word 27 (codes "r1")) (next (word 30 (codes "r")) none)))) none)))) ≡ fault causes.BadShape 0 (codes "mlsconstrain") ∷ [])
     × (found_as keywords.MlsConstrain (list 0 (next (word 1 (codes "mlsconstrain")) (next (list 14 (next (word 15 (codes "c")) (next (list 17 (next (word 18 (codes "p")) none)) none))) (next (list 22 (next (word 23 (codes "or")) (next (list 26 (next (word 27 (codes "eq")) (next (word 30 (codes "t1")) (next (word 33 (codes "x")) none)))) (next (list 36 (next (word 37 (codes "and")) (next (list 41 (next (word 42 (codes "dom")) (next (word 46 (codes "l1")) (next (word 49 (codes "l2")) none)))) (next (list 53 (next (word 54 (codes "domby")) (next (word 60 (codes "h1")) (next (word 63 (codes "h2")) none)))) none)))) none)))) none)))) ≡ [])
     × (found_as keywords.MlsConstrain (list 0 (next (word 1 (codes "mlsconstrain")) (next (list 14 (next (word 15 (codes "c")) (next (list 17 (next (word 18 (codes "p")) none)) none))) (next (list 22 (next (word 23 (codes "eq")) (next (word 26 (codes "t1")) (next (word 29 (codes "t2")) none)))) none)))) ≡ [])
     × (found_as keywords.MlsConstrain (list 0 (next (word 1 (codes "mlsconstrain")) (next (list 14 (next (word 15 (codes "c")) (next (list 17 (next (word 18 (codes "p")) none)) none))) (next (list 22 (next (word 23 (codes "eq")) (next (word 26 (codes "u1")) (next (word 29 (codes "h1")) none)))) none)))) ≡ fault causes.ReservedName 29 (codes "h1") ∷ [])
 unfolding verdict_of cells_of cell_of read_row read_word read_string read_list rules containers types classes users entry_of set_aside_words later_words left_out_words heads first_words begins_with
-constraints_7 = (refl, refl, refl, refl, refl)
+constraints_7 = (refl, refl, refl, refl, refl, refl)
 
 -- `(common k (a b))`
 -- `(common k ())`

@@ -8,6 +8,7 @@ pub mod Heads
 pub mod Kinds
 pub mod Laid
 pub mod Laws
+pub mod NameSpaces
 pub mod Places
 pub mod Program
 pub mod Readings

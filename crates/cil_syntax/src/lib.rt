@@ -12,6 +12,7 @@ mod kept;
 mod kind;
 mod language;
 pub mod laws;
+mod name_space;
 mod path;
 mod place;
 mod program;
@@ -35,6 +36,7 @@ pub use forms::{
     ClassParts, DeclaredName, Parameter, RuleParts, WordAndTerms, WordPair, word_and_terms,
 };
 pub use kind::{Keyword, Kind, Language, Nesting, Sign};
+pub use name_space::NameSpace;
 pub use path::{Path, PathParts, parted, path_of};
 pub use place::joined;
 pub use program::{Program, Statement, written};

@@ -17,12 +17,14 @@ use Rattle.cil_syntax.specs.declared.kind.Sign.TheVariants as signs
 use Rattle.cil_faults.specs.Fails.{AreFaults}
 use Rattle.cil_faults.specs.FaultOrder.{fault_cmp, fault_total, one_fault}
 use Rattle.cil_base.specs.Listing.{Listing}
+use Rattle.cil_syntax.specs.declared.name_space.NameSpace.TheVariants as name_spaces
+use Rattle.cil_syntax.specs.NameSpaces.{name_space}
 use Rattle.cil_syntax.specs.Spelling.{same_bytes}
 use Rattle.cil_syntax.specs.Terms.{Name, cons}
 use Rattle.cil_faults.specs.Reported.{fault_at}
 use Rattle.cil_syntax.proofs.DecidedEquality.{keyword_is, same_namespace}
 use Rattle.cil_names.proofs.DeclareDecided.{same_declaration, same_name_space}
-use Rattle.cil_names.specs.Declarations.{Declaration, declared_by, IsDeclaration, name_space, of_blocks, Clash, Symbol}
+use Rattle.cil_names.specs.Declarations.{Declaration, declared_by, IsDeclaration, Clash, Symbol}
 use Rattle.cil_classes.specs.Faults.{ClassFault, wide}
 use Rattle.cil_names.specs.Faults.{ClashFault, clash, ResolveFault, unresolved}
 use Rattle.cil_macros.specs.Item.{Item, OptSet, everybody, nobody, is_enabled}
@@ -40,7 +42,7 @@ decided_clash d e =
     (decided_both (same_text d.name e.name)
     (decided_both (same_namespace d.space e.space)
     (decided_both (same_name_space (name_space d.kind) (name_space e.kind))
-    (decided_both (decided_not (same_name_space (name_space d.kind) of_blocks)) (decided_not (same_declaration d e))))))
+    (decided_both (decided_not (same_name_space (name_space d.kind) name_spaces.Blocks)) (decided_not (same_declaration d e))))))
 
 module _ (xs : List Item) where
   -- a declaration of the statement clashes with some declaration

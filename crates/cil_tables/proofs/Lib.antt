@@ -1,12 +1,14 @@
 pub mod AgreesLemmas
 pub mod AlwaysCompiles
 pub mod CompileLemmas
+pub mod FamilyExists
 pub mod Finite
 pub mod FiniteFaults
 pub mod FinitePolicy
 pub mod FiniteRecords
 pub mod FlatLemmas
 pub mod FlatPrograms
+pub mod HolderLemmas
 pub mod JoinLemmas
 pub mod LinkLemmas
 pub mod NamedLemmas

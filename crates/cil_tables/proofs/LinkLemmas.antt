@@ -1,8 +1,6 @@
 -- The records of statements that join two symbols.
 use Rattle.std.specs.Prelude.{Contains, Option, Some, None}
-use Rattle.std.specs.List.Retain.{DiffersFromLast, IsFiltered}
-use Rattle.std.specs.List.Sorted.{IsPermutation, IsSorted}
-use Rattle.std.specs.Ordering.{eq_by_cmp}
+use Rattle.std.specs.List.Sorted.{IsStrictlySortedBy}
 use Rattle.std.proofs.Common.{◌≡◌, ℕ, true, false, List, [], ◌∷◌, get_or, map, refl, sym, ◌∙◌, ap, subst}
 use Rattle.std.proofs.lemmas.Bool.{true≢false}
 use Rattle.std.proofs.lemmas.Option.{none-some}
@@ -11,25 +9,25 @@ use Rattle.cil_syntax.specs.Forms.{two_words}
 use Rattle.cil_syntax.specs.declared.kind.Keyword.{Keyword}
 use Rattle.cil_syntax.specs.declared.kind.Kind.{Kind}
 use Rattle.cil_syntax.specs.declared.term.Word.{Word}
-use Rattle.cil_base.specs.Sorted.{lists_of}
 use Rattle.cil_syntax.specs.Terms.{Leaf, Terms, nil, cons}
-use Rattle.cil_macros.specs.Item.{Item, OptSet, all_replaced, all_words_in, is_enabled}
+use Rattle.cil_macros.specs.Item.{Item, OptSet, all_replaced, is_enabled}
 use Rattle.cil_syntax.specs.Scopes.{ScopedWord}
-use Rattle.cil_base.proofs.SortedLists.{sorted_list}
 use Rattle.cil_names.specs.declared.known.Known.{Known}
 use Rattle.cil_tables.specs.declared.tables.Link.{Link}
 use Rattle.cil_tables.specs.Links.{IsLink, LinkBy}
 use Rattle.cil_names.specs.Known.{IsNumbered, IsNumberFor, StandsForNothing, enabled_in, meant_in, row_in}
 use Rattle.cil_names.specs.Members.{StandsFor}
+use Rattle.cil_names.specs.PermissionWords.{wanted_meaning}
+use Rattle.cil_names.specs.Resolves.{Word as AWord, all_wanted_in, wanted_in}
 use Rattle.cil_base.specs.Records.{AreRecordsOf, IsRecordOf}
-use Rattle.cil_tables.specs.Table.{link_cmp, link_total, one_link, same_ends}
-use Rattle.cil_macros.proofs.FormLemmas.{all_words_across, no_pair, pair_across}
+use Rattle.cil_tables.specs.Table.{link_cmp, same_ends}
+use Rattle.cil_macros.proofs.FormLemmas.{no_pair, pair_across}
 
 -- ---- the record of one statement
 
-two_leaves : (a b : Word) → all_words_in (cons (Leaf a) (cons (Leaf b) nil)) ≡ a ∷ b ∷ []
-unfolding all_words_in
-two_leaves a b = refl
+two_wanted : (a b : ScopedWord) → all_wanted_in (cons (Leaf a) (cons (Leaf b) nil)) ≡ AWord a ∷ AWord b ∷ []
+unfolding all_wanted_in wanted_in
+two_wanted a b = refl
 
 module _ (xs : List Item) (k : Known) (keyword : Keyword) (holder_kind held_kind : Kind) (holders helds : List (List ℕ)) (x : Item) where
   abbrev IsCaseOf : Link → Type 0
@@ -49,11 +47,12 @@ module _ (xs : List Item) (k : Known) (keyword : Keyword) (holder_kind held_kind
       is_two : x.args ≡ cons (Leaf (f first)) (cons (Leaf (f second)) nil)
       is_two = says ∙ ap (all_replaced (λ at. at) f) said ∙ pair_across f first second
 
-      module _ (words : List (Option ℕ)) (are : words ≡ row_in k x) where
+      module _ (words : List (Option ℕ)) (are : words ≡ row_in k xs x) where
         both_meant : words ≡ meant_in k (f first) ∷ meant_in k (f second) ∷ []
         both_meant =
-            are ∙ ap (λ ts. map (meant_in k) (all_words_in ts)) (says ∙ ap (all_replaced (λ at. at) f) said)
-            ∙ ap (map (meant_in k)) (all_words_across f (cons (Leaf first) (cons (Leaf second) nil)) ∙ ap (map f) (two_leaves first second))
+            are
+            ∙ ap (λ ts. map (wanted_meaning k.lookup.namespaces.now k.lookup.names.now xs (enabled_in k)) (all_wanted_in ts)) is_two
+            ∙ ap (map (wanted_meaning k.lookup.namespaces.now k.lookup.names.now xs (enabled_in k))) (two_wanted (f first) (f second))
 
         pub first_means : (r : Option ℕ) → r ≡ get_or words 0 None → r ≡ meant_in k (f first)
         first_means r e = e ∙ ap (λ ws. get_or ws 0 None) both_meant
@@ -153,6 +152,5 @@ module _ (xs : List Item) (s : OptSet) (keyword : Keyword) (holder_kind held_kin
       }) in
       subst (Contains raw) (sym r.1) r.2
 
-  pub links_listed : (ys zs : List Link) → IsPermutation raw ys → IsSorted link_cmp ys → IsFiltered (DiffersFromLast (eq_by_cmp link_cmp)) [] ys zs → Lists link_cmp IsOne zs
-  links_listed ys zs moved sorted kept =
-      lists_of link_cmp (Contains raw) IsOne zs is_link from_link (sorted_list link_cmp link_total one_link raw ys zs moved sorted kept)
+  pub links_listed : IsStrictlySortedBy link_cmp raw → Lists link_cmp IsOne raw
+  links_listed rising = record { rising = rising; members = λ l. (is_link l, from_link l) }

@@ -5,6 +5,10 @@ use Rattle.cil_syntax.specs.declared.kind.Keyword.{Keyword}
 use Rattle.cil_syntax.specs.declared.kind.Keyword.TheVariants as keywords
 use Rattle.cil_syntax.specs.Laws.{AreReadable}
 use Rattle.cil_syntax.specs.Written.{IsWritten, Written}
+use Rattle.cil_macros.specs.Item.{Item, OptSet}
+use Rattle.cil_names.specs.Declarations.{Symbol}
+use Rattle.cil_names.specs.Family.{Family, IsRanked, Range, Solves}
+use Rattle.cil_names.specs.Spaces.{SpaceOf}
 use Rattle.cil_tables.specs.Agrees.{Compiles}
 use Rattle.cil_tables.specs.Faults.{ArePolicyFaults}
 use Rattle.cil_tables.specs.Table.{Table, IsOrderly}
@@ -42,3 +46,7 @@ AreFlatModules modules = (w : Written) → IsWritten modules w → is_flat w.sta
 -- with them it rests on the contents of blocks and what calls bring being finite, or more than 1,000,000
 abbrev pub AlwaysCompilesOrFails : Type 0
 AlwaysCompilesOrFails = (modules : List (List ℕ)) → AreReadable modules → AreFlatModules modules → Outcome modules
+
+-- where ranks fall, some family of sets has the members that statements give. That there is one alone is a law of the crate below
+abbrev pub HasAFamily : Type 0
+HasAFamily = (xs : List Item) (s : OptSet) (space : SpaceOf) (range : Range) (rank : Symbol → ℕ) → IsRanked xs s space range rank → (m : Family) × Solves xs s space range m

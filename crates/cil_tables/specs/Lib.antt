@@ -4,6 +4,7 @@ pub mod CompileRefusal
 pub mod Compiled
 pub mod Contexts
 pub mod Faults
+pub mod Holders
 pub mod Laws
 pub mod Links
 pub mod Meaning

@@ -7,8 +7,8 @@ ghost use Rattle.cil_blocks.specs.Places.{AreStandings, statements_in};
 ghost use Rattle.cil_macros.specs.Items.{items_in, namespaces_in};
 ghost use Rattle.cil_names.specs.declared.entry.Entry.{Entry as AnEntry};
 ghost use Rattle.cil_names.specs.Entries.{AreEntries, is_in};
-ghost use Rattle.cil_names.specs.Meanings.{meanings};
 ghost use Rattle.cil_names.specs.Numbers.{ArePlainNames};
+ghost use Rattle.cil_names.specs.PermissionWords.{meanings};
 ghost use Rattle.cil_names.specs.Rows.{IsTableOf};
 ghost use Rattle.cil_names.specs.Unresolved.{ArePermissions};
 ghost use Rattle.cil_tables.specs.CompileAnswer.{IsCompiled, IsCompiledOf, StandsIn};
@@ -24,12 +24,13 @@ use cil_classes::{check_widths, class_rows};
 use cil_faults::Failure;
 use cil_macros::{Instances, expand};
 use cil_modset::ModuleSet;
-use cil_names::{
-    Known, Lookup, Numbering, Sections, Words, declare, numbered, permissions_of, words_of,
+use cil_names::{Known, Lookup, Numbering, Sections, Words, declare, numbered, permissions_of};
+use cil_optionals::{
+    Chosen, OptionalLine, Reason, WhyLine, greatest_of, optional_lines, why_lines,
 };
-use cil_optionals::{Chosen, OptionalLine, Reason, WhyLine, greatest, optional_lines, why_lines};
 use cil_rules::rules_of;
 use cil_syntax::{Keyword, Kind, written};
+use cil_words::{asks_of, judged, settled};
 use std::alloc::Global;
 
 /// What modules compile to.
@@ -92,13 +93,15 @@ fn placed_policy(alloc: Global, instances: &Instances) -> Result<Compiled, Failu
     let names = declare(alloc, instances)?;
     let permissions = permissions_of(alloc, &names, instances)?;
     let permissions = permissions.as_slice();
-    let chosen = greatest(alloc, &*instances, &names, permissions)?;
+    let asks = asks_of(alloc, &names, permissions, &*instances)?;
+    let chosen = greatest_of(alloc, &*instances, &names, &asks)?;
+    judged(alloc, &*instances, &names, &asks, &chosen.enabled)?;
     let lookup = Lookup {
         namespaces: instances.namespaces(),
         names: &names,
         enabled: &chosen.enabled,
     };
-    let words = words_of(alloc, &lookup, permissions, instances)?;
+    let words = settled(alloc, &names, &asks, &chosen.enabled)?;
     check_widths(alloc, &lookup, permissions, instances)?;
     let tables = tables_of(alloc, instances, &lookup, &words, permissions)?;
     let optionals = optional_lines(alloc, instances, &chosen.enabled)?;
@@ -126,7 +129,7 @@ fn tables_of(
     requires entries { AreEntries lookup.now.namespaces.now (items_in instances.now) lookup.now.names.now }
     requires permissions { ArePermissions lookup.now.namespaces.now lookup.now.names.now (items_in instances.now) permissions.now }
     requires plain { ArePlainNames lookup.now.namespaces.now lookup.now.names.now }
-    requires table { IsTableOf (map (meanings lookup.now.namespaces.now lookup.now.names.now (is_in lookup.now.enabled.now)) (items_in instances.now)) words.now }
+    requires table { IsTableOf (map (meanings lookup.now.namespaces.now lookup.now.names.now (items_in instances.now) (is_in lookup.now.enabled.now)) (items_in instances.now)) words.now }
     requires few { (f : Fault) → ClassFault (is_in lookup.now.enabled.now) (items_in instances.now) f → ⊥ }
     ensures { IfOk result (IsTable (items_in instances.now) (is_in lookup.now.enabled.now)) }
 {

@@ -1,6 +1,6 @@
 //! Laws that fix the answer of the compiler: it depends on the texts of the modules alone. Nothing here is run.
 
-ghost use Rattle.cil_tables.specs.Laws.{AlwaysCompilesOrFails, HasOneListOfFaults, HasOneTable};
+ghost use Rattle.cil_tables.specs.Laws.{AlwaysCompilesOrFails, HasAFamily, HasOneListOfFaults, HasOneTable};
 
 use cil_blocks::laws as blocks;
 use cil_macros::laws as macros;
@@ -28,3 +28,9 @@ pub fn always_compiles_or_fails()
     macros::flat_instances();
     optionals::flat_is_greatest();
 }
+
+/// Where no set depends on itself, which ranks show, some family of sets has the members that statements give. So tables that speak of
+/// such families exist.
+pub fn a_family_exists()
+    ensures { HasAFamily }
+{}

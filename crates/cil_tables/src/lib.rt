@@ -9,10 +9,12 @@
 
 mod compiler;
 mod context;
+mod holders;
 pub mod laws;
 mod links;
 pub mod tables;
 
 pub use compiler::{Compiled, compile};
 pub use context::Context;
+pub use holders::Links;
 pub use tables::{Link, Tables};

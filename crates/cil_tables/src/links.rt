@@ -1,5 +1,5 @@
 //! The pairs that statements join: users with roles, and roles with types. A statement costs no look-up of a word, but
-//! the numbers of its two words; at the end the pairs are sorted.
+//! the numbers of its two words, and a search by halving in the set of its holder.
 
 ghost use Rattle.std.specs.Prelude.{◌≡◌, ◌<◌, length, ℕ, IfOk, List, map, true};
 ghost use Rattle.cil_base.specs.Lists.{Lists};
@@ -10,9 +10,10 @@ ghost use Rattle.cil_names.specs.Numbers.{has_section};
 ghost use Rattle.cil_names.specs.Rows.{IsTableOf};
 ghost use Rattle.cil_tables.specs.Links.{IsLink, LinkBy};
 ghost use Rattle.cil_names.specs.Known.{IsKnown, enabled_in, row_in};
-ghost use Rattle.cil_base.specs.Records.{AreRecordsOf, IsRecordOf};
+ghost use Rattle.cil_base.specs.Records.{IsRecordOf};
 ghost use Rattle.cil_tables.specs.Table.{link_cmp};
 
+use crate::holders::Links;
 use crate::tables::Link;
 use cil_base::NoMemory;
 use cil_macros::Instances;
@@ -37,39 +38,18 @@ pub(crate) fn links_of(
     instances: &Instances,
     known: &Known,
     joins: Joins,
-) -> Result<Vec<Link>, NoMemory>
-    requires table { IsTableOf (map (row_in known.now) (items_in instances.now)) known.now.words.now }
+) -> Result<Links, NoMemory>
+    requires table { IsTableOf (map (row_in known.now (items_in instances.now)) (items_in instances.now)) known.now.words.now }
     requires written { says_as_written joins.keyword ≡ true }
     requires holders { has_section joins.holder_kind ≡ true }
     requires helds { has_section joins.held_kind ≡ true }
     ensures { IfOk result (λ links. (names : kinds.Kind → List (List ℕ)) → IsKnown known.now (items_in instances.now) names
-        → Lists link_cmp (IsLink (items_in instances.now) (enabled_in known.now) joins.keyword joins.holder_kind joins.held_kind (names joins.holder_kind) (names joins.held_kind)) links.items) }
+        → Lists link_cmp (IsLink (items_in instances.now) (enabled_in known.now) joins.keyword joins.holder_kind joins.held_kind (names joins.holder_kind) (names joins.held_kind)) links) }
 {
-    let mut links = unsorted(alloc, instances, known, joins)?;
-    links.sort_unstable();
-    links.dedup();
-    Ok(links)
-}
-
-/// The same, in the order of the statements.
-fn unsorted(
-    alloc: Global,
-    instances: &Instances,
-    known: &Known,
-    joins: Joins,
-) -> Result<Vec<Link>, NoMemory>
-    requires table { IsTableOf (map (row_in known.now) (items_in instances.now)) known.now.words.now }
-    requires written { says_as_written joins.keyword ≡ true }
-    requires holders { has_section joins.holder_kind ≡ true }
-    requires helds { has_section joins.held_kind ≡ true }
-    ensures { IfOk result (λ links. (names : kinds.Kind → List (List ℕ)) → IsKnown known.now (items_in instances.now) names
-        → AreRecordsOf (LinkBy (items_in instances.now) (enabled_in known.now) joins.keyword joins.holder_kind joins.held_kind (names joins.holder_kind) (names joins.held_kind)) ◌≡◌
-        (items_in instances.now) links.items) }
-{
-    let mut links = Vec::new(alloc);
+    let mut links = Links::new(alloc);
     for at in 0..instances.len() {
         if let Some(link) = link_of(instances, at, known.words.row(at), known, joins) {
-            links.push(link)?;
+            links.add(alloc, link)?;
         }
     }
     Ok(links)
@@ -87,7 +67,7 @@ fn link_of(
     requires written { says_as_written joins.keyword ≡ true }
     requires holders { has_section joins.holder_kind ≡ true }
     requires helds { has_section joins.held_kind ≡ true }
-    ensures { (xs : List Item) (names : kinds.Kind → List (List ℕ)) → IsKnown known.now xs names → words.now ≡ row_in known.now (item_at instances.now at)
+    ensures { (xs : List Item) (names : kinds.Kind → List (List ℕ)) → IsKnown known.now xs names → words.now ≡ row_in known.now xs (item_at instances.now at)
         → IsRecordOf (LinkBy xs (enabled_in known.now) joins.keyword joins.holder_kind joins.held_kind (names joins.holder_kind) (names joins.held_kind)) ◌≡◌
         (item_at instances.now at) result }
 {

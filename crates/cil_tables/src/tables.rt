@@ -8,6 +8,7 @@ ghost use Rattle.std.specs.Cmp.{eq_by_cmp_equiv, partial_equiv_from_equiv, parti
 ghost use Rattle.std.specs.Ordering.{as_partial_cmp, eq_by_cmp};
 ghost use Rattle.cil_tables.specs.Table.{link_cmp, link_total};
 
+use crate::holders::Links;
 use cil_base::{Bytes, Names};
 use cil_classes::Class;
 use cil_rules::Rule;
@@ -70,8 +71,8 @@ pub struct Tables {
     pub(crate) roles: Names,
     pub(crate) types: Names,
     pub(crate) classes: Vec<Class>,
-    pub(crate) user_roles: Vec<Link>,
-    pub(crate) role_types: Vec<Link>,
+    pub(crate) user_roles: Links,
+    pub(crate) role_types: Links,
     pub(crate) allow: Vec<Rule>,
 }
 
@@ -85,8 +86,8 @@ impl Model for Tables {
       roles = a.roles;
       types = a.types;
       classes = a.classes.items;
-      user_roles = a.user_roles.items;
-      role_types = a.role_types.items;
+      user_roles = a.user_roles;
+      role_types = a.role_types;
       allow = a.allow.items;
     } };
 
@@ -95,8 +96,8 @@ impl Model for Tables {
       roles = a.roles;
       types = a.types;
       classes = a.classes.items;
-      user_roles = a.user_roles.items;
-      role_types = a.role_types.items;
+      user_roles = a.user_roles;
+      role_types = a.role_types;
       allow = a.allow.items;
     } };
 }
@@ -138,19 +139,19 @@ impl Tables {
     }
 
     /// The users with their roles.
-    pub fn user_roles(&self) -> &[Link]
+    pub fn user_roles(&self) -> &Links
         ensures links { result.now ≡ self.now.user_roles }
         ensures orderly { IsOrderly self.now }
     {
-        self.user_roles.as_slice()
+        &self.user_roles
     }
 
     /// The roles with their types.
-    pub fn role_types(&self) -> &[Link]
+    pub fn role_types(&self) -> &Links
         ensures links { result.now ≡ self.now.role_types }
         ensures orderly { IsOrderly self.now }
     {
-        self.role_types.as_slice()
+        &self.role_types
     }
 
     /// The records of the allow rules.

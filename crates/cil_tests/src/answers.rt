@@ -5,8 +5,8 @@ use cil_blocks::{Namespaces, Spaces, inherit};
 use cil_macros::{Instances, expand};
 use cil_modset::ModuleSet;
 use cil_names::Entry;
-use cil_sexpr::ReadError;
-use cil_syntax::{FaultList, Program, render, written};
+use cil_syntax::{Program, written};
+use cil_text_tests::set_of;
 use std::alloc::Global;
 
 /// A question about all that is placed.
@@ -52,11 +52,6 @@ pub(crate) fn row_holds<Q: Question>(alloc: Global, row: &str, question: &Q) -> 
     }
 }
 
-/// The lines of faults.
-pub(crate) fn lines(alloc: Global, faults: &FaultList) -> Option<String> {
-    String::from_utf8(render(alloc, faults).ok()?).ok()
-}
-
 /// Adds the kind and the qualified name of an entry.
 pub(crate) fn show_entry(
     alloc: Global,
@@ -78,23 +73,3 @@ pub(crate) fn show_entry(
 /// A module with a class, a user, a role, two types and a rule: 123 bytes.
 pub(crate) const FIRST: &str =
     "(class file (open read))(user u)(role r)(type a)(type b)(userrole u r)(roletype r a)(roletype r b)(allow a b (file (read)))";
-
-/// The set of some texts, installed in this order.
-pub(crate) fn set_of(alloc: Global, texts: &[&str]) -> Result<ModuleSet, ReadError> {
-    let mut modules = ModuleSet::new(alloc);
-    for text in texts {
-        modules.install(alloc, text.as_bytes())?;
-    }
-    Ok(modules)
-}
-
-/// The set of up to three texts, with ` & ` between.
-pub(crate) fn set_of_row(alloc: Global, texts: &str) -> Result<ModuleSet, ReadError> {
-    let Some((first, rest)) = texts.split_once(" & ") else {
-        return set_of(alloc, &[texts]);
-    };
-    match rest.split_once(" & ") {
-        Some((second, third)) => set_of(alloc, &[first, second, third]),
-        None => set_of(alloc, &[first, rest]),
-    }
-}

@@ -1,13 +1,15 @@
 //! Contexts, names and decisions over compiled tables: each call once, and what no request can ask.
 
-use crate::answers::{FIRST, set_of};
+use crate::answers::FIRST;
 use cil_base::Names;
 use cil_decide::{
     ClassId, Context, class_named, decide, parse_context, permission_at, permission_named,
 };
+use cil_host::{Host, QueryFault};
 use cil_rules::Numbers;
 use cil_syntax::Bytes;
 use cil_tables::{Tables, compile};
+use cil_text_tests::set_of;
 use std::alloc::Global;
 use std::test::Fail;
 
@@ -108,5 +110,45 @@ fn names_and_numbers_are_kept(rt: HostRuntime) -> Result<(), Fail> {
     assert_eq!(rt; names.as_slice()[0].as_slice(), b"read".as_slice());
     let numbers = Numbers::from_slice(alloc, &[1, 3])?;
     assert_eq!(rt; numbers.as_slice(), [1, 3].as_slice());
+    Ok(())
+}
+
+/// A class, a bit, and the permission of the first policy there.
+const BITS: &[(&[u8], u32, Option<&[u8]>)] = &[
+    (b"file", 0, Some(b"open")),
+    (b"file", 1, Some(b"read")),
+    (b"file", 2, None),
+    (b"file", u32::MAX, None),
+    (b"dir", 0, None),
+    (b".file", 0, None),
+];
+
+#[test]
+fn permissions_are_told_by_their_bits(rt: HostRuntime) -> Result<(), Fail> {
+    let alloc = rt.alloc();
+    let mut host: Host<u8> = Host::new(alloc, 512, 0);
+    host.install(alloc, FIRST.as_bytes())?;
+    assert_eq!(rt; host.permission(b"file", 0), None);
+    assert!(rt; host.load(alloc).is_ok());
+    for &(class, bit, want) in BITS {
+        assert_eq!(rt; host.permission(class, bit), want, "{bit}");
+    }
+    Ok(())
+}
+
+/// The faults of queries, and their numbers and sentences for people.
+const QUERIES: &[(QueryFault, &str)] = &[
+    (QueryFault::NoPolicy, "71 no policy is loaded"),
+    (QueryFault::BadSource, "72 the source is no valid context"),
+    (QueryFault::BadTarget, "72 the target is no valid context"),
+    (QueryFault::NoClass, "73 no class has this name"),
+];
+
+#[test]
+fn queries_are_refused_by_number_and_sentence(rt: HostRuntime) -> Result<(), Fail> {
+    for (fault, want) in QUERIES {
+        let got = format!(in rt.alloc(); "{} {fault}", fault.number())?;
+        assert_eq!(rt; got.as_str(), *want);
+    }
     Ok(())
 }

@@ -1,27 +1,21 @@
-//! The tests of the libraries: what neither a clause nor a session says. Each growth refused, devices that fail, wrong choices of
+//! The tests of the libraries from names up: what neither a clause nor a session says. Each growth refused, devices that fail, wrong choices of
 //! optionals, what is made by hand, and each public call on its happy path. What a session can show is a row in `rows/`.
 //! Expected values come from the rules of the language or from another program, never from this one. They stand in one crate above
-//! all of them, since the test build of a crate proves that crate once more.
+//! all of them, since the test build of a crate proves that crate once more. What is below names is tested in `cil_text_tests`.
 #![tactic(auto)]
 
 #[cfg(test)]
 mod answers;
 #[cfg(test)]
+mod asked_words;
+#[cfg(test)]
+mod bodies;
+#[cfg(test)]
 mod decisions;
-#[cfg(test)]
-mod fault_lists;
-#[cfg(test)]
-mod forms;
-#[cfg(test)]
-mod graph_cycles;
 #[cfg(test)]
 mod growths;
 #[cfg(test)]
 mod look_ups;
-#[cfg(test)]
-mod module_sets;
-#[cfg(test)]
-mod number_sets;
 #[cfg(test)]
 mod optional_choices;
 #[cfg(test)]
@@ -29,10 +23,6 @@ mod placed_words;
 #[cfg(test)]
 mod places;
 #[cfg(test)]
-mod settled_nodes;
-#[cfg(test)]
 mod streams;
 #[cfg(test)]
 mod symbol_numbers;
-#[cfg(test)]
-mod texts;

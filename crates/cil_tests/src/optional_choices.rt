@@ -1,12 +1,13 @@
 //! Choices of optionals, right and wrong: what `check` says of them, and that what is chosen is right.
 
-use crate::answers::{FIRST, Question, is_answer, lines};
+use crate::answers::{FIRST, Question, is_answer};
 use cil_macros::Instances;
 use cil_names::{OptSet, declare, permissions_of};
 use cil_optionals::guesses::guess;
 use cil_optionals::laws::greatest_in_rounds;
 use cil_optionals::{Chosen, Reason, base_faults, check, greatest_counted};
 use cil_syntax::Failure;
+use cil_text_tests::lines;
 use std::alloc::Global;
 use std::test::Fail;
 

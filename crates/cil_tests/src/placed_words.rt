@@ -5,15 +5,14 @@ ghost use Rattle.cil_macros.specs.Items.{items_in};
 ghost use Rattle.cil_names.specs.Entries.{AreEntries};
 ghost use Rattle.std.specs.Prelude.{◌<◌, length};
 
-use crate::answers::{Question, is_answer, lines, row_holds, show_entry};
+use crate::answers::{Question, is_answer, row_holds, show_entry};
 use crate::look_ups::word;
 use cil_blocks::Namespaces;
 use cil_macros::Instances;
-use cil_names::{
-    Candidates, Lookup, Meaning, Names, OptSet, Words, add_candidates, are_numbers, declare,
-    permissions_of, word_asked, words_of,
-};
+use cil_names::{Meaning, Names, OptSet, Words, are_numbers, declare, permissions_of, word_asked};
 use cil_syntax::{Failure, Sign};
+use cil_text_tests::lines;
+use cil_words::{Asks, asks_of, judged, settled};
 use std::alloc::Global;
 
 /// What the words of modules without optionals name, or all faults. None where it cannot be shown, for want of memory.
@@ -21,12 +20,9 @@ fn named(alloc: Global, instances: &Instances) -> Result<Option<String>, Failure
     let names = declare(alloc, instances)?;
     let permissions = permissions_of(alloc, &names, instances)?;
     let enabled = OptSet::of(Vec::new(alloc));
-    let lookup = Lookup {
-        namespaces: instances.namespaces(),
-        names: &names,
-        enabled: &enabled,
-    };
-    let words = words_of(alloc, &lookup, permissions.as_slice(), instances)?;
+    let asks = asks_of(alloc, &names, permissions.as_slice(), &*instances)?;
+    judged(alloc, &*instances, &names, &asks, &enabled)?;
+    let words = settled(alloc, &names, &asks, &enabled)?;
     Ok(shown(alloc, instances, &names, &words))
 }
 
@@ -76,7 +72,7 @@ fn show_row(
 
 /// Texts, and behind arrows what their words name, or the faults: of declarations that differ, and of words that name nothing.
 const NAMED: &[&str] = &[
-    "(class c (q p))(macro m ((type x)) (allow x self (c (p q))))(type a)(call m (a)) => [Macro m, Type_ a][Type_ a, Class c, -, -]",
+    "(class c (q p))(macro m ((type x)) (allow x self (c (p q))))(type a)(call m (a)) => [Macro m, Type_ a][Type_ a, Class c, Class c, Class c]",
     "(class w (p))(class w (q)) => 36 0 7 . w\n36 0 20 . w\n",
     "(class c (q))(macro m ((type x)) (allow x self (c (p))))(block p (call m (b))) => 41 0 51 p p\n41 0 74 p b\n",
 ];
@@ -162,7 +158,7 @@ const LISTED: &[&str] = &[
 ];
 
 /// Which words are asked for, and what they could name.
-struct Listed;
+pub(crate) struct Listed;
 
 impl Question for Listed {
     fn answer(&self, alloc: Global, instances: &Instances) -> Option<String> {
@@ -170,10 +166,9 @@ impl Question for Listed {
         let permissions = permissions_of(alloc, &names, instances).ok()?;
         let permissions = permissions.as_slice();
         let mut out = String::new(alloc);
+        let asks = asks_of(alloc, &names, permissions, &*instances).ok()?;
         for at in 0..instances.len() {
-            let mut lists = Candidates::new(alloc);
-            add_candidates(alloc, &names, permissions, &*instances, at, &mut lists).ok()?;
-            show_statement(alloc, &mut out, instances, &names, at, &lists)?;
+            show_statement(alloc, &mut out, instances, &names, at, &asks)?;
         }
         Some(out)
     }
@@ -186,22 +181,27 @@ fn show_statement(
     instances: &Instances,
     names: &Names,
     at: usize,
-    lists: &Candidates,
+    asks: &Asks,
 ) -> Option<()>
     requires { at < length (items_in instances.now) }
 {
-    for number in 0..lists.len() {
+    for number in 0..asks.count(at) {
         let word = word_asked(alloc, instances, at, number).ok()??;
         let bytes = str::from_utf8(word.word.bytes.as_slice()).ok()?;
         write!(out, "{bytes}: ").ok()?;
-        let list = lists.row(number);
+        let list = asks.word(at, number);
         for (i, d) in list.iter().enumerate() {
             write!(out, "{}", if i > 0 { ", " } else { "" }).ok()?;
-            show_entry(alloc, out, instances.namespaces(), names.entries().get(*d)?)?;
+            show_entry(
+                alloc,
+                out,
+                instances.namespaces(),
+                names.entries().get(*d as usize)?,
+            )?;
         }
         write!(out, "{}", if list.is_empty() { "-; " } else { "; " }).ok()?;
     }
-    match word_asked(alloc, instances, at, lists.len()).ok()? {
+    match word_asked(alloc, instances, at, asks.count(at)).ok()? {
         Some(_) => None,
         None => Some(()),
     }

@@ -32,6 +32,7 @@ returns c = (
       contents = are_contents c.statements-statements.result.now c.in-Some.entries.items (subst Rattle.cil_syntax.specs.Program.IsNested (sym c.statements-statements.ensures.same) c.statements-statements.ensures.nested)
           c.in_ok-check_blocks.ensures.1 (is_some _ c.in_ok-entries.field-0 c.in-Some.entries c.in-Some.is c.in_ok-entries.ensures.all)
           (is_some _ c.in_ok-entries.field-0 c.in-Some.entries c.in-Some.is c.in_ok-entries.ensures.few);
+      shallow = subst Rattle.cil_syntax.specs.Depths.AreShallow (sym c.statements-statements.ensures.same) c.statements-statements.ensures.shallow;
       places = subst (λ (es : List Entry). ArePlaces (program_of c.statements-statements.result.now) es c.in_ok-located.located.namespaces (all_numbered c.in_ok-located.located.namespaces c.in_ok-located.located.places))
           c.as_slice-4.ensures.value c.in_ok-located.ensures;
     },
@@ -54,6 +55,7 @@ invariant_of-result c = record {
   contents = are_contents c.statements-statements.result.now c.in-Some.entries.items (subst Rattle.cil_syntax.specs.Program.IsNested (sym c.statements-statements.ensures.same) c.statements-statements.ensures.nested)
       c.in_ok-check_blocks.ensures.1 (is_some _ c.in_ok-entries.field-0 c.in-Some.entries c.in-Some.is c.in_ok-entries.ensures.all)
       (is_some _ c.in_ok-entries.field-0 c.in-Some.entries c.in-Some.is c.in_ok-entries.ensures.few);
+  shallow = subst Rattle.cil_syntax.specs.Depths.AreShallow (sym c.statements-statements.ensures.same) c.statements-statements.ensures.shallow;
   places = subst (λ (es : List Entry). ArePlaces (program_of c.statements-statements.result.now) es c.in_ok-located.located.namespaces (all_numbered c.in_ok-located.located.namespaces c.in_ok-located.located.places))
       c.as_slice-4.ensures.value c.in_ok-located.ensures;
 }

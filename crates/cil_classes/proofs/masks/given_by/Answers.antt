@@ -27,7 +27,7 @@ returns-in_err-class c =
     let word = c.in_ok-parts.parts.class in
     let expression = said_of c.args.reading.now.«module» c.in_ok-parts.parts.permissions.now in
     without_class xs (enabled_in k) f said word expression c.in_ok-parts.ensures
-    (c.in_err-class.ensures xs names (f word) known (class_means k f said word expression c.in_ok-parts.ensures c.args.words.now begin c.meaning_at.result c.meaning_at.ensures)))
+    (c.in_err-class.ensures xs names (f word) known (class_means k xs f said word expression c.in_ok-parts.ensures c.args.words.now begin c.meaning_at.result c.meaning_at.ensures)))
 
 pub returns-in_err-row : goal.returns-in_err-row
 returns-in_err-row c =
@@ -39,7 +39,7 @@ returns-in_err-row c =
     let word = c.in_ok-parts.parts.class in
     let expression = said_of c.args.reading.now.«module» c.in_ok-parts.parts.permissions.now in
     always_a_row xs (enabled_in k) f said word expression c.in_ok-parts.ensures (names kinds.Class) c.args.classes.now classes c.in_ok-class.class
-    (c.in_ok-class.ensures xs names (f word) known (class_means k f said word expression c.in_ok-parts.ensures c.args.words.now begin c.meaning_at.result c.meaning_at.ensures))
+    (c.in_ok-class.ensures xs names (f word) known (class_means k xs f said word expression c.in_ok-parts.ensures c.args.words.now begin c.meaning_at.result c.meaning_at.ensures))
     (past_end c.args.classes.now c.args.classes.now c.in_ok-class.class refl c.in_err-row.ensures.lookup.3))
 
 pub returns-then-mask-eq0 : goal.returns-then-mask-eq0
@@ -52,7 +52,7 @@ returns-then-mask-eq0 c =
     let expression = said_of c.args.reading.now.«module» c.in_ok-parts.parts.permissions.now in
     let row = c.in_ok-row.row.now in
     empty_mask xs (enabled_in k) f said word expression c.in_ok-parts.ensures (names kinds.Class) c.args.classes.now classes c.in_ok-class.class
-    (c.in_ok-class.ensures xs names (f word) known (class_means k f said word expression c.in_ok-parts.ensures c.args.words.now begin c.meaning_at.result c.meaning_at.ensures))
+    (c.in_ok-class.ensures xs names (f word) known (class_means k xs f said word expression c.in_ok-parts.ensures c.args.words.now begin c.meaning_at.result c.meaning_at.ensures))
     row (at_place c.args.classes.now c.args.classes.now c.in_ok-class.class refl row c.in_ok-row.ensures.lookup.3.0 c.in_ok-row.ensures.lookup.1) c.mask_of-mask.result
     (subst (λ ns. IsMaskFor row.permissions ns c.mask_of-mask.result) (sym (names_across f expression)) (rw c.as_slice.ensures at c.mask_of-mask.ensures))
     c.if-mask-eq0.true
@@ -67,7 +67,7 @@ returns c =
     let expression = said_of c.args.reading.now.«module» c.in_ok-parts.parts.permissions.now in
     let row = c.in_ok-row.row.now in
     is_given xs (enabled_in k) f said word expression c.in_ok-parts.ensures (names kinds.Class) c.args.classes.now classes c.in_ok-class.class
-    (c.in_ok-class.ensures xs names (f word) known (class_means k f said word expression c.in_ok-parts.ensures c.args.words.now begin c.meaning_at.result c.meaning_at.ensures))
+    (c.in_ok-class.ensures xs names (f word) known (class_means k xs f said word expression c.in_ok-parts.ensures c.args.words.now begin c.meaning_at.result c.meaning_at.ensures))
     row (at_place c.args.classes.now c.args.classes.now c.in_ok-class.class refl row c.in_ok-row.ensures.lookup.3.0 c.in_ok-row.ensures.lookup.1) c.mask_of-mask.result
     (subst (λ ns. IsMaskFor row.permissions ns c.mask_of-mask.result) (sym (names_across f expression)) (rw c.as_slice.ensures at c.mask_of-mask.ensures))
     c.if-mask-eq0.false

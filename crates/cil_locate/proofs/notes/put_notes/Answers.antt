@@ -4,7 +4,7 @@ use Rattle.cil_server.proofs.StreamLemmas.{items_all, items_more, items_none, te
 use Rattle.cil_locate.proofs.notes.put_notes.Goals as goal
 
 pub loop-told-init : goal.loop-told-init
-loop-told-init g c = (items_none (note_at c.args.files.now c.args.lines.now) [] c.args.order.now _ _ (tells_none _), c.start-last.ensures)
+loop-told-init g c = (items_none (note_at c.args.files.now c.args.lines.now) [] c.args.order.now _ _ (tells_none _), c.start-last.ensures c.args.files.now)
 
 pub loop-told-preserved : goal.loop-told-preserved
 loop-told-preserved g c = (

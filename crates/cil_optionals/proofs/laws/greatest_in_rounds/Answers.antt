@@ -1,9 +1,9 @@
 use Rattle.std.specs.Prelude.{List}
-use Rattle.std.proofs.Common.{subst, sym}
+use Rattle.std.proofs.Common.{subst}
 use Rattle.cil_macros.specs.Items.{items_in, namespaces_in}
 use Rattle.cil_names.specs.declared.entry.Entry.{Entry}
 use Rattle.cil_names.specs.Entries.{is_in}
-use Rattle.cil_optionals.specs.Parts.{ArePartsOf, IsShown}
+use Rattle.cil_optionals.specs.Parts.{IsShown, parts_in}
 use Rattle.cil_optionals.proofs.ShownLemmas.{shown_right}
 use Rattle.cil_optionals.proofs.laws.greatest_in_rounds.Goals as goal
 
@@ -11,9 +11,9 @@ pub returns-clause-right : goal.returns-clause-right
 returns-clause-right c =
     let i = c.args.instances.now in
     let es = c.args.names.now in
-    let of : ArePartsOf (namespaces_in i) es (items_in i) c.as_slice.result.now = subst (ArePartsOf (namespaces_in i) es (items_in i)) (sym c.as_slice.ensures.value) c.in_ok-parts.ensures in
-    shown_right c.resolves_by_candidates.ensures (namespaces_in i) es (items_in i) c.as_slice.result.now of (is_in c.in_ok-chosen.chosen.enabled) c.in_ok-chosen.chosen.reasons.items
-    (subst (λ (l : List Entry). IsShown c.as_slice.result.now l (is_in c.in_ok-chosen.chosen.enabled) c.in_ok-chosen.chosen.reasons.items) c.entries.ensures.value c.in_ok-chosen.ensures)
+    let ps = parts_in c.parts_of-parts.result in
+    shown_right c.resolves_by_candidates.ensures (namespaces_in i) es (items_in i) ps c.parts_of-parts.ensures (is_in c.in_ok-chosen.chosen.enabled) c.in_ok-chosen.chosen.reasons.items
+    (subst (λ (l : List Entry). IsShown ps l (is_in c.in_ok-chosen.chosen.enabled) c.in_ok-chosen.chosen.reasons.items) c.entries.ensures.value c.in_ok-chosen.ensures)
 
 pub returns-clause-one_set : goal.returns-clause-one_set
 returns-clause-one_set c = λ s is.

@@ -1,8 +1,10 @@
-use Rattle.std.proofs.Common.{List, inr, refl, subst, sym}
+use Rattle.std.proofs.Common.{List, inr, map, refl, subst, sym}
 use Rattle.cil_blocks.specs.declared.namespaces.Space.{Space}
 use Rattle.cil_macros.specs.Items.{items_in, namespaces_in}
 use Rattle.cil_names.specs.Entries.{AreEntries, is_in}
 use Rattle.cil_names.specs.Numbers.{ArePlainNames}
+use Rattle.cil_names.specs.PermissionWords.{meanings}
+use Rattle.cil_names.specs.Rows.{IsTableOf}
 use Rattle.cil_names.specs.Unresolved.{ArePermissions}
 use Rattle.cil_optionals.specs.declared.reason.Reason.{Reason}
 use Rattle.cil_tables.specs.CompileRefusal.{ItemsFail}
@@ -13,18 +15,8 @@ use Rattle.cil_tables.proofs.compiler.placed_policy.Goals as goal
 pub permissions_of-requires : goal.permissions_of-requires
 permissions_of-requires c = record { ordered = c.in_ok-names.ensures.0.ordered }
 
-pub words_of-requires-clause-namespaces : goal.words_of-requires-clause-namespaces
-words_of-requires-clause-namespaces c = c.namespaces.ensures.value
-
 pub check_widths-requires-clause-namespaces : goal.check_widths-requires-clause-namespaces
 check_widths-requires-clause-namespaces c = c.namespaces.ensures.value
-
-pub words_of-requires-clause-entries : goal.words_of-requires-clause-entries
-words_of-requires-clause-entries c = subst (λ (z : List Space). AreEntries z (items_in c.args.instances.now) c.in_ok-names.names) (sym c.namespaces.ensures.value) c.in_ok-names.ensures.0
-
-pub words_of-requires-clause-permissions : goal.words_of-requires-clause-permissions
-words_of-requires-clause-permissions c =
-    subst (λ (z : List Space). ArePermissions z c.in_ok-names.names (items_in c.args.instances.now) c.as_slice-permissions.result.now) (sym c.namespaces.ensures.value) (subst (ArePermissions (namespaces_in c.args.instances.now) c.in_ok-names.names (items_in c.args.instances.now)) (sym c.as_slice-permissions.ensures.value) c.in_ok-permissions.ensures.permissions)
 
 pub check_widths-requires-clause-entries : goal.check_widths-requires-clause-entries
 check_widths-requires-clause-entries c = subst (λ (z : List Space). AreEntries z (items_in c.args.instances.now) c.in_ok-names.names) (sym c.namespaces.ensures.value) c.in_ok-names.ensures.0
@@ -45,7 +37,10 @@ tables_of-requires-clause-plain c =
     subst (λ (z : List Space). ArePlainNames z c.in_ok-names.names) (sym c.namespaces.ensures.value) (c.requires c.in_ok-names.names c.in_ok-names.ensures.0)
 
 pub tables_of-requires-clause-table : goal.tables_of-requires-clause-table
-tables_of-requires-clause-table c = c.in_ok-words.ensures.0
+tables_of-requires-clause-table c =
+    let xs = items_in c.args.instances.now in
+    subst (λ (z : List Space). IsTableOf (map (meanings z c.in_ok-names.names xs (is_in c.in_ok-chosen.chosen.enabled)) xs) c.in_ok-words.words) (sym c.namespaces.ensures.value)
+    (c.in_ok-words.ensures (namespaces_in c.args.instances.now) xs c.in_ok-asks.ensures)
 
 pub tables_of-requires-clause-few : goal.tables_of-requires-clause-few
 tables_of-requires-clause-few c = c.in_ok-check_widths.ensures.1
@@ -53,15 +48,15 @@ tables_of-requires-clause-few c = c.in_ok-check_widths.ensures.1
 pub returns-in_err-names-clause-faults : goal.returns-in_err-names-clause-faults
 returns-in_err-names-clause-faults c = handed_on (ItemsFail (items_in c.args.instances.now)) _ _ c.from_residual.ensures.1 (clash_first (items_in c.args.instances.now) _ c.in_err-names.ensures)
 
-pub returns-in_err-words-clause-faults : goal.returns-in_err-words-clause-faults
-returns-in_err-words-clause-faults c =
-    handed_on (ItemsFail (items_in c.args.instances.now)) _ _ c.from_residual-in_err-words.ensures.1
-    (words_first (items_in c.args.instances.now) c.in_ok-names.ensures.1 (is_in c.in_ok-chosen.chosen.enabled) c.in_ok-chosen.ensures.greatest _ c.in_err-words.ensures)
+pub returns-in_err-judged-clause-faults : goal.returns-in_err-judged-clause-faults
+returns-in_err-judged-clause-faults c =
+    handed_on (ItemsFail (items_in c.args.instances.now)) _ _ c.from_residual-in_err-judged.ensures.1
+    (words_first (items_in c.args.instances.now) c.in_ok-names.ensures.1 (is_in c.in_ok-chosen.chosen.enabled) c.in_ok-chosen.ensures.greatest _ c.in_err-judged.ensures)
 
 pub returns-in_err-check_widths-clause-faults : goal.returns-in_err-check_widths-clause-faults
 returns-in_err-check_widths-clause-faults c =
     handed_on (ItemsFail (items_in c.args.instances.now)) _ _ c.from_residual-in_err-check_widths.ensures.1
-    (widths_first (items_in c.args.instances.now) c.in_ok-names.ensures.1 (is_in c.in_ok-chosen.chosen.enabled) c.in_ok-chosen.ensures.greatest c.in_ok-words.ensures.1 _
+    (widths_first (items_in c.args.instances.now) c.in_ok-names.ensures.1 (is_in c.in_ok-chosen.chosen.enabled) c.in_ok-chosen.ensures.greatest c.in_ok-judged.ensures.1 _
     c.in_err-check_widths.ensures)
 
 pub returns-clause-compiled : goal.returns-clause-compiled
@@ -69,7 +64,7 @@ returns-clause-compiled c = record {
   enabled = is_in c.in_ok-chosen.chosen.enabled;
   greatest = c.in_ok-chosen.ensures.greatest;
   apart = c.in_ok-names.ensures.1;
-  no_faults = inr (c.in_ok-words.ensures.1, inr (c.in_ok-check_widths.ensures.1, refl));
+  no_faults = inr (c.in_ok-judged.ensures.1, inr (c.in_ok-check_widths.ensures.1, refl));
   table = c.in_ok-tables.ensures;
   optionals = c.in_ok-optionals.ensures;
   right = c.in_ok-chosen.ensures.right;

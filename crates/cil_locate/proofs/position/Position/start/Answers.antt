@@ -2,4 +2,4 @@ use Rattle.cil_locate.proofs.PositionLemmas.{at_start}
 use Rattle.cil_locate.proofs.position.Position.start.Goals as goal
 
 pub returns : goal.returns
-returns c = at_start c.args.text.now
+returns c = λ text. at_start text

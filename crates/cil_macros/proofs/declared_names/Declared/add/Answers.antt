@@ -21,5 +21,5 @@ returns c =
     one_more c.args.statements.now c.requires.nested c.args.number c.requires.within c.args.self.now c.requires.before c.in-Some.kind
     (ap (λ (k : Keyword). (entry_of k).declares) (keyword_some c.args.statements.now c.requires.nested c.args.number _ (is_there c.args.statements.now c.args.number c.index-statements-number.result c.requires.within))
     ∙ c.in-Some.ensures)
-    (c.in-Some-macro_round.round, c.number_of.result, c.name_at.result) c.in-Some-macro_round.ensures c.number_of.ensures (c.name_at.ensures c.requires.nested)
+    (c.in-Some-macro_round.round, c.number.result, c.name_at.result) c.in-Some-macro_round.ensures c.number.ensures (c.name_at.ensures c.requires.nested)
     (record { keys = c.insert.new.self }) c.in_ok-insert.ensures.updates.0

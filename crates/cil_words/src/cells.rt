@@ -1,0 +1,259 @@
+//! Short lists of numbers, one after another, in four bytes each.
+
+ghost use Rattle.std.specs.Prelude.{◌≡◌, ◌≤◌, ◌<◌, ◌+◌, ◌++◌, ◌∷◌, [], IfOk, OnOk, Some, length, slice_get, slice_range, ℕ};
+
+use cil_base::NoMemory;
+use std::alloc::Global;
+use std::marker::Model;
+
+/// The first cell that is the number of a list.
+const MANY: u32 = 2_147_483_648;
+
+/// How many lists have a number.
+const MOST_LISTS: usize = 1_073_741_824;
+
+/// Lists of numbers, four bytes for a list and for a number. Contracts see the lists.
+#[derive(Debug, Drop)]
+struct Lists {
+    /// Where each list begins.
+    starts: Vec<u32>,
+    /// The lists, one after another.
+    numbers: Vec<u32>,
+}
+
+impl Model for Lists {
+    ghost use Rattle.std.specs.Prelude.{List, ℕ, length};
+    ghost use Rattle.cil_words.specs.Lists.{AreWithin, lists_at};
+
+    ghost Value = { List (List ℕ) };
+
+    ghost view = { λ a. lists_at a.starts.items a.numbers.items };
+
+    ghost invariant = { λ a. AreWithin (length a.numbers.items) a.starts.items };
+}
+
+impl Lists {
+    ghost use Rattle.std.specs.Prelude.{◌≡◌, ◌≤◌, ◌++◌, ◌∷◌, [], OnOk, get_or, length};
+
+    /// No lists.
+    fn new(alloc: Global) -> Lists
+        ensures { result ≡ [] }
+    {
+        Lists {
+            starts: Vec::new(alloc),
+            numbers: Vec::new(alloc),
+        }
+    }
+
+    /// How many lists there are.
+    fn len(&self) -> usize
+        ensures { result ≡ length self.now }
+    {
+        self.starts.len()
+    }
+
+    /// The list of this number, counted from 0; an empty one where there are not so many.
+    fn row(&self, number: usize) -> &[u32]
+        ensures { result.now ≡ get_or self.now number [] }
+    {
+        let starts = self.starts.as_slice();
+        let numbers = self.numbers.as_slice();
+        let Some(start) = start_at(starts, number) else {
+            return &[];
+        };
+        let Some(end) = end_at(starts, number) else {
+            return part(numbers, start, numbers.len());
+        };
+        part(numbers, start, end)
+    }
+
+    /// Adds a list. After an error it may be there in part, behind all others.
+    fn push(&mut self, list: &[usize]) -> Result<(), NoMemory>
+        ensures pushed { OnOk result (self.new ≡ self.old ++ list.now ∷ []) }
+        ensures none_lost { length self.old ≤ length self.new }
+    {
+        let start = small(self.numbers.len())?;
+        self.starts.push(start)?;
+        push_small(&mut self.numbers, list)?;
+        Ok(())
+    }
+}
+
+/// Lists of numbers, of which nearly all have one number. Such a list takes four bytes, any other one eight, and four for
+/// each number. Contracts see the lists.
+#[derive(Debug, Drop)]
+pub struct Cells {
+    /// For each list its one number, or `MANY` and the number of the list in `lists`.
+    cells: Vec<u32>,
+    /// The lists that have no number, or more than one.
+    lists: Lists,
+}
+
+impl Model for Cells {
+    ghost use Rattle.std.specs.Prelude.{List, ℕ, length};
+    ghost use Rattle.cil_words.specs.Cells.{AreCells, cell_lists};
+
+    ghost Value = { List (List ℕ) };
+
+    ghost view = { λ a. cell_lists a.lists a.cells.items };
+
+    ghost invariant = { λ a. AreCells (length a.lists) a.cells.items };
+}
+
+impl Cells {
+    ghost use Rattle.std.specs.Prelude.{◌≡◌, ◌++◌, ◌∷◌, [], OnOk, get_or, length};
+    ghost use Rattle.cil_names.specs.Entries.{listed};
+
+    /// No lists.
+    pub fn new(alloc: Global) -> Cells
+        ensures { result ≡ [] }
+    {
+        Cells {
+            cells: Vec::new(alloc),
+            lists: Lists::new(alloc),
+        }
+    }
+
+    /// How many lists there are.
+    pub fn len(&self) -> usize
+        ensures { result ≡ length self.now }
+    {
+        self.cells.len()
+    }
+
+    /// The list of this number, counted from 0; an empty one where there are not so many.
+    pub fn row(&self, number: usize) -> &[u32]
+        ensures { result.now ≡ get_or self.now number [] }
+    {
+        let cells = self.cells.as_slice();
+        let Some(cell) = cell_at(cells, number) else {
+            return &[];
+        };
+        match cell.checked_sub(MANY) {
+            None => one(cells, number),
+            Some(list) => self.lists.row(list as usize),
+        }
+    }
+
+    /// Adds a list of one number. Error: out of memory, also for a number from 2,147,483,648 on.
+    pub fn push_one(&mut self, number: usize) -> Result<(), NoMemory>
+        ensures { OnOk result (self.new ≡ self.old ++ (number ∷ []) ∷ []) }
+    {
+        let cell = small(number)?;
+        if cell >= MANY {
+            return Err(NoMemory);
+        }
+        self.cells.push(cell)?;
+        Ok(())
+    }
+
+    /// Adds a list of any length. Error: out of memory, also for more than 1,073,741,824 lists.
+    pub fn push_many(&mut self, list: &[usize]) -> Result<(), NoMemory>
+        ensures { OnOk result (self.new ≡ self.old ++ list.now ∷ []) }
+    {
+        let number = self.lists.len();
+        if number >= MOST_LISTS {
+            return Err(NoMemory);
+        }
+        self.lists.push(list)?;
+        self.cells.push(MANY + number as u32)?;
+        Ok(())
+    }
+
+    /// Adds a list of one number, or of none.
+    pub fn push_option(&mut self, number: Option<usize>) -> Result<(), NoMemory>
+        ensures { OnOk result (self.new ≡ self.old ++ listed number ∷ []) }
+    {
+        match number {
+            Some(one) => self.push_one(one),
+            None => self.push_many(&[]),
+        }
+    }
+
+    /// Adds a list, in four bytes if it has one number.
+    pub fn push(&mut self, list: &[usize]) -> Result<(), NoMemory>
+        ensures { OnOk result (self.new ≡ self.old ++ list.now ∷ []) }
+    {
+        match list {
+            [number] => self.push_one(*number),
+            _ => self.push_many(list),
+        }
+    }
+}
+
+/// A number in four bytes. Error: out of memory, for one that needs more.
+pub fn small(number: usize) -> Result<u32, NoMemory>
+    ensures { IfOk result (λ n. n ≡ number) }
+{
+    match u32::try_from(number) {
+        Ok(n) => Ok(n),
+        Err(_) => Err(NoMemory),
+    }
+}
+
+/// Adds numbers, in four bytes each.
+fn push_small(numbers: &mut Vec<u32>, list: &[usize]) -> Result<(), NoMemory>
+    ensures pushed { OnOk result (numbers.new.items ≡ numbers.old.items ++ list.now) }
+    ensures none_lost { length numbers.old.items ≤ length numbers.new.items }
+{
+    for number in list {
+        let one = small(*number)?;
+        numbers.push(one)?;
+    }
+    Ok(())
+}
+
+/// The cell at a place.
+fn cell_at(cells: &[u32], number: usize) -> Option<u32>
+    ensures { result ≡ slice_get cells.now number }
+{
+    match cells.get(number) {
+        Some(cell) => Some(*cell),
+        None => None,
+    }
+}
+
+/// The list of the one cell at a place.
+fn one(cells: &[u32], number: usize) -> &[u32]
+    requires { number < length cells.now }
+    ensures { (c : ℕ) → slice_get cells.now number ≡ Some c → result.now ≡ c ∷ [] }
+{
+    if number < cells.len() {
+        &cells[number..number + 1]
+    } else {
+        &[]
+    }
+}
+
+/// The place where a list begins.
+pub fn start_at(starts: &[u32], i: usize) -> Option<usize>
+    ensures { result ≡ slice_get starts.now i }
+{
+    match starts.get(i) {
+        Some(start) => Some(*start as usize),
+        None => None,
+    }
+}
+
+/// The place where the next list begins.
+pub fn end_at(starts: &[u32], i: usize) -> Option<usize>
+    ensures { result ≡ slice_get starts.now (i + 1) }
+{
+    if i < starts.len() {
+        start_at(starts, i + 1)
+    } else {
+        None
+    }
+}
+
+/// A part of some numbers; none where it ends before it begins.
+fn part(numbers: &[u32], start: usize, end: usize) -> &[u32]
+    requires { end ≤ length numbers.now }
+    ensures { result.now ≡ slice_range numbers.now start end }
+{
+    if start <= end {
+        &numbers[start..end]
+    } else {
+        &[]
+    }
+}

@@ -1,0 +1,18 @@
+//! What the statements of a policy ask for: for each word, and each permission of a class, the entries that it could name.
+//!
+//! Start at `asks.rt` (`asks_of`), which makes one table for all instances before optionals are chosen. `specs/Table.antt`
+//! says which rows it has. `walk.rt` walks over the terms of a statement, `cells.rt` keeps nearly all lists in four bytes.
+//! The table is read by the choice of optionals, a crate above; by `judge.rt`, which reports what names nothing (`judged`); and
+//! by `settled_rows.rt`, which says what each word means (`settled`). What a word could name is found a crate below.
+#![tactic(auto)]
+
+mod asks;
+mod cells;
+mod judge;
+mod settled_rows;
+mod walk;
+
+pub use asks::{Asks, asks_of};
+pub use cells::Cells;
+pub use judge::judged;
+pub use settled_rows::settled;

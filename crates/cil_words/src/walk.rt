@@ -1,0 +1,216 @@
+//! The walk over the terms of a placed statement, which adds the entries that each word and permission could name.
+
+ghost use Rattle.std.specs.Prelude.{◌≡◌, ◌∷◌, [], Contains, IfOk, IfSome, OnOk, map, true};
+ghost use Rattle.std.specs.List.Sorted.{IsStrictlySortedBy};
+ghost use Rattle.cil_base.specs.Lists.{text_cmp};
+ghost use Rattle.cil_macros.specs.Calls.{is_call};
+ghost use Rattle.cil_macros.specs.Item.{all_words_in, words_in};
+ghost use Rattle.cil_names.specs.Classes.{IsClassFor};
+ghost use Rattle.cil_names.specs.Entries.{candidates_of};
+ghost use Rattle.cil_names.specs.Readings.{item_read, module_of, scoped_there, word_read};
+ghost use Rattle.cil_names.specs.Resolves.{Permission as APermission, Word as AWord, all_wanted_in, wanted_in, words_of, words_of_class};
+ghost use Rattle.cil_names.specs.Unresolved.{term_with, terms_with};
+ghost use Rattle.cil_syntax.specs.Scopes.{ScopedWord};
+ghost use Rattle.cil_words.specs.Walks.{AddsFor, IsWalk, spaces_by};
+
+use crate::cells::Cells;
+use cil_base::NoMemory;
+use cil_macros::PlacedWord;
+use cil_names::reading::{Reading, is_call, says_as_written};
+use cil_names::{Class, Names, class_of, with_permission};
+use cil_syntax::{Bytes, Term, word_and_terms};
+use std::alloc::Global;
+
+/// A placed statement, and what its words are looked up in.
+#[derive(Clone, Copy)]
+pub struct Walk<'r, 's, 'p, 'a> {
+    pub alloc: Global,
+    /// The declared names.
+    pub names: &'r Names<'a>,
+    /// For each entry that is a class, its permissions in byte order.
+    pub permissions: &'r [Vec<Bytes>],
+    /// The statement.
+    pub reading: Reading<'r, 's, 'p, 'a>,
+}
+
+impl<'r, 's, 'p, 'a> Walk<'r, 's, 'p, 'a> {
+    /// Adds a list for each thing that the statement asks for. Each word costs one look-up, and the class word of a class list one
+    /// more.
+    pub fn statement(&self, cells: &mut Cells) -> Result<(), NoMemory>
+        requires { IsWalk self.now }
+        ensures { OnOk result (AddsFor self.now (words_of (item_read self.now.reading)) cells.old cells.new) }
+    {
+        let statement = self.reading.statement;
+        if is_call(statement.keyword) {
+            self.call(cells)?;
+            return Ok(());
+        }
+        if !says_as_written(statement.keyword) {
+            return Ok(());
+        }
+        self.terms(cells, statement.args.as_slice())?;
+        Ok(())
+    }
+
+    /// Adds a list for each word of a call.
+    fn call(&self, cells: &mut Cells) -> Result<(), NoMemory>
+        requires { IsWalk self.now }
+        ensures { OnOk result (is_call (item_read self.now.reading).keyword ≡ true → AddsFor self.now (words_of (item_read self.now.reading)) cells.old cells.new) }
+    {
+        let words = self.reading.call_words(self.alloc)?;
+        for word in words.as_slice() {
+            self.word(cells, word)?;
+        }
+        Ok(())
+    }
+
+    /// Adds a list for each thing that some terms ask for.
+    #[cycle(terms)]
+    fn terms(&self, cells: &mut Cells, terms: &[Term<'a>]) -> Result<(), NoMemory>
+        requires { IsWalk self.now }
+        ensures { OnOk result (AddsFor self.now (all_wanted_in (terms_with (word_read self.now.reading) (module_of self.now.reading) terms.now)) cells.old cells.new) }
+    {
+        for term in terms {
+            self.term(cells, term)?;
+        }
+        Ok(())
+    }
+
+    #[cycle(terms)]
+    fn term(&self, cells: &mut Cells, term: &Term<'a>) -> Result<(), NoMemory>
+        requires { IsWalk self.now }
+        ensures { OnOk result (AddsFor self.now (wanted_in (term_with (word_read self.now.reading) (module_of self.now.reading) term.now)) cells.old cells.new) }
+    {
+        match term {
+            Term::Leaf(word) => {
+                let written = word.in_module(self.reading.statement.at.module);
+                self.word(cells, &self.reading.word(&written))?;
+            }
+            Term::Name(_, _) => {}
+            Term::Form(op, _, parts) => {
+                if op.is_class_list() {
+                    self.class_list(cells, parts.as_slice())?;
+                } else {
+                    self.terms(cells, parts.as_slice())?;
+                }
+            }
+        }
+        Ok(())
+    }
+
+    /// Adds the list of what a word could name. Where its name has one entry in all, in the global namespace, that costs one hash,
+    /// and no scope is asked.
+    fn word(&self, cells: &mut Cells, word: &PlacedWord) -> Result<(), NoMemory>
+        requires { IsWalk self.now }
+        ensures { OnOk result (AddsFor self.now (AWord (scoped_there self.now.reading word.now) ∷ []) cells.old cells.new) }
+    {
+        if let Some(entry) = self.unscoped(word) {
+            cells.push_option(Some(entry))?;
+            return Ok(());
+        }
+        self.scoped(cells, word)?;
+        Ok(())
+    }
+
+    /// The one entry that a word could name whatever its scope is. None says nothing.
+    fn unscoped(&self, word: &PlacedWord) -> Option<usize>
+        ensures { IfSome result (λ d. candidates_of (spaces_by self.now) self.now.names.now (scoped_there self.now.reading word.now) ≡ d ∷ []) }
+    {
+        let place = word.scope?;
+        let instances = self.reading.instances;
+        if place >= instances.len() {
+            return None;
+        }
+        instances.are_closed();
+        self.names.unscoped(&word.word)
+    }
+
+    /// The same where the scope of the word is asked.
+    fn scoped(&self, cells: &mut Cells, word: &PlacedWord) -> Result<(), NoMemory>
+        requires { IsWalk self.now }
+        ensures { OnOk result (AddsFor self.now (AWord (scoped_there self.now.reading word.now) ∷ []) cells.old cells.new) }
+    {
+        let scope = self.reading.scope_of(self.alloc, word)?;
+        let namespaces = self.reading.instances.namespaces();
+        let found = self
+            .names
+            .candidates(self.alloc, namespaces, &word.word, scope.as_slice())?;
+        cells.push(found.as_slice())?;
+        Ok(())
+    }
+
+    /// Adds the lists of a class word and of the permissions behind it.
+    fn class_list(&self, cells: &mut Cells, terms: &[Term<'a>]) -> Result<(), NoMemory>
+        requires { IsWalk self.now }
+        ensures { OnOk result (AddsFor self.now (words_of_class (terms_with (word_read self.now.reading) (module_of self.now.reading) terms.now)) cells.old cells.new) }
+    {
+        let Some(list) = word_and_terms(terms, self.reading.statement.at.module) else {
+            return Ok(());
+        };
+        let class = self.reading.word(&list.word);
+        self.word(cells, &class)?;
+        let found = self.class(&class)?;
+        self.permissions(cells, found, list.terms)?;
+        Ok(())
+    }
+
+    /// The class that a class word names, with its permissions.
+    fn class(&self, class: &PlacedWord) -> Result<Option<Class<'r>>, NoMemory>
+        requires { IsWalk self.now }
+        ensures { IfOk result (IsClassFor (spaces_by self.now) self.now.names.now self.now.permissions.now (scoped_there self.now.reading class.now)) }
+    {
+        let scope = self.reading.scope_of(self.alloc, class)?;
+        let namespaces = self.reading.instances.namespaces();
+        Ok(class_of(
+            namespaces,
+            self.names.entries(),
+            self.names.guesses(),
+            self.permissions,
+            &class.word,
+            scope.as_slice(),
+        ))
+    }
+
+    /// Adds the lists of the permissions among some terms, of a class that was found.
+    #[cycle(permissions)]
+    fn permissions(
+        &self,
+        cells: &mut Cells,
+        found: Option<Class<'_>>,
+        terms: &[Term<'a>],
+    ) -> Result<(), NoMemory>
+        requires walk { IsWalk self.now }
+        requires rising { IfSome found (λ k. IsStrictlySortedBy text_cmp k.permissions.now) }
+        ensures { OnOk result ((c : ScopedWord) → IsClassFor (spaces_by self.now) self.now.names.now self.now.permissions.now c found.entry
+            → AddsFor self.now (map (APermission c) (all_words_in (terms_with (word_read self.now.reading) (module_of self.now.reading) terms.now))) cells.old cells.new) }
+    {
+        for term in terms {
+            self.permission(cells, found, term)?;
+        }
+        Ok(())
+    }
+
+    #[cycle(permissions)]
+    fn permission(
+        &self,
+        cells: &mut Cells,
+        found: Option<Class<'_>>,
+        term: &Term<'a>,
+    ) -> Result<(), NoMemory>
+        requires walk { IsWalk self.now }
+        requires rising { IfSome found (λ k. IsStrictlySortedBy text_cmp k.permissions.now) }
+        ensures { OnOk result ((c : ScopedWord) → IsClassFor (spaces_by self.now) self.now.names.now self.now.permissions.now c found.entry
+            → AddsFor self.now (map (APermission c) (words_in (term_with (word_read self.now.reading) (module_of self.now.reading) term.now))) cells.old cells.new) }
+    {
+        match term {
+            Term::Leaf(word) => {
+                let written = word.in_module(self.reading.statement.at.module);
+                let permission = self.reading.word(&written);
+                cells.push_option(with_permission(found, permission.word.bytes.as_slice()))?;
+            }
+            Term::Name(_, _) => {}
+            Term::Form(_, _, parts) => self.permissions(cells, found, parts.as_slice())?,
+        }
+        Ok(())
+    }
+}

@@ -1,0 +1,118 @@
+"""The statements of the language as the rules write them, and which of them are accepted.
+
+In a row `x*` are any number, `x+` one or more and `[x]` one or none; `a|b` is either. Not more than one of the items of a
+list stands for another number of nodes than one. What a word stands for is the method of that name in `shapes.py`.
+"""
+import collections
+import re
+
+# By their places: the global namespace and blocks; also optionals and macros; also branches.
+IN_BLOCKS = """
+    (block n s*) (blockabstract bl) (blockinherit bl) (macro n ((kind n)*) s*)
+    (class n (p*)) (common n (p+)) (classcommon c K) (classmap n (p+))
+    (sensitivity n) (sensitivityalias n) (sensitivityaliasactual SA S) (sensitivityorder (S+))
+    (sensitivitycategory S E(GS)) (mls true|false)
+    (category n) (categoryalias n) (categoryaliasactual GA G) (categoryorder (G+)) (categoryset n E(GS))
+"""
+ANYWHERE = """
+    (optional n s*) (booleanif be branch+)
+    (type n) (typealias n) (typealiasactual TA t) (typeattribute n) (typeattributeset A E(T))
+    (expandtypeattribute A|(A+) true|false)
+    (role n) (roleattribute n) (roleattributeset RA E(R)) (roletype R T) (roleallow R R) (roletransition R T C r)
+    (user n) (userattribute n) (userattributeset UA E(U)) (userrole U R) (userlevel u lev) (userrange u rng)
+    (classpermission n) (classpermissionset P (C E(p))) (classmapping CM p P|(c E(p))) (classorder order)
+    (boolean n true|false) (level n (S [E(GS)])) (levelrange n (lev lev)) (rangetransition T T C rng)
+    (neverallow T tg cp) (constrain cp ce) (mlsconstrain cp me)
+"""
+IN_BRANCHES = """
+    (allow T tg cp) (auditallow T tg cp) (dontaudit T tg cp)
+    (typetransition T tg C [NAME] t) (typechange T tg C t) (typemember T tg C t) (call m [(arg*)])
+"""
+
+# Lists that stand in place of a word.
+FORMS = {"cp": "(C E(p))", "lev": "(S [E(GS)])", "rng": "(lev lev)"}
+
+# Statements without effect, whose contents are not looked at. They may not stand in a macro or an optional.
+SET_ASIDE = set(
+    b"""
+    filecon fsuse genfscon netifcon nodecon portcon ibpkeycon ibendportcon sid sidorder sidcontext context ipaddr
+    iomemcon ioportcon pcidevicecon pirqcon devicetreecon policycap handleunknown
+    defaultuser defaultrole defaulttype defaultrange selinuxuser selinuxuserdefault userprefix
+    validatetrans mlsvalidatetrans
+    """.split()
+)
+
+# The statements that will never be accepted, or by no stage yet.
+LEFT_OUT = set(
+    b"""
+    in tunable tunableif deny allowx auditallowx dontauditx neverallowx permissionx typebounds rolebounds userbounds
+    typepermissive
+    """.split()
+)
+
+# An item of a row: a word by its name, the items of a list, or what it may be; and the least and most of it.
+Item = collections.namedtuple("Item", "name items either least most", defaults=("", None, (), 1, 1))
+TOKEN = re.compile(r"E\(\w+\)|\w+|\S")
+
+
+def items_of(text):
+    """The items of a row."""
+    items, rest = items_until(TOKEN.findall(text), "")
+    assert not rest
+    return items
+
+
+def items_until(tokens, closing):
+    """The items up to a closing token, and the tokens behind it."""
+    items = []
+    while tokens and tokens[0] != closing:
+        token, *tokens = tokens
+        if token in "*+":
+            items[-1] = items[-1]._replace(least="*+".index(token), most=None)
+        elif token == "|":
+            (second, *behind), tokens = items_until(tokens, closing)
+            return [*items[:-1], Item(either=(items[-1], second)), *behind], tokens
+        elif token == "[":
+            (inner,), tokens = items_until(tokens, "]")
+            items.append(inner._replace(least=0))
+        elif token == "(":
+            inner, tokens = items_until(tokens, ")")
+            items.append(Item(items=inner))
+        else:
+            items.append(Item(token))
+    return items, tokens[1:]
+
+
+def rows_of(text):
+    """The rows by their keywords."""
+    return {row.items[0].name.encode(): row.items[1:] for row in items_of(text)}
+
+
+BLOCK_ROWS, ROWS_ANYWHERE, BRANCH_ROWS = rows_of(IN_BLOCKS), rows_of(ANYWHERE), rows_of(IN_BRANCHES)
+ROWS = {**BLOCK_ROWS, **ROWS_ANYWHERE, **BRANCH_ROWS}
+FORMS = {name: items_of(text)[0].items for name, text in FORMS.items()}
+
+# The kinds of parameters. Arguments of the first two are not looked up.
+PLAIN_KINDS = set(b"name string".split())
+KINDS = PLAIN_KINDS | set(
+    b"""
+    type typealias role user boolean bool class classmap classpermission
+    sensitivity category categoryset level levelrange
+    """.split()
+)
+
+# What of it is accepted: statements; kinds of parameters; `all` and operators in sets; names of class permissions.
+Language = collections.namedtuple("Language", "statements kinds has_sets has_permission_names")
+
+WHOLE = Language(SET_ASIDE.union(ROWS), KINDS, True, True)
+ACCEPTED = Language(
+    SET_ASIDE.union(
+        b"""
+        type role user class roletype userrole allow
+        block blockabstract blockinherit macro call optional
+        """.split()
+    ),
+    PLAIN_KINDS.union(b"type role user class".split()),
+    False,
+    False,
+)
