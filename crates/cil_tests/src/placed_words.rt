@@ -162,16 +162,26 @@ pub(crate) struct Listed;
 
 impl Question for Listed {
     fn answer(&self, alloc: Global, instances: &Instances) -> Option<String> {
-        let names = declare(alloc, instances).ok()?;
-        let permissions = permissions_of(alloc, &names, instances).ok()?;
-        let permissions = permissions.as_slice();
-        let mut out = String::new(alloc);
-        let asks = asks_of(alloc, &names, permissions, &*instances).ok()?;
-        for at in 0..instances.len() {
-            show_statement(alloc, &mut out, instances, &names, at, &asks)?;
-        }
-        Some(out)
+        let Ok(names) = declare(alloc, instances) else {
+            return None;
+        };
+        let Ok(permissions) = permissions_of(alloc, &names, instances) else {
+            return None;
+        };
+        let Ok(asks) = asks_of(alloc, &names, permissions.as_slice(), &*instances) else {
+            return None;
+        };
+        list(alloc, &*instances, &names, &asks)
     }
+}
+
+/// Each word of all statements with its candidates. None where there is no memory, or as many words as lists.
+fn list(alloc: Global, instances: &Instances, names: &Names, asks: &Asks) -> Option<String> {
+    let mut out = String::new(alloc);
+    for at in 0..instances.len() {
+        show_statement(alloc, &mut out, instances, names, at, asks)?;
+    }
+    Some(out)
 }
 
 /// Adds each word of a statement with its candidates. None where there is no memory, or as many words as lists.
