@@ -3,14 +3,14 @@
 
 usage: passes.py FILE
 
-Most passes are no functions of the program: they are parts of two large ones. There they are told apart by the calls in
+Most passes are no functions of the program: they are parts of a few large ones. There they are told apart by the calls in
 them, in the order of the addresses. A line has a pass, its instructions with those of all that it calls, and the first
 address in it at which the program was once, where a debugger can see that the pass begins; 0 where there is none.
 """
 import re
 import sys
 
-LOADING, PLACED = "requests::load", "compiler::placed_policy"
+LOADING, COMPILING, PLACED = "requests::load", "compiler::compile", "compiler::placed_policy"
 
 
 def lines_of(path):
@@ -93,38 +93,47 @@ def main():
         print(__doc__, end="")
         return 2
     costs, calls = lines_of(sys.argv[1])
-    loading, placed = only(costs, LOADING), only(costs, PLACED)
+    loading, compiling, placed = (only(costs, name) for name in (LOADING, COMPILING, PLACED))
 
-    one = Function(costs[loading], calls[loading])
+    one = Function(costs[compiling], calls[compiling])
     one.ends_with("reading", "reader::read_level")
     one.ends_with("written", "Reader::judge_all")
     one.ends_before("freeing trees", "parts::parts_of")
     one.ends_before("inherit", "expansion::expand")
     one.ends_with("expand", "expansion::expand")
     one.ends_with("placed", PLACED)
-    # The copy frees nothing.
-    one.ends("freeing the rest", one.place("dealloc", last=True))
-    one.ends("copy of the set", len(one.calls) - 1)
+    one.ends("freeing the rest", len(one.calls) - 1)
+
+    # Behind the policy LOAD only copies the set of modules.
+    all_of_it = Function(costs[loading], calls[loading])
+    all_of_it.ends_with("compiling", COMPILING)
+    all_of_it.ends("copy of the set", len(all_of_it.calls) - 1)
 
     two = Function(costs[placed], calls[placed])
     two.ends_with("declare", "gather::declare")
     two.ends_with("permissions_of", "dealloc")
-    # The last thing that is freed is what a statement asks for.
-    two.ends("parts_of", two.place("dealloc", last=True, before=two.place("quicksort")))
+    # The last thing that is freed is what the words of a statement are looked up by.
+    two.ends("asks_of", two.place("dealloc", last=True, before=two.place("quicksort")))
     two.ends_before("guess: graph", "quicksort")
     two.ends_with("guess: sorting", "quicksort")
     two.ends_before("guess: settling", "counts::lookups_of")
     two.ends_with("lookups_of", "counts::lookups_of")
-    two.ends_before("check, freeing parts", "look::flags_of")
-    two.ends_before("words_of", "widths::check_widths")
-    for name, wanted in (("check_widths", "widths::check_widths"), ("tables_of", "compiler::tables_of"),
+    two.ends_before("check", "judge::judged")
+    for name, wanted in (("judged", "judge::judged"), ("settled", "settled_rows::settled"), ("check_widths", "widths::check_widths"), ("tables_of", "compiler::tables_of"),
                          ("optional_lines", "lines::optional_lines"), ("why_lines", "lines::why_lines")):
         two.ends_with(name, wanted)
     two.ends("freeing names", len(two.calls) - 1)
 
-    for name, cost, address in one.lines():
-        for line in two.lines() if name == "placed" else [(name, cost, address)]:
-            print("%s\t%d\t%#x" % line)
+    inside = {"compiling": one, "placed": two}
+
+    def tell(function):
+        for name, cost, address in function.lines():
+            if name in inside:
+                tell(inside[name])
+            else:
+                print("%s\t%d\t%#x" % (name, cost, address))
+
+    tell(all_of_it)
     return 0
 
 
