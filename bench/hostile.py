@@ -420,6 +420,31 @@ def permission_copies(size):
     return [f"(class c(a))(type b){text}(block b{inherit(last)})"]
 
 
+def shared_names(size):
+    """A common of very many names, and very many classes that share it."""
+    names = " ".join(pieces(size // 2, "a{:x}".format))
+    return [f"(common k({names}))", *numbered(size // 2, "(class b{0:x}())(classcommon b{0:x} k)".format)]
+
+
+def common_copies(size):
+    """Statements that join a common to a class, inherited very often."""
+    text, last = doubled(4, "(classcommon c k)" * (size // 20))
+    return [f"(class c())(common k(a)){text}(block b{inherit(last)})"]
+
+
+def permission_list(size):
+    """A rule with very many permissions, all of one class."""
+    return [f"(class c(a b))(type b)(allow b b(c({' a' * (size // 2)})))"]
+
+
+def deep_operators(size):
+    """Rules whose permissions are operators 120 deep, over a class of 32 permissions."""
+    names = " ".join(f"p{number:02}" for number in range(32))
+    inside = "(not" * 59 + "(xor all(or p00 p31))" + ")" * 59
+    deep = "(and all" * 60 + inside + ")" * 60
+    return filled(size, f"(class c({names}))(type b)", f"(allow b b(c {deep}))", "")
+
+
 def dots(size):
     """Words of very many names in scopes of very many namespaces, each of which has some of these names."""
     count = size // 2 // 70
@@ -601,6 +626,8 @@ FORMS = {
     "long-fault-words": (long_fault_words, LONGEST, load), "class-copies": (class_copies, LONGEST, load),
     "far-names": (far_names, LONGEST, load),
     "permission-copies": (permission_copies, LONGEST, load), "dots": (dots, LONGEST, load),
+    "shared-names": (shared_names, LONGEST, load), "common-copies": (common_copies, LONGEST, load),
+    "permission-list": (permission_list, 1_000_000, load), "deep-operators": (deep_operators, LONGEST, load),
     "pairs": (pairs, LONGEST, load), "flood": (flood, LONGEST, load),
     "same-optionals": (same_optionals, 11_000_000, lines), "optional-chain": (optional_chain, LONGEST, lines),
     "optional-ring": (optional_ring, LONGEST, lines), "deep-optionals": (deep_optionals, 7_800_000, load),

@@ -119,7 +119,7 @@ def main():
     two.ends_before("guess: settling", "counts::lookups_of")
     two.ends_with("lookups_of", "counts::lookups_of")
     two.ends_before("check", "judge::judged")
-    for name, wanted in (("judged", "judge::judged"), ("settled", "settled_rows::settled"), ("check_widths", "widths::check_widths"), ("tables_of", "compiler::tables_of"),
+    for name, wanted in (("judged", "judge::judged"), ("settled", "settled_rows::settled"), ("check_classes", "widths::check_classes"), ("tables_of", "compiler::tables_of"),
                          ("optional_lines", "lines::optional_lines"), ("why_lines", "lines::why_lines")):
         two.ends_with(name, wanted)
     two.ends("freeing names", len(two.calls) - 1)

@@ -8,8 +8,8 @@ from contents import Contents
 from faults import Refused
 from instances import Instances
 from names import names_of_all
-from pieces import FLAT, LATER, ODD, UNKNOWN, Quoted, bent, module_of, often
-from policy import Policy
+from pieces import FLAT, LATER, ODD, UNKNOWN, Quoted, bent, module_of, often, set_of
+from policy import MOST_PERMISSIONS, Policy
 from texts import RESERVED, Node
 
 BLOCKS = [b"k", b"l", b"n", b"a", b"k-a"]
@@ -19,8 +19,12 @@ NAMES = {
     b"role": [b"r", b"q", b"a", b"object_r"],
     b"user": [b"u", b"v", b"a"],
     b"class": [b"file", b"dir", b"a"],
+    b"common": [b"file", b"dir", b"k", b"c"],
 }
 PERMISSIONS = [b"read", b"open", b"write", b"a"]
+
+# What commons list, and most classes do not.
+SHARED = [b"ioctl", b"lock", b"map", b"a-", b"write", b"read"]
 
 # Types that are there in most policies.
 BASE_TYPES = [b"a", b"b"]
@@ -42,7 +46,8 @@ WRONG = {
     "calls": {34, 35, 38},
     "classes": {36},
     "words": {41},
-    "widths": {55},
+    "widths": {55, 56},
+    "commons": {55, 56},
 }
 
 
@@ -89,8 +94,8 @@ class Draft:
     def __init__(self, rng):
         self.rng, self.wrong = rng, None
         self.modules, self.spots, self.macros = [], [], []
-        self.standing = []
-        self.permissions, self.rules = {}, 0
+        self.standing, self.shares = [], set()
+        self.lists, self.permissions, self.rules = {}, {}, 0
         self.declared = {kind: [] for kind in NAMES}
 
     def goes_wrong(self, what, chance=0.25):
@@ -192,19 +197,22 @@ class Draft:
         return path in taken and not self.goes_wrong("blocks", 0.5)
 
     def add_declaration(self):
-        kind = self.rng.choice([b"type", b"type", b"type", b"role", b"user", b"class"])
-        spot = self.spot(may_be_macro=kind != b"class" or self.goes_wrong("shapes", 0.1))
+        kind = self.rng.choice([b"type", b"type", b"type", b"role", b"user", b"class", b"common"])
+        is_list = kind in (b"class", b"common")
+        spot = self.spot(may_be_macro=not is_list or self.goes_wrong("shapes", 0.1))
         self.declare(spot, kind, self.rng.choice(NAMES[kind]))
 
     def declare(self, spot, kind, name):
         if spot.is_macro and name in [of for _, of in spot.parameters] and not self.goes_wrong("shapes"):
             return
         path = (*spot.space, name)
-        if kind == b"class":
-            listed = self.permissions.get(path)
+        if kind in (b"class", b"common"):
+            listed = self.lists.get((kind, path))
             if listed is None or self.goes_wrong("classes", 0.5):
-                listed = self.listed()
-            self.permissions[path] = listed
+                listed = self.listed() if kind == b"class" else self.listed_in_common()
+            self.lists[kind, path] = listed
+            if kind == b"class":
+                self.permissions[path] = listed
             spot.body.append([kind, name, list(listed)])
         else:
             spot.body.append([kind, name])
@@ -218,7 +226,63 @@ class Draft:
             return many + self.rng.sample(many, self.rng.randrange(3))
         return [*MARKS, b"read", *self.rng.sample(PERMISSIONS, self.rng.randrange(0, 4))]
 
+    def listed_in_common(self):
+        return self.rng.sample(SHARED, self.rng.randrange(1, 5))
+
     # ---- what goes by words
+
+    def add_share(self):
+        """A classcommon, for a class that has none yet where that is to be right."""
+        spot = self.spot(may_be_macro=self.goes_wrong("shapes", 0.1))
+        class_word, common = self.word(spot, b"class"), self.word(spot, b"common")
+        if (spot.space, class_word) in self.shares and not self.goes_wrong("commons", 0.7):
+            return
+        self.shares.add((spot.space, class_word))
+        spot.body.append([b"classcommon", class_word, common])
+
+    def add_second_common(self):
+        """Two commons for one class, named in one body or in two."""
+        if not self.permissions or len(self.declared[b"common"]) < 2:
+            return
+        path = self.rng.choice(list(self.permissions))
+        for common in self.rng.sample(self.declared[b"common"], 2):
+            spot = self.spot()
+            spot.body.append([b"classcommon", b"." + b".".join(path), self.path(spot.space, common)])
+
+    def add_full_class(self):
+        """A class that its common makes as wide as it may be, or too wide."""
+        spot = self.spot()
+        own = [b"p%d" % i for i in range(self.rng.choice([0, 1, 20, 31, 32]))]
+        most = MOST_PERMISSIONS + (self.wrong == "widths")
+        added = [b"c%d" % i for i in range(most - len(own))] + self.rng.sample(own, min(len(own), 2))
+        if added:
+            spot.body += [[b"class", b"full", own], [b"common", b"full", added], [b"classcommon", b"full", b"full"]]
+
+    def add_family(self):
+        """A block with a class that has a common, which is inherited where there are such names too."""
+        home = self.below(self.spot(deepest=1))
+        family = self.below(home)
+        self.declare(home, b"common", b"k")
+        if often(self.rng, 0.7):
+            self.declare(self.rng.choice([family, family, home]), b"class", b"dir")
+        if often(self.rng, 0.2):
+            self.declare(family, b"common", b"k")
+        family.body.append([b"classcommon", b"dir", b"k"])
+        heirs = [self.below(self.spot(deepest=1)) for _ in range(self.rng.choice([1, 2, 2]))]
+        for each in heirs:
+            if often(self.rng, 0.4):
+                self.declare(each, b"common", b"k")
+            if often(self.rng, 0.2):
+                self.declare(each, b"class", b"dir")
+            if family.space != each.space[:len(family.space)]:
+                inherit = [b"blockinherit", b"." + b".".join(family.space)]
+                each.body += [inherit, list(inherit)] if often(self.rng, 0.3) else [inherit]
+        for each in (family, *heirs):
+            self.ask_shared(each, b"dir")
+
+    def ask_shared(self, spot, class_word):
+        """A rule with a permission that only a common gives."""
+        spot.body.append([b"allow", b".a", b"self", [class_word, [self.rng.choice(SHARED[:3])]]])
 
     def add_inherit(self):
         around = self.spot(may_be_macro=self.goes_wrong("shapes", 0.1))
@@ -262,15 +326,30 @@ class Draft:
             return
         target = b"self" if often(self.rng, 0.15) else self.word(spot, b"type")
         class_word = self.word(spot, b"class")
-        full_names = [path for path in self.permissions if path[-1] == class_word.split(b".")[-1]]
-        listed = self.permissions[self.rng.choice(full_names)] if full_names else [b"read"]
-        permissions = [self.rng.choice(listed) for _ in range(self.rng.choice([0, 0, 0, 0, 1, 2]))]
+        is_parameter = (b"class", class_word) in spot.parameters
+        full_names = [path for path in self.permissions if is_parameter or path[-1] == class_word.split(b".")[-1]]
+        listed = list(self.permissions[self.rng.choice(full_names)]) if full_names else [b"read"]
+        permissions = [self.rng.choice(listed) for _ in range(self.rng.choice([0, 0, 0, 0, 1, 2]))] if listed else []
         if b"p0" in listed and often(self.rng, 0.95):
             self.rules += 1
             permissions.append(MARKS[self.rules % len(MARKS)])
         if self.goes_wrong("words", 0.1):
             permissions.append(self.rng.choice([b"nope", b"write", [b"open", [b"a"]]]))
+        if listed and often(self.rng, 0.3):
+            made = self.set_on(listed, self.strange_permissions(spot))
+            permissions = made if often(self.rng, 0.3) else [made, *permissions]
         spot.body.append([b"allow", self.word(spot, b"type"), target, [class_word, permissions]])
+
+    def strange_permissions(self, _):
+        """A permission for a body that its class may not have, or none."""
+        return [self.rng.choice([b"nope", *SHARED])] if self.goes_wrong("words", 0.3) else []
+
+    def set_on(self, listed, strange):
+        """A set of some permissions of a class. Most of such sets have few in them, so that other rules show too."""
+        some = self.rng.sample(listed, min(len(listed), 6)) + strange
+        self.rng.shuffle(some)
+        made = set_of(self.rng, some)
+        return made if often(self.rng, 0.2) else [self.rng.choice([b"and", b"and", b"xor"]), some[:4], made]
 
     def add_diamond(self):
         """A block with a macro, two blocks that inherit it, and a body that inherits these and calls the macro."""
@@ -372,13 +451,16 @@ class Draft:
     def add_all(self, size, wrong):
         """What a policy has, in an order in which words have something to name."""
         self.wrong = wrong
-        for add, chance in ((self.add_diamond, 0.2), (self.add_nest, 0.25)):
+        for add, chance in ((self.add_diamond, 0.2), (self.add_nest, 0.25), (self.add_family, 0.25)):
             if often(self.rng, chance):
                 add()
         for add, most in (
-            (self.add_block, 5), (self.add_macro, 4), (self.add_declaration, 12), (self.add_inherit, 3)
+            (self.add_block, 5), (self.add_macro, 4), (self.add_declaration, 14), (self.add_inherit, 3),
+            (self.add_share, 4),
         ):
             self.add_several(add, int(most * size))
+        if often(self.rng, 0.03) or self.goes_wrong("widths"):
+            self.add_full_class()
         self.learn()
         self.add_several(self.add_call, int(7 * size))
         self.learn()
@@ -392,6 +474,8 @@ class Draft:
             self.double()
         if self.goes_wrong("calls", 0.7):
             self.add_ring()
+        if self.goes_wrong("commons", 0.9):
+            self.add_second_common()
         while self.goes_wrong("shapes", 0.7):
             self.rng.choice([self.bend, self.add_odd_statement])()
         for module in self.modules:
@@ -445,7 +529,7 @@ class Draft:
         ]
         for kind, declared in names.declared.items():
             self.declared[kind] = sorted(declared)
-        self.permissions.update(names.declared[b"class"])
+        self.permissions.update((path, sorted(held)) for path, held in names.permissions.items())
 
     def mend(self, but=frozenset()):
         """Takes out statements with faults until there are none but these, or none that can be taken out."""
@@ -459,7 +543,7 @@ class Draft:
 
     def take_out(self, faults):
         """Takes out what has faults; of things that share a name, one stays."""
-        if faults[0][0] in (31, 36):
+        if faults[0][0] in (31, 36, 56):
             faults = faults[1:] or faults
         is_changed = False
         for _, number, at, _, _ in faults:
@@ -485,7 +569,7 @@ def take_out_at(module, at):
 
 def odd_statement(rng, name):
     """A statement whose shape, place or words are wrong, or nearly so. The name of a block round it may be of use."""
-    return rng.choice([odd_inherit, odd_call, odd_block, odd_macro, odd_macro])(rng, name)
+    return rng.choice([odd_inherit, odd_call, odd_block, odd_macro, odd_macro, odd_common])(rng, name)
 
 
 def odd_inherit(rng, name):
@@ -516,12 +600,20 @@ def odd_macro(rng, name):
     return [b"macro", *rng.choice(heads), parameters, *odd_contents(rng, name)]
 
 
+def odd_common(rng, name):
+    if often(rng, 0.5):
+        return [b"classcommon", *rng.choice([[], [name], [name, [b"k"]], [name, b"all"], [b"1x", b"k"], [name] * 3])]
+    listed = rng.choice([[], [b"all"], [[b"x"]], [b"a.b"], [Quoted(b"x")], [b"x", b"x"], b"x"])
+    return [b"common", *rng.choice([[], [b"all"], [b"k.k"], [b"j"], [b"j"]]), listed]
+
+
 def odd_contents(rng, name):
     """Up to two items of a body."""
     items = [
         b"x", Quoted(b"x"), [], [Quoted(b"x")], [[b"type"]],
         [b"type", b"p"], [b"role", b"p"], [b"user", b"p"], [b"user", b"q"], [b"type", b"1p"], [b"type", b"all"],
         [b"foo", b"p"], [b"optional", b"p"], [b"class", b"p", []], [b"sid", b"1x"],
+        [b"common", b"p", [b"q"]], [b"classcommon", b"p", b"q"],
         [b"macro", b"o", []], [b"block", b"p"],
         [b"blockabstract", name], [b"blockabstract", b"all"], [b"blockabstract", b"1k"],
     ]

@@ -53,6 +53,12 @@ def why(*lines):
     return b"WHY", b"\n".join([b"OK %d" % len(lines), *lines])
 
 
+def wide(own):
+    """A class with so many permissions of its own, and a common of twelve."""
+    listed = [b" ".join(b"%s%02d" % (first, i) for i in range(count)) for first, count in ((b"p", own), (b"c", 12))]
+    return b"(class w (%s))(classcommon w k)(common k (%s))" % tuple(listed)
+
+
 TOO_MANY = faults(b"38 0 0 . -")
 NO_ARGUMENT = b"(macro m ((type p)) (type b)(allow p .a (file (open))))(block k (call m (b)))(roletype r k.b)"
 NESTED_CALL = (
@@ -72,6 +78,7 @@ ALIKE = (
     b"(macro m () (optional o (roletype r x)(roletype r z)))(block p (type z)(block t (blockabstract t)(call m)))"
     b"(block q (block t (blockabstract t)(call m)))(block n (blockinherit q.t)(blockinherit p.t))"
 )
+SHARED = b"(common k (x))(common j (y))(classcommon file k)(classcommon file j)"
 TWICE = b"(macro m () (optional o (allow a nobody (file (open)))))(call m)(call m)"
 
 # What it shows, the modules, the requests and replies.
@@ -120,6 +127,45 @@ EXAMPLES = [
         b"41 0 175 . z",
     )),
     ("no class in an optional", [b"(optional o (class w (p)))"], faults(b"24 0 12 . class")),
+    ("a wide class", [wide(20)], accepted()),
+    ("a class that is too wide", [wide(21)], faults(b"55 0 7 . w")),
+    ("two commons", [b"(class c (p))(common k (x))(common j (x))(classcommon c k)(classcommon c j)"], faults(
+        b"56 0 54 . c", b"56 0 71 . c",
+    )),
+    ("two commons, three statements", [
+        b"(class c (p))(common k (x))(common j (x))(classcommon c k)(classcommon .c j)(classcommon c k)",
+    ], faults(b"56 0 54 . c", b"56 0 71 . .c", b"56 0 89 . c")),
+    ("two commons that make a class too wide", [wide(20) + b"(common j (d))(classcommon w j)"], faults(
+        b"55 0 7 . w", b"56 0 104 . w", b"56 0 195 . w",
+    )),
+    ("one common by two words", [b"(class c (p))(common k (x))(classcommon c k)(classcommon c .k)"], accepted()),
+    ("the permissions of both commons", [FIRST + SHARED + b"(allow b a (file (x y z)))"], faults(b"41 0 213 . z")),
+    ("both commons, after the names", [FIRST + SHARED + b"(allow b a (file (x y)))"], faults(
+        b"56 0 164 . file", b"56 0 184 . file",
+    )),
+    ("a list in another order", [b"(common k (p q))(common k (q p))"], faults(b"36 0 8 . k", b"36 0 24 . k")),
+    ("a class and a common of one name", [b"(class x (p))(common x (p))"], accepted()),
+    ("no class, no common", [b"(classcommon c k)"], faults(b"41 0 13 . c", b"41 0 15 . k")),
+    ("not, with a common", [
+        FIRST + b"(common file (ioctl read))(classcommon file file)(allow b a (file (not (read))))",
+    ], accepted((BA, b"OK ioctl,open - ioctl,open,read"))),
+    ("xor with all", [
+        FIRST + b"(common file (ioctl))(classcommon file file)(allow b a (file (xor all (read ioctl))))",
+    ], accepted((BA, b"OK open - ioctl,open,read"))),
+    ("all beside others is no operator", [FIRST + b"(allow b a (file (all open)))"], accepted(
+        (BA, b"OK open,read - open,read"),
+    )),
+    ("not all is nothing", [FIRST + b"(allow b a (file (not all)))(allow b a (file ()))"], accepted(
+        (BA, b"OK - - open,read"),
+    )),
+    ("an operator has just its operands", [b"(allow a a (file (not)))"], faults(b"23 0 0 . allow")),
+    ("a common without permissions", [b"(common k ())"], faults(b"23 0 0 . common")),
+    ("no common in an optional, no classcommon in a macro", [
+        b"(optional o (common k (x)))(macro m () (classcommon c k))",
+    ], faults(b"24 0 12 . common", b"24 0 39 . classcommon")),
+    ("a permission that its class and its common lack", [
+        FIRST + b"(common k (ioctl))(classcommon file k)(optional o (allow b a (file (ioctl (not (lock))))))",
+    ], accepted(optionals(b"0 161 . o out"), why(b"0 161 . o missing lock"), (BA, b"OK - - ioctl,open,read"))),
     ("equal lines are repeated", [FIRST + TWICE], accepted(
         optionals(b"0 135 . o out", b"0 135 . o out"),
         why(b"0 135 . o missing nobody", b"0 135 . o missing nobody"),

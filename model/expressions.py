@@ -1,9 +1,14 @@
 """The words of a statement, and its expressions: sets, conditions and constraints."""
+import collections
+
 from texts import RESERVED, is_name, is_path
 
 # The kind of a parameter that stands where a word of this sign is looked up. No statement that is accepted yet has a
 # word that wants more.
-KINDS = {"T": b"type", "R": b"role", "U": b"user", "C": b"class"}
+KINDS = {"T": b"type", "R": b"role", "U": b"user", "C": b"class", "c": b"class", "K": b"common"}
+
+# A set as it is written, where it is not a word alone: `all`, `range`, or what is made of other sets.
+Set = collections.namedtuple("Set", "operator sets", defaults=((),))
 
 OPERANDS = {b"not": 1, b"and": 2, b"or": 2, b"xor": 2}
 CONDITION_OPERANDS = {**OPERANDS, b"eq": 2, b"neq": 2}
@@ -70,30 +75,30 @@ class Expressions:
     # ---- sets
 
     def expression(self, sign, node):
-        """A set of what a sign stands for."""
+        """A set of what a sign stands for: a word, or what is made of sets."""
         if node.kind == "list":
-            self.expression_list(sign, node.value)
-        elif node.kind == "word" and node.value == b"all":
+            return self.expression_list(sign, node.value)
+        if node.kind == "word" and node.value == b"all":
             if not self.language.has_sets:
                 self.refuse(node)
-        elif sign == "p":
+            return Set(b"all")
+        if sign == "p":
             self.read_p(node)
         else:
             self.look_up(sign, node)
+        return node.value
 
     def expression_list(self, sign, nodes):
         head = head_of(nodes)
         if head in OPERANDS:
             if not self.language.has_sets:
                 self.refuse(nodes[0])
-            for each in counted(nodes, OPERANDS[head]):
-                self.expression(sign, each)
-        elif sign == "GS" and head == b"range":
+            return Set(head, [self.expression(sign, each) for each in counted(nodes, OPERANDS[head])])
+        if sign == "GS" and head == b"range":
             for each in counted(nodes, 2):
                 self.look_up("G", each)
-        else:
-            for each in nodes:
-                self.expression(sign, each)
+            return Set(head)
+        return Set(b"or", [self.expression(sign, each) for each in nodes])
 
     # ---- conditions and constraints
 
@@ -159,3 +164,19 @@ def only(nodes):
     if len(nodes) != 1:
         raise BadShape
     return nodes
+
+
+def members(written, everything):
+    """What is in a set as it is written, where `all` is so much."""
+    if not isinstance(written, Set):
+        return {written}
+    if written.operator == b"all":
+        return everything
+    inner = [members(each, everything) for each in written.sets]
+    if written.operator == b"not":
+        return everything - inner[0]
+    if written.operator == b"and":
+        return inner[0] & inner[1]
+    if written.operator == b"xor":
+        return inner[0] ^ inner[1]
+    return set().union(*inner)

@@ -3,8 +3,10 @@ import itertools
 
 import model
 from pieces import (
-    PERMISSIONS, SMALL, PIECES, NAMES, bundle_of, import_bundle, install, module_of, often, statements_of_any_kind
+    PERMISSIONS, SMALL, PIECES, NAMES, bundle_of, import_bundle, install, module_of, often, set_of,
+    statements_of_any_kind
 )
+from policy import MOST_PERMISSIONS
 
 # ---- policies that load
 
@@ -14,11 +16,31 @@ class Names:
         def some(most):
             return rng.sample(NAMES, rng.randrange(1, most + 1))
 
-        self.types, self.users, self.roles, self.classes = some(4), some(3), [*some(3), b"object_r"], {}
+        self.types, self.users, self.roles = some(4), some(3), [*some(3), b"object_r"]
+        self.commons = {name: shared_list(rng) for name in some(2)} if often(rng, 0.6) else {}
+        self.classes, self.shares = {}, {}
         for name in some(3):
             many = [b"p%d" % i for i in range(rng.choice([31, 32]))]
             few = rng.sample(PERMISSIONS, rng.randrange(0, 5))
             self.classes[name] = many if often(rng, 0.15) else few + few[:1] * often(rng, 0.2)
+            if self.commons and often(rng, 0.6):
+                self.share(name, rng.choice(list(self.commons)))
+
+    def share(self, name, common):
+        """Lets a class have a common, where it does not get too wide."""
+        if len({*self.classes[name], *self.commons[common]}) <= MOST_PERMISSIONS:
+            self.shares[name] = common
+
+    def permissions(self, name):
+        """The permissions of a class, its own and those of its common."""
+        return [*self.classes[name], *self.commons.get(self.shares.get(name), [])]
+
+
+def shared_list(rng):
+    """The permissions of a common: some that classes have too, or so many that a class gets just too wide, or not."""
+    if often(rng, 0.2):
+        return [b"c%d" % i for i in range(rng.randrange(28, 33))]
+    return rng.sample([*PERMISSIONS, b"p1", b"p31", b"ioctl", b"lock"], rng.randrange(1, 5))
 
 
 def dotted(rng, name):
@@ -34,10 +56,13 @@ def nested(rng, items):
 
 def rule(rng, names):
     name = rng.choice(list(names.classes))
-    listed = names.classes[name]
+    listed = names.permissions(name)
     permissions = [rng.choice(listed) for _ in range(rng.randrange(4))] if listed else []
+    permissions = set_of(rng, listed) if often(rng, 0.4) else nested(rng, permissions)
+    for _ in range(rng.randrange(90, 125) if often(rng, 0.01) else 0):
+        permissions = [b"not", permissions]
     target = b"self" if often(rng, 0.25) else dotted(rng, rng.choice(names.types))
-    return [b"allow", dotted(rng, rng.choice(names.types)), target, [dotted(rng, name), nested(rng, permissions)]]
+    return [b"allow", dotted(rng, rng.choice(names.types)), target, [dotted(rng, name), permissions]]
 
 
 def pairs(rng, keyword, first, second):
@@ -48,6 +73,8 @@ def policy(rng, names):
     made = [[b"type", name] for name in names.types] + [[b"user", name] for name in names.users]
     made += [[b"role", name] for name in names.roles if name != b"object_r" or often(rng, 0.2)]
     made += [[b"class", name, listed] for name, listed in names.classes.items()]
+    made += [[b"common", name, listed] for name, listed in names.commons.items()]
+    made += [[b"classcommon", *(dotted(rng, each) for each in shared)] for shared in names.shares.items()]
     made += pairs(rng, b"userrole", names.users, names.roles) + pairs(rng, b"roletype", names.roles, names.types)
     return made + [rule(rng, names) for _ in range(rng.choice([0, 1, 3, 8, 14]))]
 
@@ -57,6 +84,8 @@ def fault(rng, names):
     known = [rng.choice(names.users), rng.choice(list(names.classes))]
     name = rng.choice([b"nobody", b".nobody", b"a.b", b".all", *known])
     class_name = rng.choice(list(names.classes))
+    if names.commons and often(rng, 0.4):
+        return fault_of_commons(rng, names, name, class_name)
     return rng.choice([
         [b"allow", name, rng.choice(names.types), [class_name, []]],
         [b"allow", rng.choice(names.types), name, [class_name, [b"nope", [b"nope", b"read"]]]],
@@ -66,6 +95,21 @@ def fault(rng, names):
         [b"class", class_name, rng.sample(names.classes[class_name], len(names.classes[class_name]))],
         [b"class", class_name, [*names.classes[class_name], b"more"]],
         [b"class", b"wide", [b"p%d" % i for i in range(rng.choice([32, 33, 40]))]],
+    ])
+
+
+def fault_of_commons(rng, names, name, class_name):
+    common = rng.choice(list(names.commons))
+    listed = names.commons[common]
+    if often(rng, 0.4):
+        shared = rng.choice([*names.shares, class_name])
+        return [b"classcommon", dotted(rng, shared), dotted(rng, common)]
+    return rng.choice([
+        [b"common", common, rng.sample(listed, len(listed))],
+        [b"common", common, [*listed, b"more"]],
+        [b"classcommon", name, common],
+        [b"classcommon", class_name, name],
+        [b"allow", rng.choice(names.types), b"self", [class_name, set_of(rng, [*listed, b"ioctl", b"nope"])]],
     ])
 
 

@@ -1,16 +1,19 @@
-"""What is declared, and what words name, while some of the optionals are in."""
+"""What is declared, what words name and what classes permit, while some of the optionals are in."""
 import collections
 
 from contents import paths
 from faults import fault, stop_at
 from instances import Word
 
-DECLARING = (b"type", b"role", b"user", b"class")
+DECLARING = (b"type", b"role", b"user", b"class", b"common")
 OBJECT_ROLE = (b"object_r",)
 
 
 class Names:
-    """What is declared outside optionals and in some: by kinds and full names, with the permissions of classes."""
+    """What is declared outside optionals and in some: by kinds and full names, with the permissions that are listed.
+
+    `commons` are those of each class by their full names, and `permissions` all that a class has, its own and theirs.
+    """
 
     def __init__(self, instances, optionals):
         self.instances = instances
@@ -19,6 +22,18 @@ class Names:
         for each in instances.all:
             if each.statement.keyword in DECLARING and optionals.issuperset(each.optionals):
                 self.declared[each.statement.keyword][full_name(each)] = content(each)
+        self.commons = {path: set() for path in self.declared[b"class"]}
+        for each in instances.all:
+            if each.statement.keyword == b"classcommon":
+                self.share(*map(self.named, each.words))
+        self.permissions = {
+            path: frozenset(listed).union(*(self.declared[b"common"][common] for common in self.commons[path]))
+            for path, listed in self.declared[b"class"].items()
+        }
+
+    def share(self, class_name, common):
+        if class_name is not None and common is not None:
+            self.commons[class_name].add(common)
 
     def named(self, word):
         """The full name of what a word means, or nothing."""
@@ -32,7 +47,7 @@ class Names:
         statement = instance.statement
         missing = [word for word in instance.words if self.named(word) is None]
         if statement.keyword == b"allow":
-            held = self.declared[b"class"].get(self.named(instance.words[-1]), ())
+            held = self.permissions.get(self.named(instance.words[-1]), ())
             missing += [
                 Word(b"permission", statement.module, node.at, node.value, None)
                 for node in statement.permissions
@@ -71,9 +86,10 @@ def full_name(instance):
 
 
 def content(instance):
-    """The permissions that a class statement lists."""
+    """The permissions that a class or a common lists."""
     statement = instance.statement
-    return tuple(node.value for node in statement.permissions) if statement.keyword == b"class" else ()
+    is_list = statement.keyword in (b"class", b"common")
+    return tuple(node.value for node in statement.permissions) if is_list else ()
 
 
 def declared_fault(code, instance):

@@ -1,5 +1,5 @@
 """Random policies with optionals, in texts, blocks, macros and other optionals."""
-from block_policies import BASE_TYPES, MACROS, MARKS, NOWHERE, RULES, Draft, Spot, odd_contents, statements_of
+from block_policies import BASE_TYPES, MACROS, MARKS, NOWHERE, RULES, SHARED, Draft, Spot, odd_contents, statements_of
 from pieces import Quoted, often
 from table import ACCEPTED, BLOCK_ROWS, SET_ASIDE
 
@@ -85,6 +85,15 @@ class OptionalDraft(Draft):
             spot.body.append([b"userrole", *((word, b".r") if kind == b"user" else (b".u", word))])
         else:
             spot.body.append([b"roletype", *((b".r", word) if kind == b"type" else (word, b".a"))])
+
+    def strange_permissions(self, spot):
+        if isinstance(spot, OptionalSpot) and often(self.rng, 0.25):
+            return [self.rng.choice([b"nope", *SHARED])]
+        return super().strange_permissions(spot)
+
+    def ask_shared(self, spot, class_word):
+        """In an optional of its own such a rule is right without a common too."""
+        super().ask_shared(self.optional_in(spot) if often(self.rng, 0.7) else spot, class_word)
 
     # ---- optionals that hang together
 
@@ -203,7 +212,8 @@ class OptionalDraft(Draft):
         path = self.macros[-1][0]
         made = self.optional_in(macro)
         if kind == b"class":
-            made.body.append([b"allow", b".a", b"self", [b"x", [self.rng.choice([b"read", *MARKS[:3], b"nope"])]]])
+            permission = self.rng.choice([b"read", *MARKS[:3], b"nope", *SHARED])
+            made.body.append([b"allow", b".a", b"self", [b"x", [permission]]])
         else:
             keyword = b"userrole" if kind == b"user" else b"roletype"
             words = [b"x" if of == kind else b"." + {b"type": b"a", b"role": b"r"}[of] for of in RULES[keyword]]
@@ -221,10 +231,11 @@ class OptionalDraft(Draft):
         for add, chance in (
             (self.add_chain, 0.5), (self.add_shared, 0.3), (self.add_nearer, 0.3), (self.add_home, 0.25),
             (self.add_copies, 0.2), (self.add_argument, 0.35), (self.add_diamond, 0.1), (self.add_nest, 0.15),
+            (self.add_family, 0.3),
         ):
             if often(self.rng, chance * size):
                 add()
-        for add, most in ((self.add_declaration, 9), (self.add_inherit, 3)):
+        for add, most in ((self.add_declaration, 10), (self.add_inherit, 3), (self.add_share, 3)):
             self.add_several(add, int(most * size))
         self.learn()
         self.add_several(self.add_call, int(6 * size))

@@ -6,7 +6,7 @@ BLANK = [b" ", b"\t", b"\n", b"\r"]
 NAMES = [b"a", b"b", b"c", b"_", b"a-b", b"A", b"file", b"process", b"type", b"in", b"object_r"]
 PERMISSIONS = [b"read", b"open", b"write", b"Read", b"_x", b"a-", b"aa"]
 LATER = sorted(table.LEFT_OUT | table.WHOLE.statements - table.ACCEPTED.statements)
-FLAT = [b"allow", b"class", b"role", b"roletype", b"type", b"user", b"userrole"]
+FLAT = [b"allow", b"class", b"classcommon", b"common", b"role", b"roletype", b"type", b"user", b"userrole"]
 UNKNOWN = [b"foo", b"Type", b"types", b"allows", b"typ", b"inn", b"1type", b".type", b"-", b"attribute"]
 ODD = [
     b".a", b"a.b", b"..a", b"a.", b".", b"a..b", b".a.b", b"1a", b"-a", b"-", b"_", b"a'", b"a/b", b"a:b", b"a,b", b"*",
@@ -63,11 +63,20 @@ def expression(rng, depth, odd):
     return head + [expression(rng, depth - 1, odd) for _ in range(rng.choice([0, 1, 1, 2, 2, 3]))]
 
 
+def set_of(rng, words, depth=5):
+    """A set of some of these words, which may nest so deep."""
+    if depth == 0 or often(rng, 0.3):
+        return rng.choice(words) if words and often(rng, 0.85) else b"all"
+    operator = rng.choice([b"", b"", b"not", b"and", b"or", b"xor"])
+    count = {b"": rng.randrange(4), b"not": 1}.get(operator, 2)
+    return [operator] * bool(operator) + [set_of(rng, words, depth - 1) for _ in range(count)]
+
+
 def any_statement(rng, odd):
     keyword = rng.choice(FLAT)
     if keyword in (b"type", b"role", b"user"):
         return [keyword, word(rng, odd)]
-    if keyword == b"class":
+    if keyword in (b"class", b"common"):
         count = rng.choice([0, 1, 2, 3, 3, 32, 33])
         return [keyword, word(rng, odd), [word(rng, odd) if count < 4 else b"p%d" % i for i in range(count)]]
     if keyword != b"allow":

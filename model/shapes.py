@@ -19,7 +19,8 @@ class Place(collections.namedtuple("Place", "blocks macro optional branch", defa
 class Statement(Expressions):
     """A written statement with its parts, and the faults of its words as numbers, places and words.
 
-    `words` are looked-up words with their kinds. What a class word permits, `permissions`, goes by the last of them.
+    `words` are looked-up words with their kinds. The permission words, `permissions`, go by the last of them in a class
+    permission, and `expressed` is the set that is written with them.
     """
 
     def __init__(self, module, node, place, language):
@@ -28,7 +29,7 @@ class Statement(Expressions):
         self.keyword, self.items = node.value[0].value, node.value[1:]
         self.names, self.kinds, self.permissions = [], [], []
         self.inner, self.arguments, self.branches = [], [], []
-        self.body, self.is_abstract = [], False
+        self.body, self.is_abstract, self.expressed = [], False, None
         if self.keyword not in SET_ASIDE:
             self.read_items(ROWS[self.keyword], self.items)
         first = self.names[0] if self.names else None
@@ -58,7 +59,7 @@ class Statement(Expressions):
         elif item.items is not None:
             self.read_list(item.items, node)
         elif item.name.startswith("E("):
-            self.expression(item.name[2:-1], node)
+            self.expressed = self.expression(item.name[2:-1], node)
         elif item.name in ("true", "false"):
             self.literal(item.name.encode(), node)
         elif hasattr(self, "read_" + item.name):

@@ -108,11 +108,11 @@ WHOLE = Language(SET_ASIDE.union(ROWS), KINDS, True, True)
 ACCEPTED = Language(
     SET_ASIDE.union(
         b"""
-        type role user class roletype userrole allow
+        type role user class common classcommon roletype userrole allow
         block blockabstract blockinherit macro call optional
         """.split()
     ),
     PLAIN_KINDS.union(b"type role user class".split()),
-    False,
+    True,
     False,
 )

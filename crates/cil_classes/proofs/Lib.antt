@@ -1,5 +1,10 @@
-pub mod ClassRowLemmas
-pub mod WidthLemmas
-pub mod MaskLemmas
-pub mod GivenLemmas
 pub mod BitLemmas
+pub mod ClassRowLemmas
+pub mod CommonLemmas
+pub mod GivenLemmas
+pub mod MaskLemmas
+pub mod OutsideLemmas
+pub mod PermLemmas
+pub mod ValueExamples
+pub mod ValueLemmas
+pub mod WidthLemmas

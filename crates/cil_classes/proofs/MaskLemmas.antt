@@ -1,110 +1,208 @@
--- Masks of the permissions that an expression names.
-use Rattle.std.specs.Prelude.{IsBitSet, bit_or, Some, slice_get}
+-- Masks of the permissions in the value of an expression.
+use Rattle.std.specs.Prelude.{◌⊎◌, ◌↔◌, ◌||◌, Contains, IsBitSet, Option, Some, bit_or, slice_get}
 use Rattle.std.specs.Int.{bit_at}
-use Rattle.std.specs.declared.alloc.Global.{Global}
-use Rattle.std.specs.declared.vec.Vec.{Vec}
-use Rattle.std.proofs.Common.{◌≡◌, ℕ, zero, suc, ◌+◌, ◌*◌, ◌/◌, ◌%◌, ◌^◌, ◌<◌, ◌≤◌, List, [], ◌∷◌, ◌++◌, length, map, take, get_or, refl, sym, ◌∙◌, ap, subst, inl, inr, arith}
-use Rattle.std.proofs.lemmas.List.{map-append, take_all}
+use Rattle.std.specs.Global.{Vec}
+use Rattle.std.specs.List.{list_any}
+use Rattle.std.specs.List.Sorted.{IsStrictlySortedBy}
+use Rattle.std.specs.Cmp.Lexicographic.{bytes_decides}
+use Rattle.std.proofs.Common.{◌≡◌, ℕ, zero, suc, ◌+◌, ◌/◌, ◌%◌, ◌<◌, ◌≤◌, Bool, true, false, List, [], ◌∷◌, ◌++◌, length, take, get_or, refl, sym, ◌∙◌, ap, subst, inl, inr, arith}
+use Rattle.std.proofs.lemmas.List.{length-map, take-append-le, take_all, take_more}
 use Rattle.std.proofs.lemmas.List.Elements.{Contains-append_left, Contains-append_right, Contains-append_cases}
-use Rattle.std.proofs.lemmas.Nat.{pow_below}
-use Rattle.std.proofs.lemmas.Nat.Bits.{bit_at_lowest, bit_at-suc, bit_at-pow_same, bit_at-pow_other}
-use Rattle.std.proofs.lemmas.Option.{slice_get_within}
-use Rattle.std.proofs.lemmas.Simd.{map-map}
-use Rattle.cil_base.specs.Lists.{contains_here, contains_cases, contains_none}
-use Rattle.cil_base.specs.Decided.{same_number}
-use Rattle.cil_base.specs.declared.bytes.Bytes.{Bytes}
+use Rattle.std.proofs.lemmas.Nat.Bits.{bit_at_lowest, bit_at-suc}
+use Rattle.cil_base.specs.Lists.{contains_cases, contains_here, contains_later, contains_none, text_cmp}
+use Rattle.cil_base.specs.MadeLists.{contains_map, from_map}
+use Rattle.cil_base.specs.Places.{in_range, some_at}
+use Rattle.cil_base.specs.Searches.{any_from, any_true}
+use Rattle.cil_faults.specs.Spots.{spot_at}
+use Rattle.cil_faults.specs.declared.spot.Spot.{Spot}
+use Rattle.cil_syntax.specs.Expressions.{is_in, is_in_some}
 use Rattle.cil_syntax.specs.declared.term.LookedUp.{LookedUp}
 use Rattle.cil_syntax.specs.declared.term.Op.{Op}
+use Rattle.cil_syntax.specs.declared.term.Op.TheVariants as ops
 use Rattle.cil_syntax.specs.declared.term.Term as rust
-use Rattle.cil_syntax.specs.declared.term.Term.TheVariants as variants
 use Rattle.cil_syntax.specs.declared.term.Word.{Word}
-use Rattle.cil_syntax.specs.Said.{word_in}
+use Rattle.cil_syntax.specs.Said.{all_said, said_of, word_in}
 use Rattle.cil_syntax.specs.Scopes.{ScopedWord}
-use Rattle.cil_syntax.specs.Terms.{Term}
-use Rattle.cil_macros.specs.Item.{replaced, words_in}
-use Rattle.cil_base.specs.NameNumbers.{IsNumberOf}
-use Rattle.cil_classes.specs.Pairs.{names_of}
-use Rattle.cil_classes.specs.Masks.{IsMaskFor}
+use Rattle.cil_syntax.specs.Spelling.{same_bytes}
+use Rattle.cil_syntax.specs.Terms.{Term, Form, Terms}
+use Rattle.cil_syntax.proofs.SaidLemmas.{form_said}
+use Rattle.cil_macros.specs.Item.{all_replaced, replaced, words_in}
+use Rattle.cil_names.specs.PermissionWords.{number_among}
+use Rattle.cil_names.specs.Unresolved.{term_with, terms_with}
+use Rattle.cil_names.proofs.LeafLemmas.{all_leaves, leaves_form, leaves_leaf, leaves_none, leaves_of}
+use Rattle.cil_classes.specs.Masks.{AreLeaves, IsBitIn, IsLeaf, IsMaskOf, IsPlain}
+use Rattle.cil_classes.specs.Numbers.{AreNumbered, IsHeld, numbers_of}
 use Rattle.cil_classes.specs.Row.{most_permissions}
-use Rattle.cil_classes.proofs.BitLemmas.{set_is_one, none_set, set_in_either}
-use Rattle.cil_macros.proofs.FormLemmas.{words_across}
-use Rattle.cil_names.proofs.LeafLemmas.{all_leaves, leaves_of, leaves_form, leaves_leaf, leaves_more, leaves_name, leaves_none}
+use Rattle.cil_classes.specs.Values.{in_some_there, in_value_there}
+use Rattle.cil_classes.proofs.BitLemmas.{none_set, set_in_either, set_is_one}
+use Rattle.cil_classes.proofs.ValueLemmas.{apart, found_at, found_here, leaf_value}
 
--- ---- the names in terms
+or_false : (b : Bool) → (b || false) ≡ b
+or_false true = refl
+or_false false = refl
 
--- the names that some words have, where each says this
-abbrev pub names_from : (Word → ScopedWord) → List Word → List (List ℕ)
-names_from f ws = map (λ w. (f w).bytes) ws
+-- ---- words alone
 
--- an expression of an item names what its words say
-pub names_across : (f : Word → ScopedWord) (t : Term Word) → names_of (replaced (λ at. at) f t) ≡ names_from f (words_in t)
-names_across f t = ap (map (λ (w : ScopedWord). w.bytes)) (words_across f t) ∙ map-map (λ (w : ScopedWord). w.bytes) f (words_in t)
+pub no_leaves : AreLeaves []
+no_leaves t c = absurd (contains_none t c)
 
--- ---- masks
+pub more_leaves : (ts : List rust.Term) (i : ℕ) (x : rust.Term) → i < length ts → x ≡ get_or ts i x → AreLeaves (take i ts) → IsLeaf x → AreLeaves (take (i + 1) ts)
+more_leaves ts i x l is all leaf =
+    subst AreLeaves (sym (take_more ts i x l ∙ ap (λ z. take i ts ++ z ∷ []) (sym is)))
+    (λ t c. elim (Contains-append_cases (take i ts) (x ∷ []) t c) [
+      | inl d ↦ all t d
+      | inr d ↦ elim (contains_cases t x [] d) [ inl e ↦ subst IsLeaf e leaf | inr n ↦ absurd (contains_none t n) ]
+    ])
 
-module _ (permissions : List (List ℕ)) where
-  pub no_bits : IsMaskFor permissions [] 0
-  no_bits bit = (λ s. absurd (none_set bit s), λ b. absurd (contains_none b.permission b.named))
+pub all_are_leaves : (ts : List rust.Term) (i : ℕ) → length ts ≤ i → AreLeaves (take i ts) → AreLeaves ts
+all_are_leaves ts i over all = subst AreLeaves (take_all i ts over) all
 
-  -- a union of masks is the mask of all names
-  pub both_bits : (xs ys : List (List ℕ)) (a b : ℕ) → IsMaskFor permissions xs a → IsMaskFor permissions ys b → IsMaskFor permissions (xs ++ ys) (bit_or a b)
-  both_bits xs ys a b one other bit = (
-    λ s. elim ((set_in_either a b bit).0 s) [
-      | inl t ↦ let r = (one bit).0 t in record { permission = r.permission; at = r.at; named = Contains-append_left xs ys r.permission r.named }
-      | inr t ↦ let r = (other bit).0 t in record { permission = r.permission; at = r.at; named = Contains-append_right xs ys r.permission r.named }
-    ],
-    λ f. (set_in_either a b bit).1 (elim (Contains-append_cases xs ys f.permission f.named) [
-      | inl d ↦ inl ((one bit).1 (record { permission = f.permission; at = f.at; named = d }))
-      | inr d ↦ inr ((other bit).1 (record { permission = f.permission; at = f.at; named = d }))
-    ]),
+leaves_cons : (m : ℕ) (x : rust.Term) (xs : List rust.Term) → all_leaves m (x ∷ xs) ≡ leaves_of m x ++ all_leaves m xs
+unfolding words_in
+leaves_cons m x xs = refl
+
+-- as many words as terms
+how_many : (m : ℕ) (ts : List rust.Term) → AreLeaves ts → length (all_leaves m ts) ≡ length ts
+how_many m [] all = ap length (leaves_none m)
+how_many m (x ∷ xs) all =
+    let (w, is) = all x (contains_here x xs) in
+    ap length (leaves_cons m x xs ∙ ap (λ z. z ++ all_leaves m xs) (leaves_leaf m x w is)) ∙ ap suc (how_many m xs (λ t c. all t (contains_later t x xs c)))
+
+module _ (f : Word → ScopedWord) (m : ℕ) (p : List ℕ) where
+  abbrev says : Word → Bool
+  says w = same_bytes (f w).bytes p
+
+  some_none : in_some_there (terms_with f m []) p ≡ false
+  unfolding is_in_some all_replaced
+  some_none = refl
+
+  some_cons : (x : rust.Term) (xs : List rust.Term) → in_some_there (terms_with f m (x ∷ xs)) p ≡ (in_value_there (term_with f m x) p || in_some_there (terms_with f m xs) p)
+  unfolding is_in_some all_replaced
+  some_cons x xs = refl
+
+  any_leaf : (ts : List rust.Term) → AreLeaves ts → in_some_there (terms_with f m ts) p ≡ list_any says (all_leaves m ts)
+  any_leaf [] all = some_none ∙ sym (ap (list_any says) (leaves_none m))
+  any_leaf (x ∷ xs) all =
+      let (w, is) = all x (contains_here x xs) in
+      some_cons x xs
+      ∙ ap (λ b. b || in_some_there (terms_with f m xs) p) (leaf_value f m p x w is)
+      ∙ ap (λ b. says (word_in m w) || b) (any_leaf xs (λ t c. all t (contains_later t x xs c)))
+      ∙ sym (ap (list_any says) (leaves_cons m x xs ∙ ap (λ z. z ++ all_leaves m xs) (leaves_leaf m x w is)))
+
+  union_value : (at : Spot) (ts : Terms Word) → in_value_there (replaced (λ at. at) f (Form at ops.Union ts)) p ≡ in_some_there (all_replaced (λ at. at) f ts) p
+  unfolding is_in replaced
+  union_value at ts = refl
+
+pub leaf_plain : (m : ℕ) (t : rust.Term) (w : LookedUp) (words plain : List (Option ℕ)) → t ≡ rust.Leaf w → plain ≡ take 1 words → IsPlain m t words plain
+leaf_plain m t w words plain is first = record {
+  first = first ∙ ap (λ ls. take (length ls) words) (sym (leaves_leaf m t w is));
+  names = λ f p. leaf_value f m p t w is ∙ sym (or_false (same_bytes (f (word_in m w)).bytes p)) ∙ sym (ap (list_any (says f m p)) (leaves_leaf m t w is));
+}
+
+pub union_plain : (m : ℕ) (t : rust.Term) (at : ℕ) (op : Op) (parts : Vec rust.Term) (words plain : List (Option ℕ)) → t ≡ rust.Form op at parts → op ≡ ops.Union → AreLeaves parts.items
+    → plain ≡ take (length parts.items) words → IsPlain m t words plain
+union_plain m t at op parts words plain is union all first = record {
+  first = first ∙ ap (λ n. take n words) (sym (ap length (leaves_form m t at op parts is) ∙ how_many m parts.items all));
+  names = λ f p.
+      ap (λ e. in_value_there e p) (ap (term_with f m) is ∙ ap (replaced (λ at. at) f) (form_said m at op parts ∙ ap (λ o. Form (spot_at m at) o (all_said m parts.items)) union))
+      ∙ union_value f m p (spot_at m at) (all_said m parts.items)
+      ∙ any_leaf f m p parts.items all
+      ∙ sym (ap (list_any (says f m p)) (leaves_form m t at op parts is));
+}
+
+-- ---- bits
+
+pub no_bits : (numbers : List (Option ℕ)) (bit : ℕ) → IsBitSet 0 bit ↔ (Contains (take 0 numbers) (Some bit) × (bit < most_permissions))
+no_bits [] bit = (λ s. absurd (none_set bit s), λ c. absurd (contains_none (Some bit) c.0))
+no_bits (n ∷ ns) bit = (λ s. absurd (none_set bit s), λ c. absurd (contains_none (Some bit) c.0))
+
+pub more_bits : (numbers : List (Option ℕ)) (i : ℕ) (d : Option ℕ) (a b bit : ℕ) → i < length numbers → (n : Option ℕ) → n ≡ get_or numbers i d → IsBitSet a bit ↔ (Contains (take i numbers) (Some bit) × (bit < most_permissions))
+    → IsBitSet b bit ↔ ((n ≡ Some bit) × (bit < most_permissions)) → IsBitSet (bit_or a b) bit ↔ (Contains (take (i + 1) numbers) (Some bit) × (bit < most_permissions))
+more_bits numbers i d a b bit l n is so_far one =
+    let next = take_more numbers i d l in (
+      λ s. elim ((set_in_either a b bit).0 s) [
+        | inl t ↦ let c = so_far.0 t in (subst (λ ns. Contains ns (Some bit)) (sym next) (Contains-append_left (take i numbers) (get_or numbers i d ∷ []) (Some bit) c.0), c.1)
+        | inr t ↦
+            let c = one.0 t in
+            (subst (λ ns. Contains ns (Some bit)) (sym next) (Contains-append_right (take i numbers) (get_or numbers i d ∷ []) (Some bit) (subst (λ z. Contains (z ∷ []) (Some bit)) (sym c.0 ∙ is) (contains_here (Some bit) []))), c.1)
+      ],
+      λ c. (set_in_either a b bit).1 (elim (Contains-append_cases (take i numbers) (get_or numbers i d ∷ []) (Some bit) (subst (λ ns. Contains ns (Some bit)) next c.0)) [
+        | inl t ↦ inl (so_far.1 (t, c.1))
+        | inr t ↦ inr (one.1 (elim (contains_cases (Some bit) (get_or numbers i d) [] t) [ inl e ↦ is ∙ e | inr n ↦ absurd (contains_none (Some bit) n) ], c.1))
+      ]),
+    )
+
+pub bits_whole : (numbers : List (Option ℕ)) (i mask : ℕ) → length numbers ≤ i → ((bit : ℕ) → IsBitSet mask bit ↔ (Contains (take i numbers) (Some bit) × (bit < most_permissions)))
+    → (bit : ℕ) → IsBitSet mask bit ↔ (Contains numbers (Some bit) × (bit < most_permissions))
+bits_whole numbers i mask over is = subst (λ ns. (bit : ℕ) → IsBitSet mask bit ↔ (Contains ns (Some bit) × (bit < most_permissions))) (take_all i numbers over) is
+
+-- ---- the mask of words
+
+module _ (f : Word → ScopedWord) (m : ℕ) (ps : List (List ℕ)) (rising : IsStrictlySortedBy text_cmp ps) where
+  pub plain_mask : (t : rust.Term) (words plain : List (Option ℕ)) (mask : ℕ) → length ps ≤ most_permissions → AreNumbered ps f (words_in (said_of m t)) words → IsPlain m t words plain
+      → ((bit : ℕ) → IsBitSet mask bit ↔ (Contains plain (Some bit) × (bit < most_permissions))) → IsMaskOf ps (term_with f m t) mask
+  plain_mask t words plain mask few are is bits bit = (
+    λ s.
+        let (c, small) = (bits bit).0 s in
+        let (w, cw, e) = from_map (λ (w : Word). number_among ps (f w).bytes) (leaves_of m t) (Some bit) (subst (λ ns. Contains ns (Some bit)) numbers c) in
+        record {
+          permission = (f w).bytes;
+          at = found_at (f w).bytes ps bit e;
+          value = is.names f (f w).bytes ∙ any_from (λ (u : Word). same_bytes (f u).bytes (f w).bytes) (leaves_of m t) w cw ((bytes_decides (f w).bytes (f w).bytes).1 refl);
+        },
+    λ b.
+        let (w, cw, same) = any_true (λ (u : Word). same_bytes (f u).bytes b.permission) (leaves_of m t) (sym (is.names f b.permission) ∙ b.value) in
+        let name : (f w).bytes ≡ b.permission = (bytes_decides (f w).bytes b.permission).0 same in
+        let (k, found) = found_here (f w).bytes ps bit (b.at ∙ ap Some (sym name)) in
+        let one : k ≡ bit = apart ps rising k bit (f w).bytes (found_at (f w).bytes ps k found) (b.at ∙ ap Some (sym name)) in
+        let within = in_range ps bit b.permission b.at in
+        (bits bit).1 (
+          subst (λ ns. Contains ns (Some bit)) (sym numbers) (subst (Contains (numbers_of ps f (leaves_of m t))) (found ∙ ap Some one) (contains_map (λ (u : Word). number_among ps (f u).bytes) (leaves_of m t) w cw)),
+          omega (arith, within, few),
+        ),
   )
+    where
+      numbers : plain ≡ numbers_of ps f (leaves_of m t)
+      numbers =
+          is.first
+          ∙ ap (take (length (leaves_of m t))) are.are
+          ∙ ap (λ n. take n (numbers_of ps f (leaves_of m t) ++ are.more)) (sym (length-map (leaves_of m t) (λ (w : Word). number_among ps (f w).bytes)))
+          ∙ take-append-le (length (numbers_of ps f (leaves_of m t))) (numbers_of ps f (leaves_of m t)) are.more (omega arith)
+          ∙ take_all (length (numbers_of ps f (leaves_of m t))) (numbers_of ps f (leaves_of m t)) (omega arith)
 
-  single_bit : (name : List ℕ) (n : ℕ) → IsNumberOf permissions name n → IsMaskFor permissions (name ∷ []) (2 ^ n)
-  single_bit name n is bit = (
-    λ s. elim (same_number bit n) [
-      | inl e ↦ record { permission = name; at = subst (λ k. slice_get permissions k ≡ Some name) (sym e) is.at; named = contains_here name [] }
-      | inr apart ↦ let one = (set_is_one (2 ^ n) bit).0 s in let zero = bit_at-pow_other n bit apart in absurd (omega (arith, one, zero))
-    ],
-    λ f. elim (contains_cases f.permission name [] f.named) [
-      | inl e ↦ (set_is_one (2 ^ n) bit).1 (ap (bit_at (2 ^ n)) (is.only bit (f.at ∙ ap Some (sym e))) ∙ bit_at-pow_same n)
-      | inr d ↦ absurd (contains_none f.permission d)
-    ],
-  )
+-- ---- the mask of any expression
 
-  -- the mask of one permission of at most 32
-  pub one_bit : (name : List ℕ) (n : ℕ) → length permissions ≤ most_permissions → IsNumberOf permissions name n
-      → IsMaskFor permissions (name ∷ []) (1 * 2 ^ n % 4294967296)
-  one_bit name n few is =
-      let within = slice_get_within permissions n name is.at in
-      let small : 2 ^ n < 4294967296 = pow_below n 32 (omega (arith, within, few)) in
-      let same : 1 * 2 ^ n % 4294967296 ≡ 2 ^ n = omega (arith, small) in
-      subst (IsMaskFor permissions (name ∷ [])) (sym same) (single_bit name n is)
+-- what is found of the numbers below one
+abbrev pub IsMaskBelow : List (List ℕ) → Term ScopedWord → ℕ → ℕ → Type 0
+IsMaskBelow ps e number mask = (bit : ℕ) → IsBitSet mask bit ↔ ((bit < number) × IsBitIn ps e bit)
 
-  module _ (f : Word → ScopedWord) (m : ℕ) where
-    pub mask_leaf : (t : rust.Term) (w : LookedUp) (name : List ℕ) (mask : ℕ) → t ≡ variants.Leaf w → name ≡ (f (word_in m w)).bytes → IsMaskFor permissions (name ∷ []) mask
-        → IsMaskFor permissions (names_from f (leaves_of m t)) mask
-    mask_leaf t w name mask is same bits =
-        subst (λ names. IsMaskFor permissions names mask) (ap (λ n. n ∷ []) same ∙ sym (ap (names_from f) (leaves_leaf m t w is))) bits
+pub none_below : (ps : List (List ℕ)) (e : Term ScopedWord) → IsMaskBelow ps e 0 0
+none_below ps e bit = (λ s. absurd (none_set bit s), λ b. absurd (omega (arith, b.0)))
 
-    pub mask_name : (t : rust.Term) (at : ℕ) (bytes : Bytes) → t ≡ variants.Name at bytes → IsMaskFor permissions (names_from f (leaves_of m t)) 0
-    mask_name t at bytes is = subst (λ names. IsMaskFor permissions names 0) (sym (ap (names_from f) (leaves_name m t at bytes is))) no_bits
+pub one_below : (ps : List (List ℕ)) (e : Term ScopedWord) (number mask bits : ℕ) (held : Bool) → number < length ps → length ps ≤ most_permissions → IsMaskBelow ps e number mask
+    → IsHeld ps number e held → ((bit : ℕ) → IsBitSet bits bit ↔ ((held ≡ true) × (number ≡ bit) × (bit < most_permissions))) → IsMaskBelow ps e (number + 1) (bit_or mask bits)
+one_below ps e number mask bits held l few so_far is one bit = (
+  λ s. elim ((set_in_either mask bits bit).0 s) [
+    | inl t ↦ let b = (so_far bit).0 t in (omega (arith, b.0), b.1)
+    | inr t ↦
+        let c = (one bit).0 t in
+        let at = some_at ps number l in
+        let same : number ≡ bit = c.1 in
+        (omega (arith, same), record { permission = at.0; at = subst (λ k. slice_get ps k ≡ Some at.0) same at.1; value = sym (is at.0 at.1) ∙ c.0 })
+  ],
+  λ b. (set_in_either mask bits bit).1 (elim (below bit number b.0) [
+    | inl less ↦ inl ((so_far bit).1 (less, b.1))
+    | inr same ↦
+        let at : slice_get ps number ≡ Some b.1.permission = subst (λ k. slice_get ps k ≡ Some b.1.permission) same b.1.at in
+        inr ((one bit).1 (is b.1.permission at ∙ b.1.value, sym same, omega (arith, same, l, few)))
+  ]),
+)
+  where
+    below : (bit number : ℕ) → bit < number + 1 → (bit < number) ⊎ (bit ≡ number)
+    below bit number b = grind arith
 
-    pub mask_start : IsMaskFor permissions (names_from f (all_leaves m [])) 0
-    mask_start = subst (λ names. IsMaskFor permissions names 0) (sym (ap (names_from f) (leaves_none m))) no_bits
-
-    pub mask_more : (xs : List rust.Term) (i : ℕ) (x : rust.Term) (a b : ℕ) → i < length xs → x ≡ get_or xs i x → IsMaskFor permissions (names_from f (all_leaves m (take i xs))) a
-        → IsMaskFor permissions (names_from f (leaves_of m x)) b → IsMaskFor permissions (names_from f (all_leaves m (take (i + 1) xs))) (bit_or a b)
-    mask_more xs i x a b within is so_far one =
-        subst (λ names. IsMaskFor permissions names (bit_or a b))
-        (sym (ap (names_from f) (leaves_more m xs i x within is) ∙ map-append (λ w. (f w).bytes) (all_leaves m (take i xs)) (leaves_of m x)))
-        (both_bits (names_from f (all_leaves m (take i xs))) (names_from f (leaves_of m x)) a b so_far one)
-
-    pub mask_all : (t : rust.Term) (at : ℕ) (op : Op) (parts : Vec rust.Term Global) (xs : List rust.Term) (i mask : ℕ) → t ≡ variants.Form op at parts → xs ≡ parts.items
-        → length xs ≤ i → IsMaskFor permissions (names_from f (all_leaves m (take i xs))) mask → IsMaskFor permissions (names_from f (leaves_of m t)) mask
-    mask_all t at op parts xs i mask is same over bits =
-        subst (λ names. IsMaskFor permissions names mask)
-        (ap (λ z. names_from f (all_leaves m z)) (take_all i xs over ∙ same) ∙ sym (ap (names_from f) (leaves_form m t at op parts is)))
-        bits
+pub all_below : (ps : List (List ℕ)) (e : Term ScopedWord) (number mask : ℕ) → length ps ≤ number → IsMaskBelow ps e number mask → IsMaskOf ps e mask
+all_below ps e number mask over is bit = (λ s. ((is bit).0 s).1, λ b. (is bit).1 (let h = in_range ps bit b.permission b.at in omega (arith, h, over), b))
 
 by_lowest : (n low : ℕ) → n % 2 ≡ low → (low ≡ 0 → (bit : ℕ) × (bit_at (n / 2) bit ≡ 1)) → (bit : ℕ) × (bit_at n bit ≡ 1)
 by_lowest n zero e half = let r = half refl in (suc r.0, bit_at-suc n r.0 ∙ r.1)
@@ -115,7 +213,7 @@ some_bit : (fuel n : ℕ) → n ≤ fuel → 0 < n → (bit : ℕ) × (bit_at n 
 some_bit zero n most some = absurd (omega (arith, most, some))
 some_bit (suc fuel) n most some = by_lowest n (n % 2) refl (λ e. some_bit fuel (n / 2) (omega (arith, most, some, e)) (omega (arith, most, some, e)))
 
-positive : (m : ℕ) → (m ≡ 0 → ⊥) → 0 < m
+pub positive : (m : ℕ) → (m ≡ 0 → ⊥) → 0 < m
 positive zero s = absurd (s refl)
 positive (suc m) s = omega arith
 

@@ -1,6 +1,10 @@
 pub mod ClassRows
+pub mod Commons
 pub mod Faults
 pub mod Masks
+pub mod Numbers
 pub mod Pairs
+pub mod Perms
 pub mod Row
+pub mod Values
 pub mod Widths

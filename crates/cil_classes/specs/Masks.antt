@@ -1,21 +1,41 @@
 -- Masks: which permissions of a class an expression or a class permission gives, bit by bit.
-use Rattle.std.specs.Prelude.{◌≡◌, ◌↔◌, ℕ, List, Contains, Some, IsBitSet, slice_get}
+use Rattle.std.specs.Prelude.{◌≡◌, ◌↔◌, ℕ, true, List, Contains, IsBitSet, Option, Some, length, slice_get, take}
+use Rattle.std.specs.List.{list_any}
+use Rattle.cil_syntax.specs.declared.term.LookedUp.{LookedUp}
+use Rattle.cil_syntax.specs.declared.term.Term as rust
+use Rattle.cil_syntax.specs.declared.term.Word.{Word}
+use Rattle.cil_syntax.specs.Said.{said_of}
+use Rattle.cil_syntax.specs.Spelling.{same_bytes}
 use Rattle.cil_syntax.specs.Terms.{Term}
 use Rattle.cil_classes.specs.declared.row.Class.{Class}
 use Rattle.cil_names.specs.Declarations.{Symbol, name_of}
-use Rattle.cil_macros.specs.Item.{Item, OptSet}
+use Rattle.cil_names.specs.Unresolved.{term_with}
+use Rattle.cil_macros.specs.Item.{Item, OptSet, words_in}
 use Rattle.cil_syntax.specs.Scopes.{ScopedWord}
 use Rattle.cil_classes.specs.Pairs.{HasPair}
+use Rattle.cil_classes.specs.Values.{in_value_there}
 
--- the bit stands for a permission that is among these names
-pub record IsBitFor (permissions names : List (List ℕ)) (bit : ℕ) : Type 0 where
+-- the bit stands for a permission in the value of the expression
+pub record IsBitIn (permissions : List (List ℕ)) (e : Term ScopedWord) (bit : ℕ) : Type 0 where
   pub permission : List ℕ
   pub at : slice_get permissions bit ≡ Some permission
-  pub named : Contains names permission
+  pub value : in_value_there e permission ≡ true
 
--- the mask has a bit for each of the permissions that is among these names
-abbrev pub IsMaskFor : List (List ℕ) → List (List ℕ) → ℕ → Type 0
-IsMaskFor permissions names mask = (bit : ℕ) → IsBitSet mask bit ↔ IsBitFor permissions names bit
+-- the mask has a bit for each of these permissions that is in the value of the expression
+abbrev pub IsMaskOf : List (List ℕ) → Term ScopedWord → ℕ → Type 0
+IsMaskOf permissions e mask = (bit : ℕ) → IsBitSet mask bit ↔ IsBitIn permissions e bit
+
+-- the term is a word
+abbrev pub IsLeaf : rust.Term → Type 0
+IsLeaf t = (w : LookedUp) × (t ≡ rust.Leaf w)
+
+abbrev pub AreLeaves : List rust.Term → Type 0
+AreLeaves ts = (t : rust.Term) → Contains ts t → IsLeaf t
+
+-- the expression has what its words name, and these are their numbers, where the numbers begin with theirs
+pub record IsPlain (m : ℕ) (t : rust.Term) (words plain : List (Option ℕ)) : Type 0 where
+  pub first : plain ≡ take (length (words_in (said_of m t))) words
+  pub names : (f : Word → ScopedWord) (p : List ℕ) → in_value_there (term_with f m t) p ≡ list_any (λ w. same_bytes (f w).bytes p) (words_in (said_of m t))
 
 -- the class permission gives no permission of any class
 abbrev pub GivesNothing : List Item → OptSet → Term ScopedWord → Type 0

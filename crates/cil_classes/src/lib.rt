@@ -1,16 +1,23 @@
 //! The classes of a policy: their rows, which have too many permissions, and what a class permission gives.
 //!
-//! Start at `rows.rt` for the rows, `widths.rt` for the faults of classes, and `masks.rt` for class permissions.
-//! `specs/Pairs.antt` says which permissions of which classes a class permission gives, `specs/Row.antt` what a row is, and
-//! `specs/Faults.antt` what is wrong with a class. Rules are made of masks a crate above.
+//! Start at `rows.rt` for the rows, `widths.rt` for the faults of classes, and `given.rt` for class permissions: `mask.rt`
+//! makes the mask of an expression, by `expression.rt`, which says whether an expression has a permission.
+//! `specs/Values.antt` says which permissions an expression has, `specs/Pairs.antt` which permissions of which classes a
+//! class permission gives, `specs/Row.antt` what a row is, and `specs/Faults.antt` what is wrong with a class. Rules are
+//! made of masks a crate above.
 #![tactic(auto)]
 
-mod masks;
+mod commons;
+mod expression;
+mod given;
+mod mask;
+mod perms;
 mod row;
 mod rows;
 mod widths;
 
-pub use masks::{GivenMask, Reading, given_by};
-pub use row::Class;
+pub use given::{GivenMask, given_by};
+pub use perms::{expand_perms, push_perms};
+pub use row::{Class, ClassId};
 pub use rows::class_rows;
-pub use widths::check_widths;
+pub use widths::check_classes;

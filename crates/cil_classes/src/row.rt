@@ -1,6 +1,13 @@
-//! The row of a class.
+//! The row of a class, and its number.
 
 use cil_base::{Bytes, Names};
+
+/// A class, by its number in the tables.
+#[derive(Clone, Copy, Debug, PartialEq, Eq)]
+pub struct ClassId {
+    /// The place of the class in the byte order of the names, counted from 0.
+    pub number: usize,
+}
 
 /// A class of objects with its permissions.
 #[derive(Debug, Drop)]

@@ -11,6 +11,7 @@ ghost use Rattle.cil_names.specs.Unresolved.{ArePermissions, listed_at};
 ghost use Rattle.cil_classes.specs.Faults.{ClassFault};
 ghost use Rattle.cil_classes.specs.Widths.{IsWide};
 
+use crate::commons::push_commons;
 use cil_base::NoMemory;
 use cil_blocks::spelled::spelled;
 use cil_macros::Instances;
@@ -21,11 +22,12 @@ use std::alloc::Global;
 /// How many permissions a class may have.
 const MOST_PERMISSIONS: usize = 32;
 
-/// Refuses enabled classes with more permissions than a mask has bits: a fault at each of their statements. Each class
-/// statement costs one search by halving.
+/// Refuses enabled classes with more permissions than a mask has bits, at each of their statements, and classes with two
+/// different commons, at each statement that joins one to them. A class statement costs one search by halving, one of
+/// commons two look-ups of its words.
 ///
 /// Errors: the faults, or out of memory.
-pub fn check_widths(
+pub fn check_classes(
     alloc: Global,
     lookup: &Lookup,
     permissions: &[Vec<Bytes>],
@@ -40,6 +42,7 @@ pub fn check_widths(
     for at in 0..instances.len() {
         push_wide(alloc, &mut faults, lookup, permissions, instances, at)?;
     }
+    push_commons(alloc, &mut faults, lookup.names, instances)?;
     refuse(faults)
 }
 

@@ -2,7 +2,7 @@
 use Rattle.std.specs.Prelude.{◌≡◌, ℕ, ◌==◌, if◌then◌else◌, refl}
 use Rattle.std.proofs.Common.{sym, ◌∙◌, ap}
 use Rattle.cil_faults.specs.declared.code.FaultCode.{FaultCode}
-use Rattle.cil_faults.specs.declared.code.FaultCode.TheVariants.{UnknownStatement, Unsupported, BadShape, BadPlace, BadName, ReservedName, ParameterClash, NameTwice, InheritUnresolved, InheritCycle, CallCycle, CallArguments, Clash, ExpansionLimit, Unresolved, ClassWide}
+use Rattle.cil_faults.specs.declared.code.FaultCode.TheVariants.{UnknownStatement, Unsupported, BadShape, BadPlace, BadName, ReservedName, ParameterClash, NameTwice, InheritUnresolved, InheritCycle, CallCycle, CallArguments, Clash, ExpansionLimit, Unresolved, ClassWide, CommonTwice}
 
 -- the number of a cause
 abbrev pub number_of : FaultCode → ℕ
@@ -22,6 +22,7 @@ number_of Clash = 36
 number_of ExpansionLimit = 38
 number_of Unresolved = 41
 number_of ClassWide = 55
+number_of CommonTwice = 56
 
 -- the cause of a number
 numbered : ℕ → FaultCode
@@ -41,7 +42,8 @@ numbered n =
     else (if n == 36 then Clash
     else (if n == 38 then ExpansionLimit
     else (if n == 41 then Unresolved
-    else ClassWide))))))))))))))
+    else (if n == 55 then ClassWide
+    else CommonTwice)))))))))))))))
 
 numbered-number_of : (c : FaultCode) → numbered (number_of c) ≡ c
 unfolding numbered
@@ -61,6 +63,7 @@ numbered-number_of Clash = refl
 numbered-number_of ExpansionLimit = refl
 numbered-number_of Unresolved = refl
 numbered-number_of ClassWide = refl
+numbered-number_of CommonTwice = refl
 
 -- no two causes have one number
 pub one_cause : (c d : FaultCode) → number_of c ≡ number_of d → c ≡ d

@@ -37,13 +37,15 @@ pub enum FaultCode {
     Unresolved,
     /// A class has more permissions than a class may have.
     ClassWide,
+    /// A class shares the permissions of two different commons.
+    CommonTwice,
 }
 
 impl FaultCode {
     ghost use Rattle.std.specs.Prelude.{◌≡◌};
     ghost use Rattle.cil_faults.specs.Codes.{number_of};
 
-    /// The number of this cause in a printed fault: from 21 to 55.
+    /// The number of this cause in a printed fault: from 21 to 56.
     pub fn number(self) -> u32
         ensures { result ≡ number_of self }
     {
@@ -64,6 +66,7 @@ impl FaultCode {
             FaultCode::ExpansionLimit => 38,
             FaultCode::Unresolved => 41,
             FaultCode::ClassWide => 55,
+            FaultCode::CommonTwice => 56,
         }
     }
 }
@@ -87,6 +90,7 @@ impl fmt::Display for FaultCode {
             FaultCode::ExpansionLimit => write!(f, "too many statements"),
             FaultCode::Unresolved => write!(f, "unresolved name"),
             FaultCode::ClassWide => write!(f, "class with too many permissions"),
+            FaultCode::CommonTwice => write!(f, "class with two different commons"),
         }
     }
 }

@@ -23,6 +23,7 @@ sentence_of causes.Clash = codes "two different declarations"
 sentence_of causes.ExpansionLimit = codes "too many statements"
 sentence_of causes.Unresolved = codes "unresolved name"
 sentence_of causes.ClassWide = codes "class with too many permissions"
+sentence_of causes.CommonTwice = codes "class with two different commons"
 
 -- of a text that cannot be read
 abbrev pub reading_sentence : ReadCode → List ℕ

@@ -27,6 +27,7 @@ pub(crate) fn sentence(code: FaultCode) -> &'static str
         FaultCode::ExpansionLimit => "too many statements",
         FaultCode::Unresolved => "unresolved name",
         FaultCode::ClassWide => "class with too many permissions",
+        FaultCode::CommonTwice => "class with two different commons",
     }
 }
 

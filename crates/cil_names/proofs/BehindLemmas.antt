@@ -1,5 +1,5 @@
 -- The meanings behind those of what some terms ask for.
-use Rattle.std.proofs.Common.{◌≡◌, ℕ, ◌+◌, ◌<◌, true, false, List, [], ◌∷◌, ◌++◌, length, map, take, drop, get_or, refl, sym, ◌∙◌, ap, append_assoc, arith}
+use Rattle.std.proofs.Common.{◌≡◌, ℕ, ◌+◌, ◌<◌, true, false, List, [], ◌∷◌, ◌++◌, length, take, drop, get_or, refl, sym, ◌∙◌, ap, append_assoc, arith}
 use Rattle.std.specs.Prelude.{None}
 use Rattle.std.specs.Global.{Vec}
 use Rattle.std.proofs.lemmas.List.{append-nil, drop-drop, length-append, length-map, take_more}
@@ -12,7 +12,7 @@ use Rattle.cil_syntax.specs.declared.term.Op.{Op}
 use Rattle.cil_syntax.specs.declared.term.Term as rust
 use Rattle.cil_syntax.specs.declared.term.Word.{Word as RustWord}
 use Rattle.cil_macros.specs.Item.{all_words_in}
-use Rattle.cil_names.specs.Resolves.{Permission as APermission, Wanted, Word as AWord, words_of_class}
+use Rattle.cil_names.specs.Resolves.{Permission as APermission, Word as AWord, words_of_class}
 use Rattle.cil_names.specs.Unresolved.{terms_with}
 use Rattle.cil_names.proofs.AskedLemmas.{all_asked_in, asked_in, class_asked, form_asked, leaf_asked, more_asked, name_asked, none_asked}
 use Rattle.cil_names.proofs.ReadingLemmas.{words_of_terms}

@@ -2,6 +2,7 @@ pub mod AnswerLemmas
 pub mod AskedLemmas
 pub mod BehindLemmas
 pub mod CandidateLemmas
+mod CommonExamples
 pub mod DeclLemmas
 pub mod DeclareContents
 pub mod DeclareDecided
@@ -24,6 +25,7 @@ pub mod MemberLemmas
 pub mod NumberLemmas
 pub mod OrderLemmas
 pub mod PermissionLemmas
+pub mod PermissionNumberLemmas
 pub mod PermissionWordLemmas
 pub mod Qualified
 pub mod ReadingLemmas
@@ -32,6 +34,7 @@ pub mod RisingLemmas
 pub mod RoundLemmas
 pub mod RowLemmas
 pub mod ScopeLemmas
+pub mod SharedLemmas
 pub mod SoleLemmas
 pub mod SpelledLemmas
 pub mod UnresolvedLemmas

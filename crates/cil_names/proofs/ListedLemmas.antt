@@ -1,33 +1,35 @@
 -- The permissions that are listed for the class of a word are those that the class has.
-use Rattle.std.proofs.Common.{◌≡◌, ℕ, ◌≤◌, ◌&&◌, false, true, List, length, refl, sym, ◌∙◌, ap, inl, inr}
+use Rattle.std.proofs.Common.{◌≡◌, ℕ, ◌≤◌, ◌&&◌, ◌||◌, false, true, List, length, refl, sym, ◌∙◌, ap, inl, inr}
 use Rattle.std.specs.Prelude.{Option, Some, None, slice_get}
 use Rattle.std.specs.Global.{Vec}
 use Rattle.std.specs.List.{list_any}
 use Rattle.std.specs.Option.{is_some, option_map_or}
 use Rattle.std.specs.Cmp.Lexicographic.{bytes_decides}
-use Rattle.std.proofs.lemmas.Bool.{and_parts, cases_Bool, true≢false}
+use Rattle.std.proofs.lemmas.Bool.{and_parts, cases_Bool, or_cases, true≢false}
 use Rattle.cil_base.specs.Searches.{any_true}
 use Rattle.cil_base.specs.Places.{get_contains}
 use Rattle.cil_base.specs.declared.bytes.Bytes.{Bytes}
 use Rattle.cil_syntax.specs.declared.kind.Kind.{Kind}
 use Rattle.cil_syntax.specs.declared.kind.Kind.TheVariants as kinds
 use Rattle.cil_syntax.specs.declared.kind.Sign.TheVariants as signs
+use Rattle.cil_syntax.specs.Forms.{two_words}
 use Rattle.cil_syntax.specs.Spelling.{same_bytes}
 use Rattle.cil_syntax.specs.Scopes.{asked, same_space, ScopedWord}
 use Rattle.cil_syntax.proofs.DecidedEquality.{spaces_decide}
 use Rattle.cil_names.proofs.DeclareDecided.{symbol_by}
 use Rattle.cil_names.specs.declared.entry.Entry.{Entry}
 use Rattle.cil_blocks.specs.declared.namespaces.Space.{Space}
-use Rattle.cil_names.specs.Declarations.{Symbol, by, declared_by}
+use Rattle.cil_names.specs.Declarations.{Declaration, IsDeclaration, Symbol, by, declared_by}
 use Rattle.cil_names.specs.Entries.{AreEntries, HasNoEntry, IsAnswer, IsEntryAt, IsNamed}
 use Rattle.cil_macros.specs.Item.{Item, OptSet, is_enabled, nobody}
 use Rattle.cil_names.specs.Numbers.{symbol_of}
 use Rattle.cil_names.specs.PermissionWords.{has_permission_at}
-use Rattle.cil_names.specs.Resolves.{Permission as APermission, fits, found_in, gives_permission, has_permission, listed_permissions, resolves}
+use Rattle.cil_names.specs.Resolves.{Permission as APermission, fits, found_in, gives_permission, has, has_permission, is_class_common, listed_permissions, lists_named, lists_permission, names_outside, resolves, shares_permission, shares_words}
 use Rattle.cil_syntax.specs.Kinds.{is_wanted}
 use Rattle.cil_blocks.specs.Namespaces.{AreNamespaces, space_at}
 use Rattle.cil_names.specs.Unresolved.{ArePermissions, listed_at}
 use Rattle.cil_names.proofs.CandidateLemmas.{parts_of}
+use Rattle.cil_names.proofs.DeclLemmas.{has_true}
 use Rattle.cil_names.proofs.EntryLemmas.{parts_fit, they_fit}
 use Rattle.cil_blocks.proofs.NamespaceLemmas.{same_number}
 
@@ -44,26 +46,58 @@ class_wanted kind e = absurd (true≢false (sym e))
 
 module _ (ss : List Space) (are : AreNamespaces ss) (xs : List Item) (es : List Entry) (entries : AreEntries ss xs es) where
   -- a permission is given to a class that is declared
-  no_class : (k : ℕ) (name : List ℕ) → k ≤ length ss → HasNoEntry es name signs.Classes k → (p : List ℕ) → has_permission xs (record { space = space_at ss k; name = name }) p ≡ false
-  unfolding has_permission
-  no_class k name within none p =
-      elim (cases_Bool (list_any (gives_permission (record { space = space_at ss k; name = name }) p) xs)) [
-        | inl t ↦
-            let (x, cx, gives) = any_true (gives_permission (record { space = space_at ss k; name = name }) p) xs t in
-            let (front, lists) = and_parts (is_enabled nobody x && list_any (fits name signs.PlainClass (space_at ss k)) (declared_by x)) (list_any (same_bytes p) (listed_permissions x.args)) gives in
-            let (on, some) = and_parts (is_enabled nobody x) (list_any (fits name signs.PlainClass (space_at ss k)) (declared_by x)) front in
-            let (d, cd, fit) = any_true (fits name signs.PlainClass (space_at ss k)) (declared_by x) some in
-            let (named, spaced) = and_parts (same_bytes d.name name && is_wanted signs.PlainClass d.kind) (same_space d.space (space_at ss k)) fit in
-            let (same, wanted) = and_parts (same_bytes d.name name) (is_wanted signs.PlainClass d.kind) named in
-            let (i, e) = entries.each nobody d (by x d cx on cd) in
-            absurd (none i e.entry e.at
-            (they_fit name signs.Classes k e.entry
-            (same_number ss are (space_at ss k) e.entry.space k
-            (record { within = entries.ordered.within e.entry (get_contains es i e.entry e.at); is = e.in_space ∙ (spaces_decide d.space (space_at ss k)).0 spaced })
-            (record { within = within; is = refl }))
-            (e.of_name ∙ (bytes_decides d.name name).0 same) (ap (is_wanted signs.Classes) e.of_kind ∙ class_wanted d.kind wanted)))
-        | inr f ↦ f
-      ]
+  module _ (k : ℕ) (name : List ℕ) (within : k ≤ length ss) (none : HasNoEntry es name signs.Classes k) (p : List ℕ) where
+    abbrev missing : Symbol
+    missing = record { space = space_at ss k; name = name }
+
+    not_declared : (d : Declaration) → IsDeclaration xs nobody d → same_bytes d.name name ≡ true → is_wanted signs.Classes d.kind ≡ true → same_space d.space (space_at ss k) ≡ true → ⊥
+    not_declared d is_d same wanted spaced =
+        let (i, e) = entries.each nobody d is_d in
+        none i e.entry e.at
+        (they_fit name signs.Classes k e.entry
+        (same_number ss are (space_at ss k) e.entry.space k
+        (record { within = entries.ordered.within e.entry (get_contains es i e.entry e.at); is = e.in_space ∙ (spaces_decide d.space (space_at ss k)).0 spaced })
+        (record { within = within; is = refl }))
+        (e.of_name ∙ (bytes_decides d.name name).0 same) (ap (is_wanted signs.Classes) e.of_kind ∙ wanted))
+
+    none_listed : lists_permission xs signs.Classes missing p ≡ true → ⊥
+    unfolding lists_permission
+    none_listed t =
+        let (x, cx, gives) = any_true (gives_permission signs.Classes missing p) xs t in
+        let (front, lists) = and_parts (is_enabled nobody x && list_any (fits name signs.Classes (space_at ss k)) (declared_by x)) (list_any (same_bytes p) (listed_permissions x.args)) gives in
+        let (on, some) = and_parts (is_enabled nobody x) (list_any (fits name signs.Classes (space_at ss k)) (declared_by x)) front in
+        let (d, cd, fit) = any_true (fits name signs.Classes (space_at ss k)) (declared_by x) some in
+        let (named, spaced) = and_parts (same_bytes d.name name && is_wanted signs.Classes d.kind) (same_space d.space (space_at ss k)) fit in
+        let (same, wanted) = and_parts (same_bytes d.name name) (is_wanted signs.Classes d.kind) named in
+        not_declared d (by x d cx on cd) same wanted spaced
+
+    none_named : (w : ScopedWord) → names_outside xs signs.PlainClass w missing ≡ true → ⊥
+    none_named w t =
+        let (front, there) = and_parts (option_map_or (λ n. same_space n (space_at ss k)) (found_in xs nobody w) false && same_bytes (asked w.bytes).name name) (has xs nobody name signs.PlainClass (space_at ss k)) t in
+        let (d, is_d, fit) = has_true xs nobody name signs.PlainClass (space_at ss k) there in
+        let (named, spaced) = and_parts (same_bytes d.name name && is_wanted signs.PlainClass d.kind) (same_space d.space (space_at ss k)) fit in
+        let (same, wanted) = and_parts (same_bytes d.name name) (is_wanted signs.PlainClass d.kind) named in
+        not_declared d is_d same (class_wanted d.kind wanted) spaced
+
+    none_shared : list_any (shares_permission xs missing p) xs ≡ true → ⊥
+    none_shared t =
+        let (x, cx, gives) = any_true (shares_permission xs missing p) xs t in
+        by_words (two_words x.args) (and_parts (is_enabled nobody x && is_class_common x.keyword) (shares_words xs missing p (two_words x.args)) gives).1
+      where
+        by_words : (o : Option (ScopedWord × ScopedWord)) → shares_words xs missing p o ≡ true → ⊥
+        by_words None h = true≢false (sym h)
+        by_words (Some (v, w)) h = none_named v (and_parts (names_outside xs signs.PlainClass v missing) (lists_named xs w p) h).0
+
+    no_class : has_permission xs missing p ≡ false
+    unfolding has_permission
+    no_class =
+        elim (cases_Bool (lists_permission xs signs.Classes missing p || list_any (shares_permission xs missing p) xs)) [
+          | inl t ↦ elim (or_cases (lists_permission xs signs.Classes missing p) (list_any (shares_permission xs missing p) xs) t) [
+            | inl own ↦ absurd (none_listed own)
+            | inr shared ↦ absurd (none_shared shared)
+          ]
+          | inr f ↦ f
+        ]
 
   -- the class of the name of an entry
   module _ (d : ℕ) (e : Entry) (at : slice_get es d ≡ Some e) (p : List ℕ) where

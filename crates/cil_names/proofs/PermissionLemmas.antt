@@ -1,4 +1,4 @@
--- The permissions that statements list for classes.
+-- The permissions that statements list for classes, class maps and commons.
 use Rattle.std.specs.Prelude.{Contains, Option, Some, None, slice_get}
 use Rattle.std.specs.Cmp.Lexicographic.{bytes_decides}
 use Rattle.std.specs.Global.{Vec}
@@ -10,7 +10,7 @@ use Rattle.std.proofs.lemmas.Bool.{and_from, and_parts, cases_Bool, cases_eq, tr
 use Rattle.std.proofs.lemmas.List.{append-nil, take_more, take_all, length-map, length-set}
 use Rattle.std.proofs.lemmas.List.Elements.{Contains-append_cases}
 use Rattle.std.proofs.lemmas.List.Folds.{list_any-append}
-use Rattle.std.proofs.lemmas.Option.{same_Some, slice_get-map, slice_get_within}
+use Rattle.std.proofs.lemmas.Option.{none-some, same_Some, slice_get-map, slice_get_within}
 use Rattle.cil_base.specs.Lists.{Lists, contains_cases, contains_here, contains_none, text_cmp}
 use Rattle.cil_base.specs.MadeLists.{from_map}
 use Rattle.cil_base.specs.Searches.{any_from, any_true, same_truth}
@@ -30,7 +30,6 @@ use Rattle.cil_syntax.specs.Forms.{listed_behind_name}
 use Rattle.cil_syntax.specs.Said.{all_said, args_of, said_of}
 use Rattle.cil_syntax.specs.Program.{statement_of}
 use Rattle.cil_syntax.specs.declared.program.Statement.{Statement}
-use Rattle.cil_syntax.specs.Forms as declares
 use Rattle.cil_syntax.specs.Written.{Written}
 use Rattle.cil_syntax.specs.Spelling.{same_bytes}
 use Rattle.cil_syntax.specs.Table.{entry_of}
@@ -42,7 +41,7 @@ use Rattle.std.proofs.Math.Bool.{or-false}
 use Rattle.cil_names.specs.declared.entry.Entry.{Entry}
 use Rattle.cil_blocks.specs.declared.namespaces.Space.{Space}
 use Rattle.cil_names.specs.Declarations.{Declaration, Symbol, content_of, declarations, declared_by}
-use Rattle.cil_names.specs.Entries.{AreOrdered, HasNoEntry, IsEntryAt}
+use Rattle.cil_names.specs.Entries.{AreOrdered, HasNoEntry, IsEntryAt, is_entry}
 use Rattle.cil_blocks.specs.Entries.{statement_at}
 use Rattle.cil_macros.specs.Item.{Item, all_replaced, is_enabled, names_in, nobody, replaced}
 use Rattle.cil_macros.specs.Items.{Kept, item_at, items_in, placed_at, says_as_written, word_at}
@@ -50,11 +49,11 @@ use Rattle.cil_macros.specs.Macros.{all_standing}
 use Rattle.cil_macros.specs.Walks.{written_in}
 use Rattle.cil_macros.proofs.ItemLemmas.{items_taken, said_as_written}
 use Rattle.cil_names.specs.Numbers.{symbol_of}
-use Rattle.cil_names.specs.Permissions.{AreEmpty, AreListed, DeclaresClass, DeclaresNoClass, listed_by}
-use Rattle.cil_names.specs.Resolves.{fits, gives_permission, has_permission, listed_permissions}
+use Rattle.cil_names.specs.Permissions.{AreEmpty, AreListed, AreOwn, DeclaresList, DeclaresNoList, SaysList, SaysNoList, has_list, list_sign, listed_by}
+use Rattle.cil_names.specs.Resolves.{fits, gives_permission, listed_permissions, lists_permission}
 use Rattle.cil_syntax.specs.Kinds.{is_wanted}
 use Rattle.cil_blocks.specs.Namespaces.{AreNamespaces, IsNumber, space_at}
-use Rattle.cil_names.specs.Unresolved.{ArePermissions, listed_at}
+use Rattle.cil_names.specs.Unresolved.{listed_at}
 use Rattle.cil_names.proofs.EntryLemmas.{parts_fit, they_fit}
 use Rattle.cil_blocks.proofs.NamespaceLemmas.{same_number}
 
@@ -123,22 +122,75 @@ permissions_in (cons (Name at name) (cons (Leaf w) ts)) = refl
 permissions_in (cons (Name at name) (cons (Name bt other) ts)) = refl
 permissions_in (cons (Name at name) (cons (Form bt op parts) ts)) = refl
 
--- only a class statement declares a class
-lacks_class : (k : Keyword) → list_any (is_wanted signs.PlainClass) (entry_of k).declares ≡ true → k ≡ keywords.Class
+-- only such a statement declares what a word of such a sign may name
+as_class : (k : Keyword) → list_any (is_wanted signs.Classes) (entry_of k).declares ≡ true → list_sign k ≡ Some signs.Classes
 unfolding entry_of
-lacks_class keywords.Class e = refl
-lacks_class k e = absurd (true≢false (sym e))
+as_class keywords.Class e = refl
+as_class keywords.ClassMap e = refl
+as_class k e = absurd (true≢false (sym e))
 
-class_keyword : (k : Keyword) (kind : Kind) → Contains (entry_of k).declares kind → is_wanted signs.PlainClass kind ≡ true → k ≡ keywords.Class
-class_keyword k kind c wanted = lacks_class k (any_from (is_wanted signs.PlainClass) (entry_of k).declares kind c wanted)
+as_common : (k : Keyword) → list_any (is_wanted signs.Commons) (entry_of k).declares ≡ true → list_sign k ≡ Some signs.Commons
+unfolding entry_of
+as_common keywords.Common e = refl
+as_common k e = absurd (true≢false (sym e))
+
+as_listed : (sign : Sign) → has_list sign ≡ true → (k : Keyword) → list_any (is_wanted sign) (entry_of k).declares ≡ true → list_sign k ≡ Some sign
+as_listed signs.Classes h k e = as_class k e
+as_listed signs.Commons h k e = as_common k e
+as_listed sign h k e = absurd (true≢false (sym h))
+
+list_keyword : (sign : Sign) → has_list sign ≡ true → (k : Keyword) (kind : Kind) → Contains (entry_of k).declares kind → is_wanted sign kind ≡ true → list_sign k ≡ Some sign
+list_keyword sign h k kind c wanted = as_listed sign h k (any_from (is_wanted sign) (entry_of k).declares kind c wanted)
+
+-- what a statement of this keyword declares
+record IsListOf (k : Keyword) (sign : Sign) : Type 0 where
+  kind : Kind
+  declares : (entry_of k).declares ≡ kind ∷ []
+  wanted : is_wanted sign kind ≡ true
+  has : has_list sign ≡ true
+  written : says_as_written k ≡ true
+
+list_kind : (k : Keyword) (sign : Sign) → list_sign k ≡ Some sign → IsListOf k sign
+unfolding entry_of
+list_kind keywords.Class sign e =
+    subst (IsListOf keywords.Class) (same_Some signs.Classes sign e) (record { kind = kinds.Class; declares = refl; wanted = refl; has = refl; written = refl })
+list_kind keywords.ClassMap sign e =
+    subst (IsListOf keywords.ClassMap) (same_Some signs.Classes sign e) (record { kind = kinds.ClassMap; declares = refl; wanted = refl; has = refl; written = refl })
+list_kind keywords.Common sign e =
+    subst (IsListOf keywords.Common) (same_Some signs.Commons sign e) (record { kind = kinds.Common; declares = refl; wanted = refl; has = refl; written = refl })
+list_kind k sign e = absurd (none-some sign e)
 
 pub class_declares : (entry_of keywords.Class).declares ≡ kinds.Class ∷ []
 unfolding entry_of
 class_declares = refl
 
-pub class_declared : (n : Namespace) (at : Spot) (name : List ℕ) (rest : Terms ScopedWord)
-    → declarations n (kinds.Class ∷ []) (cons (Name at name) rest) ≡ record { kind = kinds.Class; space = n; name = name; content = content_of rest } ∷ []
-class_declared n at name rest = refl
+list_declared : (n : Namespace) (kind : Kind) (at : Spot) (name : List ℕ) (rest : Terms ScopedWord)
+    → declarations n (kind ∷ []) (cons (Name at name) rest) ≡ record { kind = kind; space = n; name = name; content = content_of rest } ∷ []
+list_declared n kind at name rest = refl
+
+-- no word of one sign may name what one of the other may name
+kinds_apart : (kind : Kind) → is_wanted signs.Classes kind ≡ true → is_wanted signs.Commons kind ≡ true → ⊥
+kinds_apart kinds.Class a b = true≢false (sym b)
+kinds_apart kinds.ClassMap a b = true≢false (sym b)
+kinds_apart kind a b = true≢false (sym a)
+
+listed_alike : (a b : Sign) (kind : Kind) → has_list a ≡ true → has_list b ≡ true → is_wanted a kind ≡ true → is_wanted b kind ≡ true → a ≡ b
+listed_alike a b kind of_a of_b is_a is_b = by_sign a b of_a of_b is_a is_b
+  where
+    with_class : (b : Sign) → has_list b ≡ true → is_wanted signs.Classes kind ≡ true → is_wanted b kind ≡ true → signs.Classes ≡ b
+    with_class signs.Classes h p q = refl
+    with_class signs.Commons h p q = absurd (kinds_apart kind p q)
+    with_class b h p q = absurd (true≢false (sym h))
+
+    with_common : (b : Sign) → has_list b ≡ true → is_wanted signs.Commons kind ≡ true → is_wanted b kind ≡ true → signs.Commons ≡ b
+    with_common signs.Classes h p q = absurd (kinds_apart kind q p)
+    with_common signs.Commons h p q = refl
+    with_common b h p q = absurd (true≢false (sym h))
+
+    by_sign : (a b : Sign) → has_list a ≡ true → has_list b ≡ true → is_wanted a kind ≡ true → is_wanted b kind ≡ true → a ≡ b
+    by_sign signs.Classes b g h p q = with_class b h p q
+    by_sign signs.Commons b g h p q = with_common b h p q
+    by_sign a b g h p q = absurd (true≢false (sym g))
 
 -- ---- what an item gives
 
@@ -173,24 +225,24 @@ module _ (x : Item) where
         declared = subst (Contains declares) (ap (λ (y : Declaration). y.kind) e) ck;
       }
 
-  -- what gives a permission to a class declares it
-  record Gives (c : Symbol) (p : List ℕ) : Type 0 where
-    declares : DeclaresClass x c.name
+  -- what lists a permission of a class, a class map or a common declares it
+  record Gives (sign : Sign) (c : Symbol) (p : List ℕ) : Type 0 where
+    declares : DeclaresList x sign c.name
     spaced : x.space ≡ c.space
     lists : list_any (same_bytes p) (listed_permissions x.args) ≡ true
 
-  gives_only : (c : Symbol) (p : List ℕ) → gives_permission c p x ≡ true → Gives c p
-  gives_only c p e =
-      let (front, lists) = and_parts (is_enabled nobody x && list_any (fits c.name signs.PlainClass c.space) (declared_by x)) (list_any (same_bytes p) (listed_permissions x.args)) e in
-      let (on, some) = and_parts (is_enabled nobody x) (list_any (fits c.name signs.PlainClass c.space) (declared_by x)) front in
-      let (d, cd, fit) = any_true (fits c.name signs.PlainClass c.space) (declared_by x) some in
-      let (named, spaced) = and_parts (same_bytes d.name c.name && is_wanted signs.PlainClass d.kind) (same_space d.space c.space) fit in
-      let (same, wanted) = and_parts (same_bytes d.name c.name) (is_wanted signs.PlainClass d.kind) named in
+  gives_only : (sign : Sign) → has_list sign ≡ true → (c : Symbol) (p : List ℕ) → gives_permission sign c p x ≡ true → Gives sign c p
+  gives_only sign has c p e =
+      let (front, lists) = and_parts (is_enabled nobody x && list_any (fits c.name sign c.space) (declared_by x)) (list_any (same_bytes p) (listed_permissions x.args)) e in
+      let (on, some) = and_parts (is_enabled nobody x) (list_any (fits c.name sign c.space) (declared_by x)) front in
+      let (d, cd, fit) = any_true (fits c.name sign c.space) (declared_by x) some in
+      let (named, spaced) = and_parts (same_bytes d.name c.name && is_wanted sign d.kind) (same_space d.space c.space) fit in
+      let (same, wanted) = and_parts (same_bytes d.name c.name) (is_wanted sign d.kind) named in
       let is = front_of (entry_of x.keyword).declares x.args d cd in
       record {
         declares = record {
           outside = none_on x.round on;
-          keyword = class_keyword x.keyword d.kind is.declared wanted;
+          keyword = list_keyword sign has x.keyword d.kind is.declared wanted;
           at = is.at;
           rest = is.rest;
           says = is.says ∙ ap (λ n. cons (Name is.at n) is.rest) (sym is.named ∙ (bytes_decides d.name c.name).0 same);
@@ -199,23 +251,25 @@ module _ (x : Item) where
         lists = lists;
       }
 
-  gives_from : (c : Symbol) (p : List ℕ) → Gives c p → gives_permission c p x ≡ true
-  gives_from c p g =
+  gives_from : (sign : Sign) (c : Symbol) (p : List ℕ) → Gives sign c p → gives_permission sign c p x ≡ true
+  gives_from sign c p g =
       and_from _ _
       (and_from _ _ (ap (list_all nobody) g.declares.outside)
-      (any_from (fits c.name signs.PlainClass c.space) (declared_by x) d (subst (λ ds. Contains ds d) (sym declared) (contains_here d []))
-      (and_from _ _ (and_from _ _ ((bytes_decides c.name c.name).1 refl) refl) ((spaces_decide x.space c.space).1 g.spaced))))
+      (any_from (fits c.name sign c.space) (declared_by x) d (subst (λ ds. Contains ds d) (sym declared) (contains_here d []))
+      (and_from _ _ (and_from _ _ ((bytes_decides c.name c.name).1 refl) of.wanted) ((spaces_decide x.space c.space).1 g.spaced))))
       g.lists
     where
+      of : IsListOf x.keyword sign
+      of = list_kind x.keyword sign g.declares.keyword
+
       d : Declaration
-      d = record { kind = kinds.Class; space = x.space; name = c.name; content = content_of g.declares.rest }
+      d = record { kind = of.kind; space = x.space; name = c.name; content = content_of g.declares.rest }
 
       declared : declared_by x ≡ d ∷ []
       declared =
-          ap (λ k. declarations x.space (entry_of k).declares x.args) g.declares.keyword
-          ∙ ap (λ ks. declarations x.space ks x.args) class_declares
-          ∙ ap (declarations x.space (kinds.Class ∷ [])) g.declares.says
-          ∙ class_declared x.space g.declares.at c.name g.declares.rest
+          ap (λ ks. declarations x.space ks x.args) of.declares
+          ∙ ap (declarations x.space (of.kind ∷ [])) g.declares.says
+          ∙ list_declared x.space of.kind g.declares.at c.name g.declares.rest
 
 -- ---- the lists of all entries
 
@@ -235,37 +289,37 @@ module _ (ss : List Space) (es : List Entry) where
       at (Some v) e = listed_some lists d v e ∙ empty.each v (get_contains lists d v e)
 
   -- no items list nothing
-  pub nothing_listed : (lists : List (Vec Bytes)) → AreEmpty es lists → ArePermissions ss es [] lists
-  unfolding has_permission
+  pub nothing_listed : (lists : List (Vec Bytes)) → AreEmpty es lists → AreOwn ss es [] lists
+  unfolding lists_permission
   nothing_listed lists empty = record {
     rising = λ v c. subst (IsStrictlySortedBy text_cmp) (sym (empty.each v c)) (rising_nothing text_cmp);
-    each = λ d e at wanted p. ap (list_any (same_bytes p)) (empty_at lists empty d);
+    each = λ sign has d e at wanted p. ap (list_any (same_bytes p)) (empty_at lists empty d);
   }
 
   module _ (xs : List Item) (x : Item) where
     abbrev more : List Item
     more = xs ++ x ∷ []
 
-    has_more : (c : Symbol) (p : List ℕ) → has_permission more c p ≡ (has_permission xs c p || (gives_permission c p x || false))
-    unfolding has_permission
-    has_more c p = list_any-append (gives_permission c p) xs (x ∷ [])
+    has_more : (sign : Sign) (c : Symbol) (p : List ℕ) → lists_permission more sign c p ≡ (lists_permission xs sign c p || (gives_permission sign c p x || false))
+    unfolding lists_permission
+    has_more sign c p = list_any-append (gives_permission sign c p) xs (x ∷ [])
 
-    has_same : (c : Symbol) (p : List ℕ) → gives_permission c p x ≡ false → has_permission more c p ≡ has_permission xs c p
-    has_same c p e = has_more c p ∙ ap (λ b. has_permission xs c p || (b || false)) e ∙ or-false (has_permission xs c p)
+    has_same : (sign : Sign) (c : Symbol) (p : List ℕ) → gives_permission sign c p x ≡ false → lists_permission more sign c p ≡ lists_permission xs sign c p
+    has_same sign c p e = has_more sign c p ∙ ap (λ b. lists_permission xs sign c p || (b || false)) e ∙ or-false (lists_permission xs sign c p)
 
-    no_gift : (c : Symbol) (p : List ℕ) → (Gives x c p → ⊥) → gives_permission c p x ≡ false
-    no_gift c p none = elim (cases_Bool (gives_permission c p x)) [ inl t ↦ absurd (none (gives_only x c p t)) | inr e ↦ e ]
+    no_gift : (sign : Sign) → has_list sign ≡ true → (c : Symbol) (p : List ℕ) → (Gives x sign c p → ⊥) → gives_permission sign c p x ≡ false
+    no_gift sign has c p none = elim (cases_Bool (gives_permission sign c p x)) [ inl t ↦ absurd (none (gives_only x sign has c p t)) | inr e ↦ e ]
 
-    kept : (lists : List (Vec Bytes)) → ((d : ℕ) (e : Entry) (p : List ℕ) → slice_get es d ≡ Some e → is_wanted signs.Classes e.kind ≡ true → Gives x (symbol_of ss e) p → ⊥)
-        → ArePermissions ss es xs lists → ArePermissions ss es more lists
+    kept : (lists : List (Vec Bytes)) → ((sign : Sign) (d : ℕ) (e : Entry) (p : List ℕ) → slice_get es d ≡ Some e → is_wanted sign e.kind ≡ true → Gives x sign (symbol_of ss e) p → ⊥)
+        → AreOwn ss es xs lists → AreOwn ss es more lists
     kept lists none are = record {
       rising = are.rising;
-      each = λ d e at wanted p. are.each d e at wanted p ∙ sym (has_same (symbol_of ss e) p (no_gift (symbol_of ss e) p (none d e p at wanted)));
+      each = λ sign has d e at wanted p. are.each sign has d e at wanted p ∙ sym (has_same sign (symbol_of ss e) p (no_gift sign has (symbol_of ss e) p (none sign d e p at wanted)));
     }
 
-    -- the item declares no class
-    pub kept_without : (lists : List (Vec Bytes)) → DeclaresNoClass x → ArePermissions ss es xs lists → ArePermissions ss es more lists
-    kept_without lists without = kept lists (λ d e p at wanted g. without e.name g.declares)
+    -- the item declares nothing with a list
+    pub kept_without : (lists : List (Vec Bytes)) → DeclaresNoList x → AreOwn ss es xs lists → AreOwn ss es more lists
+    kept_without lists without = kept lists (λ sign d e p at wanted g. without sign e.name g.declares)
 
     module _ (namespaces : AreNamespaces ss) (ordered : AreOrdered ss es) (k : ℕ) (placed : IsNumber ss x.space k) where
       one_space : (e : Entry) → Contains es e → x.space ≡ space_at ss e.space → e.space ≡ k
@@ -275,41 +329,41 @@ module _ (ss : List Space) (es : List Entry) where
       permissions_said : (f : Word → ScopedWord) (args : Terms Word) → x.args ≡ all_replaced (λ at. at) f args → listed_permissions x.args ≡ option_map_or names_in (listed_behind_name args) []
       permissions_said f args says = ap listed_permissions says ∙ listed_said f args ∙ permissions_in args
 
-      one_name : (a b : List ℕ) → DeclaresClass x a → DeclaresClass x b → a ≡ b
-      one_name a b x y = let e : cons (Name x.at a) x.rest ≡ cons (Name y.at b) y.rest = sym x.says ∙ y.says in cc
+      one_name : (s t : Sign) (a b : List ℕ) → DeclaresList x s a → DeclaresList x t b → a ≡ b
+      one_name s t a b x y = let e : cons (Name x.at a) x.rest ≡ cons (Name y.at b) y.rest = sym x.says ∙ y.says in cc
 
-      module _ (name : List ℕ) (declares : DeclaresClass x name) where
-        fits_here : (d : ℕ) (e : Entry) (p : List ℕ) → slice_get es d ≡ Some e → is_wanted signs.Classes e.kind ≡ true → Gives x (symbol_of ss e) p
-            → (e.space ≡ k) × (e.name ≡ name)
-        fits_here d e p at wanted g = (one_space e (get_contains es d e at) g.spaced, one_name e.name name g.declares declares)
+      module _ (sign : Sign) (name : List ℕ) (declares : DeclaresList x sign name) where
+        fits_here : (other : Sign) (e : Entry) (p : List ℕ) (d : ℕ) → slice_get es d ≡ Some e → is_wanted other e.kind ≡ true → Gives x other (symbol_of ss e) p
+            → is_entry name sign k e ≡ true
+        fits_here other e p d at wanted g =
+            they_fit name sign k e (one_space e (get_contains es d e at) g.spaced) (one_name other sign e.name name g.declares declares)
+            (subst (λ (t : Sign). is_wanted t e.kind ≡ true) (same_Some other sign (sym g.declares.keyword ∙ declares.keyword)) wanted)
 
-        -- the class has no entry
-        pub kept_unknown : (lists : List (Vec Bytes)) → HasNoEntry es name signs.Classes k → ArePermissions ss es xs lists → ArePermissions ss es more lists
-        kept_unknown lists none =
-            kept lists (λ d e p at wanted g. let (space, same) = fits_here d e p at wanted g in none d e at (they_fit name signs.Classes k e space same wanted))
+        -- it has no entry
+        pub kept_unknown : (lists : List (Vec Bytes)) → HasNoEntry es name sign k → AreOwn ss es xs lists → AreOwn ss es more lists
+        kept_unknown lists none = kept lists (λ other d e p at wanted g. none d e at (fits_here other e p d at wanted g))
 
-        -- the class statement has no list
+        -- the statement has no list
         pub kept_unlisted : (f : Word → ScopedWord) (args : Terms Word) → x.args ≡ all_replaced (λ at. at) f args → (lists : List (Vec Bytes)) → listed_behind_name args ≡ None
-            → ArePermissions ss es xs lists → ArePermissions ss es more lists
+            → AreOwn ss es xs lists → AreOwn ss es more lists
         kept_unlisted f args says lists none =
-            kept lists (λ d e p at wanted g.
+            kept lists (λ other d e p at wanted g.
             let empty : listed_permissions x.args ≡ [] = permissions_said f args says ∙ ap (λ o. option_map_or names_in o []) none in
             true≢false (sym g.lists ∙ ap (list_any (same_bytes p)) empty))
 
         -- the names that the statement lists were listed before
-        pub kept_again : (lists : List (Vec Bytes)) (class_ : ℕ) → IsEntryAt es name signs.Classes k class_
+        pub kept_again : (lists : List (Vec Bytes)) (class_ : ℕ) → IsEntryAt es name sign k class_
             → ((p : List ℕ) → list_any (same_bytes p) (listed_permissions x.args) ≡ true → list_any (same_bytes p) (listed_at lists class_) ≡ true)
-            → ArePermissions ss es xs lists → ArePermissions ss es more lists
+            → AreOwn ss es xs lists → AreOwn ss es more lists
         kept_again lists class_ is there are = record {
           rising = are.rising;
-          each = λ d e at wanted p.
-              are.each d e at wanted p
-              ∙ sym (has_more (symbol_of ss e) p
-              ∙ known (has_permission xs (symbol_of ss e) p) (gives_permission (symbol_of ss e) p x) (λ t.
-              let g = gives_only x (symbol_of ss e) p t in
-              let (space, same) = fits_here d e p at wanted g in
-              let one : d ≡ class_ = is.only d e at (they_fit name signs.Classes k e space same wanted) in
-              sym (are.each d e at wanted p) ∙ ap (λ n. list_any (same_bytes p) (listed_at lists n)) one ∙ there p g.lists));
+          each = λ other has d e at wanted p.
+              are.each other has d e at wanted p
+              ∙ sym (has_more other (symbol_of ss e) p
+              ∙ known (lists_permission xs other (symbol_of ss e) p) (gives_permission other (symbol_of ss e) p x) (λ t.
+              let g = gives_only x other has (symbol_of ss e) p t in
+              let one : d ≡ class_ = is.only d e at (fits_here other e p d at wanted g) in
+              sym (are.each other has d e at wanted p) ∙ ap (λ n. list_any (same_bytes p) (listed_at lists n)) one ∙ there p g.lists));
         }
           where
             known : (b g : Bool) → (g ≡ true → b ≡ true) → (b || (g || false)) ≡ b
@@ -317,8 +371,8 @@ module _ (ss : List Space) (es : List Entry) where
             known false true h = sym (h refl)
             known false false h = refl
 
-        -- the names that the statement lists are added to those of the class
-        module _ (f : Word → ScopedWord) (args : Terms Word) (says : x.args ≡ all_replaced (λ at. at) f args) (old : List (Vec Bytes)) (class_ : ℕ) (is : IsEntryAt es name signs.Classes k class_) (before none_yet after : Vec Bytes) (m : ℕ) (items : List rust.Term)
+        -- the names that the statement lists are added to those of its name
+        module _ (f : Word → ScopedWord) (args : Terms Word) (says : x.args ≡ all_replaced (λ at. at) f args) (old : List (Vec Bytes)) (class_ : ℕ) (is : IsEntryAt es name sign k class_) (before none_yet after : Vec Bytes) (m : ℕ) (items : List rust.Term)
             (len : length old ≡ length es) (was : slice_get old class_ ≡ Some before) (listed : listed_behind_name args ≡ Some (all_said m items))
             (all : Lists text_cmp (Contains (before.items ++ names_in (all_said m items))) after.items) where
           abbrev new : List (Vec Bytes)
@@ -359,15 +413,16 @@ module _ (ss : List Space) (es : List Entry) where
               ∙ list_any-append (same_bytes p) before.items (names_in (all_said m items))
               ∙ ap (λ l. list_any (same_bytes p) before.items || list_any (same_bytes p) l) (sym said)
 
-          gives_all : (e : Entry) → slice_get es class_ ≡ Some e → (p : List ℕ)
-              → gives_permission (symbol_of ss e) p x ≡ list_any (same_bytes p) (listed_permissions x.args)
-          gives_all e at p =
-              let (space, same, wanted) = parts_fit name signs.Classes k is.entry is.fits in
+          gives_all : (other : Sign) → has_list other ≡ true → (e : Entry) → slice_get es class_ ≡ Some e → is_wanted other e.kind ≡ true → (p : List ℕ)
+              → gives_permission other (symbol_of ss e) p x ≡ list_any (same_bytes p) (listed_permissions x.args)
+          gives_all other has e at also p =
+              let (space, same, wanted) = parts_fit name sign k is.entry is.fits in
               let one : is.entry ≡ e = same_Some is.entry e (sym is.at ∙ at) in
+              let alike : sign ≡ other = listed_alike sign other e.kind (list_kind x.keyword sign declares.keyword).has has (subst (λ (y : Entry). is_wanted sign y.kind ≡ true) one wanted) also in
               same_truth _ _
-              (λ t. (gives_only x (symbol_of ss e) p t).lists)
-              (λ t. gives_from x (symbol_of ss e) p (record {
-                declares = subst (DeclaresClass x) (sym same ∙ ap (λ (y : Entry). y.name) one) declares;
+              (λ t. (gives_only x other has (symbol_of ss e) p t).lists)
+              (λ t. gives_from x other (symbol_of ss e) p (record {
+                declares = subst (λ (z : Sign). DeclaresList x z e.name) alike (subst (DeclaresList x sign) (sym same ∙ ap (λ (y : Entry). y.name) one) declares);
                 spaced = sym placed.is ∙ ap (space_at ss) (sym space ∙ ap (λ (y : Entry). y.space) one);
                 lists = t;
               }))
@@ -392,23 +447,22 @@ module _ (ss : List Space) (es : List Entry) where
               or_true true = refl
               or_true false = refl
 
-          pub added : ArePermissions ss es xs old → ArePermissions ss es more new
+          pub added : AreOwn ss es xs old → AreOwn ss es more new
           added are = record {
             rising = rises are.rising;
-            each = λ d e at wanted p. elim (cases_eq d class_) [
+            each = λ other has d e at wanted p. elim (cases_eq d class_) [
               | inl same ↦
                   let at_class : slice_get es class_ ≡ Some e = ap (slice_get es) (sym same) ∙ at in
                   ap (λ k. list_any (same_bytes p) (listed_at new k)) same
                   ∙ ap (list_any (same_bytes p)) (listed_some new class_ after here)
                   ∙ any_all p
-                  ∙ ap (λ b. b || list_any (same_bytes p) (listed_permissions x.args)) (ap (list_any (same_bytes p)) (sym (listed_some old class_ before was)) ∙ are.each class_ e at_class wanted p)
-                  ∙ ap (λ b. has_permission xs (symbol_of ss e) p || b) (sym (gives_all e at_class p) ∙ or_last (gives_permission (symbol_of ss e) p x))
-                  ∙ sym (has_more (symbol_of ss e) p)
+                  ∙ ap (λ b. b || list_any (same_bytes p) (listed_permissions x.args)) (ap (list_any (same_bytes p)) (sym (listed_some old class_ before was)) ∙ are.each other has class_ e at_class wanted p)
+                  ∙ ap (λ b. lists_permission xs other (symbol_of ss e) p || b) (sym (gives_all other has e at_class wanted p) ∙ or_last (gives_permission other (symbol_of ss e) p x))
+                  ∙ sym (has_more other (symbol_of ss e) p)
               | inr differ ↦
                   ap (λ o. list_any (same_bytes p) (option_map_or (λ (w : Vec Bytes). w.items) o [])) (elsewhere d differ)
-                  ∙ are.each d e at wanted p
-                  ∙ sym (has_same (symbol_of ss e) p (no_gift (symbol_of ss e) p (λ g. let (space, same) = fits_here d e p at wanted g in
-                  differ (is.only d e at (they_fit name signs.Classes k e space same wanted)))))
+                  ∙ are.each other has d e at wanted p
+                  ∙ sym (has_same other (symbol_of ss e) p (no_gift other has (symbol_of ss e) p (λ g. differ (is.only d e at (fits_here other e p d at wanted g)))))
             ];
           }
             where
@@ -419,14 +473,14 @@ module _ (ss : List Space) (es : List Entry) where
 -- ---- place by place
 
 module _ (ss : List Space) (es : List Entry) where
-  pub listed_more : (i : Kept) (at : ℕ) (lists : List (Vec Bytes)) → at < length (items_in i) → ArePermissions ss es (take at (items_in i) ++ item_at i at ∷ []) lists
-      → ArePermissions ss es (take (at + 1) (items_in i)) lists
-  listed_more i at lists within are = subst (λ xs. ArePermissions ss es xs lists) (sym (items_taken i at within)) are
+  pub listed_more : (i : Kept) (at : ℕ) (lists : List (Vec Bytes)) → at < length (items_in i) → AreOwn ss es (take at (items_in i) ++ item_at i at ∷ []) lists
+      → AreOwn ss es (take (at + 1) (items_in i)) lists
+  listed_more i at lists within are = subst (λ xs. AreOwn ss es xs lists) (sym (items_taken i at within)) are
 
-  pub listed_all : (xs : List Item) (n : ℕ) (lists : List (Vec Bytes)) → length xs ≤ n → ArePermissions ss es (take n xs) lists → ArePermissions ss es xs lists
-  listed_all xs n lists over are = subst (λ ys. ArePermissions ss es ys lists) (take_all n xs over) are
+  pub listed_all : (xs : List Item) (n : ℕ) (lists : List (Vec Bytes)) → length xs ≤ n → AreOwn ss es (take n xs) lists → AreOwn ss es xs lists
+  listed_all xs n lists over are = subst (λ ys. AreOwn ss es ys lists) (take_all n xs over) are
 
-  pub listed_none : (xs : List Item) (lists : List (Vec Bytes)) → AreEmpty es lists → ArePermissions ss es (take 0 xs) lists
+  pub listed_none : (xs : List Item) (lists : List (Vec Bytes)) → AreEmpty es lists → AreOwn ss es (take 0 xs) lists
   listed_none [] lists empty = nothing_listed ss es lists empty
   listed_none (x ∷ xs) lists empty = nothing_listed ss es lists empty
 
@@ -442,39 +496,39 @@ name_back f (cons (Form bt op parts) ts) at name rest e = absurd cc
 name_back f (cons (Name bt b) ts) at name rest e = (ts, (let p : bt ≡ at = cc in let q : b ≡ name = cc in λ i. cons (Name (p i) (q i)) ts))
 
 -- where it is in an optional
-pub none_in_optional : (x : Item) → (x.round ≡ [] → ⊥) → DeclaresNoClass x
-none_in_optional x inside name d = inside d.outside
+pub none_in_optional : (x : Item) → (x.round ≡ [] → ⊥) → DeclaresNoList x
+none_in_optional x inside sign name d = inside d.outside
 
 module _ (i : Kept) (at : ℕ) where
   module _ (s : Statement) (says : statement_of s ≡ (placed_at i at).standing.statement.statement) where
-    class_says : s.keyword ≡ keywords.Class → (item_at i at).args ≡ all_replaced (λ bt. bt) (word_at i at) (args_of s)
-    class_says k =
+    list_says : (sign : Sign) → list_sign s.keyword ≡ Some sign → (item_at i at).args ≡ all_replaced (λ bt. bt) (word_at i at) (args_of s)
+    list_says sign k =
         said_as_written (written_in i.0) (all_standing i.0) (placed_at i at) (placed_at i at).standing.statement.statement.keyword (placed_at i at).standing.statement.statement.args
-        (ap says_as_written (sym (ap (λ t. t.keyword) says) ∙ k))
+        (ap says_as_written (sym (ap (λ t. t.keyword) says)) ∙ (list_kind s.keyword sign k).written)
         ∙ ap (all_replaced (λ bt. bt) (word_at i at)) (sym (ap (λ t. t.args) says))
 
-    pub none_declared : declares.DeclaresNoClass s → DeclaresNoClass (item_at i at)
-    none_declared none name d =
-        let k : s.keyword ≡ keywords.Class = ap (λ t. t.keyword) says ∙ d.keyword in
-        let (more, e) = name_back (word_at i at) (args_of s) d.at name d.rest (sym (class_says k) ∙ d.says) in
-        none d.at name (record { keyword = k; rest = more; says = e })
+    pub none_declared : SaysNoList s → DeclaresNoList (item_at i at)
+    none_declared none sign name d =
+        let k : list_sign s.keyword ≡ Some sign = ap list_sign (ap (λ t. t.keyword) says) ∙ d.keyword in
+        let (more, e) = name_back (word_at i at) (args_of s) d.at name d.rest (sym (list_says sign k) ∙ d.says) in
+        none sign d.at name (record { keyword = k; rest = more; says = e })
 
-    module _ (bt : Spot) (name : List ℕ) (d : declares.DeclaresClass s bt name) where
-      pub said_by_class : (item_at i at).args ≡ all_replaced (λ bt. bt) (word_at i at) (args_of s)
-      said_by_class = class_says d.keyword
+    module _ (sign : Sign) (bt : Spot) (name : List ℕ) (d : SaysList s sign bt name) where
+      pub said_by_list : (item_at i at).args ≡ all_replaced (λ bt. bt) (word_at i at) (args_of s)
+      said_by_list = list_says sign d.keyword
 
       pub listed_here : (number : ℕ) → (placed_at i at).standing.statement ≡ statement_at (written_in i.0) number → listed_permissions (item_at i at).args ≡ listed_by i number
       listed_here number same =
-          ap listed_permissions said_by_class ∙ listed_said (word_at i at) (args_of s) ∙ ap (λ t. listed_permissions t.args) says ∙ ap (λ (w : Written). listed_permissions w.statement.args) same
+          ap listed_permissions said_by_list ∙ listed_said (word_at i at) (args_of s) ∙ ap (λ t. listed_permissions t.args) says ∙ ap (λ (w : Written). listed_permissions w.statement.args) same
 
-      pub one_declared : (item_at i at).round ≡ [] → DeclaresClass (item_at i at) name
+      pub one_declared : (item_at i at).round ≡ [] → DeclaresList (item_at i at) sign name
       unfolding replaced all_replaced
       one_declared outside = record {
         outside = outside;
-        keyword = sym (ap (λ t. t.keyword) says) ∙ d.keyword;
+        keyword = ap list_sign (sym (ap (λ t. t.keyword) says)) ∙ d.keyword;
         at = bt;
         rest = all_replaced (λ ct. ct) (word_at i at) d.rest;
-        says = said_by_class ∙ ap (all_replaced (λ ct. ct) (word_at i at)) d.says;
+        says = said_by_list ∙ ap (all_replaced (λ ct. ct) (word_at i at)) d.says;
       }
 
 -- ---- no lists

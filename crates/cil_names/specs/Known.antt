@@ -1,5 +1,7 @@
 -- What is known of the words of items and of the numbers of their symbols.
 use Rattle.std.specs.Prelude.{◌≡◌, ℕ, List, slice_get, Some, ◌++◌, map, Option}
+use Rattle.std.specs.Global.{Vec}
+use Rattle.cil_base.specs.declared.bytes.Bytes.{Bytes}
 use Rattle.cil_names.specs.Declarations.{Symbol, name_of}
 use Rattle.cil_syntax.specs.declared.kind.Kind.{Kind}
 use Rattle.cil_syntax.specs.declared.term.Word.{Word}
@@ -10,22 +12,25 @@ use Rattle.cil_names.specs.Entries.{AreEntries, is_in}
 use Rattle.cil_macros.specs.Item.{Item, OptSet, replaced}
 use Rattle.cil_syntax.specs.Scopes.{ScopedWord}
 use Rattle.cil_names.specs.Meanings.{meant}
-use Rattle.cil_names.specs.PermissionWords.{meanings, wanted_meaning}
+use Rattle.cil_names.specs.PermissionWords.{meanings, value_of}
 use Rattle.cil_names.specs.Resolves.{Wanted, wanted_in}
 use Rattle.cil_names.specs.Numbers.{AreNumbers}
 use Rattle.cil_blocks.specs.Namespaces.{AreNamespaces}
 use Rattle.cil_names.specs.declared.known.Known.{Known}
 use Rattle.cil_names.specs.Members.{StandsFor}
+use Rattle.cil_names.specs.Unresolved.{ArePermissions}
 
 -- the symbol has this number: its name stands there
 abbrev pub IsNumbered : List (List ℕ) → Symbol → ℕ → Type 0
 IsNumbered names t n = slice_get names n ≡ Some (name_of t)
 
--- what is known of the names of items: their namespaces, their declared names, and the sections that number these
-pub record AreKnown (ss : List Space) (xs : List Item) (es : List Entry) (s : OptSet) (names : Kind → List (List ℕ)) (numbers : List ℕ) : Type 0 where
+-- what is known of the names of items: their namespaces, their declared names, the sections that number these, and the
+-- permissions of their classes
+pub record AreKnown (ss : List Space) (xs : List Item) (es : List Entry) (s : OptSet) (names : Kind → List (List ℕ)) (numbers : List ℕ) (lists : List (Vec Bytes)) : Type 0 where
   pub namespaces : AreNamespaces ss
   pub entries : AreEntries ss xs es
   pub numbered : AreNumbers ss es s names numbers
+  pub permissions : ArePermissions ss es xs lists
 
 -- the number of the one symbol for which a word stands
 pub record IsNumberFor (xs : List Item) (s : OptSet) (kind : Kind) (names : List (List ℕ)) (w : ScopedWord) (n : ℕ) : Type 0 where
@@ -44,25 +49,29 @@ enabled_in k = is_in k.lookup.enabled.now
 
 -- the items are those of which this is known, and these are the sections of their names
 abbrev pub IsKnown : Known → List Item → (Kind → List (List ℕ)) → Type 0
-IsKnown k xs names = AreKnown k.lookup.namespaces.now xs k.lookup.names.now (enabled_in k) names k.numbers.now
+IsKnown k xs names = AreKnown k.lookup.namespaces.now xs k.lookup.names.now (enabled_in k) names k.numbers.now k.permissions.now
 
 -- what a word means
 abbrev pub meant_in : Known → ScopedWord → Option ℕ
 meant_in k w = meant k.lookup.namespaces.now k.lookup.names.now (enabled_in k) w
 
--- what all that one of these items asks for means
-abbrev pub row_in : Known → List Item → Item → List (Option ℕ)
-row_in k xs x = meanings k.lookup.namespaces.now k.lookup.names.now xs (enabled_in k) x
+-- the value of something wanted
+abbrev pub value_in : Known → Wanted → Option ℕ
+value_in k w = value_of k.lookup.namespaces.now k.lookup.names.now k.permissions.now (enabled_in k) w
+
+-- the values of all that an item asks for
+abbrev pub row_in : Known → Item → List (Option ℕ)
+row_in k x = meanings k.lookup.namespaces.now k.lookup.names.now k.permissions.now (enabled_in k) x
 
 -- what a term asks for, where each word says this
 abbrev pub wanted_with : (Word → ScopedWord) → Term Word → List Wanted
 wanted_with f t = wanted_in (replaced (λ at. at) f t)
 
--- what that means
-abbrev pub meant_by : Known → List Item → (Word → ScopedWord) → Term Word → List (Option ℕ)
-meant_by k xs f t = map (wanted_meaning k.lookup.namespaces.now k.lookup.names.now xs (enabled_in k)) (wanted_with f t)
+-- the values of that
+abbrev pub meant_by : Known → (Word → ScopedWord) → Term Word → List (Option ℕ)
+meant_by k f t = map (value_in k) (wanted_with f t)
 
--- the meanings begin with those of what a term asks for
-pub record BeginWith (k : Known) (xs : List Item) (f : Word → ScopedWord) (t : Term Word) (words : List (Option ℕ)) : Type 0 where
+-- the values begin with those of what a term asks for
+pub record BeginWith (k : Known) (f : Word → ScopedWord) (t : Term Word) (words : List (Option ℕ)) : Type 0 where
   pub more : List (Option ℕ)
-  pub are : words ≡ meant_by k xs f t ++ more
+  pub are : words ≡ meant_by k f t ++ more

@@ -7,7 +7,6 @@ pub mod Entries
 pub mod Family
 pub mod Faults
 pub mod Known
-pub mod LastScopes
 pub mod Laws
 pub mod Meanings
 pub mod MemberLaws
@@ -19,6 +18,8 @@ pub mod Readings
 pub mod Resolves
 pub mod Rows
 pub mod Says
+pub mod Shared
+pub mod SharedOrder
 pub mod Soles
 pub mod Spaces
 pub mod Unresolved

@@ -1,9 +1,21 @@
--- The permissions of classes: what statements list for each class. No other crate needs these words.
-use Rattle.std.specs.Prelude.{◌≡◌, ℕ, true, List, [], Contains, Option, Some, length, slice_get}
+-- The permissions of classes and commons: what statements list for each. No other crate needs these words.
+use Rattle.std.specs.Prelude.{◌≡◌, ℕ, Bool, true, false, List, [], Contains, Option, Some, None, length, slice_get}
 use Rattle.std.specs.List.{list_any}
+use Rattle.std.specs.List.Sorted.{IsStrictlySortedBy}
 use Rattle.std.specs.Global.{Vec}
+use Rattle.cil_base.specs.Lists.{text_cmp}
 use Rattle.cil_base.specs.declared.bytes.Bytes.{Bytes}
+use Rattle.cil_syntax.specs.declared.kind.Keyword.{Keyword}
 use Rattle.cil_syntax.specs.declared.kind.Keyword.TheVariants as keywords
+use Rattle.cil_syntax.specs.declared.kind.Sign.{Sign}
+use Rattle.cil_syntax.specs.declared.kind.Sign.TheVariants as signs
+use Rattle.cil_syntax.specs.declared.program.Statement.{Statement}
+use Rattle.cil_syntax.specs.declared.term.Word.{Word}
+use Rattle.cil_syntax.specs.Kinds.{is_wanted}
+use Rattle.cil_syntax.specs.Said.{args_of}
+use Rattle.cil_blocks.specs.declared.namespaces.Space.{Space}
+use Rattle.cil_names.specs.declared.entry.Entry.{Entry}
+use Rattle.cil_names.specs.Numbers.{symbol_of}
 use Rattle.cil_faults.specs.declared.spot.Spot.{Spot}
 use Rattle.cil_syntax.specs.Scopes.{ScopedWord}
 use Rattle.cil_syntax.specs.Terms.{Name, Terms, cons}
@@ -12,19 +24,47 @@ use Rattle.cil_blocks.specs.Entries.{statement_at}
 use Rattle.cil_macros.specs.Item.{Item}
 use Rattle.cil_macros.specs.Items.{Kept}
 use Rattle.cil_macros.specs.Walks.{written_in}
-use Rattle.cil_names.specs.Resolves.{listed_permissions}
+use Rattle.cil_names.specs.Resolves.{listed_permissions, lists_permission}
 use Rattle.cil_names.specs.Unresolved.{listed_at}
 
--- an item that is in no optional declares a class of this name
-pub record DeclaresClass (x : Item) (name : List ℕ) : Type 0 where
+-- how words may name what a statement of this keyword declares with a list of permissions
+abbrev pub list_sign : Keyword → Option Sign
+list_sign keywords.Class = Some signs.Classes
+list_sign keywords.ClassMap = Some signs.Classes
+list_sign keywords.Common = Some signs.Commons
+list_sign k = None
+
+-- words of this sign name what has a list of permissions
+abbrev pub has_list : Sign → Bool
+has_list signs.Classes = true
+has_list signs.Commons = true
+has_list sign = false
+
+-- a statement declares what has a list of permissions under this name, which is written here
+pub record SaysList (s : Statement) (sign : Sign) (at : Spot) (name : List ℕ) : Type 0 where
+  pub keyword : list_sign s.keyword ≡ Some sign
+  pub rest : Terms Word
+  pub says : args_of s ≡ cons (Name at name) rest
+
+abbrev pub SaysNoList : Statement → Type 0
+SaysNoList s = (sign : Sign) (at : Spot) (name : List ℕ) → SaysList s sign at name → ⊥
+
+-- an item that is in no optional declares what has a list of permissions under this name
+pub record DeclaresList (x : Item) (sign : Sign) (name : List ℕ) : Type 0 where
   pub outside : x.round ≡ []
-  pub keyword : x.keyword ≡ keywords.Class
+  pub keyword : list_sign x.keyword ≡ Some sign
   pub at : Spot
   pub rest : Terms ScopedWord
   pub says : x.args ≡ cons (Name at name) rest
 
-abbrev pub DeclaresNoClass : Item → Type 0
-DeclaresNoClass x = (name : List ℕ) → DeclaresClass x name → ⊥
+abbrev pub DeclaresNoList : Item → Type 0
+DeclaresNoList x = (sign : Sign) (name : List ℕ) → DeclaresList x sign name → ⊥
+
+-- for each entry of a class, a class map or a common, these are the permissions that it lists itself
+pub record AreOwn (ss : List Space) (es : List Entry) (xs : List Item) (lists : List (Vec Bytes)) : Type 0 where
+  pub rising : (v : Vec Bytes) → Contains lists v → IsStrictlySortedBy text_cmp v.items
+  pub each : (sign : Sign) → has_list sign ≡ true → (d : ℕ) (e : Entry) → slice_get es d ≡ Some e → is_wanted sign e.kind ≡ true
+      → (p : List ℕ) → list_any (same_bytes p) (listed_at lists d) ≡ lists_permission xs sign (symbol_of ss e) p
 
 -- no permission is listed yet
 pub record AreEmpty {X : Type 0} (es : List X) (lists : List (Vec Bytes)) : Type 0 where

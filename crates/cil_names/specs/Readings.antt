@@ -1,23 +1,19 @@
 -- How the words of a placed statement are looked up. Only this crate and cil_words need these words.
-use Rattle.std.specs.Prelude.{◌≡◌, ◌<◌, ℕ, List, Some, length}
+use Rattle.std.specs.Prelude.{◌≡◌, ◌<◌, ℕ, length}
 use Rattle.cil_syntax.specs.declared.term.Word.{Word}
 use Rattle.cil_syntax.specs.Program.{statement_of}
 use Rattle.cil_syntax.specs.Scopes.{ScopedWord}
 use Rattle.cil_macros.specs.declared.placed_word.PlacedWord.{PlacedWord}
 use Rattle.cil_macros.specs.Item.{Item}
-use Rattle.cil_macros.specs.Items.{all_placed, item_at, items_in, namespaces_in, placed_at, scope_by, scoped_by, word_at}
-use Rattle.cil_macros.specs.Walks.{IsScope}
+use Rattle.cil_macros.specs.Items.{all_placed, item_at, items_in, placed_at, scoped_by, word_at}
 use Rattle.cil_names.specs.declared.reading.Reading.{Reading}
-use Rattle.cil_names.specs.declared.reading.ScopeNumbers.{ScopeNumbers}
-use Rattle.cil_names.specs.declared.reading.ScopeNumbers.TheVariants as numbers
 
 -- ---- a placed statement
 
--- there is such a place, the statement is what is written there, and the numbers are those of its scope
+-- there is such a place, and the statement is what is written there
 pub record IsReading (r : Reading) : Type 0 where
   pub within : r.at < length (items_in r.instances.now)
   pub says : statement_of r.statement.now ≡ (placed_at r.instances.now r.at).standing.statement.statement
-  pub scope : IsScope (namespaces_in r.instances.now) (scope_by (all_placed r.instances.now) (Some r.at)) r.scope.now
 
 abbrev pub module_of : Reading → ℕ
 module_of r = r.statement.now.at.«module»
@@ -33,7 +29,3 @@ word_read r w = word_at r.instances.now r.at w
 -- a word in the scope of the place that it has
 abbrev pub scoped_there : Reading → PlacedWord → ScopedWord
 scoped_there r w = scoped_by (all_placed r.instances.now) w
-
-abbrev pub numbers_in : ScopeNumbers → List ℕ
-numbers_in (numbers.Own scope) = scope.now
-numbers_in (numbers.Other scope) = scope

@@ -14,7 +14,6 @@ ghost use Rattle.cil_names.specs.Unresolved.{term_with, terms_with};
 
 use crate::reading::{Reading, is_call, says_as_written};
 use cil_base::NoMemory;
-use cil_blocks::ScopeList;
 use cil_macros::{Instances, PlacedWord};
 use cil_syntax::{Excerpt, Term, Word, word_and_terms};
 use std::alloc::Global;
@@ -32,13 +31,10 @@ pub fn word_asked<'a>(
         (λ w. told_at (item_at instances.now at) number ≡ Some (scoped_by (all_placed instances.now) w))) }
 {
     let statement = instances.statement_there(at);
-    let mut scope = ScopeList::new(alloc);
-    instances.scope_into(alloc, Some(at), &mut scope)?;
     let reading = Reading {
         instances,
         at,
         statement,
-        scope: scope.as_slice(),
     };
     let asked = reading.asked(alloc)?;
     Ok(told_of(asked.as_slice(), number))

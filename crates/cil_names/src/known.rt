@@ -13,17 +13,19 @@ use crate::laws;
 use crate::meaning::Meaning;
 use crate::table::{Lookup, Words};
 use cil_macros::Instances;
-use cil_syntax::{Keyword, Kind};
+use cil_syntax::{Bytes, Keyword, Kind};
 
 /// What is known of the words of a policy: what each means, and the number of each symbol that they can mean.
 #[derive(Clone, Copy)]
 pub struct Known<'s, 'a> {
     /// The namespaces, the declared names and the optionals that are enabled.
     pub lookup: Lookup<'s, 'a>,
-    /// What the words of each statement mean.
+    /// What the words of each statement mean, and the numbers of its permissions.
     pub words: &'s Words,
     /// For each declared name its number in the section of its kind.
     pub numbers: &'s [usize],
+    /// For each declared class its permissions, in byte order.
+    pub permissions: &'s [Vec<Bytes>],
 }
 
 impl<'s, 'a> Known<'s, 'a> {

@@ -74,8 +74,9 @@ fn behind_words<'s>(words: &'s [Meaning], terms: &[Term]) -> &'s [Meaning]
     rest
 }
 
+/// The meanings behind one for each word of a term: what follows those of one operand among the permissions of a class.
 #[cycle(words)]
-fn behind_word<'s>(words: &'s [Meaning], term: &Term) -> &'s [Meaning]
+pub fn behind_word<'s>(words: &'s [Meaning], term: &Term) -> &'s [Meaning]
     ensures { (m : ℕ) → result.now ≡ drop (length (words_in (said_of m term.now))) words.now }
 {
     match term {

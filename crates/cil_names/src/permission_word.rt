@@ -1,21 +1,22 @@
 //! Permission words: each names the class or class map of its class word, where that has the permission.
 
-ghost use Rattle.std.specs.Prelude.{◌≡◌, ◌≤◌, ◌<◌, [], All, Contains, IfSome, List, MatchOption, length, ℕ};
+ghost use Rattle.std.specs.Prelude.{◌≡◌, ◌≤◌, ◌<◌, ◌∷◌, [], All, Contains, IfSome, List, MatchOption, None, Some, false, length, true, ℕ};
 ghost use Rattle.std.specs.Global.{Vec as Vector};
 ghost use Rattle.std.specs.List.{list_any};
 ghost use Rattle.std.specs.List.Sorted.{IsStrictlySortedBy};
+ghost use Rattle.std.specs.Option.{option_map};
 ghost use Rattle.std.specs.Ordering.{on};
 ghost use Rattle.cil_base.specs.Lists.{text_cmp};
 ghost use Rattle.cil_base.specs.declared.bytes.Bytes.{Bytes as Text};
 ghost use Rattle.cil_syntax.specs.Spelling.{same_bytes};
 ghost use Rattle.cil_blocks.specs.declared.namespaces.Space.{Space};
 ghost use Rattle.cil_syntax.specs.Scopes.{ScopedWord};
-ghost use Rattle.cil_names.specs.Classes.{IsClassFor};
+ghost use Rattle.cil_names.specs.Classes.{IsClassFor, IsClassOf, is_class_at};
 ghost use Rattle.cil_names.specs.declared.entry.Entry.{Entry as Declared};
-ghost use Rattle.cil_names.specs.Entries.{AreEntries, AreOrdered, by_name_cmp, key_of, scoped};
+ghost use Rattle.cil_names.specs.Entries.{AreEntries, AreOrdered, by_name_cmp, candidates_of, key_of, scoped};
 ghost use Rattle.cil_macros.specs.Item.{Item, nobody};
 ghost use Rattle.cil_names.specs.Meanings.{meant};
-ghost use Rattle.cil_names.specs.PermissionWords.{class_with as the_class_with, has_permission_at};
+ghost use Rattle.cil_names.specs.PermissionWords.{class_with as the_class_with, has_permission_at, listed_of, number_with};
 ghost use Rattle.cil_blocks.specs.Namespaces.{AreNamespaces};
 ghost use Rattle.cil_names.specs.Unresolved.{ArePermissions, listed_at as listed_for};
 
@@ -23,6 +24,7 @@ use crate::entry::Entry;
 use crate::guesses::Guesses;
 use crate::look::{KnownBy, entry_in, resolve};
 use crate::numbers::place_among;
+use crate::shared::where_always;
 use cil_blocks::Namespaces;
 use cil_syntax::{Bytes, Sign, Word};
 
@@ -62,6 +64,7 @@ pub fn permissions_at<'s>(
     requires sorted { (v : Vector Text) → Contains permissions.now v → IsStrictlySortedBy text_cmp v.items }
     requires within { d < length entries.now }
     ensures sorted { IsStrictlySortedBy text_cmp result.now }
+    ensures numbered { is_class_at entries.now d ≡ true → result.now ≡ listed_of entries.now permissions.now d }
     ensures listed { (ss : List Space) (xs : List Item) → AreNamespaces ss → AreEntries ss xs entries.now → ArePermissions ss entries.now xs permissions.now
         → (p : List ℕ) → list_any (same_bytes p) result.now ≡ has_permission_at ss entries.now xs p d }
 {
@@ -74,6 +77,14 @@ pub fn permissions_at<'s>(
         return &[];
     };
     listed_at(permissions, class)
+}
+
+/// Whether an entry is that of a class or class map. The permissions of such an entry have numbers.
+fn has_numbers(entries: &[Entry], d: usize) -> bool
+    requires { d < length entries.now }
+    ensures { result ≡ is_class_at entries.now d }
+{
+    Sign::Classes.wants(entries[d].kind)
 }
 
 /// The list of an entry.
@@ -103,6 +114,17 @@ pub struct Class<'s> {
     pub entry: usize,
     /// Its permissions, in byte order.
     pub permissions: &'s [Bytes],
+    /// Whether the entry is that of a class or class map, so that the permissions have numbers.
+    pub has_numbers: bool,
+}
+
+/// A permission of the class that a class word names.
+#[derive(Clone, Copy)]
+pub struct ClassPermission {
+    /// The number of the entry of the class.
+    pub entry: usize,
+    /// The number of the permission among those of the class, in byte order.
+    pub number: Option<usize>,
 }
 
 /// The class or class map that a class word names, with its permissions.
@@ -124,6 +146,30 @@ pub fn class_of<'s>(
     Some(Class {
         entry,
         permissions: permissions_at(entries, guesses, permissions, entry),
+        has_numbers: has_numbers(entries, entry),
+    })
+}
+
+/// The same of a class word that could name just the entry of this number; none where that is not declared outside all
+/// optionals. It costs no look-up.
+pub fn class_at<'s>(
+    namespaces: &Namespaces,
+    entries: &[Entry],
+    guesses: &Guesses,
+    permissions: &'s [Vec<Bytes>],
+    entry: usize,
+) -> Option<Class<'s>>
+    requires entries { AreOrdered namespaces.now entries.now }
+    requires sorted { (v : Vector Text) → Contains permissions.now v → IsStrictlySortedBy text_cmp v.items }
+    requires within { entry < length entries.now }
+    ensures { IfSome result (λ k. (w : ScopedWord) → candidates_of namespaces.now entries.now w ≡ entry ∷ [] → IsClassOf namespaces.now entries.now permissions.now w k) }
+{
+    namespaces.are_namespaces();
+    let entry = where_always(entries, entry)?;
+    Some(Class {
+        entry,
+        permissions: permissions_at(entries, guesses, permissions, entry),
+        has_numbers: has_numbers(entries, entry),
     })
 }
 
@@ -139,6 +185,32 @@ pub fn with_permission(class: Option<Class>, permission: &[u8]) -> Option<usize>
         return None;
     }
     Some(found.entry)
+}
+
+/// The permission of the class that was found for a class word, if the class has it. It costs one search by halving.
+pub fn permission_of(class: Option<Class>, permission: &[u8]) -> Option<ClassPermission>
+    requires { IfSome class (λ k. IsStrictlySortedBy text_cmp k.permissions.now) }
+    ensures entry { (ss : List Space) (es : List Declared) (lists : List (Vector Text)) (c p : ScopedWord) (xs : List Item) → IsClassFor ss es lists c class.entry → p.bytes ≡ permission.now
+        → AreEntries ss xs es → ArePermissions ss es xs lists → option_map (λ r. r.entry) result ≡ the_class_with ss es xs c p }
+    ensures number { (ss : List Space) (es : List Declared) (lists : List (Vector Text)) (c p : ScopedWord) (xs : List Item) → IsClassFor ss es lists c class.entry → p.bytes ≡ permission.now
+        → AreEntries ss xs es → ArePermissions ss es xs lists → option_map (λ r. r.number) result ≡ number_with ss es xs lists c p }
+{
+    let found = class?;
+    let Some(place) = place_among(found.permissions, permission) else {
+        return None;
+    };
+    Some(ClassPermission {
+        entry: found.entry,
+        number: number_if(found.has_numbers, place),
+    })
+}
+
+/// A number, if there are numbers.
+fn number_if(has_numbers: bool, number: usize) -> Option<usize>
+    ensures has { has_numbers ≡ true → result ≡ Some number }
+    ensures has_none { has_numbers ≡ false → result ≡ None }
+{
+    if has_numbers { Some(number) } else { None }
 }
 
 /// The number of the class or class map that a permission word names.

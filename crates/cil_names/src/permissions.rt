@@ -1,14 +1,15 @@
 //! The permissions of classes, as statements list them.
 
-ghost use Rattle.std.specs.Prelude.{◌≡◌, ◌<◌, ◌↔◌, ◌∷◌, ◌++◌, [], Contains, IfOk, IsTrue, List, None, OnOk, length, map, ℕ};
+ghost use Rattle.std.specs.Prelude.{◌≡◌, ◌<◌, ◌↔◌, ◌∷◌, ◌++◌, [], Contains, IfOk, IsTrue, List, MatchOption, None, OnOk, length, map, ℕ};
 ghost use Rattle.std.specs.List.Sorted.{IsStrictlySortedBy};
 ghost use Rattle.std.specs.Ordering.{on};
 ghost use Rattle.cil_base.specs.Lists.{Lists, text_cmp};
 ghost use Rattle.cil_syntax.specs.Said.{all_said};
 ghost use Rattle.cil_macros.specs.Item.{Item, names_in};
 ghost use Rattle.cil_macros.specs.Items.{item_at, items_in, namespaces_in};
-ghost use Rattle.cil_names.specs.Entries.{AreOrdered, by_name_cmp, key_of};
-ghost use Rattle.cil_names.specs.Permissions.{AreEmpty, AreListed};
+ghost use Rattle.cil_names.specs.Entries.{AreEntries, AreOrdered, by_name_cmp, key_of};
+ghost use Rattle.cil_names.specs.Permissions.{AreEmpty, AreListed, AreOwn, SaysList, SaysNoList, list_sign as the_list_sign};
+ghost use Rattle.cil_names.specs.Shared.{AreShared};
 ghost use Rattle.cil_names.specs.Unresolved.{ArePermissions};
 
 use crate::entry::Entry;
@@ -16,24 +17,46 @@ use crate::guesses::Guesses;
 use crate::look::entry_in;
 use crate::names::Names;
 use crate::reading::is_at;
+use crate::shared::{Shared, with_commons};
 use cil_base::NoMemory;
 use cil_macros::Instances;
-use cil_syntax::{Bytes, Sign, Term};
+use cil_syntax::{Bytes, DeclaredName, Keyword, Sign, Statement, Term};
 use std::alloc::Global;
 use std::mem;
 
-/// The permissions of classes: for each declared name those that statements outside all optionals list for the class of
-/// this name, in byte order, each once; none for what is no class. Classes do not hang on optionals. Each instance of a
-/// class statement costs one search by halving, and a sort of what is listed for its class so far, unless the last one for
-/// its class was of the same statement.
+/// The permissions of classes: for each declared name of a class those that statements outside all optionals list for the class
+/// of this name, and those of the commons that it shares, in byte order, each once. Classes do not hang on optionals. Each
+/// instance of a statement that lists permissions costs one search by halving, and a sort of what is listed for its name so
+/// far, unless the last one for its name was of the same statement. What is shared costs what `with_commons` costs. Error: out
+/// of memory.
 pub fn permissions_of(
+    alloc: Global,
+    names: &Names,
+    instances: &Instances,
+    shared: &[Shared],
+) -> Result<Vec<Vec<Bytes>>, NoMemory>
+    requires entries { AreEntries (namespaces_in instances.now) (items_in instances.now) names.now }
+    requires shared { AreShared (namespaces_in instances.now) names.now (items_in instances.now) shared.now }
+    ensures len { IfOk result (λ lists. length lists.items ≡ length names.now) }
+    ensures permissions { IfOk result (λ lists. ArePermissions (namespaces_in instances.now) names.now (items_in instances.now) lists.items) }
+{
+    // What is known of the numbers of namespaces.
+    instances.namespaces();
+    let own = own_lists(alloc, names, instances)?;
+    let all = with_commons(alloc, own, shared)?;
+    Ok(all)
+}
+
+/// What statements outside all optionals list: for each declared name of a class, a class map or a common its own permissions,
+/// in byte order, each once; none for what is none of these.
+fn own_lists(
     alloc: Global,
     names: &Names,
     instances: &Instances,
 ) -> Result<Vec<Vec<Bytes>>, NoMemory>
     requires ordered { AreOrdered (namespaces_in instances.now) names.now }
     ensures len { IfOk result (λ lists. length lists.items ≡ length names.now) }
-    ensures permissions { IfOk result (λ lists. ArePermissions (namespaces_in instances.now) names.now (items_in instances.now) lists.items) }
+    ensures own { IfOk result (λ lists. AreOwn (namespaces_in instances.now) names.now (items_in instances.now) lists.items) }
 {
     let entries = names.entries();
     let mut lists = no_lists(alloc, entries)?;
@@ -69,8 +92,8 @@ fn no_statements(alloc: Global, entries: &[Entry]) -> Result<Vec<Option<usize>>,
     Ok(last)
 }
 
-/// Adds the permissions that the statement at a place lists for a class, unless they were added: for each entry the number
-/// of the statement is kept whose permissions were added last.
+/// Adds the permissions that the statement at a place lists for a class, a class map or a common, unless they were added: for
+/// each entry the number of the statement is kept whose permissions were added last.
 fn add_listed(
     alloc: Global,
     lists: &mut Vec<Vec<Bytes>>,
@@ -89,8 +112,8 @@ fn add_listed(
     ensures last { OnOk result (AreOrdered (namespaces_in instances.now) entries.now → AreListed instances.now last.old.items lists.old.items → AreListed instances.now last.new.items lists.new.items) }
     ensures listed { OnOk result ((xs : List Item) → AreOrdered (namespaces_in instances.now) entries.now
         → AreListed instances.now last.old.items lists.old.items
-        → ArePermissions (namespaces_in instances.now) entries.now xs lists.old.items
-        → ArePermissions (namespaces_in instances.now) entries.now (xs ++ item_at instances.now at ∷ []) lists.new.items) }
+        → AreOwn (namespaces_in instances.now) entries.now xs lists.old.items
+        → AreOwn (namespaces_in instances.now) entries.now (xs ++ item_at instances.now at ∷ []) lists.new.items) }
 {
     // What is known of the numbers of namespaces.
     instances.namespaces();
@@ -98,11 +121,11 @@ fn add_listed(
         return Ok(());
     }
     let statement = instances.statement_there(at);
-    let Some(name) = statement.declared_class() else {
+    let Some(list) = list_of(statement) else {
         return Ok(());
     };
     let space = instances.space(at);
-    let Some(class) = entry_in(entries, guesses, space, name.bytes, Sign::Classes) else {
+    let Some(class) = entry_in(entries, guesses, space, list.name.bytes, list.sign) else {
         return Ok(());
     };
     let Some(items) = statement.listed_behind_name() else {
@@ -116,6 +139,36 @@ fn add_listed(
     lists[class] = with_names(alloc, listed, items)?;
     last[class] = Some(number);
     Ok(())
+}
+
+/// The name of a list of permissions.
+#[derive(Clone, Copy)]
+struct ListName<'a> {
+    /// How words may name what it is of: as a class, or as a common.
+    sign: Sign,
+    /// The name that is declared.
+    name: DeclaredName<'a>,
+}
+
+/// The name that a statement declares with a list of permissions.
+fn list_of<'a>(statement: &Statement<'a>) -> Option<ListName<'a>>
+    ensures { MatchOption result (SaysNoList statement.now) (λ list. SaysList statement.now list.sign list.name.at list.name.bytes.now) }
+{
+    let sign = list_sign(statement.keyword)?;
+    let name = statement.declared_name()?;
+    Some(ListName { sign, name })
+}
+
+/// How words may name what a statement of this keyword declares with a list of permissions.
+fn list_sign(keyword: Keyword) -> Option<Sign>
+    ensures { result ≡ the_list_sign keyword }
+{
+    match keyword {
+        Keyword::Class => Some(Sign::Classes),
+        Keyword::ClassMap => Some(Sign::Classes),
+        Keyword::Common => Some(Sign::Commons),
+        _ => None,
+    }
 }
 
 /// Some names and those among terms, in byte order, each once.

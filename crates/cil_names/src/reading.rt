@@ -1,18 +1,16 @@
-//! A placed statement, as its words are looked up: what each says there, and in which namespaces it is looked up.
+//! A placed statement, as its words are looked up: what each says there, and where it is looked up.
 
 ghost use Rattle.std.specs.Prelude.{◌≡◌, ◌↔◌, IfOk, IsTrue, Some, map, true};
 ghost use Rattle.cil_macros.specs.Calls.{is_call};
-ghost use Rattle.cil_macros.specs.Items.{all_placed, leaves, namespaces_in, says_as_written, scope_by, scoped_by};
-ghost use Rattle.cil_macros.specs.Walks.{IsScope};
-ghost use Rattle.cil_names.specs.Readings.{IsReading, item_read, numbers_in, scoped_there, word_read};
+ghost use Rattle.cil_macros.specs.Items.{all_placed, leaves, says_as_written, scoped_by};
+ghost use Rattle.cil_names.specs.Readings.{IsReading, item_read, scoped_there, word_read};
 
 use cil_base::NoMemory;
-use cil_blocks::ScopeList;
 use cil_macros::{Instances, PlacedWord};
 use cil_syntax::{Keyword, Statement, Word};
 use std::alloc::Global;
 
-/// The statement at a place, with the namespaces of its scope.
+/// The statement at a place.
 #[derive(Clone, Copy)]
 pub struct Reading<'r, 's, 'p, 'a> {
     /// All that is placed.
@@ -21,17 +19,6 @@ pub struct Reading<'r, 's, 'p, 'a> {
     pub at: usize,
     /// What is written there.
     pub statement: &'r Statement<'a>,
-    /// The numbers of the namespaces in which its words are looked up.
-    pub scope: &'r [usize],
-}
-
-/// The namespaces in which a word is looked up, by their numbers.
-#[derive(Drop)]
-pub enum ScopeNumbers<'r> {
-    /// Those of the statement in which it is.
-    Own(&'r [usize]),
-    /// Those of another place.
-    Other(ScopeList),
 }
 
 impl<'r, 's, 'p, 'a> Reading<'r, 's, 'p, 'a> {
@@ -49,32 +36,6 @@ impl<'r, 's, 'p, 'a> Reading<'r, 's, 'p, 'a> {
         ensures { IfOk result (λ ws. is_call (item_read self.now).keyword ≡ true → (item_read self.now).args ≡ leaves (map (scoped_there self.now) ws.items)) }
     {
         self.instances.call_words(alloc, self.at)
-    }
-
-    /// The scope of a word. That of the statement is at hand; only for a word that is looked up elsewhere, as an argument of a
-    /// macro is, a list is filled.
-    pub fn scope_of(&self, alloc: Global, word: &PlacedWord) -> Result<ScopeNumbers<'r>, NoMemory>
-        requires { IsReading self.now }
-        ensures { IfOk result (λ ks. IsScope (namespaces_in self.now.instances.now) (scope_by (all_placed self.now.instances.now) word.now.scope) (numbers_in ks)) }
-    {
-        if is_at(word.scope, self.at) {
-            return Ok(ScopeNumbers::Own(self.scope));
-        }
-        let mut scope = ScopeList::new(alloc);
-        self.instances.scope_into(alloc, word.scope, &mut scope)?;
-        Ok(ScopeNumbers::Other(scope))
-    }
-}
-
-impl ScopeNumbers<'_> {
-    /// The numbers, in order.
-    pub fn as_slice(&self) -> &[usize]
-        ensures { result.now ≡ numbers_in self.now }
-    {
-        match self {
-            ScopeNumbers::Own(scope) => scope,
-            ScopeNumbers::Other(scope) => scope.as_slice(),
-        }
     }
 }
 

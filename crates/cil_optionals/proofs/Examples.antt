@@ -16,7 +16,7 @@ use Rattle.cil_syntax.specs.Terms.{Leaf, Name, Form, Terms, nil, cons}
 use Rattle.cil_base.specs.Among.{among}
 use Rattle.cil_macros.specs.Item.{Item, OptSet, innermost, nobody, names_in, all_words_in}
 use Rattle.cil_names.specs.Declarations.{nowhere}
-use Rattle.cil_names.specs.Resolves.{Wanted, Word, all_wanted_in, found_in, has, has_permission, resolves, wanted_in, words_of}
+use Rattle.cil_names.specs.Resolves.{Wanted, Word, all_wanted_in, found_in, has, has_permission, lists_permission, resolves, wanted_in, words_of}
 use Rattle.cil_optionals.specs.declared.reason.Reason.TheVariants.{Missing, ParentOut}
 use Rattle.cil_optionals.specs.Certificate.{Holds, IsRight, all_but, missing, no_more, one_more, parent_out}
 use Rattle.cil_optionals.specs.Counts.{lookups, removals, removed_from}
@@ -204,7 +204,7 @@ stand_in_none (suc (suc (suc (suc (suc (suc zero)))))) p h parent = not_both fal
 stand_in_none (suc (suc (suc (suc (suc (suc (suc o))))))) p h parent = not_both _ h (none_of_two 4 1 (suc (suc (suc (suc (suc (suc (suc o))))))) (omega arith) (omega arith))
 
 have_words : list_all (has_words mutual_two both) mutual_two ≡ true
-unfolding mutual_two both has found_in entry_of all_wanted_in wanted_in has_permission all_words_in names_in
+unfolding mutual_two both has found_in entry_of all_wanted_in wanted_in has_permission lists_permission all_words_in names_in
 have_words = refl
 
 both_right : IsRight mutual_two both []

@@ -12,7 +12,7 @@ use Rattle.cil_macros.specs.Items.{items_in}
 use Rattle.cil_macros.specs.Rounds.{AreNested}
 use Rattle.cil_names.specs.declared.entry.Entry.{Entry}
 use Rattle.cil_names.specs.Entries.{AreEntries, is_declared_at}
-use Rattle.cil_words.specs.Table.{asks}
+use Rattle.cil_words.specs.Table.{asks, could_in}
 use Rattle.cil_optionals.specs.declared.parts.Parts.{Parts}
 use Rattle.cil_optionals.specs.declared.reason.Reason.{Reason}
 use Rattle.cil_optionals.specs.declared.reason.Reason.TheVariants.{Missing, ParentOut}
@@ -39,7 +39,7 @@ parts_with (x ∷ xs) (row ∷ rows) = part_with x row ∷ parts_with xs rows
 
 -- what the choice reads, as it is kept
 abbrev pub parts_in : Parts → List Part
-parts_in p = parts_with (items_in p.instances.now) p.asks.now
+parts_in p = parts_with (items_in p.instances.now) (could_in p.asks.now)
 
 abbrev pub part_of : List Space → List Entry → List Item → Item → Part
 part_of ss es xs x = part_with x (asks ss es xs x)

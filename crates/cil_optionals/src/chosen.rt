@@ -9,7 +9,7 @@ ghost use Rattle.cil_optionals.specs.Counts.{lookups, removals};
 ghost use Rattle.cil_optionals.specs.Greatest.{IsGreatest};
 ghost use Rattle.cil_optionals.specs.PartCounts.{AreLookups};
 ghost use Rattle.cil_optionals.specs.Parts.{IsShown, parts_in};
-ghost use Rattle.cil_words.specs.Table.{AreAsks};
+ghost use Rattle.cil_words.specs.Table.{AreAsks, could_in};
 
 use crate::checking::is_shown;
 use crate::counts::lookups_of;
@@ -74,7 +74,7 @@ pub fn greatest_of<'r, 'a>(
     asks: &'r Asks,
 ) -> Result<Chosen, NoMemory>
     requires entries { AreEntries (namespaces_in instances.now) (items_in instances.now) names.now }
-    requires asks { AreAsks (namespaces_in instances.now) names.now (items_in instances.now) asks.now }
+    requires asks { AreAsks (namespaces_in instances.now) names.now (items_in instances.now) (could_in asks.now) }
     ensures right { IfOk result (λ c. IsRight (items_in instances.now) (is_in c.enabled) c.reasons.items) }
     ensures greatest { IfOk result (λ c. IsGreatest (items_in instances.now) (is_in c.enabled)) }
 {
@@ -111,7 +111,7 @@ fn counted_of<'r, 'a>(
     asks: &'r Asks,
 ) -> Result<Counted, NoMemory>
     requires entries { AreEntries (namespaces_in instances.now) (items_in instances.now) names.now }
-    requires asks { AreAsks (namespaces_in instances.now) names.now (items_in instances.now) asks.now }
+    requires asks { AreAsks (namespaces_in instances.now) names.now (items_in instances.now) (could_in asks.now) }
     ensures right { IfOk result (λ c. IsRight (items_in instances.now) (is_in c.chosen.enabled) c.chosen.reasons.items) }
     ensures greatest { IfOk result (λ c. IsGreatest (items_in instances.now) (is_in c.chosen.enabled)) }
     ensures removals { IfOk result (λ c. c.removals ≡ removals (items_in instances.now) (is_in c.chosen.enabled)) }

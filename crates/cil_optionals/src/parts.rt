@@ -6,7 +6,7 @@ ghost use Rattle.cil_blocks.specs.Contents.{is_optional as is_optional_keyword};
 ghost use Rattle.cil_macros.specs.Items.{item_at, items_in, namespaces_in};
 ghost use Rattle.cil_names.specs.Entries.{AreEntries};
 ghost use Rattle.cil_optionals.specs.Parts.{ArePartsOf, asked_at, inside_at, is_optional_part, parts_in};
-ghost use Rattle.cil_words.specs.Table.{AreAsks};
+ghost use Rattle.cil_words.specs.Table.{AreAsks, could_in};
 
 use cil_blocks::names::is_optional;
 use cil_macros::Instances;
@@ -83,7 +83,7 @@ pub fn parts_of<'r, 's, 'p, 'a>(
     asks: &'r Asks,
 ) -> Parts<'r, 's, 'p, 'a>
     requires entries { AreEntries (namespaces_in instances.now) (items_in instances.now) names.now }
-    requires asks { AreAsks (namespaces_in instances.now) names.now (items_in instances.now) asks.now }
+    requires asks { AreAsks (namespaces_in instances.now) names.now (items_in instances.now) (could_in asks.now) }
     ensures { ArePartsOf (namespaces_in instances.now) names.now (items_in instances.now) (parts_in result) }
 {
     instances.are_nested();

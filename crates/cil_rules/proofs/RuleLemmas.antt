@@ -23,9 +23,8 @@ use Rattle.cil_rules.specs.declared.rule.Numbers.{Numbers}
 use Rattle.cil_rules.specs.declared.rule.Rule.{Rule}
 use Rattle.cil_rules.specs.declared.rule.Target.{Target}
 use Rattle.cil_rules.specs.Records.{Case, HasTarget, IsCase, IsRuleOf, CaseBy}
-use Rattle.cil_names.specs.Known.{BeginWith, IsNumberFor, StandsForNothing, enabled_in, meant_by, meant_in, row_in, wanted_with}
+use Rattle.cil_names.specs.Known.{BeginWith, IsNumberFor, StandsForNothing, enabled_in, meant_by, meant_in, row_in, value_in, wanted_with}
 use Rattle.cil_names.specs.Members.{StandsFor}
-use Rattle.cil_names.specs.PermissionWords.{wanted_meaning}
 use Rattle.cil_names.specs.Resolves.{Wanted, Word as AWord, all_wanted_in, wanted_in}
 use Rattle.cil_classes.specs.Pairs.{HasPair}
 use Rattle.cil_base.specs.Records.{AreRecordsOf, IsRecordOf}
@@ -41,12 +40,12 @@ rule_wanted : (source : ScopedWord) (target class_permission : Term ScopedWord)
 unfolding all_wanted_in wanted_in
 rule_wanted source target class_permission = refl
 
-module _ (k : Known) (xs : List Item) (x : Item) (f : Word → ScopedWord) (args : Terms Word) (says : x.args ≡ all_across f args) (source : Word) (target class_permission : Term Word)
-    (said : args ≡ cons (Leaf source) (cons target (cons class_permission nil))) (words : List (Option ℕ)) (are : words ≡ row_in k xs x) where
+module _ (k : Known) (x : Item) (f : Word → ScopedWord) (args : Terms Word) (says : x.args ≡ all_across f args) (source : Word) (target class_permission : Term Word)
+    (said : args ≡ cons (Leaf source) (cons target (cons class_permission nil))) (words : List (Option ℕ)) (are : words ≡ row_in k x) where
   abbrev by_meaning : Wanted → Option ℕ
-  by_meaning = wanted_meaning k.lookup.namespaces.now k.lookup.names.now xs (enabled_in k)
+  by_meaning = value_in k
 
-  all_meant : words ≡ meant_in k (f source) ∷ meant_by k xs f target ++ meant_by k xs f class_permission
+  all_meant : words ≡ meant_in k (f source) ∷ meant_by k f target ++ meant_by k f class_permission
   all_meant =
       are
       ∙ ap (λ ts. map by_meaning (all_wanted_in ts)) (says ∙ ap (all_across f) said ∙ rule_across f source target class_permission)
@@ -59,23 +58,23 @@ module _ (k : Known) (xs : List Item) (x : Item) (f : Word → ScopedWord) (args
   source_means r first = first ∙ ap (λ ws. get_or ws 0 None) all_meant
 
   module _ (of_target : List (Option ℕ)) (behind_source : of_target ≡ drop 1 words) where
-    target_there : of_target ≡ meant_by k xs f target ++ meant_by k xs f class_permission
+    target_there : of_target ≡ meant_by k f target ++ meant_by k f class_permission
     target_there = behind_source ∙ ap (drop 1) all_meant
 
     -- behind it are those of the target
-    pub target_begins : BeginWith k xs f target of_target
-    target_begins = record { more = meant_by k xs f class_permission; are = target_there }
+    pub target_begins : BeginWith k f target of_target
+    target_begins = record { more = meant_by k f class_permission; are = target_there }
 
     -- and behind these those of the class permission
-    pub class_begins : (of_class : List (Option ℕ)) → of_class ≡ drop (length (wanted_with f target)) of_target → BeginWith k xs f class_permission of_class
+    pub class_begins : (of_class : List (Option ℕ)) → of_class ≡ drop (length (wanted_with f target)) of_target → BeginWith k f class_permission of_class
     class_begins of_class behind_target = record {
       more = [];
       are =
           behind_target
           ∙ ap (drop (length (wanted_with f target))) target_there
-          ∙ ap (λ n. drop n (meant_by k xs f target ++ meant_by k xs f class_permission)) (sym (length-map (wanted_with f target) by_meaning))
-          ∙ drop-append_seam (meant_by k xs f target) (meant_by k xs f class_permission)
-          ∙ sym (append-nil (meant_by k xs f class_permission));
+          ∙ ap (λ n. drop n (meant_by k f target ++ meant_by k f class_permission)) (sym (length-map (wanted_with f target) by_meaning))
+          ∙ drop-append_seam (meant_by k f target) (meant_by k f class_permission)
+          ∙ sym (append-nil (meant_by k f class_permission));
     }
 
 -- ---- the record of one statement

@@ -27,9 +27,8 @@ use Rattle.cil_rules.specs.declared.rule.Numbers.{Numbers}
 use Rattle.cil_rules.specs.declared.rule.Target.{Target}
 use Rattle.cil_rules.specs.declared.rule.Target.TheVariants as targets
 use Rattle.cil_rules.specs.Records.{HasNumber, HasTarget, IsTargetOf}
-use Rattle.cil_names.specs.Known.{IsNumbered, BeginWith, IsNumberFor, StandsForNothing, enabled_in, meant_in}
+use Rattle.cil_names.specs.Known.{IsNumbered, BeginWith, IsNumberFor, StandsForNothing, enabled_in, meant_in, value_in}
 use Rattle.cil_macros.proofs.FormLemmas.{across, all_across, form_across, leaf_across, name_across}
-use Rattle.cil_names.specs.PermissionWords.{wanted_meaning}
 use Rattle.cil_names.specs.Resolves.{Word as AWord}
 use Rattle.cil_names.proofs.AskedLemmas.{leaf_asked}
 
@@ -67,12 +66,12 @@ self_reached xs s types at op parts target is same =
 
 module _ (k : Known) (f : Word → ScopedWord) (m : ℕ) (t : rust.Term) where
   -- where the term is a word, the first meaning is that of the word
-  pub word_means : (xs : List Item) (w : LookedUp) → t ≡ variants.Leaf w → (words : List (Option ℕ)) → BeginWith k xs f (said_of m t) words → (r : Option ℕ) → r ≡ get_or words 0 None
+  pub word_means : (w : LookedUp) → t ≡ variants.Leaf w → (words : List (Option ℕ)) → BeginWith k f (said_of m t) words → (r : Option ℕ) → r ≡ get_or words 0 None
       → r ≡ meant_in k (f (word_in m w))
-  word_means xs w is words begin r first =
+  word_means w is words begin r first =
       first
       ∙ ap (λ ws. get_or ws 0 None) begin.are
-      ∙ ap (λ ls. get_or (map (wanted_meaning k.lookup.namespaces.now k.lookup.names.now xs (enabled_in k)) ls ++ begin.more) 0 None)
+      ∙ ap (λ ls. get_or (map (value_in k) ls ++ begin.more) 0 None)
       (sym (leaf_asked f m t [] (AWord (f (word_in m w)) ∷ []) w is refl))
 
   is_word : (w : LookedUp) → t ≡ variants.Leaf w → term_with f m t ≡ Leaf (f (word_in m w))

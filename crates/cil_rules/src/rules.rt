@@ -1,6 +1,5 @@
-//! The records of rules. A rule costs no look-up of a word, but the numbers of its source, target and class, a walk over
-//! the words of its target, and one search by halving for each of its permission words; at the end the records are
-//! sorted.
+//! The records of rules. A rule costs no look-up of a word and no search, but the numbers of its source, target and class,
+//! a walk over the words of its target, and a step for each of its permission words; at the end the records are sorted.
 
 ghost use Rattle.std.specs.Prelude.{◌≡◌, ◌<◌, ◌≤◌, ℕ, [], ◌∷◌, Contains, IfOk, List, MatchOption, length, map};
 ghost use Rattle.std.specs.List.Sorted.{IsStrictlySortedBy};
@@ -28,7 +27,7 @@ ghost use Rattle.cil_rules.specs.Order.{rule_cmp};
 
 use crate::rule::{Numbers, Rule, Target};
 use cil_base::NoMemory;
-use cil_classes::{Class, Reading, given_by};
+use cil_classes::{Class, given_by};
 use cil_macros::Instances;
 use cil_names::{Known, Meaning, behind, behind_first, meaning_at, same_keyword};
 use cil_syntax::{Keyword, Kind, Op, Term};
@@ -41,7 +40,7 @@ pub fn rules_of(
     known: &Known,
     classes: &[Class],
 ) -> Result<Vec<Rule>, NoMemory>
-    requires table { IsTableOf (map (row_in known.now (items_in instances.now)) (items_in instances.now)) known.now.words.now }
+    requires table { IsTableOf (map (row_in known.now) (items_in instances.now)) known.now.words.now }
     requires rising { (row : ARow) → Contains classes.now row → IsStrictlySortedBy text_cmp row.permissions }
     requires few { (row : ARow) → Contains classes.now row → length row.permissions ≤ most_permissions }
     ensures { IfOk result (λ rules. (names : kinds.Kind → List (List ℕ)) → IsKnown known.now (items_in instances.now) names
@@ -62,7 +61,7 @@ fn unsorted(
     known: &Known,
     classes: &[Class],
 ) -> Result<Vec<Rule>, NoMemory>
-    requires table { IsTableOf (map (row_in known.now (items_in instances.now)) (items_in instances.now)) known.now.words.now }
+    requires table { IsTableOf (map (row_in known.now) (items_in instances.now)) known.now.words.now }
     requires rows { AreOrderlyRows classes.now }
     ensures { IfOk result (λ rules. (names : kinds.Kind → List (List ℕ)) → IsKnown known.now (items_in instances.now) names
         → AreClasses (items_in instances.now) (enabled_in known.now) (names variants.Class) classes.now
@@ -91,7 +90,7 @@ fn rule_of(
     requires within { at < length (items_in instances.now) }
     requires rows { AreOrderlyRows classes.now }
     ensures { IfOk result (λ rule. (xs : List Item) (names : kinds.Kind → List (List ℕ)) → IsKnown known.now xs names
-        → AreClasses xs (enabled_in known.now) (names variants.Class) classes.now → words.now ≡ row_in known.now xs (item_at instances.now at)
+        → AreClasses xs (enabled_in known.now) (names variants.Class) classes.now → words.now ≡ row_in known.now (item_at instances.now at)
         → IsRecordOf (CaseBy xs (enabled_in known.now)) (IsRuleOf xs (enabled_in known.now) (names variants.Type_) classes.now)
         (item_at instances.now at) rule) }
 {
@@ -105,21 +104,17 @@ fn rule_of(
     let Some(parts) = statement.rule_parts() else {
         return Ok(None);
     };
-    let reading = Reading {
-        instances,
-        at,
-        module: statement.at.module,
-    };
+    let module = statement.at.module;
     let Some(source) = known.number(Kind::Type_, meaning_at(words, 0)) else {
         return Ok(None);
     };
     let of_target = behind_first(words);
-    let of_class = behind(of_target, parts.target, reading.module);
-    let Some(given) = given_by(known, classes, parts.class_permission, &reading, of_class) else {
+    let of_class = behind(of_target, parts.target, module);
+    let Some(given) = given_by(known, classes, parts.class_permission, module, of_class) else {
         return Ok(None);
     };
     let class = short(given.class)?;
-    let Some(target) = target_of(alloc, known, parts.target, reading.module, of_target)? else {
+    let Some(target) = target_of(alloc, known, parts.target, module, of_target)? else {
         return Ok(None);
     };
     Ok(Some(Rule {
@@ -150,7 +145,7 @@ fn target_of(
     module: u64,
     words: &[Meaning],
 ) -> Result<Option<Target>, NoMemory>
-    ensures { IfOk result (λ r. (xs : List Item) (names : kinds.Kind → List (List ℕ)) (f : AWord → ScopedWord) → IsKnown known.now xs names → BeginWith known.now xs f (said_of «module» term.now) words.now
+    ensures { IfOk result (λ r. (xs : List Item) (names : kinds.Kind → List (List ℕ)) (f : AWord → ScopedWord) → IsKnown known.now xs names → BeginWith known.now f (said_of «module» term.now) words.now
         → MatchOption r (HasTarget xs (enabled_in known.now) (term_with f «module» term.now) → ⊥)
         (λ target. HasTarget xs (enabled_in known.now) (term_with f «module» term.now)
         × IsTargetOf xs (enabled_in known.now) (names variants.Type_) (term_with f «module» term.now) target)) }

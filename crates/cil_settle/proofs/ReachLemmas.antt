@@ -28,7 +28,7 @@ both_hold : (a b : Bool) → a ≡ true → b ≡ true → (a && b) ≡ true
 both_hold true b e f = f
 both_hold false b e f = absurd (let c : false ≡ true = e in cc)
 
-equal_test : (a b : ℕ) → a ≡ b → (a == b) ≡ true
+pub equal_test : (a b : ℕ) → a ≡ b → (a == b) ≡ true
 equal_test a b e = grind (arith, nat_tests)
 
 -- a support that is lost comes from an edge

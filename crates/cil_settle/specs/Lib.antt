@@ -4,5 +4,6 @@ pub mod Laws
 pub mod Plain
 pub mod Reached
 pub mod Settled
+pub mod Spread
 pub mod Sums
 pub mod Walk

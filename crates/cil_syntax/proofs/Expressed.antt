@@ -55,10 +55,11 @@ module _ (text : List ℕ) (m : ℕ) (space : List ℕ) (n : nodes.Node) (place 
   pub unworded_told : (old : List Fault) → word_sign language ≡ None → Tells m space ((cell_of m (node_of text n)).read (expression language)) old old (Err OtherShape)
   unworded_told old e = subst (λ w. Tells m space w old old (Err OtherShape)) (sym (alone_read None every e refl)) ([], sym (append-nil old))
 
-  pub every_told : (sign : Sign) (r : Result rust.Term Stop) (old new : List Fault) → word_sign language ≡ Some sign → every ≡ true
-      → Tells m space (read_left_out (spot_of m place) ops.All (slice_range text place.start place.end)) old new r
-      → Tells m space ((cell_of m (node_of text n)).read (expression language)) old new r
-  every_told sign r old new e f told = subst (λ w. Tells m space w old new r) (sym (alone_read (Some sign) true e f)) told
+  pub every_told : (sign : Sign) (old : List Fault) (v : Vec rust.Term Global) → word_sign language ≡ Some sign → every ≡ true → v.items ≡ []
+      → Tells m space ((cell_of m (node_of text n)).read (expression language)) old old (Ok (variants.Form ops.All place.start v))
+  every_told sign old v e f empty =
+      subst (λ w. Tells m space w old old (Ok (variants.Form ops.All place.start v))) (sym (alone_read (Some sign) true e f))
+      (formed_told m space place.start ops.All (reads nil []) old old v (rw empty refl, sym (append-nil old)))
 
   pub sole_told : (sign : Sign) (r : Result rust.Term Stop) (old new : List Fault) → word_sign language ≡ Some sign → every ≡ false
       → Tells m space ((cell_of m (node_of text n)).read (looked_up sign)) old new r → Tells m space ((cell_of m (node_of text n)).read (expression language)) old new r

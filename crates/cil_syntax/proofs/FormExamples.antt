@@ -50,12 +50,12 @@ found_as k n = faults_by (by_entry at_top (spot_of 7 (span_of n)) [] (behind_fir
 -- `(typeattributeset x (or a b))`
 pub sets_1 : (found_as keywords.TypeAttributeSet (list 0 (next (word 1 (codes "typeattributeset")) (next (word 18 (codes "x")) (next (word 20 (codes "a")) none)))) ≡ [])
     × (found_as keywords.TypeAttributeSet (list 0 (next (word 1 (codes "typeattributeset")) (next (word 18 (codes "x")) (next (list 20 (next (word 21 (codes "a")) (next (word 23 (codes "b")) none))) none)))) ≡ [])
-    × (found_as keywords.TypeAttributeSet (list 0 (next (word 1 (codes "typeattributeset")) (next (word 18 (codes "x")) (next (word 20 (codes "all")) none)))) ≡ fault causes.Unsupported 20 (codes "all") ∷ [])
-    × (found_as keywords.TypeAttributeSet (list 0 (next (word 1 (codes "typeattributeset")) (next (word 18 (codes "x")) (next (list 20 (next (word 21 (codes "all")) none)) none)))) ≡ fault causes.Unsupported 21 (codes "all") ∷ [])
-    × (found_as keywords.TypeAttributeSet (list 0 (next (word 1 (codes "typeattributeset")) (next (word 18 (codes "x")) (next (list 20 (next (word 21 (codes "all")) (next (word 25 (codes "y")) none))) none)))) ≡ fault causes.Unsupported 21 (codes "all") ∷ [])
-    × (found_as keywords.TypeAttributeSet (list 0 (next (word 1 (codes "typeattributeset")) (next (word 18 (codes "x")) (next (list 20 (next (word 21 (codes "not")) (next (word 25 (codes "a")) none))) none)))) ≡ fault causes.Unsupported 21 (codes "not") ∷ [])
-    × (found_as keywords.TypeAttributeSet (list 0 (next (word 1 (codes "typeattributeset")) (next (word 18 (codes "x")) (next (list 20 (next (word 21 (codes "and")) (next (word 25 (codes "a")) (next (list 27 (next (word 28 (codes "not")) (next (word 32 (codes "b")) none))) none)))) none)))) ≡ fault causes.Unsupported 21 (codes "and") ∷ fault causes.Unsupported 28 (codes "not") ∷ [])
-    × (found_as keywords.TypeAttributeSet (list 0 (next (word 1 (codes "typeattributeset")) (next (word 18 (codes "x")) (next (list 20 (next (word 21 (codes "or")) (next (word 24 (codes "a")) (next (word 26 (codes "b")) none)))) none)))) ≡ fault causes.Unsupported 21 (codes "or") ∷ [])
+    × (found_as keywords.TypeAttributeSet (list 0 (next (word 1 (codes "typeattributeset")) (next (word 18 (codes "x")) (next (word 20 (codes "all")) none)))) ≡ [])
+    × (found_as keywords.TypeAttributeSet (list 0 (next (word 1 (codes "typeattributeset")) (next (word 18 (codes "x")) (next (list 20 (next (word 21 (codes "all")) none)) none)))) ≡ [])
+    × (found_as keywords.TypeAttributeSet (list 0 (next (word 1 (codes "typeattributeset")) (next (word 18 (codes "x")) (next (list 20 (next (word 21 (codes "all")) (next (word 25 (codes "y")) none))) none)))) ≡ [])
+    × (found_as keywords.TypeAttributeSet (list 0 (next (word 1 (codes "typeattributeset")) (next (word 18 (codes "x")) (next (list 20 (next (word 21 (codes "not")) (next (word 25 (codes "a")) none))) none)))) ≡ [])
+    × (found_as keywords.TypeAttributeSet (list 0 (next (word 1 (codes "typeattributeset")) (next (word 18 (codes "x")) (next (list 20 (next (word 21 (codes "and")) (next (word 25 (codes "a")) (next (list 27 (next (word 28 (codes "not")) (next (word 32 (codes "b")) none))) none)))) none)))) ≡ [])
+    × (found_as keywords.TypeAttributeSet (list 0 (next (word 1 (codes "typeattributeset")) (next (word 18 (codes "x")) (next (list 20 (next (word 21 (codes "or")) (next (word 24 (codes "a")) (next (word 26 (codes "b")) none)))) none)))) ≡ [])
 unfolding verdict_of cells_of cell_of read_row read_word read_string read_list rules containers types classes users entry_of set_aside_words later_words left_out_words heads first_words begins_with
 sets_1 = (refl, refl, refl, refl, refl, refl, refl, refl)
 
@@ -67,7 +67,7 @@ sets_1 = (refl, refl, refl, refl, refl, refl, refl, refl)
 -- `(typeattributeset x (and a))`
 -- `(typeattributeset x (and a b c))`
 -- `(typeattributeset x (a and b))`
-pub sets_2 : (found_as keywords.TypeAttributeSet (list 0 (next (word 1 (codes "typeattributeset")) (next (word 18 (codes "x")) (next (list 20 (next (word 21 (codes "xor")) (next (list 25 (next (word 26 (codes "a")) (next (word 28 (codes "b")) none))) (next (word 31 (codes "c")) none)))) none)))) ≡ fault causes.Unsupported 21 (codes "xor") ∷ [])
+pub sets_2 : (found_as keywords.TypeAttributeSet (list 0 (next (word 1 (codes "typeattributeset")) (next (word 18 (codes "x")) (next (list 20 (next (word 21 (codes "xor")) (next (list 25 (next (word 26 (codes "a")) (next (word 28 (codes "b")) none))) (next (word 31 (codes "c")) none)))) none)))) ≡ [])
     × (found_as keywords.TypeAttributeSet (list 0 (next (word 1 (codes "typeattributeset")) (next (word 18 (codes "x")) (next (list 20 none) none)))) ≡ [])
     × (found_as keywords.TypeAttributeSet (list 0 (next (word 1 (codes "typeattributeset")) (next (word 18 (codes "x")) (next (list 20 (next (word 21 (codes "and")) none)) none)))) ≡ fault causes.BadShape 0 (codes "typeattributeset") ∷ [])
     × (found_as keywords.TypeAttributeSet (list 0 (next (word 1 (codes "typeattributeset")) (next (word 18 (codes "x")) (next (list 20 (next (word 21 (codes "not")) none)) none)))) ≡ fault causes.BadShape 0 (codes "typeattributeset") ∷ [])
@@ -91,8 +91,8 @@ pub sets_3 : (found_as keywords.TypeAttributeSet (list 0 (next (word 1 (codes "t
     × (found_as keywords.TypeAttributeSet (list 0 (next (word 1 (codes "typeattributeset")) (next (word 18 (codes "x")) (next (list 20 (next (word 21 (codes "a")) (next (list 23 (next (word 24 (codes "b")) (next (list 26 (next (word 27 (codes "c")) (next (Quoted (record { start = 29; end = 32 }) (34 ∷ 100 ∷ 34 ∷ [])) none))) none))) none))) none)))) ≡ fault causes.BadShape 0 (codes "typeattributeset") ∷ [])
     × (found_as keywords.TypeAttributeSet (list 0 (next (word 1 (codes "typeattributeset")) (next (word 18 (codes "x")) (next (Quoted (record { start = 20; end = 23 }) (34 ∷ 97 ∷ 34 ∷ [])) none)))) ≡ fault causes.BadShape 0 (codes "typeattributeset") ∷ [])
     × (found_as keywords.TypeAttributeSet (list 0 (next (word 1 (codes "typeattributeset")) (next (word 18 (codes "x")) (next (word 20 (codes "b..c")) none)))) ≡ fault causes.BadName 20 (codes "b..c") ∷ [])
-    × (found_as keywords.RoleAttributeSet (list 0 (next (word 1 (codes "roleattributeset")) (next (word 18 (codes "x")) (next (list 20 (next (word 21 (codes "and")) (next (word 25 (codes "r1")) (next (word 28 (codes "r")) none)))) none)))) ≡ fault causes.Unsupported 21 (codes "and") ∷ fault causes.ReservedName 25 (codes "r1") ∷ [])
-    × (found_as keywords.UserAttributeSet (list 0 (next (word 1 (codes "userattributeset")) (next (word 18 (codes "x")) (next (list 20 (next (word 21 (codes "not")) (next (word 25 (codes ".a")) none))) none)))) ≡ fault causes.Unsupported 21 (codes "not") ∷ [])
+    × (found_as keywords.RoleAttributeSet (list 0 (next (word 1 (codes "roleattributeset")) (next (word 18 (codes "x")) (next (list 20 (next (word 21 (codes "and")) (next (word 25 (codes "r1")) (next (word 28 (codes "r")) none)))) none)))) ≡ fault causes.ReservedName 25 (codes "r1") ∷ [])
+    × (found_as keywords.UserAttributeSet (list 0 (next (word 1 (codes "userattributeset")) (next (word 18 (codes "x")) (next (list 20 (next (word 21 (codes "not")) (next (word 25 (codes ".a")) none))) none)))) ≡ [])
     × (found_as keywords.CategorySet (list 0 (next (word 1 (codes "categoryset")) (next (word 13 (codes "c")) (next (list 15 (next (word 16 (codes "range")) (next (word 22 (codes "a")) (next (word 24 (codes "b")) none)))) none)))) ≡ [])
 unfolding verdict_of cells_of cell_of read_row read_word read_string read_list rules containers types classes users entry_of set_aside_words later_words left_out_words heads first_words begins_with
 sets_3 = (refl, refl, refl, refl, refl, refl, refl, refl)
@@ -106,13 +106,13 @@ sets_3 = (refl, refl, refl, refl, refl, refl, refl, refl)
 -- `(allow a b (file (not read)))`
 -- `(allow a b (file (all)))`
 pub sets_4 : (found_as keywords.CategorySet (list 0 (next (word 1 (codes "categoryset")) (next (word 13 (codes "c")) (next (list 15 (next (word 16 (codes "range")) (next (word 22 (codes "a")) none))) none)))) ≡ fault causes.BadShape 0 (codes "categoryset") ∷ [])
-    × (found_as keywords.CategorySet (list 0 (next (word 1 (codes "categoryset")) (next (word 13 (codes "c")) (next (list 15 (next (list 16 (next (word 17 (codes "range")) (next (word 23 (codes "a")) (next (word 25 (codes "b")) none)))) (next (word 28 (codes "d")) (next (list 30 (next (word 31 (codes "not")) (next (word 35 (codes "all")) none))) none)))) none)))) ≡ fault causes.Unsupported 31 (codes "not") ∷ fault causes.Unsupported 35 (codes "all") ∷ [])
+    × (found_as keywords.CategorySet (list 0 (next (word 1 (codes "categoryset")) (next (word 13 (codes "c")) (next (list 15 (next (list 16 (next (word 17 (codes "range")) (next (word 23 (codes "a")) (next (word 25 (codes "b")) none)))) (next (word 28 (codes "d")) (next (list 30 (next (word 31 (codes "not")) (next (word 35 (codes "all")) none))) none)))) none)))) ≡ [])
     × (found_as keywords.CategorySet (list 0 (next (word 1 (codes "categoryset")) (next (word 13 (codes "c")) (next (list 15 (next (word 16 (codes "range")) (next (word 22 (codes "a")) (next (list 24 (next (word 25 (codes "b")) none)) none)))) none)))) ≡ fault causes.BadShape 0 (codes "categoryset") ∷ [])
     × (found_as keywords.CategorySet (list 0 (next (word 1 (codes "categoryset")) (next (word 13 (codes "c")) (next (list 15 (next (word 16 (codes "range")) (next (word 22 (codes "all")) (next (word 26 (codes "b")) none)))) none)))) ≡ fault causes.ReservedName 22 (codes "all") ∷ [])
-    × (found_as keywords.SensitivityCategory (list 0 (next (word 1 (codes "sensitivitycategory")) (next (word 21 (codes "s")) (next (list 23 (next (word 24 (codes "and")) (next (word 28 (codes "all")) (next (list 32 (next (word 33 (codes "range")) (next (word 39 (codes "x")) (next (word 41 (codes "y")) none)))) none)))) none)))) ≡ fault causes.Unsupported 24 (codes "and") ∷ fault causes.Unsupported 28 (codes "all") ∷ [])
-    × (found_as keywords.SensitivityCategory (list 0 (next (word 1 (codes "sensitivitycategory")) (next (word 21 (codes "s")) (next (word 23 (codes "all")) none)))) ≡ fault causes.Unsupported 23 (codes "all") ∷ [])
-    × (found (list 0 (next (word 1 (codes "allow")) (next (word 7 (codes "a")) (next (word 9 (codes "b")) (next (list 11 (next (word 12 (codes "file")) (next (list 17 (next (word 18 (codes "not")) (next (word 22 (codes "read")) none))) none))) none))))) ≡ fault causes.Unsupported 18 (codes "not") ∷ [])
-    × (found (list 0 (next (word 1 (codes "allow")) (next (word 7 (codes "a")) (next (word 9 (codes "b")) (next (list 11 (next (word 12 (codes "file")) (next (list 17 (next (word 18 (codes "all")) none)) none))) none))))) ≡ fault causes.Unsupported 18 (codes "all") ∷ [])
+    × (found_as keywords.SensitivityCategory (list 0 (next (word 1 (codes "sensitivitycategory")) (next (word 21 (codes "s")) (next (list 23 (next (word 24 (codes "and")) (next (word 28 (codes "all")) (next (list 32 (next (word 33 (codes "range")) (next (word 39 (codes "x")) (next (word 41 (codes "y")) none)))) none)))) none)))) ≡ [])
+    × (found_as keywords.SensitivityCategory (list 0 (next (word 1 (codes "sensitivitycategory")) (next (word 21 (codes "s")) (next (word 23 (codes "all")) none)))) ≡ [])
+    × (found (list 0 (next (word 1 (codes "allow")) (next (word 7 (codes "a")) (next (word 9 (codes "b")) (next (list 11 (next (word 12 (codes "file")) (next (list 17 (next (word 18 (codes "not")) (next (word 22 (codes "read")) none))) none))) none))))) ≡ [])
+    × (found (list 0 (next (word 1 (codes "allow")) (next (word 7 (codes "a")) (next (word 9 (codes "b")) (next (list 11 (next (word 12 (codes "file")) (next (list 17 (next (word 18 (codes "all")) none)) none))) none))))) ≡ [])
 unfolding verdict_of cells_of cell_of read_row read_word read_string read_list rules containers types classes users entry_of set_aside_words later_words left_out_words heads first_words begins_with
 sets_4 = (refl, refl, refl, refl, refl, refl, refl, refl)
 
@@ -124,9 +124,9 @@ sets_4 = (refl, refl, refl, refl, refl, refl, refl, refl)
 -- `(allow a b perm)`
 -- `(allow a b 1x)`
 -- `(allow a b all)`
-pub sets_5 : (found (list 0 (next (word 1 (codes "allow")) (next (word 7 (codes "a")) (next (word 9 (codes "b")) (next (list 11 (next (word 12 (codes "file")) (next (word 17 (codes "all")) none))) none))))) ≡ fault causes.Unsupported 17 (codes "all") ∷ [])
+pub sets_5 : (found (list 0 (next (word 1 (codes "allow")) (next (word 7 (codes "a")) (next (word 9 (codes "b")) (next (list 11 (next (word 12 (codes "file")) (next (word 17 (codes "all")) none))) none))))) ≡ [])
     × (found (list 0 (next (word 1 (codes "allow")) (next (word 7 (codes "a")) (next (word 9 (codes "b")) (next (list 11 (next (word 12 (codes "file")) (next (word 17 (codes "read")) none))) none))))) ≡ [])
-    × (found (list 0 (next (word 1 (codes "allow")) (next (word 7 (codes "a")) (next (word 9 (codes "b")) (next (list 11 (next (word 12 (codes "file")) (next (list 17 (next (word 18 (codes "and")) (next (list 22 (next (word 23 (codes "a")) (next (word 25 (codes "b")) none))) (next (list 28 (next (word 29 (codes "not")) (next (word 33 (codes "c")) none))) none)))) none))) none))))) ≡ fault causes.Unsupported 18 (codes "and") ∷ fault causes.Unsupported 29 (codes "not") ∷ [])
+    × (found (list 0 (next (word 1 (codes "allow")) (next (word 7 (codes "a")) (next (word 9 (codes "b")) (next (list 11 (next (word 12 (codes "file")) (next (list 17 (next (word 18 (codes "and")) (next (list 22 (next (word 23 (codes "a")) (next (word 25 (codes "b")) none))) (next (list 28 (next (word 29 (codes "not")) (next (word 33 (codes "c")) none))) none)))) none))) none))))) ≡ [])
     × (found (list 0 (next (word 1 (codes "allow")) (next (word 7 (codes "a")) (next (word 9 (codes "b")) (next (list 11 (next (word 12 (codes "file")) (next (list 17 (next (word 18 (codes "a.b")) none)) none))) none))))) ≡ fault causes.BadName 18 (codes "a.b") ∷ [])
     × (found (list 0 (next (word 1 (codes "allow")) (next (word 7 (codes "a")) (next (word 9 (codes "b")) (next (list 11 (next (word 12 (codes "file")) (next (list 17 (next (word 18 (codes "range")) (next (word 24 (codes "a")) (next (word 26 (codes "b")) none)))) none))) none))))) ≡ fault causes.ReservedName 18 (codes "range") ∷ [])
     × (found (list 0 (next (word 1 (codes "allow")) (next (word 7 (codes "a")) (next (word 9 (codes "b")) (next (word 11 (codes "perm")) none))))) ≡ fault causes.Unsupported 11 (codes "perm") ∷ [])
@@ -368,12 +368,12 @@ constraints_7 = (refl, refl, refl, refl, refl, refl)
 -- `(classcommon c k)`
 -- `(classmapping m p (c (q)))`
 -- `(classmapping m p cp)`
-pub statements_1 : (found_as keywords.Common (list 0 (next (word 1 (codes "common")) (next (word 8 (codes "k")) (next (list 10 (next (word 11 (codes "a")) (next (word 13 (codes "b")) none))) none)))) ≡ [])
-    × (found_as keywords.Common (list 0 (next (word 1 (codes "common")) (next (word 8 (codes "k")) (next (list 10 none) none)))) ≡ fault causes.BadShape 0 (codes "common") ∷ [])
+pub statements_1 : (found (list 0 (next (word 1 (codes "common")) (next (word 8 (codes "k")) (next (list 10 (next (word 11 (codes "a")) (next (word 13 (codes "b")) none))) none)))) ≡ [])
+    × (found (list 0 (next (word 1 (codes "common")) (next (word 8 (codes "k")) (next (list 10 none) none)))) ≡ fault causes.BadShape 0 (codes "common") ∷ [])
     × (found (list 0 (next (word 1 (codes "class")) (next (word 7 (codes "c")) (next (list 9 none) none)))) ≡ [])
     × (found_as keywords.ClassMap (list 0 (next (word 1 (codes "classmap")) (next (word 10 (codes "m")) (next (list 12 none) none)))) ≡ fault causes.BadShape 0 (codes "classmap") ∷ [])
     × (found_as keywords.ClassMap (list 0 (next (word 1 (codes "classmap")) (next (word 10 (codes "m")) (next (list 12 (next (word 13 (codes "a")) none)) none)))) ≡ [])
-    × (found_as keywords.ClassCommon (list 0 (next (word 1 (codes "classcommon")) (next (word 13 (codes "c")) (next (word 15 (codes "k")) none)))) ≡ [])
+    × (found (list 0 (next (word 1 (codes "classcommon")) (next (word 13 (codes "c")) (next (word 15 (codes "k")) none)))) ≡ [])
     × (found_as keywords.ClassMapping (list 0 (next (word 1 (codes "classmapping")) (next (word 14 (codes "m")) (next (word 16 (codes "p")) (next (list 18 (next (word 19 (codes "c")) (next (list 21 (next (word 22 (codes "q")) none)) none))) none))))) ≡ [])
     × (found_as keywords.ClassMapping (list 0 (next (word 1 (codes "classmapping")) (next (word 14 (codes "m")) (next (word 16 (codes "p")) (next (word 18 (codes "cp")) none))))) ≡ [])
 unfolding verdict_of cells_of cell_of read_row read_word read_string read_list rules containers types classes users entry_of set_aside_words later_words left_out_words heads first_words begins_with
@@ -541,7 +541,7 @@ statements_9 = (refl, refl, refl, refl, refl, refl, refl, refl)
 -- `(macro m ((typealias a)(bool b)(boolean c)(classmap d)(classpermission e)))`
 pub statements_10 : (found_as keywords.CategoryAliasActual (list 0 (next (word 1 (codes "categoryaliasactual")) (next (word 21 (codes "a")) (next (word 23 (codes "c")) none)))) ≡ [])
     × (found_as keywords.CategoryOrder (list 0 (next (word 1 (codes "categoryorder")) (next (list 15 (next (word 16 (codes "a")) none)) none))) ≡ [])
-    × (found_as keywords.CategorySet (list 0 (next (word 1 (codes "categoryset")) (next (word 13 (codes "c")) (next (list 15 (next (word 16 (codes "all")) none)) none)))) ≡ fault causes.Unsupported 16 (codes "all") ∷ [])
+    × (found_as keywords.CategorySet (list 0 (next (word 1 (codes "categoryset")) (next (word 13 (codes "c")) (next (list 15 (next (word 16 (codes "all")) none)) none)))) ≡ [])
     × (found_as keywords.AuditAllow (list 0 (next (word 1 (codes "auditallow")) (next (word 12 (codes "a")) (next (word 14 (codes "b")) (next (list 16 (next (word 17 (codes "c")) (next (list 19 (next (word 20 (codes "d")) none)) none))) none))))) ≡ [])
     × (found_as keywords.DontAudit (list 0 (next (word 1 (codes "dontaudit")) (next (word 11 (codes "a")) (next (word 13 (codes "b")) (next (word 15 (codes "p")) none))))) ≡ fault causes.Unsupported 15 (codes "p") ∷ [])
     × (found_as keywords.NeverAllow (list 0 (next (word 1 (codes "neverallow")) (next (word 12 (codes "a")) (next (word 14 (codes "self")) (next (list 19 (next (word 20 (codes "c")) (next (list 22 (next (word 23 (codes "d")) none)) none))) none))))) ≡ [])
@@ -571,8 +571,8 @@ pub names_1 : (found_as keywords.Constrain (list 0 (next (word 1 (codes "constra
     × (found_as keywords.Constrain (list 0 (next (word 1 (codes "constrain")) (next (word 11 (codes "1x")) (next (list 14 (next (word 15 (codes "eq")) (next (word 18 (codes "u1")) (next (word 21 (codes "1x")) none)))) none)))) ≡ fault causes.Unsupported 11 (codes "1x") ∷ fault causes.BadName 21 (codes "1x") ∷ [])
     × (found_as keywords.MlsConstrain (list 0 (next (word 1 (codes "mlsconstrain")) (next (word 14 (codes "p")) (next (list 16 (next (word 17 (codes "dom")) (next (word 21 (codes "r1")) (next (word 24 (codes "r2")) none)))) none)))) ≡ fault causes.Unsupported 14 (codes "p") ∷ fault causes.Unsupported 17 (codes "dom") ∷ [])
     × (found_as keywords.NeverAllow (list 0 (next (word 1 (codes "neverallow")) (next (word 12 (codes "a")) (next (word 14 (codes "b")) (next (word 16 (codes "p")) none))))) ≡ fault causes.Unsupported 16 (codes "p") ∷ [])
-    × (found_as keywords.ClassPermissionSet (list 0 (next (word 1 (codes "classpermissionset")) (next (word 20 (codes "p")) (next (list 22 (next (word 23 (codes "c")) (next (list 25 (next (word 26 (codes "not")) (next (word 30 (codes "a")) none))) none))) none)))) ≡ fault causes.Unsupported 26 (codes "not") ∷ [])
-    × (found_as keywords.ClassMapping (list 0 (next (word 1 (codes "classmapping")) (next (word 14 (codes "m")) (next (word 16 (codes "p")) (next (list 18 (next (word 19 (codes "c")) (next (word 21 (codes "all")) none))) none))))) ≡ fault causes.Unsupported 21 (codes "all") ∷ [])
+    × (found_as keywords.ClassPermissionSet (list 0 (next (word 1 (codes "classpermissionset")) (next (word 20 (codes "p")) (next (list 22 (next (word 23 (codes "c")) (next (list 25 (next (word 26 (codes "not")) (next (word 30 (codes "a")) none))) none))) none)))) ≡ [])
+    × (found_as keywords.ClassMapping (list 0 (next (word 1 (codes "classmapping")) (next (word 14 (codes "m")) (next (word 16 (codes "p")) (next (list 18 (next (word 19 (codes "c")) (next (word 21 (codes "all")) none))) none))))) ≡ [])
 unfolding verdict_of cells_of cell_of read_row read_word read_string read_list rules containers types classes users entry_of set_aside_words later_words left_out_words heads first_words begins_with
 names_1 = (refl, refl, refl, refl, refl, refl)
 
@@ -584,8 +584,8 @@ names_1 = (refl, refl, refl, refl, refl, refl)
 -- `(sensitivityaliasactual)`
 -- `(sensitivityorder)`
 -- `(sensitivitycategory)`
-pub later_1 : (found (list 0 (next (word 1 (codes "common")) none)) ≡ fault causes.Unsupported 0 (codes "common") ∷ [])
-    × (found (list 0 (next (word 1 (codes "classcommon")) none)) ≡ fault causes.Unsupported 0 (codes "classcommon") ∷ [])
+pub later_1 : (found (list 0 (next (word 1 (codes "common")) none)) ≡ fault causes.BadShape 0 (codes "common") ∷ [])
+    × (found (list 0 (next (word 1 (codes "classcommon")) none)) ≡ fault causes.BadShape 0 (codes "classcommon") ∷ [])
     × (found (list 0 (next (word 1 (codes "classmap")) none)) ≡ fault causes.Unsupported 0 (codes "classmap") ∷ [])
     × (found (list 0 (next (word 1 (codes "sensitivity")) none)) ≡ fault causes.Unsupported 0 (codes "sensitivity") ∷ [])
     × (found (list 0 (next (word 1 (codes "sensitivityalias")) none)) ≡ fault causes.Unsupported 0 (codes "sensitivityalias") ∷ [])
@@ -695,7 +695,7 @@ pub rows_1 : (found_as keywords.Boolean (list 0 (next (word 1 (codes "boolean"))
     × (found_as keywords.NeverAllow (list 0 (next (word 1 (codes "neverallow")) (next (word 12 (codes "b")) (next (word 14 (codes "a")) (next (list 16 (next (word 17 (codes "file")) (next (list 22 (next (word 23 (codes "open")) (next (word 28 (codes "read")) none))) none))) none))))) ≡ [])
     × (found_as keywords.SensitivityOrder (list 0 (next (word 1 (codes "sensitivityorder")) (next (list 18 (next (word 19 (codes "s0")) (next (word 22 (codes "s1")) none))) none))) ≡ [])
     × (found_as keywords.CategoryOrder (list 0 (next (word 1 (codes "categoryorder")) (next (list 15 (next (word 16 (codes "c0")) (next (word 19 (codes "c1")) (next (word 22 (codes "c2")) (next (word 25 (codes "c3")) none))))) none))) ≡ [])
-    × (found_as keywords.SensitivityCategory (list 0 (next (word 1 (codes "sensitivitycategory")) (next (word 21 (codes "s0")) (next (list 24 (next (word 25 (codes "all")) none)) none)))) ≡ fault causes.Unsupported 25 (codes "all") ∷ [])
+    × (found_as keywords.SensitivityCategory (list 0 (next (word 1 (codes "sensitivitycategory")) (next (word 21 (codes "s0")) (next (list 24 (next (word 25 (codes "all")) none)) none)))) ≡ [])
     × (found_as keywords.UserRange (list 0 (next (word 1 (codes "userrange")) (next (word 11 (codes "u")) (next (list 13 (next (list 14 (next (word 15 (codes "s0")) none)) (next (list 19 (next (word 20 (codes "s1")) (next (list 23 (next (word 24 (codes "range")) (next (word 30 (codes "c0")) (next (word 33 (codes "c3")) none)))) none))) none))) none)))) ≡ [])
     × (found_as keywords.MlsConstrain (list 0 (next (word 1 (codes "mlsconstrain")) (next (list 14 (next (word 15 (codes "file")) (next (list 20 (next (word 21 (codes "read")) none)) none))) (next (list 28 (next (word 29 (codes "dom")) (next (word 33 (codes "l1")) (next (word 36 (codes "l2")) none)))) none)))) ≡ [])
 unfolding verdict_of cells_of cell_of read_row read_word read_string read_list rules containers types classes users entry_of set_aside_words later_words left_out_words heads first_words begins_with
@@ -708,6 +708,6 @@ rows_1 = (refl, refl, refl, refl, refl, refl, refl, refl)
 pub rows_2 : (found_as keywords.TypeAttributeSet (list 0 (next (word 1 (codes "typeattributeset")) (next (word 18 (codes "cil_gen_require")) (next (word 34 (codes "foo_t")) none)))) ≡ [])
     × (found (list 0 (next (word 1 (codes "optional")) (next (word 10 (codes "foo_optional_2")) (next (list 25 (next (word 26 (codes "typeattributeset")) (next (word 43 (codes "cil_gen_require")) (next (word 59 (codes "bar_t")) none)))) (next (list 66 (next (word 67 (codes "allow")) (next (word 73 (codes "foo_t")) (next (word 79 (codes "bar_t")) (next (list 85 (next (word 86 (codes "file")) (next (list 91 (next (word 92 (codes "read")) none)) none))) none))))) none))))) ≡ [])
     × (found_as keywords.ClassMap (list 0 (next (word 1 (codes "classmap")) (next (word 10 (codes "m")) (next (list 12 (next (word 13 (codes "rw")) none)) none)))) ≡ [])
-    × (found_as keywords.ClassMapping (list 0 (next (word 1 (codes "classmapping")) (next (word 14 (codes "m")) (next (word 16 (codes "rw")) (next (list 19 (next (word 20 (codes "file")) (next (list 25 (next (word 26 (codes "all")) none)) none))) none))))) ≡ fault causes.Unsupported 26 (codes "all") ∷ [])
+    × (found_as keywords.ClassMapping (list 0 (next (word 1 (codes "classmapping")) (next (word 14 (codes "m")) (next (word 16 (codes "rw")) (next (list 19 (next (word 20 (codes "file")) (next (list 25 (next (word 26 (codes "all")) none)) none))) none))))) ≡ [])
 unfolding verdict_of cells_of cell_of read_row read_word read_string read_list rules containers types classes users entry_of set_aside_words later_words left_out_words heads first_words begins_with
 rows_2 = (refl, refl, refl, refl)

@@ -15,7 +15,7 @@ pub data Way : Type 0 where
   OddOf : Way
   RangeOf : Way
 
--- how the parts of a form are joined, by its operator. Those that stand in no expression have the way of a list
+-- how the parts of a form are joined, by its operator. `or` has the way of a list, and so have those that stand in no expression
 abbrev pub way_of : Op → Way
 way_of ops.All = Everything
 way_of ops.Not = Complement

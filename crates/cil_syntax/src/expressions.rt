@@ -148,9 +148,8 @@ impl<'r, 'a> Reader<'r, 'a> {
         let Some(sign) = language.word_sign() else {
             return Err(Stop::OtherShape);
         };
-        let word = bytes_at(self.text, span);
-        if is_every(language, word) {
-            return self.read_left_out(word, span.start, Op::All, faults);
+        if is_every(language, bytes_at(self.text, span)) {
+            return Ok(Term::Form(Op::All, span.start, Vec::new(self.alloc)));
         }
         self.read_looked_up(sign, node, faults)
     }

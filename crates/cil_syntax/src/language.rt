@@ -76,34 +76,6 @@ const XOR: Head = Head {
     behind: Behind::Two,
 };
 
-const SET_NOT: Head = Head {
-    words: &[b"not"],
-    op: Op::Not,
-    taken: false,
-    behind: Behind::One,
-};
-
-const SET_AND: Head = Head {
-    words: &[b"and"],
-    op: Op::And,
-    taken: false,
-    behind: Behind::Two,
-};
-
-const SET_OR: Head = Head {
-    words: &[b"or"],
-    op: Op::Or,
-    taken: false,
-    behind: Behind::Two,
-};
-
-const SET_XOR: Head = Head {
-    words: &[b"xor"],
-    op: Op::Xor,
-    taken: false,
-    behind: Behind::Two,
-};
-
 const RANGE: Head = Head {
     words: &[b"range"],
     op: Op::Range,
@@ -393,9 +365,9 @@ const INCOMP_L2: Head = Head {
     behind: WITH_L2,
 };
 
-const SETS: &[Head] = &[SET_NOT, SET_AND, SET_OR, SET_XOR];
+const SETS: &[Head] = &[NOT, AND, OR, XOR];
 
-const CATEGORY_SETS: &[Head] = &[SET_NOT, SET_AND, SET_OR, SET_XOR, RANGE];
+const CATEGORY_SETS: &[Head] = &[NOT, AND, OR, XOR, RANGE];
 
 const CONDITIONS: &[Head] = &[NOT, AND, OR, XOR, EQUAL, UNEQUAL];
 

@@ -7,9 +7,7 @@ ghost use Rattle.cil_syntax.specs.Table.{is_unsupported, later_words, left_out_w
 use crate::spelling;
 
 /// The statements that are to be supported, and are not yet.
-const LATER_WORDS: [&[u8]; 44] = [
-    b"common",
-    b"classcommon",
+const LATER_WORDS: [&[u8]; 42] = [
     b"classmap",
     b"sensitivity",
     b"sensitivityalias",

@@ -45,7 +45,7 @@ one_number : (names : List (List ℕ)) (n m : ℕ) (name : List ℕ) → IsStric
 one_number names n m name rising at bt = (number_is names name m bt rising).only n at
 
 pair_declared : (xs : List Item) (s : OptSet) (cp : Term ScopedWord) (c : Symbol) (p : List ℕ) → HasPair xs s cp c p → Declared xs s kinds.Class c
-pair_declared xs s cp c p (of_class at word expression d q stands has named) = stands.declared
+pair_declared xs s cp c p (of_class at word expression d q stands value) = stands.declared
 
 -- declared symbols whose qualified names are spelled alike are one
 abbrev pub HaveOneSymbol : List Item → OptSet → Type 0

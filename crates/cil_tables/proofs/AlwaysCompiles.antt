@@ -29,7 +29,7 @@ use Rattle.cil_tables.proofs.AgreesLemmas.{table_agrees}
 use Rattle.cil_tables.proofs.CompileLemmas.{IsFront, clash_fails, expand_fails, front_of, inherit_fails, nothing_wrong, widths_fail, words_fail}
 use Rattle.cil_tables.proofs.FlatLemmas.{AreFlat, one_flat}
 use Rattle.cil_tables.proofs.FlatPrograms.{flat_keyword, flat_statement, items_flat, without_optionals}
-use Rattle.cil_tables.proofs.FiniteFaults.{finite_clashes, finite_unresolved, finite_wide, step_outcome}
+use Rattle.cil_tables.proofs.FiniteFaults.{finite_clashes, finite_unresolved, finite_class, step_outcome}
 use Rattle.cil_tables.proofs.TablesExist.{tables}
 use Rattle.cil_tables.proofs.WideClasses.{few}
 
@@ -98,7 +98,7 @@ module _ (modules : List (List ℕ)) (program : List Written) (is_program : List
     | inl clash ↦ failed clash.0 (clash_fails modules items are_items front (Faults clash.0) clash.1)
     | inr apart ↦ elim (step_outcome (ResolveFault nobody items) (finite_unresolved items nobody)) [
       | inl lost ↦ failed lost.0 (words_fail modules items are_items front apart nobody greatest (Faults lost.0) lost.1)
-      | inr named ↦ elim (step_outcome (ClassFault nobody items) (finite_wide items nobody)) [
+      | inr named ↦ elim (step_outcome (ClassFault nobody items) (finite_class items nobody)) [
         | inl broad ↦ failed broad.0 (widths_fail modules items are_items front apart nobody greatest named (Faults broad.0) broad.1)
         | inr narrow ↦ without_faults apart named narrow
       ]

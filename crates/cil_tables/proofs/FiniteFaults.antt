@@ -1,9 +1,10 @@
 -- The faults of each step over items are finite, and so are the permissions of a class.
-use Rattle.std.specs.Prelude.{Contains, ◌&&◌}
+use Rattle.std.specs.Prelude.{Contains, None, Option, Some, ◌&&◌, ◌||◌}
 use Rattle.std.specs.Cmp.Lexicographic.{bytes_decides}
 use Rattle.std.specs.List.{list_any, flat_map}
+use Rattle.std.specs.Option.{option_map_or}
 use Rattle.std.proofs.Common.{◌≡◌, ◌⊎◌, ℕ, ◌<◌, true, false, List, [], length, refl, sym, ap, subst, inl, inr, arith}
-use Rattle.std.proofs.lemmas.Bool.{and_parts, cases_lt}
+use Rattle.std.proofs.lemmas.Bool.{and_parts, cases_lt, or_cases, true≢false}
 use Rattle.std.proofs.lemmas.Cmp.{nat_list_cmp_total}
 use Rattle.std.proofs.lemmas.Map.Lookups.{exact_bytes}
 use Rattle.cil_base.specs.Lists.{Lists, text_cmp, one_list}
@@ -13,7 +14,11 @@ use Rattle.cil_base.specs.Decided.{Decided, decided_both, decided_not, decided_s
 use Rattle.cil_faults.specs.declared.code.FaultCode.TheVariants as causes
 use Rattle.cil_faults.specs.declared.fault.Fault.{Fault}
 use Rattle.cil_syntax.specs.declared.kind.Keyword.TheVariants as keywords
+use Rattle.cil_syntax.specs.declared.kind.Sign.{Sign}
 use Rattle.cil_syntax.specs.declared.kind.Sign.TheVariants as signs
+use Rattle.cil_syntax.specs.Forms.{two_words}
+use Rattle.cil_syntax.specs.Scopes.{ScopedWord, asked}
+use Rattle.cil_faults.specs.Namespaces.{Namespace}
 use Rattle.cil_faults.specs.Fails.{AreFaults}
 use Rattle.cil_faults.specs.FaultOrder.{fault_cmp, fault_total, one_fault}
 use Rattle.cil_base.specs.Listing.{Listing}
@@ -25,12 +30,14 @@ use Rattle.cil_faults.specs.Reported.{fault_at}
 use Rattle.cil_syntax.proofs.DecidedEquality.{keyword_is, same_namespace}
 use Rattle.cil_names.proofs.DeclareDecided.{same_declaration, same_name_space}
 use Rattle.cil_names.specs.Declarations.{Declaration, declared_by, IsDeclaration, Clash, Symbol}
-use Rattle.cil_classes.specs.Faults.{ClassFault, wide}
+use Rattle.cil_classes.specs.Commons.{IsToldTwice}
+use Rattle.cil_classes.specs.Faults.{ClassFault, two_commons, wide}
 use Rattle.cil_names.specs.Faults.{ClashFault, clash, ResolveFault, unresolved}
 use Rattle.cil_macros.specs.Item.{Item, OptSet, everybody, nobody, is_enabled}
-use Rattle.cil_names.specs.Resolves.{fits, gives_permission, has_permission, is_judged, listed_permissions, resolves, told_word, Wanted, words_of}
+use Rattle.cil_names.specs.Resolves.{fits, found_in, gives_permission, has_permission, is_class_common, is_judged, listed_permissions, lists_named, lists_permission, names_outside, resolves, shares_permission, shares_words, told_word, Wanted, words_of}
 use Rattle.cil_classes.specs.Row.{most_permissions}
-use Rattle.cil_tables.proofs.Finite.{Finite, decided_where, finite_all, finite_given, finite_if, finite_list, finite_listing, finite_same, finite_where}
+use Rattle.cil_tables.proofs.Finite.{Finite, decided_where, finite_all, finite_either, finite_given, finite_if, finite_list, finite_listing, finite_same, finite_where}
+use Rattle.cil_tables.proofs.FiniteCommons.{finite_twice}
 use Rattle.cil_tables.proofs.FinitePolicy.{Front, finite_declarations, finite_front}
 
 -- ---- clashes
@@ -111,13 +118,32 @@ module _ (xs : List Item) where
   candidates : List (List ℕ)
   candidates = flat_map (λ x. listed_permissions x.args) xs
 
-  candidate : (c : Symbol) (p : List ℕ) → has_permission xs c p ≡ true → Contains candidates p
-  unfolding has_permission candidates
-  candidate c p e =
-      let x = any_true (gives_permission c p) xs e in
-      let parts = and_parts (is_enabled nobody x.0 && list_any (fits c.name signs.PlainClass c.space) (declared_by x.0)) (list_any (same_bytes p) (listed_permissions x.0.args)) x.2 in
+  listed_candidate : (sign : Sign) (c : Symbol) (p : List ℕ) → lists_permission xs sign c p ≡ true → Contains candidates p
+  unfolding lists_permission candidates
+  listed_candidate sign c p e =
+      let x = any_true (gives_permission sign c p) xs e in
+      let parts = and_parts (is_enabled nobody x.0 && list_any (fits c.name sign c.space) (declared_by x.0)) (list_any (same_bytes p) (listed_permissions x.0.args)) x.2 in
       let q = any_true (same_bytes p) (listed_permissions x.0.args) parts.1 in
       contains_flat (λ y. listed_permissions y.args) xs x.0 p x.1 (subst (Contains (listed_permissions x.0.args)) (sym ((bytes_decides p q.0).0 q.2)) q.1)
+
+  -- a permission of a common
+  shared_candidate : (c : Symbol) (p : List ℕ) (o : Option (ScopedWord × ScopedWord)) → shares_words xs c p o ≡ true → Contains candidates p
+  shared_candidate c p None e = absurd (true≢false (sym e))
+  shared_candidate c p (Some (v, k)) e = of_space (found_in xs nobody k) (and_parts (names_outside xs signs.PlainClass v c) (lists_named xs k p) e).1
+    where
+      of_space : (o : Option Namespace) → option_map_or (λ n. lists_permission xs signs.Commons (record { space = n; name = (asked k.bytes).name }) p) o false ≡ true → Contains candidates p
+      of_space None h = absurd (true≢false (sym h))
+      of_space (Some n) h = listed_candidate signs.Commons (record { space = n; name = (asked k.bytes).name }) p h
+
+  candidate : (c : Symbol) (p : List ℕ) → has_permission xs c p ≡ true → Contains candidates p
+  unfolding has_permission
+  candidate c p e =
+      elim (or_cases (lists_permission xs signs.Classes c p) (list_any (shares_permission xs c p) xs) e) [
+        | inl own ↦ listed_candidate signs.Classes c p own
+        | inr shared ↦
+            let x = any_true (shares_permission xs c p) xs shared in
+            shared_candidate c p (two_words x.0.args) (and_parts (is_enabled nobody x.0 && is_class_common x.0.keyword) (shares_words xs c p (two_words x.0.args)) x.2).1
+      ]
 
   pub finite_permissions : (c : Symbol) → Finite (λ p. has_permission xs c p ≡ true)
   finite_permissions c =
@@ -154,15 +180,20 @@ module _ (xs : List Item) where
         (λ p. x.args ≡ cons (Name p.0 p.1) p.2) (finite_front x.args)
         (λ p e. finite_if (IsWide (record { space = x.space; name = p.1 })) (fault_at causes.ClassWide p.0 x.space p.1) (decided_wide (record { space = x.space; name = p.1 }))))
 
-    pub finite_wide : Finite (ClassFault s xs)
-    finite_wide =
-        finite_same (λ f. (x : Item) × Contains xs x × Widens x f) (ClassFault s xs)
-        (λ f h. let p = h.2.1 in
-        subst (ClassFault s xs) p.2.0 (wide h.0 p.0.0 p.0.1 p.0.2 p.2.1.0 h.1 h.2.0.0 h.2.0.1 p.1 p.2.1.1 p.2.1.2)) parts
-        (finite_all Widens (Contains xs) (finite_list xs) (λ x c. finite_widens x))
+    pub finite_class : Finite (ClassFault s xs)
+    finite_class =
+        finite_same (λ f. ((x : Item) × Contains xs x × Widens x f) ⊎ IsToldTwice xs f) (ClassFault s xs) there parts
+        (finite_either (λ f. (x : Item) × Contains xs x × Widens x f) (IsToldTwice xs) (finite_all Widens (Contains xs) (finite_list xs) (λ x c. finite_widens x)) (finite_twice xs))
       where
-        parts : (f : Fault) → ClassFault s xs f → (x : Item) × Contains xs x × Widens x f
-        parts f (wide x at name rest permissions c on keyword says listed big) = (x, c, ((on, keyword), ((at, name, rest), says, (refl, (permissions, listed, big)))))
+        there : (f : Fault) → ((x : Item) × Contains xs x × Widens x f) ⊎ IsToldTwice xs f → ClassFault s xs f
+        there f (inl h) =
+            let p = h.2.1 in
+            subst (ClassFault s xs) p.2.0 (wide h.0 p.0.0 p.0.1 p.0.2 p.2.1.0 h.1 h.2.0.0 h.2.0.1 p.1 p.2.1.1 p.2.1.2)
+        there f (inr t) = two_commons t.0 f t.1 t.2
+
+        parts : (f : Fault) → ClassFault s xs f → ((x : Item) × Contains xs x × Widens x f) ⊎ IsToldTwice xs f
+        parts f (wide x at name rest permissions c on keyword says listed big) = inl (x, c, ((on, keyword), ((at, name, rest), says, (refl, (permissions, listed, big)))))
+        parts f (two_commons x g c h) = inr (x, c, h)
 
 -- ---- a step
 

@@ -1,6 +1,7 @@
 -- The sets that the definitions of a policy name are finite: what is declared, what words stand for, numbers, links and cases.
 use Rattle.std.specs.Prelude.{Contains, Option, Some, None, slice_get}
-use Rattle.std.proofs.Common.{◌≡◌, ◌⊎◌, ℕ, ◌<◌, true, List, length, refl, sym, ap, subst, inl, inr}
+use Rattle.std.proofs.Common.{◌≡◌, ◌⊎◌, ℕ, ◌<◌, true, List, length, refl, sym, ◌∙◌, ap, subst, inl, inr}
+use Rattle.std.proofs.lemmas.Bool.{and_parts}
 use Rattle.std.proofs.lemmas.Option.{none-some, same_Some, slice_get_within}
 use Rattle.cil_base.specs.Decided.{Decided, decided_both, decided_same, same_bool, same_text}
 use Rattle.cil_syntax.specs.Forms.{rule_form, two_words}
@@ -19,7 +20,9 @@ use Rattle.cil_names.proofs.MemberLemmas.{found_of, named_of, stands_by, wanted_
 use Rattle.cil_names.specs.Declarations.{Declaration, declared_by, IsDeclaration, object, by, object_role, Declared, Symbol, name_of}
 use Rattle.cil_macros.specs.Item.{Item, OptSet, is_enabled}
 use Rattle.cil_names.specs.Members.{StandsFor}
-use Rattle.cil_classes.specs.Pairs.{HasPair, of_class, names_of}
+use Rattle.cil_classes.specs.Pairs.{HasPair, of_class}
+use Rattle.cil_classes.specs.Values.{in_value, in_value_there}
+use Rattle.cil_classes.proofs.ValueLemmas.{value_there}
 use Rattle.cil_names.specs.Resolves.{found_in, has_permission}
 use Rattle.cil_syntax.specs.Kinds.{is_wanted}
 use Rattle.cil_tables.proofs.Finite.{Finite, decided_where, finite_all, finite_below, finite_either, finite_given, finite_image, finite_inverse, finite_list, finite_one, finite_same, finite_where, member}
@@ -228,37 +231,39 @@ module _ (xs : List Item) (s : OptSet) where
     expression : Term ScopedWord
     is : t ≡ Form at ops.ClassPermissions (cons (Leaf word) (cons expression nil))
     stands : StandsFor xs s kinds.Class word c
-    has : has_permission xs c p ≡ true
-    named : Contains (names_of expression) p
+    value : in_value (has_permission xs c) expression p ≡ true
 
   pair_parts : (t : Term ScopedWord) (c : Symbol) (p : List ℕ) → HasPair xs s t c p → PairBy t c p
-  pair_parts t c p (of_class at word expression d q stands has named) =
-      record { at = at; word = word; expression = expression; is = refl; stands = stands; has = has; named = named }
+  pair_parts t c p (of_class at word expression d q stands value) =
+      record { at = at; word = word; expression = expression; is = refl; stands = stands; value = value }
+
+  -- what the value of an expression has, the class has
+  has_of : (c : Symbol) (e : Term ScopedWord) (p : List ℕ) → in_value (has_permission xs c) e p ≡ true → has_permission xs c p ≡ true
+  has_of c e p value = (and_parts (has_permission xs c p) (in_value_there e p) (sym (value_there (has_permission xs c) e p) ∙ value)).0
 
   -- the class of a permission that is given is declared
   pub pair_class : (t : Term ScopedWord) (c : Symbol) (p : List ℕ) → HasPair xs s t c p → Declared xs s kinds.Class c
   pair_class t c p h = (pair_parts t c p h).stands.declared
 
   -- the classes of which a class permission gives a permission
-  pub finite_classes : (t : Term ScopedWord) → Finite (λ c. (p : List ℕ) × HasPair xs s t c p)
-  finite_classes t =
+  pub finite_classes : ((c : Symbol) → Finite (λ p. has_permission xs c p ≡ true)) → (t : Term ScopedWord) → Finite (λ c. (p : List ℕ) × HasPair xs s t c p)
+  finite_classes permissions t =
       finite_same
       (λ c. (g : Given) × (t ≡ Form g.0 ops.ClassPermissions (cons (Leaf g.1) (cons g.2 nil)))
-      × (StandsFor xs s kinds.Class g.1 c × ((p : List ℕ) × Contains (names_of g.2) p × (has_permission xs c p ≡ true))))
+      × (StandsFor xs s kinds.Class g.1 c × ((p : List ℕ) × (has_permission xs c p ≡ true) × (in_value (has_permission xs c) g.2 p ≡ true))))
       (λ c. (p : List ℕ) × HasPair xs s t c p)
-      (λ c h. (h.2.1.0, subst (λ u. HasPair xs s u c h.2.1.0) (sym h.1) (of_class h.0.0 h.0.1 h.0.2 c h.2.1.0 h.2.0 h.2.1.2 h.2.1.1)))
-      (λ c h. let b = pair_parts t c h.0 h.1 in ((b.at, b.word, b.expression), b.is, (b.stands, (h.0, b.named, b.has))))
-      (finite_all (λ g c. StandsFor xs s kinds.Class g.1 c × ((p : List ℕ) × Contains (names_of g.2) p × (has_permission xs c p ≡ true)))
+      (λ c h. (h.2.1.0, subst (λ u. HasPair xs s u c h.2.1.0) (sym h.1) (of_class h.0.0 h.0.1 h.0.2 c h.2.1.0 h.2.0 h.2.1.2)))
+      (λ c h. let b = pair_parts t c h.0 h.1 in ((b.at, b.word, b.expression), b.is, (b.stands, (h.0, has_of c b.expression h.0 b.value, b.value))))
+      (finite_all (λ g c. StandsFor xs s kinds.Class g.1 c × ((p : List ℕ) × (has_permission xs c p ≡ true) × (in_value (has_permission xs c) g.2 p ≡ true)))
       (λ g. t ≡ Form g.0 ops.ClassPermissions (cons (Leaf g.1) (cons g.2 nil))) (finite_parts t)
-      (λ g is. finite_where (StandsFor xs s kinds.Class g.1) (λ c. (p : List ℕ) × Contains (names_of g.2) p × (has_permission xs c p ≡ true)) (finite_stands kinds.Class g.1)
-      (λ c st. decided_where (Contains (names_of g.2)) (λ p. has_permission xs c p ≡ true) (finite_list (names_of g.2)) (λ p n. same_bool (has_permission xs c p) true))))
+      (λ g is. finite_where (StandsFor xs s kinds.Class g.1) (λ c. (p : List ℕ) × (has_permission xs c p ≡ true) × (in_value (has_permission xs c) g.2 p ≡ true)) (finite_stands kinds.Class g.1)
+      (λ c st. decided_where (λ p. has_permission xs c p ≡ true) (λ p. in_value (has_permission xs c) g.2 p ≡ true) (permissions c) (λ p has. same_bool (in_value (has_permission xs c) g.2 p) true))))
 
   pub decided_pair : (t : Term ScopedWord) (c : Symbol) (p : List ℕ) → Decided (HasPair xs s t c p)
   decided_pair t c p =
       decided_same
-      (λ h. subst (λ u. HasPair xs s u c p) (sym h.1) (of_class h.0.0 h.0.1 h.0.2 c p h.2.0 h.2.1.0 h.2.1.1))
-      (λ h. let b = pair_parts t c p h in ((b.at, b.word, b.expression), b.is, (b.stands, (b.has, b.named))))
+      (λ h. subst (λ u. HasPair xs s u c p) (sym h.1) (of_class h.0.0 h.0.1 h.0.2 c p h.2.0 h.2.1))
+      (λ h. let b = pair_parts t c p h in ((b.at, b.word, b.expression), b.is, (b.stands, b.value)))
       (decided_where (λ g. t ≡ Form g.0 ops.ClassPermissions (cons (Leaf g.1) (cons g.2 nil)))
-      (λ (g : Given). StandsFor xs s kinds.Class g.1 c × ((has_permission xs c p ≡ true) × Contains (names_of g.2) p)) (finite_parts t)
-      (λ g is. decided_both (member (StandsFor xs s kinds.Class g.1) (finite_stands kinds.Class g.1) same_symbol c)
-      (decided_both (same_bool (has_permission xs c p) true) (member (Contains (names_of g.2)) (finite_list (names_of g.2)) same_text p))))
+      (λ (g : Given). StandsFor xs s kinds.Class g.1 c × (in_value (has_permission xs c) g.2 p ≡ true)) (finite_parts t)
+      (λ g is. decided_both (member (StandsFor xs s kinds.Class g.1) (finite_stands kinds.Class g.1) same_symbol c) (same_bool (in_value (has_permission xs c) g.2 p) true)))

@@ -18,6 +18,7 @@ use Rattle.cil_syntax.specs.Scopes.{ScopedWord}
 use Rattle.cil_names.specs.Members.{StandsFor}
 use Rattle.cil_classes.specs.Pairs.{HasPair}
 use Rattle.cil_tables.proofs.Finite.{Finite, decided_some, finite_all, finite_given, finite_list, finite_one, finite_same}
+use Rattle.cil_tables.proofs.FiniteFaults.{finite_permissions}
 use Rattle.cil_tables.proofs.FinitePolicy.{Three, finite_classes, finite_numbers, finite_stands, finite_three, finite_two}
 
 module _ (xs : List Item) (s : OptSet) (keyword : Keyword) where
@@ -115,7 +116,7 @@ module _ (xs : List Item) (s : OptSet) (keyword : Keyword) where
       (λ q. x.args ≡ cons (Leaf q.0) (cons q.1 (cons q.2 nil))) (finite_three x.args)
       (λ q e. finite_given (Reaches q) (λ k. (c : Symbol) × ((p : List ℕ) × HasPair xs s q.2 c p) × (case_of q c ≡ k))
       (decided_both (decided_some (StandsFor xs s kinds.Type_ q.0) (finite_stands xs s kinds.Type_ q.0)) (decided_target q.1))
-      (finite_all (λ c k. case_of q c ≡ k) (λ c. (p : List ℕ) × HasPair xs s q.2 c p) (finite_classes xs s q.2) (λ c h. finite_one (case_of q c)))))
+      (finite_all (λ c k. case_of q c ≡ k) (λ c. (p : List ℕ) × HasPair xs s q.2 c p) (finite_classes xs s (finite_permissions xs) q.2) (λ c h. finite_one (case_of q c)))))
 
   pub finite_cases : Finite (IsCase xs s keyword)
   unfolding case_of

@@ -3,6 +3,7 @@ pub mod AlwaysCompiles
 pub mod CompileLemmas
 pub mod FamilyExists
 pub mod Finite
+pub mod FiniteCommons
 pub mod FiniteFaults
 pub mod FinitePolicy
 pub mod FiniteRecords

@@ -15,9 +15,8 @@ use Rattle.cil_syntax.specs.Scopes.{ScopedWord}
 use Rattle.cil_names.specs.declared.known.Known.{Known}
 use Rattle.cil_tables.specs.declared.tables.Link.{Link}
 use Rattle.cil_tables.specs.Links.{IsLink, LinkBy}
-use Rattle.cil_names.specs.Known.{IsNumbered, IsNumberFor, StandsForNothing, enabled_in, meant_in, row_in}
+use Rattle.cil_names.specs.Known.{IsNumbered, IsNumberFor, StandsForNothing, enabled_in, meant_in, row_in, value_in}
 use Rattle.cil_names.specs.Members.{StandsFor}
-use Rattle.cil_names.specs.PermissionWords.{wanted_meaning}
 use Rattle.cil_names.specs.Resolves.{Word as AWord, all_wanted_in, wanted_in}
 use Rattle.cil_base.specs.Records.{AreRecordsOf, IsRecordOf}
 use Rattle.cil_tables.specs.Table.{link_cmp, same_ends}
@@ -47,12 +46,12 @@ module _ (xs : List Item) (k : Known) (keyword : Keyword) (holder_kind held_kind
       is_two : x.args ≡ cons (Leaf (f first)) (cons (Leaf (f second)) nil)
       is_two = says ∙ ap (all_replaced (λ at. at) f) said ∙ pair_across f first second
 
-      module _ (words : List (Option ℕ)) (are : words ≡ row_in k xs x) where
+      module _ (words : List (Option ℕ)) (are : words ≡ row_in k x) where
         both_meant : words ≡ meant_in k (f first) ∷ meant_in k (f second) ∷ []
         both_meant =
             are
-            ∙ ap (λ ts. map (wanted_meaning k.lookup.namespaces.now k.lookup.names.now xs (enabled_in k)) (all_wanted_in ts)) is_two
-            ∙ ap (map (wanted_meaning k.lookup.namespaces.now k.lookup.names.now xs (enabled_in k))) (two_wanted (f first) (f second))
+            ∙ ap (λ ts. map (value_in k) (all_wanted_in ts)) is_two
+            ∙ ap (map (value_in k)) (two_wanted (f first) (f second))
 
         pub first_means : (r : Option ℕ) → r ≡ get_or words 0 None → r ≡ meant_in k (f first)
         first_means r e = e ∙ ap (λ ws. get_or ws 0 None) both_meant

@@ -20,11 +20,13 @@ use crate::links::{Joins, links_of};
 use crate::tables::Tables;
 use cil_base::{Bytes, Names, NoMemory};
 use cil_blocks::{Spaces, inherit};
-use cil_classes::{check_widths, class_rows};
+use cil_classes::{check_classes, class_rows};
 use cil_faults::Failure;
 use cil_macros::{Instances, expand};
 use cil_modset::ModuleSet;
-use cil_names::{Known, Lookup, Numbering, Sections, Words, declare, numbered, permissions_of};
+use cil_names::{
+    Known, Lookup, Numbering, Sections, Words, commons_of, declare, numbered, permissions_of,
+};
 use cil_optionals::{
     Chosen, OptionalLine, Reason, WhyLine, greatest_of, optional_lines, why_lines,
 };
@@ -91,7 +93,8 @@ fn placed_policy(alloc: Global, instances: &Instances) -> Result<Compiled, Failu
     ensures faults { IfErr result (ItemsFail (items_in instances.now)) }
 {
     let names = declare(alloc, instances)?;
-    let permissions = permissions_of(alloc, &names, instances)?;
+    let shared = commons_of(alloc, &names, instances)?;
+    let permissions = permissions_of(alloc, &names, instances, shared.as_slice())?;
     let permissions = permissions.as_slice();
     let asks = asks_of(alloc, &names, permissions, &*instances)?;
     let chosen = greatest_of(alloc, &*instances, &names, &asks)?;
@@ -102,7 +105,7 @@ fn placed_policy(alloc: Global, instances: &Instances) -> Result<Compiled, Failu
         enabled: &chosen.enabled,
     };
     let words = settled(alloc, &names, &asks, &chosen.enabled)?;
-    check_widths(alloc, &lookup, permissions, instances)?;
+    check_classes(alloc, &lookup, permissions, instances)?;
     let tables = tables_of(alloc, instances, &lookup, &words, permissions)?;
     let optionals = optional_lines(alloc, instances, &chosen.enabled)?;
     let reasons = why_lines(alloc, instances, chosen.reasons.as_slice())?;
@@ -129,7 +132,7 @@ fn tables_of(
     requires entries { AreEntries lookup.now.namespaces.now (items_in instances.now) lookup.now.names.now }
     requires permissions { ArePermissions lookup.now.namespaces.now lookup.now.names.now (items_in instances.now) permissions.now }
     requires plain { ArePlainNames lookup.now.namespaces.now lookup.now.names.now }
-    requires table { IsTableOf (map (meanings lookup.now.namespaces.now lookup.now.names.now (items_in instances.now) (is_in lookup.now.enabled.now)) (items_in instances.now)) words.now }
+    requires table { IsTableOf (map (meanings lookup.now.namespaces.now lookup.now.names.now permissions.now (is_in lookup.now.enabled.now)) (items_in instances.now)) words.now }
     requires few { (f : Fault) → ClassFault (is_in lookup.now.enabled.now) (items_in instances.now) f → ⊥ }
     ensures { IfOk result (IsTable (items_in instances.now) (is_in lookup.now.enabled.now)) }
 {
@@ -141,6 +144,7 @@ fn tables_of(
         lookup: *lookup,
         words,
         numbers: numbering.numbers.as_slice(),
+        permissions,
     };
     let user_roles = links_of(alloc, instances, &known, USER_ROLES)?;
     let role_types = links_of(alloc, instances, &known, ROLE_TYPES)?;

@@ -39,7 +39,7 @@ pub(crate) fn links_of(
     known: &Known,
     joins: Joins,
 ) -> Result<Links, NoMemory>
-    requires table { IsTableOf (map (row_in known.now (items_in instances.now)) (items_in instances.now)) known.now.words.now }
+    requires table { IsTableOf (map (row_in known.now) (items_in instances.now)) known.now.words.now }
     requires written { says_as_written joins.keyword ≡ true }
     requires holders { has_section joins.holder_kind ≡ true }
     requires helds { has_section joins.held_kind ≡ true }
@@ -67,7 +67,7 @@ fn link_of(
     requires written { says_as_written joins.keyword ≡ true }
     requires holders { has_section joins.holder_kind ≡ true }
     requires helds { has_section joins.held_kind ≡ true }
-    ensures { (xs : List Item) (names : kinds.Kind → List (List ℕ)) → IsKnown known.now xs names → words.now ≡ row_in known.now xs (item_at instances.now at)
+    ensures { (xs : List Item) (names : kinds.Kind → List (List ℕ)) → IsKnown known.now xs names → words.now ≡ row_in known.now (item_at instances.now at)
         → IsRecordOf (LinkBy xs (enabled_in known.now) joins.keyword joins.holder_kind joins.held_kind (names joins.holder_kind) (names joins.held_kind)) ◌≡◌
         (item_at instances.now at) result }
 {

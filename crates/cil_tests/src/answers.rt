@@ -1,13 +1,24 @@
 //! Module texts that several files use, and what tests ask of all that is placed in modules with blocks and macros.
 
+ghost use Rattle.std.specs.Prelude.{IfOk};
+ghost use Rattle.cil_macros.specs.Items.{items_in, namespaces_in};
+ghost use Rattle.cil_names.specs.Entries.{AreEntries};
+ghost use Rattle.cil_names.specs.Unresolved.{ArePermissions};
+
+use cil_base::NoMemory;
 use cil_blocks::spelled::spelled;
 use cil_blocks::{Namespaces, Spaces, inherit};
 use cil_macros::{Instances, expand};
 use cil_modset::ModuleSet;
-use cil_names::Entry;
-use cil_syntax::{Program, written};
+use cil_names::{Entry, Names, commons_of, permissions_of};
+use cil_syntax::{Bytes, FaultList, Program, render, written};
 use cil_text_tests::set_of;
 use std::alloc::Global;
+
+/// The lines of faults.
+pub(crate) fn lines(alloc: Global, faults: &FaultList) -> Option<String> {
+    String::from_utf8(render(alloc, faults).ok()?).ok()
+}
 
 /// A question about all that is placed.
 pub(crate) trait Question {
@@ -50,6 +61,20 @@ pub(crate) fn row_holds<Q: Question>(alloc: Global, row: &str, question: &Q) -> 
         Some((text, want)) => is_answer(alloc, &[text], question, want),
         None => false,
     }
+}
+
+/// The permissions of all classes, with those of their commons.
+pub(crate) fn class_permissions(
+    alloc: Global,
+    names: &Names,
+    instances: &Instances,
+) -> Result<Vec<Vec<Bytes>>, NoMemory>
+    requires { AreEntries (namespaces_in instances.now) (items_in instances.now) names.now }
+    ensures { IfOk result (λ lists. ArePermissions (namespaces_in instances.now) names.now (items_in instances.now) lists.items) }
+{
+    let shared = commons_of(alloc, names, instances)?;
+    let permissions = permissions_of(alloc, names, instances, shared.as_slice())?;
+    Ok(permissions)
 }
 
 /// Adds the kind and the qualified name of an entry.

@@ -11,6 +11,8 @@ mod asked_words;
 #[cfg(test)]
 mod bodies;
 #[cfg(test)]
+mod candidates;
+#[cfg(test)]
 mod decisions;
 #[cfg(test)]
 mod growths;

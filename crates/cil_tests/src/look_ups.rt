@@ -13,7 +13,7 @@ const SPACES: &[(usize, &[u8])] = &[(0, b"p"), (0, b"r"), (1, b"q")];
 pub(crate) type Declared = (usize, &'static [u8], Kind, &'static [&'static [usize]]);
 
 /// Declared names, in order.
-const DECLARED: &[Declared] = &[
+pub(crate) const DECLARED: &[Declared] = &[
     (0, b"o", Kind::Type_, &[]),
     (1, b"o", Kind::Type_, &[&[0]]),
     (0, b"x", Kind::Type_, &[]),
@@ -25,7 +25,7 @@ const DECLARED: &[Declared] = &[
     (3, b"z", Kind::Class, &[]),
 ];
 
-type Spaces = Namespaces<'static>;
+pub(crate) type Spaces = Namespaces<'static>;
 /// The number of a namespace, which is added if it is not there.
 fn number(spaces: &mut Spaces, outer: usize, name: &'static [u8]) -> Result<usize, Fail> {
     if outer > spaces.len() {
@@ -230,38 +230,6 @@ fn one_name_in_a_hundred_namespaces(rt: HostRuntime) -> Result<(), Fail> {
     for &(scope, sign, wanted) in IN_EACH {
         let got = named_in_each(rt.alloc(), scope, sign)?;
         assert_eq!(rt; got, Some(wanted), "{scope:?}");
-    }
-    Ok(())
-}
-
-/// The numbers of the declared names that a word could name in a scope, whatever is enabled.
-fn could_name(alloc: Global, word: &Word<'static>, scope: &[usize]) -> Result<Vec<usize>, Fail> {
-    let spaces = spaces(alloc)?;
-    let names = Names::checked(alloc, &spaces, entries(alloc, DECLARED)?)?.ok_or(
-        "they do not rise",
-    )?;
-    if !are_numbers(&spaces, scope) {
-        return Err(Fail::from("no namespace"));
-    }
-    Ok(names.candidates(alloc, &spaces, word, scope)?)
-}
-
-/// A word, what it wants, its scope, and the numbers of the declared names that it could name.
-const CANDIDATES: &[(&[u8], Sign, &[usize], &[usize])] = &[
-    (b"x", Sign::Types, &[1, 2, 0], &[3, 4, 2]),
-    (b"x", Sign::Types, &[3, 2, 1, 0], &[5, 4, 3, 2]),
-    (b".x", Sign::Types, &[1, 2, 0], &[2]),
-    (b"o", Sign::Types, &[1, 0], &[1, 0]),
-    (b"p.q.x", Sign::Types, &[1, 0], &[5]),
-    (b"x", Sign::Roles, &[1, 2, 0], &[6]),
-    (b"x", Sign::Permission, &[1, 2, 0], &[]),
-];
-
-#[test]
-fn candidates_are_there_whatever_is_enabled(rt: HostRuntime) -> Result<(), Fail> {
-    for &(bytes, sign, scope, wanted) in CANDIDATES {
-        let got = could_name(rt.alloc(), &word(bytes, sign), scope)?;
-        assert_eq!(rt; got.as_slice(), wanted);
     }
     Ok(())
 }

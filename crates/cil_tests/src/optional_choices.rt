@@ -1,13 +1,12 @@
 //! Choices of optionals, right and wrong: what `check` says of them, and that what is chosen is right.
 
-use crate::answers::{FIRST, Question, is_answer};
+use crate::answers::{FIRST, Question, class_permissions, is_answer, lines};
 use cil_macros::Instances;
-use cil_names::{OptSet, declare, permissions_of};
+use cil_names::{OptSet, declare};
 use cil_optionals::guesses::guess;
 use cil_optionals::laws::greatest_in_rounds;
 use cil_optionals::{Chosen, Reason, base_faults, check, greatest_counted};
 use cil_syntax::Failure;
-use cil_text_tests::lines;
 use std::alloc::Global;
 use std::test::Fail;
 
@@ -131,7 +130,7 @@ impl Question for Checked {
         let Ok(names) = declare(alloc, instances) else {
             return None;
         };
-        let Ok(permissions) = permissions_of(alloc, &names, instances) else {
+        let Ok(permissions) = class_permissions(alloc, &names, instances) else {
             return None;
         };
         let permissions = permissions.as_slice();
@@ -169,7 +168,7 @@ impl Question for Picked {
         let Ok(names) = declare(alloc, instances) else {
             return None;
         };
-        let Ok(permissions) = permissions_of(alloc, &names, instances) else {
+        let Ok(permissions) = class_permissions(alloc, &names, instances) else {
             return None;
         };
         let permissions = permissions.as_slice();
@@ -187,7 +186,7 @@ impl Question for Guessed {
         let Ok(names) = declare(alloc, instances) else {
             return None;
         };
-        let Ok(permissions) = permissions_of(alloc, &names, instances) else {
+        let Ok(permissions) = class_permissions(alloc, &names, instances) else {
             return None;
         };
         let permissions = permissions.as_slice();
@@ -206,7 +205,7 @@ impl Question for InRounds {
         let Ok(names) = declare(alloc, instances) else {
             return None;
         };
-        let Ok(permissions) = permissions_of(alloc, &names, instances) else {
+        let Ok(permissions) = class_permissions(alloc, &names, instances) else {
             return None;
         };
         let rounds = greatest_in_rounds(alloc, &*instances, &names, permissions.as_slice()).ok()?;
@@ -302,7 +301,7 @@ impl Question for Judged {
         let Ok(names) = declare(alloc, instances) else {
             return None;
         };
-        let Ok(permissions) = permissions_of(alloc, &names, instances) else {
+        let Ok(permissions) = class_permissions(alloc, &names, instances) else {
             return None;
         };
         let permissions = permissions.as_slice();

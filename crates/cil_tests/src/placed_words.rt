@@ -5,25 +5,24 @@ ghost use Rattle.cil_macros.specs.Items.{items_in};
 ghost use Rattle.cil_names.specs.Entries.{AreEntries};
 ghost use Rattle.std.specs.Prelude.{◌<◌, length};
 
-use crate::answers::{Question, is_answer, row_holds, show_entry};
+use crate::answers::{Question, class_permissions, is_answer, lines, row_holds, show_entry};
 use crate::look_ups::word;
 use cil_blocks::Namespaces;
 use cil_macros::Instances;
-use cil_names::{Meaning, Names, OptSet, Words, are_numbers, declare, permissions_of, word_asked};
+use cil_names::{Meaning, Names, OptSet, Words, are_numbers, declare, word_asked};
 use cil_syntax::{Failure, Sign};
-use cil_text_tests::lines;
 use cil_words::{Asks, asks_of, judged, settled};
 use std::alloc::Global;
 
 /// What the words of modules without optionals name, or all faults. None where it cannot be shown, for want of memory.
 fn named(alloc: Global, instances: &Instances) -> Result<Option<String>, Failure> {
     let names = declare(alloc, instances)?;
-    let permissions = permissions_of(alloc, &names, instances)?;
+    let permissions = class_permissions(alloc, &names, instances)?;
     let enabled = OptSet::of(Vec::new(alloc));
     let asks = asks_of(alloc, &names, permissions.as_slice(), &*instances)?;
     judged(alloc, &*instances, &names, &asks, &enabled)?;
     let words = settled(alloc, &names, &asks, &enabled)?;
-    Ok(shown(alloc, instances, &names, &words))
+    Ok(shown(alloc, instances, &names, &asks, &words))
 }
 
 /// The same, or the lines of the faults.
@@ -39,12 +38,19 @@ impl Question for NamedWords {
     }
 }
 
-/// For each statement with words, in order, the entries that these name, or `-`, in brackets with commas between.
-fn shown(alloc: Global, instances: &Instances, names: &Names, words: &Words) -> Option<String> {
+/// For each statement with words, in order, the entries that these name, or the numbers of permissions, or `-`, in brackets with
+/// commas between.
+fn shown(
+    alloc: Global,
+    instances: &Instances,
+    names: &Names,
+    asks: &Asks,
+    words: &Words,
+) -> Option<String> {
     let spaces = instances.namespaces();
     let mut out = String::new(alloc);
     for at in 0..instances.len() {
-        show_row(alloc, &mut out, spaces, names, words.row(at))?;
+        show_row(alloc, &mut out, spaces, names, asks, at, words.row(at))?;
     }
     Some(out)
 }
@@ -55,12 +61,20 @@ fn show_row(
     out: &mut String,
     spaces: &Namespaces,
     names: &Names,
+    asks: &Asks,
+    at: usize,
     row: &[Meaning],
 ) -> Option<()> {
     for (i, word) in row.iter().enumerate() {
         write!(out, "{}", if i > 0 { ", " } else { "[" }).ok()?;
         match word.entry() {
-            Some(d) => show_entry(alloc, out, spaces, names.entries().get(d)?)?,
+            Some(value) => {
+                if asks.number(at, i).is_some() {
+                    write!(out, "{value}").ok()?;
+                } else {
+                    show_entry(alloc, out, spaces, names.entries().get(value)?)?;
+                }
+            }
             None => write!(out, "-").ok()?,
         }
     }
@@ -72,7 +86,10 @@ fn show_row(
 
 /// Texts, and behind arrows what their words name, or the faults: of declarations that differ, and of words that name nothing.
 const NAMED: &[&str] = &[
-    "(class c (q p))(macro m ((type x)) (allow x self (c (p q))))(type a)(call m (a)) => [Macro m, Type_ a][Type_ a, Class c, Class c, Class c]",
+    "(class c (q p))(macro m ((type x)) (allow x self (c (p q))))(type a)(call m (a)) => [Macro m, Type_ a][Type_ a, Class c, 0, 1]",
+    // A class has the permissions of the commons that are joined to it.
+    "(class c (q))(common c (x))(classcommon c c)(type a)(allow a self (c (q x))) => [Class c, Common c][Type_ a, Class c, 0, 1]",
+    "(class c (q))(common c (x))(type a)(allow a self (c (q x))) => 41 0 55 . x\n",
     "(class w (p))(class w (q)) => 36 0 7 . w\n36 0 20 . w\n",
     "(class c (q))(macro m ((type x)) (allow x self (c (p))))(block p (call m (b))) => 41 0 51 p p\n41 0 74 p b\n",
 ];
@@ -130,7 +147,7 @@ fn class_named(
     if !are_numbers(spaces, scope) {
         return None;
     }
-    let permissions = permissions_of(alloc, names, instances).ok()?;
+    let permissions = class_permissions(alloc, names, instances).ok()?;
     let class = word(class, Sign::Classes);
     let permission = word(permission, Sign::Permission);
     Some(names.resolve_permission(spaces, permissions.as_slice(), &class, &permission, scope))
@@ -152,6 +169,7 @@ const LISTED: &[&str] = &[
     // A class word, and then its permissions: they are those of the first class that it names.
     "(type t)(class c (r))(block p (class c (w))(allow t self (c (r w)))) => t: Type_ t; c: Class p.c, Class c; r: -; w: Class p.c; ",
     "(type t)(allow t self (c (r))) => t: Type_ t; c: -; r: -; ",
+    "(class c (r))(common k (x))(classcommon c .k)(allow r c (c (r x))) => c: Class c; .k: Common k; r: -; c: -; c: Class c; r: Class c; x: Class c; ",
     // A call, and a statement of the body: an argument is looked up where the call stands.
     "(macro m ((type x)) (roletype object_r x))(type t)(block p (type t)(call m (t))) => m: Macro m; t: Type_ p.t, Type_ t; object_r: Role object_r; t: Type_ p.t, Type_ t; ",
     "(block a (type t))(block b (blockinherit a)) => ",
@@ -165,7 +183,7 @@ impl Question for Listed {
         let Ok(names) = declare(alloc, instances) else {
             return None;
         };
-        let Ok(permissions) = permissions_of(alloc, &names, instances) else {
+        let Ok(permissions) = class_permissions(alloc, &names, instances) else {
             return None;
         };
         let Ok(asks) = asks_of(alloc, &names, permissions.as_slice(), &*instances) else {

@@ -1,10 +1,9 @@
 //! Lists of faults, how they are printed, their numbers, and their sentences for people, which no session prints.
 
-use crate::lines;
 use cil_base::NoMemory;
 use cil_modset::{BundleError, BundleFault};
 use cil_sexpr::{ReadCode, ReadError, ReadFault};
-use cil_syntax::{Failure, FaultCode, FaultList, Spot, push_fault};
+use cil_syntax::{Failure, FaultCode, FaultList, Spot, push_fault, render};
 use std::alloc::Global;
 use std::test::Fail;
 
@@ -44,7 +43,7 @@ fn faults_are_sorted_and_printed_once(rt: HostRuntime) -> Result<(), Fail> {
     let alloc = rt.alloc();
     assert!(rt; list_of(alloc, &[]).is_none());
     let list = list_of(alloc, FAULTS).ok_or("no list")?;
-    assert_eq!(rt; lines(alloc, &list).ok_or("no lines")?.as_str(), LINES);
+    assert_eq!(rt; String::from_utf8(render(alloc, &list)?)?.as_str(), LINES);
     assert_eq!(rt; list.len(), 9);
     Ok(())
 }
@@ -114,6 +113,7 @@ fn of_policies(alloc: Global) -> Result<String, Fail> {
         FaultCode::Clash,
         FaultCode::Unresolved,
         FaultCode::ClassWide,
+        FaultCode::CommonTwice,
     ] {
         write!(out, "{} {code}\n", code.number())?;
     }
@@ -135,7 +135,8 @@ fn faults_have_their_numbers_and_sentences(rt: HostRuntime) -> Result<(), Fail> 
     assert_eq!(rt;
         of_policies(rt.alloc())?.as_str(),
         "21 unknown statement\n22 not supported\n23 wrong shape\n25 no name\n26 reserved word\n36 two different declarations\n\
-        41 unresolved name\n55 class with too many permissions\nno memory, no memory, no memory, NoMemory\n"
+        41 unresolved name\n55 class with too many permissions\n\
+        56 class with two different commons\nno memory, no memory, no memory, NoMemory\n"
     );
     Ok(())
 }

@@ -52,7 +52,7 @@ const CHAIN: &[Row] = &[
 ];
 
 /// Whether each edge leads to one of so many nodes.
-fn lead_within(edges: &[Edge], nodes: usize) -> bool
+pub fn lead_within(edges: &[Edge], nodes: usize) -> bool
     ensures { IsTrue result → All (leads_within nodes) edges.now }
 {
     edges.iter().all(|edge| edge.to < nodes)

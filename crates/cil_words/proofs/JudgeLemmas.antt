@@ -1,8 +1,8 @@
 -- What a statement asks for and does not get, by its row of the table.
-use Rattle.std.specs.Prelude.{Contains, Option, None, Some, if◌then◌else◌, not, ◌&&◌, slice_get}
+use Rattle.std.specs.Prelude.{Some, if◌then◌else◌, not, ◌&&◌, slice_get}
 use Rattle.std.specs.Global.{Vec}
 use Rattle.std.specs.List.{flat_map, list_all, list_any}
-use Rattle.std.proofs.Common.{◌≡◌, ℕ, zero, suc, ◌+◌, ◌<◌, Bool, true, false, List, [], ◌∷◌, ◌++◌, map, length, take, get_or, refl, sym, ◌∙◌, ap, arith, append-nil, append_assoc}
+use Rattle.std.proofs.Common.{◌≡◌, ℕ, zero, suc, ◌+◌, ◌<◌, Bool, true, false, List, [], ◌∷◌, ◌++◌, map, length, take, get_or, refl, sym, ◌∙◌, ap, arith, append-nil}
 use Rattle.std.proofs.lemmas.List.Concat.{get_or-flat_map}
 use Rattle.std.proofs.lemmas.List.Folds.{flat_map-map}
 use Rattle.std.proofs.lemmas.Grind.{flat_map-append}
@@ -10,27 +10,26 @@ use Rattle.std.proofs.lemmas.List.{length-append, length-map}
 use Rattle.std.proofs.lemmas.Option.{get_or_from_slice_get, slice_get-get_or, slice_get-map}
 use Rattle.std.specs.Option.{option_map}
 use Rattle.cil_base.specs.MadeLists.{one_flat}
-use Rattle.cil_base.specs.Places.{none_some, some_same}
+use Rattle.cil_base.specs.Places.{none_some}
 use Rattle.cil_faults.specs.Namespaces.{Namespace}
 use Rattle.cil_faults.specs.declared.fault.Fault.{Fault}
 use Rattle.cil_macros.specs.declared.placed_word.PlacedWord.{PlacedWord}
 use Rattle.cil_macros.specs.Item.{Item, OptSet}
-use Rattle.cil_macros.specs.Items.{item_at, items_in, namespaces_in, scoped_by}
+use Rattle.cil_macros.specs.Items.{item_at, namespaces_in, scoped_by}
 use Rattle.cil_macros.specs.Placed.{Placed}
 use Rattle.cil_names.specs.Asked.{wanted_by}
 use Rattle.cil_names.specs.declared.asked.Asked.{Asked}
 use Rattle.cil_names.specs.declared.asked.Asked.TheVariants as asked
 use Rattle.cil_names.specs.declared.entry.Entry.{Entry}
-use Rattle.cil_names.specs.Entries.{is_declared_at, is_declared_in, is_in}
 use Rattle.cil_names.specs.Resolves.{Permission as APermission, Wanted, Word as AWord, is_judged, resolves, told_word}
 use Rattle.cil_names.specs.Unresolved.{fault_of_word, faults_of_all, faults_of_wanted, is_outside}
 use Rattle.cil_names.proofs.AnswerLemmas.{by_place}
-use Rattle.cil_names.proofs.AskedLemmas.{each_mapped, one_more}
+use Rattle.cil_names.proofs.AskedLemmas.{each_mapped}
 use Rattle.cil_names.proofs.ResolvesLemmas.{resolves_by}
 use Rattle.cil_syntax.specs.Scopes.{ScopedWord}
 use Rattle.cil_words.specs.declared.judge.Judge.{Judge}
-use Rattle.cil_words.specs.Judged.{IsJudge, StandAt, could_by, has_one, items_by, row_by, space_by, unless, wanted_behind}
-use Rattle.cil_words.specs.Table.{asks}
+use Rattle.cil_words.specs.Judged.{IsJudge, StandAt, could_by, has_one, items_by, row_by, unless, wanted_behind}
+use Rattle.cil_words.specs.Table.{asks, could_in}
 use Rattle.cil_words.proofs.RowLemmas.{row_there}
 
 -- ---- faults of one thing
@@ -120,7 +119,7 @@ module _ (j : Judge) (es : List Entry) (s : OptSet) (is : IsJudge j es s) where
       (λ i. no_fault (items_by j) s n w (sym (live_is w (could_by j es w) refl) ∙ first) i ++ none_in n ws rest i)
 
   pub row_is : (at : ℕ) → at < length (items_by j) → row_by j at ≡ asks (namespaces_in j.instances.now) es (items_by j) (item_at j.instances.now at)
-  row_is at within = row_there j.instances.now es j.asks.now at within is.asks
+  row_is at within = row_there j.instances.now es (could_in j.asks.now) at within is.asks
 
 -- ---- places in a row
 

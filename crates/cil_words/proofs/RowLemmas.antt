@@ -1,20 +1,24 @@
 -- The rows of the table: one more, and a word of one.
 use Rattle.std.proofs.Common.{◌≡◌, ℕ, zero, suc, ◌+◌, ◌-◌, ◌<◌, ◌≤◌, Bool, List, [], ◌∷◌, length, get_or, refl, sym, ◌∙◌, ap, arith, drop, map}
-use Rattle.std.specs.Prelude.{Some, Option, find, slice_get, slice_range, take}
-use Rattle.std.specs.Option.{option_map}
-use Rattle.std.proofs.lemmas.List.{get_or-drop, get_or-take, length-drop, length-take-le}
+use Rattle.std.specs.Prelude.{Some, Option, slice_get, slice_range}
+use Rattle.std.specs.Global.{Vec}
+use Rattle.std.specs.Option.{option_map, option_map_or}
+use Rattle.std.proofs.lemmas.List.{get_or-drop, get_or-take, length-drop, length-map, length-take-le}
 use Rattle.std.proofs.lemmas.Option.{get_or_from_slice_get, slice_get-get_or, slice_get-map}
 use Rattle.std.proofs.lemmas.Simd.{map-map}
+use Rattle.cil_base.specs.declared.bytes.Bytes.{Bytes}
 use Rattle.cil_blocks.specs.declared.namespaces.Space.{Space}
 use Rattle.cil_macros.specs.Item.{Item, OptSet}
 use Rattle.cil_macros.specs.Items.{Kept, item_at, items_in, namespaces_in}
 use Rattle.cil_macros.proofs.ItemLemmas.{item_got}
 use Rattle.cil_names.specs.declared.entry.Entry.{Entry}
-use Rattle.cil_names.specs.Entries.{is_declared_in, is_in}
-use Rattle.cil_names.specs.PermissionWords.{meanings, wanted_candidates, wanted_meaning}
-use Rattle.cil_names.specs.Resolves.{Wanted, words_of}
+use Rattle.cil_names.specs.Entries.{candidates_of, is_declared_in, is_in, listed}
+use Rattle.cil_names.specs.PermissionWords.{class_with, meanings, number_with, value_of}
+use Rattle.cil_names.specs.Resolves.{Permission as APermission, Wanted, Word as AWord, words_of}
+use Rattle.cil_names.specs.Unresolved.{ArePermissions}
 use Rattle.cil_names.proofs.AnswerLemmas.{found_flagged}
-use Rattle.cil_words.specs.Table.{AreAsks, asks}
+use Rattle.cil_names.proofs.PermissionNumberLemmas.{number_or_nothing}
+use Rattle.cil_words.specs.Table.{AreAsks, AreNumberedAsks, Ask, ask_of, ask_value, asks, could_in, could_of, numbered_asks, word_ask}
 
 -- ---- a word of a row
 
@@ -52,27 +56,49 @@ row_there i es rows at within are =
     let there : slice_get (items_in i) at ≡ Some x = slice_get-get_or (items_in i) at x within ∙ ap Some (sym (item_got i at within x)) in
     ap (λ rs. get_or rs at []) are ∙ get_or_from_slice_get (map f (items_in i)) at (f x) [] (got_map f (items_in i) at x there)
 
--- the list of a word in the rows of all items
-pub candidates_at : (ss : List Space) (xs : List Item) (es : List Entry) (rows : List (List (List ℕ))) (x : Item) (w : Wanted) (at number : ℕ) → AreAsks ss es xs rows
-    → slice_get xs at ≡ Some x → slice_get (words_of x) number ≡ Some w → get_or (get_or rows at []) number [] ≡ wanted_candidates ss es xs w
-candidates_at ss xs es rows x w at number are there asked =
-    ap (λ r. get_or r number []) (ap (λ rs. get_or rs at []) are ∙ get_or_from_slice_get (map (asks ss es xs) xs) at (asks ss es xs x) [] (got_map (asks ss es xs) xs at x there))
-    ∙ get_or_from_slice_get (asks ss es xs x) number (wanted_candidates ss es xs w) [] (got_map (wanted_candidates ss es xs) (words_of x) number w asked)
+-- ---- what could be named, and what has a number
 
-pub means : (ss : List Space) (xs : List Item) (es : List Entry) (s : OptSet) (x : Item) (w : Wanted) (rows : List (List (List ℕ))) (flags : List Bool) (at number : ℕ) (list : List ℕ) (r : Option ℕ)
-    → list ≡ get_or (get_or rows at []) number [] → AreAsks ss es xs rows → flags ≡ map (is_declared_in s) es → slice_get xs at ≡ Some x
-    → slice_get (words_of x) number ≡ Some w → r ≡ find (is_in flags) list → r ≡ wanted_meaning ss es xs s w
-means ss xs es s x w rows flags at number list r here are flagged there asked is =
-    is ∙ ap (find (is_in flags)) (here ∙ candidates_at ss xs es rows x w at number are there asked) ∙ found_flagged s es flags flagged (wanted_candidates ss es xs w)
+could_row : (row : List Ask) (j : ℕ) → get_or (could_of row) j [] ≡ (get_or row j (word_ask [])).could
+could_row [] j = refl
+could_row (k ∷ ks) zero = refl
+could_row (k ∷ ks) (suc j) = could_row ks j
 
--- what the rows mean, by flags of the entries
-pub rows_mean : (ss : List Space) (xs : List Item) (es : List Entry) (s : OptSet) (rows : List (List (List ℕ))) (flags : List Bool) → AreAsks ss es xs rows → flags ≡ map (is_declared_in s) es
-    → map (map (find (is_in flags))) rows ≡ map (meanings ss es xs s) xs
-rows_mean ss xs es s rows flags are flagged =
-    ap (map (map (find (is_in flags)))) are
-    ∙ map-map (map (find (is_in flags))) (asks ss es xs) xs
-    ∙ (λ i. map (λ x. row_means x i) xs)
-  where
-    row_means : (x : Item) → map (find (is_in flags)) (asks ss es xs x) ≡ meanings ss es xs s x
-    row_means x =
-        map-map (find (is_in flags)) (wanted_candidates ss es xs) (words_of x) ∙ (λ i. map (λ w. found_flagged s es flags flagged (wanted_candidates ss es xs w) i) (words_of x))
+pub could_rows : (rows : List (List Ask)) (i : ℕ) → get_or (could_in rows) i [] ≡ could_of (get_or rows i [])
+could_rows [] i = refl
+could_rows (r ∷ rs) zero = refl
+could_rows (r ∷ rs) (suc i) = could_rows rs i
+
+-- what a word could name, by its place
+pub could_got : (rows : List (List Ask)) (i j : ℕ) → (get_or (get_or rows i []) j (word_ask [])).could ≡ get_or (get_or (could_in rows) i []) j []
+could_got rows i j = sym (ap (λ r. get_or r j []) (could_rows rows i) ∙ could_row (get_or rows i []) j)
+
+-- how many words there are
+pub could_count : (rows : List (List Ask)) (i : ℕ) → length (get_or (could_in rows) i []) ≡ length (get_or rows i [])
+could_count rows i = ap length (could_rows rows i) ∙ length-map (get_or rows i []) (λ (k : Ask). k.could)
+
+-- the table with numbers is the table
+pub are_asks : (ss : List Space) (es : List Entry) (xs : List Item) (lists : List (Vec Bytes)) (rows : List (List Ask)) → AreNumberedAsks ss es xs lists rows → AreAsks ss es xs (could_in rows)
+are_asks ss es xs lists rows are =
+    ap could_in are
+    ∙ map-map could_of (numbered_asks ss es xs lists) xs
+    ∙ (λ i. map (λ x. map-map (λ (k : Ask). k.could) (ask_of ss es xs lists) (words_of x) i) xs)
+
+-- ---- values
+
+module _ (ss : List Space) (es : List Entry) (xs : List Item) (lists : List (Vec Bytes)) (permissions : ArePermissions ss es xs lists) (s : OptSet) (flags : List Bool)
+    (flagged : flags ≡ map (is_declared_in s) es) where
+  value_is : (w : Wanted) → ask_value (is_in flags) (ask_of ss es xs lists w) ≡ value_of ss es lists s w
+  value_is (AWord w) = found_flagged s es flags flagged (candidates_of ss es w)
+  value_is (APermission c p) =
+      ap (option_map_or (λ (n : Option ℕ). n) (number_with ss es xs lists c p)) (found_flagged s es flags flagged (listed (class_with ss es xs c p)))
+      ∙ number_or_nothing ss es xs lists c p permissions s
+
+  row_means : (x : Item) → map (ask_value (is_in flags)) (numbered_asks ss es xs lists x) ≡ meanings ss es lists s x
+  row_means x = map-map (ask_value (is_in flags)) (ask_of ss es xs lists) (words_of x) ∙ (λ i. map (λ w. value_is w i) (words_of x))
+
+  -- what the rows mean, by flags of the entries
+  pub rows_mean : (rows : List (List Ask)) → AreNumberedAsks ss es xs lists rows → map (map (ask_value (is_in flags))) rows ≡ map (meanings ss es lists s) xs
+  rows_mean rows are =
+      ap (map (map (ask_value (is_in flags)))) are
+      ∙ map-map (map (ask_value (is_in flags))) (numbered_asks ss es xs lists) xs
+      ∙ (λ i. map (λ x. row_means x i) xs)

@@ -15,7 +15,7 @@ use Rattle.cil_names.specs.Resolves.{Permission, Wanted, Word, words_of}
 use Rattle.cil_names.specs.Unresolved.{faults_of_all}
 use Rattle.cil_syntax.specs.Scopes.{ScopedWord}
 use Rattle.cil_words.specs.declared.judge.Judge.{Judge}
-use Rattle.cil_words.specs.Table.{AreAsks}
+use Rattle.cil_words.specs.Table.{AreAsks, could_in}
 
 abbrev pub items_by : Judge → List Item
 items_by j = items_in j.instances.now
@@ -26,13 +26,13 @@ space_by j at = (item_at j.instances.now at).space
 
 -- what the statement at a place asks for
 abbrev pub row_by : Judge → ℕ → List (List ℕ)
-row_by j at = get_or j.asks.now at []
+row_by j at = get_or (could_in j.asks.now) at []
 
 -- these are the declared names, and the flags tell which of them are declared where these optionals are enabled
 pub record IsJudge (j : Judge) (es : List Entry) (s : OptSet) : Type 0 where
   pub namespaces : AreNamespaces (namespaces_in j.instances.now)
   pub entries : AreEntries (namespaces_in j.instances.now) (items_by j) es
-  pub asks : AreAsks (namespaces_in j.instances.now) es (items_by j) j.asks.now
+  pub asks : AreAsks (namespaces_in j.instances.now) es (items_by j) (could_in j.asks.now)
   pub declared : j.declared.now ≡ map (is_declared_in s) es
 
 -- what something wanted could name

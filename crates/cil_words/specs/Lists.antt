@@ -1,5 +1,5 @@
 -- Lists one after another in one list, with the places where they begin. No other crate needs these words.
-use Rattle.std.specs.Prelude.{◌≡◌, ◌≤◌, ℕ, List, [], ◌∷◌, get_or, length, slice_range}
+use Rattle.std.specs.Prelude.{◌≤◌, ℕ, List, [], ◌∷◌, get_or, length, slice_range}
 use Rattle.std.specs.List.{AllByRecursion}
 
 -- a list ends where the next one begins, and the last one where all end

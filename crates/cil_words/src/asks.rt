@@ -1,28 +1,29 @@
 //! The table of what all instances ask for, filled in one walk before optionals are chosen.
 
-ghost use Rattle.std.specs.Prelude.{◌≡◌, ◌≤◌, ◌<◌, ◌++◌, ◌∷◌, [], IfOk, OnOk, find, get_or, length, slice_range};
+ghost use Rattle.std.specs.Prelude.{◌≡◌, ◌≤◌, ◌<◌, ◌++◌, ◌∷◌, [], IfOk, MatchOption, OnOk, find, get_or, length, slice_range};
 ghost use Rattle.cil_macros.specs.Items.{item_at, items_in, namespaces_in};
 ghost use Rattle.cil_names.specs.Entries.{AreEntries, is_in};
-ghost use Rattle.cil_names.specs.LastScopes.{IsLast};
 ghost use Rattle.cil_names.specs.Unresolved.{ArePermissions};
 ghost use Rattle.cil_names.specs.Worded.{AreWorded};
 ghost use Rattle.cil_words.specs.Lists.{AreWithin, lists_at};
-ghost use Rattle.cil_words.specs.Table.{AreAsks, asks};
+ghost use Rattle.cil_words.specs.Scopes.{AreScopes};
+ghost use Rattle.cil_words.specs.Table.{AreAsks, AreNumberedAsks, could_in, numbered_asks, word_ask};
 
 use crate::cells::{Cells, end_at, small, start_at};
+use crate::scopes::Scopes;
 use crate::walk::Walk;
 use cil_base::NoMemory;
 use cil_macros::Instances;
 use cil_names::reading::Reading;
 use cil_names::worded::{is_worded_at, worded};
-use cil_names::{LastScope, Names, is_set};
+use cil_names::{Names, is_set};
 use cil_syntax::Bytes;
 use std::alloc::Global;
 use std::marker::Model;
 
 /// What all instances ask for: for each instance, and for each of its words in order, the entries that it could name, whatever
-/// is enabled. It takes four bytes for an instance, and as many for a word that could name one entry. Contracts see a row for
-/// each instance, which has a list for each word.
+/// is enabled, and the number of a permission among those of its class. It takes four bytes for an instance, and as many for a
+/// word that could name one entry. Contracts see a row for each instance, in which each word has its place.
 #[derive(Debug, Drop)]
 pub struct Asks {
     /// Where the row of each instance begins.
@@ -32,10 +33,11 @@ pub struct Asks {
 }
 
 impl Model for Asks {
-    ghost use Rattle.std.specs.Prelude.{List, ℕ, length};
+    ghost use Rattle.std.specs.Prelude.{List, length};
     ghost use Rattle.cil_words.specs.Lists.{AreWithin, lists_at};
+    ghost use Rattle.cil_words.specs.Table.{Ask};
 
-    ghost Value = { List (List (List ℕ)) };
+    ghost Value = { List (List Ask) };
 
     ghost view = { λ a. lists_at a.starts.items a.cells };
 
@@ -43,8 +45,8 @@ impl Model for Asks {
 }
 
 /// The table of all that is placed. Permissions are given as a list in byte order for each entry that is a class. Each word
-/// costs one look-up, and each class word one more; a scope is filled for each run of instances that have words and stand beside
-/// one another. Error: out of memory.
+/// costs one look-up, and each class word one more. A scope is filled where a word asks for it, once for instances that stand
+/// beside one another; a word whose name is declared once, in the global namespace, asks for none. Error: out of memory.
 pub fn asks_of<'r, 'a>(
     alloc: Global,
     names: &'r Names<'a>,
@@ -53,7 +55,8 @@ pub fn asks_of<'r, 'a>(
 ) -> Result<Asks, NoMemory>
     requires entries { AreEntries (namespaces_in instances.now) (items_in instances.now) names.now }
     requires permissions { ArePermissions (namespaces_in instances.now) names.now (items_in instances.now) permissions.now }
-    ensures { IfOk result (AreAsks (namespaces_in instances.now) names.now (items_in instances.now)) }
+    ensures asks { IfOk result (λ asks. AreAsks (namespaces_in instances.now) names.now (items_in instances.now) (could_in asks)) }
+    ensures numbered { IfOk result (AreNumberedAsks (namespaces_in instances.now) names.now (items_in instances.now) permissions.now) }
 {
     let worded = worded(alloc, instances)?;
     let maker = Maker {
@@ -65,10 +68,10 @@ pub fn asks_of<'r, 'a>(
     };
     let mut starts = Vec::with_capacity(alloc, instances.len())?;
     let mut cells = Cells::new(alloc);
-    let mut last = LastScope::new(alloc);
+    let mut scopes = Scopes::new(alloc);
     for at in 0..instances.len() {
         starts.push(small(cells.len())?)?;
-        maker.add(at, &mut last, &mut cells)?;
+        maker.add(at, &mut scopes, &mut cells)?;
     }
     Ok(Asks { starts, cells })
 }
@@ -86,19 +89,18 @@ struct Maker<'r, 's, 'p, 'a> {
 
 impl Maker<'_, '_, '_, '_> {
     /// Adds what the statement at a place asks for. It needs a scope only where there are words.
-    fn add(&self, at: usize, last: &mut LastScope, cells: &mut Cells) -> Result<(), NoMemory>
+    fn add(&self, at: usize, scopes: &mut Scopes, cells: &mut Cells) -> Result<(), NoMemory>
         requires entries { AreEntries (namespaces_in self.now.instances.now) (items_in self.now.instances.now) self.now.names.now }
         requires permissions { ArePermissions (namespaces_in self.now.instances.now) self.now.names.now (items_in self.now.instances.now) self.now.permissions.now }
         requires worded { AreWorded self.now.instances.now self.now.worded.now }
-        requires last { IsLast self.now.instances.now last.old }
+        requires scopes { AreScopes self.now.instances.now scopes.old }
         requires within { at < length (items_in self.now.instances.now) }
-        ensures asks { OnOk result (cells.new ≡ cells.old ++ asks (namespaces_in self.now.instances.now) self.now.names.now (items_in self.now.instances.now) (item_at self.now.instances.now at)) }
-        ensures last { OnOk result (IsLast self.now.instances.now last.new) }
+        ensures asks { OnOk result (cells.new ≡ cells.old ++ numbered_asks (namespaces_in self.now.instances.now) self.now.names.now (items_in self.now.instances.now) self.now.permissions.now (item_at self.now.instances.now at)) }
+        ensures scopes { OnOk result (AreScopes self.now.instances.now scopes.new) }
     {
         if !is_worded_at(self.worded, self.instances, at) {
             return Ok(());
         }
-        last.fill(self.alloc, self.instances, at)?;
         let walk = Walk {
             alloc: self.alloc,
             names: self.names,
@@ -107,23 +109,17 @@ impl Maker<'_, '_, '_, '_> {
                 instances: self.instances,
                 at,
                 statement: self.instances.statement_there(at),
-                scope: last.scope.as_slice(),
             },
         };
-        walk.statement(cells)?;
+        walk.statement(cells, scopes)?;
         Ok(())
     }
 }
 
 impl Asks {
     ghost use Rattle.std.specs.Prelude.{◌≡◌, ◌<◌, [], List, Some, find, get_or, length, map, slice_get};
-    ghost use Rattle.cil_blocks.specs.declared.namespaces.Space.{Space};
-    ghost use Rattle.cil_macros.specs.Item.{Item, OptSet};
-    ghost use Rattle.cil_names.specs.declared.entry.Entry.{Entry};
-    ghost use Rattle.cil_names.specs.Entries.{is_declared_in, is_in};
-    ghost use Rattle.cil_names.specs.PermissionWords.{wanted_meaning};
-    ghost use Rattle.cil_names.specs.Resolves.{Wanted, words_of};
-    ghost use Rattle.cil_words.specs.Table.{AreAsks};
+    ghost use Rattle.cil_names.specs.Entries.{is_in};
+    ghost use Rattle.cil_words.specs.Table.{ask_value, could_in, word_ask};
 
     /// How many instances there are.
     pub fn len(&self) -> usize
@@ -134,7 +130,7 @@ impl Asks {
 
     /// For how many words of an instance there is a list.
     pub fn count(&self, at: usize) -> usize
-        ensures { result ≡ length (get_or self.now at []) }
+        ensures { result ≡ length (get_or (could_in self.now) at []) }
     {
         let (start, end) = bounds(self.starts.as_slice(), &self.cells, at);
         end.saturating_sub(start)
@@ -142,28 +138,52 @@ impl Asks {
 
     /// The entries that a word of an instance could name, by its number in the instance; none where there is no such word.
     pub fn word(&self, at: usize, number: usize) -> &[u32]
-        ensures { result.now ≡ get_or (get_or self.now at []) number [] }
+        ensures { result.now ≡ get_or (get_or (could_in self.now) at []) number [] }
     {
-        let (start, end) = bounds(self.starts.as_slice(), &self.cells, at);
-        let Some(place) = start.checked_add(number) else {
-            return &[];
-        };
-        if place >= end {
-            return &[];
+        match place_in(self.starts.as_slice(), &self.cells, at, number) {
+            None => &[],
+            Some(place) => self.cells.row(place),
         }
-        self.cells.row(place)
     }
 
-    /// What a word of an instance means, or the class that a permission of it names, by flags of the entries that are declared. It
-    /// costs a step for each entry that it could name, until one is declared.
-    pub fn meaning(&self, declared: &[bool], at: usize, number: usize) -> Option<usize>
-        ensures first { result ≡ find (is_in declared.now) (get_or (get_or self.now at []) number []) }
-        ensures names { (ss : List Space) (xs : List Item) (es : List Entry) (s : OptSet) (x : Item) (w : Wanted) → AreAsks ss es xs self.now
-            → declared.now ≡ map (is_declared_in s) es → slice_get xs at ≡ Some x → slice_get (words_of x) number ≡ Some w
-            → result ≡ wanted_meaning ss es xs s w }
+    /// The number that a permission of an instance has among those of its class, if the word of this number in the instance is a
+    /// permission that its class has. The number is missing where the class word names what has no numbers.
+    pub fn number(&self, at: usize, number: usize) -> Option<Option<usize>>
+        ensures { result ≡ (get_or (get_or self.now at []) number (word_ask [])).number }
     {
-        first_declared(declared, self.word(at, number))
+        match place_in(self.starts.as_slice(), &self.cells, at, number) {
+            None => None,
+            Some(place) => self.cells.number(place),
+        }
     }
+
+    /// The value of a word of an instance, by flags of the entries that are declared: the number of a permission; and else the first
+    /// entry that the word could name and that is declared. It costs a step for each entry that it could name, until one is
+    /// declared.
+    pub fn value(&self, declared: &[bool], at: usize, number: usize) -> Option<usize>
+        ensures { result ≡ ask_value (is_in declared.now) (get_or (get_or self.now at []) number (word_ask [])) }
+    {
+        match self.number(at, number) {
+            None => first_declared(declared, self.word(at, number)),
+            Some(number) => number,
+        }
+    }
+}
+
+/// The place of a word of an instance among all.
+fn place_in(starts: &[u32], cells: &Cells, at: usize, number: usize) -> Option<usize>
+    requires { AreWithin (length cells.now) starts.now }
+    ensures { MatchOption result (word_ask [] ≡ get_or (get_or (lists_at starts.now cells.now) at []) number (word_ask []))
+        (λ place. get_or cells.now place (word_ask []) ≡ get_or (get_or (lists_at starts.now cells.now) at []) number (word_ask [])) }
+{
+    let (start, end) = bounds(starts, cells, at);
+    let Some(place) = start.checked_add(number) else {
+        return None;
+    };
+    if place >= end {
+        return None;
+    }
+    Some(place)
 }
 
 /// Where the row of a number begins and ends.

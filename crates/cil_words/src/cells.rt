@@ -2,9 +2,17 @@
 
 ghost use Rattle.std.specs.Prelude.{◌≡◌, ◌≤◌, ◌<◌, ◌+◌, ◌++◌, ◌∷◌, [], IfOk, OnOk, Some, length, slice_get, slice_range, ℕ};
 
+use crate::pairs::Pairs;
 use cil_base::NoMemory;
+use cil_names::ClassPermission;
 use std::alloc::Global;
 use std::marker::Model;
+
+/// The first cell that is the number of a permission.
+const PAIRED: u32 = 1_073_741_824;
+
+/// How many permissions have a number.
+const MOST_PAIRS: usize = 1_073_741_824;
 
 /// The first cell that is the number of a list.
 const MANY: u32 = 2_147_483_648;
@@ -79,30 +87,35 @@ impl Lists {
     }
 }
 
-/// Lists of numbers, of which nearly all have one number. Such a list takes four bytes, any other one eight, and four for
-/// each number. Contracts see the lists.
+/// Lists of numbers, of which nearly all have one number. Such a list takes four bytes, and so does a permission with the number
+/// that it has in its class. Any other list takes eight, and four for each number. Contracts see the lists.
 #[derive(Debug, Drop)]
 pub struct Cells {
-    /// For each list its one number, or `MANY` and the number of the list in `lists`.
+    /// For each list its one number; or `PAIRED` and the number of the permission in `pairs`; or `MANY` and the number of the
+    /// list in `lists`.
     cells: Vec<u32>,
+    /// The permissions.
+    pairs: Pairs,
     /// The lists that have no number, or more than one.
     lists: Lists,
 }
 
 impl Model for Cells {
-    ghost use Rattle.std.specs.Prelude.{List, ℕ, length};
-    ghost use Rattle.cil_words.specs.Cells.{AreCells, cell_lists};
+    ghost use Rattle.std.specs.Prelude.{List, length};
+    ghost use Rattle.cil_words.specs.Cells.{AreCells, cell_asks};
+    ghost use Rattle.cil_words.specs.Table.{Ask};
 
-    ghost Value = { List (List ℕ) };
+    ghost Value = { List Ask };
 
-    ghost view = { λ a. cell_lists a.lists a.cells.items };
+    ghost view = { λ a. cell_asks a.pairs.owners.items a.pairs.places.items a.lists a.cells.items };
 
-    ghost invariant = { λ a. AreCells (length a.lists) a.cells.items };
+    ghost invariant = { λ a. AreCells (length a.pairs.owners.items) (length a.pairs.places.items) (length a.lists) a.cells.items };
 }
 
 impl Cells {
     ghost use Rattle.std.specs.Prelude.{◌≡◌, ◌++◌, ◌∷◌, [], OnOk, get_or, length};
-    ghost use Rattle.cil_names.specs.Entries.{listed};
+    ghost use Rattle.cil_words.specs.Cells.{pair_with, permission_ask};
+    ghost use Rattle.cil_words.specs.Table.{word_ask};
 
     /// No lists.
     pub fn new(alloc: Global) -> Cells
@@ -110,6 +123,7 @@ impl Cells {
     {
         Cells {
             cells: Vec::new(alloc),
+            pairs: Pairs::new(alloc),
             lists: Lists::new(alloc),
         }
     }
@@ -123,24 +137,44 @@ impl Cells {
 
     /// The list of this number, counted from 0; an empty one where there are not so many.
     pub fn row(&self, number: usize) -> &[u32]
-        ensures { result.now ≡ get_or self.now number [] }
+        ensures { result.now ≡ (get_or self.now number (word_ask [])).could }
     {
         let cells = self.cells.as_slice();
         let Some(cell) = cell_at(cells, number) else {
             return &[];
         };
+        if cell < PAIRED {
+            return one(cells, number);
+        }
         match cell.checked_sub(MANY) {
-            None => one(cells, number),
+            None => self.pairs.owner((cell - PAIRED) as usize),
             Some(list) => self.lists.row(list as usize),
         }
     }
 
-    /// Adds a list of one number. Error: out of memory, also for a number from 2,147,483,648 on.
+    /// The number that a permission has in its class, if the list of this number is that of a permission.
+    pub fn number(&self, number: usize) -> Option<Option<usize>>
+        ensures { result ≡ (get_or self.now number (word_ask [])).number }
+    {
+        let cells = self.cells.as_slice();
+        let Some(cell) = cell_at(cells, number) else {
+            return None;
+        };
+        if cell < PAIRED {
+            return None;
+        }
+        if cell >= MANY {
+            return None;
+        }
+        self.pairs.number((cell - PAIRED) as usize)
+    }
+
+    /// Adds a list of one number. Error: out of memory, also for a number from 1,073,741,824 on.
     pub fn push_one(&mut self, number: usize) -> Result<(), NoMemory>
-        ensures { OnOk result (self.new ≡ self.old ++ (number ∷ []) ∷ []) }
+        ensures { OnOk result (self.new ≡ self.old ++ word_ask (number ∷ []) ∷ []) }
     {
         let cell = small(number)?;
-        if cell >= MANY {
+        if cell >= PAIRED {
             return Err(NoMemory);
         }
         self.cells.push(cell)?;
@@ -149,7 +183,7 @@ impl Cells {
 
     /// Adds a list of any length. Error: out of memory, also for more than 1,073,741,824 lists.
     pub fn push_many(&mut self, list: &[usize]) -> Result<(), NoMemory>
-        ensures { OnOk result (self.new ≡ self.old ++ list.now ∷ []) }
+        ensures { OnOk result (self.new ≡ self.old ++ word_ask list.now ∷ []) }
     {
         let number = self.lists.len();
         if number >= MOST_LISTS {
@@ -160,19 +194,32 @@ impl Cells {
         Ok(())
     }
 
-    /// Adds a list of one number, or of none.
-    pub fn push_option(&mut self, number: Option<usize>) -> Result<(), NoMemory>
-        ensures { OnOk result (self.new ≡ self.old ++ listed number ∷ []) }
+    /// Adds the class of a permission, with the number that the permission has in it; or an empty list. Error: out of memory, also
+    /// for more than 1,073,741,824 different permissions.
+    pub fn push_permission(&mut self, permission: Option<ClassPermission>) -> Result<(), NoMemory>
+        ensures { OnOk result (self.new ≡ self.old ++ permission_ask permission ∷ []) }
     {
-        match number {
-            Some(one) => self.push_one(one),
+        match permission {
+            Some(found) => self.push_pair(found.entry, found.number),
             None => self.push_many(&[]),
         }
     }
 
+    /// Adds a class, with the number of a permission.
+    fn push_pair(&mut self, class: usize, number: Option<usize>) -> Result<(), NoMemory>
+        ensures { OnOk result (self.new ≡ self.old ++ pair_with class number ∷ []) }
+    {
+        let place = self.pairs.place_of(class, number)?;
+        if place >= MOST_PAIRS {
+            return Err(NoMemory);
+        }
+        self.cells.push(PAIRED + place as u32)?;
+        Ok(())
+    }
+
     /// Adds a list, in four bytes if it has one number.
     pub fn push(&mut self, list: &[usize]) -> Result<(), NoMemory>
-        ensures { OnOk result (self.new ≡ self.old ++ list.now ∷ []) }
+        ensures { OnOk result (self.new ≡ self.old ++ word_ask list.now ∷ []) }
     {
         match list {
             [number] => self.push_one(*number),
@@ -204,7 +251,7 @@ fn push_small(numbers: &mut Vec<u32>, list: &[usize]) -> Result<(), NoMemory>
 }
 
 /// The cell at a place.
-fn cell_at(cells: &[u32], number: usize) -> Option<u32>
+pub fn cell_at(cells: &[u32], number: usize) -> Option<u32>
     ensures { result ≡ slice_get cells.now number }
 {
     match cells.get(number) {
@@ -214,7 +261,7 @@ fn cell_at(cells: &[u32], number: usize) -> Option<u32>
 }
 
 /// The list of the one cell at a place.
-fn one(cells: &[u32], number: usize) -> &[u32]
+pub fn one(cells: &[u32], number: usize) -> &[u32]
     requires { number < length cells.now }
     ensures { (c : ℕ) → slice_get cells.now number ≡ Some c → result.now ≡ c ∷ [] }
 {

@@ -15,11 +15,10 @@ ghost use Rattle.cil_names.specs.Unresolved.{fault_of_word, faults_in, faults_of
 ghost use Rattle.cil_names.specs.declared.entry.Entry.{Entry as AnEntry};
 ghost use Rattle.cil_syntax.specs.Scopes.{ScopedWord};
 ghost use Rattle.cil_words.specs.Judged.{IsJudge, StandAt, could_by, has_one, items_by, of_words, row_by, space_by, unless, wanted_behind};
-ghost use Rattle.cil_words.specs.Table.{AreAsks};
+ghost use Rattle.cil_words.specs.Table.{AreAsks, could_in};
 
 use crate::asks::Asks;
 use cil_base::NoMemory;
-use cil_blocks::ScopeList;
 use cil_blocks::spelled::spelled;
 use cil_macros::{Instances, PlacedWord};
 use cil_names::asked::Asked;
@@ -41,7 +40,7 @@ pub fn judged<'r, 'a>(
     enabled: &'r OptSet,
 ) -> Result<(), Failure>
     requires entries { AreEntries (namespaces_in instances.now) (items_in instances.now) names.now }
-    requires asks { AreAsks (namespaces_in instances.now) names.now (items_in instances.now) asks.now }
+    requires asks { AreAsks (namespaces_in instances.now) names.now (items_in instances.now) (could_in asks.now) }
     ensures { Answers (λ done. Unit {0}) (ResolveFault (is_in enabled.now) (items_in instances.now)) result }
 {
     // What is known of the namespaces.
@@ -117,13 +116,10 @@ impl Judge<'_, '_, '_, '_> {
         ensures { OnOk result ((es : List AnEntry) (s : AnOptSet) → IsJudge self.now es s
             → faults.new.items ≡ faults.old.items ++ of_words (items_by self.now) s (item_at self.now.instances.now at)) }
     {
-        let mut scope = ScopeList::new(self.alloc);
-        self.instances.scope_into(self.alloc, Some(at), &mut scope)?;
         let reading = Reading {
             instances: self.instances,
             at,
             statement: self.instances.statement_there(at),
-            scope: scope.as_slice(),
         };
         let asked = reading.asked(self.alloc)?;
         self.tell(faults, at, asked.as_slice())?;

@@ -1,7 +1,9 @@
-//! What the statements of a policy ask for: for each word, and each permission of a class, the entries that it could name.
+//! What the statements of a policy ask for: for each word, and each permission of a class, the entries that it could name, and for
+//! a permission its number among those of its class.
 //!
 //! Start at `asks.rt` (`asks_of`), which makes one table for all instances before optionals are chosen. `specs/Table.antt`
-//! says which rows it has. `walk.rt` walks over the terms of a statement, `cells.rt` keeps nearly all lists in four bytes.
+//! says which rows it has. `walk.rt` walks over the terms of a statement, `cells.rt` keeps nearly all lists in four bytes,
+//! `pairs.rt` the permissions, and `scopes.rt` the scopes that words have asked for.
 //! The table is read by the choice of optionals, a crate above; by `judge.rt`, which reports what names nothing (`judged`); and
 //! by `settled_rows.rt`, which says what each word means (`settled`). What a word could name is found a crate below.
 #![tactic(auto)]
@@ -9,6 +11,8 @@
 mod asks;
 mod cells;
 mod judge;
+mod pairs;
+mod scopes;
 mod settled_rows;
 mod walk;
 

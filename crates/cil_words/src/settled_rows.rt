@@ -1,12 +1,15 @@
 //! What all that instances ask for means, as rows that the passes read.
 
-ghost use Rattle.std.specs.Prelude.{◌≡◌, ◌++◌, [], IfOk, List, OnOk, find, get_or, map};
+ghost use Rattle.std.specs.Prelude.{◌≡◌, ◌++◌, [], IfOk, List, OnOk, get_or, map};
+ghost use Rattle.std.specs.Global.{Vec as Vector};
+ghost use Rattle.cil_base.specs.declared.bytes.Bytes.{Bytes as Text};
 ghost use Rattle.cil_blocks.specs.declared.namespaces.Space.{Space};
 ghost use Rattle.cil_macros.specs.Item.{Item};
 ghost use Rattle.cil_names.specs.Entries.{is_in};
 ghost use Rattle.cil_names.specs.PermissionWords.{meanings};
 ghost use Rattle.cil_names.specs.Rows.{IsTableOf};
-ghost use Rattle.cil_words.specs.Table.{AreAsks};
+ghost use Rattle.cil_names.specs.Unresolved.{ArePermissions};
+ghost use Rattle.cil_words.specs.Table.{AreNumberedAsks, ask_value};
 
 use crate::asks::Asks;
 use cil_base::NoMemory;
@@ -14,14 +17,16 @@ use cil_names::{Meaning, Names, OptSet, Words, flags_of};
 use std::alloc::Global;
 
 /// What all that instances ask for means where these optionals are in force: for each word the first entry that it could name and
-/// that is declared. It costs a step for each entry until then, and no look-up. Error: out of memory.
+/// that is declared, and for each permission its number among those of its class. It costs a step for each entry until then, and
+/// no look-up. Error: out of memory.
 pub fn settled(
     alloc: Global,
     names: &Names,
     asks: &Asks,
     enabled: &OptSet,
 ) -> Result<Words, NoMemory>
-    ensures { IfOk result (λ words. (ss : List Space) (xs : List Item) → AreAsks ss names.now xs asks.now → IsTableOf (map (meanings ss names.now xs (is_in enabled.now)) xs) words) }
+    ensures { IfOk result (λ words. (ss : List Space) (xs : List Item) (lists : List (Vector Text)) → AreNumberedAsks ss names.now xs lists asks.now → ArePermissions ss names.now xs lists
+        → IsTableOf (map (meanings ss names.now lists (is_in enabled.now)) xs) words) }
 {
     let declared = flags_of(alloc, names.entries(), enabled.as_slice())?;
     let flags = declared.as_slice();
@@ -42,10 +47,10 @@ fn add_row(
     at: usize,
     words: &mut Vec<Meaning>,
 ) -> Result<(), NoMemory>
-    ensures { OnOk result (words.new.items ≡ words.old.items ++ map (find (is_in declared.now)) (get_or asks.now at [])) }
+    ensures { OnOk result (words.new.items ≡ words.old.items ++ map (ask_value (is_in declared.now)) (get_or asks.now at [])) }
 {
     for number in 0..asks.count(at) {
-        words.push(Meaning::of(asks.meaning(declared, at, number))?)?;
+        words.push(Meaning::of(asks.value(declared, at, number))?)?;
     }
     Ok(())
 }

@@ -1,23 +1,26 @@
-//! The walk over the terms of a placed statement, which adds the entries that each word and permission could name.
+//! The walk over the terms of a placed statement, which adds the entries that each word and permission could name, and the number
+//! of each permission.
 
-ghost use Rattle.std.specs.Prelude.{◌≡◌, ◌∷◌, [], Contains, IfOk, IfSome, OnOk, map, true};
+ghost use Rattle.std.specs.Prelude.{◌≡◌, ◌<◌, ◌∷◌, [], Contains, IfOk, IfSome, OnOk, length, map, true};
 ghost use Rattle.std.specs.List.Sorted.{IsStrictlySortedBy};
 ghost use Rattle.cil_base.specs.Lists.{text_cmp};
 ghost use Rattle.cil_macros.specs.Calls.{is_call};
 ghost use Rattle.cil_macros.specs.Item.{all_words_in, words_in};
-ghost use Rattle.cil_names.specs.Classes.{IsClassFor};
+ghost use Rattle.cil_names.specs.Classes.{IsClassFor, IsClassOf};
 ghost use Rattle.cil_names.specs.Entries.{candidates_of};
 ghost use Rattle.cil_names.specs.Readings.{item_read, module_of, scoped_there, word_read};
 ghost use Rattle.cil_names.specs.Resolves.{Permission as APermission, Word as AWord, all_wanted_in, wanted_in, words_of, words_of_class};
 ghost use Rattle.cil_names.specs.Unresolved.{term_with, terms_with};
 ghost use Rattle.cil_syntax.specs.Scopes.{ScopedWord};
+ghost use Rattle.cil_words.specs.Scopes.{AreScopes, IsLast};
 ghost use Rattle.cil_words.specs.Walks.{AddsFor, IsWalk, spaces_by};
 
 use crate::cells::Cells;
+use crate::scopes::{LastScope, Scopes};
 use cil_base::NoMemory;
 use cil_macros::PlacedWord;
-use cil_names::reading::{Reading, is_call, says_as_written};
-use cil_names::{Class, Names, class_of, with_permission};
+use cil_names::reading::{Reading, is_at, is_call, says_as_written};
+use cil_names::{Class, Names, class_at, class_of, permission_of};
 use cil_syntax::{Bytes, Term, word_and_terms};
 use std::alloc::Global;
 
@@ -35,63 +38,76 @@ pub struct Walk<'r, 's, 'p, 'a> {
 
 impl<'r, 's, 'p, 'a> Walk<'r, 's, 'p, 'a> {
     /// Adds a list for each thing that the statement asks for. Each word costs one look-up, and the class word of a class list one
-    /// more.
-    pub fn statement(&self, cells: &mut Cells) -> Result<(), NoMemory>
-        requires { IsWalk self.now }
-        ensures { OnOk result (AddsFor self.now (words_of (item_read self.now.reading)) cells.old cells.new) }
+    /// more, which is a hash where its name has one entry in all. A scope is filled where a word asks for it.
+    pub fn statement(&self, cells: &mut Cells, scopes: &mut Scopes) -> Result<(), NoMemory>
+        requires walk { IsWalk self.now }
+        requires scopes { AreScopes self.now.reading.instances.now scopes.old }
+        ensures asks { OnOk result (AddsFor self.now (words_of (item_read self.now.reading)) cells.old cells.new) }
+        ensures scopes { OnOk result (AreScopes self.now.reading.instances.now scopes.new) }
     {
         let statement = self.reading.statement;
         if is_call(statement.keyword) {
-            self.call(cells)?;
+            self.call(cells, scopes)?;
             return Ok(());
         }
         if !says_as_written(statement.keyword) {
             return Ok(());
         }
-        self.terms(cells, statement.args.as_slice())?;
+        self.terms(cells, scopes, statement.args.as_slice())?;
         Ok(())
     }
 
     /// Adds a list for each word of a call.
-    fn call(&self, cells: &mut Cells) -> Result<(), NoMemory>
-        requires { IsWalk self.now }
-        ensures { OnOk result (is_call (item_read self.now.reading).keyword ≡ true → AddsFor self.now (words_of (item_read self.now.reading)) cells.old cells.new) }
+    fn call(&self, cells: &mut Cells, scopes: &mut Scopes) -> Result<(), NoMemory>
+        requires walk { IsWalk self.now }
+        requires scopes { AreScopes self.now.reading.instances.now scopes.old }
+        ensures asks { OnOk result (is_call (item_read self.now.reading).keyword ≡ true → AddsFor self.now (words_of (item_read self.now.reading)) cells.old cells.new) }
+        ensures scopes { OnOk result (AreScopes self.now.reading.instances.now scopes.new) }
     {
         let words = self.reading.call_words(self.alloc)?;
         for word in words.as_slice() {
-            self.word(cells, word)?;
+            self.word(cells, scopes, word)?;
         }
         Ok(())
     }
 
     /// Adds a list for each thing that some terms ask for.
     #[cycle(terms)]
-    fn terms(&self, cells: &mut Cells, terms: &[Term<'a>]) -> Result<(), NoMemory>
-        requires { IsWalk self.now }
-        ensures { OnOk result (AddsFor self.now (all_wanted_in (terms_with (word_read self.now.reading) (module_of self.now.reading) terms.now)) cells.old cells.new) }
+    fn terms(
+        &self,
+        cells: &mut Cells,
+        scopes: &mut Scopes,
+        terms: &[Term<'a>],
+    ) -> Result<(), NoMemory>
+        requires walk { IsWalk self.now }
+        requires scopes { AreScopes self.now.reading.instances.now scopes.old }
+        ensures asks { OnOk result (AddsFor self.now (all_wanted_in (terms_with (word_read self.now.reading) (module_of self.now.reading) terms.now)) cells.old cells.new) }
+        ensures scopes { OnOk result (AreScopes self.now.reading.instances.now scopes.new) }
     {
         for term in terms {
-            self.term(cells, term)?;
+            self.term(cells, scopes, term)?;
         }
         Ok(())
     }
 
     #[cycle(terms)]
-    fn term(&self, cells: &mut Cells, term: &Term<'a>) -> Result<(), NoMemory>
-        requires { IsWalk self.now }
-        ensures { OnOk result (AddsFor self.now (wanted_in (term_with (word_read self.now.reading) (module_of self.now.reading) term.now)) cells.old cells.new) }
+    fn term(&self, cells: &mut Cells, scopes: &mut Scopes, term: &Term<'a>) -> Result<(), NoMemory>
+        requires walk { IsWalk self.now }
+        requires scopes { AreScopes self.now.reading.instances.now scopes.old }
+        ensures asks { OnOk result (AddsFor self.now (wanted_in (term_with (word_read self.now.reading) (module_of self.now.reading) term.now)) cells.old cells.new) }
+        ensures scopes { OnOk result (AreScopes self.now.reading.instances.now scopes.new) }
     {
         match term {
             Term::Leaf(word) => {
                 let written = word.in_module(self.reading.statement.at.module);
-                self.word(cells, &self.reading.word(&written))?;
+                self.word(cells, scopes, &self.reading.word(&written))?;
             }
             Term::Name(_, _) => {}
             Term::Form(op, _, parts) => {
                 if op.is_class_list() {
-                    self.class_list(cells, parts.as_slice())?;
+                    self.class_list(cells, scopes, parts.as_slice())?;
                 } else {
-                    self.terms(cells, parts.as_slice())?;
+                    self.terms(cells, scopes, parts.as_slice())?;
                 }
             }
         }
@@ -100,21 +116,29 @@ impl<'r, 's, 'p, 'a> Walk<'r, 's, 'p, 'a> {
 
     /// Adds the list of what a word could name. Where its name has one entry in all, in the global namespace, that costs one hash,
     /// and no scope is asked.
-    fn word(&self, cells: &mut Cells, word: &PlacedWord) -> Result<(), NoMemory>
-        requires { IsWalk self.now }
-        ensures { OnOk result (AddsFor self.now (AWord (scoped_there self.now.reading word.now) ∷ []) cells.old cells.new) }
+    fn word(
+        &self,
+        cells: &mut Cells,
+        scopes: &mut Scopes,
+        word: &PlacedWord,
+    ) -> Result<(), NoMemory>
+        requires walk { IsWalk self.now }
+        requires scopes { AreScopes self.now.reading.instances.now scopes.old }
+        ensures asks { OnOk result (AddsFor self.now (AWord (scoped_there self.now.reading word.now) ∷ []) cells.old cells.new) }
+        ensures scopes { OnOk result (AreScopes self.now.reading.instances.now scopes.new) }
     {
         if let Some(entry) = self.unscoped(word) {
-            cells.push_option(Some(entry))?;
+            cells.push_one(entry)?;
             return Ok(());
         }
-        self.scoped(cells, word)?;
+        self.scoped(cells, scopes, word)?;
         Ok(())
     }
 
     /// The one entry that a word could name whatever its scope is. None says nothing.
     fn unscoped(&self, word: &PlacedWord) -> Option<usize>
-        ensures { IfSome result (λ d. candidates_of (spaces_by self.now) self.now.names.now (scoped_there self.now.reading word.now) ≡ d ∷ []) }
+        ensures within { IfSome result (λ d. d < length self.now.names.now) }
+        ensures candidate { IfSome result (λ d. candidates_of (spaces_by self.now) self.now.names.now (scoped_there self.now.reading word.now) ≡ d ∷ []) }
     {
         let place = word.scope?;
         let instances = self.reading.instances;
@@ -126,48 +150,119 @@ impl<'r, 's, 'p, 'a> Walk<'r, 's, 'p, 'a> {
     }
 
     /// The same where the scope of the word is asked.
-    fn scoped(&self, cells: &mut Cells, word: &PlacedWord) -> Result<(), NoMemory>
-        requires { IsWalk self.now }
-        ensures { OnOk result (AddsFor self.now (AWord (scoped_there self.now.reading word.now) ∷ []) cells.old cells.new) }
+    fn scoped(
+        &self,
+        cells: &mut Cells,
+        scopes: &mut Scopes,
+        word: &PlacedWord,
+    ) -> Result<(), NoMemory>
+        requires walk { IsWalk self.now }
+        requires scopes { AreScopes self.now.reading.instances.now scopes.old }
+        ensures asks { OnOk result (AddsFor self.now (AWord (scoped_there self.now.reading word.now) ∷ []) cells.old cells.new) }
+        ensures scopes { OnOk result (AreScopes self.now.reading.instances.now scopes.new) }
     {
-        let scope = self.reading.scope_of(self.alloc, word)?;
-        let namespaces = self.reading.instances.namespaces();
-        let found = self
-            .names
-            .candidates(self.alloc, namespaces, &word.word, scope.as_slice())?;
+        if is_at(word.scope, self.reading.at) {
+            self.found(cells, &mut scopes.own, word)?;
+        } else {
+            self.found(cells, &mut scopes.other, word)?;
+        }
+        Ok(())
+    }
+
+    /// The same, where this is the scope that was filled last. A name that one entry has costs one question to it.
+    fn found(
+        &self,
+        cells: &mut Cells,
+        last: &mut LastScope,
+        word: &PlacedWord,
+    ) -> Result<(), NoMemory>
+        requires walk { IsWalk self.now }
+        requires last { IsLast self.now.reading.instances.now last.old }
+        ensures asks { OnOk result (AddsFor self.now (AWord (scoped_there self.now.reading word.now) ∷ []) cells.old cells.new) }
+        ensures last { OnOk result (IsLast self.now.reading.instances.now last.new) }
+    {
+        let instances = self.reading.instances;
+        last.fill(self.alloc, instances, word.scope)?;
+        let mut found = Vec::new(self.alloc);
+        self.names.push_candidates(&mut found, instances.namespaces(), &word.word, &last.scope)?;
         cells.push(found.as_slice())?;
         Ok(())
     }
 
     /// Adds the lists of a class word and of the permissions behind it.
-    fn class_list(&self, cells: &mut Cells, terms: &[Term<'a>]) -> Result<(), NoMemory>
-        requires { IsWalk self.now }
-        ensures { OnOk result (AddsFor self.now (words_of_class (terms_with (word_read self.now.reading) (module_of self.now.reading) terms.now)) cells.old cells.new) }
+    fn class_list(
+        &self,
+        cells: &mut Cells,
+        scopes: &mut Scopes,
+        terms: &[Term<'a>],
+    ) -> Result<(), NoMemory>
+        requires walk { IsWalk self.now }
+        requires scopes { AreScopes self.now.reading.instances.now scopes.old }
+        ensures asks { OnOk result (AddsFor self.now (words_of_class (terms_with (word_read self.now.reading) (module_of self.now.reading) terms.now)) cells.old cells.new) }
+        ensures scopes { OnOk result (AreScopes self.now.reading.instances.now scopes.new) }
     {
         let Some(list) = word_and_terms(terms, self.reading.statement.at.module) else {
             return Ok(());
         };
         let class = self.reading.word(&list.word);
-        self.word(cells, &class)?;
-        let found = self.class(&class)?;
+        self.word(cells, scopes, &class)?;
+        let found = self.class(scopes, &class)?;
         self.permissions(cells, found, list.terms)?;
         Ok(())
     }
 
     /// The class that a class word names, with its permissions.
-    fn class(&self, class: &PlacedWord) -> Result<Option<Class<'r>>, NoMemory>
-        requires { IsWalk self.now }
-        ensures { IfOk result (IsClassFor (spaces_by self.now) self.now.names.now self.now.permissions.now (scoped_there self.now.reading class.now)) }
+    fn class(&self, scopes: &mut Scopes, class: &PlacedWord) -> Result<Option<Class<'r>>, NoMemory>
+        requires walk { IsWalk self.now }
+        requires scopes { AreScopes self.now.reading.instances.now scopes.old }
+        ensures class { IfOk result (IsClassFor (spaces_by self.now) self.now.names.now self.now.permissions.now (scoped_there self.now.reading class.now)) }
+        ensures scopes { OnOk result (AreScopes self.now.reading.instances.now scopes.new) }
     {
-        let scope = self.reading.scope_of(self.alloc, class)?;
-        let namespaces = self.reading.instances.namespaces();
+        if let Some(found) = self.unscoped_class(class) {
+            return Ok(Some(found));
+        }
+        if is_at(class.scope, self.reading.at) {
+            self.class_in(&mut scopes.own, class)
+        } else {
+            self.class_in(&mut scopes.other, class)
+        }
+    }
+
+    /// The same of a word whose name has one entry in all, in the global namespace: no scope is asked. None says nothing.
+    fn unscoped_class(&self, class: &PlacedWord) -> Option<Class<'r>>
+        requires { IsWalk self.now }
+        ensures { IfSome result (IsClassOf (spaces_by self.now) self.now.names.now self.now.permissions.now (scoped_there self.now.reading class.now)) }
+    {
+        let entry = self.unscoped(class)?;
+        class_at(
+            self.reading.instances.namespaces(),
+            self.names.entries(),
+            self.names.guesses(),
+            self.permissions,
+            entry,
+        )
+    }
+
+    /// The same, where this is the scope that was filled last.
+    fn class_in(
+        &self,
+        last: &mut LastScope,
+        class: &PlacedWord,
+    ) -> Result<Option<Class<'r>>, NoMemory>
+        requires walk { IsWalk self.now }
+        requires last { IsLast self.now.reading.instances.now last.old }
+        ensures class { IfOk result (IsClassFor (spaces_by self.now) self.now.names.now self.now.permissions.now (scoped_there self.now.reading class.now)) }
+        ensures last { OnOk result (IsLast self.now.reading.instances.now last.new) }
+    {
+        let instances = self.reading.instances;
+        last.fill(self.alloc, instances, class.scope)?;
         Ok(class_of(
-            namespaces,
+            instances.namespaces(),
             self.names.entries(),
             self.names.guesses(),
             self.permissions,
             &class.word,
-            scope.as_slice(),
+            last.scope.as_slice(),
         ))
     }
 
@@ -206,7 +301,7 @@ impl<'r, 's, 'p, 'a> Walk<'r, 's, 'p, 'a> {
             Term::Leaf(word) => {
                 let written = word.in_module(self.reading.statement.at.module);
                 let permission = self.reading.word(&written);
-                cells.push_option(with_permission(found, permission.word.bytes.as_slice()))?;
+                cells.push_permission(permission_of(found, permission.word.bytes.as_slice()))?;
             }
             Term::Name(_, _) => {}
             Term::Form(_, _, parts) => self.permissions(cells, found, parts.as_slice())?,

@@ -58,7 +58,7 @@ const HELP: &[(&[&str], &str)] = &[
     (&["--help"], "Example:"),
     (
         &["--help"],
-        "type, class, role, user, roletype, userrole and allow",
+        "type, class, common, classcommon, role, user, roletype,",
     ),
     (
         &["--help"],

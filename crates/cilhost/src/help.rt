@@ -10,10 +10,10 @@ Modules are texts in the Common Intermediate Language (CIL). cilhost acts as one
 modules, compiles them into a policy, and then answers which permissions a process in one security
 context has on an object in another. The answers do not depend on the order of the modules.
 
-The statements that cilhost accepts are type, class, role, user, roletype, userrole and allow, and
-block, blockabstract, blockinherit, macro, call and optional. Statements that label files, ports and
-the like, such as filecon, and settings, such as policycap, are accepted and have no effect. For now
-it refuses everything else in CIL by name, with fault 22.";
+The statements that cilhost accepts are type, class, common, classcommon, role, user, roletype,
+userrole and allow, and block, blockabstract, blockinherit, macro, call and optional. Statements
+that label files, ports and the like, such as filecon, and settings, such as policycap, are accepted
+and have no effect. For now it refuses everything else in CIL by name, with fault 22.";
 
 /// How the program is called.
 pub const EXAMPLE: &str = "Example:
@@ -31,10 +31,10 @@ pub const SESSION_LONG: &str = "Installs files, then answers requests from stand
 The FILEs are installed from left to right. Then requests are read from standard input, one a line,
 and each reply is written to standard output, until QUIT or the end of the input.
 
-The statements that a FILE may have are type, class, role, user, roletype, userrole and allow, and
-block, blockabstract, blockinherit, macro, call and optional. Statements that label files, ports and
-the like, such as filecon, and settings, such as policycap, are accepted and have no effect. For now
-LOAD refuses everything else in CIL by name, with fault 22.";
+The statements that a FILE may have are type, class, common, classcommon, role, user, roletype,
+userrole and allow, and block, blockabstract, blockinherit, macro, call and optional. Statements
+that label files, ports and the like, such as filecon, and settings, such as policycap, are accepted
+and have no effect. For now LOAD refuses everything else in CIL by name, with fault 22.";
 
 /// What a file is.
 pub const FILE: &str = "A module, as text in CIL, of at most 4194304 bytes";
@@ -146,6 +146,7 @@ Faults of a policy, one a line after FAULTS: NUMBER MODULE PLACE NAMESPACE WORD
       alone, with module 0, place 0 and - as the word
   41  a word outside optionals that names nothing
   55  a class of more than 32 permissions
+  56  a class with two different commons
 
 From MODULE and PLACE to a file and a line: `cilhost locate FILE..` prints both. In a session:
   1. LIST replies OK, and then a line for each module: MODULE 0 is the first of these lines. It

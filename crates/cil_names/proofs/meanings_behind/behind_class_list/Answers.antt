@@ -1,4 +1,3 @@
-use Rattle.std.proofs.Common.{◌∙◌}
 use Rattle.cil_names.proofs.BehindLemmas.{behind_list, behind_no_list}
 use Rattle.cil_names.proofs.meanings_behind.behind_class_list.Goals as goal
 

@@ -37,7 +37,7 @@ returns-in_default-number c =
     let target = said_of m c.in-Some.parts.target.now in
     let class_permission = said_of m c.in-Some.parts.class_permission.now in
     without_source xs k x f (args_of s) says source target class_permission c.in-Some.ensures
-    (c.in_default-number.ensures xs names (f source) known (source_means k xs x f (args_of s) says source target class_permission c.in-Some.ensures c.args.words.now are c.meaning_at.result c.meaning_at.ensures))
+    (c.in_default-number.ensures xs names (f source) known (source_means k x f (args_of s) says source target class_permission c.in-Some.ensures c.args.words.now are c.meaning_at.result c.meaning_at.ensures))
 
 pub returns-in_default-given_by : goal.returns-in_default-given_by
 returns-in_default-given_by c =
@@ -53,8 +53,8 @@ returns-in_default-given_by c =
     let target = said_of m c.in-Some.parts.target.now in
     let class_permission = said_of m c.in-Some.parts.class_permission.now in
     without_permission xs k x f (args_of s) says source target class_permission c.in-Some.ensures
-    (c.in_default-given_by.ensures xs names known classes
-    (class_begins k xs x f (args_of s) says source target class_permission c.in-Some.ensures c.args.words.now are c.behind_first-of_target.result.now c.behind_first-of_target.ensures c.behind-of_class.result.now (c.behind-of_class.ensures f)))
+    (c.in_default-given_by.ensures xs names f known classes
+    (class_begins k x f (args_of s) says source target class_permission c.in-Some.ensures c.args.words.now are c.behind_first-of_target.result.now c.behind_first-of_target.ensures c.behind-of_class.result.now (c.behind-of_class.ensures f)))
 
 pub returns-in_default-2 : goal.returns-in_default-2
 returns-in_default-2 c =
@@ -71,7 +71,7 @@ returns-in_default-2 c =
     let class_permission = said_of m c.in-Some.parts.class_permission.now in
     without_target xs k x f (args_of s) says source target class_permission c.in-Some.ensures
     (rw c.in_default-2.is at c.in_ok-target.ensures xs names f known
-    (target_begins k xs x f (args_of s) says source target class_permission c.in-Some.ensures c.args.words.now are c.behind_first-of_target.result.now c.behind_first-of_target.ensures))
+    (target_begins k x f (args_of s) says source target class_permission c.in-Some.ensures c.args.words.now are c.behind_first-of_target.result.now c.behind_first-of_target.ensures))
 
 pub returns : goal.returns
 returns c =
@@ -88,11 +88,11 @@ returns c =
     let target = said_of m c.in-Some.parts.target.now in
     let class_permission = said_of m c.in-Some.parts.class_permission.now in
     a_rule xs k x f (args_of s) says source target class_permission c.in-Some.ensures (names kinds.Type_) c.args.classes.now c.in-Some-number.source
-    (c.in-Some-number.ensures xs names (f source) known (source_means k xs x f (args_of s) says source target class_permission c.in-Some.ensures c.args.words.now are c.meaning_at.result c.meaning_at.ensures))
+    (c.in-Some-number.ensures xs names (f source) known (source_means k x f (args_of s) says source target class_permission c.in-Some.ensures c.args.words.now are c.meaning_at.result c.meaning_at.ensures))
     c.in_ok-only.field-0 c.in_ok-only.ensures c.in-Some-2.target
     (rw c.in-Some-2.is at c.in_ok-target.ensures xs names f known
-    (target_begins k xs x f (args_of s) says source target class_permission c.in-Some.ensures c.args.words.now are c.behind_first-of_target.result.now c.behind_first-of_target.ensures))
+    (target_begins k x f (args_of s) says source target class_permission c.in-Some.ensures c.args.words.now are c.behind_first-of_target.result.now c.behind_first-of_target.ensures))
     c.in_ok-class.class c.in-Some-given_by.given.mask
-    (rw c.in_ok-class.ensures (c.in-Some-given_by.ensures xs names known classes
-    (class_begins k xs x f (args_of s) says source target class_permission c.in-Some.ensures c.args.words.now are c.behind_first-of_target.result.now c.behind_first-of_target.ensures c.behind-of_class.result.now (c.behind-of_class.ensures f))))
+    (rw c.in_ok-class.ensures (c.in-Some-given_by.ensures xs names f known classes
+    (class_begins k x f (args_of s) says source target class_permission c.in-Some.ensures c.args.words.now are c.behind_first-of_target.result.now c.behind_first-of_target.ensures c.behind-of_class.result.now (c.behind-of_class.ensures f))))
     (keyword_there i c.args.at s c.statement_there-statement.ensures ∙ is) (sym c.is_enabled.ensures ∙ c.if-not-is_enabled.false)

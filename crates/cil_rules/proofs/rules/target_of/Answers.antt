@@ -9,7 +9,7 @@ returns-in_ok-only-in-Some c = λ xs names f known begin.
     let m = c.args.«module» in
     let w = c.in-Leaf.field-0 in
     word_reached k f m c.args.term.now xs (names kinds.Type_) w c.in-Some.number _ c.in-Leaf.is
-    (c.in-Some.ensures xs names (f (word_in m w)) known (word_means k f m c.args.term.now xs w c.in-Leaf.is c.args.words.now begin c.meaning_at.result c.meaning_at.ensures))
+    (c.in-Some.ensures xs names (f (word_in m w)) known (word_means k f m c.args.term.now w c.in-Leaf.is c.args.words.now begin c.meaning_at.result c.meaning_at.ensures))
     c.in_ok-only-in-Some.ensures
 
 pub returns-in-None : goal.returns-in-None
@@ -18,7 +18,7 @@ returns-in-None c = λ xs names f known begin.
     let m = c.args.«module» in
     let w = c.in-Leaf.field-0 in
     word_lost k f m c.args.term.now xs (names kinds.Type_) w c.in-Leaf.is
-    (c.in-None.ensures xs names (f (word_in m w)) known (word_means k f m c.args.term.now xs w c.in-Leaf.is c.args.words.now begin c.meaning_at.result c.meaning_at.ensures))
+    (c.in-None.ensures xs names (f (word_in m w)) known (word_means k f m c.args.term.now w c.in-Leaf.is c.args.words.now begin c.meaning_at.result c.meaning_at.ensures))
 
 pub returns-in-Name : goal.returns-in-Name
 returns-in-Name c = λ xs names f known begin.

@@ -15,7 +15,7 @@ loop-at-preserved c =
     let at = c.loop-at.at in
     let within : at < length (items_in i) = let t = c.loop-at-test.true in let n = c.len-at-end.ensures.items in omega (arith, t, n) in
     let x = item_at i at in
-    let row = c.row.ensures (map (row_in k (items_in i)) (items_in i)) (row_in k (items_in i) x) c.requires.table (slice_get-map (row_in k (items_in i)) (items_in i) at ∙ ap (option_map (row_in k (items_in i))) (item_there i at within)) in
+    let row = c.row.ensures (map (row_in k) (items_in i)) (row_in k x) c.requires.table (slice_get-map (row_in k) (items_in i) at ∙ ap (option_map (row_in k)) (item_there i at within)) in
     elim c.match-branch-3.branch [
       | in-Some+in_ok-push w ↦ rw w.rules-is (λ names known classes. record_more _ _ (items_in i) at x (items_taken i at within) _
           (c.loop-at.invariant names known classes) w.in-Some.rule _ (rw w.in-Some.is at c.in_ok-rule.ensures (items_in i) names known classes row) w.in_ok-push.ensures.items)

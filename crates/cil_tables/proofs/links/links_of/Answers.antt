@@ -20,7 +20,7 @@ loop-at-preserved c =
     let at = c.loop-at.at in
     let within : at < length (items_in i) = let t = c.loop-at-test.true in let n = c.len-at-end.ensures.items in omega (arith, t, n) in
     let x = item_at i at in
-    let row = c.row.ensures (map (row_in k (items_in i)) (items_in i)) (row_in k (items_in i) x) c.requires.table (slice_get-map (row_in k (items_in i)) (items_in i) at ∙ ap (option_map (row_in k (items_in i))) (item_there i at within)) in
+    let row = c.row.ensures (map (row_in k) (items_in i)) (row_in k x) c.requires.table (slice_get-map (row_in k) (items_in i) at ∙ ap (option_map (row_in k)) (item_there i at within)) in
     elim c.match-link_of.branch [
       | in-Some+in_ok-add w ↦ rw w.links-is (
         w.in_ok-add.ensures.added.rising,

@@ -1,12 +1,12 @@
 use Rattle.std.proofs.Common.{◌≡◌, map, take, length}
 use Rattle.cil_macros.specs.Items.{items_in, namespaces_in}
-use Rattle.cil_names.specs.LastScopes.{IsLast}
 use Rattle.cil_words.specs.Lists.{AreWithin, lists_at}
-use Rattle.cil_words.specs.Table.{asks}
+use Rattle.cil_words.specs.Scopes.{AreScopes}
+use Rattle.cil_words.specs.Table.{numbered_asks}
 use Rattle.cil_words.proofs.asks.asks_of.Given as goal
 
 abbrev pub invariant-loop-at : goal.invariant-loop-at
 invariant-loop-at l =
-    (lists_at l.starts.items l.cells ≡ map (asks (namespaces_in l.instances) l.names (items_in l.instances)) (take l.at (items_in l.instances)))
+    (lists_at l.starts.items l.cells ≡ map (numbered_asks (namespaces_in l.instances) l.names (items_in l.instances) l.permissions) (take l.at (items_in l.instances)))
     × AreWithin (length l.cells) l.starts.items
-    × IsLast l.instances l.last
+    × AreScopes l.instances l.scopes

@@ -3,14 +3,15 @@ use Rattle.std.proofs.Common.{ap, arith, sym, ◌∙◌, ◌<◌, ◌≤◌, len
 use Rattle.cil_macros.specs.Items.{items_in}
 use Rattle.cil_optionals.specs.Parts.{Part, asked_of, inside_of}
 use Rattle.cil_optionals.proofs.RowParts.{absent_at, no_part, part_at}
+use Rattle.cil_words.specs.Table.{could_in}
 use Rattle.cil_optionals.proofs.parts.Parts.word.Goals as goal
 
 pub returns-then-not-is_there : goal.returns-then-not-is_there
 returns-then-not-is_there c =
     let p = c.args.self.now in
-    sym (ap (λ o. get_or (asked_of o) c.args.number []) (no_part (items_in p.instances.now) p.asks.now c.args.at (absent_at _ _ _ c.is_there.ensures.1 c.if-not-is_there.true)))
+    sym (ap (λ o. get_or (asked_of o) c.args.number []) (no_part (items_in p.instances.now) (could_in p.asks.now) c.args.at (absent_at _ _ _ c.is_there.ensures.1 c.if-not-is_there.true)))
 
 pub returns : goal.returns
 returns c =
     let p = c.args.self.now in
-    c.word.ensures ∙ sym (ap (λ o. get_or (asked_of o) c.args.number []) (part_at p.instances.now p.asks.now c.args.at (c.is_there.ensures.0 c.if-not-is_there.false)))
+    c.word.ensures ∙ sym (ap (λ o. get_or (asked_of o) c.args.number []) (part_at p.instances.now (could_in p.asks.now) c.args.at (c.is_there.ensures.0 c.if-not-is_there.false)))

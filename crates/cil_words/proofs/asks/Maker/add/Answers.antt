@@ -1,6 +1,6 @@
 use Rattle.std.proofs.Common.{◌++◌, ◌∙◌, ap, map, sym, append-nil}
 use Rattle.cil_macros.specs.Items.{items_in, namespaces_in}
-use Rattle.cil_names.specs.PermissionWords.{wanted_candidates}
+use Rattle.cil_words.specs.Table.{ask_of}
 use Rattle.cil_names.proofs.WordedLemmas.{unworded_asks}
 use Rattle.cil_words.proofs.asks.Maker.add.Goals as goal
 
@@ -8,8 +8,8 @@ pub returns-then-not-is_worded_at-clause-asks : goal.returns-then-not-is_worded_
 returns-then-not-is_worded_at-clause-asks c =
     let k = c.args.self.now in
     let i = k.instances.now in
-    let could = wanted_candidates (namespaces_in i) k.names.now (items_in i) in
+    let could = ask_of (namespaces_in i) k.names.now (items_in i) k.permissions.now in
     sym (ap (λ ws. c.args.cells.now ++ map could ws) (unworded_asks i c.args.at (sym c.is_worded_at.ensures ∙ c.if-not-is_worded_at.true)) ∙ append-nil c.args.cells.now)
 
 pub returns-clause-asks : goal.returns-clause-asks
-returns-clause-asks c = c.in_ok-statement.ensures (items_in c.args.self.now.instances.now) c.requires.entries c.requires.permissions
+returns-clause-asks c = c.in_ok-statement.ensures.asks (items_in c.args.self.now.instances.now) c.requires.entries c.requires.permissions

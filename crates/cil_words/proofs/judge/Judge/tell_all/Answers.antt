@@ -11,6 +11,6 @@ pub returns : goal.returns
 returns c = λ es s is.
     let j = c.args.self.now in
     let g = wanted_by (all_placed j.instances.now) in
-    let them = ap (flat_map g) c.as_slice-2.ensures.value ∙ c.in_ok-asked.ensures in
+    let them = ap (flat_map g) c.as_slice.ensures.value ∙ c.in_ok-asked.ensures in
     c.in_ok-tell.ensures es s is (row_is j es s is c.args.at c.requires ∙ ap (map (could_by j es)) (sym them))
-    ∙ ap (λ l. c.args.faults.now.items ++ l) (all_faults (items_by j) s (space_by j c.args.at) g c.as_slice-2.result.now ∙ ap (faults_of_all (items_by j) s (space_by j c.args.at)) them)
+    ∙ ap (λ l. c.args.faults.now.items ++ l) (all_faults (items_by j) s (space_by j c.args.at) g c.as_slice.result.now ∙ ap (faults_of_all (items_by j) s (space_by j c.args.at)) them)

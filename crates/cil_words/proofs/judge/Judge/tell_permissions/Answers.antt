@@ -1,4 +1,4 @@
-use Rattle.std.proofs.Common.{◌+◌, ◌≡◌, ◌∙◌, ◌++◌, ap, arith, refl, rules, suc}
+use Rattle.std.proofs.Common.{◌∙◌, ◌++◌, ap, arith, rules}
 use Rattle.cil_macros.specs.Items.{all_placed, scoped_by}
 use Rattle.cil_macros.specs.declared.placed_word.PlacedWord.{PlacedWord}
 use Rattle.cil_names.specs.Resolves.{Permission as APermission}

@@ -4,7 +4,7 @@ use Rattle.cil_macros.specs.Item.{Item}
 use Rattle.cil_words.specs.Walks.{spaces_by}
 use Rattle.cil_names.specs.Classes.{IsClassFor}
 use Rattle.cil_names.specs.Entries.{AreEntries}
-use Rattle.cil_names.specs.PermissionWords.{wanted_candidates}
+use Rattle.cil_words.specs.Table.{ask_of}
 use Rattle.cil_names.specs.Readings.{module_of, word_read}
 use Rattle.cil_names.specs.Resolves.{Permission as APermission}
 use Rattle.cil_names.specs.Unresolved.{ArePermissions}
@@ -15,5 +15,5 @@ abbrev pub invariant-permissions-loop-term : goal.invariant-permissions-loop-ter
 invariant-permissions-loop-term l =
     (w : ScopedWord) → IsClassFor (spaces_by l.self) l.self.names.now l.self.permissions.now w l.found
     → (xs : List Item) → AreEntries (spaces_by l.self) xs l.self.names.now → ArePermissions (spaces_by l.self) l.self.names.now xs l.self.permissions.now
-    → l.cells ++ each_all (word_read l.self.reading) (module_of l.self.reading) (λ p. wanted_candidates (spaces_by l.self) l.self.names.now xs (APermission w p)) (drop l.term-index l.terms)
-    ≡ l.fn.cells ++ each_all (word_read l.self.reading) (module_of l.self.reading) (λ p. wanted_candidates (spaces_by l.self) l.self.names.now xs (APermission w p)) l.terms
+    → l.cells ++ each_all (word_read l.self.reading) (module_of l.self.reading) (λ p. ask_of (spaces_by l.self) l.self.names.now xs l.self.permissions.now (APermission w p)) (drop l.term-index l.terms)
+    ≡ l.fn.cells ++ each_all (word_read l.self.reading) (module_of l.self.reading) (λ p. ask_of (spaces_by l.self) l.self.names.now xs l.self.permissions.now (APermission w p)) l.terms

@@ -1,9 +1,8 @@
-use Rattle.std.proofs.Common.{◌∷◌, [], ◌++◌, ◌∙◌, ap, map, sym, append-nil, append_assoc, subst}
-use Rattle.std.proofs.lemmas.Simd.{map-map}
+use Rattle.std.proofs.Common.{◌∷◌, [], ◌++◌, ◌∙◌, ap, map, sym, append-nil, append_assoc}
 use Rattle.cil_syntax.specs.Scopes.{ScopedWord}
 use Rattle.cil_macros.specs.Item.{all_words_in}
 use Rattle.cil_words.specs.Walks.{spaces_by}
-use Rattle.cil_names.specs.PermissionWords.{wanted_candidates}
+use Rattle.cil_words.specs.Table.{ask_of}
 use Rattle.cil_names.specs.Readings.{module_of, scoped_there, word_read}
 use Rattle.cil_names.specs.Resolves.{Permission as APermission, Word as AWord}
 use Rattle.cil_names.specs.Unresolved.{terms_with}
@@ -14,24 +13,24 @@ use Rattle.cil_words.proofs.walk.Walk.class_list.Goals as goal
 pub permissions-requires-clause-rising : goal.permissions-requires-clause-rising
 permissions-requires-clause-rising c =
     let l = c.args.self.now in
-    class_rises (spaces_by l) l.names.now l.permissions.now (scoped_there l.reading c.word-class.result) c.in_ok-found.found c.in_ok-found.ensures
+    class_rises (spaces_by l) l.names.now l.permissions.now (scoped_there l.reading c.word-class.result) c.in_ok-found.found c.in_ok-found.ensures.class
 
-pub returns-in_default : goal.returns-in_default
-returns-in_default c = λ xs entries permissions.
+pub returns-in_default-clause-asks : goal.returns-in_default-clause-asks
+returns-in_default-clause-asks c = λ xs entries permissions.
     let l = c.args.self.now in
-    let could = wanted_candidates (spaces_by l) l.names.now xs in
+    let could = ask_of (spaces_by l) l.names.now xs l.permissions.now in
     sym (ap (λ ws. c.args.cells.now ++ map could ws) (no_class_list (word_read l.reading) (module_of l.reading) c.args.terms.now c.in_default.ensures) ∙ append-nil c.args.cells.now)
 
-pub returns : goal.returns
-returns c = λ xs entries permissions.
+pub returns-clause-asks : goal.returns-clause-asks
+returns-clause-asks c = λ xs entries permissions.
     let l = c.args.self.now in
     let r = l.reading in
-    let could = wanted_candidates (spaces_by l) l.names.now xs in
+    let could = ask_of (spaces_by l) l.names.now xs l.permissions.now in
     let old = c.args.cells.now in
     let class_ = scoped_there r c.word-class.result in
     let terms = all_words_in (terms_with (word_read r) (module_of r) c.in-Some.list.terms.now) in
-    c.in_ok-permissions.ensures class_ c.in_ok-found.ensures xs entries permissions
-    ∙ ap (λ ds. ds ++ map could (map (APermission class_) terms)) (c.in_ok-word.ensures xs entries permissions)
+    c.in_ok-permissions.ensures class_ c.in_ok-found.ensures.class xs entries permissions
+    ∙ ap (λ ds. ds ++ map could (map (APermission class_) terms)) (c.in_ok-word.ensures.asks xs entries permissions)
     ∙ append_assoc old (could (AWord class_) ∷ []) (map could (map (APermission class_) terms))
     ∙ ap (λ (w : ScopedWord). old ++ map could (AWord w ∷ map (APermission w) terms)) c.word-class.ensures
     ∙ ap (λ ws. old ++ map could ws) (sym (class_list_words (word_read r) (module_of r) c.args.terms.now c.in-Some.list.terms.now c.in-Some.list.word c.in-Some.ensures))

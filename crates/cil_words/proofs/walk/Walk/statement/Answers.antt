@@ -1,27 +1,27 @@
 use Rattle.std.proofs.Common.{◌∙◌, ◌++◌, ap, map, sym, append-nil}
 use Rattle.cil_macros.specs.Calls.{is_call}
 use Rattle.cil_words.specs.Walks.{spaces_by}
-use Rattle.cil_names.specs.PermissionWords.{wanted_candidates}
+use Rattle.cil_words.specs.Table.{ask_of}
 use Rattle.cil_names.specs.Resolves.{all_wanted_in}
 use Rattle.cil_names.proofs.ReadingLemmas.{keyword_read, none_wanted, nothing_read, written_read}
 use Rattle.cil_words.proofs.walk.Walk.statement.Goals as goal
 
-pub returns-then-is_call : goal.returns-then-is_call
-returns-then-is_call c = λ xs entries permissions.
+pub returns-then-is_call-clause-asks : goal.returns-then-is_call-clause-asks
+returns-then-is_call-clause-asks c = λ xs entries permissions.
     let r = c.args.self.now.reading in
-    c.in_ok-call.ensures (ap is_call (keyword_read r c.requires.reading) ∙ sym c.is_call.ensures ∙ c.if-is_call.true) xs entries permissions
+    c.in_ok-call.ensures.asks (ap is_call (keyword_read r c.requires.walk.reading) ∙ sym c.is_call.ensures ∙ c.if-is_call.true) xs entries permissions
 
-pub returns-then-not-says_as_written : goal.returns-then-not-says_as_written
-returns-then-not-says_as_written c = λ xs entries permissions.
+pub returns-then-not-says_as_written-clause-asks : goal.returns-then-not-says_as_written-clause-asks
+returns-then-not-says_as_written-clause-asks c = λ xs entries permissions.
     let l = c.args.self.now in
-    let could = wanted_candidates (spaces_by l) l.names.now xs in
-    let none = ap all_wanted_in (nothing_read l.reading c.requires.reading (sym c.is_call.ensures ∙ c.if-is_call.false) (sym c.says_as_written.ensures ∙ c.if-not-says_as_written.true)) ∙ none_wanted in
+    let could = ask_of (spaces_by l) l.names.now xs l.permissions.now in
+    let none = ap all_wanted_in (nothing_read l.reading c.requires.walk.reading (sym c.is_call.ensures ∙ c.if-is_call.false) (sym c.says_as_written.ensures ∙ c.if-not-says_as_written.true)) ∙ none_wanted in
     sym (ap (λ ws. c.args.cells.now ++ map could ws) none ∙ append-nil c.args.cells.now)
 
-pub returns : goal.returns
-returns c = λ xs entries permissions.
+pub returns-clause-asks : goal.returns-clause-asks
+returns-clause-asks c = λ xs entries permissions.
     let l = c.args.self.now in
-    let could = wanted_candidates (spaces_by l) l.names.now xs in
-    c.in_ok-terms.ensures xs entries permissions
+    let could = ask_of (spaces_by l) l.names.now xs l.permissions.now in
+    c.in_ok-terms.ensures.asks xs entries permissions
     ∙ ap (λ ts. c.args.cells.now ++ map could (all_wanted_in ts))
-    (sym (written_read l.reading c.requires.reading (sym c.says_as_written.ensures ∙ c.if-not-says_as_written.false) c.as_slice.result.now c.as_slice.ensures.value))
+    (sym (written_read l.reading c.requires.walk.reading (sym c.says_as_written.ensures ∙ c.if-not-says_as_written.false) c.as_slice.result.now c.as_slice.ensures.value))

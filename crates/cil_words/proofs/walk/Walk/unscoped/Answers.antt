@@ -7,8 +7,8 @@ use Rattle.cil_names.specs.Soles.{in_scope}
 use Rattle.cil_words.specs.Walks.{spaces_by}
 use Rattle.cil_words.proofs.walk.Walk.unscoped.Goals as goal
 
-pub returns : goal.returns
-returns c =
+pub returns-clause-candidate : goal.returns-clause-candidate
+returns-clause-candidate c =
     let l = c.args.self.now in
     let ps = all_placed l.reading.instances.now in
     let w = c.args.word.now in

@@ -1,0 +1,50 @@
+-- Classes that statements join to two different commons. A class has one at most: this project's profile.
+use Rattle.std.specs.Prelude.{◌≡◌, ℕ, suc, Bool, true, false, List, Contains, Some, get_or, slice_get}
+use Rattle.cil_faults.specs.Reported.{fault_at}
+use Rattle.cil_faults.specs.declared.code.FaultCode.TheVariants as causes
+use Rattle.cil_faults.specs.declared.fault.Fault.{Fault}
+use Rattle.cil_macros.specs.Item.{Item}
+use Rattle.cil_names.specs.Declarations.{Symbol}
+use Rattle.cil_names.specs.Shared.{IsSharing, Pair, Shares}
+use Rattle.cil_names.specs.declared.shared.Shared.{Shared}
+
+-- the item joins a common to a class, to which items join two different commons, by what their words name. The fault is told
+-- at its class word
+pub record HasTwoCommons (xs : List Item) (x : Item) (f : Fault) : Type 0 where
+  pub pair : Pair
+  pub shares : Shares xs x pair
+  pub first : Symbol
+  pub second : Symbol
+  pub has_first : IsSharing xs (record { class_ = pair.class_; common = first })
+  pub has_second : IsSharing xs (record { class_ = pair.class_; common = second })
+  pub differ : first ≡ second → ⊥
+  pub told : f ≡ fault_at causes.CommonTwice shares.class_word.at x.space shares.class_word.bytes
+
+-- ---- by the numbers of entries. No other crate needs these words
+
+-- two commons are joined to the class of this number
+pub record IsTwice (shared : List Shared) (d : ℕ) : Type 0 where
+  pub first : Shared
+  pub second : Shared
+  pub is_first : Contains shared first
+  pub is_second : Contains shared second
+  pub of_first : first.class ≡ d
+  pub of_second : second.class ≡ d
+  pub differ : first.common ≡ second.common → ⊥
+
+-- a pair of the class and the next one
+pub record IsBeside (shared : List Shared) (at d : ℕ) : Type 0 where
+  pub first : Shared
+  pub second : Shared
+  pub here : slice_get shared at ≡ Some first
+  pub next : slice_get shared (suc at) ≡ Some second
+  pub of_first : first.class ≡ d
+  pub of_second : second.class ≡ d
+
+-- the flag of this number is set
+abbrev pub IsFlagged : List Bool → ℕ → Type 0
+IsFlagged flags d = get_or flags d false ≡ true
+
+-- some item has the fault
+abbrev pub IsToldTwice : List Item → Fault → Type 0
+IsToldTwice xs f = (x : Item) × Contains xs x × HasTwoCommons xs x f

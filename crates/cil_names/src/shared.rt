@@ -1,0 +1,278 @@
+//! The permissions that classes share by commons.
+
+ghost use Rattle.std.specs.Prelude.{◌≡◌, ◌⊎◌, ◌<◌, ◌≤◌, ◌++◌, All, Contains, IfOk, List, MatchOption, None, OnOk, Some, false, length, refl, true};
+ghost use Rattle.std.specs.Cmp.{eq_by_cmp_equiv, partial_equiv_from_equiv, partial_order_from_total};
+ghost use Rattle.std.specs.Global.{Vec as Vector};
+ghost use Rattle.std.specs.List.Sorted.{IsStrictlySortedBy};
+ghost use Rattle.std.specs.Ordering.{as_partial_cmp, eq_by_cmp};
+ghost use Rattle.cil_base.specs.Lists.{Lists, text_cmp};
+ghost use Rattle.cil_base.specs.declared.bytes.Bytes.{Bytes as Text};
+ghost use Rattle.cil_macros.specs.Item.{Item, nobody};
+ghost use Rattle.cil_macros.specs.Items.{item_at, items_in, namespaces_in, word_at};
+ghost use Rattle.cil_names.specs.Entries.{AreEntries, AreOrdered, is_declared_at, scoped};
+ghost use Rattle.cil_names.specs.Resolves.{is_class_common as joins};
+ghost use Rattle.cil_base.specs.Records.{AreRecordsOf, IsRecordOf};
+ghost use Rattle.cil_names.specs.Shared.{AreApart, AreShared, HaveCommons, IsAddedTo, IsOutside, IsPairOf, Shares};
+ghost use Rattle.cil_names.specs.SharedOrder.{shared_cmp, shared_total};
+
+use crate::entry::Entry;
+use crate::guesses::Guesses;
+use crate::look::{entry_in, is_declared};
+use crate::names::Names;
+use crate::permission_word::class_named;
+use cil_base::NoMemory;
+use cil_blocks::{Namespaces, ScopeList};
+use cil_macros::Instances;
+use cil_syntax::{Bytes, Keyword, Sign, Word};
+use std::alloc::Global;
+use std::cmp::Ordering;
+use std::mem;
+
+/// A class that shares the permissions of a common, by the numbers of their entries. Pairs are compared by the class, and then by
+/// the common.
+#[derive(Clone, Copy, Debug)]
+pub struct Shared {
+    /// The class.
+    pub class: usize,
+    /// The common.
+    pub common: usize,
+}
+
+impl PartialEq for Shared {
+    ghost eq = { eq_by_cmp shared_cmp };
+
+    ghost laws = { partial_equiv_from_equiv (eq_by_cmp_equiv shared_total) };
+
+    fn eq(&self, other: &Shared) -> bool {
+        self.cmp(other) == Ordering::Equal
+    }
+}
+
+impl Eq for Shared {
+    ghost laws = { eq_by_cmp_equiv shared_total };
+}
+
+impl PartialOrd for Shared {
+    ghost partial_cmp = { as_partial_cmp shared_cmp };
+
+    ghost laws = { partial_order_from_total shared_total };
+
+    fn partial_cmp(&self, other: &Shared) -> Option<Ordering> {
+        Some(self.cmp(other))
+    }
+}
+
+impl Ord for Shared {
+    ghost cmp = { shared_cmp };
+
+    ghost total = { shared_total };
+
+    ghost matches_partial_cmp = { λ a b. refl };
+
+    ghost matches_eq = { λ a b. refl };
+
+    fn cmp(&self, other: &Shared) -> Ordering {
+        self.class
+            .cmp(&other.class)
+            .then(self.common.cmp(&other.common))
+    }
+}
+
+/// The classes and commons that classcommon statements join, by what their words name where no optional is enabled: rising, each
+/// pair once. A statement costs a look-up of its two words; at the end the pairs are sorted. Error: out of memory.
+pub fn commons_of(
+    alloc: Global,
+    names: &Names,
+    instances: &Instances,
+) -> Result<Vec<Shared>, NoMemory>
+    requires { AreEntries (namespaces_in instances.now) (items_in instances.now) names.now }
+    ensures { IfOk result (λ shared. AreShared (namespaces_in instances.now) names.now (items_in instances.now) shared.items) }
+{
+    let mut shared = all_shared(alloc, names, instances)?;
+    shared.sort_unstable();
+    shared.dedup();
+    Ok(shared)
+}
+
+/// The same, in the order of the statements.
+fn all_shared(alloc: Global, names: &Names, instances: &Instances) -> Result<Vec<Shared>, NoMemory>
+    requires { AreEntries (namespaces_in instances.now) (items_in instances.now) names.now }
+    ensures { IfOk result (λ shared. AreRecordsOf (Shares (items_in instances.now)) (IsPairOf (namespaces_in instances.now) names.now) (items_in instances.now) shared.items) }
+{
+    let mut shared = Vec::new(alloc);
+    let mut scope = ScopeList::new(alloc);
+    for at in 0..instances.len() {
+        if let Some(one) = shared_at(alloc, names, instances, at, &mut scope)? {
+            shared.push(one)?;
+        }
+    }
+    Ok(shared)
+}
+
+/// The class and the common that the statement at a place joins, if it is a classcommon statement whose words name both. Classes
+/// and commons are declared outside all optionals.
+pub fn shared_at(
+    alloc: Global,
+    names: &Names,
+    instances: &Instances,
+    at: usize,
+    scope: &mut ScopeList,
+) -> Result<Option<Shared>, NoMemory>
+    requires entries { AreEntries (namespaces_in instances.now) (items_in instances.now) names.now }
+    requires within { at < length (items_in instances.now) }
+    ensures { IfOk result (IsRecordOf (Shares (items_in instances.now)) (IsPairOf (namespaces_in instances.now) names.now) (item_at instances.now at)) }
+{
+    let statement = instances.statement_there(at);
+    if !is_class_common(statement.keyword) {
+        return Ok(None);
+    }
+    if !instances.is_outside(at) {
+        return Ok(None);
+    }
+    let Some(words) = statement.two_words() else {
+        return Ok(None);
+    };
+    let class = named_at(
+        alloc,
+        names,
+        instances,
+        at,
+        &words.first,
+        Sign::PlainClass,
+        scope,
+    )?;
+    let common = named_at(
+        alloc,
+        names,
+        instances,
+        at,
+        &words.second,
+        Sign::Commons,
+        scope,
+    )?;
+    Ok(joined(class, common))
+}
+
+/// A class and a common, where both are there.
+fn joined(class: Option<usize>, common: Option<usize>) -> Option<Shared>
+    ensures { MatchOption result ((class ≡ None) ⊎ (common ≡ None)) (λ pair. (class ≡ Some pair.class) × (common ≡ Some pair.common)) }
+{
+    let class = class?;
+    let common = common?;
+    Some(Shared { class, common })
+}
+
+fn is_class_common(keyword: Keyword) -> bool
+    ensures { result ≡ joins keyword }
+{
+    matches!(keyword, Keyword::ClassCommon)
+}
+
+/// The entry of a wanted kind that a word of the statement at a place names where no optional is enabled.
+fn named_at<'a>(
+    alloc: Global,
+    names: &Names,
+    instances: &Instances<'_, '_, 'a>,
+    at: usize,
+    word: &Word<'a>,
+    sign: Sign,
+    scope: &mut ScopeList,
+) -> Result<Option<usize>, NoMemory>
+    requires entries { AreEntries (namespaces_in instances.now) (items_in instances.now) names.now }
+    requires within { at < length (items_in instances.now) }
+    ensures { IfOk result (IsOutside (namespaces_in instances.now) names.now (items_in instances.now) sign (word_at instances.now at word.now)) }
+{
+    let placed = instances.word(at, word);
+    instances.scope_into(alloc, placed.scope, scope)?;
+    Ok(named_outside(
+        instances.namespaces(),
+        names.entries(),
+        names.guesses(),
+        &placed.word,
+        scope.as_slice(),
+        sign,
+    ))
+}
+
+/// The entry of a wanted kind that a word names where no optional is enabled.
+fn named_outside(
+    namespaces: &Namespaces,
+    entries: &[Entry],
+    guesses: &Guesses,
+    word: &Word,
+    scope: &[usize],
+    sign: Sign,
+) -> Option<usize>
+    requires entries { AreOrdered namespaces.now entries.now }
+    requires within { All (λ k. k ≤ length namespaces.now) scope.now }
+    ensures { (xs : List Item) → AreEntries namespaces.now xs entries.now → IsOutside namespaces.now entries.now xs sign (scoped namespaces.now scope.now word.now) result }
+{
+    namespaces.are_namespaces();
+    let named = class_named(namespaces, entries, guesses, word, scope)?;
+    let entry = &entries[named];
+    let found = entry_in(entries, guesses, entry.space, entry.name.as_slice(), sign)?;
+    where_always(entries, found)
+}
+
+/// The number of an entry, where it is declared with no optional enabled.
+pub(crate) fn where_always(entries: &[Entry], number: usize) -> Option<usize>
+    requires { number < length entries.now }
+    ensures { MatchOption result (is_declared_at nobody entries.now number ≡ false) (λ d. (d ≡ number) × (is_declared_at nobody entries.now number ≡ true)) }
+{
+    if is_declared(&[], &entries[number]) {
+        Some(number)
+    } else {
+        None
+    }
+}
+
+/// Adds the permissions of commons to those of the classes that share them. Each costs a copy of the names of its common, and a
+/// sort of all names of its class.
+pub fn with_commons(
+    alloc: Global,
+    lists: Vec<Vec<Bytes>>,
+    shared: &[Shared],
+) -> Result<Vec<Vec<Bytes>>, NoMemory>
+    requires rising { (v : Vector Text) → Contains lists.items v → IsStrictlySortedBy text_cmp v.items }
+    requires apart { AreApart (length lists.items) shared.now }
+    ensures { IfOk result (λ all. HaveCommons lists.items shared.now all.items) }
+{
+    let mut all = lists;
+    for one in shared {
+        add_common(alloc, &mut all, one)?;
+    }
+    Ok(all)
+}
+
+/// Adds the permissions of a common to those of a class.
+fn add_common(alloc: Global, lists: &mut Vec<Vec<Bytes>>, one: &Shared) -> Result<(), NoMemory>
+    requires class { one.now.class < length lists.now.items }
+    requires common { one.now.common < length lists.now.items }
+    requires apart { one.now.common ≡ one.now.class → ⊥ }
+    ensures { OnOk result (IsAddedTo one.now lists.old.items lists.new.items) }
+{
+    let listed = mem::replace(&mut lists[one.class], Vec::new(alloc));
+    let joined = with_names(alloc, listed, lists[one.common].as_slice())?;
+    lists[one.class] = joined;
+    Ok(())
+}
+
+/// Some names and others, in byte order, each once.
+fn with_names(alloc: Global, mut names: Vec<Bytes>, more: &[Bytes]) -> Result<Vec<Bytes>, NoMemory>
+    ensures { IfOk result (λ all. Lists text_cmp (Contains (names.items ++ more.now)) all.items) }
+{
+    push_copies(alloc, &mut names, more)?;
+    names.sort_unstable();
+    names.dedup();
+    Ok(names)
+}
+
+/// Adds copies of some names.
+fn push_copies(alloc: Global, names: &mut Vec<Bytes>, more: &[Bytes]) -> Result<(), NoMemory>
+    ensures { OnOk result (names.new.items ≡ names.old.items ++ more.now) }
+{
+    for name in more {
+        names.push(Bytes::copy_of(alloc, name.as_slice())?)?;
+    }
+    Ok(())
+}

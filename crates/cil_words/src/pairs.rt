@@ -1,0 +1,204 @@
+//! Permissions of classes, each with the number that it has in its class.
+
+ghost use Rattle.std.specs.Prelude.{◌≡◌, ◌++◌, ◌∷◌, [], IfOk, IfSome, IsTrue, OnOk, Some, slice_get};
+ghost use Rattle.cil_names.specs.Entries.{listed};
+ghost use Rattle.cil_words.specs.Cells.{IsLonger};
+
+use crate::cells::{cell_at, one, small};
+use cil_base::NoMemory;
+use cil_names::Meaning;
+use std::alloc::Global;
+
+/// How many slots there are for guesses, a power of two.
+const SLOTS: usize = 16_384;
+
+/// Permissions of classes. Nearly always a permission is there once: a guess tells where it is. A guess is checked where it is
+/// used, so nothing is proved of the guesses.
+#[derive(Debug, Drop)]
+pub struct Pairs {
+    /// The entry of the class of each.
+    pub owners: Vec<u32>,
+    /// The number of each in its class.
+    pub places: Vec<Meaning>,
+    /// Where a permission may be, plus 1, by a hash; or 0.
+    slots: Vec<u32>,
+}
+
+impl Pairs {
+    /// No permissions.
+    pub fn new(alloc: Global) -> Pairs
+        ensures { result.owners.items ≡ [] }
+    {
+        Pairs {
+            owners: Vec::new(alloc),
+            places: Vec::new(alloc),
+            slots: Vec::new(alloc),
+        }
+    }
+
+    /// The class of a permission, as a list of one entry.
+    pub fn owner(&self, place: usize) -> &[u32]
+        ensures { result.now ≡ listed (slice_get self.now.owners.items place) }
+    {
+        let owners = self.owners.as_slice();
+        match cell_at(owners, place) {
+            None => &[],
+            Some(_) => one(owners, place),
+        }
+    }
+
+    /// The number that a permission has in its class.
+    pub fn number(&self, place: usize) -> Option<Option<usize>>
+        ensures { result ≡ slice_get self.now.places.items place }
+    {
+        match self.places.get(place) {
+            None => None,
+            Some(number) => Some(number.entry()),
+        }
+    }
+
+    /// The place of a permission. It is added if no guess finds it. Error: out of memory.
+    pub fn place_of(&mut self, class: usize, number: Option<usize>) -> Result<usize, NoMemory>
+        ensures owner { IfOk result (λ place. slice_get self.new.owners.items place ≡ Some class) }
+        ensures number { IfOk result (λ place. slice_get self.new.places.items place ≡ Some number) }
+        ensures owners { IsLonger self.old.owners.items self.new.owners.items }
+        ensures places { IsLonger self.old.places.items self.new.places.items }
+    {
+        if let Some(place) = self.found(class, number) {
+            return Ok(place);
+        }
+        self.add(class, number)
+    }
+
+    /// The place of a permission, if a guess finds it.
+    fn found(&self, class: usize, number: Option<usize>) -> Option<usize>
+        ensures owner { IfSome result (λ place. slice_get self.now.owners.items place ≡ Some class) }
+        ensures number { IfSome result (λ place. slice_get self.now.places.items place ≡ Some number) }
+    {
+        let slot = slot_of(class, number);
+        if let Some(place) = self.tried(slot, class, number) {
+            return Some(place);
+        }
+        self.tried(slot ^ 1, class, number)
+    }
+
+    /// The place that a slot tells, if the permission is there.
+    fn tried(&self, slot: usize, class: usize, number: Option<usize>) -> Option<usize>
+        ensures owner { IfSome result (λ place. slice_get self.now.owners.items place ≡ Some class) }
+        ensures number { IfSome result (λ place. slice_get self.now.places.items place ≡ Some number) }
+    {
+        let place = guess_at(self.slots.as_slice(), slot)?;
+        if !is_owner(self.owners.as_slice(), place, class) {
+            return None;
+        }
+        if !is_number(self.places.as_slice(), place, number) {
+            return None;
+        }
+        Some(place)
+    }
+
+    /// Adds a permission behind the others.
+    fn add(&mut self, class: usize, number: Option<usize>) -> Result<usize, NoMemory>
+        ensures owner { IfOk result (λ place. slice_get self.new.owners.items place ≡ Some class) }
+        ensures number { IfOk result (λ place. slice_get self.new.places.items place ≡ Some number) }
+        ensures owners { IsLonger self.old.owners.items self.new.owners.items }
+        ensures places { IsLonger self.old.places.items self.new.places.items }
+    {
+        let place = self.owners.len();
+        // The lists are as long as each other, but after an error.
+        if place != self.places.len() {
+            return Err(NoMemory);
+        }
+        push_number(&mut self.places, number)?;
+        push_owner(&mut self.owners, class)?;
+        note(&mut self.slots, slot_of(class, number), place);
+        Ok(place)
+    }
+}
+
+/// Adds an entry.
+fn push_owner(owners: &mut Vec<u32>, class: usize) -> Result<(), NoMemory>
+    ensures pushed { OnOk result (owners.new.items ≡ owners.old.items ++ class ∷ []) }
+    ensures longer { IsLonger owners.old.items owners.new.items }
+{
+    let owner = small(class)?;
+    owners.push(owner)?;
+    Ok(())
+}
+
+/// Adds a number.
+fn push_number(places: &mut Vec<Meaning>, number: Option<usize>) -> Result<(), NoMemory>
+    ensures pushed { OnOk result (places.new.items ≡ places.old.items ++ number ∷ []) }
+    ensures longer { IsLonger places.old.items places.new.items }
+{
+    let place = Meaning::of(number)?;
+    places.push(place)?;
+    Ok(())
+}
+
+/// Whether the class of the permission at a place is this one.
+fn is_owner(owners: &[u32], place: usize, class: usize) -> bool
+    ensures { IsTrue result → slice_get owners.now place ≡ Some class }
+{
+    match owners.get(place) {
+        Some(owner) => *owner as usize == class,
+        None => false,
+    }
+}
+
+/// Whether the permission at a place has this number.
+fn is_number(places: &[Meaning], place: usize, number: Option<usize>) -> bool
+    ensures { IsTrue result → slice_get places.now place ≡ Some number }
+{
+    match places.get(place) {
+        Some(known) => known.entry() == number,
+        None => false,
+    }
+}
+
+/// The place that a slot tells.
+fn guess_at(slots: &[u32], slot: usize) -> Option<usize> {
+    let next = *slots.get(slot)?;
+    (next as usize).checked_sub(1)
+}
+
+/// Notes where a permission is: in its slot, or in the one beside it if that is free and its own is not.
+fn note(slots: &mut Vec<u32>, slot: usize, place: usize) {
+    if slots.is_empty() {
+        for _ in 0..SLOTS {
+            if slots.push(0).is_err() {
+                return;
+            }
+        }
+    }
+    let Ok(small) = u32::try_from(place) else {
+        return;
+    };
+    let beside = slot ^ 1;
+    let chosen = if is_free(slots.as_slice(), beside) && !is_free(slots.as_slice(), slot) {
+        beside
+    } else {
+        slot
+    };
+    if let Some(there) = slots.get_mut(chosen) {
+        *there = small.wrapping_add(1);
+    }
+}
+
+/// Whether a slot tells nothing.
+fn is_free(slots: &[u32], slot: usize) -> bool {
+    guess_at(slots, slot).is_none()
+}
+
+/// The slot of a permission. The hash need not be a good one, since guesses are checked.
+fn slot_of(class: usize, number: Option<usize>) -> usize {
+    let next = match number {
+        Some(number) => number.wrapping_add(1),
+        None => 0,
+    };
+    let mixed = (class as u64)
+        .wrapping_mul(0x0000_0100_0000_01b3)
+        .wrapping_add(next as u64)
+        .wrapping_mul(0x9e37_79b9_7f4a_7c15);
+    (mixed >> 50) as usize
+}
