@@ -7,7 +7,7 @@ command -v valgrind >/dev/null || { echo "this script needs valgrind" >&2; exit 
 # How many names the policy of distribution.sh --optionals declares, and how many of these are halved.
 "$here/distribution.py" --optionals "$work/policy"
 "$here/guesses.py" "$work/policy" | tee "$work/guesses"
-awk '{ share = $(NF - 1); printf "%s of the names that are declared once: %s\n", share " %", share >= 99 ? "at least 99 %" : "LESS THAN 99 %" }' \
+awk '{ share = $(NF - 1); printf "%s of the names that are declared once: %s\n", share " %", (share >= 99 ? "at least 99 %" : "LESS THAN 99 %") }' \
     "$work/guesses"
 
 # A policy with $1 blocks in one another, each with 50 types, and 20,000 statements in the innermost one. Both words of a
@@ -50,10 +50,10 @@ for blocks in 0 2 120; do
     { install_request "$work/module"; echo LOAD; } >"$work/loaded"
     valgrind --tool=callgrind --callgrind-out-file="$work/calls" "$program" session <"$work/loaded" >"$work/replies" 2>"$work/log"
     expect_no_refusal
-    calls_of "$work/calls" look::resolve >"$work/counts$blocks"
+    calls_of "$work/calls" walk::Walk::word >"$work/counts$blocks"
     awk -v namespaces="$((blocks + 1))" '{
-        if ($1 == 0) { print "no call of look::resolve: it is no function of this program"; exit 1 }
+        if ($1 == 0) { print "no call of Walk::word: it is no function of this program"; exit 1 }
         printf "%10d %9d %14.1f %14.0f\n", namespaces, $1, $2 / 1e6, $2 / $1 }' "$work/counts$blocks"
 done
-awk '{ printf "a look-up in three namespaces takes %.0f instructions: %s\n", $2 / $1, $2 <= 300 * $1 ? "at most 300" : "MORE THAN 300" }' \
+awk '{ printf "a look-up in three namespaces takes %.0f instructions: %s\n", $2 / $1, ($2 <= 300 * $1 ? "at most 300" : "MORE THAN 300") }' \
     "$work/counts2"

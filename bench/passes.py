@@ -11,6 +11,7 @@ import re
 import sys
 
 LOADING, COMPILING, PLACED = "requests::load", "compiler::compile", "compiler::placed_policy"
+CHOOSING = "chosen::greatest_of"
 
 
 def lines_of(path):
@@ -93,7 +94,7 @@ def main():
         print(__doc__, end="")
         return 2
     costs, calls = lines_of(sys.argv[1])
-    loading, compiling, placed = (only(costs, name) for name in (LOADING, COMPILING, PLACED))
+    loading, compiling, placed, choosing = (only(costs, name) for name in (LOADING, COMPILING, PLACED, CHOOSING))
 
     one = Function(costs[compiling], calls[compiling])
     one.ends_with("reading", "reader::read_level")
@@ -111,20 +112,23 @@ def main():
 
     two = Function(costs[placed], calls[placed])
     two.ends_with("declare", "gather::declare")
-    two.ends_with("permissions_of", "dealloc")
-    # The last thing that is freed is what the words of a statement are looked up by.
-    two.ends("asks_of", two.place("dealloc", last=True, before=two.place("quicksort")))
-    two.ends_before("guess: graph", "quicksort")
-    two.ends_with("guess: sorting", "quicksort")
-    two.ends_before("guess: settling", "counts::lookups_of")
-    two.ends_with("lookups_of", "counts::lookups_of")
-    two.ends_before("check", "judge::judged")
+    two.ends_with("commons_of", "shared::commons_of")
+    two.ends_before("permissions_of", "worded::has_word")
+    two.ends_before("asks_of", CHOOSING)
+    two.ends_with("choosing", CHOOSING)
     for name, wanted in (("judged", "judge::judged"), ("settled", "settled_rows::settled"), ("check_classes", "widths::check_classes"), ("tables_of", "compiler::tables_of"),
                          ("optional_lines", "lines::optional_lines"), ("why_lines", "lines::why_lines")):
         two.ends_with(name, wanted)
     two.ends("freeing names", len(two.calls) - 1)
 
-    inside = {"compiling": one, "placed": two}
+    three = Function(costs[choosing], calls[choosing])
+    three.ends_before("guess: graph", "quicksort")
+    three.ends_with("guess: sorting", "quicksort")
+    three.ends_before("guess: settling", "counts::lookups_of")
+    three.ends_with("lookups_of", "counts::lookups_of")
+    three.ends("check", len(three.calls) - 1)
+
+    inside = {"compiling": one, "placed": two, "choosing": three}
 
     def tell(function):
         for name, cost, address in function.lines():
