@@ -15,27 +15,36 @@ fn names_of(alloc: Global, spaces: &Spaces, declared: &[Declared]) -> Result<Nam
 /// The numbers of the declared names that a word could name in a scope.
 fn could_name(alloc: Global, word: &Word<'static>, scope: &[usize]) -> Result<Vec<usize>, Fail> {
     let spaces = spaces(alloc)?;
-    let names = names_of(alloc, &spaces, DECLARED)?;
+    let names = Names::checked(alloc, &spaces, entries(alloc, DECLARED)?)?.ok_or(
+        "they do not rise",
+    )?;
     if !are_numbers(&spaces, scope) {
         return Err(Fail::from("no namespace"));
     }
     Ok(names.candidates(alloc, &spaces, word, scope)?)
 }
 
-/// The same behind the number 9, where the scope is asked whether it has a namespace. It ends with the global one.
-fn pushed(alloc: Global, word: &Word<'static>, numbers: &[usize]) -> Result<Vec<usize>, Fail> {
-    let spaces = spaces(alloc)?;
-    let names = names_of(alloc, &spaces, DECLARED)?;
+/// A scope with these namespaces, and with the global one behind them.
+fn scope_of(alloc: Global, numbers: &[usize]) -> Result<ScopeList, Fail> {
     let mut scope = ScopeList::new(alloc);
     for &number in numbers {
         scope.add(number)?;
     }
     scope.close()?;
+    Ok(scope)
+}
+
+/// What a word could name, behind the number 9, where the scope is asked whether it has a namespace.
+fn pushed(alloc: Global, word: &Word<'static>, scope: &ScopeList) -> Result<Vec<usize>, Fail> {
+    let spaces = spaces(alloc)?;
+    let names = Names::checked(alloc, &spaces, entries(alloc, DECLARED)?)?.ok_or(
+        "they do not rise",
+    )?;
     if !are_numbers(&spaces, scope.as_slice()) {
         return Err(Fail::from("no namespace"));
     }
     let mut found = Vec::from_slice(alloc, &[9])?;
-    names.push_candidates(&mut found, &spaces, word, &scope)?;
+    names.push_candidates(&mut found, &spaces, word, scope)?;
     Ok(found)
 }
 
@@ -68,7 +77,7 @@ fn candidates_are_there_whatever_is_enabled(rt: HostRuntime) -> Result<(), Fail>
             "{bytes:?}"
         );
         assert_eq!(rt;
-            pushed(alloc, &word, scope)?.as_slice(),
+            pushed(alloc, &word, &scope_of(alloc, scope)?)?.as_slice(),
             wanted,
             "{bytes:?}"
         );
