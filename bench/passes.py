@@ -116,7 +116,7 @@ def main():
     two.ends_before("permissions_of", "worded::has_word")
     two.ends_before("asks_of", CHOOSING)
     two.ends_with("choosing", CHOOSING)
-    for name, wanted in (("judged", "judge::judged"), ("settled", "settled_rows::settled"), ("check_classes", "widths::check_classes"), ("tables_of", "compiler::tables_of"),
+    for name, wanted in (("judged", "judge::judged"), ("settled", "settled_rows::settled"), ("tables_of", "compiler::tables_of"),
                          ("optional_lines", "lines::optional_lines"), ("why_lines", "lines::why_lines")):
         two.ends_with(name, wanted)
     two.ends("freeing names", len(two.calls) - 1)

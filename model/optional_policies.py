@@ -267,8 +267,8 @@ class OptionalDraft(Draft):
 
 
 def first_of(body):
-    """Where the statements of a body begin."""
-    return {b"block": 2, b"optional": 2, b"macro": 3}[body[0]] if body[:1] and isinstance(body[0], bytes) else 0
+    """Where the statements of a body begin. A body whose keyword was changed has statements from its first word on."""
+    return {b"block": 2, b"optional": 2, b"macro": 3}.get(body[0], 0) if body[:1] and isinstance(body[0], bytes) else 0
 
 
 def odd_optional(rng, name):

@@ -73,7 +73,7 @@ pub fn outer(statements: &[Statement], number: usize) -> Option<usize>
 }
 
 /// A number, if it is lower than another one.
-pub fn lower(number: Option<usize>, limit: usize) -> Option<usize>
+fn lower(number: Option<usize>, limit: usize) -> Option<usize>
     ensures lower { rank result ≤ limit }
     ensures same { rank number ≤ limit → result ≡ number }
     ensures higher { limit < rank number → result ≡ None }

@@ -1,16 +1,16 @@
 //! Numbers of which many in front are 0.
 
-ghost use Rattle.std.specs.Prelude.{◌≡◌};
+ghost use Rattle.std.specs.Prelude.{◌≡◌, IfOk};
 
 use cil_base::NoMemory;
 use std::alloc::Global;
 use std::marker::Model;
 
-/// A list of numbers. Those in front that are 0 take no memory. Contracts see the list.
+/// A list of numbers, in four bytes each. Those in front that are 0 take no memory. Contracts see the list.
 #[derive(Debug, Drop)]
 pub struct Numbers {
     zeros: usize,
-    others: Vec<usize>,
+    others: Vec<u32>,
 }
 
 impl Model for Numbers {
@@ -41,11 +41,14 @@ impl Numbers {
     {
         match place.checked_sub(self.zeros) {
             None => Some(0),
-            Some(rest) => self.others.get(rest).copied(),
+            Some(rest) => match self.others.get(rest) {
+                None => None,
+                Some(number) => Some(*number as usize),
+            },
         }
     }
 
-    /// Puts a number behind the others.
+    /// Puts a number behind the others. Error: out of memory, also for a number from 4,294,967,296 on.
     pub fn push(&mut self, number: usize) -> Result<(), NoMemory>
         ensures pushed { OnOk result (self.new ≡ self.old ++ number ∷ []) }
         ensures same { OnErr result (self.new ≡ self.old) }
@@ -54,7 +57,18 @@ impl Numbers {
             self.zeros += 1;
             return Ok(());
         }
-        self.others.push(number)?;
+        let short = small(number)?;
+        self.others.push(short)?;
         Ok(())
+    }
+}
+
+/// A number in four bytes. Error: out of memory, for one that needs more.
+pub fn small(number: usize) -> Result<u32, NoMemory>
+    ensures { IfOk result (λ n. n ≡ number) }
+{
+    match u32::try_from(number) {
+        Ok(n) => Ok(n),
+        Err(_) => Err(NoMemory),
     }
 }

@@ -13,7 +13,7 @@ ghost use Rattle.cil_blocks.specs.Places.{ArePlaces, Reached, all_numbered, numb
 ghost use Rattle.cil_blocks.specs.Placing.{AreBehind, AreKnown, IsInherited, IsRepeated, numbers_left};
 
 use crate::entry::Entry;
-use crate::names::{block_above, is_inheriting, is_optional_at, lower, name_at};
+use crate::names::{block_above, is_inheriting, is_optional_at, name_at};
 use crate::namespaces::Namespaces;
 use crate::numbers::Numbers;
 use crate::scopes::ScopeList;
@@ -277,7 +277,7 @@ impl<'s, 'a> Source<'s, 'a> {
         ensures first { OnOk result (AreFirstReached (program_of self.now.statements.now) (take (rank + 1) self.now.entries.now) namespaces.new places.new) }
         ensures known { OnOk result (AreKnown (program_of self.now.statements.now) namespaces.new known.new) }
     {
-        let Some(opener) = lower(self.entries[rank].opener, rank) else {
+        let Some(opener) = self.entries[rank].lower(rank) else {
             places.push_global()?;
             return Ok(());
         };
@@ -286,14 +286,19 @@ impl<'s, 'a> Source<'s, 'a> {
             return Ok(());
         }
         // What is in an optional stands where the optional does.
-        if is_optional_at(self.statements, self.entries[opener].statement) {
+        if is_optional_at(self.statements, self.entries[opener].statement as usize) {
             places.push_again(opener)?;
             return Ok(());
         }
         let Some(outer) = places.space(opener) else {
             return Ok(());
         };
-        let inside = self.inside(namespaces, known, self.entries[opener].statement, outer)?;
+        let inside = self.inside(
+            namespaces,
+            known,
+            self.entries[opener].statement as usize,
+            outer,
+        )?;
         places.push_inside(opener, inside)?;
         Ok(())
     }
@@ -343,7 +348,7 @@ fn repeated(entries: &[Entry], rank: usize, opener: usize) -> Option<usize>
 {
     let before = rank.checked_sub(1)?;
     let entry = entries.get(before)?;
-    let same = lower(entry.opener, before)?;
+    let same = entry.lower(before)?;
     if same == opener { Some(before) } else { None }
 }
 

@@ -59,11 +59,11 @@ impl ScopeList {
         self.numbers.len();
     }
 
-    /// Takes all numbers out. Their memory is kept.
+    /// Takes all numbers out. Their memory is kept. It costs what the list holds, however long a list it held before.
     pub fn clear(&mut self)
         ensures { self.new ≡ [] }
     {
-        self.numbers.clear();
+        self.numbers.truncate(0);
     }
 
     /// Adds a number, unless it is there, or that of the global namespace.

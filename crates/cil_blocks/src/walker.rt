@@ -25,14 +25,14 @@ pub fn walk(
     ensures few { IfOk result (λ o. IfSome o (λ v. length v.items ≤ limit)) }
     ensures many { IfOk result (λ o. IfNone o ((ws : List Written) → IsWalkable ws parts.now opened.now → IsOver standing_cmp (Stands ws) limit)) }
 {
-    let mut entries = Vec::with_capacity(alloc, parts.tops.len())?;
+    let mut entries = Vec::with_capacity(alloc, parts.inside.len())?;
     push_all(&mut entries, parts.tops.as_slice(), None)?;
     let mut at = 0;
     while at < entries.len() {
         if entries.len() > limit {
             return Ok(None);
         }
-        let statement = entries[at].statement;
+        let statement = entries[at].statement as usize;
         push_all(&mut entries, opened_by(parts, opened, statement), Some(at))?;
         at += 1;
     }
@@ -49,10 +49,7 @@ fn push_all(
     ensures { OnOk result ((ws : List Written) → standings_of ws entries.new.items ≡ standings_of ws entries.old.items ++ map (stepped ws (standings_of ws entries.old.items) opener) numbers.now) }
 {
     for number in numbers {
-        entries.push(Entry {
-            statement: *number,
-            opener,
-        })?;
+        entries.push(Entry::of(*number, opener)?)?;
     }
     Ok(())
 }

@@ -14,27 +14,13 @@ use cil_base::NoMemory;
 use cil_blocks::ScopeList;
 use cil_blocks::spelled::spelled;
 use cil_macros::Instances;
-use cil_names::{Names, Shared, commons_of, shared_at};
+use cil_names::{Names, Shared, shared_at};
 use cil_syntax::{Fault, FaultCode, push_fault_in};
 use std::alloc::Global;
 
-/// Reports each statement that joins a common to a class to which statements join two different ones. A statement costs
-/// two look-ups of its two words. Error: out of memory.
+/// Reports each statement that joins a common to a class to which statements join two different ones, where these are the
+/// classes and commons that statements join. A statement costs two look-ups of its two words. Error: out of memory.
 pub fn push_commons(
-    alloc: Global,
-    faults: &mut Vec<Fault>,
-    names: &Names,
-    instances: &Instances,
-) -> Result<(), NoMemory>
-    requires { AreEntries (namespaces_in instances.now) (items_in instances.now) names.now }
-    ensures { OnOk result ((f : AFault) → Contains faults.new.items f ↔ (Contains faults.old.items f ⊎ IsToldTwice (items_in instances.now) f)) }
-{
-    let shared = commons_of(alloc, names, instances)?;
-    push_all(alloc, faults, names, shared.as_slice(), instances)
-}
-
-/// The same, where these are the classes and commons that statements join.
-fn push_all(
     alloc: Global,
     faults: &mut Vec<Fault>,
     names: &Names,

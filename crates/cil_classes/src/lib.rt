@@ -1,12 +1,13 @@
 //! The classes of a policy: their rows, which have too many permissions, and what a class permission gives.
 //!
-//! Start at `rows.rt` for the rows, `widths.rt` for the faults of classes, and `given.rt` for class permissions: `mask.rt`
-//! makes the mask of an expression, by `expression.rt`, which says whether an expression has a permission.
+//! Start at `checked.rt`: `classes` answers the rows (`rows.rt`) or the faults of classes (`widths.rt`, `commons.rt`). What a class
+//! permission gives is in `given.rt` and, as a list of masks, in `perms.rt`: `mask.rt` makes the mask of an expression, by `expression.rt`, which says whether an expression has a permission.
 //! `specs/Values.antt` says which permissions an expression has, `specs/Pairs.antt` which permissions of which classes a
 //! class permission gives, `specs/Row.antt` what a row is, and `specs/Faults.antt` what is wrong with a class. Rules are
 //! made of masks a crate above.
 #![tactic(auto)]
 
+mod checked;
 mod commons;
 mod expression;
 mod given;
@@ -16,8 +17,7 @@ mod row;
 mod rows;
 mod widths;
 
+pub use checked::classes;
 pub use given::{GivenMask, given_by};
 pub use perms::{expand_perms, push_perms};
-pub use row::{Class, ClassId};
-pub use rows::class_rows;
-pub use widths::check_classes;
+pub use row::{Class, ClassId, Classes};

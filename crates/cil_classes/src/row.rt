@@ -1,4 +1,4 @@
-//! The row of a class, and its number.
+//! The row of a class, its number, and the classes of a policy.
 
 use cil_base::{Bytes, Names};
 
@@ -16,4 +16,11 @@ pub struct Class {
     pub name: Bytes,
     /// The permissions in byte order, each once, at most 32. Bit i of a mask is the i-th of them.
     pub permissions: Names,
+}
+
+/// The classes of a policy.
+#[derive(Debug, Drop)]
+pub struct Classes {
+    /// Their rows, in byte order of the names: a class stands at its number.
+    pub rows: Vec<Class>,
 }

@@ -7,6 +7,7 @@ ghost use Rattle.cil_faults.specs.Refusal.{Answers};
 ghost use Rattle.cil_faults.specs.Reported.{fault_at};
 ghost use Rattle.cil_macros.specs.Items.{item_at, items_in, namespaces_in};
 ghost use Rattle.cil_names.specs.Entries.{AreEntries, is_in};
+ghost use Rattle.cil_names.specs.Shared.{AreShared};
 ghost use Rattle.cil_names.specs.Unresolved.{ArePermissions, listed_at};
 ghost use Rattle.cil_classes.specs.Faults.{ClassFault};
 ghost use Rattle.cil_classes.specs.Widths.{IsWide};
@@ -15,7 +16,7 @@ use crate::commons::push_commons;
 use cil_base::NoMemory;
 use cil_blocks::spelled::spelled;
 use cil_macros::Instances;
-use cil_names::Lookup;
+use cil_names::{Lookup, Shared};
 use cil_syntax::{Bytes, DeclaredName, Failure, Fault, FaultCode, Sign, push_fault_in, refuse};
 use std::alloc::Global;
 
@@ -31,18 +32,20 @@ pub fn check_classes(
     alloc: Global,
     lookup: &Lookup,
     permissions: &[Vec<Bytes>],
+    shared: &[Shared],
     instances: &Instances,
 ) -> Result<(), Failure>
     requires namespaces { lookup.now.namespaces.now ≡ namespaces_in instances.now }
     requires entries { AreEntries lookup.now.namespaces.now (items_in instances.now) lookup.now.names.now }
     requires permissions { ArePermissions lookup.now.namespaces.now lookup.now.names.now (items_in instances.now) permissions.now }
+    requires shared { AreShared (namespaces_in instances.now) lookup.now.names.now (items_in instances.now) shared.now }
     ensures { Answers (λ done. Unit {0}) (ClassFault (is_in lookup.now.enabled.now) (items_in instances.now)) result }
 {
     let mut faults = Vec::new(alloc);
     for at in 0..instances.len() {
         push_wide(alloc, &mut faults, lookup, permissions, instances, at)?;
     }
-    push_commons(alloc, &mut faults, lookup.names, instances)?;
+    push_commons(alloc, &mut faults, lookup.names, shared, instances)?;
     refuse(faults)
 }
 
@@ -92,13 +95,13 @@ fn wide_class<'a>(
         (λ name. (f : AFault) → IsWide (is_in lookup.now.enabled.now) (items_in instances.now) (item_at instances.now at) f
         ↔ (f ≡ fault_at causes.ClassWide name.at (item_at instances.now at).space name.bytes.now)) }
 {
-    if !lookup.enabled.has_round(instances, at) {
-        return None;
-    }
     let statement = instances.statement_there(at);
     let Some(name) = statement.declared_class() else {
         return None;
     };
+    if !lookup.enabled.has_round(instances, at) {
+        return None;
+    }
     let names = lookup.names;
     let space = instances.space(at);
     let Some(class) = names.entry(lookup.namespaces, space, name.bytes, Sign::Classes) else {

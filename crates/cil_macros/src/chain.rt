@@ -23,7 +23,7 @@ pub fn statement_at(entries: &[Entry], called: &[Called], at: usize) -> usize
     ensures { (ws : List Written) (p : Placed) → slice_get (placed_of ws (standings_of ws entries.now) called.now) at ≡ Some p → p.standing.statement ≡ statement_at ws result }
 {
     if at < entries.len() {
-        return entries[at].statement;
+        return entries[at].statement as usize;
     }
     called[at - entries.len()].statement
 }
@@ -33,7 +33,7 @@ pub fn standing_statement(entries: &[Entry], at: usize) -> usize
     requires { at < length entries.now }
     ensures { (ws : List Written) (s : Standing) → slice_get (standings_of ws entries.now) at ≡ Some s → s.statement ≡ statement_at ws result }
 {
-    entries[at].statement
+    entries[at].statement as usize
 }
 
 /// Whether a macro is among those through whose calls something is placed. It costs a hash, and a step for each call on
@@ -69,7 +69,7 @@ pub fn spot_of(statements: &[Statement], entries: &[Entry], at: usize) -> Spot
     requires within { at < length entries.now }
     ensures { (s : Standing) → slice_get (standings_of (program_of statements.now) entries.now) at ≡ Some s → result ≡ s.statement.statement.at }
 {
-    match statements.get(entries[at].statement) {
+    match statements.get(entries[at].statement as usize) {
         None => Spot { module: 0, at: 0 },
         Some(statement) => statement.at,
     }

@@ -56,7 +56,7 @@ impl<'a> Macros<'a> {
         requires behind { AreMacrosFrom spaces.now (rank + 1) self.old }
         ensures { OnOk result (AreMacrosFrom spaces.now rank self.new) }
     {
-        let number = spaces.entries()[rank].statement;
+        let number = spaces.entries()[rank].statement as usize;
         if !is_macro_at(spaces.statements(), number) {
             return Ok(());
         }

@@ -103,10 +103,10 @@ pub fn opener_of(entries: &[Entry], at: usize) -> Option<usize>
 {
     let entry = entries.get(at)?;
     let opener = entry.opener?;
-    if opener >= at {
+    if opener as usize >= at {
         return None;
     }
-    Some(opener)
+    Some(opener as usize)
 }
 
 /// Whether what stands at a rank is a blockinherit.
@@ -142,7 +142,7 @@ fn stated<'s, 'a>(
         → MatchOption result (s.statement ≡ nothing) (λ x. s.statement.statement ≡ statement_of x.now) }
 {
     let entry = entries.get(at)?;
-    let statement = statements.get(entry.statement)?;
+    let statement = statements.get(entry.statement as usize)?;
     Some(statement)
 }
 

@@ -26,6 +26,9 @@ use Rattle.cil_base.specs.Found.{IsFound, IsMissing}
 use Rattle.cil_macros.specs.Item.{OptSet}
 use Rattle.cil_names.specs.Numbers.{AreNumbers, IsNameAmong, has_section, is_of, name_given, names_of, place_in, spelled_of}
 use Rattle.cil_syntax.specs.Kinds.{kind_number}
+use Rattle.std.proofs.lemmas.Cmp.{nat_list_cmp_total}
+use Rattle.std.proofs.lemmas.Map.Lookups.{exact_bytes}
+use Rattle.cil_base.proofs.SearchLemmas.{one_number}
 use Rattle.cil_names.proofs.AnswerLemmas.{none_where}
 use Rattle.cil_names.proofs.CandidateLemmas.{place_is, place_none, place_some}
 use Rattle.cil_syntax.proofs.KindLemmas.{one_kind, same_kind}
@@ -36,6 +39,12 @@ pub place_found : (names : List (List ℕ)) (name : List ℕ) (r : Option ℕ) �
 place_found names name (Some n) f =
     sym (place_some (λ x. same_bytes x name) names n f.item f.at ((bytes_decides f.item name).1 f.has_key) (λ m x at t. f.only m x at ((bytes_decides x name).0 t)))
 place_found names name None none = sym (place_none (λ x. same_bytes x name) names (λ m x at t. none m x at ((bytes_decides x name).0 t)))
+
+-- a name that stands at a place of rising names has this place
+pub its_place : (names : List (List ℕ)) (name : List ℕ) (n : ℕ) → IsStrictlySortedBy text_cmp names → slice_get names n ≡ Some name → Some n ≡ place_where (λ x. same_bytes x name) names
+its_place names name n up at =
+    place_found names name (Some n)
+    (record { item = name; at = at; has_key = refl; only = λ m x is same. one_number (λ x. x) text_cmp nat_list_cmp_total exact_bytes names m n x name up is at same })
 
 -- a name is listed where it has a place
 some_listed : (names : List (List ℕ)) (name : List ℕ) (r : Option ℕ) → place_where (λ x. same_bytes x name) names ≡ r → is_some r ≡ list_any (same_bytes name) names

@@ -1,24 +1,25 @@
 -- Entries that rise by their names: those of one name stand beside one another, so an entry whose neighbours have other names is the
 -- only one of its name.
-use Rattle.std.proofs.Common.{◌≡◌, ℕ, suc, zero, ◌+◌, ◌<◌, List, length, get_or, refl, sym, ◌∙◌, ap, inl, inr, arith, true, ◌⊎◌}
+use Rattle.std.proofs.Common.{◌≡◌, ℕ, suc, zero, ◌+◌, ◌<◌, ◌≤◌, List, length, get_or, refl, sym, ◌∙◌, ap, subst, inl, inr, arith, true, ◌⊎◌}
 use Rattle.std.specs.Prelude.{IfSome, Option, Some, None, slice_get}
 use Rattle.std.specs.declared.cmp.Ordering.{Ordering}
 use Rattle.std.specs.declared.cmp.Ordering.TheVariants.{Less, Equal, Greater}
 use Rattle.std.specs.Ordering.{on, ordering_reverse, ordering_then, nat_cmp}
 use Rattle.std.specs.List.Sorted.{IsStrictlySortedBy}
 use Rattle.std.proofs.lemmas.Bool.{cases_lt}
-use Rattle.std.proofs.lemmas.Option.{same_Some, none-some, slice_get-get_or, slice_get_within, get_or_from_slice_get}
+use Rattle.std.proofs.lemmas.Option.{same_Some, slice_get-get_or, slice_get_within, get_or_from_slice_get}
 use Rattle.cil_syntax.specs.declared.kind.Kind.{Kind}
 use Rattle.cil_syntax.specs.declared.kind.Sign.{Sign}
 use Rattle.cil_syntax.specs.Kinds.{is_wanted}
 use Rattle.cil_names.specs.declared.entry.Entry.{Entry}
-use Rattle.cil_names.specs.Entries.{HasNoEntry, IsEntryAt, by_name_cmp, key_of}
+use Rattle.cil_names.specs.Entries.{HasNoEntry, IsEntryAt, by_name_cmp, is_entry, key_of}
+use Rattle.cil_names.specs.declared.namesakes.Namesakes.{Namesakes}
 use Rattle.cil_syntax.specs.NameSpaces.{rank}
 use Rattle.cil_base.specs.Found.{IsFound}
 use Rattle.cil_names.proofs.EntryLemmas.{parts_fit, they_fit}
-use Rattle.cil_base.proofs.SearchLemmas.{rising_at}
-use Rattle.cil_names.specs.Soles.{IsNamedAt, IsSole, RankedName, ranked_cmp, ranked_name}
-use Rattle.cil_names.proofs.OrderLemmas.{ranked_total, one_ranked}
+use Rattle.cil_base.proofs.SearchLemmas.{one_number, rising_at}
+use Rattle.cil_names.specs.Soles.{AreNamesakes, AreRanked, IsEnd, IsNamedAt, IsSole, IsWantedIn, RankedName, ranked_cmp, ranked_name}
+use Rattle.cil_names.proofs.OrderLemmas.{key_total, one_key, one_ranked, ranked_total}
 
 pub named_is : (e : Entry) (name : List ℕ) (r : ℕ) → e.name ≡ name → rank e.kind ≡ r → ranked_name e ≡ record { name = name; rank = r }
 named_is e name r p q = λ i. record { name = p i; rank = q i }
@@ -100,6 +101,48 @@ module _ (es : List Entry) (up : IsStrictlySortedBy (on key_of by_name_cmp) es) 
           at_last zero e = omega (arith, e, further)
           at_last (suc b) e = at_before m b y at_m is further (let f : b + 1 ≡ d = omega (arith, e) in f)
 
+  -- ---- the entries of a name from the first on
+
+  module _ (n : RankedName) (first : ℕ) (x : Entry) (at : slice_get es first ≡ Some x) (named : ranked_name x ≡ n) where
+    not_in_front : ((b : ℕ) → b + 1 ≡ first → IsNamedAt es n b → ⊥) → (m : ℕ) → IsNamedAt es n m → first ≤ m
+    not_in_front before m (y, at_m, is) =
+        elim (cases_lt m first) [
+          | inl less ↦ absurd (at_last first refl less)
+          | inr ge ↦ omega arith
+        ]
+      where
+        at_before : (b : ℕ) → b + 1 ≡ first → m < b → ⊥
+        at_before b e further =
+            let within : b < length es = let w = slice_get_within es first x at in omega (arith, w, e) in
+            before b e (get_or es b x, there b x within, between m b first y (get_or es b x) x at_m (there b x within) at further (omega (arith, e)) n is named)
+
+        at_last : (k : ℕ) → k ≡ first → m < first → ⊥
+        at_last zero e less = omega (arith, e, less)
+        at_last (suc b) e less =
+            let f : b + 1 ≡ first = omega (arith, e) in
+            elim (cases_lt m b) [
+              | inl further ↦ at_before b f further
+              | inr ge ↦ before b f (let same : m ≡ b = omega (arith, ge, less, f) in (y, ap (slice_get es) (sym same) ∙ at_m, is))
+            ]
+
+    not_behind : (end : ℕ) → IsEnd es n first end → (m : ℕ) → IsNamedAt es n m → m < end
+    not_behind end ends m (y, at_m, is) =
+        elim (cases_lt m end) [
+          | inl less ↦ less
+          | inr ge ↦ elim (cases_lt end m) [
+            | inl further ↦
+                let within : end < length es = let w = slice_get_within es m y at_m in omega (arith, w, further) in
+                absurd (ends.other (get_or es end x, there end x within, between first end m x (get_or es end x) y at (there end x within) at_m ends.later further n named is))
+            | inr le ↦ absurd (ends.other (let same : m ≡ end = omega (arith, ge, le) in (y, ap (slice_get es) (sym same) ∙ at_m, is)))
+          ]
+        ]
+
+    pub are_ranked : (end : ℕ) → IsEnd es n first end → ((b : ℕ) → b + 1 ≡ first → IsNamedAt es n b → ⊥) → AreRanked es n (record { first = first; end = end })
+    are_ranked end ends before = record {
+      inside = ends.inside;
+      all = λ m there. (not_in_front before m there, not_behind end ends m there);
+    }
+
 -- ---- the one entry of a name
 
 module _ (es : List Entry) (name : List ℕ) (sign : Sign) where
@@ -110,32 +153,6 @@ module _ (es : List Entry) (name : List ℕ) (sign : Sign) where
     named = ap (λ (k : RankedName). k.name) found.has_key;
     only = λ m e at named wanted. found.only m e at (named_is e name r named (of_rank e.kind wanted));
   }
-
-  module _ (d : ℕ) (sole : IsSole es name sign d) (k : ℕ) where
-    pub not_there : slice_get es d ≡ None → HasNoEntry es name sign k
-    not_there none = absurd (none-some sole.entry (sym none ∙ sole.at))
-
-    module _ (e : Entry) (at : slice_get es d ≡ Some e) where
-      same : (m : ℕ) (x : Entry) → slice_get es m ≡ Some x → x.name ≡ name → is_wanted sign x.kind ≡ true → x ≡ e
-      same m x is named wanted = same_Some x e (sym is ∙ ap (slice_get es) (sole.only m x is named wanted) ∙ at)
-
-      pub elsewhere : (e.space ≡ k → ⊥) → HasNoEntry es name sign k
-      elsewhere other m x is fits =
-          let (space, named, wanted) = parts_fit name sign k x fits in
-          other (ap (λ (e : Entry). e.space) (sym (same m x is named wanted)) ∙ space)
-
-      pub of_other : (is_wanted sign e.kind ≡ true → ⊥) → HasNoEntry es name sign k
-      of_other other m x is fits =
-          let (space, named, wanted) = parts_fit name sign k x fits in
-          other (ap (λ (e : Entry). is_wanted sign e.kind) (sym (same m x is named wanted)) ∙ wanted)
-
-      pub found_there : e.space ≡ k → is_wanted sign e.kind ≡ true → IsEntryAt es name sign k d
-      found_there space wanted = record {
-        entry = e;
-        at = at;
-        fits = they_fit name sign k e space (ap (λ (e : Entry). e.name) (same_Some e sole.entry (sym at ∙ sole.at)) ∙ sole.named) wanted;
-        only = λ m x is fits. let (s, named, w) = parts_fit name sign k x fits in sole.only m x is named w;
-      }
 
 pub soles : (es : List Entry) (name : List ℕ) (sign : Sign) (r : ℕ) → ((kind : Kind) → is_wanted sign kind ≡ true → rank kind ≡ r) → (o : Option ℕ)
     → IfSome o (IsFound ranked_name es (record { name = name; rank = r })) → IfSome o (IsSole es name sign)
@@ -156,3 +173,69 @@ its_name es name r d e at there = ap (λ (k : RankedName). k.name) (name_there e
 
 pub its_rank : (es : List Entry) (name : List ℕ) (r d : ℕ) (e : Entry) → slice_get es d ≡ Some e → IsNamedAt es (record { name = name; rank = r }) d → rank e.kind ≡ r
 its_rank es name r d e at there = ap (λ (k : RankedName). k.rank) (name_there es (record { name = name; rank = r }) d e at there)
+
+-- ---- the few entries of a name
+
+module _ (es : List Entry) (k : RankedName) (first : ℕ) where
+  pub one_named : (end : ℕ) → first + 1 ≡ end → IsNamedAt es k first → (m : ℕ) → first ≤ m → m < end → IsNamedAt es k m
+  one_named end e there m from within = subst (IsNamedAt es k) (let same : first ≡ m = omega arith in same) there
+
+  pub one_more_named : (at : ℕ) → IsNamedAt es k at → ((m : ℕ) → first ≤ m → m < at → IsNamedAt es k m) → (m : ℕ) → first ≤ m → m < at + 1 → IsNamedAt es k m
+  one_more_named at there inside m from within =
+      elim (cases_lt m at) [
+        | inl less ↦ inside m from less
+        | inr ge ↦ subst (IsNamedAt es k) (let same : at ≡ m = omega arith in same) there
+      ]
+
+pub all_namesakes : (es : List Entry) (name : List ℕ) (sign : Sign) (r : ℕ) → ((kind : Kind) → is_wanted sign kind ≡ true → rank kind ≡ r) → (o : Option Namesakes)
+    → IfSome o (AreRanked es (record { name = name; rank = r })) → IfSome o (AreNamesakes es name sign)
+all_namesakes es name sign r of_rank None f = tt
+all_namesakes es name sign r of_rank (Some n) f = record {
+  named = λ m e at first last. its_name es name r m e at (f.inside m first last);
+  all = λ m e at named wanted. f.all m (named_there es name r m e at (of_rank e.kind wanted) named);
+  one_rank = λ a b p q. of_rank a p ∙ sym (of_rank b q);
+}
+
+pub wanted_there : (es : List Entry) (k : ℕ) (sign : Sign) (d : ℕ) (e : Entry) → slice_get es d ≡ Some e → IsWantedIn es k sign d → (e.space ≡ k) × (is_wanted sign e.kind ≡ true)
+wanted_there es k sign d e at (x, is, space, wanted) =
+    let same : x ≡ e = same_Some x e (sym is ∙ at) in
+    (ap (λ (e : Entry). e.space) (sym same) ∙ space, ap (λ (e : Entry). is_wanted sign e.kind) (sym same) ∙ wanted)
+
+module _ (es : List Entry) (name : List ℕ) (sign : Sign) (k : ℕ) where
+  same_key : ((a b : Kind) → is_wanted sign a ≡ true → is_wanted sign b ≡ true → rank a ≡ rank b) → (x e : Entry) → is_entry name sign k x ≡ true → is_entry name sign k e ≡ true
+      → key_of x ≡ key_of e
+  same_key one_rank x e p q =
+      let (space, named, wanted) = parts_fit name sign k x p in
+      let (space_e, named_e, wanted_e) = parts_fit name sign k e q in
+      λ i. record { space = (space ∙ sym space_e) i; name = (named ∙ sym named_e) i; rank = one_rank x.kind e.kind wanted wanted_e i }
+
+  -- an entry that fits is not this one, so it is a later one
+  pub later_one : (d : ℕ) → (IsWantedIn es k sign d → ⊥) → ((m : ℕ) (e : Entry) → slice_get es m ≡ Some e → is_entry name sign k e ≡ true → d ≤ m)
+      → (m : ℕ) (e : Entry) → slice_get es m ≡ Some e → is_entry name sign k e ≡ true → d + 1 ≤ m
+  later_one d other all m e at fits =
+      elim (cases_lt d m) [
+        | inl less ↦ omega arith
+        | inr ge ↦
+            let from : d ≤ m = all m e at fits in
+            let same : m ≡ d = omega (arith, from) in
+            let (space, named, wanted) = parts_fit name sign k e fits in
+            absurd (other (e, ap (slice_get es) (sym same) ∙ at, space, wanted))
+      ]
+
+  module _ (n : Namesakes) (are : AreNamesakes es name sign n) (d : ℕ) where
+    pub none_among : n.end ≤ d → ((m : ℕ) (e : Entry) → slice_get es m ≡ Some e → is_entry name sign k e ≡ true → d ≤ m) → HasNoEntry es name sign k
+    none_among over all m e at fits =
+        let (space, named, wanted) = parts_fit name sign k e fits in
+        let within : m < n.end = (are.all m e at named wanted).1 in
+        let from : d ≤ m = all m e at fits in
+        omega (arith, within, from)
+
+    pub one_among : IsStrictlySortedBy (on key_of by_name_cmp) es → n.first ≤ d → d < n.end → IsWantedIn es k sign d → IsEntryAt es name sign k d
+    one_among up from within there =
+        let fits = they_fit name sign k there.0 there.2 (are.named d there.0 there.1 from within) there.3 in
+        record {
+          entry = there.0;
+          at = there.1;
+          fits = fits;
+          only = λ m x at f. one_number key_of by_name_cmp key_total one_key es m d x there.0 up at there.1 (same_key are.one_rank x there.0 f fits);
+        }

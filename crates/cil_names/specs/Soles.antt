@@ -1,13 +1,15 @@
 -- The entries of one name, whatever their namespaces, and the one entry of a name. This project's profile.
-use Rattle.std.specs.Prelude.{◌≡◌, ℕ, true, false, List, [], Some, slice_get}
+use Rattle.std.specs.Prelude.{◌≡◌, ◌<◌, ◌≤◌, ℕ, true, false, List, [], Some, slice_get}
 use Rattle.std.specs.declared.cmp.Ordering.{Ordering}
 use Rattle.std.specs.Ordering.{nat_cmp, on, then_cmp}
 use Rattle.cil_base.specs.Lists.{text_cmp}
+use Rattle.cil_syntax.specs.declared.kind.Kind.{Kind}
 use Rattle.cil_syntax.specs.declared.kind.Sign.{Sign}
 use Rattle.cil_syntax.specs.declared.term.Word.{Word}
 use Rattle.cil_syntax.specs.Scopes.{Scope, ScopedWord, asked}
 use Rattle.cil_syntax.specs.Kinds.{is_wanted}
 use Rattle.cil_names.specs.declared.entry.Entry.{Entry}
+use Rattle.cil_names.specs.declared.namesakes.Namesakes.{Namesakes}
 use Rattle.cil_syntax.specs.NameSpaces.{rank}
 
 -- a name of a name space, whatever its namespace
@@ -26,12 +28,33 @@ ranked_cmp = then_cmp (on (λ (k : RankedName). k.name) text_cmp) (on (λ (k : R
 abbrev pub IsNamedAt : List Entry → RankedName → ℕ → Type 0
 IsNamedAt es k d = (e : Entry) × (slice_get es d ≡ Some e) × (ranked_name e ≡ k)
 
+-- the entry of this number is of a wanted kind and in the namespace of this number
+abbrev pub IsWantedIn : List Entry → ℕ → Sign → ℕ → Type 0
+IsWantedIn es k sign d = (e : Entry) × (slice_get es d ≡ Some e) × (e.space ≡ k) × (is_wanted sign e.kind ≡ true)
+
 -- the entry of this number is the only one of a wanted kind under this name, in all namespaces
 pub record IsSole (es : List Entry) (name : List ℕ) (sign : Sign) (d : ℕ) : Type 0 where
   pub entry : Entry
   pub at : slice_get es d ≡ Some entry
   pub named : entry.name ≡ name
   pub only : (m : ℕ) (e : Entry) → slice_get es m ≡ Some e → e.name ≡ name → is_wanted sign e.kind ≡ true → m ≡ d
+
+-- behind the entry of the first number those of this name go on up to another number, which has another name
+pub record IsEnd (es : List Entry) (k : RankedName) (first end : ℕ) : Type 0 where
+  pub later : first < end
+  pub inside : (m : ℕ) → first ≤ m → m < end → IsNamedAt es k m
+  pub other : IsNamedAt es k end → ⊥
+
+-- the entries of this name in this name space are those of these numbers
+pub record AreRanked (es : List Entry) (k : RankedName) (n : Namesakes) : Type 0 where
+  pub inside : (m : ℕ) → n.first ≤ m → m < n.end → IsNamedAt es k m
+  pub all : (m : ℕ) → IsNamedAt es k m → (n.first ≤ m) × (m < n.end)
+
+-- the entries of these numbers have this name, and those of a wanted kind under it are among them
+pub record AreNamesakes (es : List Entry) (name : List ℕ) (sign : Sign) (n : Namesakes) : Type 0 where
+  pub named : (m : ℕ) (e : Entry) → slice_get es m ≡ Some e → n.first ≤ m → m < n.end → e.name ≡ name
+  pub all : (m : ℕ) (e : Entry) → slice_get es m ≡ Some e → e.name ≡ name → is_wanted sign e.kind ≡ true → (n.first ≤ m) × (m < n.end)
+  pub one_rank : (a b : Kind) → is_wanted sign a ≡ true → is_wanted sign b ≡ true → rank a ≡ rank b
 
 -- a word in a scope
 abbrev pub in_scope : Scope → Word → ScopedWord

@@ -1,4 +1,4 @@
-//! Guesses where the one entry of a name is. Nothing is proved of them: a guess is checked where it is used.
+//! Guesses where the entries of a name begin. Nothing is proved of them: a guess is checked where it is used.
 
 use crate::entry::Entry;
 use crate::once::is_named;
@@ -7,6 +7,9 @@ use std::alloc::Global;
 
 /// In how many slots, one after another, a name may be noted.
 pub const WAYS: usize = 4;
+
+/// How many entries of a name in a name space are few.
+pub const FEW: usize = 8;
 
 /// Of a longer name only its ends are hashed.
 const LONGEST_HASHED: usize = 64;
@@ -23,8 +26,8 @@ pub struct Guesses {
 }
 
 impl Guesses {
-    /// Guesses for these entries, which rise. Only an entry with a name of its own in its name space is noted, if one of
-    /// the slots of its name is free.
+    /// Guesses for these entries, which rise. Of the entries of a name in a name space the first is noted, if there are few
+    /// and one of the slots of the name is free.
     pub fn of(alloc: Global, entries: &[Entry]) -> Result<Guesses, NoMemory> {
         let size = size_for(entries.len());
         let mut slots = Vec::with_capacity(alloc, size)?;
@@ -38,12 +41,12 @@ impl Guesses {
         Ok(guesses)
     }
 
-    /// Notes where the entry of a name is, unless another entry has that name or there is no room.
+    /// Notes where the entries of a name begin, unless they are many or there is no room.
     fn note(&mut self, entries: &[Entry], place: usize) {
         let Some(entry) = entries.get(place) else {
             return;
         };
-        if has_twin(entries, place, entry) {
+        if !is_first_of_few(entries, place, entry) {
             return;
         }
         let Some(free) = self.free(entry.name.as_slice()) else {
@@ -84,14 +87,14 @@ impl Guesses {
     }
 }
 
-/// Whether one of the neighbours of an entry has its name in its name space.
-fn has_twin(entries: &[Entry], place: usize, entry: &Entry) -> bool {
+/// Whether an entry is the first of its name in its name space, and not many others have that name.
+fn is_first_of_few(entries: &[Entry], place: usize, entry: &Entry) -> bool {
     let name = entry.name.as_slice();
     let rank = entry.kind.rank();
-    if is_named(entries, place.wrapping_add(1), name, rank) {
-        return true;
+    if is_named(entries, place.wrapping_sub(1), name, rank) {
+        return false;
     }
-    is_named(entries, place.wrapping_sub(1), name, rank)
+    !is_named(entries, place.wrapping_add(FEW), name, rank)
 }
 
 /// The number of slots for so many entries.
@@ -106,7 +109,7 @@ fn size_for(entries: usize) -> usize {
 }
 
 /// A hash of a name, by at most 64 of its bytes. It need not be a good one, since guesses are checked.
-fn hash_of(name: &[u8]) -> u64 {
+pub fn hash_of(name: &[u8]) -> u64 {
     let length = name.len();
     if length <= LONGEST_HASHED {
         return folded(hashed(FIRST_HASH, name));

@@ -6,13 +6,13 @@ ghost use Rattle.std.specs.List.Sorted.{IsStrictlySortedBy};
 ghost use Rattle.std.specs.Ordering.{on};
 ghost use Rattle.cil_syntax.specs.Scopes.{IsDotless, names_backwards};
 ghost use Rattle.cil_names.specs.Entries.{AreOrdered, HasNoEntry, IsEntryAt, candidate, candidates_of, is_declared_in, is_in, is_known, by_name_cmp, key_of, listed, scoped};
-ghost use Rattle.cil_names.specs.Soles.{IsSole};
+ghost use Rattle.cil_names.specs.Soles.{AreNamesakes, IsWantedIn};
 ghost use Rattle.cil_base.specs.Found.{IsFound, IsMissing};
 ghost use Rattle.cil_blocks.specs.Namespaces.{space_at};
 
 use crate::entry::Entry;
 use crate::guesses::Guesses;
-use crate::once::sole;
+use crate::namesakes::{Namesakes, few_named};
 use crate::opt_set::{are_set, is_set};
 use cil_base::NoMemory;
 use cil_blocks::Namespaces;
@@ -49,7 +49,7 @@ fn place_of(entries: &[Entry], space: usize, name: &[u8], rank: u8) -> Option<us
         .ok()
 }
 
-/// The number of the entry of a wanted kind under this name in a namespace. It costs one hash for a name that one entry has,
+/// The number of the entry of a wanted kind under this name in a namespace. It costs one hash for a name that few entries have,
 /// and else one search by halving.
 pub fn entry_in(
     entries: &[Entry],
@@ -64,45 +64,57 @@ pub fn entry_in(
     let rank = sign.rank()?;
     entry_of(
         entries,
-        sole(entries, guesses, name, rank),
+        few_named(entries, guesses, name, rank),
         space,
         name,
         sign,
     )
 }
 
-/// The same, where the one entry of the name is given, or none. So a word looks up its name once, and not once for each
+/// The same, where the entries of the name are given, or none. So a word looks up its name once, and not once for each
 /// namespace of its scope.
 fn entry_of(
     entries: &[Entry],
-    sole: Option<usize>,
+    same: Option<Namesakes>,
     space: usize,
     name: &[u8],
     sign: Sign,
 ) -> Option<usize>
     requires sorted { IsStrictlySortedBy (on key_of by_name_cmp) entries.now }
-    requires sole { IfSome sole (IsSole entries.now name.now sign) }
+    requires same { IfSome same (AreNamesakes entries.now name.now sign) }
     ensures { MatchOption result (HasNoEntry entries.now name.now sign space) (IsEntryAt entries.now name.now sign space) }
 {
-    match sole {
-        Some(place) => at_once(entries, place, space, name, sign),
+    match same {
+        Some(few) => among(entries, few, space, name, sign),
         None => by_halving(entries, space, name, sign),
     }
 }
 
-/// The entry at a place, which is the one of its name, if it is of a wanted kind and in a namespace.
-fn at_once(entries: &[Entry], place: usize, space: usize, name: &[u8], sign: Sign) -> Option<usize>
-    requires { IsSole entries.now name.now sign place }
+/// The same among the entries of the name.
+fn among(entries: &[Entry], same: Namesakes, space: usize, name: &[u8], sign: Sign) -> Option<usize>
+    requires sorted { IsStrictlySortedBy (on key_of by_name_cmp) entries.now }
+    requires same { AreNamesakes entries.now name.now sign same }
     ensures { MatchOption result (HasNoEntry entries.now name.now sign space) (IsEntryAt entries.now name.now sign space) }
 {
-    let entry = entries.get(place)?;
+    for place in same.first..same.end {
+        if is_wanted_in(entries, place, space, sign) {
+            return Some(place);
+        }
+    }
+    None
+}
+
+/// Whether the entry at a place is of a wanted kind and in a namespace.
+fn is_wanted_in(entries: &[Entry], place: usize, space: usize, sign: Sign) -> bool
+    ensures { IsTrue result ↔ IsWantedIn entries.now space sign place }
+{
+    let Some(entry) = entries.get(place) else {
+        return false;
+    };
     if entry.space != space {
-        return None;
+        return false;
     }
-    if !sign.wants(entry.kind) {
-        return None;
-    }
-    Some(place)
+    sign.wants(entry.kind)
 }
 
 /// The same by halving.
@@ -118,38 +130,38 @@ fn by_halving(entries: &[Entry], space: usize, name: &[u8], sign: Sign) -> Optio
     Some(place)
 }
 
-/// The place of the one entry that a path without dots could name, if that was guessed.
-fn sole_of(entries: &[Entry], guesses: &Guesses, path: &Path, sign: Sign) -> Option<usize>
+/// The entries that have the name of a path without dots, if that was guessed.
+fn namesakes_of(entries: &[Entry], guesses: &Guesses, path: &Path, sign: Sign) -> Option<Namesakes>
     requires { IsStrictlySortedBy (on key_of by_name_cmp) entries.now }
-    ensures { IfSome result (IsSole entries.now path.now.names.now sign) }
+    ensures { IfSome result (AreNamesakes entries.now path.now.names.now sign) }
 {
     if !path.dotless {
         return None;
     }
     let rank = sign.rank()?;
-    sole(entries, guesses, path.names, rank)
+    few_named(entries, guesses, path.names, rank)
 }
 
-/// The number of the entry that a path could name in a namespace, whatever is enabled. Where the path has no dots, the one
-/// entry that it could name is given, or none.
+/// The number of the entry that a path could name in a namespace, whatever is enabled. Where the path has no dots, the entries
+/// of its name are given, or none.
 fn named_in(
     namespaces: &Namespaces,
     entries: &[Entry],
     guesses: &Guesses,
-    sole: Option<usize>,
+    same: Option<Namesakes>,
     from: usize,
     path: &Path,
     sign: Sign,
 ) -> Option<usize>
     requires entries { AreOrdered namespaces.now entries.now }
-    requires sole { IfSome sole (IsSole entries.now path.now.names.now sign) }
+    requires same { IfSome same (AreNamesakes entries.now path.now.names.now sign) }
     requires within { from ≤ length namespaces.now }
     requires dotless { IsTrue path.now.dotless → IsDotless path.now.names.now }
     ensures { (name : List ℕ) (inner : List (List ℕ)) → names_backwards path.now.names.now ≡ name ∷ inner → result ≡ candidate namespaces.now entries.now name sign (inner ++ space_at namespaces.now from) }
 {
     namespaces.are_namespaces();
     if path.dotless {
-        return entry_of(entries, sole, from, path.names, sign);
+        return entry_of(entries, same, from, path.names, sign);
     }
     let place = asked_in(namespaces, from, path.names)?;
     entry_in(entries, guesses, place.space, place.name, sign)
@@ -192,9 +204,9 @@ pub fn push_candidates(
         return Ok(());
     };
     let path = path_of(word.bytes.as_slice());
-    let sole = sole_of(entries, guesses, &path, word.sign);
+    let same = namesakes_of(entries, guesses, &path, word.sign);
     for from in asked_scope(path.global, scope) {
-        let named = named_in(namespaces, entries, guesses, sole, *from, &path, word.sign);
+        let named = named_in(namespaces, entries, guesses, same, *from, &path, word.sign);
         push_listed(found, named)?;
     }
     Ok(())
@@ -239,9 +251,9 @@ pub fn resolve(
         return None;
     };
     let path = path_of(word.bytes.as_slice());
-    let sole = sole_of(entries, guesses, &path, word.sign);
+    let same = namesakes_of(entries, guesses, &path, word.sign);
     for from in asked_scope(path.global, scope) {
-        let named = named_in(namespaces, entries, guesses, sole, *from, &path, word.sign);
+        let named = named_in(namespaces, entries, guesses, same, *from, &path, word.sign);
         let declared = where_declared(known, entries, named);
         if declared.is_some() {
             return declared;

@@ -1,6 +1,6 @@
 //! The numbers of declared symbols: the order of their qualified names, kind by kind.
 
-ghost use Rattle.std.specs.Prelude.{◌≡◌, ◌++◌, ◌∷◌, [], ◌↔◌, Contains, IfOk, IsTrue, OnOk, map, length, ◌≤◌, true};
+ghost use Rattle.std.specs.Prelude.{◌≡◌, ◌++◌, ◌∷◌, [], ◌↔◌, Contains, IfOk, IsTrue, OnOk, Some, map, length, slice_get, ◌≤◌, true};
 ghost use Rattle.std.specs.List.{flat_map};
 ghost use Rattle.std.specs.List.Sorted.{IsStrictlySortedBy};
 ghost use Rattle.cil_base.specs.Lists.{Lists, text_cmp};
@@ -165,6 +165,30 @@ pub fn place_among(names: &[Bytes], name: &[u8]) -> Option<usize>
     names
         .binary_search_by(|known| known.as_slice().cmp(name))
         .ok()
+}
+
+/// The place of a name in rising names, if it is there. A place that it may have is given: it costs one comparison where that is
+/// right, and else one search by halving.
+pub fn place_guessed(names: &[Bytes], name: &[u8], guess: Option<usize>) -> Option<usize>
+    requires { IsStrictlySortedBy text_cmp names.now }
+    ensures { result ≡ place_where (λ x. same_bytes x name.now) names.now }
+{
+    if let Some(place) = guess {
+        if is_name_at(names, place, name) {
+            return Some(place);
+        }
+    }
+    place_among(names, name)
+}
+
+/// Whether the name at a place is this one.
+fn is_name_at(names: &[Bytes], place: usize, name: &[u8]) -> bool
+    ensures { IsTrue result → slice_get names.now place ≡ Some name.now }
+{
+    match names.get(place) {
+        Some(known) => known.as_slice() == name,
+        None => false,
+    }
 }
 
 impl Sections {

@@ -23,7 +23,7 @@ ghost use Rattle.cil_names.specs.Unresolved.{ArePermissions, listed_at as listed
 use crate::entry::Entry;
 use crate::guesses::Guesses;
 use crate::look::{KnownBy, entry_in, resolve};
-use crate::numbers::place_among;
+use crate::numbers::{place_among, place_guessed};
 use crate::shared::where_always;
 use cil_blocks::Namespaces;
 use cil_syntax::{Bytes, Sign, Word};
@@ -187,8 +187,13 @@ pub fn with_permission(class: Option<Class>, permission: &[u8]) -> Option<usize>
     Some(found.entry)
 }
 
-/// The permission of the class that was found for a class word, if the class has it. It costs one search by halving.
-pub fn permission_of(class: Option<Class>, permission: &[u8]) -> Option<ClassPermission>
+/// The permission of the class that was found for a class word, if the class has it. A number that it may have is given: it
+/// costs one comparison where that is right, and else one search by halving.
+pub fn permission_of(
+    class: Option<Class>,
+    permission: &[u8],
+    guess: Option<usize>,
+) -> Option<ClassPermission>
     requires { IfSome class (λ k. IsStrictlySortedBy text_cmp k.permissions.now) }
     ensures entry { (ss : List Space) (es : List Declared) (lists : List (Vector Text)) (c p : ScopedWord) (xs : List Item) → IsClassFor ss es lists c class.entry → p.bytes ≡ permission.now
         → AreEntries ss xs es → ArePermissions ss es xs lists → option_map (λ r. r.entry) result ≡ the_class_with ss es xs c p }
@@ -196,7 +201,7 @@ pub fn permission_of(class: Option<Class>, permission: &[u8]) -> Option<ClassPer
         → AreEntries ss xs es → ArePermissions ss es xs lists → option_map (λ r. r.number) result ≡ number_with ss es xs lists c p }
 {
     let found = class?;
-    let Some(place) = place_among(found.permissions, permission) else {
+    let Some(place) = place_guessed(found.permissions, permission, guess) else {
         return None;
     };
     Some(ClassPermission {

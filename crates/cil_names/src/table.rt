@@ -20,16 +20,18 @@ pub struct Lookup<'s, 'a> {
 }
 
 /// What the words of all instances mean: those of one instance after those of the one before it. It takes four bytes
-/// for a word, and eight for an instance.
+/// for a word, and as many for an instance.
 #[derive(Debug, Drop)]
 pub struct Words {
-    starts: Vec<usize>,
+    /// Where the row of each instance begins; it ends where the next one begins, and the last one where all end.
+    starts: Vec<u32>,
+    /// The rows, one after another.
     words: Vec<Meaning>,
 }
 
 impl Words {
     /// A table of words that begin at these places.
-    pub fn of(starts: Vec<usize>, words: Vec<Meaning>) -> Words
+    pub fn of(starts: Vec<u32>, words: Vec<Meaning>) -> Words
         ensures starts { result.starts.items ≡ starts.items }
         ensures words { result.words.items ≡ words.items }
     {
@@ -40,28 +42,30 @@ impl Words {
     pub fn row(&self, i: usize) -> &[Meaning]
         ensures { (rows : List (List (Option ℕ))) (row : List (Option ℕ)) → IsTableOf rows self.now → slice_get rows i ≡ Some row → result.now ≡ row }
     {
-        let Some(start) = start_at(self.starts.as_slice(), i) else {
+        let starts = self.starts.as_slice();
+        let words = self.words.as_slice();
+        let Some(start) = start_at(starts, i) else {
             return &[];
         };
-        let Some(end) = end_at(self.starts.as_slice(), i) else {
-            return &[];
+        let Some(end) = end_at(starts, i) else {
+            return part(words, start, words.len());
         };
-        part(self.words.as_slice(), start, end)
+        part(words, start, end)
     }
 }
 
 /// The place where a row begins.
-fn start_at(starts: &[usize], i: usize) -> Option<usize>
+fn start_at(starts: &[u32], i: usize) -> Option<usize>
     ensures { result ≡ slice_get starts.now i }
 {
     match starts.get(i) {
-        Some(start) => Some(*start),
+        Some(start) => Some(*start as usize),
         None => None,
     }
 }
 
 /// The place where the next row begins.
-fn end_at(starts: &[usize], i: usize) -> Option<usize>
+fn end_at(starts: &[u32], i: usize) -> Option<usize>
     ensures { result ≡ slice_get starts.now (i + 1) }
 {
     if i < starts.len() {
@@ -71,9 +75,9 @@ fn end_at(starts: &[usize], i: usize) -> Option<usize>
     }
 }
 
-/// A part of some words.
+/// A part of some words; none where it ends before it begins.
 fn part(words: &[Meaning], start: usize, end: usize) -> &[Meaning]
-    ensures { start ≤ end → end ≤ length words.now → result.now ≡ slice_range words.now start end }
+    ensures { end ≤ length words.now → result.now ≡ slice_range words.now start end }
 {
     if start <= end && end <= words.len() {
         &words[start..end]

@@ -1,4 +1,4 @@
-//! Words without dots whose name one entry has: no namespace of a scope is gone through for them.
+//! Words without dots whose name one entry has: no long scope is gone through for them.
 
 ghost use Rattle.std.specs.Prelude.{◌≡◌, ◌≤◌, ◌<◌, ◌++◌, ◌∷◌, [], All, IfSome, List, OnOk, length};
 ghost use Rattle.std.specs.List.Sorted.{IsStrictlySortedBy};
@@ -15,6 +15,9 @@ use crate::once::sole;
 use cil_base::NoMemory;
 use cil_blocks::{Namespaces, ScopeList};
 use cil_syntax::{Word, path_of};
+
+/// How many namespaces are sooner gone through than asked.
+const SHORT_SCOPE: usize = 8;
 
 /// The number of the one entry that a word could name, in every scope that ends with the global namespace: an entry of that
 /// namespace, which alone has the name of the word. None says nothing. It costs one hash.
@@ -34,7 +37,7 @@ pub fn unscoped_entry(entries: &[Entry], guesses: &Guesses, word: &Word) -> Opti
     Some(place)
 }
 
-/// Adds the numbers of the entries that a word could name, whatever is enabled, in the order of its scope. The scope is asked
+/// Adds the numbers of the entries that a word could name, whatever is enabled, in the order of its scope. A longer scope is asked
 /// once where one entry has the name of a word without dots; else it is gone through.
 pub fn push_in_scope(
     found: &mut Vec<usize>,
@@ -49,11 +52,13 @@ pub fn push_in_scope(
     ensures found { OnOk result (found.new.items ≡ found.old.items ++ candidates_of namespaces.now entries.now (scoped namespaces.now scope.now word.now)) }
     ensures none_lost { length found.old.items ≤ length found.new.items }
 {
-    if let Some(place) = sole_word(entries, guesses, word) {
-        push_listed(found, one_in(namespaces, entries, place, word, scope))?;
-        return Ok(());
-    }
     let numbers = scope.as_slice();
+    if numbers.len() > SHORT_SCOPE {
+        if let Some(place) = sole_word(entries, guesses, word) {
+            push_listed(found, one_in(namespaces, entries, place, word, scope))?;
+            return Ok(());
+        }
+    }
     push_candidates(found, namespaces, entries, guesses, word, numbers)?;
     Ok(())
 }

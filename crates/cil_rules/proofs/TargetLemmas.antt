@@ -11,11 +11,10 @@ use Rattle.cil_syntax.specs.declared.kind.Kind.TheVariants as kinds
 use Rattle.cil_syntax.specs.declared.term.LookedUp.{LookedUp}
 use Rattle.cil_syntax.specs.declared.term.Op.{Op}
 use Rattle.cil_syntax.specs.declared.term.Op.TheVariants as ops
-use Rattle.cil_faults.specs.declared.spot.Spot.{Spot}
 use Rattle.cil_syntax.specs.declared.term.Term as rust
 use Rattle.cil_syntax.specs.declared.term.Term.TheVariants as variants
 use Rattle.cil_syntax.specs.Said.{all_said, said_of, word_in}
-use Rattle.cil_syntax.specs.Terms.{Term, Leaf, Form, Terms}
+use Rattle.cil_syntax.specs.Terms.{Term, Leaf, Form}
 use Rattle.cil_faults.specs.Spots.{spot_at}
 use Rattle.cil_syntax.proofs.SaidLemmas.{form_said, leaf_said, name_said}
 use Rattle.cil_macros.specs.Item.{Item, OptSet}
@@ -55,15 +54,6 @@ only_number xs s types w n numbers number same =
 abbrev pub IsReached : List Item → OptSet → List (List ℕ) → Term ScopedWord → Target → Type 0
 IsReached xs s types t target = HasTarget xs s t × IsTargetOf xs s types t target
 
-no_target : (xs : List Item) (s : OptSet) (at : Spot) (op : Op) (parts : Terms ScopedWord) → (op ≡ ops.Itself → ⊥) → HasTarget xs s (Form at op parts) → ⊥
-no_target xs s at ops.Itself parts other h = other refl
-no_target xs s at op parts other h = h
-
-self_reached : (xs : List Item) (s : OptSet) (types : List (List ℕ)) (at : Spot) (op : Op) (parts : Terms ScopedWord) (target : Target) → op ≡ ops.Itself → target ≡ targets.Itself
-    → IsReached xs s types (Form at op parts) target
-self_reached xs s types at op parts target is same =
-    subst (λ o. IsReached xs s types (Form at o parts) target) (sym is) (subst (IsReached xs s types (Form at ops.Itself parts)) (sym same) (tt, tt))
-
 module _ (k : Known) (f : Word → ScopedWord) (m : ℕ) (t : rust.Term) where
   -- where the term is a word, the first meaning is that of the word
   pub word_means : (w : LookedUp) → t ≡ variants.Leaf w → (words : List (Option ℕ)) → BeginWith k f (said_of m t) words → (r : Option ℕ) → r ≡ get_or words 0 None
@@ -102,9 +92,6 @@ module _ (k : Known) (f : Word → ScopedWord) (m : ℕ) (t : rust.Term) where
         → MatchOption r (op ≡ ops.Itself → ⊥) (λ target. (op ≡ ops.Itself) × (target ≡ targets.Itself))
         → MatchOption r (HasTarget xs (enabled_in k) (term_with f m t) → ⊥)
         (λ target. HasTarget xs (enabled_in k) (term_with f m t) × IsTargetOf xs (enabled_in k) types (term_with f m t) target)
-    form_reached at op parts None is other = λ h.
-        no_target xs (enabled_in k) (spot_at m at) op (all_across f (all_said m parts.items)) other
-        (subst (HasTarget xs (enabled_in k)) (is_form at op parts is) h)
+    form_reached at op parts None is other = λ h. other (subst (HasTarget xs (enabled_in k)) (is_form at op parts is) h)
     form_reached at op parts (Some target) is itself =
-        subst (λ u. IsReached xs (enabled_in k) types u target) (sym (is_form at op parts is))
-        (self_reached xs (enabled_in k) types (spot_at m at) op (all_across f (all_said m parts.items)) target itself.0 itself.1)
+        subst (λ u. IsReached xs (enabled_in k) types u target) (sym (is_form at op parts is)) (itself.0, itself)

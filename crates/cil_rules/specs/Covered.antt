@@ -15,8 +15,7 @@ use Rattle.cil_names.specs.Says.{Says}
 abbrev pub IsTarget : List Item → OptSet → Symbol → Symbol → Term ScopedWord → Type 0
 IsTarget xs s source target (Leaf w) = StandsFor xs s kinds.Type_ w target
 IsTarget xs s source target (Name at name) = ⊥
-IsTarget xs s source target (Form at ops.Itself parts) = source ≡ target
-IsTarget xs s source target (Form at op parts) = ⊥
+IsTarget xs s source target (Form at op parts) = (op ≡ ops.Itself) × (source ≡ target)
 
 -- some enabled rule with this first word covers the permission
 pub record IsCovered (xs : List Item) (s : OptSet) (keyword : Keyword) (source target class_ : Symbol) (permission : List ℕ) : Type 0 where

@@ -1,5 +1,5 @@
--- What the record of a rule covers. The SELinux Notebook, "Computing Access Decisions".
-use Rattle.std.specs.Prelude.{◌≡◌, ℕ, Contains, IsBitSet}
+-- What the records of rules cover. The SELinux Notebook, "Computing Access Decisions".
+use Rattle.std.specs.Prelude.{◌≡◌, ℕ, Contains, IsBitSet, List}
 use Rattle.cil_rules.specs.declared.rule.Rule.{Rule}
 use Rattle.cil_rules.specs.declared.rule.Target.{Target}
 use Rattle.cil_rules.specs.declared.rule.Target.TheVariants.{Types, Itself}
@@ -15,3 +15,9 @@ pub record Covers (r : Rule) (source target class_ bit : ℕ) : Type 0 where
   pub has_target : Reaches r.target source target
   pub of_class : r.class ≡ class_
   pub permits : IsBitSet r.mask bit
+
+-- some of the rules covers the permission
+pub record HasCover (rules : List Rule) (source target class_ bit : ℕ) : Type 0 where
+  pub rule : Rule
+  pub is_rule : Contains rules rule
+  pub covers : Covers rule source target class_ bit

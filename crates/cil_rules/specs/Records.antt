@@ -30,8 +30,7 @@ pub record Case : Type 0 where
 abbrev pub HasTarget : List Item → OptSet → Term ScopedWord → Type 0
 HasTarget xs s (Leaf w) = (t : Symbol) × StandsFor xs s kinds.Type_ w t
 HasTarget xs s (Name at name) = ⊥
-HasTarget xs s (Form at ops.Itself parts) = Unit {0}
-HasTarget xs s (Form at op parts) = ⊥
+HasTarget xs s (Form at op parts) = op ≡ ops.Itself
 
 -- an enabled rule with this first word says so, and has a source, a target and a permission of the class: a record without one of them
 -- covers nothing, and is not kept
@@ -52,9 +51,7 @@ abbrev pub IsTargetOf : List Item → OptSet → List (List ℕ) → Term Scoped
 IsTargetOf xs s types (Leaf w) (Types numbers) = Lists nat_cmp (HasNumber xs s types w) numbers
 IsTargetOf xs s types (Leaf w) Itself = ⊥
 IsTargetOf xs s types (Name at name) target = ⊥
-IsTargetOf xs s types (Form at ops.Itself parts) (Types numbers) = ⊥
-IsTargetOf xs s types (Form at ops.Itself parts) Itself = Unit {0}
-IsTargetOf xs s types (Form at op parts) target = ⊥
+IsTargetOf xs s types (Form at op parts) target = (op ≡ ops.Itself) × (target ≡ Itself)
 
 -- the bit stands for a permission of the class that the class permission gives
 pub record HasBit (xs : List Item) (s : OptSet) (k : Case) (row : Class) (bit : ℕ) : Type 0 where

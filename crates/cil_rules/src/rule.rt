@@ -125,19 +125,26 @@ impl Ord for Rule {
 
     fn cmp(&self, other: &Rule) -> Ordering {
         compare_sets(&self.source, &other.source)
-            .then(compare_targets(&self.target, &other.target))
-            .then(self.class.cmp(&other.class))
-            .then(self.mask.cmp(&other.mask))
+            .then_with(|| compare_targets(&self.target, &other.target))
+            .then_with(|| self.class.cmp(&other.class))
+            .then_with(|| self.mask.cmp(&other.mask))
     }
 }
 
-/// Sets are in the order of how many numbers they have, and then of these.
+/// Sets are in the order of how many numbers they have, and then of these. Most sets have one number, and cost one comparison.
 fn compare_sets(a: &Numbers, b: &Numbers) -> Ordering
     ensures { result ≡ text_cmp (set_fields a.now) (set_fields b.now) }
 {
-    let a = a.as_slice();
-    let b = b.as_slice();
-    a.len().cmp(&b.len()).then(a.cmp(b))
+    match (&a.numbers, &b.numbers) {
+        (Kept::One(a), Kept::One(b)) => a.cmp(b),
+        _ => compare_lists(a.as_slice(), b.as_slice()),
+    }
+}
+
+fn compare_lists(a: &[usize], b: &[usize]) -> Ordering
+    ensures { result ≡ text_cmp (set_fields a.now) (set_fields b.now) }
+{
+    a.len().cmp(&b.len()).then_with(|| a.cmp(b))
 }
 
 /// Types come before the source itself.

@@ -10,7 +10,6 @@ use Rattle.cil_syntax.specs.declared.kind.Keyword.{Keyword}
 use Rattle.cil_syntax.specs.declared.kind.Keyword.TheVariants as keywords
 use Rattle.cil_syntax.specs.declared.kind.Kind.{Kind}
 use Rattle.cil_syntax.specs.declared.kind.Kind.TheVariants as kinds
-use Rattle.cil_syntax.specs.declared.term.Op.TheVariants as ops
 use Rattle.cil_syntax.specs.Terms.{Term, Leaf, Name, Form}
 use Rattle.cil_tables.specs.declared.context.Context.{Context as Numbers}
 use Rattle.cil_classes.specs.declared.row.Class.{Class}
@@ -29,8 +28,8 @@ use Rattle.cil_names.specs.Declarations.{Declared, Symbol, name_of}
 use Rattle.cil_macros.specs.Item.{Item, OptSet}
 use Rattle.cil_syntax.specs.Scopes.{ScopedWord}
 use Rattle.cil_base.proofs.SearchLemmas.{one_number as one_of_key}
-use Rattle.cil_tables.specs.Meaning.{IsAllowed, IsContext}
-use Rattle.cil_rules.specs.Covers.{Reaches}
+use Rattle.cil_tables.specs.Meaning.{IsContext}
+use Rattle.cil_rules.specs.Covers.{HasCover, Reaches}
 use Rattle.cil_names.specs.Members.{StandsFor}
 use Rattle.cil_classes.specs.Pairs.{HasPair, of_class}
 use Rattle.cil_tables.specs.Table.{Table}
@@ -140,9 +139,9 @@ module _ (xs : List Item) (s : OptSet) (one : HaveOneSymbol xs s) where
       target_there (Leaf w) (Types ns) is c = stands_there w m b db nb ((is.members m).0 c)
       target_there (Leaf w) Itself is c = absurd is
       target_there (Name at name) target is c = absurd is
-      target_there (Form at ops.Itself parts) (Types ns) is c = absurd is
-      target_there (Form at ops.Itself parts) Itself is c = one_numbered t.types m kinds.Type_ kinds.Type_ a b da db (subst (IsNumbered t.types a) c na) nb
-      target_there (Form at op parts) target is c = absurd is
+      target_there (Form at op parts) target is c =
+          let same : n ≡ m = subst (λ z. Reaches z n m) is.1 c in
+          (is.0, one_numbered t.types m kinds.Type_ kinds.Type_ a b da db (subst (IsNumbered t.types a) same na) nb)
 
       number_unique : a ≡ b → n ≡ m
       number_unique e = one_number t.types n m (name_of a) table.types.rising na (subst (λ z. IsNumbered t.types z m) (sym e) nb)
@@ -151,20 +150,17 @@ module _ (xs : List Item) (s : OptSet) (one : HaveOneSymbol xs s) where
       target_back (Leaf w) (Types ns) is st = (is.members m).1 (record { kind = b; stands = st; numbered = nb })
       target_back (Leaf w) Itself is st = absurd is
       target_back (Name at name) target is st = absurd is
-      target_back (Form at ops.Itself parts) (Types ns) is st = absurd is
-      target_back (Form at ops.Itself parts) Itself is st = number_unique st
-      target_back (Form at op parts) target is st = absurd is
+      target_back (Form at op parts) target is st = subst (λ z. Reaches z n m) (sym is.1) (number_unique st.1)
 
       has_target : (term : Term ScopedWord) → IsTarget xs s a b term → HasTarget xs s term
       has_target (Leaf w) st = (b, st)
       has_target (Name at name) st = absurd st
-      has_target (Form at ops.Itself parts) st = tt
-      has_target (Form at op parts) st = absurd st
+      has_target (Form at op parts) st = st.0
 
     module _ (n m : Numbers) (a b : Context) (number bit : ℕ) (c : Symbol) (p : List ℕ) (sa : SameContext xs s t n a) (sb : SameContext xs s t m b)
         (sp : SamePermission xs s t number bit c p) where
-      allowed_there : IsAllowed t n.kind m.kind number bit → IsCovered xs s keywords.Allow a.kind b.kind c p
-      allowed_there is =
+      cover_there : HasCover t.allow n.kind m.kind number bit → IsCovered xs s keywords.Allow a.kind b.kind c p
+      cover_there is =
           let r = is.rule in
           let k = table.allow.only r is.is_rule in
           let gives = k.2 in
@@ -185,8 +181,8 @@ module _ (xs : List Item) (s : OptSet) (one : HaveOneSymbol xs s) where
             permits = subst (λ q. HasPair xs s k.0.class_permission c q) permission (subst (λ z. HasPair xs s k.0.class_permission z has.permission) class_ has.gives);
           }
 
-      allowed_back : IsCovered xs s keywords.Allow a.kind b.kind c p → IsAllowed t n.kind m.kind number bit
-      allowed_back is =
+      cover_back : IsCovered xs s keywords.Allow a.kind b.kind c p → HasCover t.allow n.kind m.kind number bit
+      cover_back is =
           let k : Case = record { source = is.source_word; target = is.target_term; class_permission = is.class_permission; class_ = c } in
           let found = table.allow.each k (record {
             rule = is.rule;
@@ -199,8 +195,6 @@ module _ (xs : List Item) (s : OptSet) (one : HaveOneSymbol xs s) where
           let class_number : r.class ≡ number = one_class_number t.classes r.class number gives.row sp.row table.classes.rising gives.is_row sp.is_row (gives.named ∙ sym sp.named) in
           let row : gives.row ≡ sp.row = same_Some _ _ (sym gives.is_row ∙ ap (slice_get t.classes) class_number ∙ sp.is_row) in
           record {
-            row = sp.row;
-            is_row = sp.is_row;
             rule = r;
             is_rule = found.2;
             covers = record {
@@ -215,5 +209,5 @@ module _ (xs : List Item) (s : OptSet) (one : HaveOneSymbol xs s) where
     table_agrees = record {
       read = reads;
       found = finds;
-      allowed = λ n m a b number bit c p sa sb sp. (allowed_there n m a b number bit c p sa sb sp, allowed_back n m a b number bit c p sa sb sp);
+      covers = λ n m a b number bit c p sa sb sp. (cover_there n m a b number bit c p sa sb sp, cover_back n m a b number bit c p sa sb sp);
     }

@@ -11,7 +11,7 @@ use Rattle.cil_tables.specs.declared.tables.Link.{Link}
 use Rattle.cil_rules.specs.Records.{Case, HasTarget, IsCase}
 use Rattle.cil_tables.specs.Links.{IsLink}
 use Rattle.cil_names.specs.Known.{IsNumbered}
-use Rattle.cil_syntax.proofs.DecidedEquality.{keyword_is}
+use Rattle.cil_syntax.proofs.DecidedEquality.{keyword_is, op_is}
 use Rattle.cil_names.specs.Declarations.{Symbol, name_of}
 use Rattle.cil_macros.specs.Item.{Item, OptSet, is_enabled}
 use Rattle.cil_syntax.specs.Scopes.{ScopedWord}
@@ -95,8 +95,7 @@ module _ (xs : List Item) (s : OptSet) (keyword : Keyword) where
   decided_target : (t : Term ScopedWord) → Decided (HasTarget xs s t)
   decided_target (Leaf w) = decided_some (StandsFor xs s kinds.Type_ w) (finite_stands xs s kinds.Type_ w)
   decided_target (Name at bytes) = inr (λ h. h)
-  decided_target (Form at ops.Itself parts) = inl tt
-  decided_target (Form at op parts) = inr (λ h. h)
+  decided_target (Form at op parts) = op_is op ops.Itself
 
   case_of : Three → Symbol → Case
   case_of q c = record { source = q.0; target = q.1; class_permission = q.2; class_ = c }

@@ -10,7 +10,6 @@ use Rattle.cil_base.specs.Lists.{Lists, text_cmp, one_list, same_members}
 use Rattle.cil_faults.specs.declared.fault.Fault.{Fault}
 use Rattle.cil_syntax.specs.declared.kind.Keyword.TheVariants as keywords
 use Rattle.cil_syntax.specs.declared.kind.Kind.TheVariants as kinds
-use Rattle.cil_syntax.specs.declared.term.Op.TheVariants as ops
 use Rattle.cil_faults.specs.Fails.{AreFaults}
 use Rattle.cil_faults.specs.FaultOrder.{fault_cmp, fault_total}
 use Rattle.cil_syntax.specs.Terms.{Term, Leaf, Name, Form}
@@ -90,10 +89,7 @@ module _ (xs : List Item) (s : OptSet) where
     one_target (Leaf w) (Types m) Itself p q = absurd q
     one_target (Leaf w) Itself b p q = absurd p
     one_target (Name at name) a b p q = absurd p
-    one_target (Form at ops.Itself parts) Itself Itself p q = refl
-    one_target (Form at ops.Itself parts) (Types m) b p q = absurd p
-    one_target (Form at ops.Itself parts) Itself (Types m) p q = absurd q
-    one_target (Form at op parts) a b p q = absurd p
+    one_target (Form at op parts) a b p q = p.1 ∙ sym q.1
 
     one_record : (k : Case) (a b : Rule) → IsStrictlySortedBy class_cmp classes → IsRuleOf xs s types classes k a → IsRuleOf xs s types classes k b → a ≡ b
     one_record k a b rising p q =

@@ -17,7 +17,6 @@ use Rattle.cil_base.specs.Paths.{same_by}
 use Rattle.cil_base.specs.Listing.{Listing}
 use Rattle.cil_syntax.specs.declared.kind.Keyword.TheVariants as keywords
 use Rattle.cil_syntax.specs.declared.kind.Kind.TheVariants as kinds
-use Rattle.cil_syntax.specs.declared.term.Op.TheVariants as ops
 use Rattle.cil_syntax.specs.Terms.{Term, Leaf, Name, Form}
 use Rattle.cil_classes.specs.declared.row.Class.{Class}
 use Rattle.cil_rules.specs.declared.rule.Rule.{Rule}
@@ -103,8 +102,7 @@ module _ (xs : List Item) where
     target_of : (t : Term ScopedWord) → HasTarget xs nobody t → (target : Target) × IsTargetOf xs nobody types t target
     target_of (Leaf w) h = (Types (numbers_of w).list, (numbers_of w).lists)
     target_of (Name at name) h = absurd h
-    target_of (Form at ops.Itself parts) h = (Itself, tt)
-    target_of (Form at op parts) h = absurd h
+    target_of (Form at op parts) h = (Itself, (h, refl))
 
     module _ (classes : List Class) (given : Gives class_cmp (Declared xs nobody kinds.Class) (IsRowOf xs) classes) where
       has_bit : (k : Case) (row : Class) (bit : ℕ) (o : Option (List ℕ)) → slice_get row.permissions bit ≡ o → Decided (HasBit xs nobody k row bit)

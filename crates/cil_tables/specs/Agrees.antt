@@ -12,7 +12,8 @@ use Rattle.cil_names.specs.Declarations.{Declared, Symbol, name_of}
 use Rattle.cil_tables.specs.Faults.{ArePolicyFaults}
 use Rattle.cil_macros.specs.Item.{Item, OptSet}
 use Rattle.cil_optionals.specs.Policy.{ArePolicy}
-use Rattle.cil_tables.specs.Meaning.{IsContext, IsAllowed}
+use Rattle.cil_rules.specs.Covers.{HasCover}
+use Rattle.cil_tables.specs.Meaning.{IsContext}
 use Rattle.cil_tables.specs.Table.{Table}
 
 -- the numbers of a context are those of three declared symbols
@@ -32,13 +33,13 @@ pub record SamePermission (xs : List Item) (s : OptSet) (t : Table) (number bit 
   pub a_class : Declared xs s kinds.Class c
   pub is_permission : slice_get row.permissions bit ≡ Some permission
 
--- the tables admit the contexts that are valid, and allow what an enabled rule covers
+-- the tables admit the contexts that are valid, and their rules cover what an enabled rule of the policy covers
 pub record Agrees (xs : List Item) (s : OptSet) (t : Table) : Type 0 where
   pub read : (text : List ℕ) (n : Numbers) → IsContext t text n → (c : Context) × IsValid xs s text c × SameContext xs s t n c
   pub found : (text : List ℕ) (c : Context) → IsValid xs s text c → (n : Numbers) × IsContext t text n × SameContext xs s t n c
-  pub allowed : (n m : Numbers) (a b : Context) (number bit : ℕ) (c : Symbol) (permission : List ℕ) → SameContext xs s t n a → SameContext xs s t m b
+  pub covers : (n m : Numbers) (a b : Context) (number bit : ℕ) (c : Symbol) (permission : List ℕ) → SameContext xs s t n a → SameContext xs s t m b
       → SamePermission xs s t number bit c permission
-      → IsAllowed t n.kind m.kind number bit ↔ IsCovered xs s keywords.Allow a.kind b.kind c permission
+      → HasCover t.allow n.kind m.kind number bit ↔ IsCovered xs s keywords.Allow a.kind b.kind c permission
 
 -- modules compile to the tables: they have no fault, the tables are those of their policy, and they say what it says
 pub record Compiles (modules : List (List ℕ)) (t : Table) : Type 0 where

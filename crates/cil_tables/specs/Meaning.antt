@@ -1,12 +1,11 @@
 -- How the tables are read: which contexts they admit, and what they answer. The SELinux Notebook, "Security Context" and
 -- "Computing Access Decisions"; CIL Reference Guide, "Role Statements" on object_r.
-use Rattle.std.specs.Prelude.{◌≡◌, ◌⊎◌, ℕ, ◌<◌, ◌==◌, List, [], ◌∷◌, length, codes, Contains, slice_get, Some}
+use Rattle.std.specs.Prelude.{◌≡◌, ◌⊎◌, ℕ, ◌==◌, List, [], ◌∷◌, codes, Contains, slice_get, Some}
 use Rattle.std.specs.List.{slice_split}
 use Rattle.cil_tables.specs.declared.context.Context.{Context}
 use Rattle.cil_classes.specs.declared.row.Class.{Class}
-use Rattle.cil_rules.specs.declared.rule.Rule.{Rule}
 use Rattle.cil_tables.specs.Table.{Table}
-use Rattle.cil_rules.specs.Covers.{Covers}
+use Rattle.cil_rules.specs.Covers.{HasCover}
 
 -- the role that every policy has, and that every user may have with every type
 abbrev pub object_role : List ℕ
@@ -50,16 +49,6 @@ pub record IsPermissionAt (t : Table) (class_ bit : ℕ) (name : List ℕ) : Typ
 
 -- ---- decisions
 
--- the class has a row in the tables, and some rule of them covers the permission
-pub record IsAllowed (t : Table) (source target class_ bit : ℕ) : Type 0 where
-  pub row : Class
-  pub is_row : slice_get t.classes class_ ≡ Some row
-  pub rule : Rule
-  pub is_rule : Contains t.allow rule
-  pub covers : Covers rule source target class_ bit
-
--- a denied permission is audited: so is every permission of the class
-pub record IsAudited (t : Table) (class_ bit : ℕ) : Type 0 where
-  pub row : Class
-  pub is_row : slice_get t.classes class_ ≡ Some row
-  pub within : bit < length row.permissions
+-- the tables permit it between two contexts: some rule of them covers the permission of the bit
+pub record Permits (t : Table) (source target : Context) (class_ bit : ℕ) : Type 0 where
+  pub covered : HasCover t.allow source.kind target.kind class_ bit

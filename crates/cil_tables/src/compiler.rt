@@ -1,7 +1,7 @@
 //! The compiler: from modules to the tables of their policy, or exactly its faults.
 
-ghost use Rattle.std.specs.Prelude.{ℕ, IfOk, IfErr, List, map};
-ghost use Rattle.cil_faults.specs.declared.fault.Fault.{Fault};
+ghost use Rattle.std.specs.Prelude.{◌≡◌, ℕ, IfOk, IfErr, List, map};
+ghost use Rattle.cil_faults.specs.Refusal.{Answers};
 ghost use Rattle.cil_syntax.specs.Program.{IsNested};
 ghost use Rattle.cil_blocks.specs.Places.{AreStandings, statements_in};
 ghost use Rattle.cil_macros.specs.Items.{items_in, namespaces_in};
@@ -10,6 +10,7 @@ ghost use Rattle.cil_names.specs.Entries.{AreEntries, is_in};
 ghost use Rattle.cil_names.specs.Numbers.{ArePlainNames};
 ghost use Rattle.cil_names.specs.PermissionWords.{meanings};
 ghost use Rattle.cil_names.specs.Rows.{IsTableOf};
+ghost use Rattle.cil_names.specs.Shared.{AreShared};
 ghost use Rattle.cil_names.specs.Unresolved.{ArePermissions};
 ghost use Rattle.cil_tables.specs.CompileAnswer.{IsCompiled, IsCompiledOf, StandsIn};
 ghost use Rattle.cil_tables.specs.CompileRefusal.{CompileFails, ItemsFail};
@@ -20,12 +21,13 @@ use crate::links::{Joins, links_of};
 use crate::tables::Tables;
 use cil_base::{Bytes, Names, NoMemory};
 use cil_blocks::{Spaces, inherit};
-use cil_classes::{check_classes, class_rows};
+use cil_classes::{Classes, classes};
 use cil_faults::Failure;
 use cil_macros::{Instances, expand};
 use cil_modset::ModuleSet;
 use cil_names::{
-    Known, Lookup, Numbering, Sections, Words, commons_of, declare, numbered, permissions_of,
+    Known, Lookup, Numbering, Sections, Shared, Words, commons_of, declare, numbered,
+    permissions_of,
 };
 use cil_optionals::{
     Chosen, OptionalLine, Reason, WhyLine, greatest_of, optional_lines, why_lines,
@@ -104,9 +106,15 @@ fn placed_policy(alloc: Global, instances: &Instances) -> Result<Compiled, Failu
         names: &names,
         enabled: &chosen.enabled,
     };
-    let words = settled(alloc, &names, &asks, &chosen.enabled)?;
-    check_classes(alloc, &lookup, permissions, instances)?;
-    let tables = tables_of(alloc, instances, &lookup, &words, permissions)?;
+    let words = settled(alloc, &names, asks, &chosen.enabled)?;
+    let tables = tables_of(
+        alloc,
+        instances,
+        &lookup,
+        &words,
+        permissions,
+        shared.as_slice(),
+    )?;
     let optionals = optional_lines(alloc, instances, &chosen.enabled)?;
     let reasons = why_lines(alloc, instances, chosen.reasons.as_slice())?;
     let Chosen {
@@ -121,25 +129,30 @@ fn placed_policy(alloc: Global, instances: &Instances) -> Result<Compiled, Failu
     })
 }
 
-/// The tables of all that is placed, where its words have these meanings.
+/// The tables of all that is placed, where its words have these meanings, and these are the classes and commons that statements
+/// join.
+///
+/// Errors: the faults of classes (too wide, two commons), or out of memory.
 fn tables_of(
     alloc: Global,
     instances: &Instances,
     lookup: &Lookup,
     words: &Words,
     permissions: &[Vec<Bytes>],
-) -> Result<Tables, NoMemory>
+    shared: &[Shared],
+) -> Result<Tables, Failure>
+    requires namespaces { lookup.now.namespaces.now ≡ namespaces_in instances.now }
     requires entries { AreEntries lookup.now.namespaces.now (items_in instances.now) lookup.now.names.now }
     requires permissions { ArePermissions lookup.now.namespaces.now lookup.now.names.now (items_in instances.now) permissions.now }
+    requires shared { AreShared (namespaces_in instances.now) lookup.now.names.now (items_in instances.now) shared.now }
     requires plain { ArePlainNames lookup.now.namespaces.now lookup.now.names.now }
     requires table { IsTableOf (map (meanings lookup.now.namespaces.now lookup.now.names.now permissions.now (is_in lookup.now.enabled.now)) (items_in instances.now)) words.now }
-    requires few { (f : Fault) → ClassFault (is_in lookup.now.enabled.now) (items_in instances.now) f → ⊥ }
-    ensures { IfOk result (IsTable (items_in instances.now) (is_in lookup.now.enabled.now)) }
+    ensures { Answers (IsTable (items_in instances.now) (is_in lookup.now.enabled.now)) (ClassFault (is_in lookup.now.enabled.now) (items_in instances.now)) result }
 {
     // What is known of the numbers of namespaces.
     lookup.namespaces.are_namespaces();
     let numbering = numbered(alloc, lookup)?;
-    let classes = class_rows(alloc, lookup, &numbering, permissions)?;
+    let classes = classes(alloc, lookup, &numbering, permissions, shared, instances)?;
     let known = Known {
         lookup: *lookup,
         words,
@@ -148,7 +161,8 @@ fn tables_of(
     };
     let user_roles = links_of(alloc, instances, &known, USER_ROLES)?;
     let role_types = links_of(alloc, instances, &known, ROLE_TYPES)?;
-    let allow = rules_of(alloc, instances, &known, classes.as_slice())?;
+    let allow = rules_of(alloc, instances, &known, classes.rows.as_slice())?;
+    let Classes { rows } = classes;
     let Numbering {
         sections,
         numbers: _,
@@ -163,7 +177,7 @@ fn tables_of(
         users: Names::from_vec(users),
         roles: Names::from_vec(roles),
         types: Names::from_vec(types),
-        classes,
+        classes: rows,
         user_roles,
         role_types,
         allow,

@@ -21,7 +21,8 @@ fn named(alloc: Global, instances: &Instances) -> Result<Option<String>, Failure
     let enabled = OptSet::of(Vec::new(alloc));
     let asks = asks_of(alloc, &names, permissions.as_slice(), &*instances)?;
     judged(alloc, &*instances, &names, &asks, &enabled)?;
-    let words = settled(alloc, &names, &asks, &enabled)?;
+    let words = settled(alloc, &names, asks, &enabled)?;
+    let asks = asks_of(alloc, &names, permissions.as_slice(), &*instances)?;
     Ok(shown(alloc, instances, &names, &asks, &words))
 }
 
@@ -91,6 +92,17 @@ const NAMED: &[&str] = &[
     "(class c (q))(common c (x))(classcommon c c)(type a)(allow a self (c (q x))) => [Class c, Common c][Type_ a, Class c, 0, 1]",
     "(class c (q))(common c (x))(type a)(allow a self (c (q x))) => 41 0 55 . x\n",
     "(class w (p))(class w (q)) => 36 0 7 . w\n36 0 20 . w\n",
+    // A permission comes again, also of another class, which has it under another number.
+    "(class c (p q))(class d (q))(type a)(allow a self (c (p q)))(allow a a (c (q p)))(allow a a (d (q))) => [Type_ a, Class c, 0, 1][Type_ a, Type_ a, Class c, 1, 0][Type_ a, Type_ a, Class d, 0]",
+    "(class c (p))(class d (q))(type a)(allow a self (c (p)))(allow a self (d (p))) => 41 0 74 . p\n",
+    // These 13 names are noted in one place of the guesses, which has room for four.
+    "(class c (ach atz dfp dnx drt egz glh pcu pzh rvm ucd vvz wko))(type a)(allow a self (c (wko ach pcu ach vvz ucd rvm pzh glh egz drt dnx dfp atz wko)))(allow a a (c (ach wko drt))) => [Type_ a, Class c, 12, 0, 7, 0, 11, 10, 9, 8, 6, 5, 4, 3, 2, 1, 12][Type_ a, Type_ a, Class c, 0, 12, 4]",
+    // Operators say nothing by themselves, however deep.
+    "(class c (p q))(type a)(allow a self (c (and (p (q)) (not (xor (q) p))))) => [Type_ a, Class c, 0, 1, 1, 0]",
+    // A name of several namespaces is that of the innermost one.
+    "(class c (p))(type t)(block b (type t)(allow t self (c (p))))(block d (allow t self (c (p))))(block e (type t))(allow t e.t (c (p))) => [Type_ t, Type_ e.t, Class c, 0][Type_ b.t, Class c, 0][Type_ t, Class c, 0]",
+    // The same of a name that many namespaces have.
+    "(class c (p))(type t)(block a (type t))(block b (type t))(block d (type t))(block e (type t))(block f (type t))(block g (type t))(block h (type t))(block i (type t))(block j (type t)(allow t self (c (p))))(block k (allow t self (c (p)))) => [Type_ j.t, Class c, 0][Type_ t, Class c, 0]",
     "(class c (q))(macro m ((type x)) (allow x self (c (p))))(block p (call m (b))) => 41 0 51 p p\n41 0 74 p b\n",
 ];
 

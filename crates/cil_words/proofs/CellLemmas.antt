@@ -3,8 +3,8 @@ use Rattle.std.proofs.Common.{◌≡◌, ℕ, suc, zero, ◌+◌, ◌-◌, ◌<�
 use Rattle.std.specs.Prelude.{None, Option, Some, nat_lt, slice_get}
 use Rattle.cil_base.specs.Places.{none_some, some_same}
 use Rattle.cil_names.specs.Entries.{listed}
-use Rattle.cil_words.specs.Lists.{lists_at}
-use Rattle.cil_words.proofs.ListLemmas.{how_many}
+use Rattle.cil_names.specs.Rows.{lists_at}
+use Rattle.cil_names.proofs.RowLemmas.{how_many}
 use Rattle.std.proofs.lemmas.List.{length-append}
 use Rattle.std.proofs.lemmas.Bool.{ltb-false, ltb-true, lt-ltb, le-ltb}
 use Rattle.cil_words.specs.Cells.{AreCells, IsCell, IsLonger, cell_ask, cell_asks, many, pair_ask, pair_with, paired}

@@ -1,11 +1,11 @@
 //! The table of what all instances ask for, filled in one walk before optionals are chosen.
 
-ghost use Rattle.std.specs.Prelude.{◌≡◌, ◌≤◌, ◌<◌, ◌++◌, ◌∷◌, [], IfOk, MatchOption, OnOk, find, get_or, length, slice_range};
+ghost use Rattle.std.specs.Prelude.{◌≡◌, ◌≤◌, ◌<◌, ◌++◌, ◌∷◌, [], IfOk, MatchOption, OnOk, get_or, length, slice_range};
 ghost use Rattle.cil_macros.specs.Items.{item_at, items_in, namespaces_in};
-ghost use Rattle.cil_names.specs.Entries.{AreEntries, is_in};
+ghost use Rattle.cil_names.specs.Entries.{AreEntries};
 ghost use Rattle.cil_names.specs.Unresolved.{ArePermissions};
 ghost use Rattle.cil_names.specs.Worded.{AreWorded};
-ghost use Rattle.cil_words.specs.Lists.{AreWithin, lists_at};
+ghost use Rattle.cil_names.specs.Rows.{AreWithin, lists_at};
 ghost use Rattle.cil_words.specs.Scopes.{AreScopes};
 ghost use Rattle.cil_words.specs.Table.{AreAsks, AreNumberedAsks, could_in, numbered_asks, word_ask};
 
@@ -14,9 +14,9 @@ use crate::scopes::Scopes;
 use crate::walk::Walk;
 use cil_base::NoMemory;
 use cil_macros::Instances;
+use cil_names::Names;
 use cil_names::reading::Reading;
 use cil_names::worded::{is_worded_at, worded};
-use cil_names::{Names, is_set};
 use cil_syntax::Bytes;
 use std::alloc::Global;
 use std::marker::Model;
@@ -34,7 +34,7 @@ pub struct Asks {
 
 impl Model for Asks {
     ghost use Rattle.std.specs.Prelude.{List, length};
-    ghost use Rattle.cil_words.specs.Lists.{AreWithin, lists_at};
+    ghost use Rattle.cil_names.specs.Rows.{AreWithin, lists_at};
     ghost use Rattle.cil_words.specs.Table.{Ask};
 
     ghost Value = { List (List Ask) };
@@ -117,9 +117,9 @@ impl Maker<'_, '_, '_, '_> {
 }
 
 impl Asks {
-    ghost use Rattle.std.specs.Prelude.{◌≡◌, ◌<◌, [], List, Some, find, get_or, length, map, slice_get};
-    ghost use Rattle.cil_names.specs.Entries.{is_in};
-    ghost use Rattle.cil_words.specs.Table.{ask_value, could_in, word_ask};
+    ghost use Rattle.std.specs.Prelude.{◌≡◌, [], get_or, length};
+    ghost use Rattle.cil_names.specs.Rows.{AreWithin, lists_at};
+    ghost use Rattle.cil_words.specs.Table.{could_in, word_ask};
 
     /// How many instances there are.
     pub fn len(&self) -> usize
@@ -157,16 +157,13 @@ impl Asks {
         }
     }
 
-    /// The value of a word of an instance, by flags of the entries that are declared: the number of a permission; and else the first
-    /// entry that the word could name and that is declared. It costs a step for each entry that it could name, until one is
-    /// declared.
-    pub fn value(&self, declared: &[bool], at: usize, number: usize) -> Option<usize>
-        ensures { result ≡ ask_value (is_in declared.now) (get_or (get_or self.now at []) number (word_ask [])) }
+    /// Where the row of each instance begins, and the rows, one after another.
+    pub fn into_rows(self) -> (Vec<u32>, Cells)
+        ensures rows { lists_at result.0.items result.1 ≡ self }
+        ensures within { AreWithin (length result.1) result.0.items }
     {
-        match self.number(at, number) {
-            None => first_declared(declared, self.word(at, number)),
-            Some(number) => number,
-        }
+        let Asks { starts, cells } = self;
+        (starts, cells)
     }
 }
 
@@ -199,16 +196,4 @@ fn bounds(starts: &[u32], cells: &Cells, at: usize) -> (usize, usize)
         return (start, cells.len());
     };
     (start, end)
-}
-
-/// The first entry of a list that is declared.
-fn first_declared(declared: &[bool], list: &[u32]) -> Option<usize>
-    ensures { result ≡ find (is_in declared.now) list.now }
-{
-    for entry in list {
-        if is_set(declared, *entry as usize) {
-            return Some(*entry as usize);
-        }
-    }
-    None
 }

@@ -2,9 +2,9 @@
 
 ghost use Rattle.std.specs.Prelude.{◌≡◌, ◌≤◌, ◌<◌, ◌+◌, ◌++◌, ◌∷◌, [], IfOk, OnOk, Some, length, slice_get, slice_range, ℕ};
 
-use crate::pairs::Pairs;
+use crate::pairs::{Guess, Pairs};
 use cil_base::NoMemory;
-use cil_names::ClassPermission;
+use cil_names::{Class, ClassPermission};
 use std::alloc::Global;
 use std::marker::Model;
 
@@ -31,7 +31,7 @@ struct Lists {
 
 impl Model for Lists {
     ghost use Rattle.std.specs.Prelude.{List, ℕ, length};
-    ghost use Rattle.cil_words.specs.Lists.{AreWithin, lists_at};
+    ghost use Rattle.cil_names.specs.Rows.{AreWithin, lists_at};
 
     ghost Value = { List (List ℕ) };
 
@@ -194,22 +194,40 @@ impl Cells {
         Ok(())
     }
 
-    /// Adds the class of a permission, with the number that the permission has in it; or an empty list. Error: out of memory, also
-    /// for more than 1,073,741,824 different permissions.
-    pub fn push_permission(&mut self, permission: Option<ClassPermission>) -> Result<(), NoMemory>
+    /// Where the permission of a name may be, of a class that was found, and the number that it may have. It costs a hash, and
+    /// says nothing that need be right.
+    pub fn guess(&self, class: Option<Class<'_>>, permission: &[u8]) -> Guess {
+        match class {
+            Some(found) => self.pairs.guess(found.entry, permission),
+            None => Guess::none(),
+        }
+    }
+
+    /// Adds the class of a permission, with the number that the permission has in it; or an empty list. A guess is given where the
+    /// permission is. Error: out of memory, also for more than 1,073,741,824 different permissions.
+    pub fn push_permission(
+        &mut self,
+        permission: Option<ClassPermission>,
+        guess: &Guess,
+    ) -> Result<(), NoMemory>
         ensures { OnOk result (self.new ≡ self.old ++ permission_ask permission ∷ []) }
     {
         match permission {
-            Some(found) => self.push_pair(found.entry, found.number),
+            Some(found) => self.push_pair(found.entry, found.number, guess),
             None => self.push_many(&[]),
         }
     }
 
     /// Adds a class, with the number of a permission.
-    fn push_pair(&mut self, class: usize, number: Option<usize>) -> Result<(), NoMemory>
+    fn push_pair(
+        &mut self,
+        class: usize,
+        number: Option<usize>,
+        guess: &Guess,
+    ) -> Result<(), NoMemory>
         ensures { OnOk result (self.new ≡ self.old ++ pair_with class number ∷ []) }
     {
-        let place = self.pairs.place_of(class, number)?;
+        let place = self.pairs.place_of(class, number, guess)?;
         if place >= MOST_PAIRS {
             return Err(NoMemory);
         }

@@ -3,13 +3,14 @@
 //!
 //! Start at `asks.rt` (`asks_of`), which makes one table for all instances before optionals are chosen. `specs/Table.antt`
 //! says which rows it has. `walk.rt` walks over the terms of a statement, `cells.rt` keeps nearly all lists in four bytes,
-//! `pairs.rt` the permissions, and `scopes.rt` the scopes that words have asked for.
+//! `pairs.rt` the permissions, which `hints.rt` helps to find, and `scopes.rt` the scopes that words have asked for.
 //! The table is read by the choice of optionals, a crate above; by `judge.rt`, which reports what names nothing (`judged`); and
 //! by `settled_rows.rt`, which says what each word means (`settled`). What a word could name is found a crate below.
 #![tactic(auto)]
 
 mod asks;
 mod cells;
+mod hints;
 mod judge;
 mod pairs;
 mod scopes;

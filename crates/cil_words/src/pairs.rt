@@ -5,6 +5,7 @@ ghost use Rattle.cil_names.specs.Entries.{listed};
 ghost use Rattle.cil_words.specs.Cells.{IsLonger};
 
 use crate::cells::{cell_at, one, small};
+use crate::hints::{Hint, Hints};
 use cil_base::NoMemory;
 use cil_names::Meaning;
 use std::alloc::Global;
@@ -12,16 +13,36 @@ use std::alloc::Global;
 /// How many slots there are for guesses, a power of two.
 const SLOTS: usize = 16_384;
 
-/// Permissions of classes. Nearly always a permission is there once: a guess tells where it is. A guess is checked where it is
-/// used, so nothing is proved of the guesses.
+/// Permissions of classes. Nearly always a permission is there once: a guess tells where it is, by its name or by its number. A
+/// guess is checked where it is used, so nothing is proved of the guesses.
 #[derive(Debug, Drop)]
 pub struct Pairs {
     /// The entry of the class of each.
     pub owners: Vec<u32>,
     /// The number of each in its class.
     pub places: Vec<Meaning>,
-    /// Where a permission may be, plus 1, by a hash; or 0.
+    /// Where a permission may be, plus 1, by a hash of its number; or 0.
     slots: Vec<u32>,
+    /// Where a permission may be, by its name.
+    hints: Hints,
+}
+
+/// Where a permission may be, and the number that it may have in its class.
+#[derive(Clone, Copy)]
+pub struct Guess {
+    hint: Hint,
+    /// The number.
+    pub number: Option<usize>,
+}
+
+impl Guess {
+    /// No guess.
+    pub fn none() -> Guess {
+        Guess {
+            hint: Hint::none(),
+            number: None,
+        }
+    }
 }
 
 impl Pairs {
@@ -33,7 +54,22 @@ impl Pairs {
             owners: Vec::new(alloc),
             places: Vec::new(alloc),
             slots: Vec::new(alloc),
+            hints: Hints::new(alloc),
         }
+    }
+
+    /// Where the permission of a name may be, of the class that is the entry of a number. It costs a hash.
+    pub fn guess(&self, class: usize, name: &[u8]) -> Guess {
+        let hint = self.hints.hint(class, name);
+        Guess {
+            hint,
+            number: self.guessed_number(&hint),
+        }
+    }
+
+    /// The number of the permission at a place that was guessed.
+    fn guessed_number(&self, hint: &Hint) -> Option<usize> {
+        self.places.get(hint.place?)?.entry()
     }
 
     /// The class of a permission, as a list of one entry.
@@ -57,8 +93,37 @@ impl Pairs {
         }
     }
 
-    /// The place of a permission. It is added if no guess finds it. Error: out of memory.
-    pub fn place_of(&mut self, class: usize, number: Option<usize>) -> Result<usize, NoMemory>
+    /// The place of a permission, for which there is a guess. It is added if no guess finds it. Error: out of memory.
+    pub fn place_of(
+        &mut self,
+        class: usize,
+        number: Option<usize>,
+        guess: &Guess,
+    ) -> Result<usize, NoMemory>
+        ensures owner { IfOk result (λ place. slice_get self.new.owners.items place ≡ Some class) }
+        ensures number { IfOk result (λ place. slice_get self.new.places.items place ≡ Some number) }
+        ensures owners { IsLonger self.old.owners.items self.new.owners.items }
+        ensures places { IsLonger self.old.places.items self.new.places.items }
+    {
+        if let Some(place) = self.guessed(guess, class, number) {
+            return Ok(place);
+        }
+        let place = self.place_by_number(class, number)?;
+        self.hints.note(&guess.hint, place);
+        Ok(place)
+    }
+
+    /// The place that a guess tells, if the permission is there.
+    fn guessed(&self, guess: &Guess, class: usize, number: Option<usize>) -> Option<usize>
+        ensures owner { IfSome result (λ place. slice_get self.now.owners.items place ≡ Some class) }
+        ensures number { IfSome result (λ place. slice_get self.now.places.items place ≡ Some number) }
+    {
+        let place = guess.hint.place?;
+        self.there(place, class, number)
+    }
+
+    /// The place of a permission, by its number. It is added if no guess finds it.
+    fn place_by_number(&mut self, class: usize, number: Option<usize>) -> Result<usize, NoMemory>
         ensures owner { IfOk result (λ place. slice_get self.new.owners.items place ≡ Some class) }
         ensures number { IfOk result (λ place. slice_get self.new.places.items place ≡ Some number) }
         ensures owners { IsLonger self.old.owners.items self.new.owners.items }
@@ -70,7 +135,7 @@ impl Pairs {
         self.add(class, number)
     }
 
-    /// The place of a permission, if a guess finds it.
+    /// The place of a permission, if a guess by its number finds it.
     fn found(&self, class: usize, number: Option<usize>) -> Option<usize>
         ensures owner { IfSome result (λ place. slice_get self.now.owners.items place ≡ Some class) }
         ensures number { IfSome result (λ place. slice_get self.now.places.items place ≡ Some number) }
@@ -88,6 +153,14 @@ impl Pairs {
         ensures number { IfSome result (λ place. slice_get self.now.places.items place ≡ Some number) }
     {
         let place = guess_at(self.slots.as_slice(), slot)?;
+        self.there(place, class, number)
+    }
+
+    /// A place, if the permission is there.
+    fn there(&self, place: usize, class: usize, number: Option<usize>) -> Option<usize>
+        ensures owner { IfSome result (λ place. slice_get self.now.owners.items place ≡ Some class) }
+        ensures number { IfSome result (λ place. slice_get self.now.places.items place ≡ Some number) }
+    {
         if !is_owner(self.owners.as_slice(), place, class) {
             return None;
         }

@@ -17,6 +17,8 @@ pub struct LastScope {
     pub scope: ScopeList,
     /// The place; none while no scope is filled.
     pub of: Option<usize>,
+    /// What the word that was looked up last could name. It is kept for its memory alone.
+    pub found: Vec<usize>,
 }
 
 /// The scope of the last statement of which a word asked for it, and that of the last other place in which a word of a statement
@@ -48,6 +50,7 @@ impl LastScope {
         LastScope {
             scope: ScopeList::new(alloc),
             of: None,
+            found: Vec::new(alloc),
         }
     }
 

@@ -38,7 +38,7 @@ pub struct Walk<'r, 's, 'p, 'a> {
 
 impl<'r, 's, 'p, 'a> Walk<'r, 's, 'p, 'a> {
     /// Adds a list for each thing that the statement asks for. Each word costs one look-up, and the class word of a class list one
-    /// more, which is a hash where its name has one entry in all. A scope is filled where a word asks for it.
+    /// more, but where its name has one entry in all. A scope is filled where a word asks for it.
     pub fn statement(&self, cells: &mut Cells, scopes: &mut Scopes) -> Result<(), NoMemory>
         requires walk { IsWalk self.now }
         requires scopes { AreScopes self.now.reading.instances.now scopes.old }
@@ -169,7 +169,8 @@ impl<'r, 's, 'p, 'a> Walk<'r, 's, 'p, 'a> {
         Ok(())
     }
 
-    /// The same, where this is the scope that was filled last. A name that one entry has costs one question to it.
+    /// The same, where this is the scope that was filled last. A name that few entries have costs one hash, and a step for each of
+    /// them and each namespace of the scope.
     fn found(
         &self,
         cells: &mut Cells,
@@ -183,9 +184,14 @@ impl<'r, 's, 'p, 'a> Walk<'r, 's, 'p, 'a> {
     {
         let instances = self.reading.instances;
         last.fill(self.alloc, instances, word.scope)?;
-        let mut found = Vec::new(self.alloc);
-        self.names.push_candidates(&mut found, instances.namespaces(), &word.word, &last.scope)?;
-        cells.push(found.as_slice())?;
+        last.found.clear();
+        self.names.push_candidates(
+            &mut last.found,
+            instances.namespaces(),
+            &word.word,
+            &last.scope,
+        )?;
+        cells.push(last.found.as_slice())?;
         Ok(())
     }
 
@@ -205,35 +211,60 @@ impl<'r, 's, 'p, 'a> Walk<'r, 's, 'p, 'a> {
             return Ok(());
         };
         let class = self.reading.word(&list.word);
-        self.word(cells, scopes, &class)?;
-        let found = self.class(scopes, &class)?;
+        let found = self.class_word(cells, scopes, &class)?;
         self.permissions(cells, found, list.terms)?;
         Ok(())
     }
 
-    /// The class that a class word names, with its permissions.
-    fn class(&self, scopes: &mut Scopes, class: &PlacedWord) -> Result<Option<Class<'r>>, NoMemory>
+    /// Adds the list of what a class word could name, and gives the class that it names, with its permissions. Where its name has
+    /// one entry in all, in the global namespace, that costs one hash, and no scope is asked.
+    fn class_word(
+        &self,
+        cells: &mut Cells,
+        scopes: &mut Scopes,
+        class: &PlacedWord,
+    ) -> Result<Option<Class<'r>>, NoMemory>
         requires walk { IsWalk self.now }
         requires scopes { AreScopes self.now.reading.instances.now scopes.old }
+        ensures asks { OnOk result (AddsFor self.now (AWord (scoped_there self.now.reading class.now) ∷ []) cells.old cells.new) }
         ensures class { IfOk result (IsClassFor (spaces_by self.now) self.now.names.now self.now.permissions.now (scoped_there self.now.reading class.now)) }
         ensures scopes { OnOk result (AreScopes self.now.reading.instances.now scopes.new) }
     {
-        if let Some(found) = self.unscoped_class(class) {
-            return Ok(Some(found));
-        }
-        if is_at(class.scope, self.reading.at) {
-            self.class_in(&mut scopes.own, class)
-        } else {
-            self.class_in(&mut scopes.other, class)
-        }
+        let Some(entry) = self.unscoped(class) else {
+            self.scoped(cells, scopes, class)?;
+            return self.scoped_class(scopes, class);
+        };
+        cells.push_one(entry)?;
+        self.class_of_entry(scopes, class, entry)
     }
 
-    /// The same of a word whose name has one entry in all, in the global namespace: no scope is asked. None says nothing.
-    fn unscoped_class(&self, class: &PlacedWord) -> Option<Class<'r>>
-        requires { IsWalk self.now }
-        ensures { IfSome result (IsClassOf (spaces_by self.now) self.now.names.now self.now.permissions.now (scoped_there self.now.reading class.now)) }
+    /// The class that a class word names, if the word could name just the entry of a number.
+    fn class_of_entry(
+        &self,
+        scopes: &mut Scopes,
+        class: &PlacedWord,
+        entry: usize,
+    ) -> Result<Option<Class<'r>>, NoMemory>
+        requires walk { IsWalk self.now }
+        requires scopes { AreScopes self.now.reading.instances.now scopes.old }
+        requires within { entry < length self.now.names.now }
+        requires candidate { candidates_of (spaces_by self.now) self.now.names.now (scoped_there self.now.reading class.now) ≡ entry ∷ [] }
+        ensures class { IfOk result (IsClassFor (spaces_by self.now) self.now.names.now self.now.permissions.now (scoped_there self.now.reading class.now)) }
+        ensures scopes { OnOk result (AreScopes self.now.reading.instances.now scopes.new) }
     {
-        let entry = self.unscoped(class)?;
+        if let Some(found) = self.class_there(entry) {
+            return Ok(Some(found));
+        }
+        self.scoped_class(scopes, class)
+    }
+
+    /// The class that is the entry of a number, if it is declared outside all optionals.
+    fn class_there(&self, entry: usize) -> Option<Class<'r>>
+        requires walk { IsWalk self.now }
+        requires within { entry < length self.now.names.now }
+        ensures { IfSome result (λ k. (w : ScopedWord) → candidates_of (spaces_by self.now) self.now.names.now w ≡ entry ∷ []
+            → IsClassOf (spaces_by self.now) self.now.names.now self.now.permissions.now w k) }
+    {
         class_at(
             self.reading.instances.namespaces(),
             self.names.entries(),
@@ -241,6 +272,24 @@ impl<'r, 's, 'p, 'a> Walk<'r, 's, 'p, 'a> {
             self.permissions,
             entry,
         )
+    }
+
+    /// The class that a class word names, where the scope of the word is asked.
+    fn scoped_class(
+        &self,
+        scopes: &mut Scopes,
+        class: &PlacedWord,
+    ) -> Result<Option<Class<'r>>, NoMemory>
+        requires walk { IsWalk self.now }
+        requires scopes { AreScopes self.now.reading.instances.now scopes.old }
+        ensures class { IfOk result (IsClassFor (spaces_by self.now) self.now.names.now self.now.permissions.now (scoped_there self.now.reading class.now)) }
+        ensures scopes { OnOk result (AreScopes self.now.reading.instances.now scopes.new) }
+    {
+        if is_at(class.scope, self.reading.at) {
+            self.class_in(&mut scopes.own, class)
+        } else {
+            self.class_in(&mut scopes.other, class)
+        }
     }
 
     /// The same, where this is the scope that was filled last.
@@ -301,7 +350,9 @@ impl<'r, 's, 'p, 'a> Walk<'r, 's, 'p, 'a> {
             Term::Leaf(word) => {
                 let written = word.in_module(self.reading.statement.at.module);
                 let permission = self.reading.word(&written);
-                cells.push_permission(permission_of(found, permission.word.bytes.as_slice()))?;
+                let name = permission.word.bytes.as_slice();
+                let guess = cells.guess(found, name);
+                cells.push_permission(permission_of(found, name, guess.number), &guess)?;
             }
             Term::Name(_, _) => {}
             Term::Form(_, _, parts) => self.permissions(cells, found, parts.as_slice())?,

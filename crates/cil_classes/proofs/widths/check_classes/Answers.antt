@@ -27,5 +27,5 @@ returns c =
     (fault_back (items_in i) (is_in c.args.lookup.now.enabled.now) c.loop-at.at c.loop-at.faults.items _ over c.loop-at.invariant c.in_ok-push_commons.ensures)
     _ c.refuse.ensures.told
 
-pub push_commons-requires : goal.push_commons-requires
-push_commons-requires c = subst (λ (ss : List Space). AreEntries ss (items_in c.args.instances.now) c.args.lookup.now.names.now) c.requires.namespaces c.requires.entries
+pub push_commons-requires-clause-entries : goal.push_commons-requires-clause-entries
+push_commons-requires-clause-entries c = subst (λ (ss : List Space). AreEntries ss (items_in c.args.instances.now) c.args.lookup.now.names.now) c.requires.namespaces c.requires.entries

@@ -23,15 +23,12 @@ pub permissions_of-requires-clause-shared : goal.permissions_of-requires-clause-
 permissions_of-requires-clause-shared c =
     subst (AreShared (namespaces_in c.args.instances.now) c.in_ok-names.names (items_in c.args.instances.now)) (sym c.as_slice.ensures.value) c.in_ok-shared.ensures
 
-pub check_classes-requires-clause-namespaces : goal.check_classes-requires-clause-namespaces
-check_classes-requires-clause-namespaces c = c.namespaces.ensures.value
+pub tables_of-requires-clause-namespaces : goal.tables_of-requires-clause-namespaces
+tables_of-requires-clause-namespaces c = c.namespaces.ensures.value
 
-pub check_classes-requires-clause-entries : goal.check_classes-requires-clause-entries
-check_classes-requires-clause-entries c = subst (λ (z : List Space). AreEntries z (items_in c.args.instances.now) c.in_ok-names.names) (sym c.namespaces.ensures.value) c.in_ok-names.ensures.0
-
-pub check_classes-requires-clause-permissions : goal.check_classes-requires-clause-permissions
-check_classes-requires-clause-permissions c =
-    subst (λ (z : List Space). ArePermissions z c.in_ok-names.names (items_in c.args.instances.now) c.as_slice-permissions.result.now) (sym c.namespaces.ensures.value) (subst (ArePermissions (namespaces_in c.args.instances.now) c.in_ok-names.names (items_in c.args.instances.now)) (sym c.as_slice-permissions.ensures.value) c.in_ok-permissions.ensures.permissions)
+pub tables_of-requires-clause-shared : goal.tables_of-requires-clause-shared
+tables_of-requires-clause-shared c =
+    subst (AreShared (namespaces_in c.args.instances.now) c.in_ok-names.names (items_in c.args.instances.now)) (sym c.as_slice-2.ensures.value) c.in_ok-shared.ensures
 
 pub tables_of-requires-clause-entries : goal.tables_of-requires-clause-entries
 tables_of-requires-clause-entries c = subst (λ (z : List Space). AreEntries z (items_in c.args.instances.now) c.in_ok-names.names) (sym c.namespaces.ensures.value) c.in_ok-names.ensures.0
@@ -52,9 +49,6 @@ tables_of-requires-clause-table c =
     subst (λ (z : List Space). IsTableOf (map (meanings z c.in_ok-names.names lists (is_in c.in_ok-chosen.chosen.enabled)) xs) c.in_ok-words.words) (sym c.namespaces.ensures.value)
     (c.in_ok-words.ensures (namespaces_in c.args.instances.now) xs lists c.in_ok-asks.ensures.numbered permissions)
 
-pub tables_of-requires-clause-few : goal.tables_of-requires-clause-few
-tables_of-requires-clause-few c = c.in_ok-check_classes.ensures.1
-
 pub returns-in_err-names-clause-faults : goal.returns-in_err-names-clause-faults
 returns-in_err-names-clause-faults c = handed_on (ItemsFail (items_in c.args.instances.now)) _ _ c.from_residual.ensures.1 (clash_first (items_in c.args.instances.now) _ c.in_err-names.ensures)
 
@@ -63,20 +57,20 @@ returns-in_err-judged-clause-faults c =
     handed_on (ItemsFail (items_in c.args.instances.now)) _ _ c.from_residual-in_err-judged.ensures.1
     (words_first (items_in c.args.instances.now) c.in_ok-names.ensures.1 (is_in c.in_ok-chosen.chosen.enabled) c.in_ok-chosen.ensures.greatest _ c.in_err-judged.ensures)
 
-pub returns-in_err-check_classes-clause-faults : goal.returns-in_err-check_classes-clause-faults
-returns-in_err-check_classes-clause-faults c =
-    handed_on (ItemsFail (items_in c.args.instances.now)) _ _ c.from_residual-in_err-check_classes.ensures.1
+pub returns-in_err-tables-clause-faults : goal.returns-in_err-tables-clause-faults
+returns-in_err-tables-clause-faults c =
+    handed_on (ItemsFail (items_in c.args.instances.now)) _ _ c.from_residual-in_err-tables.ensures.1
     (widths_first (items_in c.args.instances.now) c.in_ok-names.ensures.1 (is_in c.in_ok-chosen.chosen.enabled) c.in_ok-chosen.ensures.greatest c.in_ok-judged.ensures.1 _
-    c.in_err-check_classes.ensures)
+    c.in_err-tables.ensures)
 
 pub returns-clause-compiled : goal.returns-clause-compiled
 returns-clause-compiled c = record {
   enabled = is_in c.in_ok-chosen.chosen.enabled;
   greatest = c.in_ok-chosen.ensures.greatest;
   apart = c.in_ok-names.ensures.1;
-  no_faults = inr (c.in_ok-judged.ensures.1, inr (c.in_ok-check_classes.ensures.1, refl));
-  table = c.in_ok-tables.ensures;
+  no_faults = inr (c.in_ok-judged.ensures.1, inr (c.in_ok-tables.ensures.1, refl));
+  table = c.in_ok-tables.ensures.0;
   optionals = c.in_ok-optionals.ensures;
   right = c.in_ok-chosen.ensures.right;
-  reasons = subst (λ (rs : List Reason). AreReasonsOf (items_in c.args.instances.now) rs c.in_ok-reasons.reasons.items) c.as_slice-2.ensures.value c.in_ok-reasons.ensures;
+  reasons = subst (λ (rs : List Reason). AreReasonsOf (items_in c.args.instances.now) rs c.in_ok-reasons.reasons.items) c.as_slice-3.ensures.value c.in_ok-reasons.ensures;
 }

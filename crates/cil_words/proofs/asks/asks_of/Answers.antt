@@ -3,9 +3,9 @@ use Rattle.std.proofs.lemmas.List.{take_all}
 use Rattle.cil_base.specs.MadeLists.{one_mapped}
 use Rattle.cil_macros.specs.Items.{item_at, items_in, namespaces_in}
 use Rattle.cil_macros.proofs.ItemLemmas.{item_got}
-use Rattle.cil_words.specs.Lists.{lists_at}
+use Rattle.cil_names.specs.Rows.{lists_at}
 use Rattle.cil_words.specs.Table.{numbered_asks}
-use Rattle.cil_words.proofs.ListLemmas.{more_within, no_rows, none_within, pushed_list}
+use Rattle.cil_names.proofs.RowLemmas.{more_within, no_rows, none_within, pushed_list}
 use Rattle.cil_words.proofs.RowLemmas.{are_asks}
 use Rattle.cil_words.proofs.ScopeLemmas.{none_filled}
 use Rattle.cil_words.proofs.asks.asks_of.Goals as goal

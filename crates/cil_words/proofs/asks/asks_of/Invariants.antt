@@ -1,6 +1,6 @@
 use Rattle.std.proofs.Common.{◌≡◌, map, take, length}
 use Rattle.cil_macros.specs.Items.{items_in, namespaces_in}
-use Rattle.cil_words.specs.Lists.{AreWithin, lists_at}
+use Rattle.cil_names.specs.Rows.{AreWithin, lists_at}
 use Rattle.cil_words.specs.Scopes.{AreScopes}
 use Rattle.cil_words.specs.Table.{numbered_asks}
 use Rattle.cil_words.proofs.asks.asks_of.Given as goal

@@ -1,6 +1,6 @@
 use Rattle.std.specs.Prelude.{slice_range}
 use Rattle.std.proofs.Common.{ap, refl, ◌∙◌}
-use Rattle.cil_words.proofs.ListLemmas.{end_within, row_inner, row_last, row_none}
+use Rattle.cil_names.proofs.RowLemmas.{end_within, row_inner, row_last, row_none}
 use Rattle.cil_words.proofs.asks.bounds.Goals as goal
 
 pub returns-in_default-clause-row : goal.returns-in_default-clause-row

@@ -30,4 +30,4 @@ returns-clause-answer g c =
     let answer = c.compiled_tables_answer.ensures _ _ (kept _ _ c.in-Some.is c.self.invariant.kept).compiles in
     loaded_fact _ _ _ _ (sym c.self.view_is) c.in-Some.is _
     (answer.decision c.args.source.now c.args.target.now c.args.class.now _ _ _ _ c.in-Some-parse_context.ensures.found c.in-Some-parse_context-2.ensures.found
-    c.in-Some-class_named.ensures.found (record { allowed = c.decide.ensures.allowed; auditallow = c.decide.ensures.auditallow; auditdeny = c.decide.ensures.auditdeny }))
+    c.in-Some-class_named.ensures.found c.decide.ensures)

@@ -1,5 +1,5 @@
 use Rattle.std.proofs.Common.{◌≡◌, ◌∙◌, ap, arith, length, sym}
-use Rattle.cil_words.proofs.ListLemmas.{how_many}
+use Rattle.cil_names.proofs.RowLemmas.{how_many}
 use Rattle.cil_words.proofs.cells.Lists.len.Goals as goal
 
 pub returns : goal.returns

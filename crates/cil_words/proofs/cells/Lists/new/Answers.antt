@@ -1,6 +1,6 @@
 use Rattle.std.proofs.Common.{ap, ◌∙◌}
-use Rattle.cil_words.specs.Lists.{lists_at}
-use Rattle.cil_words.proofs.ListLemmas.{no_lists}
+use Rattle.cil_names.specs.Rows.{lists_at}
+use Rattle.cil_names.proofs.RowLemmas.{no_lists}
 use Rattle.cil_words.proofs.cells.Lists.new.Goals as goal
 
 pub returns : goal.returns

@@ -1,8 +1,8 @@
 use Rattle.std.proofs.Common.{length, subst, ap, ◌≡◌, ◌+◌, arith, sym, ◌∙◌}
 use Rattle.std.proofs.lemmas.List.{length-append}
-use Rattle.cil_words.specs.Lists.{AreWithin}
+use Rattle.cil_names.specs.Rows.{AreWithin}
 use Rattle.cil_words.proofs.CellLemmas.{no_fewer}
-use Rattle.cil_words.proofs.ListLemmas.{one_more_start, pushed_list}
+use Rattle.cil_names.proofs.RowLemmas.{one_more_start, pushed_list}
 use Rattle.cil_words.proofs.cells.Lists.push.Goals as goal
 
 pub returns-clause-pushed : goal.returns-clause-pushed

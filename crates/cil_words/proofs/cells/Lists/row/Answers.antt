@@ -1,5 +1,5 @@
 use Rattle.std.proofs.Common.{◌∙◌}
-use Rattle.cil_words.proofs.ListLemmas.{end_within, row_inner, row_last, row_none}
+use Rattle.cil_names.proofs.RowLemmas.{end_within, row_inner, row_last, row_none}
 use Rattle.cil_words.proofs.cells.Lists.row.Goals as goal
 
 pub returns-in_default : goal.returns-in_default

@@ -38,9 +38,9 @@ permission-returns-in_ok-permissions-in-Form t c = λ w is xs entries permission
     let l = c.args.self.now in
     let r = l.reading in
     let could = λ (p : ScopedWord). ask_of (spaces_by l) l.names.now xs l.permissions.now (APermission w p) in
-    form_each (word_read r) (module_of r) could c.args.term.now c.args.cells.now _ _ _ _ c.in-Form.is c.as_slice-in-Form.result.now c.as_slice-in-Form.ensures.value
+    form_each (word_read r) (module_of r) could c.args.term.now c.args.cells.now _ _ _ _ c.in-Form.is c.as_slice.result.now c.as_slice.ensures.value
     (c.in_ok-permissions-in-Form.ensures w is xs entries permissions
-    ∙ ap (λ ws. c.args.cells.now ++ ws) (map-map (ask_of (spaces_by l) l.names.now xs l.permissions.now) (APermission w) (all_words_at (word_read r) (module_of r) c.as_slice-in-Form.result.now)))
+    ∙ ap (λ ws. c.args.cells.now ++ ws) (map-map (ask_of (spaces_by l) l.names.now xs l.permissions.now) (APermission w) (all_words_at (word_read r) (module_of r) c.as_slice.result.now)))
     ∙ ap (λ ws. c.args.cells.now ++ ws) (sym (map-map (ask_of (spaces_by l) l.names.now xs l.permissions.now) (APermission w) (words_at (word_read r) (module_of r) c.args.term.now)))
 
 pub permissions-loop-term-preserved : goal.permissions-loop-term-preserved

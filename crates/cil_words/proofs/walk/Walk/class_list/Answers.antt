@@ -30,7 +30,7 @@ returns-clause-asks c = λ xs entries permissions.
     let class_ = scoped_there r c.word-class.result in
     let terms = all_words_in (terms_with (word_read r) (module_of r) c.in-Some.list.terms.now) in
     c.in_ok-permissions.ensures class_ c.in_ok-found.ensures.class xs entries permissions
-    ∙ ap (λ ds. ds ++ map could (map (APermission class_) terms)) (c.in_ok-word.ensures.asks xs entries permissions)
+    ∙ ap (λ ds. ds ++ map could (map (APermission class_) terms)) (c.in_ok-found.ensures.asks xs entries permissions)
     ∙ append_assoc old (could (AWord class_) ∷ []) (map could (map (APermission class_) terms))
     ∙ ap (λ (w : ScopedWord). old ++ map could (AWord w ∷ map (APermission w) terms)) c.word-class.ensures
     ∙ ap (λ ws. old ++ map could ws) (sym (class_list_words (word_read r) (module_of r) c.args.terms.now c.in-Some.list.terms.now c.in-Some.list.word c.in-Some.ensures))

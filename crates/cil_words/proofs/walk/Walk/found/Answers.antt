@@ -21,6 +21,6 @@ returns-clause-asks c = λ xs entries permissions.
     c.in_ok-push.ensures
     ∙ ap (λ ds. old ++ word_ask ds ∷ [])
     (c.as_slice.ensures.value ∙ c.in_ok-push_candidates.ensures.found
-    ∙ ap (λ ds. ds ++ candidates_of ss l.names.now (scoped ss c.fill.new.self.scope c.args.word.now.word)) c.new-found.ensures.items)
+    ∙ ap (λ ds. ds ++ candidates_of ss l.names.now (scoped ss c.fill.new.self.scope c.args.word.now.word)) c.clear.ensures.items)
     ∙ ap (λ (w : ScopedWord). old ++ word_ask (candidates_of ss l.names.now w) ∷ []) (scoped_so ss l.reading.instances.now same c.args.word.now _ c.in_ok-fill.ensures.filled)
     ∙ ap (λ (z : List Space). old ++ word_ask (candidates_of z l.names.now (scoped_there l.reading c.args.word.now)) ∷ []) same

@@ -1,0 +1,10 @@
+pub mod BegunLemmas
+pub mod CircularLemmas
+pub mod EvaluatedLemmas
+pub mod GiverLemmas
+pub mod HoldingLemmas
+pub mod MadeLemmas
+pub mod MembersLemmas
+pub mod OrderLemmas
+pub mod SolvedLemmas
+pub mod ValueLemmas
