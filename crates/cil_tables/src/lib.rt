@@ -12,6 +12,8 @@ mod context;
 mod holders;
 pub mod laws;
 mod links;
+mod sections;
+mod standings;
 pub mod tables;
 
 pub use compiler::{Compiled, compile};
