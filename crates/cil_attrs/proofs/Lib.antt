@@ -6,5 +6,7 @@ pub mod HoldingLemmas
 pub mod MadeLemmas
 pub mod MembersLemmas
 pub mod OrderLemmas
+mod PlainLemmas
 pub mod SolvedLemmas
+pub mod StandingLemmas
 pub mod ValueLemmas

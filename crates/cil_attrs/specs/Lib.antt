@@ -6,3 +6,4 @@ pub mod Laws
 pub mod Made
 pub mod Members
 pub mod Order
+pub mod Standing

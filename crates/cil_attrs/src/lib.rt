@@ -18,6 +18,7 @@ pub mod laws;
 mod making;
 mod members;
 mod order;
+mod standing;
 mod way;
 
 pub use beginning::{all_items, begun};
@@ -26,3 +27,4 @@ pub use giver::{SetKind, Space, given_at, givens_of};
 pub use making::{Given, made};
 pub use members::{Members, members_of};
 pub use order::in_order;
+pub use standing::{plain_standing, standing_of};

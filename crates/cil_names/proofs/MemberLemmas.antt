@@ -72,6 +72,12 @@ declared_is xs s kind t = (λ e. there e, λ d. back d.declaration d.declares (s
       second (is_of_symbol kind t object_role) _ (any_from (λ (x : Item). is_enabled s x && list_any (is_of_symbol kind t) (declared_by x)) xs x c
       (pair _ _ on (any_from (is_of_symbol kind t) (declared_by x) d within e)))
 
+-- ---- name spaces
+
+-- a name space is that of its items
+pub item_of : (kind : Kind) → (space_of kind).item ≡ kind
+item_of kind = refl
+
 -- ---- words of kinds without sets
 
 module _ (xs : List Item) (s : OptSet) (kind : Kind) (w : ScopedWord) (t : Symbol) where

@@ -1,6 +1,9 @@
 -- What is known of the words of items and of the numbers of their symbols.
-use Rattle.std.specs.Prelude.{◌≡◌, ℕ, List, slice_get, Some, ◌++◌, map, Option}
+use Rattle.std.specs.Prelude.{◌≡◌, ℕ, List, [], get_or, slice_get, Some, ◌++◌, map, Option}
+use Rattle.std.specs.Option.{option_map_or}
+use Rattle.std.specs.Ordering.{nat_cmp}
 use Rattle.std.specs.Global.{Vec}
+use Rattle.cil_base.specs.Lists.{Lists}
 use Rattle.cil_base.specs.declared.bytes.Bytes.{Bytes}
 use Rattle.cil_names.specs.Declarations.{Symbol, name_of}
 use Rattle.cil_syntax.specs.declared.kind.Kind.{Kind}
@@ -54,6 +57,20 @@ IsKnown k xs names = AreKnown k.lookup.namespaces.now xs k.lookup.names.now (ena
 -- what a word means
 abbrev pub meant_in : Known → ScopedWord → Option ℕ
 meant_in k w = meant k.lookup.namespaces.now k.lookup.names.now (enabled_in k) w
+
+-- the number of a symbol of this kind for which the word stands
+pub record HasNumberFor (xs : List Item) (s : OptSet) (kind : Kind) (names : List (List ℕ)) (w : ScopedWord) (n : ℕ) : Type 0 where
+  pub symbol : Symbol
+  pub stands : StandsFor xs s kind w symbol
+  pub numbered : IsNumbered names symbol n
+
+-- the set that is kept for what a word means: an empty one for a word that means nothing
+abbrev pub set_meant : List (List ℕ) → Option ℕ → List ℕ
+set_meant sets meaning = option_map_or (λ d. get_or sets d []) meaning []
+
+-- for each declared name the numbers of the symbols of a kind for which those words stand that mean it
+abbrev pub AreStanding : Known → List Item → (Kind → List (List ℕ)) → Kind → List (List ℕ) → Type 0
+AreStanding k xs names kind sets = (w : ScopedWord) → Lists nat_cmp (HasNumberFor xs (enabled_in k) kind (names kind) w) (set_meant sets (meant_in k w))
 
 -- the value of something wanted
 abbrev pub value_in : Known → Wanted → Option ℕ

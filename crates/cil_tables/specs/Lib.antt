@@ -8,4 +8,5 @@ pub mod Holders
 pub mod Laws
 pub mod Links
 pub mod Meaning
+pub mod Standings
 pub mod Table

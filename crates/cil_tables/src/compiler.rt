@@ -18,6 +18,7 @@ ghost use Rattle.cil_tables.specs.Compiled.{IsTable};
 ghost use Rattle.cil_classes.specs.Faults.{ClassFault};
 
 use crate::links::{Joins, links_of};
+use crate::standings::standings_of;
 use crate::tables::Tables;
 use cil_base::{Bytes, Names, NoMemory};
 use cil_blocks::{Spaces, inherit};
@@ -159,9 +160,13 @@ fn tables_of(
         numbers: numbering.numbers.as_slice(),
         permissions,
     };
-    let user_roles = links_of(alloc, instances, &known, USER_ROLES)?;
-    let role_types = links_of(alloc, instances, &known, ROLE_TYPES)?;
-    let allow = rules_of(alloc, instances, &known, classes.rows.as_slice())?;
+    let stand = standings_of(alloc, &known, &numbering.sections)?;
+    let users = stand.users.as_slice();
+    let roles = stand.roles.as_slice();
+    let types = stand.types.as_slice();
+    let user_roles = links_of(alloc, instances, &known, USER_ROLES, users, roles)?;
+    let role_types = links_of(alloc, instances, &known, ROLE_TYPES, roles, types)?;
+    let allow = rules_of(alloc, instances, &known, types, classes.rows.as_slice())?;
     let Classes { rows } = classes;
     let Numbering {
         sections,

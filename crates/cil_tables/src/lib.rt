@@ -12,6 +12,7 @@ mod context;
 mod holders;
 pub mod laws;
 mod links;
+mod standings;
 pub mod tables;
 
 pub use compiler::{Compiled, compile};

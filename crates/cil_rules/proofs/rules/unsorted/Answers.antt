@@ -17,8 +17,8 @@ loop-at-preserved c =
     let x = item_at i at in
     let row = c.row.ensures (map (row_in k) (items_in i)) (row_in k x) c.requires.table (slice_get-map (row_in k) (items_in i) at ∙ ap (option_map (row_in k)) (item_there i at within)) in
     elim c.match-branch-3.branch [
-      | in-Some+in_ok-push w ↦ rw w.rules-is (λ names known classes. record_more _ _ (items_in i) at x (items_taken i at within) _
-          (c.loop-at.invariant names known classes) w.in-Some.rule _ (rw w.in-Some.is at c.in_ok-rule.ensures (items_in i) names known classes row) w.in_ok-push.ensures.items)
-      | in_default w ↦ rw w.rules-is (λ names known classes. none_more _ _ (items_in i) at x (items_taken i at within) _
-          (c.loop-at.invariant names known classes) (rw w.in_default.is at c.in_ok-rule.ensures (items_in i) names known classes row))
+      | in-Some+in_ok-push w ↦ rw w.rules-is (λ names known standing classes. record_more _ _ (items_in i) at x (items_taken i at within) _
+          (c.loop-at.invariant names known standing classes) w.in-Some.rule _ (rw w.in-Some.is at c.in_ok-rule.ensures (items_in i) names known standing classes row) w.in_ok-push.ensures.items)
+      | in_default w ↦ rw w.rules-is (λ names known standing classes. none_more _ _ (items_in i) at x (items_taken i at within) _
+          (c.loop-at.invariant names known standing classes) (rw w.in_default.is at c.in_ok-rule.ensures (items_in i) names known standing classes row))
     ]

@@ -1,0 +1,101 @@
+//! What the words of a kind stand for, as sets of numbers.
+
+ghost use Rattle.std.specs.Prelude.{◌≡◌, ◌<◌, ℕ, IfOk, List, Some, length, slice_get, true};
+ghost use Rattle.std.specs.Ordering.{nat_cmp};
+ghost use Rattle.cil_base.specs.Lists.{Lists};
+ghost use Rattle.cil_syntax.specs.declared.kind.Kind as kinds;
+ghost use Rattle.cil_macros.specs.Item.{Item};
+ghost use Rattle.cil_names.specs.declared.known.Known.{Known as Lookups};
+ghost use Rattle.cil_names.specs.Known.{AreStanding, IsKnown, enabled_in};
+ghost use Rattle.cil_names.specs.Numbers.{AreApart, has_section};
+ghost use Rattle.cil_attrs.specs.declared.evaluator.Held.{Held as AHeld};
+ghost use Rattle.cil_attrs.specs.declared.evaluator.Held.TheVariants.{Item as HeldItem};
+ghost use Rattle.cil_attrs.specs.Standing.{AreAllBelow, AreBelow, AreHeld};
+
+use crate::beginning::begun;
+use crate::evaluator::Held;
+use crate::giver::Space;
+use cil_base::NoMemory;
+use cil_names::{Known, laws};
+use cil_sets::{Joining, Numbers};
+use cil_syntax::Kind;
+use std::alloc::Global;
+
+/// For each declared name the numbers of the items for which it stands, by what it holds, where there are so many items. It costs
+/// a step for each name and for each block of its set. Error: out of memory.
+pub fn standing_of(alloc: Global, held: &[Held], items: usize) -> Result<Vec<Numbers>, NoMemory>
+    ensures { IfOk result (λ sets. (k : Lookups) (xs : List Item) (names : kinds.Kind → List (List ℕ)) (kind : kinds.Kind) → IsKnown k xs names → has_section kind ≡ true
+        → AreHeld k xs names kind held.now → items ≡ length (names kind) → AreStanding k xs names kind sets.items) }
+{
+    // What is known of a word: it means the entry that it names.
+    laws::means_what_it_names();
+    let sets = all_below(alloc, held, items)?;
+    Ok(sets)
+}
+
+/// The same of a kind without aliases and attributes, whose words stand for the symbols that they name. Error: out of memory.
+pub fn plain_standing(
+    alloc: Global,
+    known: &Known,
+    kind: Kind,
+    items: usize,
+) -> Result<Vec<Numbers>, NoMemory>
+    requires section { has_section kind ≡ true }
+    requires apart { AreApart known.now.lookup.names.now (enabled_in known.now) known.now.numbers.now }
+    ensures { IfOk result (λ sets. (xs : List Item) (names : kinds.Kind → List (List ℕ)) → IsKnown known.now xs names → items ≡ length (names kind) → AreStanding known.now xs names kind sets.items) }
+{
+    let space = Space {
+        item: kind,
+        aliases: None,
+        attributes: None,
+    };
+    let held = begun(alloc, known, &space)?;
+    let sets = standing_of(alloc, held.as_slice(), items)?;
+    Ok(sets)
+}
+
+/// The numbers below this one that each holds.
+fn all_below(alloc: Global, held: &[Held], items: usize) -> Result<Vec<Numbers>, NoMemory>
+    ensures { IfOk result (λ sets. AreAllBelow items held.now sets.items) }
+{
+    let all = Numbers::below(alloc, items)?;
+    let mut sets = Vec::new(alloc);
+    for d in 0..held.len() {
+        sets.push(below_at(alloc, held, d, &all)?)?;
+    }
+    Ok(sets)
+}
+
+/// Those that one of some holds, by its place, where these are all below that number.
+fn below_at(alloc: Global, held: &[Held], d: usize, all: &Numbers) -> Result<Numbers, NoMemory>
+    ensures { IfOk result (λ set. (items : ℕ) (h : AHeld) → Lists nat_cmp (λ v. v < items) all.now → slice_get held.now d ≡ Some h → AreBelow items h set) }
+{
+    match held.get(d) {
+        Some(one) => below(alloc, one, all),
+        None => Ok(Numbers::new(alloc)),
+    }
+}
+
+fn below(alloc: Global, held: &Held, all: &Numbers) -> Result<Numbers, NoMemory>
+    ensures { IfOk result (λ set. (items : ℕ) → Lists nat_cmp (λ v. v < items) all.now → AreBelow items held.now set) }
+{
+    match held {
+        Held::Nothing => Ok(Numbers::new(alloc)),
+        Held::Item(number) => single(alloc, *number, all),
+        Held::Set(numbers) => {
+            let both = numbers.joined(alloc, Joining::Both, all)?;
+            Ok(both)
+        }
+    }
+}
+
+/// The set of a number that is one of these, and the empty one for any other.
+fn single(alloc: Global, number: usize, all: &Numbers) -> Result<Numbers, NoMemory>
+    ensures { IfOk result (λ set. (items : ℕ) → Lists nat_cmp (λ v. v < items) all.now → AreBelow items (HeldItem number) set) }
+{
+    let mut set = Numbers::new(alloc);
+    if all.contains(number) {
+        set.add(number)?;
+    }
+    Ok(set)
+}
