@@ -6,7 +6,6 @@ pub mod HoldingLemmas
 pub mod MadeLemmas
 pub mod MembersLemmas
 pub mod OrderLemmas
-mod PlainLemmas
 pub mod SolvedLemmas
 pub mod StandingLemmas
 pub mod ValueLemmas

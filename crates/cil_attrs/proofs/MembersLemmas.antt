@@ -54,7 +54,7 @@ first_of : (a b : Bool) → (a && b) ≡ true → a ≡ true
 first_of true b e = refl
 first_of false b e = absurd (let f : false ≡ true = e in cc)
 
-either_so : (a b c d : Bool) → (a ≡ true → c ≡ true) → (b ≡ true → d ≡ true) → (a || b) ≡ true → (c || d) ≡ true
+pub either_so : (a b c d : Bool) → (a ≡ true → c ≡ true) → (b ≡ true → d ≡ true) → (a || b) ≡ true → (c || d) ≡ true
 either_so true b true d f g h = refl
 either_so true b false d f g h = absurd (let e : false ≡ true = f refl in cc)
 either_so false b true d f g h = refl

@@ -1,5 +1,5 @@
 -- What words stand for, by what declared names hold.
-use Rattle.std.proofs.Common.{◌≡◌, ◌⊎◌, ◌↔◌, ℕ, zero, suc, ◌+◌, ◌<◌, ◌≤◌, Bool, true, false, ◌==◌, List, [], ◌∷◌, ◌++◌, get_or, length, refl, sym, ◌∙◌, ap, subst, inl, inr, arith}
+use Rattle.std.proofs.Common.{◌≡◌, ◌⊎◌, ◌↔◌, ℕ, zero, suc, ◌+◌, ◌<◌, ◌≤◌, Bool, true, false, ◌&&◌, ◌||◌, ◌==◌, List, [], ◌∷◌, ◌++◌, get_or, length, refl, sym, ◌∙◌, ap, subst, inl, inr, arith}
 use Rattle.std.specs.Prelude.{Contains, Option, Some, None, slice_get}
 use Rattle.std.specs.List.Sorted.{IsStrictlySortedBy}
 use Rattle.std.specs.Option.{option_map_or}
@@ -15,22 +15,29 @@ use Rattle.cil_syntax.specs.declared.kind.Kind.{Kind}
 use Rattle.cil_syntax.specs.Scopes.{ScopedWord}
 use Rattle.cil_macros.specs.Item.{Item}
 use Rattle.cil_names.specs.declared.known.Known.{Known}
+use Rattle.cil_syntax.specs.declared.kind.Kind.TheVariants as kinds
+use Rattle.cil_syntax.proofs.KindLemmas.{one_kind}
+use Rattle.cil_names.specs.declared.entry.Entry.{Entry}
 use Rattle.cil_names.specs.Declarations.{Declared, Symbol, name_of}
+use Rattle.cil_names.specs.Entries.{is_declared_in}
+use Rattle.cil_names.specs.Spaces.{Sets, any_sets, is_declared, is_same_symbol, is_set}
 use Rattle.cil_names.specs.Family.{holds, no_range}
-use Rattle.cil_names.specs.Known.{AreStanding, HasNumberFor, IsKnown, IsNumbered, enabled_in, meant_in, set_meant}
+use Rattle.cil_names.specs.Known.{AreStanding, HasNumberFor, HaveMembers, IsKnown, IsMemberNumber, IsNumbered, enabled_in, meant_in, set_meant}
 use Rattle.cil_names.specs.Laws.{MeansWhatItNames}
 use Rattle.cil_names.specs.Members.{space_of}
-use Rattle.cil_names.specs.Numbers.{has_section}
-use Rattle.cil_names.proofs.FamilyLemmas.{stands_is}
-use Rattle.cil_names.proofs.MemberLemmas.{item_of}
+use Rattle.cil_names.specs.Numbers.{has_section, symbol_of}
+use Rattle.cil_names.proofs.FamilyLemmas.{one_family, stands_is}
+use Rattle.cil_names.proofs.MemberLemmas.{declared_is, item_of}
 use Rattle.cil_names.proofs.StandingLemmas.{its_symbol}
 use Rattle.cil_attrs.specs.declared.evaluator.Held.{Held}
 use Rattle.cil_attrs.specs.declared.evaluator.Held.TheVariants.{Nothing, Item as HeldItem, Set}
 use Rattle.cil_attrs.specs.Evaluated.{has_meant, is_held}
-use Rattle.cil_attrs.specs.Holding.{IsItem}
-use Rattle.cil_attrs.specs.Standing.{AreAllBelow, AreBelow, AreHeld}
+use Rattle.cil_attrs.specs.Holding.{IsItem, is_kind, stands}
+use Rattle.cil_attrs.specs.Members.{AreMembers}
+use Rattle.cil_attrs.specs.Standing.{AreAllBelow, AreBelow}
 use Rattle.cil_attrs.proofs.EvaluatedLemmas.{among_is}
 use Rattle.cil_attrs.proofs.HoldingLemmas.{word_holds}
+use Rattle.cil_attrs.proofs.MembersLemmas.{either_so}
 
 -- ---- what is held below a number
 
@@ -111,8 +118,18 @@ module _ (items : ℕ) (held : List Held) (sets : List (List ℕ)) (below : AreA
   meant_below None = record { rising = none_rise; members = λ v. (λ c. absurd (contains_none v c), λ h. let f : false ≡ true = h.0 in cc) }
   meant_below (Some d) = held_below d (slice_get held d) refl
 
+-- a kind of sets is not the kind of the items
+set_is_no_item : (kind e : Kind) → any_sets (space_of kind) (λ j. is_kind e j.kind) ≡ true → is_kind e (space_of kind).item ≡ false
+set_is_no_item kinds.Type_ kinds.Type_ h = absurd (let f : false ≡ true = h in cc)
+set_is_no_item kinds.Type_ e h = refl
+set_is_no_item kinds.Role kinds.Role h = absurd (let f : false ≡ true = h in cc)
+set_is_no_item kinds.Role e h = refl
+set_is_no_item kinds.User kinds.User h = absurd (let f : false ≡ true = h in cc)
+set_is_no_item kinds.User e h = refl
+set_is_no_item kind e h = absurd (let f : false ≡ true = h in cc)
+
 module _ (k : Known) (xs : List Item) (names : Kind → List (List ℕ)) (kind : Kind) (known : IsKnown k xs names) (section : has_section kind ≡ true) (law : MeansWhatItNames) (held : List Held)
-    (are : AreHeld k xs names kind held) (items : ℕ) (counted : items ≡ length (names kind)) (sets : List (List ℕ)) (below : AreAllBelow items held sets) where
+    (are : AreMembers k xs names (space_of kind) held) (items : ℕ) (counted : items ≡ length (names kind)) (sets_of : List (List ℕ)) (below : AreAllBelow items held sets_of) where
   as_item : (t : Symbol) (n : ℕ) → Declared xs (enabled_in k) kind t → IsNumbered (names kind) t n → IsItem k xs names (space_of kind) t n
   as_item t n d at = record {
     declared = subst (λ j. Declared xs (enabled_in k) j t) (sym (item_of kind)) d;
@@ -123,12 +140,12 @@ module _ (k : Known) (xs : List Item) (names : Kind → List (List ℕ)) (kind :
     is_meant : has_meant held n (meant_in k w) ≡ holds xs (enabled_in k) (space_of kind) no_range are.family w t
     is_meant = word_holds k xs names known w law (space_of kind) are.family held t n (as_item t n d at) (λ e means. are.holds e)
 
-  pub are_standing : AreStanding k xs names kind sets
+  pub are_standing : AreStanding k xs names kind sets_of
   are_standing w = record {
-    rising = (meant_below items held sets below (meant_in k w)).rising;
+    rising = (meant_below items held sets_of below (meant_in k w)).rising;
     members = λ n. (
       λ c.
-          let has = ((meant_below items held sets below (meant_in k w)).members n).0 c in
+          let has = ((meant_below items held sets_of below (meant_in k w)).members n).0 c in
           let (t, d, at) = its_symbol k xs names known kind section n (subst (λ j. n < j) counted has.1) in
           record {
             symbol = t;
@@ -137,7 +154,57 @@ module _ (k : Known) (xs : List Item) (names : Kind → List (List ℕ)) (kind :
           },
       λ h.
           let st = (stands_is xs (enabled_in k) kind are.rank are.ranked are.family are.solves w h.symbol).0 h.stands in
-          ((meant_below items held sets below (meant_in k w)).members n).1
+          ((meant_below items held sets_of below (meant_in k w)).members n).1
           (is_meant w h.symbol n st.1 h.numbered ∙ st.0, subst (λ j. n < j) (sym counted) (in_range (names kind) n (name_of h.symbol) h.numbered)),
     );
   }
+
+  -- ---- the members of sets
+
+  module _ (d : ℕ) (e : Entry) (at : slice_get k.lookup.names.now d ≡ Some e) (live : is_declared_in (enabled_in k) e ≡ true) (sets : any_sets (space_of kind) (λ j. is_kind e.kind j.kind) ≡ true) where
+    abbrev its : Symbol
+    its = symbol_of k.lookup.namespaces.now e
+
+    its_kind : Declared xs (enabled_in k) e.kind its
+    its_kind =
+        let (x, is_x, has_kind, in_space, of_name) = known.entries.only (enabled_in k) d e at live in
+        record { declaration = x; declares = is_x; of_kind = has_kind; in_space = in_space; of_name = of_name }
+
+    its_set : is_set xs (enabled_in k) (space_of kind) its ≡ true
+    its_set = either_so _ _ _ _ (one (space_of kind).aliases) (one (space_of kind).attributes) sets
+      where
+        one : (o : Option Sets) → option_map_or (λ (j : Sets). is_kind e.kind j.kind) o false ≡ true → option_map_or (λ (j : Sets). is_declared xs (enabled_in k) j.kind its) o false ≡ true
+        one None h = h
+        one (Some j) h = (declared_is xs (enabled_in k) j.kind its).1 (subst (λ i. Declared xs (enabled_in k) i its) (one_kind e.kind j.kind h) its_kind)
+
+    as_member : (t : Symbol) → stands k xs names (space_of kind) are.family e t ≡ are.family its t
+    as_member t =
+        ap (λ b. (b && is_same_symbol its t) || (any_sets (space_of kind) (λ j. is_kind e.kind j.kind) && are.family its t)) (set_is_no_item kind e.kind sets)
+        ∙ ap (λ b. b && are.family its t) sets
+
+    held_there : (n : ℕ) → Contains (get_or sets_of d []) n ↔ ((option_map_or (is_held n) (slice_get held d) false ≡ true) × (n < items))
+    held_there n = (held_below items held sets_of below d (slice_get held d) refl).members n
+
+    pub its_members : Lists nat_cmp (IsMemberNumber xs (enabled_in k) kind (names kind) its) (get_or sets_of d [])
+    its_members = record {
+      rising = (held_below items held sets_of below d (slice_get held d) refl).rising;
+      members = λ n. (
+        λ c.
+            let has = (held_there n).0 c in
+            let (t, declared, number) = its_symbol k xs names known kind section n (subst (λ j. n < j) counted has.1) in
+            record {
+              symbol = t;
+              member = record { family = are.family; solves = are.solves; has = sym (as_member t) ∙ sym (are.holds d e at live t n (as_item t n declared number)) ∙ has.0; declared = declared };
+              numbered = number;
+            },
+        λ h.
+            let one = one_family xs (enabled_in k) (space_of kind) no_range are.family h.member.family are.rank are.ranked are.solves h.member.solves its h.symbol its_set in
+            (held_there n).1 (
+              are.holds d e at live h.symbol n (as_item h.symbol n h.member.declared h.numbered) ∙ as_member h.symbol ∙ one ∙ h.member.has,
+              subst (λ j. n < j) (sym counted) (in_range (names kind) n (name_of h.symbol) h.numbered),
+            ),
+      );
+    }
+
+  pub have_members : HaveMembers k xs names kind sets_of
+  have_members d e at live sets = its_members d e at live sets

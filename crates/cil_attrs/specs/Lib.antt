@@ -6,4 +6,6 @@ pub mod Laws
 pub mod Made
 pub mod Members
 pub mod Order
+pub mod SetFaults
 pub mod Standing
+pub mod Stub

@@ -15,6 +15,9 @@ use Rattle.cil_names.specs.declared.known.Known.{Known}
 use Rattle.cil_names.specs.Known.{IsKnown, enabled_in, meant_in}
 use Rattle.cil_names.specs.Resolves.{Word as AWord, wanted_in}
 use Rattle.cil_names.specs.Spaces.{SpaceOf, any_sets}
+use Rattle.cil_names.specs.Declarations.{Symbol}
+use Rattle.cil_names.specs.Family.{Family, IsRanked, Solves, no_range}
+use Rattle.cil_attrs.specs.Holding.{HoldsAs}
 use Rattle.cil_attrs.specs.declared.evaluator.Held.{Held}
 use Rattle.cil_attrs.specs.declared.giver.Space.{Space}
 use Rattle.cil_attrs.specs.declared.making.Given.{Given}
@@ -22,6 +25,16 @@ use Rattle.cil_attrs.specs.Begun.{begun_as}
 use Rattle.cil_attrs.specs.Givers.{AreGifts, IsSpaceOf}
 use Rattle.cil_attrs.specs.Made.{held_at, is_made_by}
 use Rattle.cil_attrs.specs.Order.{IsCircular}
+
+-- the sets that these hold by their numbers are those of a family that has just the members that statements give; no set depends on
+-- itself, which ranks show, so there is one such family alone. No number is in a set that is not that of an item
+pub record AreMembers (k : Known) (xs : List Item) (sections : Kind → List (List ℕ)) (which : SpaceOf) (held : List Held) : Type 0 where
+  pub family : Family
+  pub solves : Solves xs (enabled_in k) which no_range family
+  pub rank : Symbol → ℕ
+  pub ranked : IsRanked xs (enabled_in k) which no_range rank
+  pub holds : (d : ℕ) → HoldsAs k xs sections which held family d
+  pub within : (d v : ℕ) → held_at held d v ≡ true → v < length (sections which.item)
 
 -- what is known of a policy and of one of its name spaces, and the names of its items
 pub record IsIn (k : Known) (i : Kept) (r : Space) (names : List (List ℕ)) (sections : Kind → List (List ℕ)) (which : SpaceOf) : Type 0 where

@@ -19,6 +19,7 @@ mod making;
 mod members;
 mod order;
 mod standing;
+pub mod stub;
 mod way;
 
 pub use beginning::{all_items, begun};
@@ -27,4 +28,4 @@ pub use giver::{SetKind, Space, given_at, givens_of};
 pub use making::{Given, made};
 pub use members::{Members, members_of};
 pub use order::in_order;
-pub use standing::{plain_standing, standing_of};
+pub use standing::standing_of;

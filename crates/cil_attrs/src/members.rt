@@ -42,6 +42,13 @@ impl Members {
     ghost use Rattle.std.specs.Prelude.{◌≡◌};
     ghost use Rattle.cil_attrs.specs.Made.{held_at};
 
+    /// What each declared name holds, by the number of its entry.
+    pub fn held(&self) -> &[Held]
+        ensures { result.now ≡ self.now }
+    {
+        self.held.as_slice()
+    }
+
     /// Whether a declared name holds an item, both by their numbers: the attribute has it, or the alias or the name is it. It costs
     /// a search by halving, and no memory.
     pub fn has(&self, entry: usize, item: usize) -> bool

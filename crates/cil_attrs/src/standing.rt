@@ -6,51 +6,30 @@ ghost use Rattle.cil_base.specs.Lists.{Lists};
 ghost use Rattle.cil_syntax.specs.declared.kind.Kind as kinds;
 ghost use Rattle.cil_macros.specs.Item.{Item};
 ghost use Rattle.cil_names.specs.declared.known.Known.{Known as Lookups};
-ghost use Rattle.cil_names.specs.Known.{AreStanding, IsKnown, enabled_in};
-ghost use Rattle.cil_names.specs.Numbers.{AreApart, has_section};
+ghost use Rattle.cil_names.specs.Known.{AreStanding, HaveMembers, IsKnown};
+ghost use Rattle.cil_names.specs.Members.{space_of};
+ghost use Rattle.cil_names.specs.Numbers.{has_section};
+ghost use Rattle.cil_attrs.specs.Members.{AreMembers};
 ghost use Rattle.cil_attrs.specs.declared.evaluator.Held.{Held as AHeld};
 ghost use Rattle.cil_attrs.specs.declared.evaluator.Held.TheVariants.{Item as HeldItem};
-ghost use Rattle.cil_attrs.specs.Standing.{AreAllBelow, AreBelow, AreHeld};
+ghost use Rattle.cil_attrs.specs.Standing.{AreAllBelow, AreBelow};
 
-use crate::beginning::begun;
 use crate::evaluator::Held;
-use crate::giver::Space;
 use cil_base::NoMemory;
-use cil_names::{Known, laws};
+use cil_names::laws;
 use cil_sets::{Joining, Numbers};
-use cil_syntax::Kind;
 use std::alloc::Global;
 
-/// For each declared name the numbers of the items for which it stands, by what it holds, where there are so many items. It costs
+/// For each declared name the numbers of the items for which it stands, by what it holds, where there are so many items: of an alias
+/// or an attribute those that it has. It costs
 /// a step for each name and for each block of its set. Error: out of memory.
 pub fn standing_of(alloc: Global, held: &[Held], items: usize) -> Result<Vec<Numbers>, NoMemory>
     ensures { IfOk result (λ sets. (k : Lookups) (xs : List Item) (names : kinds.Kind → List (List ℕ)) (kind : kinds.Kind) → IsKnown k xs names → has_section kind ≡ true
-        → AreHeld k xs names kind held.now → items ≡ length (names kind) → AreStanding k xs names kind sets.items) }
+        → AreMembers k xs names (space_of kind) held.now → items ≡ length (names kind) → AreStanding k xs names kind sets.items × HaveMembers k xs names kind sets.items) }
 {
     // What is known of a word: it means the entry that it names.
     laws::means_what_it_names();
     let sets = all_below(alloc, held, items)?;
-    Ok(sets)
-}
-
-/// The same of a kind without aliases and attributes, whose words stand for the symbols that they name. Error: out of memory.
-pub fn plain_standing(
-    alloc: Global,
-    known: &Known,
-    kind: Kind,
-    items: usize,
-) -> Result<Vec<Numbers>, NoMemory>
-    requires section { has_section kind ≡ true }
-    requires apart { AreApart known.now.lookup.names.now (enabled_in known.now) known.now.numbers.now }
-    ensures { IfOk result (λ sets. (xs : List Item) (names : kinds.Kind → List (List ℕ)) → IsKnown known.now xs names → items ≡ length (names kind) → AreStanding known.now xs names kind sets.items) }
-{
-    let space = Space {
-        item: kind,
-        aliases: None,
-        attributes: None,
-    };
-    let held = begun(alloc, known, &space)?;
-    let sets = standing_of(alloc, held.as_slice(), items)?;
     Ok(sets)
 }
 

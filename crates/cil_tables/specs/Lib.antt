@@ -1,4 +1,7 @@
 pub mod Agrees
+pub mod AliasRows
+pub mod Aliases
+pub mod Both
 pub mod CompileAnswer
 pub mod CompileRefusal
 pub mod Compiled
@@ -8,5 +11,6 @@ pub mod Holders
 pub mod Laws
 pub mod Links
 pub mod Meaning
+pub mod SetsStep
 pub mod Standings
 pub mod Table

@@ -15,8 +15,10 @@ ghost use Rattle.cil_names.specs.Unresolved.{ArePermissions};
 ghost use Rattle.cil_tables.specs.CompileAnswer.{IsCompiled, IsCompiledOf, StandsIn};
 ghost use Rattle.cil_tables.specs.CompileRefusal.{CompileFails, ItemsFail};
 ghost use Rattle.cil_tables.specs.Compiled.{IsTable};
-ghost use Rattle.cil_classes.specs.Faults.{ClassFault};
+ghost use Rattle.cil_tables.specs.SetsStep.{SetsFault};
 
+use crate::aliases::aliases_of;
+use crate::both::{Both, both};
 use crate::links::{Joins, links_of};
 use crate::standings::standings_of;
 use crate::tables::Tables;
@@ -56,7 +58,7 @@ pub struct Compiled {
 /// stated order. (CIL Reference Guide.)
 ///
 /// Errors: the faults of the first step that has some (shape, blocks, calls, the limit of instances, clashing declarations,
-/// unresolved words outside optionals, classes that are too wide), or out of memory.
+/// unresolved words outside optionals, aliases, attributes and classes), or out of memory.
 pub fn compile(alloc: Global, modules: &ModuleSet) -> Result<Compiled, Failure>
     ensures compiled { IfOk result (IsCompiled modules.now) }
     ensures faults { IfErr result (CompileFails modules.now) }
@@ -72,7 +74,7 @@ pub fn compile(alloc: Global, modules: &ModuleSet) -> Result<Compiled, Failure>
 /// What all that stands compiles to.
 ///
 /// Errors: the faults of the first step that has some (calls, the limit of instances, clashing declarations, unresolved words
-/// outside optionals, classes that are too wide), or out of memory.
+/// outside optionals, aliases, attributes and classes), or out of memory.
 fn standing_policy(alloc: Global, stands: &Spaces) -> Result<Compiled, Failure>
     requires standings { AreStandings stands.now }
     requires nested { IsNested (statements_in stands.now) }
@@ -133,7 +135,7 @@ fn placed_policy(alloc: Global, instances: &Instances) -> Result<Compiled, Failu
 /// The tables of all that is placed, where its words have these meanings, and these are the classes and commons that statements
 /// join.
 ///
-/// Errors: the faults of classes (too wide, two commons), or out of memory.
+/// Errors: the faults of aliases, attributes and classes together, or out of memory.
 fn tables_of(
     alloc: Global,
     instances: &Instances,
@@ -148,24 +150,29 @@ fn tables_of(
     requires shared { AreShared (namespaces_in instances.now) lookup.now.names.now (items_in instances.now) shared.now }
     requires plain { ArePlainNames lookup.now.namespaces.now lookup.now.names.now }
     requires table { IsTableOf (map (meanings lookup.now.namespaces.now lookup.now.names.now permissions.now (is_in lookup.now.enabled.now)) (items_in instances.now)) words.now }
-    ensures { Answers (IsTable (items_in instances.now) (is_in lookup.now.enabled.now)) (ClassFault (is_in lookup.now.enabled.now) (items_in instances.now)) result }
+    ensures { Answers (IsTable (items_in instances.now) (is_in lookup.now.enabled.now)) (SetsFault (is_in lookup.now.enabled.now) (items_in instances.now)) result }
 {
     // What is known of the numbers of namespaces.
     lookup.namespaces.are_namespaces();
     let numbering = numbered(alloc, lookup)?;
-    let classes = classes(alloc, lookup, &numbering, permissions, shared, instances)?;
     let known = Known {
         lookup: *lookup,
         words,
         numbers: numbering.numbers.as_slice(),
         permissions,
     };
-    let stand = standings_of(alloc, &known, &numbering.sections)?;
+    let rows = classes(alloc, lookup, &numbering, permissions, shared, instances);
+    let standings = standings_of(alloc, &known, instances, &numbering.sections);
+    let Both {
+        first: classes,
+        second: stand,
+    } = both(rows, standings)?;
     let users = stand.users.as_slice();
     let roles = stand.roles.as_slice();
     let types = stand.types.as_slice();
     let user_roles = links_of(alloc, instances, &known, USER_ROLES, users, roles)?;
     let role_types = links_of(alloc, instances, &known, ROLE_TYPES, roles, types)?;
+    let type_aliases = aliases_of(alloc, &known, types)?;
     let allow = rules_of(alloc, instances, &known, types, classes.rows.as_slice())?;
     let Classes { rows } = classes;
     let Numbering {
@@ -182,6 +189,7 @@ fn tables_of(
         users: Names::from_vec(users),
         roles: Names::from_vec(roles),
         types: Names::from_vec(types),
+        type_aliases,
         classes: rows,
         user_roles,
         role_types,

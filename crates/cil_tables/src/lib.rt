@@ -7,6 +7,8 @@
 //! that modules have one answer. Questions to tables are a crate above.
 #![tactic(auto)]
 
+mod aliases;
+mod both;
 mod compiler;
 mod context;
 mod holders;
@@ -18,4 +20,4 @@ pub mod tables;
 pub use compiler::{Compiled, compile};
 pub use context::Context;
 pub use holders::Links;
-pub use tables::{Link, Tables};
+pub use tables::{Alias, Link, Tables};
