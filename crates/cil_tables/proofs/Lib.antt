@@ -1,4 +1,5 @@
 pub mod AgreesLemmas
+pub mod AliasLemmas
 pub mod AlwaysCompiles
 pub mod BothLemmas
 pub mod CompileLemmas

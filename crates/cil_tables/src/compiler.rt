@@ -7,7 +7,8 @@ ghost use Rattle.cil_blocks.specs.Places.{AreStandings, statements_in};
 ghost use Rattle.cil_macros.specs.Items.{items_in, namespaces_in};
 ghost use Rattle.cil_names.specs.declared.entry.Entry.{Entry as AnEntry};
 ghost use Rattle.cil_names.specs.Entries.{AreEntries, is_in};
-ghost use Rattle.cil_names.specs.Numbers.{ArePlainNames};
+ghost use Rattle.cil_names.specs.Known.{IsKnown, enabled_in, row_in};
+ghost use Rattle.cil_names.specs.Numbers.{AreApart, ArePlainNames, names_of};
 ghost use Rattle.cil_names.specs.PermissionWords.{meanings};
 ghost use Rattle.cil_names.specs.Rows.{IsTableOf};
 ghost use Rattle.cil_names.specs.Shared.{AreShared};
@@ -15,12 +16,14 @@ ghost use Rattle.cil_names.specs.Unresolved.{ArePermissions};
 ghost use Rattle.cil_tables.specs.CompileAnswer.{IsCompiled, IsCompiledOf, StandsIn};
 ghost use Rattle.cil_tables.specs.CompileRefusal.{CompileFails, ItemsFail};
 ghost use Rattle.cil_tables.specs.Compiled.{IsTable};
+ghost use Rattle.cil_classes.specs.ClassRows.{AreRowsOf};
 ghost use Rattle.cil_tables.specs.SetsStep.{SetsFault};
+ghost use Rattle.cil_tables.specs.Standings.{AllStand};
 
 use crate::aliases::aliases_of;
 use crate::both::{Both, both};
 use crate::links::{Joins, links_of};
-use crate::standings::standings_of;
+use crate::standings::{Standings, standings_of};
 use crate::tables::Tables;
 use cil_base::{Bytes, Names, NoMemory};
 use cil_blocks::{Spaces, inherit};
@@ -161,12 +164,10 @@ fn tables_of(
         numbers: numbering.numbers.as_slice(),
         permissions,
     };
-    let rows = classes(alloc, lookup, &numbering, permissions, shared, instances);
-    let standings = standings_of(alloc, &known, instances, &numbering.sections);
     let Both {
         first: classes,
         second: stand,
-    } = both(rows, standings)?;
+    } = judged_sets(alloc, instances, &known, &numbering, shared)?;
     let users = stand.users.as_slice();
     let roles = stand.roles.as_slice();
     let types = stand.types.as_slice();
@@ -195,6 +196,38 @@ fn tables_of(
         role_types,
         allow,
     })
+}
+
+/// The classes of a policy, and what its words stand for.
+///
+/// Errors: the faults of aliases, attributes and classes together, or out of memory.
+fn judged_sets<'s, 'a>(
+    alloc: Global,
+    instances: &Instances<'_, 's, 'a>,
+    known: &Known<'s, 'a>,
+    numbering: &Numbering,
+    shared: &[Shared],
+) -> Result<Both<Classes, Standings>, Failure>
+    requires namespaces { known.now.lookup.namespaces.now ≡ namespaces_in instances.now }
+    requires shared { AreShared (namespaces_in instances.now) known.now.lookup.names.now (items_in instances.now) shared.now }
+    requires table { IsTableOf (map (row_in known.now) (items_in instances.now)) known.now.words.now }
+    requires known { IsKnown known.now (items_in instances.now) (names_of numbering.now.sections) }
+    requires numbers { known.now.numbers.now ≡ numbering.now.numbers.items }
+    requires apart { AreApart known.now.lookup.names.now (enabled_in known.now) known.now.numbers.now }
+    ensures { Answers (λ both. AreRowsOf known.now.lookup.namespaces.now known.now.lookup.names.now (enabled_in known.now) known.now.permissions.now numbering.now.sections.classes.items both.first.rows.items
+        × AllStand known.now (items_in instances.now) (names_of numbering.now.sections) both.second)
+        (SetsFault (enabled_in known.now) (items_in instances.now)) result }
+{
+    let rows = classes(
+        alloc,
+        &known.lookup,
+        numbering,
+        known.permissions,
+        shared,
+        instances,
+    );
+    let standings = standings_of(alloc, known, instances, &numbering.sections);
+    both(rows, standings)
 }
 
 /// The statements that give users their roles.
