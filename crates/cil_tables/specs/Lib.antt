@@ -8,5 +8,6 @@ pub mod Holders
 pub mod Laws
 pub mod Links
 pub mod Meaning
+pub mod Sections
 pub mod Standings
 pub mod Table

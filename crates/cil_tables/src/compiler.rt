@@ -17,7 +17,7 @@ ghost use Rattle.cil_tables.specs.CompileRefusal.{CompileFails, ItemsFail};
 ghost use Rattle.cil_tables.specs.Compiled.{IsTable};
 ghost use Rattle.cil_classes.specs.Faults.{ClassFault};
 
-use crate::links::{Joins, links_of};
+use crate::sections::{Given, given_of};
 use crate::standings::standings_of;
 use crate::tables::Tables;
 use cil_base::{Bytes, Names, NoMemory};
@@ -33,8 +33,7 @@ use cil_names::{
 use cil_optionals::{
     Chosen, OptionalLine, Reason, WhyLine, greatest_of, optional_lines, why_lines,
 };
-use cil_rules::rules_of;
-use cil_syntax::{Keyword, Kind, written};
+use cil_syntax::written;
 use cil_words::{asks_of, judged, settled};
 use std::alloc::Global;
 
@@ -161,12 +160,12 @@ fn tables_of(
         permissions,
     };
     let stand = standings_of(alloc, &known, &numbering.sections)?;
-    let users = stand.users.as_slice();
-    let roles = stand.roles.as_slice();
-    let types = stand.types.as_slice();
-    let user_roles = links_of(alloc, instances, &known, USER_ROLES, users, roles)?;
-    let role_types = links_of(alloc, instances, &known, ROLE_TYPES, roles, types)?;
-    let allow = rules_of(alloc, instances, &known, types, classes.rows.as_slice())?;
+    let given = given_of(alloc, instances, &known, &stand, classes.rows.as_slice())?;
+    let Given {
+        user_roles,
+        role_types,
+        allow,
+    } = given;
     let Classes { rows } = classes;
     let Numbering {
         sections,
@@ -188,17 +187,3 @@ fn tables_of(
         allow,
     })
 }
-
-/// The statements that give users their roles.
-const USER_ROLES: Joins = Joins {
-    keyword: Keyword::UserRole,
-    holder_kind: Kind::User,
-    held_kind: Kind::Role,
-};
-
-/// The statements that give roles their types.
-const ROLE_TYPES: Joins = Joins {
-    keyword: Keyword::RoleType,
-    holder_kind: Kind::Role,
-    held_kind: Kind::Type_,
-};
