@@ -49,10 +49,11 @@ fn all_below(alloc: Global, held: &[Held], items: usize) -> Result<Vec<Numbers>,
 fn below_at(alloc: Global, held: &[Held], d: usize, all: &Numbers) -> Result<Numbers, NoMemory>
     ensures { IfOk result (λ set. (items : ℕ) (h : AHeld) → Lists nat_cmp (λ v. v < items) all.now → slice_get held.now d ≡ Some h → AreBelow items h set) }
 {
-    match held.get(d) {
-        Some(one) => below(alloc, one, all),
-        None => Ok(Numbers::new(alloc)),
-    }
+    let Some(one) = held.get(d) else {
+        return Ok(Numbers::new(alloc));
+    };
+    let set = below(alloc, one, all)?;
+    Ok(set)
 }
 
 fn below(alloc: Global, held: &Held, all: &Numbers) -> Result<Numbers, NoMemory>
@@ -60,7 +61,10 @@ fn below(alloc: Global, held: &Held, all: &Numbers) -> Result<Numbers, NoMemory>
 {
     match held {
         Held::Nothing => Ok(Numbers::new(alloc)),
-        Held::Item(number) => single(alloc, *number, all),
+        Held::Item(number) => {
+            let one = single(alloc, *number, all)?;
+            Ok(one)
+        }
         Held::Set(numbers) => {
             let both = numbers.joined(alloc, Joining::Both, all)?;
             Ok(both)
@@ -72,9 +76,10 @@ fn below(alloc: Global, held: &Held, all: &Numbers) -> Result<Numbers, NoMemory>
 fn single(alloc: Global, number: usize, all: &Numbers) -> Result<Numbers, NoMemory>
     ensures { IfOk result (λ set. (items : ℕ) → Lists nat_cmp (λ v. v < items) all.now → AreBelow items (HeldItem number) set) }
 {
-    let mut set = Numbers::new(alloc);
-    if all.contains(number) {
-        set.add(number)?;
+    if !all.contains(number) {
+        return Ok(Numbers::new(alloc));
     }
+    let mut set = Numbers::new(alloc);
+    set.add(number)?;
     Ok(set)
 }

@@ -2,7 +2,7 @@
 //! class, a walk over the words of its target, and a step for each of its permission words; at the end the records are sorted. A set
 //! of several types is kept once for all rules that name it.
 
-ghost use Rattle.std.specs.Prelude.{◌≡◌, ◌↔◌, ◌<◌, ◌≤◌, ℕ, [], Contains, IfOk, IsTrue, List, MatchOption, length, map};
+ghost use Rattle.std.specs.Prelude.{◌≡◌, ◌↔◌, ◌<◌, ◌≤◌, ℕ, [], Contains, IfOk, IsTrue, List, MatchOption, get_or, length, map};
 ghost use Rattle.std.specs.List.Sorted.{IsStrictlySortedBy};
 ghost use Rattle.cil_base.specs.Gives.{Gives};
 ghost use Rattle.cil_base.specs.Lists.{text_cmp};
@@ -138,7 +138,25 @@ fn rule_of(
 fn some_at(sets: &[Numbers], meaning: Option<usize>) -> Option<&Numbers>
     ensures { MatchOption result (set_meant sets.now meaning ≡ []) (λ set. (set.now ≡ set_meant sets.now meaning) × (set.now ≡ [] → ⊥)) }
 {
-    let set = sets.get(meaning?)?;
+    match meaning {
+        Some(d) => some_of(sets, d),
+        None => None,
+    }
+}
+
+/// The set of this number, if it has members.
+fn some_of(sets: &[Numbers], d: usize) -> Option<&Numbers>
+    ensures { MatchOption result (get_or sets.now d [] ≡ []) (λ set. (set.now ≡ get_or sets.now d []) × (set.now ≡ [] → ⊥)) }
+{
+    match sets.get(d) {
+        Some(set) => unless_empty(set),
+        None => None,
+    }
+}
+
+fn unless_empty(set: &Numbers) -> Option<&Numbers>
+    ensures { MatchOption result (set.now ≡ []) (λ same. (same.now ≡ set.now) × (set.now ≡ [] → ⊥)) }
+{
     if is_empty(set.as_slice()) {
         return None;
     }

@@ -202,3 +202,22 @@ one_holder old links new holders helds holder are more = record {
     ]),
   );
 }
+
+-- ---- sets of one number
+
+pub one_member : (numbers : List ℕ) (n : ℕ) → length numbers ≡ 1 → Contains numbers n → numbers ≡ n ∷ []
+one_member [] n e c = absurd (contains_none n c)
+one_member (m ∷ []) n e c = elim (contains_cases n m [] c) [ inl same ↦ ap (λ k. k ∷ []) same | inr d ↦ absurd (contains_none n d) ]
+one_member (m ∷ (k ∷ ks)) n e c = absurd (omega (arith, e))
+
+pub with_one : (old new others : List ℕ) (n : ℕ) → others ≡ n ∷ [] → Lists nat_cmp (λ v. Contains old v ⊎ (v ≡ n)) new → Lists nat_cmp (λ v. Contains old v ⊎ Contains others v) new
+with_one old new others n one added = record {
+  rising = added.rising;
+  members = λ v. (
+    λ c. elim ((added.members v).0 c) [ inl d ↦ inl d | inr e ↦ inr (subst (λ ns. Contains ns v) (sym one) (subst (λ k. Contains (n ∷ []) k) (sym e) (contains_here n []))) ],
+    λ h. (added.members v).1 (elim h [
+      | inl d ↦ inl d
+      | inr c ↦ elim (contains_cases v n [] (subst (λ ns. Contains ns v) one c)) [ inl same ↦ inr (sym same) | inr d ↦ absurd (contains_none v d) ]
+    ]),
+  );
+}

@@ -11,6 +11,7 @@ pub mod Holders
 pub mod Laws
 pub mod Links
 pub mod Meaning
+pub mod Sections
 pub mod SetsStep
 pub mod Standings
 pub mod Table

@@ -20,9 +20,8 @@ ghost use Rattle.cil_classes.specs.ClassRows.{AreRowsOf};
 ghost use Rattle.cil_tables.specs.SetsStep.{SetsFault};
 ghost use Rattle.cil_tables.specs.Standings.{AllStand};
 
-use crate::aliases::aliases_of;
 use crate::both::{Both, both};
-use crate::links::{Joins, links_of};
+use crate::sections::{Given, given_of};
 use crate::standings::{Standings, standings_of};
 use crate::tables::Tables;
 use cil_base::{Bytes, Names, NoMemory};
@@ -38,8 +37,7 @@ use cil_names::{
 use cil_optionals::{
     Chosen, OptionalLine, Reason, WhyLine, greatest_of, optional_lines, why_lines,
 };
-use cil_rules::rules_of;
-use cil_syntax::{Keyword, Kind, written};
+use cil_syntax::written;
 use cil_words::{asks_of, judged, settled};
 use std::alloc::Global;
 
@@ -168,13 +166,13 @@ fn tables_of(
         first: classes,
         second: stand,
     } = judged_sets(alloc, instances, &known, &numbering, shared)?;
-    let users = stand.users.as_slice();
-    let roles = stand.roles.as_slice();
-    let types = stand.types.as_slice();
-    let user_roles = links_of(alloc, instances, &known, USER_ROLES, users, roles)?;
-    let role_types = links_of(alloc, instances, &known, ROLE_TYPES, roles, types)?;
-    let type_aliases = aliases_of(alloc, &known, types)?;
-    let allow = rules_of(alloc, instances, &known, types, classes.rows.as_slice())?;
+    let given = given_of(alloc, instances, &known, &stand, classes.rows.as_slice())?;
+    let Given {
+        user_roles,
+        role_types,
+        type_aliases,
+        allow,
+    } = given;
     let Classes { rows } = classes;
     let Numbering {
         sections,
@@ -229,17 +227,3 @@ fn judged_sets<'s, 'a>(
     let standings = standings_of(alloc, known, instances, &numbering.sections);
     both(rows, standings)
 }
-
-/// The statements that give users their roles.
-const USER_ROLES: Joins = Joins {
-    keyword: Keyword::UserRole,
-    holder_kind: Kind::User,
-    held_kind: Kind::Role,
-};
-
-/// The statements that give roles their types.
-const ROLE_TYPES: Joins = Joins {
-    keyword: Keyword::RoleType,
-    holder_kind: Kind::Role,
-    held_kind: Kind::Type_,
-};

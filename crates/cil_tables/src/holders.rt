@@ -94,14 +94,20 @@ fn reach(alloc: Global, rows: &mut Vec<Numbers>, holder: usize) -> Result<(), No
     Ok(())
 }
 
-/// Adds the members of another set.
+/// Adds the members of another set. A set of one number costs a search by halving, and another a step for each block of both.
 fn add_all(alloc: Global, set: &mut Numbers, others: &Numbers) -> Result<(), NoMemory>
     ensures { OnOk result (Lists nat_cmp (λ v. Contains set.old v ⊎ Contains others.now v) set.new) }
 {
-    if let Some(number) = only(others) {
-        set.add(number)?;
-        return Ok(());
-    }
+    let Some(number) = only(others) else {
+        return join_all(alloc, set, others);
+    };
+    set.add(number)?;
+    Ok(())
+}
+
+fn join_all(alloc: Global, set: &mut Numbers, others: &Numbers) -> Result<(), NoMemory>
+    ensures { OnOk result (Lists nat_cmp (λ v. Contains set.old v ⊎ Contains others.now v) set.new) }
+{
     let both = set.joined(alloc, Joining::Union, others)?;
     *set = both;
     Ok(())
@@ -112,5 +118,14 @@ fn only(set: &Numbers) -> Option<usize>
     ensures { IfSome result (λ n. set.now ≡ n ∷ []) }
 {
     let first = set.next_from(0)?;
-    if set.len() == 1 { Some(first) } else { None }
+    if !is_one(set.len()) {
+        return None;
+    }
+    Some(first)
+}
+
+fn is_one(count: usize) -> bool
+    ensures { IsTrue result ↔ (count ≡ 1) }
+{
+    count == 1
 }

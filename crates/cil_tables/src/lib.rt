@@ -14,6 +14,7 @@ mod context;
 mod holders;
 pub mod laws;
 mod links;
+mod sections;
 mod standings;
 pub mod tables;
 

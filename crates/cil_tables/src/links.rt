@@ -1,7 +1,7 @@
 //! The pairs that statements join: users with roles, and roles with types. A statement costs no look-up of a word. It joins each of
 //! the one set with each of the other: n statements over two full sets cost n steps for each holder and each block of the other set.
 
-ghost use Rattle.std.specs.Prelude.{◌≡◌, ◌<◌, [], length, ℕ, IfOk, List, MatchOption, map, true};
+ghost use Rattle.std.specs.Prelude.{◌≡◌, ◌<◌, [], get_or, length, ℕ, IfOk, List, MatchOption, map, true};
 ghost use Rattle.cil_base.specs.Lists.{Lists};
 ghost use Rattle.cil_syntax.specs.declared.kind.Kind as kinds;
 ghost use Rattle.cil_macros.specs.Item.{Item};
@@ -108,5 +108,18 @@ fn joined_at<'s>(
 fn set_at(sets: &[Numbers], meaning: Option<usize>) -> Option<&Numbers>
     ensures { MatchOption result (set_meant sets.now meaning ≡ []) (λ set. set.now ≡ set_meant sets.now meaning) }
 {
-    sets.get(meaning?)
+    match meaning {
+        Some(d) => set_of(sets, d),
+        None => None,
+    }
+}
+
+/// The set of this number.
+fn set_of(sets: &[Numbers], d: usize) -> Option<&Numbers>
+    ensures { MatchOption result (get_or sets.now d [] ≡ []) (λ set. set.now ≡ get_or sets.now d []) }
+{
+    match sets.get(d) {
+        Some(set) => Some(set),
+        None => None,
+    }
 }

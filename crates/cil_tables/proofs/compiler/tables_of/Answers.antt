@@ -5,7 +5,7 @@ use Rattle.cil_base.specs.Lists.{text_cmp}
 use Rattle.cil_syntax.specs.declared.kind.Kind.TheVariants as kinds
 use Rattle.cil_macros.specs.Items.{items_in}
 use Rattle.cil_names.specs.Entries.{is_in}
-use Rattle.cil_names.specs.Numbers.{AreNumbers, names_of}
+use Rattle.cil_names.specs.Numbers.{AreApart, AreNumbers, names_of}
 use Rattle.cil_classes.specs.declared.row.Class.{Class}
 use Rattle.cil_base.specs.Gives.{Gives}
 use Rattle.cil_syntax.specs.declared.kind.Keyword.TheVariants as keywords
@@ -21,16 +21,19 @@ use Rattle.cil_tables.proofs.compiler.tables_of.Goals as goal
 pub classes-requires-clause-numbers : goal.classes-requires-clause-numbers
 classes-requires-clause-numbers c = c.in_ok-numbering.ensures.numbers
 
+pub standings_of-requires : goal.standings_of-requires
+standings_of-requires c = subst (AreApart c.args.lookup.now.names.now (is_in c.args.lookup.now.enabled.now)) (sym c.as_slice.ensures.value) (c.in_ok-numbering.ensures.apart c.requires.plain)
+
 pub classes-requires-clause-apart : goal.classes-requires-clause-apart
 classes-requires-clause-apart c = c.in_ok-numbering.ensures.apart c.requires.plain
 
-pub rules_of-requires-clause-rising : goal.rules_of-requires-clause-rising
-rules_of-requires-clause-rising c = λ row member.
+pub given_of-requires-clause-rising : goal.given_of-requires-clause-rising
+given_of-requires-clause-rising c = λ row member.
     rows_rise c.args.lookup.now.namespaces.now (items_in c.args.instances.now) c.args.lookup.now.names.now c.requires.entries (is_in c.args.lookup.now.enabled.now) c.in_ok-numbering.numbering.sections c.in_ok-numbering.numbering.numbers.items c.in_ok-numbering.ensures.numbers (c.in_ok-numbering.ensures.apart c.requires.plain) c.args.permissions.now c.requires.permissions c.in_ok-classes.classes.rows.items c.in_ok-classes.ensures.0 row
     (subst (λ (rows : List Class). Contains rows row) c.as_slice-2.ensures.value member)
 
-pub rules_of-requires-clause-few : goal.rules_of-requires-clause-few
-rules_of-requires-clause-few c = λ row member.
+pub given_of-requires-clause-few : goal.given_of-requires-clause-few
+given_of-requires-clause-few c = λ row member.
     let k = class_of_row c.args.lookup.now.namespaces.now (items_in c.args.instances.now) c.args.lookup.now.names.now c.requires.entries (is_in c.args.lookup.now.enabled.now) c.in_ok-numbering.numbering.sections c.in_ok-numbering.numbering.numbers.items c.in_ok-numbering.ensures.numbers (c.in_ok-numbering.ensures.apart c.requires.plain) c.args.permissions.now c.requires.permissions c.in_ok-classes.classes.rows.items c.in_ok-classes.ensures.0 row
     (subst (λ (rows : List Class). Contains rows row) c.as_slice-2.ensures.value member) in
     few (items_in c.args.instances.now) (is_in c.args.lookup.now.enabled.now) c.in_ok-classes.ensures.1 k.0 row k.1 k.2
@@ -44,13 +47,17 @@ invariant_of-result c =
       numbered = subst (AreNumbers c.args.lookup.now.namespaces.now c.args.lookup.now.names.now (is_in c.args.lookup.now.enabled.now) (names_of c.in_ok-numbering.numbering.sections)) (sym c.as_slice.ensures.value) c.in_ok-numbering.ensures.numbers;
       permissions = c.requires.permissions;
     } in
+    let classes : AreClasses (items_in c.args.instances.now) (is_in c.args.lookup.now.enabled.now) c.in_ok-numbering.numbering.sections.classes.items c.as_slice-2.result.now =
+    subst (AreClasses (items_in c.args.instances.now) (is_in c.args.lookup.now.enabled.now) c.in_ok-numbering.numbering.sections.classes.items) (sym c.as_slice-2.ensures.value)
+    (classes_are c.args.lookup.now.namespaces.now (items_in c.args.instances.now) c.args.lookup.now.names.now c.requires.entries (is_in c.args.lookup.now.enabled.now) c.in_ok-numbering.numbering.sections c.in_ok-numbering.numbering.numbers.items c.in_ok-numbering.ensures.numbers (c.in_ok-numbering.ensures.apart c.requires.plain) c.args.permissions.now c.requires.permissions c.in_ok-classes.classes.rows.items c.in_ok-classes.ensures.0) in
+    let given = c.in_ok-given.ensures (names_of c.in_ok-numbering.numbering.sections) known (c.in_ok-stand.ensures (items_in c.args.instances.now) known) classes in
     record {
       users = subst (IsStrictlySortedBy text_cmp) (sym c.from_vec.ensures) (c.in_ok-numbering.ensures.numbers.lists kinds.User refl).rising;
       roles = subst (IsStrictlySortedBy text_cmp) (sym c.from_vec-2.ensures) (c.in_ok-numbering.ensures.numbers.lists kinds.Role refl).rising;
       types = subst (IsStrictlySortedBy text_cmp) (sym c.from_vec-3.ensures) (c.in_ok-numbering.ensures.numbers.lists kinds.Type_ refl).rising;
       classes = classes_rise c.args.lookup.now.namespaces.now (items_in c.args.instances.now) c.args.lookup.now.names.now c.requires.entries (is_in c.args.lookup.now.enabled.now) c.in_ok-numbering.numbering.sections c.in_ok-numbering.numbering.numbers.items c.in_ok-numbering.ensures.numbers (c.in_ok-numbering.ensures.apart c.requires.plain) c.args.permissions.now c.requires.permissions c.in_ok-classes.classes.rows.items c.in_ok-classes.ensures.0;
-      user_roles = (c.in_ok-user_roles.ensures (names_of c.in_ok-numbering.numbering.sections) known).rising;
-      role_types = (c.in_ok-role_types.ensures (names_of c.in_ok-numbering.numbering.sections) known).rising;
+      user_roles = given.user_roles.rising;
+      role_types = given.role_types.rising;
       each_class = λ row member.
           let k = class_of_row c.args.lookup.now.namespaces.now (items_in c.args.instances.now) c.args.lookup.now.names.now c.requires.entries (is_in c.args.lookup.now.enabled.now) c.in_ok-numbering.numbering.sections c.in_ok-numbering.numbering.numbers.items c.in_ok-numbering.ensures.numbers (c.in_ok-numbering.ensures.apart c.requires.plain) c.args.permissions.now c.requires.permissions c.in_ok-classes.classes.rows.items c.in_ok-classes.ensures.0 row member in
           record { permissions = k.2.permissions.rising; few = few (items_in c.args.instances.now) (is_in c.args.lookup.now.enabled.now) c.in_ok-classes.ensures.1 k.0 row k.1 k.2 };
@@ -68,14 +75,15 @@ returns c =
     let names = names_are c.args.lookup.now.namespaces.now (items_in c.args.instances.now) c.args.lookup.now.names.now c.requires.entries (is_in c.args.lookup.now.enabled.now) in
     let classes : AreClasses (items_in c.args.instances.now) (is_in c.args.lookup.now.enabled.now) c.in_ok-numbering.numbering.sections.classes.items c.as_slice-2.result.now =
     subst (AreClasses (items_in c.args.instances.now) (is_in c.args.lookup.now.enabled.now) c.in_ok-numbering.numbering.sections.classes.items) (sym c.as_slice-2.ensures.value)
-    (classes_are c.args.lookup.now.namespaces.now (items_in c.args.instances.now) c.args.lookup.now.names.now c.requires.entries (is_in c.args.lookup.now.enabled.now) c.in_ok-numbering.numbering.sections c.in_ok-numbering.numbering.numbers.items c.in_ok-numbering.ensures.numbers (c.in_ok-numbering.ensures.apart c.requires.plain) c.args.permissions.now c.requires.permissions c.in_ok-classes.classes.rows.items c.in_ok-classes.ensures.0) in (
+    (classes_are c.args.lookup.now.namespaces.now (items_in c.args.instances.now) c.args.lookup.now.names.now c.requires.entries (is_in c.args.lookup.now.enabled.now) c.in_ok-numbering.numbering.sections c.in_ok-numbering.numbering.numbers.items c.in_ok-numbering.ensures.numbers (c.in_ok-numbering.ensures.apart c.requires.plain) c.args.permissions.now c.requires.permissions c.in_ok-classes.classes.rows.items c.in_ok-classes.ensures.0) in
+    let given = c.in_ok-given.ensures (names_of c.in_ok-numbering.numbering.sections) known (c.in_ok-stand.ensures (items_in c.args.instances.now) known) classes in (
       table_of (items_in c.args.instances.now) (is_in c.args.lookup.now.enabled.now) (names_of c.in_ok-numbering.numbering.sections) _ _ _ c.in_ok-classes.classes.rows.items _ _ _
           c.from_vec.ensures c.from_vec-2.ensures c.from_vec-3.ensures
           (names kinds.User _ (c.in_ok-numbering.ensures.numbers.lists kinds.User refl)) (names kinds.Role _ (c.in_ok-numbering.ensures.numbers.lists kinds.Role refl))
           (names kinds.Type_ _ (c.in_ok-numbering.ensures.numbers.lists kinds.Type_ refl))
           (classes_given c.args.lookup.now.namespaces.now (items_in c.args.instances.now) c.args.lookup.now.names.now c.requires.entries (is_in c.args.lookup.now.enabled.now) c.in_ok-numbering.numbering.sections c.in_ok-numbering.numbering.numbers.items c.in_ok-numbering.ensures.numbers (c.in_ok-numbering.ensures.apart c.requires.plain) c.args.permissions.now c.requires.permissions c.in_ok-classes.classes.rows.items c.in_ok-classes.ensures.0)
-          (c.in_ok-user_roles.ensures (names_of c.in_ok-numbering.numbering.sections) known) (c.in_ok-role_types.ensures (names_of c.in_ok-numbering.numbering.sections) known)
-          (subst (λ (rows : List Class). Gives rule_cmp (IsCase (items_in c.args.instances.now) (is_in c.args.lookup.now.enabled.now) keywords.Allow) (IsRuleOf (items_in c.args.instances.now) (is_in c.args.lookup.now.enabled.now) (names_of c.in_ok-numbering.numbering.sections kinds.Type_) rows) c.in_ok-allow.allow.items)
-          c.as_slice-2.ensures.value (c.in_ok-allow.ensures (names_of c.in_ok-numbering.numbering.sections) known classes)),
+          given.user_roles given.role_types
+          (subst (λ (rows : List Class). Gives rule_cmp (IsCase (items_in c.args.instances.now) (is_in c.args.lookup.now.enabled.now) keywords.Allow) (IsRuleOf (items_in c.args.instances.now) (is_in c.args.lookup.now.enabled.now) (names_of c.in_ok-numbering.numbering.sections kinds.Type_) rows) c.in_ok-given.given.allow.items)
+          c.as_slice-2.ensures.value given.allow),
       c.in_ok-classes.ensures.1,
     )
