@@ -137,12 +137,12 @@ fn placed_policy(alloc: Global, instances: &Instances) -> Result<Compiled, Failu
 /// join.
 ///
 /// Errors: the faults of aliases, attributes and classes together, or out of memory.
-fn tables_of(
+fn tables_of<'s, 'a>(
     alloc: Global,
-    instances: &Instances,
-    lookup: &Lookup,
-    words: &Words,
-    permissions: &[Vec<Bytes>],
+    instances: &Instances<'_, 's, 'a>,
+    lookup: &Lookup<'s, 'a>,
+    words: &'s Words,
+    permissions: &'s [Vec<Bytes>],
     shared: &[Shared],
 ) -> Result<Tables, Failure>
     requires namespaces { lookup.now.namespaces.now ≡ namespaces_in instances.now }
@@ -162,10 +162,11 @@ fn tables_of(
         numbers: numbering.numbers.as_slice(),
         permissions,
     };
+    let judged = judged_sets(alloc, instances, &known, &numbering, shared)?;
     let Both {
         first: classes,
         second: stand,
-    } = judged_sets(alloc, instances, &known, &numbering, shared)?;
+    } = judged;
     let given = given_of(alloc, instances, &known, &stand, classes.rows.as_slice())?;
     let Given {
         user_roles,

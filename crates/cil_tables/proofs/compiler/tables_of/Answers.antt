@@ -1,4 +1,4 @@
-use Rattle.std.proofs.Common.{List, refl, subst, sym}
+use Rattle.std.proofs.Common.{List, inl, refl, subst, sym}
 use Rattle.std.specs.Prelude.{Contains}
 use Rattle.std.specs.List.Sorted.{IsStrictlySortedBy}
 use Rattle.cil_base.specs.Lists.{text_cmp}
@@ -18,25 +18,45 @@ use Rattle.cil_tables.proofs.NamedLemmas.{class_of_row, classes_are, classes_giv
 use Rattle.cil_tables.proofs.WideClasses.{few}
 use Rattle.cil_tables.proofs.compiler.tables_of.Goals as goal
 
-pub classes-requires-clause-numbers : goal.classes-requires-clause-numbers
-classes-requires-clause-numbers c = c.in_ok-numbering.ensures.numbers
+pub judged_sets-requires-clause-namespaces : goal.judged_sets-requires-clause-namespaces
+judged_sets-requires-clause-namespaces c = c.requires.namespaces
 
-pub standings_of-requires : goal.standings_of-requires
-standings_of-requires c = subst (AreApart c.args.lookup.now.names.now (is_in c.args.lookup.now.enabled.now)) (sym c.as_slice.ensures.value) (c.in_ok-numbering.ensures.apart c.requires.plain)
+pub judged_sets-requires-clause-shared : goal.judged_sets-requires-clause-shared
+judged_sets-requires-clause-shared c = c.requires.shared
 
-pub classes-requires-clause-apart : goal.classes-requires-clause-apart
-classes-requires-clause-apart c = c.in_ok-numbering.ensures.apart c.requires.plain
+pub judged_sets-requires-clause-table : goal.judged_sets-requires-clause-table
+judged_sets-requires-clause-table c = c.requires.table
+
+pub judged_sets-requires-clause-known : goal.judged_sets-requires-clause-known
+judged_sets-requires-clause-known c =
+    let known : AreKnown c.args.lookup.now.namespaces.now (items_in c.args.instances.now) c.args.lookup.now.names.now (is_in c.args.lookup.now.enabled.now) (names_of c.in_ok-numbering.numbering.sections) c.as_slice.result.now c.args.permissions.now =
+    record {
+      namespaces = c.are_namespaces.ensures;
+      entries = c.requires.entries;
+      numbered = subst (AreNumbers c.args.lookup.now.namespaces.now c.args.lookup.now.names.now (is_in c.args.lookup.now.enabled.now) (names_of c.in_ok-numbering.numbering.sections)) (sym c.as_slice.ensures.value) c.in_ok-numbering.ensures.numbers;
+      permissions = c.requires.permissions;
+    } in
+    known
+
+pub judged_sets-requires-clause-numbers : goal.judged_sets-requires-clause-numbers
+judged_sets-requires-clause-numbers c = c.as_slice.ensures.value
+
+pub judged_sets-requires-clause-apart : goal.judged_sets-requires-clause-apart
+judged_sets-requires-clause-apart c = subst (AreApart c.args.lookup.now.names.now (is_in c.args.lookup.now.enabled.now)) (sym c.as_slice.ensures.value) (c.in_ok-numbering.ensures.apart c.requires.plain)
+
+pub given_of-requires-clause-ordered : goal.given_of-requires-clause-ordered
+given_of-requires-clause-ordered c = c.requires.entries.ordered
 
 pub given_of-requires-clause-rising : goal.given_of-requires-clause-rising
 given_of-requires-clause-rising c = λ row member.
-    rows_rise c.args.lookup.now.namespaces.now (items_in c.args.instances.now) c.args.lookup.now.names.now c.requires.entries (is_in c.args.lookup.now.enabled.now) c.in_ok-numbering.numbering.sections c.in_ok-numbering.numbering.numbers.items c.in_ok-numbering.ensures.numbers (c.in_ok-numbering.ensures.apart c.requires.plain) c.args.permissions.now c.requires.permissions c.in_ok-classes.classes.rows.items c.in_ok-classes.ensures.0 row
+    rows_rise c.args.lookup.now.namespaces.now (items_in c.args.instances.now) c.args.lookup.now.names.now c.requires.entries (is_in c.args.lookup.now.enabled.now) c.in_ok-numbering.numbering.sections c.in_ok-numbering.numbering.numbers.items c.in_ok-numbering.ensures.numbers (c.in_ok-numbering.ensures.apart c.requires.plain) c.args.permissions.now c.requires.permissions c.in_ok-judged.judged.first.rows.items c.in_ok-judged.ensures.0.0 row
     (subst (λ (rows : List Class). Contains rows row) c.as_slice-2.ensures.value member)
 
 pub given_of-requires-clause-few : goal.given_of-requires-clause-few
 given_of-requires-clause-few c = λ row member.
-    let k = class_of_row c.args.lookup.now.namespaces.now (items_in c.args.instances.now) c.args.lookup.now.names.now c.requires.entries (is_in c.args.lookup.now.enabled.now) c.in_ok-numbering.numbering.sections c.in_ok-numbering.numbering.numbers.items c.in_ok-numbering.ensures.numbers (c.in_ok-numbering.ensures.apart c.requires.plain) c.args.permissions.now c.requires.permissions c.in_ok-classes.classes.rows.items c.in_ok-classes.ensures.0 row
+    let k = class_of_row c.args.lookup.now.namespaces.now (items_in c.args.instances.now) c.args.lookup.now.names.now c.requires.entries (is_in c.args.lookup.now.enabled.now) c.in_ok-numbering.numbering.sections c.in_ok-numbering.numbering.numbers.items c.in_ok-numbering.ensures.numbers (c.in_ok-numbering.ensures.apart c.requires.plain) c.args.permissions.now c.requires.permissions c.in_ok-judged.judged.first.rows.items c.in_ok-judged.ensures.0.0 row
     (subst (λ (rows : List Class). Contains rows row) c.as_slice-2.ensures.value member) in
-    few (items_in c.args.instances.now) (is_in c.args.lookup.now.enabled.now) c.in_ok-classes.ensures.1 k.0 row k.1 k.2
+    few (items_in c.args.instances.now) (is_in c.args.lookup.now.enabled.now) (λ f e. c.in_ok-judged.ensures.1 f (inl e)) k.0 row k.1 k.2
 
 pub invariant_of-result : goal.invariant_of-result
 invariant_of-result c =
@@ -49,18 +69,19 @@ invariant_of-result c =
     } in
     let classes : AreClasses (items_in c.args.instances.now) (is_in c.args.lookup.now.enabled.now) c.in_ok-numbering.numbering.sections.classes.items c.as_slice-2.result.now =
     subst (AreClasses (items_in c.args.instances.now) (is_in c.args.lookup.now.enabled.now) c.in_ok-numbering.numbering.sections.classes.items) (sym c.as_slice-2.ensures.value)
-    (classes_are c.args.lookup.now.namespaces.now (items_in c.args.instances.now) c.args.lookup.now.names.now c.requires.entries (is_in c.args.lookup.now.enabled.now) c.in_ok-numbering.numbering.sections c.in_ok-numbering.numbering.numbers.items c.in_ok-numbering.ensures.numbers (c.in_ok-numbering.ensures.apart c.requires.plain) c.args.permissions.now c.requires.permissions c.in_ok-classes.classes.rows.items c.in_ok-classes.ensures.0) in
-    let given = c.in_ok-given.ensures (names_of c.in_ok-numbering.numbering.sections) known (c.in_ok-stand.ensures (items_in c.args.instances.now) known) classes in
+    (classes_are c.args.lookup.now.namespaces.now (items_in c.args.instances.now) c.args.lookup.now.names.now c.requires.entries (is_in c.args.lookup.now.enabled.now) c.in_ok-numbering.numbering.sections c.in_ok-numbering.numbering.numbers.items c.in_ok-numbering.ensures.numbers (c.in_ok-numbering.ensures.apart c.requires.plain) c.args.permissions.now c.requires.permissions c.in_ok-judged.judged.first.rows.items c.in_ok-judged.ensures.0.0) in
+    let given = c.in_ok-given.ensures (names_of c.in_ok-numbering.numbering.sections) known (c.in_ok-judged.ensures.0.1) classes in
     record {
       users = subst (IsStrictlySortedBy text_cmp) (sym c.from_vec.ensures) (c.in_ok-numbering.ensures.numbers.lists kinds.User refl).rising;
       roles = subst (IsStrictlySortedBy text_cmp) (sym c.from_vec-2.ensures) (c.in_ok-numbering.ensures.numbers.lists kinds.Role refl).rising;
       types = subst (IsStrictlySortedBy text_cmp) (sym c.from_vec-3.ensures) (c.in_ok-numbering.ensures.numbers.lists kinds.Type_ refl).rising;
-      classes = classes_rise c.args.lookup.now.namespaces.now (items_in c.args.instances.now) c.args.lookup.now.names.now c.requires.entries (is_in c.args.lookup.now.enabled.now) c.in_ok-numbering.numbering.sections c.in_ok-numbering.numbering.numbers.items c.in_ok-numbering.ensures.numbers (c.in_ok-numbering.ensures.apart c.requires.plain) c.args.permissions.now c.requires.permissions c.in_ok-classes.classes.rows.items c.in_ok-classes.ensures.0;
+      classes = classes_rise c.args.lookup.now.namespaces.now (items_in c.args.instances.now) c.args.lookup.now.names.now c.requires.entries (is_in c.args.lookup.now.enabled.now) c.in_ok-numbering.numbering.sections c.in_ok-numbering.numbering.numbers.items c.in_ok-numbering.ensures.numbers (c.in_ok-numbering.ensures.apart c.requires.plain) c.args.permissions.now c.requires.permissions c.in_ok-judged.judged.first.rows.items c.in_ok-judged.ensures.0.0;
+      type_aliases = given.type_aliases.rising;
       user_roles = given.user_roles.rising;
       role_types = given.role_types.rising;
       each_class = λ row member.
-          let k = class_of_row c.args.lookup.now.namespaces.now (items_in c.args.instances.now) c.args.lookup.now.names.now c.requires.entries (is_in c.args.lookup.now.enabled.now) c.in_ok-numbering.numbering.sections c.in_ok-numbering.numbering.numbers.items c.in_ok-numbering.ensures.numbers (c.in_ok-numbering.ensures.apart c.requires.plain) c.args.permissions.now c.requires.permissions c.in_ok-classes.classes.rows.items c.in_ok-classes.ensures.0 row member in
-          record { permissions = k.2.permissions.rising; few = few (items_in c.args.instances.now) (is_in c.args.lookup.now.enabled.now) c.in_ok-classes.ensures.1 k.0 row k.1 k.2 };
+          let k = class_of_row c.args.lookup.now.namespaces.now (items_in c.args.instances.now) c.args.lookup.now.names.now c.requires.entries (is_in c.args.lookup.now.enabled.now) c.in_ok-numbering.numbering.sections c.in_ok-numbering.numbering.numbers.items c.in_ok-numbering.ensures.numbers (c.in_ok-numbering.ensures.apart c.requires.plain) c.args.permissions.now c.requires.permissions c.in_ok-judged.judged.first.rows.items c.in_ok-judged.ensures.0.0 row member in
+          record { permissions = k.2.permissions.rising; few = few (items_in c.args.instances.now) (is_in c.args.lookup.now.enabled.now) (λ f e. c.in_ok-judged.ensures.1 f (inl e)) k.0 row k.1 k.2 };
     }
 
 pub returns : goal.returns
@@ -75,15 +96,16 @@ returns c =
     let names = names_are c.args.lookup.now.namespaces.now (items_in c.args.instances.now) c.args.lookup.now.names.now c.requires.entries (is_in c.args.lookup.now.enabled.now) in
     let classes : AreClasses (items_in c.args.instances.now) (is_in c.args.lookup.now.enabled.now) c.in_ok-numbering.numbering.sections.classes.items c.as_slice-2.result.now =
     subst (AreClasses (items_in c.args.instances.now) (is_in c.args.lookup.now.enabled.now) c.in_ok-numbering.numbering.sections.classes.items) (sym c.as_slice-2.ensures.value)
-    (classes_are c.args.lookup.now.namespaces.now (items_in c.args.instances.now) c.args.lookup.now.names.now c.requires.entries (is_in c.args.lookup.now.enabled.now) c.in_ok-numbering.numbering.sections c.in_ok-numbering.numbering.numbers.items c.in_ok-numbering.ensures.numbers (c.in_ok-numbering.ensures.apart c.requires.plain) c.args.permissions.now c.requires.permissions c.in_ok-classes.classes.rows.items c.in_ok-classes.ensures.0) in
-    let given = c.in_ok-given.ensures (names_of c.in_ok-numbering.numbering.sections) known (c.in_ok-stand.ensures (items_in c.args.instances.now) known) classes in (
-      table_of (items_in c.args.instances.now) (is_in c.args.lookup.now.enabled.now) (names_of c.in_ok-numbering.numbering.sections) _ _ _ c.in_ok-classes.classes.rows.items _ _ _
+    (classes_are c.args.lookup.now.namespaces.now (items_in c.args.instances.now) c.args.lookup.now.names.now c.requires.entries (is_in c.args.lookup.now.enabled.now) c.in_ok-numbering.numbering.sections c.in_ok-numbering.numbering.numbers.items c.in_ok-numbering.ensures.numbers (c.in_ok-numbering.ensures.apart c.requires.plain) c.args.permissions.now c.requires.permissions c.in_ok-judged.judged.first.rows.items c.in_ok-judged.ensures.0.0) in
+    let given = c.in_ok-given.ensures (names_of c.in_ok-numbering.numbering.sections) known (c.in_ok-judged.ensures.0.1) classes in (
+      table_of (items_in c.args.instances.now) (is_in c.args.lookup.now.enabled.now) (names_of c.in_ok-numbering.numbering.sections) _ _ _ _ c.in_ok-judged.judged.first.rows.items _ _ _
           c.from_vec.ensures c.from_vec-2.ensures c.from_vec-3.ensures
           (names kinds.User _ (c.in_ok-numbering.ensures.numbers.lists kinds.User refl)) (names kinds.Role _ (c.in_ok-numbering.ensures.numbers.lists kinds.Role refl))
           (names kinds.Type_ _ (c.in_ok-numbering.ensures.numbers.lists kinds.Type_ refl))
-          (classes_given c.args.lookup.now.namespaces.now (items_in c.args.instances.now) c.args.lookup.now.names.now c.requires.entries (is_in c.args.lookup.now.enabled.now) c.in_ok-numbering.numbering.sections c.in_ok-numbering.numbering.numbers.items c.in_ok-numbering.ensures.numbers (c.in_ok-numbering.ensures.apart c.requires.plain) c.args.permissions.now c.requires.permissions c.in_ok-classes.classes.rows.items c.in_ok-classes.ensures.0)
+          given.type_aliases
+          (classes_given c.args.lookup.now.namespaces.now (items_in c.args.instances.now) c.args.lookup.now.names.now c.requires.entries (is_in c.args.lookup.now.enabled.now) c.in_ok-numbering.numbering.sections c.in_ok-numbering.numbering.numbers.items c.in_ok-numbering.ensures.numbers (c.in_ok-numbering.ensures.apart c.requires.plain) c.args.permissions.now c.requires.permissions c.in_ok-judged.judged.first.rows.items c.in_ok-judged.ensures.0.0)
           given.user_roles given.role_types
           (subst (λ (rows : List Class). Gives rule_cmp (IsCase (items_in c.args.instances.now) (is_in c.args.lookup.now.enabled.now) keywords.Allow) (IsRuleOf (items_in c.args.instances.now) (is_in c.args.lookup.now.enabled.now) (names_of c.in_ok-numbering.numbering.sections kinds.Type_) rows) c.in_ok-given.given.allow.items)
           c.as_slice-2.ensures.value given.allow),
-      c.in_ok-classes.ensures.1,
+      c.in_ok-judged.ensures.1,
     )
