@@ -182,11 +182,7 @@ fn short(class: usize) -> Result<u32, NoMemory>
 // ---- targets
 
 /// What a term of a rule reaches, by meanings that begin with those of its words; none where it reaches no type.
-fn target_of(
-    types: &[Numbers],
-    term: &Term,
-    words: &[Meaning],
-) -> Result<Option<Target>, NoMemory>
+fn target_of(types: &[Numbers], term: &Term, words: &[Meaning]) -> Result<Option<Target>, NoMemory>
     ensures { IfOk result (λ r. (k : Lookups) (xs : List Item) (names : kinds.Kind → List (List ℕ)) (f : AWord → ScopedWord) (m : ℕ) → IsKnown k xs names → AreStanding k xs names variants.Type_ types.now
         → BeginWith k f (said_of m term.now) words.now
         → MatchOption r (HasTarget xs (enabled_in k) (term_with f m term.now) → ⊥)

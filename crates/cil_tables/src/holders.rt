@@ -1,6 +1,6 @@
 //! What each of some things has, as the roles of each user: a set for each.
 
-ghost use Rattle.std.specs.Prelude.{◌≡◌, ◌↔◌, ◌⊎◌, ◌<◌, [], ◌∷◌, Contains, IfSome, IsTrue, OnOk, get_or, length, ℕ};
+ghost use Rattle.std.specs.Prelude.{◌≡◌, ◌↔◌, ◌⊎◌, ◌<◌, [], ◌∷◌, Contains, IfSome, IsTrue, OnErr, OnOk, get_or, length, ℕ};
 ghost use Rattle.std.specs.Ordering.{nat_cmp};
 ghost use Rattle.cil_base.specs.Lists.{Lists};
 ghost use Rattle.cil_tables.specs.Holders.{AreRising, links_from};
@@ -43,7 +43,12 @@ impl Links {
 
     /// Joins each of some holders with each of these. It costs a step for each holder, and for each of them a search by halving, or
     /// a step for each block of both sets where these are several. Errors: out of memory.
-    pub(crate) fn join(&mut self, alloc: Global, holders: &Numbers, helds: &Numbers) -> Result<(), NoMemory>
+    pub(crate) fn join(
+        &mut self,
+        alloc: Global,
+        holders: &Numbers,
+        helds: &Numbers,
+    ) -> Result<(), NoMemory>
         ensures { OnOk result (Lists link_cmp (λ l. Contains self.old l ⊎ (Contains holders.now l.holder × Contains helds.now l.held)) self.new) }
     {
         // What is known of the links: they rise.
@@ -94,9 +99,11 @@ fn reach(alloc: Global, rows: &mut Vec<Numbers>, holder: usize) -> Result<(), No
     Ok(())
 }
 
-/// Adds the members of another set. A set of one number costs a search by halving, and another a step for each block of both.
+/// Adds the members of another set. A set of one number costs a search by halving, and another a step for each block of both. Errors:
+/// out of memory, and then the set is unchanged.
 fn add_all(alloc: Global, set: &mut Numbers, others: &Numbers) -> Result<(), NoMemory>
-    ensures { OnOk result (Lists nat_cmp (λ v. Contains set.old v ⊎ Contains others.now v) set.new) }
+    ensures added { OnOk result (Lists nat_cmp (λ v. Contains set.old v ⊎ Contains others.now v) set.new) }
+    ensures err { OnErr result (set.new ≡ set.old) }
 {
     let Some(number) = only(others) else {
         return join_all(alloc, set, others);
@@ -106,7 +113,8 @@ fn add_all(alloc: Global, set: &mut Numbers, others: &Numbers) -> Result<(), NoM
 }
 
 fn join_all(alloc: Global, set: &mut Numbers, others: &Numbers) -> Result<(), NoMemory>
-    ensures { OnOk result (Lists nat_cmp (λ v. Contains set.old v ⊎ Contains others.now v) set.new) }
+    ensures added { OnOk result (Lists nat_cmp (λ v. Contains set.old v ⊎ Contains others.now v) set.new) }
+    ensures err { OnErr result (set.new ≡ set.old) }
 {
     let both = set.joined(alloc, Joining::Union, others)?;
     *set = both;

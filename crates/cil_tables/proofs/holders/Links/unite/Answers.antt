@@ -13,6 +13,6 @@ returns c =
     let row = c.add_all.new.set in
     let within = c.in_ok-reach.ensures.reached in
     let value = get_or_read rows c.args.holder c.index_mut.result.now within c.index_mut.ensures.value [] in
-    let added = subst (λ old. Lists nat_cmp (λ v. Contains old v ⊎ Contains c.args.helds.now v) row) value c.in_ok-add_all.ensures in
+    let added = subst (λ old. Lists nat_cmp (λ v. Contains old v ⊎ Contains c.args.helds.now v) row) value c.in_ok-add_all.ensures.added in
     subst (λ old. Lists link_cmp (λ l. Contains old l ⊎ ((l.holder ≡ c.args.holder) × Contains c.args.helds.now l.held)) (links_from 0 (set rows c.args.holder row))) (c.in_ok-reach.ensures.links ∙ c.self.view_is)
     (links_united rows c.args.holder c.args.helds.now row within added (c.in_ok-reach.ensures.rising c.self.invariant))
