@@ -10,7 +10,7 @@ use cil_blocks::spelled::spelled;
 use cil_blocks::{Namespaces, Spaces, inherit};
 use cil_macros::{Instances, expand};
 use cil_modset::ModuleSet;
-use cil_names::{Entry, Names, commons_of, permissions_of};
+use cil_names::{Entry, Names, commons_of, declare, permissions_of};
 use cil_syntax::{Bytes, FaultList, Program, render, written};
 use cil_text_tests::set_of;
 use std::alloc::Global;
@@ -61,6 +61,54 @@ pub(crate) fn row_holds<Q: Question>(alloc: Global, row: &str, question: &Q) -> 
         Some((text, want)) => is_answer(alloc, &[text], question, want),
         None => false,
     }
+}
+
+/// A question about what the words of all that is placed name, or could name.
+pub(crate) trait WordQuestion {
+    /// The answer in words, by the declared names and the permissions of their classes. None where there is no memory.
+    fn told<'r, 'a>(
+        &self,
+        alloc: Global,
+        instances: &'r Instances<'_, '_, 'a>,
+        names: &'r Names<'a>,
+        permissions: &'r [Vec<Bytes>],
+    ) -> Option<String>
+        requires entries { AreEntries (namespaces_in instances.now) (items_in instances.now) names.now }
+        requires permissions { ArePermissions (namespaces_in instances.now) names.now (items_in instances.now) permissions.now };
+}
+
+/// Such a question, asked of what is placed.
+#[derive(Clone, Copy)]
+struct OfWords<'q, Q>(&'q Q);
+
+impl<Q: WordQuestion> Question for OfWords<'_, Q> {
+    fn answer(&self, alloc: Global, instances: &Instances) -> Option<String> {
+        let names = declare(alloc, instances).ok()?;
+        told_by(alloc, &*instances, &names, self.0)
+    }
+}
+
+/// The answer by the declared names.
+fn told_by<'a, Q: WordQuestion>(
+    alloc: Global,
+    instances: &Instances<'_, '_, 'a>,
+    names: &Names<'a>,
+    question: &Q,
+) -> Option<String>
+    requires { AreEntries (namespaces_in instances.now) (items_in instances.now) names.now }
+{
+    let permissions = class_permissions(alloc, names, instances).ok()?;
+    question.told(alloc, &*instances, &*names, permissions.as_slice())
+}
+
+/// Whether this is the answer about the words of some texts.
+pub(crate) fn is_told<Q: WordQuestion>(alloc: Global, texts: &[&str], ask: &Q, want: &str) -> bool {
+    is_answer(alloc, texts, &OfWords(ask), want)
+}
+
+/// Whether a row holds of the words of a text.
+pub(crate) fn row_is_told<Q: WordQuestion>(alloc: Global, row: &str, question: &Q) -> bool {
+    row_holds(alloc, row, &OfWords(question))
 }
 
 /// The permissions of all classes, with those of their commons.

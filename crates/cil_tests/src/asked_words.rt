@@ -1,6 +1,6 @@
 //! The table of what all instances ask for: rows of several instances, long lists, and words that many blocks declare.
 
-use crate::answers::{is_answer, row_holds};
+use crate::answers::{is_told, row_is_told};
 use crate::placed_words::Listed;
 use std::alloc::Global;
 
@@ -17,7 +17,7 @@ const ASKED: &[&str] = &[
 #[test]
 fn rows_of_several_instances(rt: HostRuntime) {
     for row in ASKED {
-        assert!(rt; row_holds(rt.alloc(), row, &Listed), "{row}");
+        assert!(rt; row_is_told(rt.alloc(), row, &Listed), "{row}");
     }
 }
 
@@ -26,7 +26,7 @@ fn rows_of_several_instances(rt: HostRuntime) {
 fn a_refused_growth_of_the_table(rt: HostRuntime) {
     let alloc = rt.alloc();
     for row in ASKED {
-        let holds = row_holds(alloc, row, &Listed) || row_holds(alloc, row, &Listed);
+        let holds = row_is_told(alloc, row, &Listed) || row_is_told(alloc, row, &Listed);
         assert!(rt; holds, "{row}");
     }
 }
@@ -59,7 +59,7 @@ fn nested(alloc: Global) -> Option<(String, String)> {
 #[test]
 fn a_word_could_name_a_hundred_entries(rt: HostRuntime) {
     let holds = match nested(rt.alloc()) {
-        Some((text, want)) => is_answer(rt.alloc(), &[text.as_str()], &Listed, want.as_str()),
+        Some((text, want)) => is_told(rt.alloc(), &[text.as_str()], &Listed, want.as_str()),
         None => false,
     };
     assert!(rt; holds);

@@ -40,16 +40,27 @@ const CONTEXTS: &[(&[u8], Option<usize>)] = &[
     (b"u:r:a\n", None),
 ];
 
-#[test]
-fn contexts_are_read(rt: HostRuntime) -> Result<(), Fail> {
-    let tables = wide_policy(rt.alloc()).ok_or("no tables")?;
-    for &(text, kind) in CONTEXTS {
-        let want = kind.map(context);
-        assert_eq!(rt; parse_context(&tables, text), want, "{text:?}");
+/// The place of the first context that is read otherwise.
+fn wrong_context(tables: &Tables) -> Option<usize> {
+    for (i, &(text, kind)) in CONTEXTS.iter().enumerate() {
+        if parse_context(tables, text) != kind.map(context) {
+            return Some(i);
+        }
     }
-    assert_eq!(rt; class_named(&tables, b"wide"), Some(class_id(1)));
-    assert_eq!(rt; class_named(&tables, b""), None);
-    Ok(())
+    None
+}
+
+/// Whether a class is found by its whole name alone.
+fn is_class_named(tables: &Tables) -> bool {
+    class_named(tables, b"wide") == Some(class_id(1)) && class_named(tables, b"").is_none()
+}
+
+#[test]
+fn contexts_are_read(rt: HostRuntime) {
+    let wrong = wide_policy(rt.alloc()).map(|tables| wrong_context(&tables));
+    assert_eq!(rt; wrong, Some(None));
+    let is_named = wide_policy(rt.alloc()).map(|tables| is_class_named(&tables));
+    assert_eq!(rt; is_named, Some(true));
 }
 
 /// The number of a class, a bit, and the permission there: also a bit too many, and a class that is not there.
@@ -64,18 +75,40 @@ const PERMISSIONS: &[(usize, u32, Option<&[u8]>)] = &[
     (2, 0, None),
 ];
 
-#[test]
-fn permissions_have_their_bits(rt: HostRuntime) -> Result<(), Fail> {
-    let tables = wide_policy(rt.alloc()).ok_or("no tables")?;
-    for &(number, bit, want) in PERMISSIONS {
-        let got = permission_at(&tables, class_id(number), bit);
-        assert_eq!(rt; got, want, "{number} {bit}");
+/// The number of a class, a name, and the bit of the permission of this name.
+const NAMED: &[(usize, &[u8], Option<u32>)] = &[
+    (1, b"p31", Some(31)),
+    (0, b"reads", None),
+    (0, b"", None),
+    (2, b"read", None),
+];
+
+/// The place of the first bit that is that of another permission.
+fn wrong_bit(tables: &Tables) -> Option<usize> {
+    for (i, &(number, bit, want)) in PERMISSIONS.iter().enumerate() {
+        if permission_at(tables, class_id(number), bit) != want {
+            return Some(i);
+        }
     }
-    assert_eq!(rt; permission_named(&tables, class_id(1), b"p31"), Some(31));
-    assert_eq!(rt; permission_named(&tables, class_id(0), b"reads"), None);
-    assert_eq!(rt; permission_named(&tables, class_id(0), b""), None);
-    assert_eq!(rt; permission_named(&tables, class_id(2), b"read"), None);
-    Ok(())
+    None
+}
+
+/// The place of the first name that is that of another permission.
+fn wrong_name(tables: &Tables) -> Option<usize> {
+    for (i, &(number, name, want)) in NAMED.iter().enumerate() {
+        if permission_named(tables, class_id(number), name) != want {
+            return Some(i);
+        }
+    }
+    None
+}
+
+#[test]
+fn permissions_have_their_bits(rt: HostRuntime) {
+    let bit = wide_policy(rt.alloc()).map(|tables| wrong_bit(&tables));
+    assert_eq!(rt; bit, Some(None));
+    let name = wide_policy(rt.alloc()).map(|tables| wrong_name(&tables));
+    assert_eq!(rt; name, Some(None));
 }
 
 /// The source, the target, and the number of the class, which may not be there; what is allowed, and recorded when it is denied.
@@ -87,27 +120,44 @@ const DECISIONS: &[(usize, usize, usize, u32, u32)] = &[
     (0, 1, usize::MAX, 0, 0),
 ];
 
-#[test]
-fn decides_by_the_rules(rt: HostRuntime) -> Result<(), Fail> {
-    let tables = wide_policy(rt.alloc()).ok_or("no tables")?;
-    for &(source, target, number, allowed, auditdeny) in DECISIONS {
-        let (source, target, class) = (context(source), context(target), class_id(number));
-        let found = decide(&tables, &source, &target, class);
-        let got = (found.allowed, found.auditallow, found.auditdeny);
-        assert_eq!(rt; got, (allowed, 0, auditdeny), "{source:?} {number}");
+/// The place of the first decision that is another.
+fn wrong_decision(tables: &Tables) -> Option<usize> {
+    for (i, &(source, target, number, allowed, auditdeny)) in DECISIONS.iter().enumerate() {
+        let found = decide(tables, &context(source), &context(target), class_id(number));
+        if (found.allowed, found.auditallow, found.auditdeny) != (allowed, 0, auditdeny) {
+            return Some(i);
+        }
     }
-    Ok(())
+    None
+}
+
+#[test]
+fn decides_by_the_rules(rt: HostRuntime) {
+    let wrong = wide_policy(rt.alloc()).map(|tables| wrong_decision(&tables));
+    assert_eq!(rt; wrong, Some(None));
+}
+
+/// Whether a copy of a name is that name.
+fn is_copied(alloc: Global) -> Result<bool, Fail> {
+    let copy = Bytes::copy_of(alloc, b"read")?;
+    Ok(copy.as_slice() == b"read".as_slice())
+}
+
+/// Whether a list of one name has that name.
+fn is_listed(alloc: Global) -> Result<bool, Fail> {
+    let name = Bytes::from_vec(Vec::from_slice(alloc, b"read")?);
+    let names = Names::from_vec(vec![in alloc; name]?);
+    Ok(match names.as_slice() {
+        [one] => one.as_slice() == b"read".as_slice(),
+        _ => false,
+    })
 }
 
 #[test]
 fn names_and_numbers_are_kept(rt: HostRuntime) -> Result<(), Fail> {
     let alloc = rt.alloc();
-    let name = Bytes::from_vec(Vec::from_slice(alloc, b"read")?);
-    let copy = Bytes::copy_of(alloc, b"read")?;
-    assert_eq!(rt; copy.as_slice(), name.as_slice());
-    let names = Names::from_vec(vec![in alloc; name]?);
-    assert_eq!(rt; names.as_slice().len(), 1);
-    assert_eq!(rt; names.as_slice()[0].as_slice(), b"read".as_slice());
+    assert!(rt; is_copied(alloc)?);
+    assert!(rt; is_listed(alloc)?);
     let numbers = Numbers::from_slice(alloc, &[1, 3])?;
     assert_eq!(rt; numbers.as_slice(), [1, 3].as_slice());
     Ok(())

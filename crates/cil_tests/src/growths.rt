@@ -149,16 +149,24 @@ fn loads_next(alloc: Global, host: &mut Host<u8>) -> bool {
     host.load(alloc).is_ok() || (is_allowed(host, 0) && host.load(alloc).is_ok())
 }
 
+/// Whether a host takes in the first policy, and loads it.
+fn has_first(alloc: Global, host: &mut Host<u8>) -> bool {
+    host_installs(alloc, host, FIRST.as_bytes()) && loads_first(alloc, host)
+}
+
+/// Whether a host takes in a rule more, by which it answers once it is loaded, and not before.
+fn has_next(alloc: Global, host: &mut Host<u8>) -> bool {
+    host_installs(alloc, host, b"(allow b a (file (open)))")
+        && is_allowed(host, 0)
+        && loads_next(alloc, host)
+        && is_allowed(host, 1)
+}
+
 #[test]
 fn a_refused_growth_leaves_the_host(rt: HostRuntime) {
-    let alloc = rt.alloc();
-    let mut host: Host<u8> = Host::new(alloc, 512, 0);
-    assert!(rt; host_installs(alloc, &mut host, FIRST.as_bytes()));
-    assert!(rt; loads_first(alloc, &mut host));
-    assert!(rt; host_installs(alloc, &mut host, b"(allow b a (file (open)))"));
-    assert!(rt; is_allowed(&mut host, 0));
-    assert!(rt; loads_next(alloc, &mut host));
-    assert!(rt; is_allowed(&mut host, 1));
+    let mut host: Host<u8> = Host::new(rt.alloc(), 512, 0);
+    let holds = has_first(rt.alloc(), &mut host) && has_next(rt.alloc(), &mut host);
+    assert!(rt; holds);
 }
 
 /// Runs some requests, and once more where a growth was refused. A session that wants memory for its buffers writes nothing.

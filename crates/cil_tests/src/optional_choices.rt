@@ -1,12 +1,12 @@
 //! Choices of optionals, right and wrong: what `check` says of them, and that what is chosen is right.
 
-use crate::answers::{FIRST, Question, class_permissions, is_answer, lines};
+use crate::answers::{FIRST, WordQuestion, is_told, lines};
 use cil_macros::Instances;
-use cil_names::{OptSet, declare};
+use cil_names::{Names, OptSet};
 use cil_optionals::guesses::guess;
 use cil_optionals::laws::greatest_in_rounds;
 use cil_optionals::{Chosen, Reason, base_faults, check, greatest_counted};
-use cil_syntax::Failure;
+use cil_syntax::{Bytes, Failure};
 use std::alloc::Global;
 use std::test::Fail;
 
@@ -111,34 +111,40 @@ fn reason(optional: u32, why: Option<(u32, u32)>) -> Reason {
 
 /// A choice. None where there is no memory.
 fn choice(alloc: Global, enabled: &[usize], reasons: &[Why]) -> Option<Chosen> {
+    let reasons = listed(alloc, reasons)?;
+    Some(Chosen {
+        enabled: OptSet::of(flags(alloc, enabled)?),
+        reasons,
+    })
+}
+
+fn flags(alloc: Global, enabled: &[usize]) -> Option<Vec<bool>> {
     let mut flags = Vec::new(alloc);
     for number in 0..FLAGS {
         flags.push(enabled.iter().any(|one| *one == number)).ok()?;
     }
+    Some(flags)
+}
+
+fn listed(alloc: Global, reasons: &[Why]) -> Option<Vec<Reason>> {
     let mut listed = Vec::new(alloc);
     for &(optional, why) in reasons {
         listed.push(reason(optional, why)).ok()?;
     }
-    Some(Chosen {
-        enabled: OptSet::of(flags),
-        reasons: listed,
-    })
+    Some(listed)
 }
 
-impl Question for Checked {
-    fn answer(&self, alloc: Global, instances: &Instances) -> Option<String> {
-        let Ok(names) = declare(alloc, instances) else {
-            return None;
-        };
-        let Ok(permissions) = class_permissions(alloc, &names, instances) else {
-            return None;
-        };
-        let permissions = permissions.as_slice();
+impl WordQuestion for Checked {
+    fn told<'r, 'a>(
+        &self,
+        alloc: Global,
+        instances: &'r Instances<'_, '_, 'a>,
+        names: &'r Names<'a>,
+        permissions: &'r [Vec<Bytes>],
+    ) -> Option<String> {
         let chosen = choice(alloc, self.0, self.1)?;
-        let is_right = check(alloc, &*instances, &names, permissions, &chosen).ok()?;
-        let mut out = String::new(alloc);
-        write!(out, "{is_right}").ok()?;
-        Some(out)
+        let is_right = check(alloc, &*instances, &*names, &*permissions, &chosen).ok()?;
+        truth_line(alloc, is_right)
     }
 }
 
@@ -146,7 +152,7 @@ impl Question for Checked {
 fn are_judged(alloc: Global, text: &str, choices: &[Row]) -> bool {
     for &(about, enabled, reasons) in choices {
         let want = if about == "right" { "true" } else { "false" };
-        if !is_answer(alloc, &[FIRST, text], &Checked(enabled, reasons), want) {
+        if !is_told(alloc, &[FIRST, text], &Checked(enabled, reasons), want) {
             return false;
         }
     }
@@ -163,17 +169,16 @@ fn choices_of_optionals_are_checked(rt: HostRuntime) {
 /// How many optionals what is chosen leaves out, and the look-ups it took. None where it is not right.
 struct Picked;
 
-impl Question for Picked {
-    fn answer(&self, alloc: Global, instances: &Instances) -> Option<String> {
-        let Ok(names) = declare(alloc, instances) else {
-            return None;
-        };
-        let Ok(permissions) = class_permissions(alloc, &names, instances) else {
-            return None;
-        };
-        let permissions = permissions.as_slice();
-        let counted = greatest_counted(alloc, &*instances, &names, permissions).ok()?;
-        let is_right = check(alloc, &*instances, &names, permissions, &counted.chosen).ok()?;
+impl WordQuestion for Picked {
+    fn told<'r, 'a>(
+        &self,
+        alloc: Global,
+        instances: &'r Instances<'_, '_, 'a>,
+        names: &'r Names<'a>,
+        permissions: &'r [Vec<Bytes>],
+    ) -> Option<String> {
+        let counted = greatest_counted(alloc, &*instances, names, permissions).ok()?;
+        let is_right = check(alloc, &*instances, &*names, &*permissions, &counted.chosen).ok()?;
         count_line(alloc, is_right, counted.removals, counted.lookups)
     }
 }
@@ -181,17 +186,16 @@ impl Question for Picked {
 /// The same of what is guessed.
 struct Guessed;
 
-impl Question for Guessed {
-    fn answer(&self, alloc: Global, instances: &Instances) -> Option<String> {
-        let Ok(names) = declare(alloc, instances) else {
-            return None;
-        };
-        let Ok(permissions) = class_permissions(alloc, &names, instances) else {
-            return None;
-        };
-        let permissions = permissions.as_slice();
-        let walk = guess(alloc, &*instances, &names, permissions).ok()?;
-        let is_right = check(alloc, &*instances, &names, permissions, &walk.chosen).ok()?;
+impl WordQuestion for Guessed {
+    fn told<'r, 'a>(
+        &self,
+        alloc: Global,
+        instances: &'r Instances<'_, '_, 'a>,
+        names: &'r Names<'a>,
+        permissions: &'r [Vec<Bytes>],
+    ) -> Option<String> {
+        let walk = guess(alloc, &*instances, names, permissions).ok()?;
+        let is_right = check(alloc, &*instances, &*names, &*permissions, &walk.chosen).ok()?;
         let left_out = walk.chosen.reasons.len();
         count_line(alloc, is_right, left_out as u64, walk.lookups as u64)
     }
@@ -200,15 +204,15 @@ impl Question for Guessed {
 /// How many optionals are left out in rounds.
 struct InRounds;
 
-impl Question for InRounds {
-    fn answer(&self, alloc: Global, instances: &Instances) -> Option<String> {
-        let Ok(names) = declare(alloc, instances) else {
-            return None;
-        };
-        let Ok(permissions) = class_permissions(alloc, &names, instances) else {
-            return None;
-        };
-        let rounds = greatest_in_rounds(alloc, &*instances, &names, permissions.as_slice()).ok()?;
+impl WordQuestion for InRounds {
+    fn told<'r, 'a>(
+        &self,
+        alloc: Global,
+        instances: &'r Instances<'_, '_, 'a>,
+        names: &'r Names<'a>,
+        permissions: &'r [Vec<Bytes>],
+    ) -> Option<String> {
+        let rounds = greatest_in_rounds(alloc, &*instances, names, permissions).ok()?;
         number_line(alloc, rounds.reasons.len() as u64)
     }
 }
@@ -220,6 +224,10 @@ fn count_line(alloc: Global, is_right: bool, removals: u64, lookups: u64) -> Opt
     format!(in alloc; "{removals} {lookups}").ok()
 }
 
+fn truth_line(alloc: Global, is_so: bool) -> Option<String> {
+    format!(in alloc; "{is_so}").ok()
+}
+
 fn number_line(alloc: Global, number: u64) -> Option<String> {
     format!(in alloc; "{number}").ok()
 }
@@ -229,9 +237,9 @@ fn is_chosen_so(alloc: Global, text: &str, want: &str) -> bool {
     let Some((removals, _)) = want.split_once(' ') else {
         return false;
     };
-    is_answer(alloc, &[FIRST, text], &Picked, want)
-        && is_answer(alloc, &[FIRST, text], &Guessed, want)
-        && is_answer(alloc, &[FIRST, text], &InRounds, removals)
+    is_told(alloc, &[FIRST, text], &Picked, want)
+        && is_told(alloc, &[FIRST, text], &Guessed, want)
+        && is_told(alloc, &[FIRST, text], &InRounds, removals)
 }
 
 /// Modules behind the first policy, and behind arrows how many optionals are left out, and how many look-ups that takes.
@@ -296,17 +304,16 @@ fn a_chain_takes_a_look_up_for_each_type_and_each_word(rt: HostRuntime) -> Resul
 #[derive(Drop)]
 struct Judged(&'static [usize]);
 
-impl Question for Judged {
-    fn answer(&self, alloc: Global, instances: &Instances) -> Option<String> {
-        let Ok(names) = declare(alloc, instances) else {
-            return None;
-        };
-        let Ok(permissions) = class_permissions(alloc, &names, instances) else {
-            return None;
-        };
-        let permissions = permissions.as_slice();
+impl WordQuestion for Judged {
+    fn told<'r, 'a>(
+        &self,
+        alloc: Global,
+        instances: &'r Instances<'_, '_, 'a>,
+        names: &'r Names<'a>,
+        permissions: &'r [Vec<Bytes>],
+    ) -> Option<String> {
         let chosen = choice(alloc, self.0, &[])?;
-        match base_faults(alloc, &*instances, &names, permissions, &chosen) {
+        match base_faults(alloc, &*instances, &*names, &*permissions, &chosen) {
             Ok(()) => Some(String::new(alloc)),
             Err(Failure::Faults(faults)) => lines(alloc, &faults),
             Err(Failure::NoMemory) => None,
@@ -328,7 +335,7 @@ const BASE: &[(&[usize], &str)] = &[
 fn words_outside_optionals_are_judged_by_any_choice(rt: HostRuntime) {
     for &(enabled, want) in BASE {
         let question = Judged(enabled);
-        let is_so = is_answer(rt.alloc(), &[FIRST, OUTSIDE], &question, want);
+        let is_so = is_told(rt.alloc(), &[FIRST, OUTSIDE], &question, want);
         assert!(rt; is_so, "{enabled:?}");
     }
 }

@@ -1,117 +1,18 @@
 //! What placed words name, and the entries that they could name, whatever is enabled.
 
 ghost use Rattle.cil_macros.specs.Items.{items_in, namespaces_in};
-ghost use Rattle.cil_macros.specs.Items.{items_in};
 ghost use Rattle.cil_names.specs.Entries.{AreEntries};
+ghost use Rattle.cil_names.specs.Unresolved.{ArePermissions};
+ghost use Rattle.cil_words.specs.Table.{AreAsks, could_in};
 ghost use Rattle.std.specs.Prelude.{◌<◌, length};
 
-use crate::answers::{Question, class_permissions, is_answer, lines, row_holds, show_entry};
+use crate::answers::{WordQuestion, is_told, row_is_told, show_entry};
 use crate::look_ups::word;
-use cil_blocks::Namespaces;
 use cil_macros::Instances;
-use cil_names::{Meaning, Names, OptSet, Words, are_numbers, declare, word_asked};
-use cil_syntax::{Failure, Sign};
+use cil_names::{Names, OptSet, Words, are_numbers, word_asked};
+use cil_syntax::{Bytes, Sign};
 use cil_words::{Asks, asks_of, judged, settled};
 use std::alloc::Global;
-
-/// What the words of modules without optionals name, or all faults. None where it cannot be shown, for want of memory.
-fn named(alloc: Global, instances: &Instances) -> Result<Option<String>, Failure> {
-    let names = declare(alloc, instances)?;
-    let permissions = class_permissions(alloc, &names, instances)?;
-    let enabled = OptSet::of(Vec::new(alloc));
-    let asks = asks_of(alloc, &names, permissions.as_slice(), &*instances)?;
-    judged(alloc, &*instances, &names, &asks, &enabled)?;
-    let words = settled(alloc, &names, asks, &enabled)?;
-    let asks = asks_of(alloc, &names, permissions.as_slice(), &*instances)?;
-    Ok(shown(alloc, instances, &names, &asks, &words))
-}
-
-/// The same, or the lines of the faults.
-struct NamedWords;
-
-impl Question for NamedWords {
-    fn answer(&self, alloc: Global, instances: &Instances) -> Option<String> {
-        match named(alloc, instances) {
-            Ok(shown) => shown,
-            Err(Failure::Faults(faults)) => lines(alloc, &faults),
-            Err(Failure::NoMemory) => None,
-        }
-    }
-}
-
-/// For each statement with words, in order, the entries that these name, or the numbers of permissions, or `-`, in brackets with
-/// commas between.
-fn shown(
-    alloc: Global,
-    instances: &Instances,
-    names: &Names,
-    asks: &Asks,
-    words: &Words,
-) -> Option<String> {
-    let spaces = instances.namespaces();
-    let mut out = String::new(alloc);
-    for at in 0..instances.len() {
-        show_row(alloc, &mut out, spaces, names, asks, at, words.row(at))?;
-    }
-    Some(out)
-}
-
-/// Adds what the words of one statement mean, if it has some.
-fn show_row(
-    alloc: Global,
-    out: &mut String,
-    spaces: &Namespaces,
-    names: &Names,
-    asks: &Asks,
-    at: usize,
-    row: &[Meaning],
-) -> Option<()> {
-    for (i, word) in row.iter().enumerate() {
-        write!(out, "{}", if i > 0 { ", " } else { "[" }).ok()?;
-        match word.entry() {
-            Some(value) => {
-                if asks.number(at, i).is_some() {
-                    write!(out, "{value}").ok()?;
-                } else {
-                    show_entry(alloc, out, spaces, names.entries().get(value)?)?;
-                }
-            }
-            None => write!(out, "-").ok()?,
-        }
-    }
-    if !row.is_empty() {
-        write!(out, "]").ok()?;
-    }
-    Some(())
-}
-
-/// Texts, and behind arrows what their words name, or the faults: of declarations that differ, and of words that name nothing.
-const NAMED: &[&str] = &[
-    "(class c (q p))(macro m ((type x)) (allow x self (c (p q))))(type a)(call m (a)) => [Macro m, Type_ a][Type_ a, Class c, 0, 1]",
-    // A class has the permissions of the commons that are joined to it.
-    "(class c (q))(common c (x))(classcommon c c)(type a)(allow a self (c (q x))) => [Class c, Common c][Type_ a, Class c, 0, 1]",
-    "(class c (q))(common c (x))(type a)(allow a self (c (q x))) => 41 0 55 . x\n",
-    "(class w (p))(class w (q)) => 36 0 7 . w\n36 0 20 . w\n",
-    // A permission comes again, also of another class, which has it under another number.
-    "(class c (p q))(class d (q))(type a)(allow a self (c (p q)))(allow a a (c (q p)))(allow a a (d (q))) => [Type_ a, Class c, 0, 1][Type_ a, Type_ a, Class c, 1, 0][Type_ a, Type_ a, Class d, 0]",
-    "(class c (p))(class d (q))(type a)(allow a self (c (p)))(allow a self (d (p))) => 41 0 74 . p\n",
-    // These 13 names are noted in one place of the guesses, which has room for four.
-    "(class c (ach atz dfp dnx drt egz glh pcu pzh rvm ucd vvz wko))(type a)(allow a self (c (wko ach pcu ach vvz ucd rvm pzh glh egz drt dnx dfp atz wko)))(allow a a (c (ach wko drt))) => [Type_ a, Class c, 12, 0, 7, 0, 11, 10, 9, 8, 6, 5, 4, 3, 2, 1, 12][Type_ a, Type_ a, Class c, 0, 12, 4]",
-    // Operators say nothing by themselves, however deep.
-    "(class c (p q))(type a)(allow a self (c (and (p (q)) (not (xor (q) p))))) => [Type_ a, Class c, 0, 1, 1, 0]",
-    // A name of several namespaces is that of the innermost one.
-    "(class c (p))(type t)(block b (type t)(allow t self (c (p))))(block d (allow t self (c (p))))(block e (type t))(allow t e.t (c (p))) => [Type_ t, Type_ e.t, Class c, 0][Type_ b.t, Class c, 0][Type_ t, Class c, 0]",
-    // The same of a name that many namespaces have.
-    "(class c (p))(type t)(block a (type t))(block b (type t))(block d (type t))(block e (type t))(block f (type t))(block g (type t))(block h (type t))(block i (type t))(block j (type t)(allow t self (c (p))))(block k (allow t self (c (p)))) => [Type_ j.t, Class c, 0][Type_ t, Class c, 0]",
-    "(class c (q))(macro m ((type x)) (allow x self (c (p))))(block p (call m (b))) => 41 0 51 p p\n41 0 74 p b\n",
-];
-
-#[test]
-fn words_name_entries_or_are_reported(rt: HostRuntime) {
-    for row in NAMED {
-        assert!(rt; row_holds(rt.alloc(), row, &NamedWords), "{row}");
-    }
-}
 
 /// A class word, a permission word, the namespaces of their scope, and the class that is named, or `-`.
 type Row = (&'static [u8], &'static [u8], &'static [usize], &'static str);
@@ -130,11 +31,16 @@ const PERMISSIONS: &[Row] = &[
 #[derive(Drop)]
 struct PermissionWord(Row);
 
-impl Question for PermissionWord {
-    fn answer(&self, alloc: Global, instances: &Instances) -> Option<String> {
-        let names = declare(alloc, instances).ok()?;
+impl WordQuestion for PermissionWord {
+    fn told<'r, 'a>(
+        &self,
+        alloc: Global,
+        instances: &'r Instances<'_, '_, 'a>,
+        names: &'r Names<'a>,
+        permissions: &'r [Vec<Bytes>],
+    ) -> Option<String> {
         let mut out = String::new(alloc);
-        match class_named(alloc, &names, instances, self.0)? {
+        match class_named(names, instances, permissions, self.0)? {
             Some(d) => {
                 let entry = names.entries().get(d)?;
                 show_entry(alloc, &mut out, instances.namespaces(), entry)?;
@@ -145,31 +51,31 @@ impl Question for PermissionWord {
     }
 }
 
-/// The number of the class that the permission word of a row names. None where there is no memory, or no such namespace.
+/// The number of the class that the permission word of a row names. None where there is no such namespace.
 fn class_named(
-    alloc: Global,
     names: &Names,
     instances: &Instances,
+    permissions: &[Vec<Bytes>],
     row: Row,
 ) -> Option<Option<usize>>
-    requires { AreEntries (namespaces_in instances.now) (items_in instances.now) names.now }
+    requires entries { AreEntries (namespaces_in instances.now) (items_in instances.now) names.now }
+    requires permissions { ArePermissions (namespaces_in instances.now) names.now (items_in instances.now) permissions.now }
 {
     let (class, permission, scope, _) = row;
     let spaces = instances.namespaces();
     if !are_numbers(spaces, scope) {
         return None;
     }
-    let permissions = class_permissions(alloc, names, instances).ok()?;
     let class = word(class, Sign::Classes);
     let permission = word(permission, Sign::Permission);
-    Some(names.resolve_permission(spaces, permissions.as_slice(), &class, &permission, scope))
+    Some(names.resolve_permission(spaces, permissions, &class, &permission, scope))
 }
 
 #[test]
 fn permission_words_name_the_class_that_has_them(rt: HostRuntime) {
     for &row in PERMISSIONS {
         let question = PermissionWord(row);
-        assert!(rt; is_answer(rt.alloc(), &[TEXT], &question, row.3), "{row:?}");
+        assert!(rt; is_told(rt.alloc(), &[TEXT], &question, row.3), "{row:?}");
     }
 }
 
@@ -190,18 +96,16 @@ const LISTED: &[&str] = &[
 /// Which words are asked for, and what they could name.
 pub(crate) struct Listed;
 
-impl Question for Listed {
-    fn answer(&self, alloc: Global, instances: &Instances) -> Option<String> {
-        let Ok(names) = declare(alloc, instances) else {
-            return None;
-        };
-        let Ok(permissions) = class_permissions(alloc, &names, instances) else {
-            return None;
-        };
-        let Ok(asks) = asks_of(alloc, &names, permissions.as_slice(), &*instances) else {
-            return None;
-        };
-        list(alloc, &*instances, &names, &asks)
+impl WordQuestion for Listed {
+    fn told<'r, 'a>(
+        &self,
+        alloc: Global,
+        instances: &'r Instances<'_, '_, 'a>,
+        names: &'r Names<'a>,
+        permissions: &'r [Vec<Bytes>],
+    ) -> Option<String> {
+        let asks = asks_of(alloc, names, permissions, &*instances).ok()?;
+        list(alloc, &*instances, names, &asks)
     }
 }
 
@@ -250,6 +154,84 @@ fn show_statement(
 #[test]
 fn words_could_name_these(rt: HostRuntime) {
     for row in LISTED {
-        assert!(rt; row_holds(rt.alloc(), row, &Listed), "{row}");
+        assert!(rt; row_is_told(rt.alloc(), row, &Listed), "{row}");
+    }
+}
+
+/// Texts, and behind arrows the numbers that permissions of their statements have in their classes, `-` for other words, and then
+/// the numbers of what all words mean: those of entries, which are in the order of their names, and those of permissions.
+const SETTLED: &[&str] = &[
+    // The entries are `a`, `c`, `object_r` and `z`.
+    "(class c (p q))(type a)(role z)(allow a self (c (q)))(roletype z a) => - - 1 - - / 0 1 1 3 0",
+    "(type a)(role z)(roletype z a)(roletype object_r a) => - - - - / 2 0 1 0",
+];
+
+/// What words mean where no optional is enabled, if all of them mean something.
+struct Settled;
+
+impl WordQuestion for Settled {
+    fn told<'r, 'a>(
+        &self,
+        alloc: Global,
+        instances: &'r Instances<'_, '_, 'a>,
+        names: &'r Names<'a>,
+        permissions: &'r [Vec<Bytes>],
+    ) -> Option<String> {
+        let asks = asks_of(alloc, names, permissions, &*instances).ok()?;
+        let mut out = String::new(alloc);
+        show_numbers(&mut out, &asks)?;
+        write!(out, "/").ok()?;
+        show_meanings(alloc, &mut out, &*instances, names, asks)?;
+        Some(out)
+    }
+}
+
+/// Adds the numbers of permissions.
+fn show_numbers(out: &mut String, asks: &Asks) -> Option<()> {
+    for at in 0..asks.len() {
+        for i in 0..asks.count(at) {
+            match asks.number(at, i) {
+                Some(Some(number)) => write!(out, "{number} ").ok()?,
+                _ => write!(out, "- ").ok()?,
+            }
+        }
+    }
+    Some(())
+}
+
+/// Adds what all words mean.
+fn show_meanings<'a>(
+    alloc: Global,
+    out: &mut String,
+    instances: &Instances<'_, '_, 'a>,
+    names: &Names<'a>,
+    asks: Asks,
+) -> Option<()>
+    requires entries { AreEntries (namespaces_in instances.now) (items_in instances.now) names.now }
+    requires asks { AreAsks (namespaces_in instances.now) names.now (items_in instances.now) (could_in asks) }
+{
+    let enabled = OptSet::of(Vec::new(alloc));
+    if judged(alloc, &*instances, &*names, &asks, &enabled).is_err() {
+        return None;
+    }
+    let words = settled(alloc, names, asks, &enabled).ok()?;
+    show_rows(out, &words, instances.len())
+}
+
+/// Adds what the words of so many statements mean.
+fn show_rows(out: &mut String, words: &Words, count: usize) -> Option<()> {
+    for at in 0..count {
+        for word in words.row(at) {
+            let number = word.entry()?;
+            write!(out, " {number}").ok()?;
+        }
+    }
+    Some(())
+}
+
+#[test]
+fn what_words_mean_is_settled(rt: HostRuntime) {
+    for row in SETTLED {
+        assert!(rt; row_is_told(rt.alloc(), row, &Settled), "{row}");
     }
 }
