@@ -1,11 +1,11 @@
 -- Cells: each is one number, or the number of a permission or of a list.
-use Rattle.std.proofs.Common.{◌≡◌, ℕ, suc, zero, ◌+◌, ◌-◌, ◌<◌, ◌≤◌, Bool, true, false, cond, List, [], ◌∷◌, ◌++◌, length, get_or, refl, sym, ◌∙◌, ap, append-nil, arith}
+use Rattle.std.proofs.Common.{◌≡◌, ℕ, suc, zero, ◌+◌, ◌-◌, ◌<◌, ◌≤◌, Bool, true, false, cond, List, [], ◌∷◌, ◌++◌, length, get_or, refl, sym, take, ◌∙◌, ap, append-nil, append_assoc, arith}
 use Rattle.std.specs.Prelude.{None, Option, Some, nat_lt, slice_get}
 use Rattle.cil_base.specs.Places.{none_some, some_same}
 use Rattle.cil_names.specs.Entries.{listed}
 use Rattle.cil_names.specs.Rows.{lists_at}
 use Rattle.cil_names.proofs.RowLemmas.{how_many}
-use Rattle.std.proofs.lemmas.List.{length-append}
+use Rattle.std.proofs.lemmas.List.{length-append, take_more}
 use Rattle.std.proofs.lemmas.Bool.{ltb-false, ltb-true, lt-ltb, le-ltb}
 use Rattle.cil_words.specs.Cells.{AreCells, IsCell, IsLonger, cell_ask, cell_asks, many, pair_ask, pair_with, paired}
 use Rattle.cil_words.specs.Table.{Ask, word_ask}
@@ -172,3 +172,17 @@ module _ (owners : List ℕ) (places : List (Option ℕ)) (lists : List (List �
 
       pub row_of_many : (k : ℕ) → many + k ≡ c → word_ask (get_or lists k []) ≡ get_or value i (word_ask [])
       row_of_many k e = sym (says_many owners places lists c k e) ∙ its_cell
+
+-- ---- numbers that are put behind others, one by one
+
+pub small_begun : (before list : List ℕ) → (before ≡ before ++ take 0 list) × (length before ≤ length before)
+small_begun before [] = (sym (append-nil before), omega arith)
+small_begun before (x ∷ xs) = (sym (append-nil before), omega arith)
+
+pub small_more : (list : List ℕ) (k n d : ℕ) (before old new : List ℕ) → k < length list → n ≡ get_or list k d → (old ≡ before ++ take k list) × (length before ≤ length old)
+    → new ≡ old ++ n ∷ [] → (new ≡ before ++ take (k + 1) list) × (length before ≤ length new)
+small_more list k n d before old new within at (is, longer) put = (
+  put ∙ ap (λ ys. ys ++ n ∷ []) is ∙ append_assoc before (take k list) (n ∷ [])
+      ∙ ap (λ ys. before ++ ys) (sym (take_more list k d within ∙ ap (λ x. take k list ++ x ∷ []) (sym at))),
+  (let more = ap length put ∙ length-append old (n ∷ []) in omega (arith, longer, more)),
+)

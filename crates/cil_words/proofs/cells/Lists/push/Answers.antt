@@ -26,3 +26,10 @@ invariant_of-self-2 c =
     let start : c.in_ok-start.start ≡ length c.self.inside.numbers.items = let n = c.len.ensures in let same = c.self.inside.numbers.ok.0 in let is = c.in_ok-start.ensures in omega (arith, n, same, is) in
     subst (AreWithin (length c.push_small.new.numbers.items)) (sym c.in_ok-push.ensures.items)
     (one_more_start c.self.inside.starts.items (length c.self.inside.numbers.items) (length c.push_small.new.numbers.items) c.in_ok-start.start (omega (arith, more)) (omega (arith, more, start)) c.self.invariant)
+
+pub invariant_of-self-in_err-push_small : goal.invariant_of-self-in_err-push_small
+invariant_of-self-in_err-push_small c =
+    let more = c.push_small.ensures.none_lost in
+    let start : c.in_ok-start.start ≡ length c.self.inside.numbers.items = let n = c.len.ensures in let same = c.self.inside.numbers.ok.0 in let is = c.in_ok-start.ensures in omega (arith, n, same, is) in
+    subst (AreWithin (length c.push_small.new.numbers.items)) (sym c.in_ok-push.ensures.items)
+    (one_more_start c.self.inside.starts.items (length c.self.inside.numbers.items) (length c.push_small.new.numbers.items) c.in_ok-start.start (omega (arith, more)) (omega (arith, more, start)) c.self.invariant)
