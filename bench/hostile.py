@@ -17,6 +17,7 @@ the size is doubled is a square in all that the form has, and one that grows eig
 PROGRAM has a slash in its name. Without it the program is crates/cilhost/out/cilhost of this repository. The memory
 is that of the process with its start, which is a copy of this one: less than 20 MB cannot be told.
 """
+import functools
 import itertools
 import os
 import resource
@@ -489,6 +490,42 @@ def flood(size):
     return ["".join(map("(macro {}())".format, names)) + f"{text}(block b{inherit(last)})"]
 
 
+LETTERS = b"abcdefghijklmnopqrstuvwxyzABCDEFGHIJKLMNOPQRSTUVWXYZ0123456789_"
+
+
+def guessed(state, byte):
+    """What a byte makes of the hash by which the program guesses where the entries of a name are (FNV-1a)."""
+    return (state ^ byte) * 0x100000001b3 & 0xffffffffffffffff
+
+
+def five_bytes(bits):
+    """Names of five bytes whose hashes, folded, end with so many zero bits."""
+    last = (1 << bits) - 1
+    for front in itertools.product(LETTERS[:52], LETTERS, LETTERS, LETTERS):
+        state = functools.reduce(guessed, front, 0xcbf29ce484222325)
+        for byte in LETTERS:
+            end = guessed(state, byte)
+            if (end ^ end >> 32) & last == 0:
+                yield bytes(front + (byte,)).decode()
+
+
+def asked_words(size, bits):
+    """Types with such names, and as many bytes of words that name each of them in turn."""
+    names = list(itertools.islice(five_bytes(bits), size // 24))
+    words = itertools.islice(itertools.cycle(names), size // 2 // 25)
+    return ["".join(map("(type {})".format, names)) + "".join(map("(roletype object_r {})".format, words))]
+
+
+def flood_words(size):
+    """Words whose names have hashes with the same nine bits, so that few of them find a place where they are guessed."""
+    return asked_words(size, 9)
+
+
+def other_words(size):
+    """As many words with other names."""
+    return asked_words(size, 0)
+
+
 # ---- optionals
 
 def same_optionals(size):
@@ -629,6 +666,7 @@ FORMS = {
     "shared-names": (shared_names, LONGEST, load), "common-copies": (common_copies, LONGEST, load),
     "permission-list": (permission_list, 1_000_000, load), "deep-operators": (deep_operators, LONGEST, load),
     "pairs": (pairs, LONGEST, load), "flood": (flood, LONGEST, load),
+    "flood-words": (flood_words, 400_000, load), "other-words": (other_words, 400_000, load),
     "same-optionals": (same_optionals, 11_000_000, lines), "optional-chain": (optional_chain, LONGEST, lines),
     "optional-ring": (optional_ring, LONGEST, lines), "deep-optionals": (deep_optionals, 7_800_000, load),
     "optional-lines": (optional_lines, LONGEST, load),

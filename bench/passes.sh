@@ -84,6 +84,7 @@ tables() {
 for part; do tables "$part"; done
 if [ $# -eq 2 ]; then
     echo "the second part by the first"
-    paste "$work/counts$1" "$work/counts$2" | awk -F '\t' '{ printf "%-22s %12.2f\n", $1, $4 / $2; a += $2; b += $4 }
+    paste "$work/counts$1" "$work/counts$2" | awk -F '\t' '
+        { printf "%-22s %12.2f%s\n", $1, $4 / $2, $4 <= 2.1 * $2 ? "" : ": MORE THAN 2.1"; a += $2; b += $4 }
         END { printf "%-22s %12.2f: %s\n", "LOAD", b / a, b <= 2.4 * a ? "at most 2.4" : "MORE THAN 2.4" }'
 fi

@@ -9,7 +9,8 @@ from faults import Refused
 from instances import Instances
 from names import names_of_all
 from pieces import FLAT, LATER, ODD, UNKNOWN, Quoted, bent, module_of, often, set_of
-from policy import MOST_PERMISSIONS, Policy
+from classes import MOST_PERMISSIONS
+from policy import Policy
 from texts import RESERVED, Node
 
 BLOCKS = [b"k", b"l", b"n", b"a", b"k-a"]
@@ -86,17 +87,27 @@ def statements_of(body, first=0):
             yield body, each
             if each[:1] in ([b"block"], [b"macro"], [b"optional"]):
                 yield from statements_of(each, 3 if each[0] == b"macro" else 2)
+            elif each[:1] == [b"booleanif"]:
+                for branch in each[2:]:
+                    if isinstance(branch, list) and branch[:1] in ([b"true"], [b"false"]):
+                        yield from statements_of(branch, 1)
 
 
 class Draft:
     """A policy that is being made up. What is wrong is one of WRONG, or nothing."""
 
-    def __init__(self, rng):
-        self.rng, self.wrong = rng, None
+    NAMES, KINDS, WRONG, WORDS, MENDINGS = NAMES, KINDS, WRONG, WORDS, MOST_MENDINGS
+
+    def __init__(self, rng, language=table.ACCEPTED):
+        self.rng, self.language, self.wrong = rng, language, None
         self.modules, self.spots, self.macros = [], [], []
         self.standing, self.shares = [], set()
-        self.lists, self.permissions, self.rules = {}, {}, 0
-        self.declared = {kind: [] for kind in NAMES}
+        self.lists, self.permissions, self.maps, self.rules = {}, {}, {}, 0
+        self.declared = {kind: [] for kind in self.NAMES}
+
+    def wrong_ones(self):
+        """What can be wrong on purpose, what is to be so more often several times."""
+        return list(self.WRONG)
 
     def goes_wrong(self, what, chance=0.25):
         """Whether the next thing is to be wrong in this way."""
@@ -155,7 +166,7 @@ class Draft:
             return self.rng.choice(own)
         if self.declared[kind] and often(self.rng, 0.75):
             return self.path(spot.space, self.rng.choice(self.declared[kind]))
-        return self.rng.choice(NAMES[kind])
+        return self.rng.choice(self.NAMES[kind])
 
     # ---- what is declared
 
@@ -178,8 +189,8 @@ class Draft:
             return
         parameters = []
         for _ in range(self.rng.choice([0, 1, 1, 2, 2, 3])):
-            kind = self.rng.choice(KINDS)
-            name = self.rng.choice([b"x", b"y", b"z", *NAMES.get(kind, [b"a"])])
+            kind = self.rng.choice(self.KINDS)
+            name = self.rng.choice([b"x", b"y", b"z", *self.NAMES.get(kind, [b"a"])])
             if name not in [of for _, of in parameters] or self.goes_wrong("shapes"):
                 wrong = self.goes_wrong("shapes", 0.05)
                 parameters.append((self.rng.choice([b"bool", b"level", b"1x", b"self"]) if wrong else kind, name))
@@ -200,7 +211,7 @@ class Draft:
         kind = self.rng.choice([b"type", b"type", b"type", b"role", b"user", b"class", b"common"])
         is_list = kind in (b"class", b"common")
         spot = self.spot(may_be_macro=not is_list or self.goes_wrong("shapes", 0.1))
-        self.declare(spot, kind, self.rng.choice(NAMES[kind]))
+        self.declare(spot, kind, self.rng.choice(self.NAMES[kind]))
 
     def declare(self, spot, kind, name):
         if spot.is_macro and name in [of for _, of in spot.parameters] and not self.goes_wrong("shapes"):
@@ -313,7 +324,7 @@ class Draft:
     def argument(self, spot, kind):
         if self.goes_wrong("calls", 0.12):
             return copy.deepcopy(self.rng.choice(WRONG_ARGUMENTS))
-        if kind in NAMES:
+        if kind in self.NAMES:
             return self.word(spot, kind)
         names = [name for _, name in spot.parameters]
         return self.rng.choice([b"a", b"all", b"1x", b".", Quoted(b"a b"), *names, *names])
@@ -326,6 +337,11 @@ class Draft:
             return
         target = b"self" if often(self.rng, 0.15) else self.word(spot, b"type")
         class_word = self.word(spot, b"class")
+        permissions = self.permissions_on(spot, class_word)
+        spot.body.append([b"allow", self.word(spot, b"type"), target, [class_word, permissions]])
+
+    def permissions_on(self, spot, class_word):
+        """A set of permissions for the class of a word, one of which tells which rule it is."""
         is_parameter = (b"class", class_word) in spot.parameters
         full_names = [path for path in self.permissions if is_parameter or path[-1] == class_word.split(b".")[-1]]
         listed = list(self.permissions[self.rng.choice(full_names)]) if full_names else [b"read"]
@@ -338,7 +354,7 @@ class Draft:
         if listed and often(self.rng, 0.3):
             made = self.set_on(listed, self.strange_permissions(spot))
             permissions = made if often(self.rng, 0.3) else [made, *permissions]
-        spot.body.append([b"allow", self.word(spot, b"type"), target, [class_word, permissions]])
+        return permissions
 
     def strange_permissions(self, _):
         """A permission for a body that its class may not have, or none."""
@@ -496,7 +512,7 @@ class Draft:
     def bend(self):
         some = [each for module in self.modules if module.is_open for _, each in statements_of(module.statements)]
         if some:
-            bent(self.rng, self.rng.choice(some), WORDS)
+            bent(self.rng, self.rng.choice(some), self.WORDS)
 
     def open_texts(self):
         return [module_of(self.rng, module.statements) for module in self.modules if module.is_open]
@@ -510,14 +526,14 @@ class Draft:
     def policy(self):
         """The policy as it is now, or nothing where it has faults."""
         try:
-            return Policy(self.trees())
+            return Policy(self.trees(), self.language)
         except Refused:
             return None
 
     def learn(self):
         """Enters all names that are declared, by inheritance and calls too, where the model sees them."""
         try:
-            names = names_of_all(Instances(Contents(shapes.written(self.trees()))))
+            names = names_of_all(Instances(Contents(shapes.written(self.trees(), self.language))))
         except Refused:
             return
         starts = [module.starts for module in self.modules]
@@ -527,15 +543,20 @@ class Draft:
             for _, spot in self.macros
             if starts[macro.statement.module].get(id(spot.body)) == macro.statement.at
         ]
-        for kind, declared in names.declared.items():
-            self.declared[kind] = sorted(declared)
-        self.permissions.update((path, sorted(held)) for path, held in names.permissions.items())
+        for kind in self.declared:
+            self.declared[kind] = sorted(names.declared[kind])
+        self.permissions.update(
+            (entry.path, sorted(held)) for entry, held in names.permissions.items() if entry.kind == b"class"
+        )
+        self.maps.update(
+            (entry.path, sorted(held)) for entry, held in names.permissions.items() if entry.kind == b"classmap"
+        )
 
     def mend(self, but=frozenset()):
         """Takes out statements with faults until there are none but these, or none that can be taken out."""
-        for _ in range(MOST_MENDINGS):
+        for _ in range(self.MENDINGS):
             try:
-                return Policy(self.trees())
+                return Policy(self.trees(), self.language)
             except Refused as refused:
                 if refused.faults[0][0] in but or not self.take_out(refused.faults):
                     return None

@@ -1,6 +1,8 @@
 """Random sessions over policies with blocks and macros, as parts that can be left out."""
-from block_policies import NAMES, WRONG, Draft
+from block_policies import NAMES, Draft
+from faults import printed
 from pieces import bundle_of, import_bundle, install, often
+from rules import targets_of
 
 OBJECT_ROLE = b"object_r"
 MOST_ASKED = 12
@@ -20,11 +22,11 @@ def loads(rng, draft, queries, wrong_ones=0.4):
     draft.add_base()
     parts, policy = [], None
     for size in (rng.choice([0.5, 1, 1, 1.5]), 0.4):
-        wrong = rng.choice(list(WRONG)) if often(rng, wrong_ones) else None
+        wrong = rng.choice(draft.wrong_ones()) if often(rng, wrong_ones) else None
         if parts:
             draft.open_module()
         draft.add_all(size, wrong)
-        loaded = draft.mend(but=WRONG.get(wrong, frozenset())) if often(rng, 0.9) else draft.policy()
+        loaded = draft.mend(but=draft.WRONG.get(wrong, frozenset())) if often(rng, 0.9) else draft.policy()
         policy = loaded or policy
         parts += [*placing(rng, draft.open_texts()), b"LOAD\n", *queries(rng, policy)]
     return parts
@@ -40,11 +42,22 @@ def placing(rng, texts):
 def queries(rng, policy):
     if not policy:
         return [b"AV u:r:a u:r:b file\n"] if often(rng, 0.1) else []
-    asked = sorted({(source, target or source, name) for source, target, name, _ in policy.rules})
+    asked = asked_of(policy)
     if len(asked) > MOST_ASKED:
         asked = rng.sample(asked, MOST_ASKED)
     of_rules = [b"AV %s %s %s\n" % (*(any_context(rng, policy, each) for each in ends), name) for *ends, name in asked]
     return of_rules + [query(rng, policy, asked) for _ in range(rng.randrange(2, 6))]
+
+
+def asked_of(policy):
+    """The types and classes that rules name, each with each."""
+    return sorted({
+        (source, target, printed(policy.all_names.named(class_word).path))
+        for rule in policy.rules
+        for source in rule.sources
+        for target in targets_of(rule, source)
+        for class_word in rule.instance.words[-1:]
+    })
 
 
 def any_context(rng, policy, type_name):

@@ -17,6 +17,7 @@ import flat_sessions
 import form_sessions
 import model
 import optional_sessions
+import stage_sessions
 import table
 
 KINDS = {
@@ -28,15 +29,19 @@ KINDS = {
     )
 }
 
+# Sessions of what stages add. There are none without a stage.
+OF_STAGES = {"stages": stage_sessions.stages}
+
 USUAL_COUNT = 200
 
 # So many sessions are given to a process at a time.
 AT_A_TIME = 50
 
 
-def session(kind, number):
-    """The parts of a session. One number of a kind is one session."""
-    return KINDS[kind](random.Random(f"{kind} {number}"))
+def session(kind, number, language=table.ACCEPTED):
+    """The parts of a session. One number of a kind, and of kinds of stages one language, is one session."""
+    rng = random.Random(f"{kind} {number}")
+    return OF_STAGES[kind](rng, language) if kind in OF_STAGES else KINDS[kind](rng)
 
 
 def answer(program, parts):
@@ -83,7 +88,7 @@ def cut_down(program, language, parts):
 
 def told(program, language, kind, number):
     """What is printed of a session that differs."""
-    parts = cut_down(program, language, session(kind, number))
+    parts = cut_down(program, language, session(kind, number, language))
     replies, status = wanted(language, parts)
     return "\n".join([
         f"{kind} {number} differs: {b''.join(parts)!r}",
@@ -97,9 +102,10 @@ def run_some(given):
     program, language, kind, numbers = given
     counts = collections.Counter()
     for number in numbers:
-        parts = session(kind, number)
+        parts = session(kind, number, language)
         replies, status = wanted(language, parts)
-        counts.update(replies_counted(b"".join(replies)))
+        counts.update(replies_counted(b"".join(each for each in replies if not isinstance(each, model.Turned))))
+        counts.update("booleans, " + each.strip().decode() for each in replies if isinstance(each, model.Turned))
         if program and not is_alike(answer(program, parts), replies, status):
             return counts, number
     return counts, None
@@ -116,8 +122,12 @@ def replies_counted(replies):
         elif lines[0] == b"OK":
             yield "loads accepted"
         for line in lines:
-            if re.fullmatch(rb"OK \S+ - \S+", line):
+            if re.fullmatch(rb"OK \S+ \S+ \S+", line):
                 yield "queries, nothing allowed" if line.startswith(b"OK - ") else "queries, something allowed"
+                if line.split(b" ")[2] != b"-":
+                    yield "queries, something audited"
+            elif line in (b"OK yes", b"OK no"):
+                yield "checks, " + line.decode()
             elif re.fullmatch(rb"ERR 7[0-9].*", line):
                 yield "queries, " + line.decode()
             elif re.fullmatch(rb"\d+ \d+ \S+ \S+ (in|out|parent|missing \S+)", line):
@@ -158,25 +168,33 @@ def print_census(given, kind, numbers):
 
 def arguments():
     parser = argparse.ArgumentParser(
-        usage="%(prog)s [--jobs JOBS] [--whole] {PROGRAM | --census} [KIND [COUNT [FIRST]]]",
+        usage="%(prog)s [--jobs JOBS] [--stages STAGES | --whole] {PROGRAM | --census} [KIND [COUNT [FIRST]]]",
         description="Runs random sessions through the program and through the model, and compares their answers.",
-        epilog="Kinds of sessions: " + "; ".join(f"{kind}: {made.__doc__}" for kind, made in KINDS.items()),
+        epilog="Kinds of sessions: " + "; ".join(
+            f"{kind}: {made.__doc__}" for kind, made in (KINDS | OF_STAGES).items()
+        ),
     )
     parser.add_argument("words", nargs="*", help="PROGRAM is the built cilhost. KIND is a kind of sessions, or all, as"
                         " without it. COUNT is how many sessions of a kind (200; of long_texts, among all kinds, a"
                         " twentieth). FIRST is the number of the first; one number is one session (0).")
     parser.add_argument("--census", action="store_true", help="counts what the model replies, without the program")
     parser.add_argument("--whole", action="store_true", help="the whole language is accepted, for sessions of forms")
+    parser.add_argument("--stages", default="", help="what is accepted beside today's language, and needed for sessions"
+                        " of stages: some of " + ",".join(table.STAGES))
     parser.add_argument("--jobs", type=int, default=1, help="how many processes run sessions at a time (1)")
     given = parser.parse_intermixed_args()
     words = given.words if given.census else given.words[1:]
     if len(words) > 3 or not (given.census or given.words):
         parser.error("PROGRAM or --census is wanted, and at most KIND, COUNT and FIRST after it")
     given.program = None if given.census else given.words[0]
-    given.language = table.WHOLE if given.whole else table.ACCEPTED
+    stages = given.stages.split(",") if given.stages else []
+    if not table.STAGES.keys() >= set(stages):
+        parser.error("the stages are " + ",".join(table.STAGES))
+    given.language = table.WHOLE if given.whole else table.accepting(stages)
+    given.kinds = KINDS | OF_STAGES if stages or table.TODAY else KINDS
     given.kind = words[0] if words else "all"
-    if given.kind not in KINDS and given.kind != "all":
-        parser.error(f"there is no kind {given.kind}")
+    if given.kind not in given.kinds and given.kind != "all":
+        parser.error(f"there is no kind {given.kind}, or not without --stages")
     if given.whole and given.kind != "forms":
         parser.error("--whole is for sessions of the kind forms")
     if not all(word.isdecimal() for word in words[1:]):
@@ -191,7 +209,7 @@ def main():
         counts = {given.kind: given.count}
     else:
         # A session of a long text takes more than a second.
-        counts = {kind: given.count // 20 if kind == "long_texts" else given.count for kind in KINDS}
+        counts = {kind: given.count // 20 if kind == "long_texts" else given.count for kind in given.kinds}
     is_alike = True
     for kind, count in counts.items():
         numbers = range(given.first, given.first + count)

@@ -135,7 +135,7 @@ class Contents:
         for each in statements:
             if each.keyword == b"block" and not each.is_abstract:
                 count += self.size_of(each)
-            elif each.keyword == b"optional":
+            elif each.keyword in (b"optional", b"booleanif"):
                 count += self.size(each.body)
             for block in self.targets.get(each, []):
                 count += self.size_of(block)
@@ -149,7 +149,7 @@ class Contents:
     def standing(self):
         """All statements with the namespaces in which they stand, once for each chain.
 
-        What is in an optional stands where the optional stands, and is not listed.
+        What is in an optional or a branch stands where the optional or the booleanif stands, and is not listed.
         """
         found = []
         self.stand(self.top, (), ((),), (), found)

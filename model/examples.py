@@ -2,16 +2,20 @@
 """Runs the worked examples of the rules on the model. Status: 0 all are answered as the rules say, 1 one is not.
 
 Each example is its modules, and the requests with the replies that the rules give for them. The forms of statements are
-those of scripts/forms.txt, with their faults. With --long there are also examples of nearly a million instances, which
+those of scripts/forms.txt, with their faults. The rows of rows/later are sessions with statements that the program does
+not accept yet. With --long there are also examples of nearly a million instances, which
 take minutes.
 """
+import hashlib
 import pathlib
 import sys
 
 import model
 import shapes
+import stage_examples
 import table
 from faults import Refused
+from pieces import bundle_of, import_bundle, install
 from texts import read
 
 FIRST = (
@@ -194,6 +198,32 @@ REASONS = [
     ("two that are told alike, one twice", FIRST + ALIKE, [b"0 135 n o missing z"] * 2, False),
 ]
 
+SMALL = [b"(type a)", b"(type b)"]
+LISTED = b"OK 2\n%s 8\n%s 8\n" % tuple(hashlib.sha256(each).hexdigest().encode() for each in SMALL)
+TWO = bundle_of(SMALL)
+
+# Sessions: what they show, the input, the output, and the exit status.
+SESSIONS = [
+    ("a first answer", install(FIRST) + b"LOAD\n" + AB + b"\nQUIT\nLIST\n", b"OK new\nOK\nOK read - open,read\nOK\n", 0),
+    ("a bad bundle", import_bundle(bundle_of([b"(type a)", b"(type b))", b"(type c)"])) + b"LIST\n",
+     b"ERR 14 1 3 8\nOK 0\n", 0),
+    ("another version of a bundle", import_bundle(TWO[:4] + b"\3" + TWO[5:]), b"ERR 11\n", 0),
+    ("a bundle of one text twice", import_bundle(bundle_of(SMALL[:1] * 2)), b"ERR 13\n", 0),
+    ("a bundle and one byte more", import_bundle(TWO + b"x"), b"ERR 15\n", 0),
+    ("a bundle cut", import_bundle(TWO[:-1]), b"ERR 12\n", 0),
+    ("one order of arrival", b"".join(map(install, [*SMALL, SMALL[0], SMALL[0]])) + b"LIST\nLOAD\n",
+     b"OK new\nOK new\nOK known\nOK known\n" + LISTED + b"OK\n", 0),
+    ("another order of arrival", install(SMALL[1]) + import_bundle(bundle_of(SMALL[:1])) + b"LIST\nLOAD\n",
+     b"OK new\nOK 1\n" + LISTED + b"OK\n", 0),
+    ("a request that is cut", b"INSTALL 10\n(typ", b"ERR 83\n", 2),
+    ("limits of texts", b"".join(map(install, [
+        b"(" * 128 + b")" * 128, b"(" * 129 + b")" * 129, b" " * 4_194_304, b" " * 4_194_305, b"a", b"(a", b'("a',
+    ])), b"OK new\nERR 6 128\nOK new\nERR 1 4194304\nERR 7 0\nERR 2 2\nERR 4 1\n", 0),
+    ("a line that is no request", b"AV x\nLIST\n", b"ERR 81\nOK 0\n", 0),
+    ("a line too long", b"x" * 4097 + b"\nLIST\n", b"ERR 82\n", 2),
+    ("a body too long", b"INSTALL 67108865\nLIST\n", b"ERR 84\n", 2),
+]
+
 # Examples of nearly a million instances.
 LONG = [
     ("doubling blocks", [doubling(18)], accepted()),
@@ -203,8 +233,8 @@ LONG = [
 ]
 
 
-def answered(modules, asked):
-    host = model.Host()
+def answered(modules, asked, language=table.ACCEPTED):
+    host = model.Host(language)
     for text in modules:
         host.install(text)
     return b"".join(model.run(b"".join(request + b"\n" for request, _ in asked), host)[0])
@@ -240,15 +270,59 @@ def faults_of_form(text, language):
     return []
 
 
+def all_examples(is_long):
+    """What is shown, the modules, the requests with their replies, and what is accepted of the language."""
+    yield from ((*each, table.ACCEPTED) for each in EXAMPLES + (LONG if is_long else []))
+    for stages, examples in stage_examples.STAGES + (stage_examples.LONG if is_long else []):
+        language = table.WHOLE if stages is None else table.accepting(stages)
+        for shown, modules, asked in examples:
+            yield shown, modules, [(request, reply_of(modules, reply)) for request, reply in asked], language
+
+
+def reply_of(modules, reply):
+    """A reply as it is, or the one that tells these faults."""
+    if isinstance(reply, bytes):
+        return reply
+    lines = sorted((each.line(modules) for each in reply), key=sort_key)
+    return b"\n".join([b"FAULTS %d" % len(lines), *lines])
+
+
+def sort_key(line):
+    code, module, at, space, word = line.split(b" ")
+    return int(code), int(module), int(at), space, word
+
+
+def later_rows():
+    """The sessions of rows/later: what each row shows, the bytes of the session and of its replies."""
+    folder = pathlib.Path(__file__).resolve().parent.parent
+    sys.path.insert(0, str(folder / "scripts"))
+    import sessions
+    for path in sorted((folder / "rows" / "later").glob("*.session")):
+        for row in sessions.rows_of(path):
+            for steps in row.sessions:
+                yield row.name, b"".join(step.given for step in steps), b"".join(step.reply for step in steps)
+
+
 def main():
-    examples = EXAMPLES + (LONG if sys.argv[1:] == ["--long"] else [])
+    examples = list(all_examples(sys.argv[1:] == ["--long"]))
     wrong = 0
-    for shown, modules, asked in examples:
+    for shown, modules, asked, language in examples:
         wanted = b"".join(reply + b"\n" for _, reply in asked)
-        replies = answered(modules, asked)
+        replies = answered(modules, asked, language)
         if replies != wanted:
             wrong += 1
             print(f"{shown}: the rules have {wanted!r}, the model has {replies!r}")
+    for shown, given, wanted, wanted_status in SESSIONS:
+        replies, status = model.run(given, model.Host())
+        if (b"".join(replies), status) != (wanted, wanted_status):
+            wrong += 1
+            print(f"{shown}: the rules have {wanted!r} and {wanted_status}, the model has {replies!r} and {status}")
+    rows = list(later_rows())
+    for shown, given, wanted in rows:
+        replies, _ = model.run(given, model.Host(table.accepting(table.STAGES)))
+        if b"".join(replies) != wanted:
+            wrong += 1
+            print(f"{shown}: the row has {wanted!r}, the model has {replies!r}")
     for shown, text, lines, is_right in REASONS:
         if are_reasons(text, lines) != is_right:
             wrong += 1
@@ -259,7 +333,7 @@ def main():
         if found != wanted:
             wrong += 1
             print(f"{text}: the rules have {wanted}, the model has {found}")
-    print(f"{len(examples) + len(REASONS)} examples and {len(all_forms)} forms, {wrong} wrong")
+    print(f"{len(examples) + len(SESSIONS) + len(REASONS)} examples, {len(rows)} rows and {len(all_forms)} forms, {wrong} wrong")
     sys.exit(1 if wrong else 0)
 
 

@@ -6,7 +6,7 @@ from pieces import (
     PERMISSIONS, SMALL, PIECES, NAMES, bundle_of, import_bundle, install, module_of, often, set_of,
     statements_of_any_kind
 )
-from policy import MOST_PERMISSIONS
+from classes import MOST_PERMISSIONS
 
 # ---- policies that load
 

@@ -82,6 +82,9 @@ class Writer:
     def make_cp(self):
         return self.word() if often(self.rng, 0.2) else self.nodes(table.FORMS["cp"])
 
+    def make_mapped(self):
+        return self.node(self.rng.choice((table.Item("P"), table.Item(items=table.FORMS["mapped"]))))
+
     def make_lev(self):
         return self.word() if often(self.rng, 0.4) else self.nodes(table.FORMS["lev"])
 

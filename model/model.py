@@ -60,11 +60,13 @@ def bundled(bundle):
 
 
 class Host:
-    """The trees of the installed modules by their texts, and the loaded policy; and what it accepts of the language."""
+    """The trees of the installed modules by their texts; the loaded policy, and the values of its booleans; and what it
+    accepts of the language.
+    """
 
     def __init__(self, language=ACCEPTED):
         self.modules, self.language = {}, language
-        self.policy = None
+        self.policy, self.settings = None, {}
 
     def install(self, text):
         if text in self.modules:
@@ -99,10 +101,22 @@ class Host:
         except Refused as refusal:
             lines = [b"%d %d %d %s %s" % each for each in refusal.faults]
             return b"\n".join([b"FAULTS %d" % len(lines), *lines])
+        self.settings = dict(self.policy.defaults)
         return b"OK"
 
-    def query(self, source, target, class_name):
-        return self.policy.query(source, target, class_name) if self.policy else b"ERR 71"
+    def query(self, *asked):
+        return self.policy.query(*asked, self.settings) if self.policy else b"ERR 71"
+
+    def check(self, *asked):
+        return self.policy.check(*asked, self.settings) if self.policy else b"ERR 71"
+
+    def set_boolean(self, name, value):
+        if not self.policy:
+            return b"ERR 71"
+        if name not in self.settings:
+            return b"ERR 75"
+        self.settings[name] = value
+        return b"OK"
 
     def optionals(self):
         if not self.policy:
@@ -183,10 +197,22 @@ def run(given, host):
             replies += [host.why(), b"\n"]
         elif len(words) == 4 and words[0] == b"AV" and b"" not in words:
             replies.append(host.query(*words[1:]) + b"\n")
+        elif host.language.has_settings and is_set(words):
+            replies.append(Turned(host.set_boolean(words[1], words[2] == b"true") + b"\n"))
+        elif host.language.has_settings and len(words) == 5 and words[0] == b"CHECK" and b"" not in words:
+            replies.append(host.check(*words[1:]) + b"\n")
         else:
             replies.append(b"ERR 81\n")
     replies.append(b"ERR 85\n")
     return replies, 2
+
+
+class Turned(bytes):
+    """The reply to SET."""
+
+
+def is_set(words):
+    return len(words) == 3 and words[0] == b"SET" and words[1] != b"" and words[2] in (b"true", b"false")
 
 
 def main():

@@ -251,11 +251,15 @@ class OptionalDraft(Draft):
         found = [
             (body, each)
             for module in self.modules if module.is_open
-            for body, each in statements_of(module.statements) if each[0] in MOVABLE
+            for body, each in statements_of(module.statements) if self.is_movable(body, each)
         ]
         for body, chosen in self.rng.sample(found, min(len(found), self.rng.randrange(5))):
             label = self.rng.choice(LABELS)
             body[:] = [[b"optional", label, each] if each is chosen else each for each in body]
+
+    @staticmethod
+    def is_movable(_, statement):
+        return statement[0] in MOVABLE
 
     def add_odd_statement(self):
         if often(self.rng, 0.5):

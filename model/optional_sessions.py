@@ -57,7 +57,7 @@ def left_out(policy, keywords):
             if each.statement.keyword in keywords and not enabled.issuperset(each.optionals):
                 named = [names.named(word) for word in each.words]
                 if None not in named:
-                    yield each, [printed(path) for path in named]
+                    yield each, [printed(entry.path) for entry in named]
 
 
 def rules_out(rng, policy):

@@ -48,7 +48,7 @@ class Optionals:
     def reasons_for(self, optional, enabled, names):
         """What speaks against an optional while these are in: None for its parent, and words."""
         parent_out = [None for parent in optional.optionals[-1:] if parent not in enabled]
-        return parent_out + [word.text for each in self.own[optional] for word in names.missing(each)]
+        return parent_out + [word.text for each in self.own[optional] for word, _ in names.missing(each)]
 
     def lines(self):
         return sorted((*place_of(each), b"in" if each in self.enabled else b"out") for each in self.own)

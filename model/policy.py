@@ -1,14 +1,16 @@
 """What a policy declares and allows."""
+from classes import Permissions, faults_of_classes
 from contents import Contents
-from expressions import members
 from faults import fault, printed, stop_at
 from instances import Instances
-from names import OBJECT_ROLE, Names, declared_fault, full_name, names_of_all
+from names import OBJECT_ROLE, Names, names_of_all
 from optionals import Optionals
+from rules import RULES, covers, is_active, neverallowed, rule_of
+from sets import SPACES, Sets
 from shapes import written
 from table import ACCEPTED
 
-MOST_PERMISSIONS = 32
+MOST_BOOLEANS = 4096
 
 
 class Policy:
@@ -18,26 +20,42 @@ class Policy:
         instances = Instances(Contents(written(trees, language)))
         names_of_all(instances)
         self.optionals = Optionals(instances)
-        names = Names(instances, self.optionals.enabled)
+        self.all_names = names = Names(instances, self.optionals.enabled)
         self.names = {kind: set(map(printed, declared)) for kind, declared in names.declared.items()}
-        self.permissions = {printed(path): held for path, held in names.permissions.items()}
+        self.permissions = {
+            printed(entry.path): held for entry, held in names.permissions.items() if entry.kind == b"class"
+        }
         stop_at([each for instance in instances.all if not instance.optionals for each in names.unresolved(instance)])
-        enabled = [each for each in instances.all if self.optionals.enabled.issuperset(each.optionals)]
-        stop_at([each for instance in enabled for each in faults_of_classes(instance, names)])
-        self.pairs = {b"roletype": set(), b"userrole": set()}
-        self.rules = []
-        for each in enabled:
-            self.enter(each, names)
+        self.enabled = [each for each in instances.all if self.optionals.enabled.issuperset(each.optionals)]
+        types, roles, users = (Sets(space, names, self.enabled) for space in SPACES)
+        stop_at([
+            *types.faults(), *roles.faults(), *users.faults(),
+            *(each for instance in self.enabled for each in faults_of_classes(instance, names)),
+            *too_many_booleans(names),
+        ])
+        for each in (types, roles, users):
+            each.make()
+        self.pairs = {
+            b"roletype": self.linked(b"roletype", roles, types),
+            b"userrole": self.linked(b"userrole", users, roles),
+        }
+        self.aliases = types.aliases()
+        permissions = Permissions(names, self.enabled)
+        self.rules = [rule_of(each, types, permissions) for each in self.enabled if each.statement.keyword in RULES]
+        stop_at(neverallowed(self.rules))
+        self.defaults = {
+            printed(path): ((b"true",),) == value for path, value in names.declared[b"boolean"].items()
+        }
 
-    def enter(self, instance, names):
-        """Enters a pair or a rule."""
-        statement = instance.statement
-        if statement.keyword in self.pairs:
-            self.pairs[statement.keyword].add(tuple(printed(names.named(word)) for word in instance.words))
-        elif statement.keyword == b"allow":
-            source, *target, class_name = [printed(names.named(word)) for word in instance.words]
-            allowed = members(statement.expressed, self.permissions[class_name])
-            self.rules.append((source, target[0] if target else None, class_name, allowed))
+    def linked(self, keyword, firsts, seconds):
+        """The pairs that statements link: each of what the first word stands for with each of the second."""
+        found = set()
+        for each in self.enabled:
+            if each.statement.keyword == keyword:
+                first, second = each.words
+                for one in firsts.stands_for(first):
+                    found |= {(printed(one), printed(other)) for other in seconds.stands_for(second)}
+        return found
 
     def type_of(self, context):
         """The type of a valid context, else nothing."""
@@ -45,6 +63,7 @@ class Policy:
         if len(parts) != 3:
             return None
         user, role, type_ = parts
+        type_ = self.aliases.get(type_, type_)
         if user not in self.names[b"user"] or role not in self.names[b"role"] or type_ not in self.names[b"type"]:
             return None
         if role == printed(OBJECT_ROLE):
@@ -52,32 +71,46 @@ class Policy:
         is_valid = (user, role) in self.pairs[b"userrole"] and (role, type_) in self.pairs[b"roletype"]
         return type_ if is_valid else None
 
-    def query(self, source, target, class_name):
-        source_type, target_type = self.type_of(source), self.type_of(target)
-        if source_type is None:
+    def refusal(self, source, target, class_name):
+        """Why a query is not answered, or nothing."""
+        if self.type_of(source) is None:
             return b"ERR 72 1"
-        if target_type is None:
+        if self.type_of(target) is None:
             return b"ERR 72 2"
-        if class_name not in self.names[b"class"]:
-            return b"ERR 73"
-        allowed = set()
-        for rule_source, rule_target, rule_class, permissions in self.rules:
-            covered = source_type if rule_target is None else rule_target
-            if (rule_source, covered, rule_class) == (source_type, target_type, class_name):
-                allowed |= permissions
-        return b"OK %s - %s" % (joined(allowed), joined(self.permissions[class_name]))
+        return None if class_name in self.names[b"class"] else b"ERR 73"
+
+    def covered(self, keyword, source, target, class_name, settings):
+        """The permissions of a class that active rules of a kind cover for two contexts."""
+        ends = self.type_of(source), self.type_of(target)
+        return {
+            permission
+            for rule in self.rules if rule.instance.statement.keyword == keyword and covers(rule, *ends)
+            for of_class, permission in rule.pairs if of_class == class_name
+            if is_active(rule, self.all_names, settings)
+        }
+
+    def query(self, source, target, class_name, settings):
+        refusal = self.refusal(source, target, class_name)
+        if refusal:
+            return refusal
+        allowed, audited, quiet = (
+            self.covered(keyword, source, target, class_name, settings)
+            for keyword in (b"allow", b"auditallow", b"dontaudit")
+        )
+        return b"OK %s %s %s" % (joined(allowed), joined(audited), joined(self.permissions[class_name] - quiet))
+
+    def check(self, source, target, class_name, permission, settings):
+        refusal = self.refusal(source, target, class_name)
+        if refusal:
+            return refusal
+        if permission not in self.permissions[class_name]:
+            return b"ERR 74"
+        is_allowed = permission in self.covered(b"allow", source, target, class_name, settings)
+        return b"OK yes" if is_allowed else b"OK no"
 
 
-def faults_of_classes(instance, names):
-    """A class with too many permissions, and a classcommon of a class that has two commons."""
-    statement = instance.statement
-    if statement.keyword == b"class" and len(names.permissions[full_name(instance)]) > MOST_PERMISSIONS:
-        return [declared_fault(55, instance)]
-    if statement.keyword == b"classcommon":
-        word = instance.words[0]
-        if len(names.commons[names.named(word)]) > 1:
-            return [fault(56, word.module, word.at, instance.space, word.text)]
-    return []
+def too_many_booleans(names):
+    return [fault(60, 0, 0, (), b"booleans")] if len(names.declared[b"boolean"]) > MOST_BOOLEANS else []
 
 
 def joined(names):

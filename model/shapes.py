@@ -1,14 +1,14 @@
 """Written statements: their shapes, the places where they may stand, and the spelling of their words."""
 import collections
 
-from expressions import BadShape, Expressions, head_of
+from expressions import BadShape, Expressions, Form, head_of
 from faults import fault, stop_at
-from table import ACCEPTED, BLOCK_ROWS, BRANCH_ROWS, FORMS, LEFT_OUT, ROWS, SET_ASIDE
+from table import ACCEPTED, BLOCK_ROWS, BRANCH_ROWS, LEFT_OUT, ROWS, SET_ASIDE
 
 
 class Place(collections.namedtuple("Place", "blocks macro optional branch", defaults=((), None, None, None))):
     """Where a statement is written: the block statements round it, the outermost first; its macro; its optional; the
-    booleanif whose branch it is in.
+    branch of a booleanif that it is in, as the word in front of the branch.
     """
 
     @property
@@ -17,83 +17,32 @@ class Place(collections.namedtuple("Place", "blocks macro optional branch", defa
 
 
 class Statement(Expressions):
-    """A written statement with its parts, and the faults of its words as numbers, places and words.
-
-    `words` are looked-up words with their kinds. The permission words, `permissions`, go by the last of them in a class
-    permission, and `expressed` is the set that is written with them.
-    """
+    """A written statement with its parts, and the faults of its words as numbers, places and words."""
 
     def __init__(self, module, node, place, language):
         super().__init__(language)
         self.module, self.at, self.place = module, node.at, place
         self.keyword, self.items = node.value[0].value, node.value[1:]
-        self.names, self.kinds, self.permissions = [], [], []
+        self.names, self.kinds, self.parts = [], [], []
         self.inner, self.arguments, self.branches = [], [], []
-        self.body, self.is_abstract, self.expressed = [], False, None
+        self.body, self.is_abstract = [], False
         if self.keyword not in SET_ASIDE:
-            self.read_items(ROWS[self.keyword], self.items)
+            self.parts = self.read_items(ROWS[self.keyword], self.items)
         first = self.names[0] if self.names else None
         self.name, self.label = (None, first) if self.keyword == b"optional" else (first, None)
         self.parameters = list(zip(self.kinds, self.names[1:]))
         self.judge_parameters()
-
-    # ---- rows
-
-    def read_items(self, items, nodes):
-        """Reads the nodes of a list by the items of a row."""
-        spare = len(nodes) - sum(item.least == item.most for item in items)
-        at = 0
-        for item in items:
-            count = 1 if item.least == item.most else spare
-            if count < item.least or (item.most is not None and count > item.most):
-                raise BadShape
-            for node in nodes[at:at + count]:
-                self.read_item(item, node)
-            at += count
-        if at != len(nodes):
-            raise BadShape
-
-    def read_item(self, item, node):
-        if item.either:
-            self.read_item(self.meant(item.either, node), node)
-        elif item.items is not None:
-            self.read_list(item.items, node)
-        elif item.name.startswith("E("):
-            self.expressed = self.expression(item.name[2:-1], node)
-        elif item.name in ("true", "false"):
-            self.literal(item.name.encode(), node)
-        elif hasattr(self, "read_" + item.name):
-            getattr(self, "read_" + item.name)(node)
-        else:
-            self.look_up(item.name, node)
-
-    def read_list(self, items, node):
-        if node.kind != "list":
-            raise BadShape
-        self.read_items(items, node.value)
-
-    def meant(self, either, node):
-        """Which of two items a node is: a list by that for lists, `true` and `false` by themselves."""
-        for item in either:
-            if item.name in ("true", "false"):
-                if node.kind == "word" and node.value == item.name.encode():
-                    return item
-            elif (node.kind == "list") == (item.items is not None):
-                return item
-        raise BadShape
 
     # ---- items
 
     def read_n(self, node):
         self.names.append(self.declared(node))
 
-    def read_p(self, node):
-        self.permissions.append(self.declared(node))
-
-    def read_s(self, node):
+    def read_s(self, node, branch=None):
+        """A statement inside, and the branch in which it is."""
         if node.kind != "list":
             raise BadShape
-        self.inner.append(node)
+        self.inner.append((node, branch))
 
     def read_bl(self, node):
         self.target_block = self.path(node)
@@ -115,39 +64,12 @@ class Statement(Expressions):
         if node.kind == "list":
             raise BadShape
 
-    def read_tg(self, node):
-        if node.kind == "word" and node.value in (b"notself", b"other"):
-            self.refuse(node)
-        elif node.kind != "word" or node.value != b"self":
-            self.look_up("T", node)
-
-    def read_cp(self, node):
-        if node.kind == "list":
-            self.read_items(FORMS["cp"], node.value)
-        elif node.kind == "word" and not self.language.has_permission_names:
-            self.refuse(node)
-        else:
-            self.look_up("P", node)
-
-    def read_lev(self, node):
-        self.word_or_list("L", FORMS["lev"], node)
-
-    def read_rng(self, node):
-        self.word_or_list("LR", FORMS["rng"], node)
-
-    def word_or_list(self, sign, items, node):
-        if node.kind == "list":
-            self.read_items(items, node.value)
-        else:
-            self.look_up(sign, node)
-
     def read_order(self, node):
         """A list of classes, `unordered` in front of them or not."""
         if node.kind != "list":
             raise BadShape
         is_unordered = node.value and node.value[0].kind == "word" and node.value[0].value == b"unordered"
-        for each in node.value[1 if is_unordered else 0:]:
-            self.look_up("c", each)
+        return Form("list", tuple(self.look_up("c", each) for each in node.value[1 if is_unordered else 0:]))
 
     def read_branch(self, node):
         """A branch that is not there already."""
@@ -156,7 +78,7 @@ class Statement(Expressions):
             raise BadShape
         self.branches.append(head)
         for each in node.value[1:]:
-            self.read_s(each)
+            self.read_s(each, head)
 
     # ---- parameters
 
@@ -212,7 +134,9 @@ class Reader:
         if refused:
             self.faults.append(fault(refused[0], module, node.at, place.space, refused[1]))
             return None
-        made.body = self.statements(module, made.inner, self.place_inside(made))
+        inside = self.place_inside(made)
+        read = [self.statement(module, each, inside._replace(branch=branch)) for each, branch in made.inner]
+        made.body = [each for each in read if each]
         made.is_abstract = any(each.keyword == b"blockabstract" for each in made.body)
         if made.keyword == b"macro":
             made.faults += clashes_with_parameters(made)
@@ -228,7 +152,7 @@ class Reader:
             return Place(place.blocks, made)
         if made.keyword == b"optional":
             return place._replace(optional=made)
-        return place._replace(branch=made)
+        return place
 
 
 def declaring(body):

@@ -20,7 +20,7 @@ ANYWHERE = """
     (expandtypeattribute A|(A+) true|false)
     (role n) (roleattribute n) (roleattributeset RA E(R)) (roletype R T) (roleallow R R) (roletransition R T C r)
     (user n) (userattribute n) (userattributeset UA E(U)) (userrole U R) (userlevel u lev) (userrange u rng)
-    (classpermission n) (classpermissionset P (C E(p))) (classmapping CM p P|(c E(p))) (classorder order)
+    (classpermission n) (classpermissionset P (C E(p))) (classmapping CM p mapped) (classorder order)
     (boolean n true|false) (level n (S [E(GS)])) (levelrange n (lev lev)) (rangetransition T T C rng)
     (neverallow T tg cp) (constrain cp ce) (mlsconstrain cp me)
 """
@@ -30,7 +30,7 @@ IN_BRANCHES = """
 """
 
 # Lists that stand in place of a word.
-FORMS = {"cp": "(C E(p))", "lev": "(S [E(GS)])", "rng": "(lev lev)"}
+FORMS = {"cp": "(C E(p))", "mapped": "(c E(p))", "lev": "(S [E(GS)])", "rng": "(lev lev)"}
 
 # Statements without effect, whose contents are not looked at. They may not stand in a macro or an optional.
 SET_ASIDE = set(
@@ -92,27 +92,101 @@ BLOCK_ROWS, ROWS_ANYWHERE, BRANCH_ROWS = rows_of(IN_BLOCKS), rows_of(ANYWHERE), 
 ROWS = {**BLOCK_ROWS, **ROWS_ANYWHERE, **BRANCH_ROWS}
 FORMS = {name: items_of(text)[0].items for name, text in FORMS.items()}
 
-# The kinds of parameters. Arguments of the first two are not looked up.
+# What a looked-up word of a sign may name. The kinds that are in one line here are of one name space.
+NAME_SPACES = {
+    name: tuple(kinds.encode().split())
+    for name, kinds in {
+        "types": "type typealias typeattribute",
+        "roles": "role roleattribute",
+        "users": "user userattribute",
+        "classes": "class classmap",
+        "commons": "common",
+        "class permissions": "classpermission",
+        "booleans": "boolean",
+        "sensitivities": "sensitivity sensitivityalias",
+        "categories": "category categoryalias categoryset",
+        "levels": "level",
+        "level ranges": "levelrange",
+        "macros": "macro",
+    }.items()
+}
+SIGNS = {
+    sign: tuple(kinds.encode().split())
+    for sign, kinds in {
+        "T": "type typealias typeattribute", "t": "type typealias", "A": "typeattribute", "TA": "typealias",
+        "R": "role roleattribute", "r": "role", "RA": "roleattribute",
+        "U": "user userattribute", "u": "user", "UA": "userattribute",
+        "C": "class classmap", "c": "class", "CM": "classmap", "K": "common",
+        "P": "classpermission", "B": "boolean",
+        "S": "sensitivity sensitivityalias", "SA": "sensitivityalias",
+        "G": "category categoryalias", "GA": "categoryalias", "GS": "category categoryalias categoryset",
+        "L": "level", "LR": "levelrange", "m": "macro",
+    }.items()
+}
+SPACE_OF_KIND = {kind: name for name, kinds in NAME_SPACES.items() for kind in kinds}
+SPACE_OF_SIGN = {sign: SPACE_OF_KIND[kinds[0]] for sign, kinds in SIGNS.items()}
+
+# The kinds of parameters. Arguments of the first two are not looked up; of the others the item is told that an argument
+# is, and the name space to which the kind belongs.
 PLAIN_KINDS = set(b"name string".split())
-KINDS = PLAIN_KINDS | set(
+ARGUMENTS = {
+    b"type": ("T", "types"), b"typealias": ("T", "types"),
+    b"role": ("R", "roles"), b"user": ("U", "users"),
+    b"boolean": ("B", "booleans"), b"bool": ("B", "booleans"),
+    b"class": ("c", "classes"), b"classmap": ("CM", "classes"), b"classpermission": ("cp", "class permissions"),
+    b"sensitivity": ("S", "sensitivities"),
+    b"category": ("G", "categories"), b"categoryset": ("E(GS)", "categories"),
+    b"level": ("lev", "levels"), b"levelrange": ("rng", "level ranges"),
+}
+KINDS = PLAIN_KINDS.union(ARGUMENTS)
+
+# What of it is accepted: statements; kinds of parameters; `all` and operators in sets; names of class permissions; the
+# requests SET and CHECK.
+Language = collections.namedtuple("Language", "statements kinds has_sets has_permission_names has_settings")
+
+WHOLE = Language(SET_ASIDE.union(ROWS), KINDS, True, True, True)
+
+# What every stage builds on: statements, and kinds of parameters.
+FIRST = (
     b"""
-    type typealias role user boolean bool class classmap classpermission
-    sensitivity category categoryset level levelrange
-    """.split()
-)
-
-# What of it is accepted: statements; kinds of parameters; `all` and operators in sets; names of class permissions.
-Language = collections.namedtuple("Language", "statements kinds has_sets has_permission_names")
-
-WHOLE = Language(SET_ASIDE.union(ROWS), KINDS, True, True)
-ACCEPTED = Language(
-    SET_ASIDE.union(
-        b"""
-        type role user class common classcommon roletype userrole allow
-        block blockabstract blockinherit macro call optional
-        """.split()
-    ),
+    type role user class common classcommon roletype userrole allow
+    block blockabstract blockinherit macro call optional
+    """.split(),
     PLAIN_KINDS.union(b"type role user class".split()),
-    True,
-    False,
 )
+
+# What comes by stages, in the same way.
+STAGES = {
+    "sets": (
+        b"""
+        typealias typealiasactual typeattribute typeattributeset expandtypeattribute
+        roleattribute roleattributeset userattribute userattributeset
+        """.split(),
+        [b"typealias"],
+    ),
+    "maps": (
+        b"classmap classmapping classpermission classpermissionset classorder".split(),
+        b"classmap classpermission".split(),
+    ),
+    "booleans": (
+        b"boolean booleanif auditallow dontaudit neverallow".split(),
+        b"boolean bool".split(),
+    ),
+    "transitions": (b"roletransition typetransition typechange typemember".split(), []),
+}
+
+# The stages that the program accepts today. Whoever brings one there enters it here.
+TODAY = ()
+
+
+def accepting(stages):
+    """What is accepted today, and what these stages add."""
+    chosen = {*TODAY, *stages}
+    statements, kinds = set(SET_ASIDE).union(FIRST[0]), set(FIRST[1])
+    for stage in chosen:
+        statements.update(STAGES[stage][0])
+        kinds.update(STAGES[stage][1])
+    return Language(statements, kinds, True, "maps" in chosen, "booleans" in chosen)
+
+
+ACCEPTED = accepting(())

@@ -1,7 +1,8 @@
 -- What one statement gives a set.
-use Rattle.std.proofs.Common.{Bor, ◌≡◌, ◌⊎◌, ◌↔◌, ℕ, ◌+◌, ◌≤◌, Bool, true, false, ◌&&◌, ◌||◌, List, [], ◌∷◌, ◌++◌, drop, length, get_or, map, take, refl, sym, ◌∙◌, ap, subst, inl, inr}
+use Rattle.std.proofs.Common.{Bor, ◌≡◌, ◌⊎◌, ◌↔◌, ℕ, ◌+◌, ◌<◌, ◌≤◌, Bool, true, false, ◌&&◌, ◌||◌, List, [], ◌∷◌, ◌++◌, drop, length, get_or, map, take, refl, sym, ◌∙◌, ap, subst, inl, inr}
 use Rattle.std.specs.Prelude.{Contains, MatchOption, Option, Some, None, slice_get}
 use Rattle.std.specs.Option.{option_map_or}
+use Rattle.std.proofs.lemmas.Bool.{true≢false}
 use Rattle.std.proofs.lemmas.List.{append-nil, take_all}
 use Rattle.std.proofs.lemmas.List.Elements.{Contains-append_left, Contains-append_right, Contains-append_cases}
 use Rattle.cil_base.specs.Lists.{contains_cases, contains_here, contains_none}
@@ -16,22 +17,22 @@ use Rattle.cil_syntax.specs.Forms.{word_and_term}
 use Rattle.cil_syntax.specs.Kinds.{is_wanted}
 use Rattle.cil_syntax.specs.Scopes.{ScopedWord}
 use Rattle.cil_syntax.specs.Terms.{Term, Leaf, Terms, nil, cons}
-use Rattle.cil_macros.specs.Items.{Kept, says_as_written, word_at}
+use Rattle.cil_macros.specs.Items.{Kept, item_at, items_in, says_as_written, word_at}
 use Rattle.cil_macros.specs.Item.{Item, all_replaced, is_enabled, replaced}
 use Rattle.cil_macros.proofs.FormLemmas.{across, all_across, no_word}
 use Rattle.cil_names.specs.declared.entry.Entry.{Entry}
 use Rattle.cil_names.specs.declared.known.Known.{Known}
 use Rattle.cil_names.specs.Declarations.{Symbol}
 use Rattle.cil_names.specs.Entries.{IsAnswer, IsNamed, is_declared_in}
-use Rattle.cil_names.specs.Family.{in_value, is_giving, no_range}
+use Rattle.cil_names.specs.Family.{Family, gives, in_value, is_giving, no_range}
 use Rattle.cil_names.specs.Known.{IsKnown, enabled_in, meant_by, meant_in, row_in, value_in, wanted_with}
 use Rattle.cil_names.specs.Laws.{MeansWhatItNames}
 use Rattle.cil_names.specs.Numbers.{symbol_of}
 use Rattle.cil_names.specs.Resolves.{Word as AWord, all_wanted_in, found_in, wanted_in}
-use Rattle.cil_names.specs.Spaces.{Sets, SpaceOf, any_sets, is_declared, is_same_symbol, names, symbol_in}
+use Rattle.cil_names.specs.Spaces.{Sets, SpaceOf, any_sets, is_declared, is_same_symbol, names, names_set, symbol_in}
 use Rattle.cil_attrs.specs.declared.giver.SetKind.{SetKind}
-use Rattle.cil_attrs.specs.declared.giver.Space.{Space}
-use Rattle.cil_attrs.specs.Givers.{AreGifts, AreSets, AreWritten, GivesNothing, IsGift, IsNamedSet, IsSets, IsSpaceOf, NamesNoSet, is_giving_as, is_written}
+use Rattle.cil_attrs.specs.declared.giver.SpaceKinds.{SpaceKinds}
+use Rattle.cil_attrs.specs.Givers.{AreGifts, AreSets, AreWritten, GivesNothing, IsGift, IsNamedSet, IsSets, HasKinds, NamesNoSet, is_giving_as, is_written}
 use Rattle.cil_attrs.specs.declared.making.Given.{Given}
 use Rattle.cil_attrs.specs.Holding.{is_kind}
 use Rattle.cil_attrs.proofs.HoldingLemmas.{kind_named}
@@ -130,7 +131,7 @@ pub giving_kind : (r : SetKind) (j : Sets) (keyword : Keyword) (kind : Kind) (b 
 giving_kind r j keyword kind b c is h t e = e ∙ ap (is_kind kind) (sym is.kind) ∙ ap (λ x. x && is_kind kind j.kind) (sym t ∙ giving_same r j keyword b is h)
 
 -- statements that give sets their members say what is written
-pub written_of : (r : Space) (which : SpaceOf) → IsSpaceOf r which → AreWritten r → (keyword : Keyword) → any_sets which (λ j. j.giving keyword) ≡ true → says_as_written keyword ≡ true
+pub written_of : (r : SpaceKinds) (which : SpaceOf) → HasKinds r which → AreWritten r → (keyword : Keyword) → any_sets which (λ j. j.giving keyword) ≡ true → says_as_written keyword ≡ true
 written_of r which is written keyword t = by (either_true (option_map_or (λ j. j.giving keyword) which.aliases false) (option_map_or (λ j. j.giving keyword) which.attributes false) t)
   where
     either_true : (a b : Bool) → (a || b) ≡ true → (a ≡ true) ⊎ (b ≡ true)
@@ -162,24 +163,35 @@ term_told m terms more w (Some t) is e = (w, is ∙ ap (λ us. cons (Leaf w) us)
 
 -- ---- the set that a word names
 
+-- a word that is not found names nothing
+pub names_nothing : (k : Known) (xs : List Item) (w : ScopedWord) (kind : Kind) (a : Symbol) → found_in xs (enabled_in k) w ≡ None → names xs (enabled_in k) kind w a ≡ false
+unfolding names
+names_nothing k xs w kind a none =
+    ap (λ r. (is_wanted w.sign kind && is_declared xs (enabled_in k) kind a) && option_map_or (λ n. is_same_symbol (symbol_in w n) a) r false) none ∙ and_false (is_wanted w.sign kind && is_declared xs (enabled_in k) kind a)
+  where
+    and_false : (b : Bool) → (b && false) ≡ false
+    and_false true = refl
+    and_false false = refl
+
+pub names_no_set : (k : Known) (xs : List Item) (which : SpaceOf) (w : ScopedWord) → found_in xs (enabled_in k) w ≡ None → (a : Symbol) → names_set xs (enabled_in k) which w a ≡ false
+names_no_set k xs which w none a =
+    any_alike (λ j. names xs (enabled_in k) j.kind w a) (λ j. false) which (λ j. names_nothing k xs w j.kind a none) ∙ never which.aliases which.attributes
+  where
+    never : (o u : Option Sets) → (option_map_or (λ (j : Sets). false) o false || option_map_or (λ (j : Sets). false) u false) ≡ false
+    never None None = refl
+    never None (Some u) = refl
+    never (Some o) None = refl
+    never (Some o) (Some u) = refl
+
 module _ (k : Known) (xs : List Item) (sections : Kind → List (List ℕ)) (known : IsKnown k xs sections) (law : MeansWhatItNames) (which : SpaceOf) (keyword : Keyword) (w : ScopedWord) where
   answer : (r : Option ℕ) → r ≡ meant_in k w → IsAnswer k.lookup.namespaces.now xs k.lookup.names.now (enabled_in k) w r
   answer r means =
       subst (IsAnswer k.lookup.namespaces.now xs k.lookup.names.now (enabled_in k) w) (sym means)
       (law k.lookup.namespaces.now xs k.lookup.names.now (enabled_in k) w known.namespaces known.entries)
 
-  nothing_named : (kind : Kind) (a : Symbol) → found_in xs (enabled_in k) w ≡ None → names xs (enabled_in k) kind w a ≡ false
-  unfolding names
-  nothing_named kind a none =
-      ap (λ r. (is_wanted w.sign kind && is_declared xs (enabled_in k) kind a) && option_map_or (λ n. is_same_symbol (symbol_in w n) a) r false) none ∙ and_false (is_wanted w.sign kind && is_declared xs (enabled_in k) kind a)
-    where
-      and_false : (b : Bool) → (b && false) ≡ false
-      and_false true = refl
-      and_false false = refl
-
   pub no_meaning : None ≡ meant_in k w → NamesNoSet k xs which keyword w
   no_meaning means a =
-      any_alike (λ j. j.giving keyword && names xs (enabled_in k) j.kind w a) (λ j. false) which (λ j. ap (λ b. j.giving keyword && b) (nothing_named j.kind a (answer None means)) ∙ none (j.giving keyword))
+      any_alike (λ j. j.giving keyword && names xs (enabled_in k) j.kind w a) (λ j. false) which (λ j. ap (λ b. j.giving keyword && b) (names_nothing k xs w j.kind a (answer None means)) ∙ none (j.giving keyword))
       ∙ never which.aliases which.attributes
     where
       none : (b : Bool) → (b && false) ≡ false
@@ -224,29 +236,25 @@ module _ (k : Known) (xs : List Item) (sections : Kind → List (List ℕ)) (kno
 -- ---- a statement
 
 module _ (k : Known) (xs : List Item) (which : SpaceOf) (x : Item) where
-  pub other_keyword : any_sets which (λ j. j.giving x.keyword) ≡ false → GivesNothing k xs which x
-  other_keyword f m a t = by (is_enabled (enabled_in k) x) (word_and_term x.args)
+  -- no family gives a set something by such a statement
+  pub gives_none : GivesNothing k xs which x → (m : Family) (a t : Symbol) → gives xs (enabled_in k) which no_range m a t x ≡ false
+  gives_none none m a t = by (is_enabled (enabled_in k) x) refl (word_and_term x.args) refl
     where
-      by : (b : Bool) (r : Option (ScopedWord × Term ScopedWord))
+      by : (b : Bool) → is_enabled (enabled_in k) x ≡ b → (r : Option (ScopedWord × Term ScopedWord)) → word_and_term x.args ≡ r
           → (b && option_map_or (λ p. is_giving xs (enabled_in k) which no_range a x p.0 && in_value xs (enabled_in k) which no_range m p.1 t) r false) ≡ false
-      by false r = refl
-      by true None = refl
-      by true (Some p) = ap (λ b. b && in_value xs (enabled_in k) which no_range m p.1 t) (any_without (λ j. j.giving x.keyword) (λ j. names xs (enabled_in k) j.kind p.0 a) which f)
+      by false on r says = refl
+      by true on None says = refl
+      by true on (Some p) says = ap (λ b. b && in_value xs (enabled_in k) which no_range m p.1 t) (none a p.0 p.1 on says)
+
+  pub other_keyword : any_sets which (λ j. j.giving x.keyword) ≡ false → GivesNothing k xs which x
+  other_keyword f a w e on says = any_without (λ j. j.giving x.keyword) (λ j. names xs (enabled_in k) j.kind w a) which f
 
   pub left_out : is_enabled (enabled_in k) x ≡ false → GivesNothing k xs which x
-  left_out f m a t =
-      ap (λ b. b && option_map_or (λ p. is_giving xs (enabled_in k) which no_range a x p.0 && in_value xs (enabled_in k) which no_range m p.1 t) (word_and_term x.args) false) f
-
-  and_false : (b : Bool) → (b && false) ≡ false
-  and_false true = refl
-  and_false false = refl
+  left_out f a w e on says = absurd (true≢false (sym on ∙ f))
 
   module _ (f : Word → ScopedWord) (args : Terms Word) (says : x.args ≡ all_across f args) where
     pub other_terms : word_and_term args ≡ None → GivesNothing k xs which x
-    other_terms none m a t =
-        ap (λ r. is_enabled (enabled_in k) x && option_map_or (λ p. is_giving xs (enabled_in k) which no_range a x p.0 && in_value xs (enabled_in k) which no_range m p.1 t) r false)
-        (ap word_and_term says ∙ no_word f args none)
-        ∙ and_false (is_enabled (enabled_in k) x)
+    other_terms none a w e on said = absurd (none-some (w, e) (sym (ap word_and_term says ∙ no_word f args none) ∙ said))
 
     module _ (w : Word) (e : Term Word) (said : args ≡ cons (Leaf w) (cons e nil)) where
       two_across : all_across f (cons (Leaf w) (cons e nil)) ≡ cons (Leaf (f w)) (cons (across f e) nil)
@@ -260,10 +268,8 @@ module _ (k : Known) (xs : List Item) (which : SpaceOf) (x : Item) where
       it_says = ap word_and_term args_are
 
       pub names_none : NamesNoSet k xs which x.keyword (f w) → GivesNothing k xs which x
-      names_none none m a t =
-          ap (λ r. is_enabled (enabled_in k) x && option_map_or (λ p. is_giving xs (enabled_in k) which no_range a x p.0 && in_value xs (enabled_in k) which no_range m p.1 t) r false) it_says
-          ∙ ap (λ b. is_enabled (enabled_in k) x && (b && in_value xs (enabled_in k) which no_range m (across f e) t)) (none a)
-          ∙ and_false (is_enabled (enabled_in k) x)
+      names_none none a v u on told =
+          subst (λ z. is_giving_as k xs which x.keyword z a ≡ false) (ap (λ p. p.0) (same_Some (f w, across f e) (v, u) (sym it_says ∙ told))) (none a)
 
       -- the meanings of its words
       module _ (words : List (Option ℕ)) (are : words ≡ row_in k x) where
@@ -284,7 +290,7 @@ module _ (k : Known) (xs : List Item) (which : SpaceOf) (x : Item) where
 
 module _ (k : Known) (xs : List Item) (which : SpaceOf) (i : Kept) where
   pub no_gifts : AreGifts k xs which i [] []
-  no_gifts = record { each = λ g c. absurd (contains_none g c); all = λ x c. absurd (contains_none x c) }
+  no_gifts = record { there = λ g c. absurd (contains_none g c); each = λ g c. absurd (contains_none g c); all = λ x c. absurd (contains_none x c) }
 
   module _ (all : List Item) (at : ℕ) (x : Item) (taken : take (at + 1) all ≡ take at all ++ x ∷ []) (old : List Given) (so_far : AreGifts k xs which i (take at all) old) where
     in_front : (z : Item) → Contains (take at all) z → Contains (take (at + 1) all) z
@@ -301,19 +307,28 @@ module _ (k : Known) (xs : List Item) (which : SpaceOf) (i : Kept) where
 
     pub none_more : GivesNothing k xs which x → AreGifts k xs which i (take (at + 1) all) old
     none_more none = record {
+      there = so_far.there;
       each = λ g c. let r = so_far.each g c in (r.0, in_front r.0 r.1, r.2);
       all = λ z c. elim (which_one z c) [ inl d ↦ so_far.all z d | inr e ↦ inl (subst (GivesNothing k xs which) e none) ];
     }
 
-    pub gift_more : (g : Given) (new : List Given) → g.at ≡ at → IsGift k xs which x (word_at i at) g → new ≡ old ++ g ∷ [] → AreGifts k xs which i (take (at + 1) all) new
-    gift_more g new here gift push = record {
+    pub gift_more : (g : Given) (new : List Given) → g.at ≡ at → IsGift k xs which x (word_at i at) g → at < length (items_in i) → x ≡ item_at i at → new ≡ old ++ g ∷ [] → AreGifts k xs which i (take (at + 1) all) new
+    gift_more g new here gift within is_at push = record {
+      there = λ y c. elim (Contains-append_cases old (g ∷ []) y (subst (λ ys. Contains ys y) push c)) [
+        | inl d ↦ so_far.there y d
+        | inr d ↦ elim (contains_cases y g [] d) [
+          | inl e ↦ subst (λ u. (u.at < length (items_in i)) × IsGift k xs which (item_at i u.at) (word_at i u.at) u) e
+              (subst (λ n. (n < length (items_in i)) × IsGift k xs which (item_at i n) (word_at i n) g) (sym here) (within, subst (λ y. IsGift k xs which y (word_at i at) g) is_at gift))
+          | inr n ↦ absurd (contains_none y n)
+        ]
+      ];
       each = λ y c. elim (Contains-append_cases old (g ∷ []) y (subst (λ ys. Contains ys y) push c)) [
         | inl d ↦ let r = so_far.each y d in (r.0, in_front r.0 r.1, r.2)
         | inr d ↦ elim (contains_cases y g [] d) [ inl e ↦ subst (λ u. (z : Item) × Contains (take (at + 1) all) z × IsGift k xs which z (word_at i u.at) u) e (x, last_one, its) | inr n ↦ absurd (contains_none y n) ]
       ];
       all = λ z c. elim (which_one z c) [
-        | inl d ↦ elim (so_far.all z d) [ inl none ↦ inl none | inr r ↦ inr (r.0, kept r.0 r.1, r.2) ]
-        | inr e ↦ subst (λ u. GivesNothing k xs which u ⊎ ((y : Given) × Contains new y × IsGift k xs which u (word_at i y.at) y)) e (inr (g, added, its))
+        | inl d ↦ elim (so_far.all z d) [ inl none ↦ inl none | inr r ↦ inr (r.0, kept r.0 r.1, r.2, r.3) ]
+        | inr e ↦ subst (λ u. GivesNothing k xs which u ⊎ ((y : Given) × Contains new y × IsGift k xs which u (word_at i y.at) y × (u ≡ item_at i y.at))) e (inr (g, added, its, is_at ∙ ap (item_at i) (sym here)))
       ];
     }
       where

@@ -52,6 +52,17 @@ and_true : (a b : Bool) → b ≡ true → (a && b) ≡ a
 and_true true b e = e
 and_true false b e = refl
 
+pub same_symbol : (a b : Symbol) → is_same_symbol a b ≡ true → a ≡ b
+same_symbol a b e =
+    let p = both (same_space a.space b.space) (same_bytes a.name b.name) e in
+    symbol_by a b ((spaces_decide a.space b.space).0 p.0) ((bytes_decides a.name b.name).0 p.1)
+
+and_either : (a b s : Bool) → ((a && s) || (b && s)) ≡ ((a || b) && s)
+and_either true b true = refl
+and_either true true false = refl
+and_either true false false = refl
+and_either false b s = refl
+
 -- ---- expressions over replaced words
 
 module _ {L M : Type 0} (f : L → M) (p : M → Bool) (among : Bool) where
@@ -112,11 +123,6 @@ module _ (k : Known) (xs : List Item) (sections : Kind → List (List ℕ)) (kno
         let (x, is_x, has_kind, in_space, of_name) = known.entries.only (enabled_in k) d named.entry named.at named.live in
         record { declaration = x; declares = is_x; of_kind = has_kind; in_space = in_space; of_name = of_name }
 
-    same_is : (a b : Symbol) → is_same_symbol a b ≡ true → a ≡ b
-    same_is a b e =
-        let p = both (same_space a.space b.space) (same_bytes a.name b.name) e in
-        symbol_by a b ((spaces_decide a.space b.space).0 p.0) ((bytes_decides a.name b.name).0 p.1)
-
     is_same : (a b : Symbol) → a ≡ b → is_same_symbol a b ≡ true
     is_same a b e = pair _ _ ((spaces_decide a.space b.space).1 (ap (λ (u : Symbol). u.space) e)) ((bytes_decides a.name b.name).1 (ap (λ (u : Symbol). u.name) e))
 
@@ -136,7 +142,7 @@ module _ (k : Known) (xs : List Item) (sections : Kind → List (List ℕ)) (kno
         there e =
             let p = both (is_wanted w.sign kind && is_declared xs (enabled_in k) kind t) (is_same_symbol its t) e in
             let q = both (is_wanted w.sign kind) (is_declared xs (enabled_in k) kind t) p.0 in
-            let declared = subst (λ a. Declared xs (enabled_in k) kind a) (sym (same_is its t p.1)) ((declared_is xs (enabled_in k) kind t).0 q.1) in
+            let declared = subst (λ a. Declared xs (enabled_in k) kind a) (sym (same_symbol its t p.1)) ((declared_is xs (enabled_in k) kind t).0 q.1) in
             pair _ _ (same_kind named.entry.kind kind (kind_declared kind q.0 declared)) p.1
 
         back : (is_kind named.entry.kind kind && is_same_symbol its t) ≡ true → ((is_wanted w.sign kind && is_declared xs (enabled_in k) kind t) && is_same_symbol its t) ≡ true
@@ -144,7 +150,7 @@ module _ (k : Known) (xs : List Item) (sections : Kind → List (List ℕ)) (kno
             let p = both (is_kind named.entry.kind kind) (is_same_symbol its t) e in
             let of_kind = one_kind named.entry.kind kind p.0 in
             let declared = subst (λ j. Declared xs (enabled_in k) j its) of_kind declared_kind in
-            let declared_t = subst (λ a. Declared xs (enabled_in k) kind a) (same_is its t p.1) declared in
+            let declared_t = subst (λ a. Declared xs (enabled_in k) kind a) (same_symbol its t p.1) declared in
             pair _ _ (pair _ _ (ap (is_wanted w.sign) (sym of_kind) ∙ its_parts.2) ((declared_is xs (enabled_in k) kind t).1 declared_t)) p.1
 
     kind_of_its : (kind : Kind) → names xs (enabled_in k) kind w its ≡ is_kind named.entry.kind kind
@@ -158,6 +164,17 @@ module _ (k : Known) (xs : List Item) (sections : Kind → List (List ℕ)) (kno
         one : (o : Option Sets) → option_map_or (λ j. names xs (enabled_in k) j.kind w its) o false ≡ option_map_or (λ j. is_kind named.entry.kind j.kind) o false
         one None = refl
         one (Some j) = kind_of_its j.kind
+
+    -- the word names a set just where the entry is that of the set
+    pub sets_named : (space : SpaceOf) (b : Symbol) → names_set xs (enabled_in k) space w b ≡ (any_sets space (λ j. is_kind named.entry.kind j.kind) && is_same_symbol its b)
+    sets_named space b =
+        ap (λ z. z || option_map_or (λ j. names xs (enabled_in k) j.kind w b) space.attributes false) (one space.aliases)
+        ∙ ap (λ z. (option_map_or (λ (j : Sets). is_kind named.entry.kind j.kind) space.aliases false && is_same_symbol its b) || z) (one space.attributes)
+        ∙ and_either (option_map_or (λ (j : Sets). is_kind named.entry.kind j.kind) space.aliases false) (option_map_or (λ (j : Sets). is_kind named.entry.kind j.kind) space.attributes false) (is_same_symbol its b)
+      where
+        one : (o : Option Sets) → option_map_or (λ j. names xs (enabled_in k) j.kind w b) o false ≡ (option_map_or (λ (j : Sets). is_kind named.entry.kind j.kind) o false && is_same_symbol its b)
+        one None = refl
+        one (Some j) = kind_named j.kind b
 
     -- the word holds the item just where the entry stands for it
     holds_as_named : (space : SpaceOf) (m : Family) (t : Symbol) → holds xs (enabled_in k) space no_range m w t ≡ stands k xs sections space m named.entry t

@@ -1,15 +1,12 @@
 -- Sets that depend on themselves, by the edges of a graph; and the order by its ranks.
-use Rattle.std.proofs.Common.{◌≡◌, ℕ, ◌<◌, Bool, true, false, if◌then◌else◌, List, [], ◌∷◌, length, get_or, refl, sym, ◌∙◌, ap, subst, inl, inr, arith}
+use Rattle.std.proofs.Common.{◌≡◌, ◌↔◌, ℕ, zero, suc, ◌<◌, Bool, true, false, if◌then◌else◌, List, [], ◌∷◌, length, get_or, refl, sym, ◌∙◌, ap, subst, inl, inr, arith}
 use Rattle.std.specs.Prelude.{All, Contains, IsPermutation, Option, Some, None, slice_get}
-use Rattle.std.specs.List.{list_any}
 use Rattle.std.specs.List.Sorted.{IsNonDecreasingBy}
 use Rattle.std.specs.Option.{option_map_or}
-use Rattle.std.proofs.lemmas.Bool.{true≢false}
 use Rattle.std.proofs.lemmas.List.Sorted.{Contains-permutation, IsPermutation-sym}
 use Rattle.cil_base.specs.Lists.{contains_cases, contains_here, contains_none}
 use Rattle.cil_base.specs.MadeLists.{contains_flat, from_flat}
-use Rattle.cil_base.specs.Places.{contains_at, get_at, get_contains, get_so, in_range}
-use Rattle.cil_base.specs.Searches.{any_from, any_true}
+use Rattle.cil_base.specs.Places.{contains_at, get_contains, get_so, in_range}
 use Rattle.cil_settle.specs.declared.edge.Edge.{Edge}
 use Rattle.cil_settle.specs.Cycles.{AreOnCycles, Fall, HasNoCycle, IsWithin, Leads, Reaches}
 use Rattle.cil_settle.specs.Cycles as paths
@@ -17,13 +14,18 @@ use Rattle.cil_attrs.specs.declared.evaluator.Held.{Held}
 use Rattle.cil_attrs.specs.declared.evaluator.Held.TheVariants.{Set}
 use Rattle.cil_attrs.specs.declared.making.Given.{Given}
 use Rattle.cil_attrs.specs.Made.{AreInOrder, AreSetsAt}
-use Rattle.cil_attrs.specs.Order.{Depends, IsCircular, Names, at_once, edge_to, edges_by, edges_in, further, is_set, is_set_at}
+use Rattle.cil_attrs.specs.Order.{Depends, FallFor, IsAcyclic, Names, at_once, edge_to, edges_by, edges_in, further, is_set, is_set_at}
 
 set_within : (helds : List Held) (d : ℕ) → is_set_at helds d ≡ true → d < length helds
 set_within helds d e = by (slice_get helds d) refl e where
   by : (r : Option Held) → slice_get helds d ≡ r → option_map_or is_set r false ≡ true → d < length helds
   by None at t = absurd (let f : false ≡ true = t in cc)
   by (Some h) at t = in_range helds d h at
+
+flag_within : (flags : List Bool) (d : ℕ) → get_or flags d false ≡ true → d < length flags
+flag_within [] d e = absurd (let f : false ≡ true = e in cc)
+flag_within (b ∷ bs) zero e = omega arith
+flag_within (b ∷ bs) (suc d) e = let l = flag_within bs d e in omega (arith, l)
 
 -- an edge to an entry is that of a set
 of_edge : (helds : List Held) (a : ℕ) (e : Edge) (r : Option ℕ) → Contains (edge_to helds a r) e → (r ≡ Some e.to) × (a ≡ e.from) × (is_set_at helds e.to ≡ true)
@@ -77,33 +79,35 @@ module _ (helds : List Held) (xs : List Given) (es : List Edge) (same : IsPermut
   start_within a b (paths.at_once u v l) = subst (λ i. i < length helds) l.from_a (edge_within l.edge l.is_edge).from_node
   start_within a b (paths.further u v w l r) = subst (λ i. i < length helds) l.from_a (edge_within l.edge l.is_edge).from_node
 
-  module _ (flags : List Bool) (on : AreOnCycles es (length helds) flags) where
-    pub is_circular : list_any (λ b. b) flags ≡ true → IsCircular helds xs
-    is_circular e =
-        let (b, c, t) = any_true (λ b. b) flags e in
-        let (k, l, at) = get_at flags b c in
-        (k, reaches_depends k k ((on.each k (subst (λ n. k < n) on.len l)).0 (get_so flags k b false at ∙ t)))
+  depends_reaches : (a b : ℕ) → Depends helds xs a b → Reaches es a b
+  depends_reaches a b (at_once u v n) = paths.at_once u v (names_leads u v n)
+  depends_reaches a b (further u v w n d) = paths.further u v w (names_leads u v n) (depends_reaches v w d)
 
-    no_cycle : list_any (λ b. b) flags ≡ false → HasNoCycle es
-    no_cycle e v r =
-        let l : v < length helds = start_within v v r in
-        let t = (on.each v l).1 r in
-        true≢false (sym (any_from (λ b. b) flags (get_or flags v false) (contains_at flags v (get_or flags v false) false (subst (λ n. v < n) (sym on.len) l) refl) t) ∙ e)
+  -- the flags of a graph are those of sets
+  pub on_cycle : (flags : List Bool) → AreOnCycles es (length helds) flags → (d : ℕ) → (get_or flags d false ≡ true) ↔ Depends helds xs d d
+  on_cycle flags on d = (
+    λ t. reaches_depends d d ((on.each d (subst (λ n. d < n) on.len (flag_within flags d t))).0 t),
+    λ r. let p = depends_reaches d d r in (on.each d (start_within d d p)).1 p,
+  )
 
-    pub ranks_order : (ranks : List ℕ) (ordered : List Given) → list_any (λ b. b) flags ≡ false → (HasNoCycle es → Fall es ranks) → IsNonDecreasingBy (λ (x : Given). get_or ranks x.set 0) ordered
-        → IsPermutation xs ordered → AreInOrder ordered
-    ranks_order ranks ordered e fall rising permuted i j x y at_i at_j le c =
-        let is_x = Contains-permutation ordered xs x (IsPermutation-sym xs ordered permuted) (get_contains ordered i x at_i) in
-        let is_y = Contains-permutation ordered xs y (IsPermutation-sym xs ordered permuted) (get_contains ordered j y at_j) in
-        let (members, at) = sets y is_y in
-        let lower : get_or ranks y.set 0 < get_or ranks x.set 0 = fall (no_cycle e) x.set y.set (names_leads x.set y.set (record {
-          given = x;
-          is_given = is_x;
-          set = refl;
-          word = c;
-          is_set = ap (λ h. option_map_or is_set h false) at;
-        })) in
-        let rises = rising i j x le (in_range ordered j y at_j) in
-        let here = ap (λ (z : Given). get_or ranks z.set 0) (get_so ordered i x x at_i) in
-        let there = ap (λ (z : Given). get_or ranks z.set 0) (get_so ordered j y x at_j) in
-        omega (arith, lower, rises, here, there)
+  pub ranks_fall : (ranks : List ℕ) → (HasNoCycle es → Fall es ranks) → IsAcyclic helds xs → FallFor helds xs ranks
+  ranks_fall ranks fall none a b n = fall (λ v r. none v (reaches_depends v v r)) a b (names_leads a b n)
+
+-- where ranks fall, statements in their order name only what is made before
+pub ranks_order : (helds : List Held) (xs : List Given) → AreSetsAt helds xs → (ranks : List ℕ) (ordered : List Given) → FallFor helds xs ranks
+    → IsNonDecreasingBy (λ (x : Given). get_or ranks x.set 0) ordered → IsPermutation xs ordered → AreInOrder ordered
+ranks_order helds xs sets ranks ordered fall rising permuted i j x y at_i at_j le c =
+    let is_x = Contains-permutation ordered xs x (IsPermutation-sym xs ordered permuted) (get_contains ordered i x at_i) in
+    let is_y = Contains-permutation ordered xs y (IsPermutation-sym xs ordered permuted) (get_contains ordered j y at_j) in
+    let (members, at) = sets y is_y in
+    let lower : get_or ranks y.set 0 < get_or ranks x.set 0 = fall x.set y.set (record {
+      given = x;
+      is_given = is_x;
+      set = refl;
+      word = c;
+      is_set = ap (λ h. option_map_or is_set h false) at;
+    }) in
+    let rises = rising i j x le (in_range ordered j y at_j) in
+    let here = ap (λ (z : Given). get_or ranks z.set 0) (get_so ordered i x x at_i) in
+    let there = ap (λ (z : Given). get_or ranks z.set 0) (get_so ordered j y x at_j) in
+    omega (arith, lower, rises, here, there)

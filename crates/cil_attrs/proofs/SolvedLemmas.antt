@@ -28,14 +28,15 @@ use Rattle.cil_names.specs.Spaces.{Sets, SpaceOf, any_sets, is_declared, is_same
 use Rattle.cil_names.proofs.DeclareDecided.{symbol_by}
 use Rattle.cil_names.proofs.MemberLemmas.{declared_is}
 use Rattle.cil_attrs.specs.declared.evaluator.Held.{Held}
-use Rattle.cil_attrs.specs.declared.giver.Space.{Space}
+use Rattle.cil_attrs.specs.declared.giver.SpaceKinds.{SpaceKinds}
 use Rattle.cil_attrs.specs.declared.making.Given.{Given}
 use Rattle.cil_attrs.specs.Begun.{is_sets_kind}
 use Rattle.cil_attrs.specs.Evaluated.{in_term, is_held}
-use Rattle.cil_attrs.specs.Givers.{IsGift}
+use Rattle.cil_attrs.specs.Givers.{AreGifts, IsGift}
 use Rattle.cil_attrs.specs.Holding.{AreAll, HoldsAs, IsItem, is_kind}
 use Rattle.cil_attrs.specs.Made.{held_at, is_made_by, said}
-use Rattle.cil_attrs.specs.Members.{AreMade, IsIn, meaning_there}
+use Rattle.cil_attrs.specs.Members.{AreBegun, AreMade, IsInKinds, meaning_there}
+use Rattle.cil_attrs.proofs.GiverLemmas.{gives_none}
 use Rattle.cil_attrs.proofs.BegunLemmas.{every_item}
 use Rattle.cil_attrs.proofs.HoldingLemmas.{both, pair, value_as_family}
 use Rattle.cil_attrs.proofs.MembersLemmas.{begun_set, kinds_of, same_self}
@@ -72,8 +73,9 @@ record SetEntry (k : Known) (which : SpaceOf) (a : Symbol) : Type 0 where
   pub of_sets : any_sets which (λ j. is_kind entry.kind j.kind) ≡ true
   pub symbol : symbol_of k.lookup.namespaces.now entry ≡ a
 
-module _ (k : Known) (i : Kept) (r : Space) (names : List (List ℕ)) (sections : Kind → List (List ℕ)) (which : SpaceOf) (of_policy : IsIn k i r names sections which) (apart : is_sets_kind r r.item ≡ false)
-    (law : MeansWhatItNames) (held : List Held) (made : AreMade k i r which names held) (m : Family) (as_family : (d : ℕ) → HoldsAs k (items_in i) sections which held m d) where
+module _ (k : Known) (i : Kept) (r : SpaceKinds) (names : List (List ℕ)) (sections : Kind → List (List ℕ)) (which : SpaceOf) (of_policy : IsInKinds k i r names sections which) (apart : is_sets_kind r r.item ≡ false)
+    (law : MeansWhatItNames) (first : List Held) (are_begun : AreBegun k i r first) (givens : List Given) (gifts : AreGifts k (items_in i) which i (items_in i) givens) (held : List Held)
+    (made : AreMade k i names first givens held) (m : Family) (as_family : (d : ℕ) → HoldsAs k (items_in i) sections which held m d) where
   every : AreAll k (items_in i) sections which made.all
   every = every_item k (items_in i) sections which names made.all of_policy.named made.are_all
 
@@ -116,11 +118,11 @@ module _ (k : Known) (i : Kept) (r : Space) (names : List (List ℕ)) (sections 
           ∙ ap (λ b. (b && is_same_symbol (symbol_of k.lookup.namespaces.now e) t) || (any_sets which (λ j. is_kind e.kind j.kind) && m (symbol_of k.lookup.namespaces.now e) t)) no_item
           ∙ ap (λ b. b && m (symbol_of k.lookup.namespaces.now e) t) sets
 
-      first_none : held_at made.first d n ≡ false
-      first_none = ap (λ h. option_map_or (is_held n) h false) (made.are_begun d e at ∙ ap Some (begun_set r (enabled_in k) k.numbers.now d e apart sets_here))
+      first_none : held_at first d n ≡ false
+      first_none = ap (λ h. option_map_or (is_held n) h false) (are_begun d e at ∙ ap Some (begun_set r (enabled_in k) k.numbers.now d e apart sets_here))
 
-      made_is : held_at held d n ≡ list_any (is_made_by (meaning_there k i) held made.all d n) made.givens
-      made_is = made.made d n ∙ ap (λ b. b || list_any (is_made_by (meaning_there k i) held made.all d n) made.givens) first_none
+      made_is : held_at held d n ≡ list_any (is_made_by (meaning_there k i) held made.all d n) givens
+      made_is = made.made d n ∙ ap (λ b. b || list_any (is_made_by (meaning_there k i) held made.all d n) givens) first_none
 
     module _ (g : Given) (x : Item) (gift : IsGift k (items_in i) which x (word_at i g.at) g) where
       value : in_term held made.all (meaning_there k i g) n (said g) ≡ in_value (items_in i) (enabled_in k) which no_range m (replaced (λ at. at) (word_at i g.at) (said g)) t
@@ -142,9 +144,9 @@ module _ (k : Known) (i : Kept) (r : Space) (names : List (List ℕ)) (sections 
         there h =
             let it = set_entry a set in
             let holds = of_set it.place it.entry it.at it.live it.of_sets ∙ ap (λ u. m u t) it.symbol ∙ h in
-            let (g, c, by) = any_true (is_made_by (meaning_there k i) held made.all it.place n) made.givens (sym (made_is it.place it.entry it.at it.live it.of_sets) ∙ holds) in
+            let (g, c, by) = any_true (is_made_by (meaning_there k i) held made.all it.place n) givens (sym (made_is it.place it.entry it.at it.live it.of_sets) ∙ holds) in
             let parts = both (g.set == it.place) (in_term held made.all (meaning_there k i g) n (said g)) by in
-            let (x, cx, gift) = made.are_given.each g c in
+            let (x, cx, gift) = gifts.each g c in
             let one : gift.set.entry ≡ it.entry = same_Some gift.set.entry it.entry (sym gift.set.at ∙ ap (slice_get k.lookup.names.now) (same_number g.set it.place parts.0) ∙ it.at) in
             let symbol : symbol_of k.lookup.namespaces.now gift.set.entry ≡ a = ap (symbol_of k.lookup.namespaces.now) one ∙ it.symbol in
             any_from (gives (items_in i) (enabled_in k) which no_range m a t) (items_in i) x cx
@@ -153,16 +155,16 @@ module _ (k : Known) (i : Kept) (r : Space) (names : List (List ℕ)) (sections 
         back : list_any (gives (items_in i) (enabled_in k) which no_range m a t) (items_in i) ≡ true → m a t ≡ true
         back h =
             let (x, cx, gx) = any_true (gives (items_in i) (enabled_in k) which no_range m a t) (items_in i) h in
-            elim (made.are_given.all x cx) [
-              | inl none ↦ absurd (true≢false (sym gx ∙ none m a t))
+            elim (gifts.all x cx) [
+              | inl none ↦ absurd (true≢false (sym gx ∙ gives_none k (items_in i) which x none m a t))
               | inr q ↦ by q.0 q.1 x q.2 gx
             ]
           where
-            by : (g : Given) → Contains made.givens g → (x : Item) → IsGift k (items_in i) which x (word_at i g.at) g → gives (items_in i) (enabled_in k) which no_range m a t x ≡ true → m a t ≡ true
+            by : (g : Given) → Contains givens g → (x : Item) → IsGift k (items_in i) which x (word_at i g.at) g → gives (items_in i) (enabled_in k) which no_range m a t x ≡ true → m a t ≡ true
             by g c x gift gx =
                 let parts = both (is_same_symbol (symbol_of k.lookup.namespaces.now gift.set.entry) a) (in_value (items_in i) (enabled_in k) which no_range m (replaced (λ at. at) (word_at i g.at) (said g)) t) (sym (gives_is g x gift a) ∙ gx) in
                 let symbol = same_is (symbol_of k.lookup.namespaces.now gift.set.entry) a parts.0 in
                 ap (λ u. m u t) (sym symbol)
                 ∙ sym (of_set g.set gift.set.entry gift.set.at gift.set.live gift.set.of_kind)
                 ∙ made_is g.set gift.set.entry gift.set.at gift.set.live gift.set.of_kind
-                ∙ any_from (is_made_by (meaning_there k i) held made.all g.set n) made.givens g c (pair _ _ (number_itself g.set) (value g x gift ∙ parts.1))
+                ∙ any_from (is_made_by (meaning_there k i) held made.all g.set n) givens g c (pair _ _ (number_itself g.set) (value g x gift ∙ parts.1))

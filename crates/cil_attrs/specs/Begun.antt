@@ -8,17 +8,17 @@ use Rattle.cil_names.specs.Entries.{is_declared_in}
 use Rattle.cil_attrs.specs.declared.evaluator.Held.{Held}
 use Rattle.cil_attrs.specs.declared.evaluator.Held.TheVariants.{Nothing, Item, Set}
 use Rattle.cil_attrs.specs.declared.giver.SetKind.{SetKind}
-use Rattle.cil_attrs.specs.declared.giver.Space.{Space}
+use Rattle.cil_attrs.specs.declared.giver.SpaceKinds.{SpaceKinds}
 use Rattle.cil_attrs.specs.Holding.{is_kind}
 
 abbrev pub has_kind : Option SetKind → Kind → Bool
 has_kind sets kind = option_map_or (λ (j : SetKind). is_kind kind j.kind) sets false
 
 -- the kind is that of aliases or of attributes
-abbrev pub is_sets_kind : Space → Kind → Bool
+abbrev pub is_sets_kind : SpaceKinds → Kind → Bool
 is_sets_kind r kind = has_kind r.aliases kind || has_kind r.attributes kind
 
 -- a declared item holds its number, a set nothing yet, and any other name nothing ever
-abbrev pub begun_as : Space → OptSet → List ℕ → ℕ → Entry → Held
+abbrev pub begun_as : SpaceKinds → OptSet → List ℕ → ℕ → Entry → Held
 begun_as r s numbers d e =
     if is_kind e.kind r.item && is_declared_in s e then Item (get_or numbers d 0) else (if is_sets_kind r e.kind then Set [] else Nothing)

@@ -1,21 +1,21 @@
 -- What one statement gives a set. No other crate needs these words.
-use Rattle.std.specs.Prelude.{◌≡◌, ◌⊎◌, ◌↔◌, Contains, ℕ, Bool, true, false, ◌&&◌, List, Option, Some, None, slice_get}
+use Rattle.std.specs.Prelude.{◌≡◌, ◌⊎◌, ◌↔◌, ◌<◌, Contains, ℕ, Bool, true, false, ◌&&◌, List, Option, Some, None, length, slice_get}
 use Rattle.cil_syntax.specs.declared.kind.Keyword.{Keyword}
 use Rattle.cil_syntax.specs.declared.term.Word.{Word}
 use Rattle.cil_syntax.specs.Forms.{word_and_term}
 use Rattle.cil_syntax.specs.Scopes.{ScopedWord}
+use Rattle.cil_syntax.specs.Terms.{Term}
 use Rattle.cil_macros.specs.Item.{Item, is_enabled, replaced}
-use Rattle.cil_macros.specs.Items.{Kept, says_as_written, word_at}
+use Rattle.cil_macros.specs.Items.{Kept, item_at, items_in, says_as_written, word_at}
 use Rattle.cil_names.specs.declared.entry.Entry.{Entry}
 use Rattle.cil_names.specs.declared.known.Known.{Known}
 use Rattle.cil_names.specs.Declarations.{Symbol}
 use Rattle.cil_names.specs.Entries.{is_declared_in}
-use Rattle.cil_names.specs.Family.{Family, gives, no_range}
 use Rattle.cil_names.specs.Known.{enabled_in, meant_by}
 use Rattle.cil_names.specs.Numbers.{symbol_of}
 use Rattle.cil_names.specs.Spaces.{Sets, SpaceOf, any_sets, is_same_symbol, names}
 use Rattle.cil_attrs.specs.declared.giver.SetKind.{SetKind}
-use Rattle.cil_attrs.specs.declared.giver.Space.{Space}
+use Rattle.cil_attrs.specs.declared.giver.SpaceKinds.{SpaceKinds}
 use Rattle.cil_attrs.specs.declared.making.Given.{Given}
 use Rattle.cil_attrs.specs.Holding.{is_kind}
 use Rattle.cil_attrs.specs.Made.{said}
@@ -34,7 +34,7 @@ AreSets (Some r) None = ⊥
 AreSets (Some r) (Some j) = IsSets r j
 
 -- the name space is this one
-pub record IsSpaceOf (r : Space) (which : SpaceOf) : Type 0 where
+pub record HasKinds (r : SpaceKinds) (which : SpaceOf) : Type 0 where
   pub item : which.item ≡ r.item
   pub aliases : AreSets r.aliases which.aliases
   pub attributes : AreSets r.attributes which.attributes
@@ -44,7 +44,7 @@ abbrev pub is_written : Option SetKind → Type 0
 is_written None = Unit {0}
 is_written (Some r) = says_as_written r.giving ≡ true
 
-abbrev pub AreWritten : Space → Type 0
+abbrev pub AreWritten : SpaceKinds → Type 0
 AreWritten r = is_written r.aliases × is_written r.attributes
 
 -- ---- a statement
@@ -64,9 +64,9 @@ module _ (k : Known) (xs : List Item) (which : SpaceOf) where
     pub of_kind : any_sets which (λ j. is_kind entry.kind j.kind) ≡ true
     pub names_it : (a : Symbol) → is_giving_as keyword w a ≡ is_same_symbol (symbol_of k.lookup.namespaces.now entry) a
 
-  -- the statement gives no set anything
+  -- the statement gives no set anything: it is not enabled, or it names no set of those to which it could give something
   abbrev pub GivesNothing : Item → Type 0
-  GivesNothing x = (m : Family) (a t : Symbol) → gives xs (enabled_in k) which no_range m a t x ≡ false
+  GivesNothing x = (a : Symbol) (w : ScopedWord) (e : Term ScopedWord) → is_enabled (enabled_in k) x ≡ true → word_and_term x.args ≡ Some (w, e) → is_giving_as x.keyword w a ≡ false
 
   -- the statement gives a set the value of an expression
   pub record IsGift (x : Item) (f : Word → ScopedWord) (g : Given) : Type 0 where
@@ -78,7 +78,9 @@ module _ (k : Known) (xs : List Item) (which : SpaceOf) where
 
   -- ---- all statements
 
-  -- what some statements give: each of these is what one of them gives, and each statement gives nothing, or one of these
+  -- what some statements give: each of these is what one of them gives, the one at its place, and each statement gives nothing, or one
+  -- of these
   pub record AreGifts (i : Kept) (done : List Item) (givens : List Given) : Type 0 where
+    pub there : (g : Given) → Contains givens g → (g.at < length (items_in i)) × IsGift (item_at i g.at) (word_at i g.at) g
     pub each : (g : Given) → Contains givens g → (x : Item) × Contains done x × IsGift x (word_at i g.at) g
-    pub all : (x : Item) → Contains done x → GivesNothing x ⊎ ((g : Given) × Contains givens g × IsGift x (word_at i g.at) g)
+    pub all : (x : Item) → Contains done x → GivesNothing x ⊎ ((g : Given) × Contains givens g × IsGift x (word_at i g.at) g × (x ≡ item_at i g.at))

@@ -1,28 +1,26 @@
--- Laws of the members of sets.
-use Rattle.std.specs.Prelude.{◌≡◌, ℕ, true, false, List}
+-- Laws of the name spaces.
+use Rattle.std.specs.Prelude.{◌≡◌, ◌⊎◌, ◌↔◌, Some, true}
 use Rattle.cil_syntax.specs.declared.kind.Kind.{Kind}
-use Rattle.cil_macros.specs.Items.{Kept, items_in}
-use Rattle.cil_names.specs.declared.known.Known.{Known}
-use Rattle.cil_names.specs.Declarations.{Symbol}
-use Rattle.cil_names.specs.Family.{DependsOn, Family, is_given, no_range}
-use Rattle.cil_names.specs.Known.{enabled_in}
-use Rattle.cil_names.specs.Spaces.{SpaceOf, is_set}
-use Rattle.cil_attrs.specs.declared.evaluator.Held.{Held}
-use Rattle.cil_attrs.specs.declared.giver.Space.{Space}
-use Rattle.cil_attrs.specs.Begun.{is_sets_kind}
-use Rattle.cil_attrs.specs.Holding.{HoldsAs, IsItem}
-use Rattle.cil_attrs.specs.Members.{AreCircular, AreMade, ArePlain, IsIn}
+use Rattle.cil_syntax.specs.declared.kind.Sign.{Sign}
+use Rattle.cil_syntax.specs.Kinds.{is_wanted}
+use Rattle.cil_syntax.specs.NameSpaces.{name_space}
+use Rattle.cil_syntax.specs.Shapes.{close, item, looked_up}
+use Rattle.cil_syntax.specs.Table.{entry_of}
+use Rattle.cil_attrs.specs.declared.giver.SetKind.{SetKind}
+use Rattle.cil_attrs.specs.declared.space.Space.{Space}
+use Rattle.cil_attrs.specs.NameSpaces.{kinds_in}
 
--- a law: a family for which the made sets stand has just the members that its statements give them: it solves the equations at each
--- item
-abbrev pub MadeSetsSolve : Type 0
-MadeSetsSolve =
-    (k : Known) (i : Kept) (r : Space) (names : List (List ℕ)) (sections : Kind → List (List ℕ)) (which : SpaceOf) → IsIn k i r names sections which → is_sets_kind r r.item ≡ false
-    → (held : List Held) → AreMade k i r which names held → (m : Family) → ((d : ℕ) → HoldsAs k (items_in i) sections which held m d)
-    → (a t : Symbol) (n : ℕ) → is_set (items_in i) (enabled_in k) which a ≡ true → IsItem k (items_in i) sections which t n → m a t ≡ is_given (items_in i) (enabled_in k) which no_range m a t
+-- the kind is that of the sets
+abbrev pub IsOfKind : Space → Kind → Type 0
+IsOfKind r kind =
+    (kind ≡ (kinds_in r).item) ⊎ (((a : SetKind) × ((kinds_in r).aliases ≡ Some a) × (kind ≡ a.kind)) ⊎ ((a : SetKind) × ((kinds_in r).attributes ≡ Some a) × (kind ≡ a.kind)))
 
--- a law: where some set depends on itself by numbers, some set does by the definition
-abbrev pub CircularDepends : Type 0
-CircularDepends =
-    (k : Known) (i : Kept) (r : Space) (names : List (List ℕ)) (sections : Kind → List (List ℕ)) (which : SpaceOf) → IsIn k i r names sections which → is_sets_kind r r.item ≡ false → ArePlain k i which
-    → AreCircular k i r which → (a : Symbol) × DependsOn (items_in i) (enabled_in k) which no_range a a
+-- a law: each symbol of a name space is an item, an alias or an attribute
+abbrev pub SpacesAreWhole : Type 0
+SpacesAreWhole = (r : Space) (kind : Kind) → (name_space kind ≡ name_space (kinds_in r).item) ↔ IsOfKind r kind
+
+-- a law: a word that an alias statement takes as its target may name a symbol of the same name space alone
+abbrev pub AliasesStay : Type 0
+AliasesStay =
+    (r : Space) (a : SetKind) → (kinds_in r).aliases ≡ Some a → (first target : Sign) → (entry_of a.giving).row ≡ item (looked_up first) (item (looked_up target) close) → (kind : Kind)
+    → is_wanted target kind ≡ true → name_space kind ≡ name_space (kinds_in r).item

@@ -1,8 +1,13 @@
 pub mod Begun
 pub mod Evaluated
+pub mod Found
 pub mod Givers
 pub mod Holding
 pub mod Laws
 pub mod Made
 pub mod Members
+pub mod NameSpaces
 pub mod Order
+pub mod Plain
+pub mod SetFaults
+pub mod Targets

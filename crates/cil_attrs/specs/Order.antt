@@ -1,5 +1,5 @@
 -- Which sets depend on themselves, by the words of the expressions that they are given. No other crate needs these words.
-use Rattle.std.specs.Prelude.{◌≡◌, ℕ, Bool, true, false, if◌then◌else◌, List, [], ◌∷◌, Contains, Option, Some, None, slice_get}
+use Rattle.std.specs.Prelude.{◌≡◌, ℕ, ◌<◌, Bool, true, false, get_or, if◌then◌else◌, List, [], ◌∷◌, Contains, Option, Some, None, slice_get}
 use Rattle.std.specs.List.{flat_map}
 use Rattle.std.specs.Option.{option_map_or}
 use Rattle.cil_settle.specs.declared.edge.Edge.{Edge}
@@ -31,9 +31,13 @@ pub data Depends (helds : List Held) (xs : List Given) : ℕ → ℕ → Type 0 
   at_once : (a b : ℕ) → Names helds xs a b → Depends helds xs a b
   further : (a b c : ℕ) → Names helds xs a b → Depends helds xs b c → Depends helds xs a c
 
--- some set depends on itself
-abbrev pub IsCircular : List Held → List Given → Type 0
-IsCircular helds xs = (d : ℕ) × Depends helds xs d d
+-- no set depends on itself
+abbrev pub IsAcyclic : List Held → List Given → Type 0
+IsAcyclic helds xs = (d : ℕ) → Depends helds xs d d → ⊥
+
+-- ranks fall from a set to those that its expressions name
+abbrev pub FallFor : List Held → List Given → List ℕ → Type 0
+FallFor helds xs ranks = (a b : ℕ) → Names helds xs a b → get_or ranks b 0 < get_or ranks a 0
 
 -- ---- the same as edges
 

@@ -13,7 +13,7 @@ ghost use Rattle.cil_attrs.specs.Begun.{begun_as, has_kind, is_sets_kind};
 ghost use Rattle.cil_attrs.specs.Holding.{AreAll};
 
 use crate::evaluator::Held;
-use crate::giver::{SetKind, Space, is_same_kind};
+use crate::giver::{SetKind, SpaceKinds, is_same_kind};
 use cil_base::{Bytes, NoMemory};
 use cil_names::Known;
 use cil_sets::Numbers;
@@ -30,7 +30,7 @@ pub fn all_items(alloc: Global, names: &[Bytes]) -> Result<Numbers, NoMemory>
 }
 
 /// What each declared name holds at first. Error: out of memory.
-pub fn begun(alloc: Global, known: &Known, space: &Space) -> Result<Vec<Held>, NoMemory>
+pub fn begun(alloc: Global, known: &Known, space: &SpaceKinds) -> Result<Vec<Held>, NoMemory>
     ensures len { IfOk result (λ held. length held.items ≡ length known.now.lookup.names.now) }
     ensures each { IfOk result (λ held. (d : ℕ) (e : Declared) → slice_get known.now.lookup.names.now d ≡ Some e
         → slice_get held.items d ≡ Some (begun_as space.now (enabled_in known.now) known.now.numbers.now d e)) }
@@ -42,7 +42,7 @@ pub fn begun(alloc: Global, known: &Known, space: &Space) -> Result<Vec<Held>, N
     Ok(held)
 }
 
-fn begun_at(alloc: Global, known: &Known, space: &Space, d: usize) -> Held
+fn begun_at(alloc: Global, known: &Known, space: &SpaceKinds, d: usize) -> Held
     ensures { (e : Declared) → slice_get known.now.lookup.names.now d ≡ Some e → result ≡ begun_as space.now (enabled_in known.now) known.now.numbers.now d e }
 {
     let Some(entry) = known.lookup.names.entries().get(d) else {
@@ -58,7 +58,7 @@ fn begun_at(alloc: Global, known: &Known, space: &Space, d: usize) -> Held
 }
 
 /// Whether this is a kind of sets of the name space.
-fn is_sets_kind(space: &Space, kind: Kind) -> bool
+fn is_sets_kind(space: &SpaceKinds, kind: Kind) -> bool
     ensures { result ≡ is_sets_kind space.now kind }
 {
     has_kind(space.aliases, kind) || has_kind(space.attributes, kind)

@@ -14,7 +14,7 @@ ghost use Rattle.cil_names.specs.Known.{IsKnown, meant_in, row_in};
 ghost use Rattle.std.specs.Option.{option_map_or};
 ghost use Rattle.cil_names.specs.Rows.{IsTableOf};
 ghost use Rattle.cil_names.specs.Spaces.{Sets, SpaceOf, any_sets};
-ghost use Rattle.cil_attrs.specs.Givers.{AreGifts, AreSets, AreWritten, GivesNothing, IsGift, IsNamedSet, IsSets, IsSpaceOf, NamesNoSet};
+ghost use Rattle.cil_attrs.specs.Givers.{AreGifts, AreSets, AreWritten, GivesNothing, IsGift, IsNamedSet, IsSets, HasKinds, NamesNoSet};
 ghost use Rattle.cil_attrs.specs.Holding.{is_kind};
 
 use crate::making::Given;
@@ -33,7 +33,7 @@ pub struct SetKind {
 
 /// A name space: the kind of its items, and its aliases and attributes.
 #[derive(Clone, Copy)]
-pub struct Space {
+pub struct SpaceKinds {
     pub item: Kind,
     pub aliases: Option<SetKind>,
     pub attributes: Option<SetKind>,
@@ -45,11 +45,11 @@ pub fn givens_of<'s, 'a>(
     alloc: Global,
     instances: &Instances<'_, 's, 'a>,
     known: &Known<'s, 'a>,
-    space: &Space,
+    space: &SpaceKinds,
 ) -> Result<Vec<Given<'s, 'a>>, NoMemory>
     requires table { IsTableOf (map (row_in known.now) (items_in instances.now)) known.now.words.now }
     requires written { AreWritten space.now }
-    ensures { IfOk result (λ givens. (names : kinds.Kind → List (List ℕ)) (which : SpaceOf) → IsKnown known.now (items_in instances.now) names → IsSpaceOf space.now which
+    ensures { IfOk result (λ givens. (names : kinds.Kind → List (List ℕ)) (which : SpaceOf) → IsKnown known.now (items_in instances.now) names → HasKinds space.now which
         → AreGifts known.now (items_in instances.now) which instances.now (items_in instances.now) givens.items) }
 {
     let mut givens = Vec::new(alloc);
@@ -67,12 +67,12 @@ pub fn given_at<'s, 'a>(
     at: usize,
     words: &'s [Meaning],
     known: &Known,
-    space: &Space,
+    space: &SpaceKinds,
 ) -> Option<Given<'s, 'a>>
     requires within { at < length (items_in instances.now) }
     requires written { AreWritten space.now }
     ensures at { IfSome result (λ g. g.at ≡ at) }
-    ensures gift { (xs : List Item) (names : kinds.Kind → List (List ℕ)) (which : SpaceOf) → IsKnown known.now xs names → IsSpaceOf space.now which → words.now ≡ row_in known.now (item_at instances.now at)
+    ensures gift { (xs : List Item) (names : kinds.Kind → List (List ℕ)) (which : SpaceOf) → IsKnown known.now xs names → HasKinds space.now which → words.now ≡ row_in known.now (item_at instances.now at)
         → MatchOption result (GivesNothing known.now xs which (item_at instances.now at)) (IsGift known.now xs which (item_at instances.now at) (word_at instances.now at)) }
 {
     let statement = instances.statement_there(at);
@@ -120,11 +120,11 @@ fn only<'t, 'a>(terms: &'t [Term<'a>]) -> Option<&'t Term<'a>>
 /// The set that a word of this meaning names, if statements of this keyword give such sets their members.
 fn set_named(
     known: &Known,
-    space: &Space,
+    space: &SpaceKinds,
     keyword: Keyword,
     meaning: Option<usize>,
 ) -> Option<usize>
-    ensures { (xs : List Item) (names : kinds.Kind → List (List ℕ)) (which : SpaceOf) (w : ScopedWord) → IsKnown known.now xs names → IsSpaceOf space.now which → meaning ≡ meant_in known.now w
+    ensures { (xs : List Item) (names : kinds.Kind → List (List ℕ)) (which : SpaceOf) (w : ScopedWord) → IsKnown known.now xs names → HasKinds space.now which → meaning ≡ meant_in known.now w
         → MatchOption result (NamesNoSet known.now xs which keyword w) (IsNamedSet known.now xs which keyword w) }
 {
     // What is known of a word: it means the entry that it names.
@@ -138,8 +138,8 @@ fn set_named(
 }
 
 /// Whether statements of this keyword give sets of some kind their members.
-fn is_giving(space: &Space, keyword: Keyword) -> bool
-    ensures { (which : SpaceOf) → IsSpaceOf space.now which → result ≡ any_sets which (λ j. j.giving keyword) }
+fn is_giving(space: &SpaceKinds, keyword: Keyword) -> bool
+    ensures { (which : SpaceOf) → HasKinds space.now which → result ≡ any_sets which (λ j. j.giving keyword) }
 {
     let of_aliases = gives_any(space.aliases, keyword);
     let of_attributes = gives_any(space.attributes, keyword);
@@ -156,8 +156,8 @@ fn gives_any(sets: Option<SetKind>, keyword: Keyword) -> bool
 }
 
 /// Whether statements of this keyword give sets of this kind their members.
-fn gives(space: &Space, keyword: Keyword, kind: Kind) -> bool
-    ensures { (which : SpaceOf) → IsSpaceOf space.now which → result ≡ any_sets which (λ j. j.giving keyword && is_kind kind j.kind) }
+fn gives(space: &SpaceKinds, keyword: Keyword, kind: Kind) -> bool
+    ensures { (which : SpaceOf) → HasKinds space.now which → result ≡ any_sets which (λ j. j.giving keyword && is_kind kind j.kind) }
 {
     let of_aliases = gives_kind(space.aliases, keyword, kind);
     let of_attributes = gives_kind(space.attributes, keyword, kind);

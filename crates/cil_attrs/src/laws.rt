@@ -1,20 +1,13 @@
-//! Laws of the definitions. The functions do nothing when they are called; the contract of each is a law, and a proof that needs
-//! the law calls the function.
+//! Laws of the name spaces. The functions do nothing when they are called; the contract of each is a law.
 
-ghost use Rattle.cil_attrs.specs.Laws.{CircularDepends, MadeSetsSolve};
+ghost use Rattle.cil_attrs.specs.Laws.{AliasesStay, SpacesAreWhole};
 
-use cil_names::laws::means_what_it_names;
+/// Each symbol of a name space is an item, an alias or an attribute.
+pub fn spaces_are_whole()
+    ensures { SpacesAreWhole }
+{}
 
-/// A family of sets for which the made sets stand has just the members that statements give.
-pub fn made_sets_solve()
-    ensures { MadeSetsSolve }
-{
-    means_what_it_names();
-}
-
-/// A set that depends on itself by the numbers of entries does so by the definition.
-pub fn circular_depends()
-    ensures { CircularDepends }
-{
-    means_what_it_names();
-}
+/// The target of an alias is of the name space of the alias.
+pub fn aliases_stay()
+    ensures { AliasesStay }
+{}

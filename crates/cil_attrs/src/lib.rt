@@ -1,28 +1,34 @@
 //! The members of aliases and attributes: of types, of roles or of users, as sets of numbers.
 //!
-//! Start at `members.rt`: `members_of` makes each set of a name space once, from all statements that give it something, and
-//! `Members::has` asks a set. `specs/Family.antt` of cil_names says which members an alias or an attribute has;
-//! `specs/Holding.antt` says how what a declared name holds stands for that, and `specs/Members.antt` what is made. The parts:
-//! `evaluator.rt` has the value of a set expression, `giver.rt` what one statement gives a set, `beginning.rt` what names hold at
-//! first, `order.rt` an order in which each set is made before it is named, `making.rt` the sets in that order. `laws.rt` says
-//! that what is made solves the equations of the definition.
+//! Start at `checked.rt`: `members` makes each set of a name space once, from all statements that give it something, or answers
+//! exactly what is wrong; `Members::has` (`held.rt`) asks a set. `specs/Family.antt` of cil_names says which members an alias or an
+//! attribute has, `specs/Members.antt` what is answered, and `specs/SetFaults.antt` what is wrong. The parts: `space.rt` has the three
+//! name spaces, `faults.rt` their faults, `targets.rt` what statements say of aliases, `declared.rt` faults at declared names,
+//! `evaluator.rt` the value of a set expression, `giver.rt` what one statement gives a set, `plain.rt` which expressions have a value,
+//! `beginning.rt` what names hold at first, `order.rt` which sets depend on themselves, `making.rt` the sets in an order in which each
+//! is made before it is named. `laws.rt` says that each symbol of a name space is an item, an alias or an attribute.
 //!
-//! Not done here yet: faults 51 to 54 and 60, and ranges of categories. No statement that gives a set its members is read yet, so
-//! the host does not use this crate.
+//! Not done here: ranges of categories. No statement that gives a set its members is read yet, so the host does not use this crate.
 #![tactic(auto)]
 
 mod beginning;
+mod checked;
+mod declared;
 mod evaluator;
+mod faults;
 mod giver;
+mod held;
 pub mod laws;
 mod making;
-mod members;
 mod order;
+mod plain;
+mod space;
+mod targets;
 mod way;
 
-pub use beginning::{all_items, begun};
+pub use checked::members;
 pub use evaluator::{Evaluator, Held};
-pub use giver::{SetKind, Space, given_at, givens_of};
-pub use making::{Given, made};
-pub use members::{Members, members_of};
-pub use order::in_order;
+pub use faults::check_sets;
+pub use giver::{SetKind, SpaceKinds};
+pub use held::Members;
+pub use space::{Limit, Space};

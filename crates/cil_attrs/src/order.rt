@@ -1,33 +1,27 @@
-//! An order in which each set is made before it is named.
+//! Which sets depend on themselves, and an order in which each set is made before it is named.
 
-ghost use Rattle.std.specs.Prelude.{◌≡◌, ◌<◌, ◌++◌, All, IfOk, IsPermutation, IsTrue, MatchOption, OnOk, get_or, length, ℕ};
-ghost use Rattle.std.specs.List.{flat_map, list_any};
+ghost use Rattle.std.specs.Prelude.{◌≡◌, ◌↔◌, ◌++◌, IfOk, IsPermutation, OnOk, false, get_or, true, ℕ};
 ghost use Rattle.std.specs.List.Sorted.{IsNonDecreasingBy};
-ghost use Rattle.cil_attrs.specs.Made.{AreInOrder, AreSetsAt};
-ghost use Rattle.cil_attrs.specs.Order.{IsCircular, edge_to, edges_by, edges_in, is_set, is_set_at};
+ghost use Rattle.cil_attrs.specs.Made.{AreSetsAt};
+ghost use Rattle.cil_attrs.specs.Order.{Depends, FallFor, IsAcyclic, edge_to, edges_by, edges_in, is_set, is_set_at};
 
 use crate::evaluator::Held;
 use crate::making::Given;
 use cil_base::NoMemory;
-use cil_settle::{Edge, cycles_of};
+use cil_settle::{Cycles, Edge, cycles_of};
 use std::alloc::Global;
 
-/// What statements give sets, in an order in which each set is made before an expression names it; none where a set depends on
-/// itself. It costs a step for each word, a sort, and a walk over the names of sets in expressions. Error: out of memory.
-pub fn in_order<'s, 'a>(
-    alloc: Global,
-    held: &[Held],
-    givens: Vec<Given<'s, 'a>>,
-) -> Result<Option<Vec<Given<'s, 'a>>>, NoMemory>
-    requires { AreSetsAt held.now givens.items }
-    ensures { IfOk result (λ r. MatchOption r (IsCircular held.now givens.entry.items) (λ ordered. IsPermutation givens.entry.items ordered.items × AreInOrder ordered.items)) }
+/// Which sets depend on themselves, by the numbers of their entries, and ranks in whose order each set can be made before an
+/// expression names it if none does. It costs a step for each word, a sort, and a walk over the names of sets in expressions. Error:
+/// out of memory.
+pub fn cycles_of_sets(alloc: Global, held: &[Held], givens: &[Given]) -> Result<Cycles, NoMemory>
+    requires { AreSetsAt held.now givens.now }
+    ensures on { IfOk result (λ c. (d : ℕ) → (get_or c.on.items d false ≡ true) ↔ Depends held.now givens.now d d) }
+    ensures ranks { IfOk result (λ c. IsAcyclic held.now givens.now → FallFor held.now givens.now c.ranks.items) }
 {
-    let edges = edges_of(alloc, held, givens.as_slice())?;
+    let edges = edges_of(alloc, held, givens)?;
     let cycles = cycles_of(alloc, held.len(), edges.as_slice())?;
-    if is_any(cycles.on.as_slice()) {
-        return Ok(None);
-    }
-    Ok(Some(ranked(givens, cycles.ranks.as_slice())))
+    Ok(cycles)
 }
 
 /// The edges from sets to those that their expressions name, sorted by the sets that they leave.
@@ -107,20 +101,8 @@ fn is_set(held: &Held) -> bool
     }
 }
 
-/// Whether a flag is set.
-fn is_any(flags: &[bool]) -> bool
-    ensures { result ≡ list_any (λ b. b) flags.now }
-{
-    for flag in flags {
-        if *flag {
-            return true;
-        }
-    }
-    false
-}
-
 /// What statements give, sorted by the ranks of the sets.
-fn ranked<'s, 'a>(mut givens: Vec<Given<'s, 'a>>, ranks: &[usize]) -> Vec<Given<'s, 'a>>
+pub fn ranked<'s, 'a>(mut givens: Vec<Given<'s, 'a>>, ranks: &[usize]) -> Vec<Given<'s, 'a>>
     ensures sorted { IsNonDecreasingBy (λ x. get_or ranks.now x.set 0) result.items }
     ensures same { IsPermutation givens.entry.items result.items }
 {

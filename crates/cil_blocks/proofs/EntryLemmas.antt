@@ -96,6 +96,7 @@ module _ (ws : List Written) where
   opens_so_as s keywords.Block = block_so s (is_abstract ws s.statement)
   opens_so_as s keywords.BlockInherit = target_so s (target_of ws s.statement) refl
   opens_so_as s keywords.Optional = refl
+  opens_so_as s keywords.BooleanIf = refl
   opens_so_as s k = refl
 
   opens_so : (s : Standing) → opens ws s ≡ opened_parts s s.statement.statement.keyword (opened_of ws s.statement)
@@ -126,7 +127,7 @@ module _ (ws : List Written) where
   through_statement s None w = refl
   through_statement s (Some b) w = refl
 
-  as_statement : (s : Standing) (k : Keyword) (w : Written) → (standing_as ws s k w).statement ≡ w
+  pub as_statement : (s : Standing) (k : Keyword) (w : Written) → (standing_as ws s k w).statement ≡ w
   as_statement s keywords.BlockInherit w = through_statement s (target_of ws s.statement) w
   as_statement s k w = refl
 

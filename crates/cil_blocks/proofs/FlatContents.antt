@@ -9,12 +9,13 @@ use Rattle.cil_faults.specs.declared.fault.Fault.{Fault}
 use Rattle.cil_faults.specs.Fails.{AreFaults}
 use Rattle.cil_faults.specs.Laws.{Outcome, succeeds, fails}
 use Rattle.cil_syntax.specs.Written.{Written, written_cmp}
-use Rattle.cil_blocks.specs.Contents.{Standing, Stands, in_block, in_optional, inherited, is_block, is_inheriting, is_optional, spot_cmp, standing_cmp, standing_top, top, spot_total}
+use Rattle.cil_blocks.specs.Contents.{Standing, Stands, in_block, in_branch, in_optional, inherited, is_block, is_inheriting, is_optional, spot_cmp, standing_cmp, standing_top, top, spot_total}
 use Rattle.cil_blocks.specs.InheritFaults.{InheritFault, InheritStep, IsOver, cycle, limit_fault, most_instances, standing_twice, too_many, unresolved, written_twice}
 use Rattle.cil_blocks.specs.Laws.{HaveFlatContents, IsFlat}
 use Rattle.cil_blocks.proofs.InheritLemmas.{limit_alone, no_step, standing_total}
 use Rattle.cil_base.specs.MadeLists.{contains_map, from_map}
 use Rattle.cil_base.specs.Paths.{alone}
+use Rattle.cil_base.specs.Places.{none_some}
 use Rattle.cil_base.specs.Rising.{not_over}
 use Rattle.cil_blocks.proofs.StandingWalk.{rising_map}
 
@@ -31,6 +32,7 @@ module _ (ws : List Written) (rising : IsStrictlySortedBy written_cmp ws) (flat 
   on_top s (in_optional p w sp o c u) =
       let t = on_top p sp in
       absurd (never (sym (subst (λ (q : Standing). is_optional q.statement.statement.keyword ≡ true) (sym t.2) o) ∙ (flat t.0 t.1).no_optional))
+  on_top s (in_branch p w sp o c u) = absurd (none_some p.statement.statement.at (sym (flat w c).on_top ∙ u))
   on_top s (inherited p b w sp i t c u) =
       let v = on_top p sp in
       absurd (never (sym (subst (λ (q : Standing). is_inheriting q.statement.statement.keyword ≡ true) (sym v.2) i) ∙ (flat v.0 v.1).no_inheritance))

@@ -11,12 +11,13 @@ use Rattle.cil_syntax.specs.Program.{IsNested, context_in, program_of}
 use Rattle.cil_faults.specs.Namespaces.{Namespace}
 use Rattle.cil_syntax.specs.Table.{entry_of}
 use Rattle.cil_syntax.specs.Written.{Context, Written, allows, may_stand, nesting_within}
-use Rattle.cil_blocks.specs.Contents.{is_block, is_inheriting, is_optional, is_abstract, IsIn, Target, Standing, standing_top, standing_in_block, standing_inherited, Stands, top, in_block, in_optional, inherited, name_of}
+use Rattle.cil_blocks.specs.Contents.{is_block, is_inheriting, is_abstract, keeps_place, IsIn, Target, Standing, standing_top, standing_in_block, standing_inherited, Stands, top, in_block, in_branch, in_optional, inherited, name_of}
 use Rattle.cil_blocks.specs.InheritFaults.{IsOf, Gives, texts, own, handed}
 use Rattle.cil_blocks.specs.Laws.{AreGiven, IsGiven, StandsSomehow, stands_in_blocks}
+use Rattle.cil_blocks.proofs.Keeping.{conditional_keeps, optional_keeps}
 use Rattle.cil_blocks.proofs.ProgramLemmas.{in_number, kept_at, stands_under}
 
--- ---- no block, macro or blockinherit is in an optional
+-- ---- no block, macro or blockinherit is in an optional or in a branch
 
 both_left : (a b : Bool) → (a && b) ≡ true → a ≡ true
 both_left true b e = refl
@@ -29,10 +30,11 @@ allowed_there keywords.Macro c e may = both_left (allows c.nesting nestings.InBl
 allowed_there keywords.BlockInherit c e may = both_left (allows c.nesting nestings.InBlock) true may
 allowed_there k c e may = absurd (let f : false ≡ true = e in cc)
 
-inside_optional : (k : Keyword) (here : Nesting) → is_optional k ≡ true → nesting_within (entry_of k).body here ≡ nestings.InOptional
+inside_kept : (k : Keyword) (here : Nesting) → keeps_place k ≡ true → allows (nesting_within (entry_of k).body here) nestings.InBlock ≡ false
 unfolding entry_of
-inside_optional keywords.Optional here e = refl
-inside_optional k here e = absurd (let f : false ≡ true = e in cc)
+inside_kept keywords.Optional here e = refl
+inside_kept keywords.BooleanIf here e = refl
+inside_kept k here e = absurd (let f : false ≡ true = e in cc)
 
 block_stands : (k : Keyword) → is_block k ≡ true → stands_in_blocks k ≡ true
 block_stands keywords.Block e = refl
@@ -51,12 +53,12 @@ module _ (ss : List Statement) (nested : IsNested ss) where
       let q = stands_under ss nested at.0 k.0 s.0 w s.1 at.2 k.1 in
       q.2 ∙ ap (λ x. context_in (Some x)) (some_same q.0 p (sym q.1 ∙ k.3))
 
-  not_in_optional : (w p : Written) → Contains (program_of ss) w → Contains (program_of ss) p → IsIn w p → is_optional p.statement.keyword ≡ true
+  not_inside : (w p : Written) → Contains (program_of ss) w → Contains (program_of ss) p → IsIn w p → keeps_place p.statement.keyword ≡ true
       → stands_in_blocks w.statement.keyword ≡ true → ⊥
-  not_in_optional w p c d i o e =
-      let inside : w.context.nesting ≡ nestings.InOptional =
-      ap (λ (x : Context). x.nesting) (context_of w p c d i) ∙ inside_optional p.statement.keyword p.context.nesting o in
-      let f : false ≡ true = ap (λ n. allows n nestings.InBlock) (sym inside) ∙ allowed_there w.statement.keyword w.context e (nested.allowed w c) in
+  not_inside w p c d i o e =
+      let inside : allows w.context.nesting nestings.InBlock ≡ false =
+      ap (λ (x : Context). allows x.nesting nestings.InBlock) (context_of w p c d i) ∙ inside_kept p.statement.keyword p.context.nesting o in
+      let f : false ≡ true = sym inside ∙ allowed_there w.statement.keyword w.context e (nested.allowed w c) in
       cc
 
 -- ---- bodies
@@ -66,16 +68,20 @@ module _ (ws : List Written) where
   standing_written s (top w c u) = c
   standing_written s (in_block p w sp b a c u) = c
   standing_written s (in_optional p w sp o c u) = c
+  standing_written s (in_branch p w sp o c u) = c
   standing_written s (inherited p b w sp i t c u) = c
 
   -- what stands in a namespace, and may stand in blocks alone, is given by a body
-  module _ (none : (w p : Written) → Contains ws w → Contains ws p → IsIn w p → is_optional p.statement.keyword ≡ true → stands_in_blocks w.statement.keyword ≡ true → ⊥) where
+  module _ (none : (w p : Written) → Contains ws w → Contains ws p → IsIn w p → keeps_place p.statement.keyword ≡ true → stands_in_blocks w.statement.keyword ≡ true → ⊥) where
     given_by : (s : Standing) → Stands ws s → stands_in_blocks s.statement.statement.keyword ≡ true → IsGiven ws s.space s.statement
     given_by s (top w c u) k = (None, texts, u)
     given_by s (in_block p w sp b a c u) k =
         let r = given_by p sp (block_stands p.statement.statement.keyword b) in
         (Some p.statement, own p.space r.0 p.statement r.1 (standing_written p sp) b r.2 a, u)
-    given_by s (in_optional p w sp o c u) k = absurd (none w p.statement c (standing_written p sp) u o k)
+    given_by s (in_optional p w sp o c u) k =
+        absurd (none w p.statement c (standing_written p sp) u (optional_keeps p.statement.statement.keyword o) k)
+    given_by s (in_branch p w sp o c u) k =
+        absurd (none w p.statement c (standing_written p sp) u (conditional_keeps p.statement.statement.keyword o) k)
     given_by s (inherited p b w sp i t c u) k =
         let r = given_by p sp (inheriting_stands p.statement.statement.keyword i) in
         (Some b, handed p.space r.0 p.statement b r.1 (standing_written p sp) i r.2 t, u)
@@ -104,6 +110,6 @@ are_given ss n w nested c k =
     let ws = program_of ss in (
       (λ s. subst (λ x. IsGiven ws n x) s.2
           (subst (λ x. IsGiven ws x s.0.statement) s.3
-          (given_by ws (not_in_optional ss nested) s.0 s.1 (subst (λ (x : Written). stands_in_blocks x.statement.keyword ≡ true) (sym s.2) k)))),
+          (given_by ws (not_inside ss nested) s.0 s.1 (subst (λ (x : Written). stands_in_blocks x.statement.keyword ≡ true) (sym s.2) k)))),
       (λ g. stands_given ws n g.0 w g.1 c g.2),
     )

@@ -1,5 +1,6 @@
 pub mod AllTargets
 pub mod Begun
+pub mod BranchExamples
 pub mod ChainNumbers
 pub mod ContentLemmas
 pub mod CycleLemmas
@@ -12,6 +13,7 @@ pub mod FlatContents
 pub mod Given
 pub mod GoneUp
 pub mod InheritLemmas
+pub mod Keeping
 pub mod Kept
 pub mod KnownNumbers
 pub mod LawLemmas

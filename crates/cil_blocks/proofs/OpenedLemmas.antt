@@ -9,7 +9,7 @@ use Rattle.cil_syntax.specs.declared.kind.Keyword.TheVariants as keywords
 use Rattle.cil_syntax.specs.Written.{Written, is_abstraction}
 use Rattle.cil_blocks.specs.declared.parts.Parts.{Parts}
 use Rattle.cil_blocks.specs.declared.targets.Targets.{Targets}
-use Rattle.cil_blocks.specs.Contents.{Target, is_abstract, is_at, is_block, is_inheriting, is_optional}
+use Rattle.cil_blocks.specs.Contents.{Target, is_abstract, is_at, is_block, is_inheriting, keeps_place}
 use Rattle.cil_blocks.specs.Entries.{AreOpened, AreParts, SaysOpened, first_number, nothing, opened_as, opened_block, opened_of, parts_at, statement_at}
 use Rattle.cil_blocks.specs.Laws.{HasOneTarget}
 use Rattle.cil_blocks.specs.Named.{AreAllTargets, AreTargetsOf, targets_in}
@@ -65,14 +65,16 @@ module _ (ws : List Written) where
   inheriting_opened keywords.BlockInherit w e = refl
   inheriting_opened k w e = absurd (let f : false ≡ true = e in cc)
 
-  optional_opened : (k : Keyword) (w : Written) → is_optional k ≡ true → opened_as ws w k ≡ Some w
-  optional_opened keywords.Optional w e = refl
-  optional_opened k w e = absurd (let f : false ≡ true = e in cc)
+  kept_opened : (k : Keyword) (w : Written) → keeps_place k ≡ true → opened_as ws w k ≡ Some w
+  kept_opened keywords.Optional w e = refl
+  kept_opened keywords.BooleanIf w e = refl
+  kept_opened k w e = absurd (let f : false ≡ true = e in cc)
 
-  nothing_opened : (k : Keyword) (w : Written) → is_block k ≡ false → is_inheriting k ≡ false → is_optional k ≡ false → opened_as ws w k ≡ None
+  nothing_opened : (k : Keyword) (w : Written) → is_block k ≡ false → is_inheriting k ≡ false → keeps_place k ≡ false → opened_as ws w k ≡ None
   nothing_opened keywords.Block w e f o = absurd (let g : true ≡ false = e in cc)
   nothing_opened keywords.BlockInherit w e f o = absurd (let g : true ≡ false = f in cc)
   nothing_opened keywords.Optional w e f o = absurd (let g : true ≡ false = o in cc)
+  nothing_opened keywords.BooleanIf w e f o = absurd (let g : true ≡ false = o in cc)
   nothing_opened k w e f o = refl
 
   pub says_block : (n : ℕ) (k : Keyword) (o : Option ℕ) → (statement_at ws n).statement.keyword ≡ k → is_block k ≡ true
@@ -80,14 +82,14 @@ module _ (ws : List Written) where
   says_block n k o e b s =
       subst (SaysOpened ws (Some o)) (block_opened (statement_at ws n).statement.keyword (statement_at ws n) (ap is_block e ∙ b)) s
 
-  pub says_optional : (n : ℕ) (k : Keyword) → (statement_at ws n).statement.keyword ≡ k → is_optional k ≡ true → n < length ws
+  pub says_kept : (n : ℕ) (k : Keyword) → (statement_at ws n).statement.keyword ≡ k → keeps_place k ≡ true → n < length ws
       → SaysOpened ws (Some (Some n)) (opened_of ws (statement_at ws n))
-  says_optional n k e o h = (h, optional_opened (statement_at ws n).statement.keyword (statement_at ws n) (ap is_optional e ∙ o))
+  says_kept n k e o h = (h, kept_opened (statement_at ws n).statement.keyword (statement_at ws n) (ap keeps_place e ∙ o))
 
-  pub says_nothing : (n : ℕ) (k : Keyword) → (statement_at ws n).statement.keyword ≡ k → is_block k ≡ false → is_inheriting k ≡ false → is_optional k ≡ false
+  pub says_nothing : (n : ℕ) (k : Keyword) → (statement_at ws n).statement.keyword ≡ k → is_block k ≡ false → is_inheriting k ≡ false → keeps_place k ≡ false
       → SaysOpened ws (Some None) (opened_of ws (statement_at ws n))
   says_nothing n k e b i o =
-      nothing_opened (statement_at ws n).statement.keyword (statement_at ws n) (ap is_block e ∙ b) (ap is_inheriting e ∙ i) (ap is_optional e ∙ o)
+      nothing_opened (statement_at ws n).statement.keyword (statement_at ws n) (ap is_block e ∙ b) (ap is_inheriting e ∙ i) (ap keeps_place e ∙ o)
 
   -- ---- by the targets
 

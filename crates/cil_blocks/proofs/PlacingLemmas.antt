@@ -17,7 +17,7 @@ use Rattle.cil_syntax.specs.Scopes.{apart, chain, tidy}
 use Rattle.cil_syntax.specs.Written.{Written}
 use Rattle.cil_blocks.specs.declared.entry.Entry.{Entry}
 use Rattle.cil_blocks.specs.declared.namespaces.Space.{Space}
-use Rattle.cil_blocks.specs.Contents.{Standing, is_inheriting, is_optional, name_of, standing_in_optional}
+use Rattle.cil_blocks.specs.Contents.{Standing, is_inheriting, keeps_place, name_of}
 use Rattle.cil_blocks.specs.Entries.{SaysOpened, opened_as, opened_of, opener_of, standing_as, standing_through, standing_under, standings_from, standings_of, statement_at, stepped}
 use Rattle.cil_blocks.specs.Named.{rank}
 use Rattle.cil_blocks.specs.Opens.{target_of}
@@ -174,27 +174,29 @@ module _ (ws : List Written) where
       (s : Standing) (w : Written) → s.statement ≡ statement_at ws number → IsPlace old s.space s.scope outer
       → IsPlace new (standing_under ws (Some s) w).space (standing_under ws (Some s) w).scope place
 
-  as_through : (s : Standing) (k : Keyword) (w : Written) → is_optional k ≡ false → standing_as ws s k w ≡ standing_through s (inherited_as ws s.statement k) w
+  as_through : (s : Standing) (k : Keyword) (w : Written) → keeps_place k ≡ false → standing_as ws s k w ≡ standing_through s (inherited_as ws s.statement k) w
   as_through s keywords.BlockInherit w e = refl
   as_through s keywords.Optional w e = absurd (let f : true ≡ false = e in cc)
+  as_through s keywords.BooleanIf w e = absurd (let f : true ≡ false = e in cc)
   as_through s k w e = refl
 
-  inside_so : (old new : List Space) (outer place : Numbered) (number : ℕ) → is_optional (statement_at ws number).statement.keyword ≡ false
+  inside_so : (old new : List Space) (outer place : Numbered) (number : ℕ) → keeps_place (statement_at ws number).statement.keyword ≡ false
       → IsPlaceThrough old new outer (statement_at ws number) (inherited_of ws (statement_at ws number)) place → IsPlaceInside old new outer number place
   inside_so old new outer place number other f = λ s w same so.
       subst (λ (t : Standing). IsPlace new t.space t.scope place)
-      (sym (as_through s s.statement.statement.keyword w (ap (λ (x : Written). is_optional x.statement.keyword) same ∙ other)
+      (sym (as_through s s.statement.statement.keyword w (ap (λ (x : Written). keeps_place x.statement.keyword) same ∙ other)
       ∙ ap (λ x. standing_through s x w) (ap (inherited_of ws) same))) (f s w same so)
 
-  -- what is in an optional has the place of the optional
-  as_optional : (s : Standing) (k : Keyword) (w : Written) → is_optional k ≡ true → standing_as ws s k w ≡ standing_in_optional s w
-  as_optional s keywords.Optional w e = refl
-  as_optional s k w e = absurd (let f : false ≡ true = e in cc)
+  -- what is in an optional or in a branch has the place of the optional or of the booleanif
+  as_kept : (ss : List Space) (place : Numbered) (s : Standing) (k : Keyword) (w : Written) → keeps_place k ≡ true → IsPlace ss s.space s.scope place
+      → IsPlace ss (standing_as ws s k w).space (standing_as ws s k w).scope place
+  as_kept ss place s keywords.Optional w e so = so
+  as_kept ss place s keywords.BooleanIf w e so = so
+  as_kept ss place s k w e so = absurd (let f : false ≡ true = e in cc)
 
-  optional_so : (ss : List Space) (place : Numbered) (number : ℕ) → is_optional (statement_at ws number).statement.keyword ≡ true → IsPlaceInside ss ss place number place
-  optional_so ss place number e = λ s w same so.
-      subst (λ (t : Standing). IsPlace ss t.space t.scope place)
-      (sym (as_optional s s.statement.statement.keyword w (ap (λ (x : Written). is_optional x.statement.keyword) same ∙ e))) so
+  kept_so : (ss : List Space) (place : Numbered) (number : ℕ) → keeps_place (statement_at ws number).statement.keyword ≡ true → IsPlaceInside ss ss place number place
+  kept_so ss place number e = λ s w same so.
+      as_kept ss place s s.statement.statement.keyword w (ap (λ (x : Written). keeps_place x.statement.keyword) same ∙ e) so
 
   -- ---- what is inherited
 
@@ -430,11 +432,11 @@ module _ (ws : List Written) where
       (again_next ss es e d k opener before (all_numbered ss rs) (all_numbered ss rs ++ numbered ss r.0 ∷ []) h is low again so.places
       (λ p at. ap (λ x. all_numbered ss rs ++ x ∷ []) (some_same (numbered ss r.0) p (sym (reached_get ss rs before r.0 r.1) ∙ at))))
 
-  -- in an optional: the place of the optional
-  pub reached_optional : (ss : List Space) (es : List Entry) (e x d : Entry) (k opener : ℕ) (rs qs : List Reached) → k < length es → e ≡ get_or es k d → x ≡ get_or es opener d
-      → IsLower e.opener k (Some opener) → is_optional (statement_at ws x.statement).statement.keyword ≡ true → AreFirstReached ws (take k es) ss rs
+  -- in an optional or in a branch: the same place
+  pub reached_kept : (ss : List Space) (es : List Entry) (e x d : Entry) (k opener : ℕ) (rs qs : List Reached) → k < length es → e ≡ get_or es k d → x ≡ get_or es opener d
+      → IsLower e.opener k (Some opener) → keeps_place (statement_at ws x.statement).statement.keyword ≡ true → AreFirstReached ws (take k es) ss rs
       → ((r : Reached) → slice_get rs opener ≡ Some r → qs ≡ rs ++ r ∷ []) → AreFirstReached ws (take (k + 1) es) ss qs
-  reached_optional ss es e x d k opener rs qs h is opens low optional so f =
+  reached_kept ss es e x d k opener rs qs h is opens low kept so f =
       let l = so.places.as_many in
       let m = length-take-le k es (omega (arith, h)) in
       let n = length-map rs (numbered ss) in
@@ -444,11 +446,11 @@ module _ (ws : List Written) where
       reached_more ss ss es k rs qs r.0 refl (none_added ss) so (f r.0 r.1) (so.within opener r.0 r.1)
       (inside_next ss ss es e x d k opener (all_numbered ss rs) (all_numbered ss rs ++ p ∷ []) p p h is low so.places
       (is_opener ss es (all_numbered ss rs) k opener x d h below opens so.places) (reached_get ss rs opener r.0 r.1) (none_added ss)
-      (optional_so ws ss p x.statement optional) refl)
+      (kept_so ws ss p x.statement kept) refl)
 
   pub reached_inside : (old new : List Space) (es : List Entry) (e x d : Entry) (k opener outer : ℕ) (rs qs : List Reached) (r : Reached) (space : ℕ) (written : Option ℕ)
       → k < length es → e ≡ get_or es k d → x ≡ get_or es opener d → IsLower e.opener k (Some opener) → AreFirstReached ws (take k es) old rs → slice_get rs opener ≡ Some r → outer ≡ r.0
-      → is_optional (statement_at ws x.statement).statement.keyword ≡ false → AreNamespaces old → AreNamespaces new → IsGrown old new
+      → keeps_place (statement_at ws x.statement).statement.keyword ≡ false → AreNamespaces old → AreNamespaces new → IsGrown old new
       → IsInside ws old new outer x.statement space written → qs ≡ rs ++ reached_through r space written ∷ [] → AreFirstReached ws (take (k + 1) es) new qs
   reached_inside old new es e x d k opener outer rs qs r space written h is opens low so at from other before are g into same =
       let inside : IsInside ws old new r.0 x.statement space written = subst (λ n. IsInside ws old new n x.statement space written) from into in

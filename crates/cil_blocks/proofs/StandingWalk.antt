@@ -15,7 +15,7 @@ use Rattle.cil_base.specs.Lists.{contains_none, all_at}
 use Rattle.cil_faults.specs.declared.spot.Spot.{Spot}
 use Rattle.cil_syntax.specs.declared.kind.Keyword.{Keyword}
 use Rattle.cil_syntax.specs.declared.kind.Keyword.TheVariants as keywords
-use Rattle.cil_blocks.specs.Contents.{first_word, block_space, is_block_named, is_block, is_inheriting, is_optional, is_abstract, is_at, same_spot, IsIn, Target, Standing, standing_top, standing_in_block, standing_in_optional, standing_inherited, standing_cmp, path_cmp, spot_cmp, Stands, top, in_block, in_optional, inherited, spot_total}
+use Rattle.cil_blocks.specs.Contents.{first_word, block_space, is_block_named, is_block, is_conditional, is_inheriting, is_optional, is_abstract, is_at, same_spot, IsIn, Target, Standing, standing_top, standing_in_block, standing_in_branch, standing_in_optional, standing_inherited, standing_cmp, path_cmp, spot_cmp, Stands, top, in_block, in_branch, in_optional, inherited, spot_total}
 use Rattle.cil_blocks.specs.Opens.{on_top_by, target_in, target_by, is_on_top, tops, parts, target_of, opens_target, opens_as, opens}
 use Rattle.cil_syntax.specs.Written.{Written, written_cmp}
 use Rattle.cil_base.specs.Rising.{all_from}
@@ -120,10 +120,18 @@ module _ (ws : List Written) where
         let p = parts_of s.statement m.0 m.1 in
         subst (Stands ws) m.2 (in_optional s m.0 st k p.0 p.1)
 
+    opened_branch : (s t : Standing) → is_conditional s.statement.statement.keyword ≡ true → Stands ws s
+        → Contains (map (standing_in_branch s) (parts ws s.statement)) t → Stands ws t
+    opened_branch s t k st c =
+        let m = from_map (standing_in_branch s) (parts ws s.statement) t c in
+        let p = parts_of s.statement m.0 m.1 in
+        subst (Stands ws) m.2 (in_branch s m.0 st k p.0 p.1)
+
     opened_as : (s t : Standing) (k : Keyword) → s.statement.statement.keyword ≡ k → Stands ws s → Contains (opens_as ws s k) t → Stands ws t
     opened_as s t keywords.Block e st c = opened_block s t (is_abstract ws s.statement) refl (ap is_block e) st c
     opened_as s t keywords.BlockInherit e st c = opened_target s t (target_of ws s.statement) refl (ap is_inheriting e) st c
     opened_as s t keywords.Optional e st c = opened_optional s t (ap is_optional e) st c
+    opened_as s t keywords.BooleanIf e st c = opened_branch s t (ap is_conditional e) st c
     opened_as s t k e st c = absurd (contains_none t c)
 
     pub stands_reached : (s : Standing) → IsReached standing_cmp (tops ws) (opens ws) s → Stands ws s
@@ -149,6 +157,11 @@ module _ (ws : List Written) where
     optional_opens s t keywords.Optional k c = c
     optional_opens s t kw k c = absurd (let f : false ≡ true = k in cc)
 
+    branch_opens : (s t : Standing) (k : Keyword) → is_conditional k ≡ true → Contains (map (standing_in_branch s) (parts ws s.statement)) t
+        → Contains (opens_as ws s k) t
+    branch_opens s t keywords.BooleanIf k c = c
+    branch_opens s t kw k c = absurd (let f : false ≡ true = k in cc)
+
     inheriting_opens : (s t : Standing) (k : Keyword) (b : Written) → is_inheriting k ≡ true → target_of ws s.statement ≡ Some b
         → Contains (map (standing_inherited s b) (parts ws b)) t → Contains (opens_as ws s k) t
     inheriting_opens s t keywords.BlockInherit b k e c = subst (λ o. Contains (opens_target ws s o) t) (sym e) c
@@ -165,6 +178,10 @@ module _ (ws : List Written) where
         onward p (standing_in_optional p w) (reached_stands p sp)
         (optional_opens p (standing_in_optional p w) p.statement.statement.keyword k
         (contains_map (standing_in_optional p) (parts ws p.statement) w (in_parts p.statement w c u)))
+    reached_stands s (in_branch p w sp k c u) =
+        onward p (standing_in_branch p w) (reached_stands p sp)
+        (branch_opens p (standing_in_branch p w) p.statement.statement.keyword k
+        (contains_map (standing_in_branch p) (parts ws p.statement) w (in_parts p.statement w c u)))
     reached_stands s (inherited p b w sp k t c u) =
         onward p (standing_inherited p b w) (reached_stands p sp)
         (inheriting_opens p (standing_inherited p b w) p.statement.statement.keyword b k (is_the_target p.statement b t)
@@ -193,6 +210,7 @@ module _ (ws : List Written) where
   step_as s t keywords.Block c = block_step s t (is_abstract ws s.statement) c
   step_as s t keywords.BlockInherit c = target_step s t (target_of ws s.statement) c
   step_as s t keywords.Optional c = mapped_step s t (standing_in_optional s) (parts ws s.statement) (λ w. refl) c
+  step_as s t keywords.BooleanIf c = mapped_step s t (standing_in_branch s) (parts ws s.statement) (λ w. refl) c
   step_as s t k c = absurd (contains_none t c)
 
   a_step : (s t : Standing) → Contains (opens ws s) t → IsStepOf s t
@@ -244,6 +262,7 @@ module _ (ws : List Written) where
     as_rises s keywords.Block = block_rises s (is_abstract ws s.statement)
     as_rises s keywords.BlockInherit = target_rises s (target_of ws s.statement)
     as_rises s keywords.Optional = step_rises s (standing_in_optional s) s.statement (λ w. refl)
+    as_rises s keywords.BooleanIf = step_rises s (standing_in_branch s) s.statement (λ w. refl)
     as_rises s k = nothing_rises
 
     opens_rise : (s : Standing) → IsStrictlySortedBy standing_cmp (opens ws s)

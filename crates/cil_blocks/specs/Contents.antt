@@ -12,10 +12,11 @@ use Rattle.cil_syntax.specs.declared.kind.Keyword.{Keyword}
 use Rattle.cil_syntax.specs.declared.kind.Keyword.TheVariants as keywords
 use Rattle.cil_faults.specs.declared.spot.Spot.{Spot}
 use Rattle.cil_faults.specs.Namespaces.{Namespace}
-use Rattle.cil_syntax.specs.Scopes.{Scope, same_space, chain, tidy, scope_at, asked, spaces_asked}
+use Rattle.cil_syntax.specs.Scopes.{Scope, ScopedWord, same_space, chain, tidy, scope_at, asked, spaces_asked}
 use Rattle.cil_syntax.specs.declared.term.Word.{Word}
-use Rattle.cil_syntax.specs.Terms.{Leaf, Name, Form, Terms, nil, cons}
+use Rattle.cil_syntax.specs.Terms.{Term, Leaf, Name, Form, Terms, nil, cons}
 use Rattle.cil_syntax.specs.Written.{Written, is_abstraction, named_in_front, bytes_of}
+use Rattle.cil_blocks.specs.Branches.{branch_value, condition_in, replaced}
 
 -- ---- what a written statement is
 
@@ -33,6 +34,17 @@ is_inheriting k = false
 abbrev pub is_optional : Keyword → Bool
 is_optional keywords.Optional = true
 is_optional k = false
+
+-- a statement whose contents stand in the same namespace, and count where a condition has the value of their branch
+abbrev pub is_conditional : Keyword → Bool
+is_conditional keywords.BooleanIf = true
+is_conditional k = false
+
+-- what is in it stands where it stands itself
+abbrev pub keeps_place : Keyword → Bool
+keeps_place keywords.Optional = true
+keeps_place keywords.BooleanIf = true
+keeps_place k = false
 
 -- a block or a macro: what has a name among blocks and macros
 abbrev pub is_named : Keyword → Bool
@@ -84,15 +96,20 @@ pub record Target (ws : List Written) (w b : Written) : Type 0 where
 
 -- ---- contents
 
+-- a condition, and a value of it for which some statements count
+abbrev pub Branch : Type 0
+Branch = Term ScopedWord × Bool
+
 -- a statement as it stands somewhere: in which namespace, through which blockinherits (the first one first), in which
--- scope, in which optionals, each by its trail (the innermost first), and its own trail: every statement through which it came,
--- itself the last
+-- scope, in which optionals, each by its trail (the innermost first), in which branch of which condition (the innermost), and its
+-- own trail: every statement through which it came, itself the last
 pub record Standing : Type 0 where
   pub statement : Written
   pub space : Namespace
   pub chain : List Spot
   pub scope : Scope
   pub round : List (List Spot)
+  pub branch : Option Branch
   pub trail : List Spot
 
 -- which of all it is: the blockinherits through which it came, and where it is written
@@ -109,7 +126,7 @@ IsIn w p = w.context.under ≡ Some p.statement.at
 
 -- a statement at the top of a module, in the global namespace
 abbrev pub standing_top : Written → Standing
-standing_top w = record { statement = w; space = []; chain = []; scope = [] ∷ []; round = []; trail = w.statement.at ∷ [] }
+standing_top w = record { statement = w; space = []; chain = []; scope = [] ∷ []; round = []; branch = None; trail = w.statement.at ∷ [] }
 
 -- one more in a block: its name is in front of the namespace, and the new namespace in front of the scope
 abbrev pub standing_in_block : Standing → Written → Standing
@@ -119,6 +136,7 @@ standing_in_block s w = record {
   chain = s.chain;
   scope = tidy ((name_of s.statement ∷ s.space) ∷ s.scope);
   round = s.round;
+  branch = s.branch;
   trail = s.trail ++ w.statement.at ∷ [];
 }
 
@@ -130,8 +148,33 @@ standing_in_optional s w = record {
   chain = s.chain;
   scope = s.scope;
   round = s.trail ∷ s.round;
+  branch = s.branch;
   trail = s.trail ++ w.statement.at ∷ [];
 }
+
+-- one more in a branch of this condition: all stays but the branch. It is in no optional for it
+abbrev pub standing_under_condition : Standing → Term ScopedWord → Written → Standing
+standing_under_condition s condition w = record {
+  statement = w;
+  space = s.space;
+  chain = s.chain;
+  scope = s.scope;
+  round = s.round;
+  branch = Some (condition, branch_value s.statement.statement.args w.statement.at);
+  trail = s.trail ++ w.statement.at ∷ [];
+}
+
+-- a word in a scope
+abbrev pub in_scope : Scope → Word → ScopedWord
+in_scope scope w = record { at = w.at; bytes = w.bytes; sign = w.sign; scope = scope }
+
+-- the condition of a booleanif: its words are looked up where it stands
+abbrev pub condition_of : Standing → Term ScopedWord
+condition_of s = replaced (λ at. at) (in_scope s.scope) (condition_in s.statement.statement.args)
+
+-- one more in a branch
+abbrev pub standing_in_branch : Standing → Written → Standing
+standing_in_branch s w = standing_under_condition s (condition_of s) w
 
 -- what a block hands to a place: its contents see that place first, and then what is round the block
 abbrev pub standing_inherited : Standing → Written → Written → Standing
@@ -141,17 +184,20 @@ standing_inherited s b w = record {
   chain = path_of s;
   scope = tidy (s.scope ++ chain b.context.space);
   round = s.round;
+  branch = s.branch;
   trail = s.trail ++ w.statement.at ∷ [];
 }
 
--- what stands: a top statement; what is directly in a block that stands and is not abstract; what is directly in an optional
--- that stands; what is directly in a target of a blockinherit that stands
+-- what stands: a top statement; what is directly in a block that stands and is not abstract; what is directly in an optional, or in
+-- a branch of a booleanif, that stands; what is directly in a target of a blockinherit that stands
 pub data Stands (ws : List Written) : Standing → Type 0 where
   top : (w : Written) → Contains ws w → w.context.under ≡ None → Stands ws (standing_top w)
   in_block : (s : Standing) (w : Written) → Stands ws s → is_block s.statement.statement.keyword ≡ true → is_abstract ws s.statement ≡ false
       → Contains ws w → IsIn w s.statement → Stands ws (standing_in_block s w)
   in_optional : (s : Standing) (w : Written) → Stands ws s → is_optional s.statement.statement.keyword ≡ true
       → Contains ws w → IsIn w s.statement → Stands ws (standing_in_optional s w)
+  in_branch : (s : Standing) (w : Written) → Stands ws s → is_conditional s.statement.statement.keyword ≡ true
+      → Contains ws w → IsIn w s.statement → Stands ws (standing_in_branch s w)
   inherited : (s : Standing) (b w : Written) → Stands ws s → is_inheriting s.statement.statement.keyword ≡ true → Target ws s.statement b
       → Contains ws w → IsIn w b → Stands ws (standing_inherited s b w)
 

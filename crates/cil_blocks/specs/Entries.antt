@@ -8,7 +8,7 @@ use Rattle.cil_syntax.specs.Terms.{nil}
 use Rattle.cil_syntax.specs.Written.{Written, at_top, written_cmp}
 use Rattle.cil_blocks.specs.declared.entry.Entry.{Entry}
 use Rattle.cil_blocks.specs.declared.parts.Parts.{Parts}
-use Rattle.cil_blocks.specs.Contents.{Standing, is_abstract, standing_top, standing_in_block, standing_in_optional, standing_inherited}
+use Rattle.cil_blocks.specs.Contents.{Standing, is_abstract, standing_top, standing_in_block, standing_in_branch, standing_in_optional, standing_inherited}
 use Rattle.cil_blocks.specs.Laws.{HasOneTarget}
 use Rattle.cil_blocks.specs.Opens.{is_on_top, parts, target_of}
 
@@ -31,6 +31,7 @@ standing_through s (Some b) w = standing_inherited s b w
 abbrev pub standing_as : List Written → Standing → Keyword → Written → Standing
 standing_as ws s keywords.BlockInherit w = standing_through s (target_of ws s.statement) w
 standing_as ws s keywords.Optional w = standing_in_optional s w
+standing_as ws s keywords.BooleanIf w = standing_in_branch s w
 standing_as ws s k w = standing_in_block s w
 
 -- a statement that a standing one opened, or that is at the top
@@ -69,6 +70,7 @@ abbrev pub opened_as : List Written → Written → Keyword → Option Written
 opened_as ws w keywords.Block = opened_block ws w
 opened_as ws w keywords.BlockInherit = target_of ws w
 opened_as ws w keywords.Optional = Some w
+opened_as ws w keywords.BooleanIf = Some w
 opened_as ws w k = None
 
 abbrev pub opened_of : List Written → Written → Option Written

@@ -1,3 +1,4 @@
+pub mod Branches
 pub mod Contents
 pub mod Doubled
 pub mod Entries

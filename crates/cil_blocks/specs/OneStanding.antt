@@ -1,11 +1,11 @@
--- A statement stands once through each chain of blockinherits: what it stands in, its scope and its optionals are a
--- function of its path.
+-- A statement stands once through each chain of blockinherits: what it stands in, its scope, its optionals and its branch are
+-- a function of its path.
 use Rattle.std.proofs.Common.{◌≡◌, ◌⊎◌, Bool, true, false, ◌&&◌, List, [], ◌∷◌, ◌++◌, refl, sym, ◌∙◌, ap, subst, inl, inr}
 use Rattle.std.specs.Prelude.{Contains, Option, Some, None}
 use Rattle.std.specs.declared.cmp.Ordering.TheVariants.{Less}
 use Rattle.cil_syntax.specs.declared.kind.Keyword.{Keyword}
 use Rattle.cil_syntax.specs.declared.kind.Keyword.TheVariants as keywords
-use Rattle.cil_blocks.specs.Contents.{is_block, is_inheriting, is_optional, IsIn, Target, Standing, path_of, standing_top, standing_in_block, standing_in_optional, standing_inherited, Stands, top, in_block, in_optional, inherited}
+use Rattle.cil_blocks.specs.Contents.{is_block, is_conditional, is_inheriting, is_optional, IsIn, Target, Standing, path_of, standing_top, standing_in_block, standing_in_branch, standing_in_optional, standing_inherited, Stands, top, in_block, in_branch, in_optional, inherited}
 use Rattle.cil_syntax.specs.Written.{Written, written_cmp, written_total}
 use Rattle.cil_blocks.specs.Laws.{HasOneTarget}
 use Rattle.cil_base.specs.Lists.{not_below_itself}
@@ -21,6 +21,15 @@ no_block_optional : (k : Keyword) → is_block k ≡ true → is_optional k ≡ 
 no_block_optional keywords.Block b o = let f : false ≡ true = o in cc
 no_block_optional k b o = let f : false ≡ true = b in cc
 
+-- a booleanif is neither
+no_block_conditional : (k : Keyword) → is_block k ≡ true → is_conditional k ≡ true → ⊥
+no_block_conditional keywords.Block b c = let f : false ≡ true = c in cc
+no_block_conditional k b c = let f : false ≡ true = b in cc
+
+no_optional_conditional : (k : Keyword) → is_optional k ≡ true → is_conditional k ≡ true → ⊥
+no_optional_conditional keywords.Optional o c = let f : false ≡ true = c in cc
+no_optional_conditional k o c = let f : false ≡ true = o in cc
+
 -- ---- written statements
 
 -- no two stand at one place, and what stands in another stands behind where that begins
@@ -33,6 +42,7 @@ module _ (ws : List Written) (are_apart : AreApart ws) (one_target : HasOneTarge
   is_written s (top w c u) = c
   is_written s (in_block p w sp k a c u) = c
   is_written s (in_optional p w sp k c u) = c
+  is_written s (in_branch p w sp k c u) = c
   is_written s (inherited p b w sp k t c u) = c
 
   -- two statements round one are one
@@ -61,6 +71,8 @@ module _ (ws : List Written) (are_apart : AreApart ws) (one_target : HasOneTarge
       entered_further p (standing_in_block p w) (entered p sp) refl (are_apart.deeper w p.statement c (is_written p sp) u)
   entered s (in_optional p w sp k c u) =
       entered_further p (standing_in_optional p w) (entered p sp) refl (are_apart.deeper w p.statement c (is_written p sp) u)
+  entered s (in_branch p w sp k c u) =
+      entered_further p (standing_in_branch p w) (entered p sp) refl (are_apart.deeper w p.statement c (is_written p sp) u)
   entered s (inherited p b w sp k t c u) =
       inr (record { by = p; target = b; stands = sp; inherits = k; is_target = t; chain = refl; deeper = are_apart.deeper w b c t.is_written u })
 
@@ -108,6 +120,13 @@ module _ (ws : List Written) (are_apart : AreApart ws) (one_target : HasOneTarge
   not_block_and_optional : (p q : Written) → p ≡ q → is_block p.statement.keyword ≡ true → is_optional q.statement.keyword ≡ true → ⊥
   not_block_and_optional p q e b o = no_block_optional q.statement.keyword (keyword_of p q e is_block b) o
 
+  -- nor a booleanif, nor is one an optional and the other a booleanif
+  pub not_block_and_conditional : (p q : Written) → p ≡ q → is_block p.statement.keyword ≡ true → is_conditional q.statement.keyword ≡ true → ⊥
+  not_block_and_conditional p q e b o = no_block_conditional q.statement.keyword (keyword_of p q e is_block b) o
+
+  pub not_optional_and_conditional : (p q : Written) → p ≡ q → is_optional p.statement.keyword ≡ true → is_conditional q.statement.keyword ≡ true → ⊥
+  not_optional_and_conditional p q e b o = no_optional_conditional q.statement.keyword (keyword_of p q e is_optional b) o
+
   -- the law: one path, one standing
   pub one_standing : (s t : Standing) → Stands ws s → Stands ws t → path_of s ≡ path_of t → s ≡ t
   one_standing s t (top w c u) (top v d x) e = ap standing_top (same_statement s t (top w c u) (top v d x) e)
@@ -115,12 +134,16 @@ module _ (ws : List Written) (are_apart : AreApart ws) (one_target : HasOneTarge
       absurd (none_some _ _ u (same_under w v (same_statement s t (top w c u) (in_block q v sq l b d x) e) ∙ x))
   one_standing s t (top w c u) (in_optional q v sq l d x) e =
       absurd (none_some _ _ u (same_under w v (same_statement s t (top w c u) (in_optional q v sq l d x) e) ∙ x))
+  one_standing s t (top w c u) (in_branch q v sq l d x) e =
+      absurd (none_some _ _ u (same_under w v (same_statement s t (top w c u) (in_branch q v sq l d x) e) ∙ x))
   one_standing s t (top w c u) (inherited q b v sq l k d x) e =
       absurd (none_some _ _ u (same_under w v (same_statement s t (top w c u) (inherited q b v sq l k d x) e) ∙ x))
   one_standing s t (in_block p w sp k a c u) (top v d x) e =
       absurd (none_some _ _ x (same_under v w (sym (same_statement s t (in_block p w sp k a c u) (top v d x) e)) ∙ u))
   one_standing s t (in_optional p w sp k c u) (top v d x) e =
       absurd (none_some _ _ x (same_under v w (sym (same_statement s t (in_optional p w sp k c u) (top v d x) e)) ∙ u))
+  one_standing s t (in_branch p w sp k c u) (top v d x) e =
+      absurd (none_some _ _ x (same_under v w (sym (same_statement s t (in_branch p w sp k c u) (top v d x) e)) ∙ u))
   one_standing s t (inherited p b w sp k g c u) (top v d x) e =
       absurd (none_some _ _ x (same_under v w (sym (same_statement s t (inherited p b w sp k g c u) (top v d x) e)) ∙ u))
   one_standing s t (in_block p w sp k a c u) (in_block q v sq l b d x) e =
@@ -141,6 +164,27 @@ module _ (ws : List Written) (are_apart : AreApart ws) (one_target : HasOneTarge
       let round = round_same w v p.statement q.statement same (is_written p sp) (is_written q sq) u x in
       let one = one_standing p q sp sq (same_path p q (same_chain s t e) round) in
       λ i. standing_in_optional (one i) (same i)
+  one_standing s t (in_block p w sp k a c u) (in_branch q v sq l d x) e =
+      let same = same_statement s t (in_block p w sp k a c u) (in_branch q v sq l d x) e in
+      let round = round_same w v p.statement q.statement same (is_written p sp) (is_written q sq) u x in
+      absurd (not_block_and_conditional p.statement q.statement round k l)
+  one_standing s t (in_branch p w sp k c u) (in_block q v sq l b d x) e =
+      let same = same_statement s t (in_branch p w sp k c u) (in_block q v sq l b d x) e in
+      let round = round_same w v p.statement q.statement same (is_written p sp) (is_written q sq) u x in
+      absurd (not_block_and_conditional q.statement p.statement (sym round) l k)
+  one_standing s t (in_optional p w sp k c u) (in_branch q v sq l d x) e =
+      let same = same_statement s t (in_optional p w sp k c u) (in_branch q v sq l d x) e in
+      let round = round_same w v p.statement q.statement same (is_written p sp) (is_written q sq) u x in
+      absurd (not_optional_and_conditional p.statement q.statement round k l)
+  one_standing s t (in_branch p w sp k c u) (in_optional q v sq l d x) e =
+      let same = same_statement s t (in_branch p w sp k c u) (in_optional q v sq l d x) e in
+      let round = round_same w v p.statement q.statement same (is_written p sp) (is_written q sq) u x in
+      absurd (not_optional_and_conditional q.statement p.statement (sym round) l k)
+  one_standing s t (in_branch p w sp k c u) (in_branch q v sq l d x) e =
+      let same = same_statement s t (in_branch p w sp k c u) (in_branch q v sq l d x) e in
+      let round = round_same w v p.statement q.statement same (is_written p sp) (is_written q sq) u x in
+      let one = one_standing p q sp sq (same_path p q (same_chain s t e) round) in
+      λ i. standing_in_branch (one i) (same i)
   one_standing s t (in_block p w sp k a c u) (inherited q b v sq l g d x) e =
       let same = same_statement s t (in_block p w sp k a c u) (inherited q b v sq l g d x) e in
       absurd (not_both p q b sp sq (same_chain s t e) g (round_same w v p.statement b same (is_written p sp) g.is_written u x) (entered p sp))
@@ -155,6 +199,14 @@ module _ (ws : List Written) (are_apart : AreApart ws) (one_target : HasOneTarge
       let same = same_statement s t (inherited p b w sp k g c u) (in_optional q v sq l d x) e in
       let round = round_same w v b q.statement same g.is_written (is_written q sq) u x in
       absurd (not_block_and_optional b q.statement round (is_target_block p.statement b g) l)
+  one_standing s t (in_branch p w sp k c u) (inherited q b v sq l g d x) e =
+      let same = same_statement s t (in_branch p w sp k c u) (inherited q b v sq l g d x) e in
+      let round = round_same w v p.statement b same (is_written p sp) g.is_written u x in
+      absurd (not_block_and_conditional b p.statement (sym round) (is_target_block q.statement b g) k)
+  one_standing s t (inherited p b w sp k g c u) (in_branch q v sq l d x) e =
+      let same = same_statement s t (inherited p b w sp k g c u) (in_branch q v sq l d x) e in
+      let round = round_same w v b q.statement same g.is_written (is_written q sq) u x in
+      absurd (not_block_and_conditional b q.statement round (is_target_block p.statement b g) l)
   one_standing s t (inherited p b w sp k g c u) (inherited q f v sq l h d x) e =
       let same = same_statement s t (inherited p b w sp k g c u) (inherited q f v sq l h d x) e in
       let body = round_same w v b f same g.is_written h.is_written u x in

@@ -1,9 +1,9 @@
--- What a standing statement opens: the statements that stand directly in it, a block or an optional, or in the block that it
--- inherits.
+-- What a standing statement opens: the statements that stand directly in it, a block, an optional or a booleanif, or in the block
+-- that it inherits.
 use Rattle.std.specs.Prelude.{Bool, true, false, if◌then◌else◌, List, [], map, filter, find, Option, Some, None}
 use Rattle.cil_syntax.specs.declared.kind.Keyword.{Keyword}
 use Rattle.cil_syntax.specs.declared.kind.Keyword.TheVariants as keywords
-use Rattle.cil_blocks.specs.Contents.{is_at, is_abstract, is_block_named, block_space, first_word, Standing, standing_top, standing_in_block, standing_in_optional, standing_inherited}
+use Rattle.cil_blocks.specs.Contents.{is_at, is_abstract, is_block_named, block_space, first_word, Standing, standing_top, standing_in_block, standing_in_branch, standing_in_optional, standing_inherited}
 use Rattle.cil_faults.specs.Namespaces.{Namespace}
 use Rattle.cil_syntax.specs.Scopes.{asked}
 use Rattle.cil_syntax.specs.declared.term.Word.{Word}
@@ -50,6 +50,7 @@ abbrev pub opens_as : List Written → Standing → Keyword → List Standing
 opens_as ws s keywords.Block = if is_abstract ws s.statement then [] else map (standing_in_block s) (parts ws s.statement)
 opens_as ws s keywords.BlockInherit = opens_target ws s (target_of ws s.statement)
 opens_as ws s keywords.Optional = map (standing_in_optional s) (parts ws s.statement)
+opens_as ws s keywords.BooleanIf = map (standing_in_branch s) (parts ws s.statement)
 opens_as ws s k = []
 
 unfoldable pub opens : List Written → Standing → List Standing

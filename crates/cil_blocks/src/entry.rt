@@ -10,7 +10,7 @@ use cil_base::NoMemory;
 pub struct Entry {
     /// The number of the statement.
     pub statement: u32,
-    /// The place of the entry that opened it: a block, an optional, or a blockinherit; none at the top of a module.
+    /// The place of the entry that opened it: a block, an optional, a booleanif, or a blockinherit; none at the top of a module.
     pub opener: Option<u32>,
 }
 

@@ -3,7 +3,7 @@
 
 ghost use Rattle.std.specs.Prelude.{◌≡◌, ◌<◌, ◌≤◌, ◌++◌, IfSome, None};
 ghost use Rattle.cil_syntax.specs.Program.{IsNested, program_of};
-ghost use Rattle.cil_blocks.specs.Contents.{is_block, is_inheriting, is_optional, name_of};
+ghost use Rattle.cil_blocks.specs.Contents.{is_block, is_inheriting, is_optional, keeps_place, name_of};
 ghost use Rattle.cil_blocks.specs.Entries.{statement_at};
 ghost use Rattle.cil_blocks.specs.Named.{IsBlockAt, full_at, names_cmp, rank, space_in};
 
@@ -30,6 +30,16 @@ pub fn is_optional_at(statements: &[Statement], number: usize) -> bool
     }
 }
 
+/// Whether what is in a statement stands where the statement itself does: it is an optional or a booleanif.
+pub fn keeps_place_at(statements: &[Statement], number: usize) -> bool
+    ensures { IsNested statements.now → result ≡ keeps_place (statement_at (program_of statements.now) number).statement.keyword }
+{
+    match statements.get(number) {
+        None => false,
+        Some(statement) => keeps_place(statement.keyword),
+    }
+}
+
 pub fn is_block(keyword: Keyword) -> bool
     ensures { result ≡ is_block keyword }
 {
@@ -46,6 +56,12 @@ pub fn is_optional(keyword: Keyword) -> bool
     ensures { result ≡ is_optional keyword }
 {
     matches!(keyword, Keyword::Optional)
+}
+
+pub fn keeps_place(keyword: Keyword) -> bool
+    ensures { result ≡ keeps_place keyword }
+{
+    matches!(keyword, Keyword::Optional | Keyword::BooleanIf)
 }
 
 /// The name that a statement declares; an empty one where it declares none.

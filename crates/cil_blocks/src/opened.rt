@@ -1,4 +1,4 @@
-//! What each statement opens where it stands: an optional, and a block that is not abstract, what is in it; a blockinherit
+//! What each statement opens where it stands: an optional, a booleanif, and a block that is not abstract, what is in it; a blockinherit
 //! what is in its target. A block costs a look at each statement directly in it.
 
 ghost use Rattle.std.specs.Prelude.{◌≡◌, ◌<◌, IfOk, Some, length};
@@ -10,7 +10,7 @@ ghost use Rattle.cil_blocks.specs.Entries.{AreBelow, AreOpened, AreParts, SaysOp
 ghost use Rattle.cil_blocks.specs.Laws.{HasOneTarget};
 ghost use Rattle.cil_blocks.specs.Named.{AreAllTargets};
 
-use crate::names::{is_block, is_inheriting, is_optional};
+use crate::names::{is_block, is_inheriting, keeps_place};
 use crate::parts::Parts;
 use crate::targets::Targets;
 use crate::walker::parts_at;
@@ -56,7 +56,7 @@ fn opened_at(
     if is_inheriting(keyword) {
         return first_number(targets.at(number));
     }
-    if is_optional(keyword) {
+    if keeps_place(keyword) {
         return Some(number);
     }
     None

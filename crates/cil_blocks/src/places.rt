@@ -13,7 +13,7 @@ ghost use Rattle.cil_blocks.specs.Places.{ArePlaces, Reached, all_numbered, numb
 ghost use Rattle.cil_blocks.specs.Placing.{AreBehind, AreKnown, IsInherited, IsRepeated, numbers_left};
 
 use crate::entry::Entry;
-use crate::names::{block_above, is_inheriting, is_optional_at, name_at};
+use crate::names::{block_above, is_inheriting, keeps_place_at, name_at};
 use crate::namespaces::Namespaces;
 use crate::numbers::Numbers;
 use crate::scopes::ScopeList;
@@ -285,8 +285,8 @@ impl<'s, 'a> Source<'s, 'a> {
             places.push_again(before)?;
             return Ok(());
         }
-        // What is in an optional stands where the optional does.
-        if is_optional_at(self.statements, self.entries[opener].statement as usize) {
+        // What is in an optional or in a branch stands where the optional or the booleanif does.
+        if keeps_place_at(self.statements, self.entries[opener].statement as usize) {
             places.push_again(opener)?;
             return Ok(());
         }

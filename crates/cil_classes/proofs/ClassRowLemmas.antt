@@ -22,24 +22,6 @@ use Rattle.cil_classes.specs.ClassRows.{AreClassEntries, AreListed, AreRowsOf}
 use Rattle.cil_classes.specs.declared.row.Class.{Class}
 use Rattle.cil_base.proofs.NameSearches.{number_is}
 
--- ---- as many zeros as names
-
-pub zeros_begun : (names : List (List ℕ)) (places : List ℕ) → places ≡ [] → length places ≡ length (take 0 names)
-zeros_begun [] places e = ap length e
-zeros_begun (x ∷ xs) places e = ap length e
-
-pub zeros_more : (names : List (List ℕ)) (i : ℕ) (x : List ℕ) (old new : List ℕ) → i < length names → length old ≡ length (take i names) → new ≡ old ++ 0 ∷ []
-    → length new ≡ length (take (i + 1) names)
-zeros_more names i x old new within are push =
-    let a = length-take-le i names (omega (arith, within)) in
-    let b = length-take-le (i + 1) names (omega (arith, within)) in
-    let c = length-append old (0 ∷ []) in
-    let d = ap length push in
-    omega (arith, are, a, b, c, d)
-
-pub zeros_all : (names : List (List ℕ)) (i : ℕ) (places : List ℕ) → length names ≤ i → length places ≡ length (take i names) → length places ≡ length names
-zeros_all names i places over are = are ∙ ap length (take_all i names over)
-
 -- ---- the entries of the classes
 
 class_kind : (k : Kind) → nat_eq (kind_number k) 7 ≡ true → k ≡ kinds.Class

@@ -136,10 +136,5 @@ fn no_flags(alloc: Global, entries: usize) -> Result<Vec<bool>, NoMemory>
     ensures len { IfOk result (λ flags. length flags.items ≡ entries) }
     ensures none { IfOk result (λ flags. (d : ℕ) → get_or flags.items d false ≡ false) }
 {
-    let mut flags = Vec::with_capacity(alloc, entries)?;
-    for entry in 0..entries {
-        let _entry = entry;
-        flags.push(false)?;
-    }
-    Ok(flags)
+    Ok(vec![in alloc; false; entries]?)
 }

@@ -51,11 +51,7 @@ fn class_entries(
 fn zeros(alloc: Global, names: &[Bytes]) -> Result<Vec<usize>, NoMemory>
     ensures { IfOk result (λ places. length places.items ≡ length names.now) }
 {
-    let mut places = Vec::new(alloc);
-    for _name in names {
-        places.push(0)?;
-    }
-    Ok(places)
+    Ok(vec![in alloc; 0; names.len()]?)
 }
 
 /// Notes an entry at the number of its class, where it is one.

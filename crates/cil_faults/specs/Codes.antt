@@ -2,7 +2,7 @@
 use Rattle.std.specs.Prelude.{◌≡◌, ℕ, ◌==◌, if◌then◌else◌, refl}
 use Rattle.std.proofs.Common.{sym, ◌∙◌, ap}
 use Rattle.cil_faults.specs.declared.code.FaultCode.{FaultCode}
-use Rattle.cil_faults.specs.declared.code.FaultCode.TheVariants.{UnknownStatement, Unsupported, BadShape, BadPlace, BadName, ReservedName, ParameterClash, NameTwice, InheritUnresolved, InheritCycle, CallCycle, CallArguments, Clash, ExpansionLimit, Unresolved, ClassWide, CommonTwice}
+use Rattle.cil_faults.specs.declared.code.FaultCode.TheVariants.{UnknownStatement, Unsupported, BadShape, BadPlace, BadName, ReservedName, ParameterClash, NameTwice, InheritUnresolved, InheritCycle, CallCycle, CallArguments, Clash, CallPlace, ExpansionLimit, Unresolved, AliasOpen, AliasTwice, AliasCycle, SetCycle, ClassWide, CommonTwice, TooMany}
 
 -- the number of a cause
 abbrev pub number_of : FaultCode → ℕ
@@ -19,10 +19,16 @@ number_of InheritCycle = 33
 number_of CallCycle = 34
 number_of CallArguments = 35
 number_of Clash = 36
+number_of CallPlace = 37
 number_of ExpansionLimit = 38
 number_of Unresolved = 41
+number_of AliasOpen = 51
+number_of AliasTwice = 52
+number_of AliasCycle = 53
+number_of SetCycle = 54
 number_of ClassWide = 55
 number_of CommonTwice = 56
+number_of TooMany = 60
 
 -- the cause of a number
 numbered : ℕ → FaultCode
@@ -40,10 +46,16 @@ numbered n =
     else (if n == 34 then CallCycle
     else (if n == 35 then CallArguments
     else (if n == 36 then Clash
+    else (if n == 37 then CallPlace
     else (if n == 38 then ExpansionLimit
     else (if n == 41 then Unresolved
+    else (if n == 51 then AliasOpen
+    else (if n == 52 then AliasTwice
+    else (if n == 53 then AliasCycle
+    else (if n == 54 then SetCycle
     else (if n == 55 then ClassWide
-    else CommonTwice)))))))))))))))
+    else (if n == 56 then CommonTwice
+    else TooMany)))))))))))))))))))))
 
 numbered-number_of : (c : FaultCode) → numbered (number_of c) ≡ c
 unfolding numbered
@@ -60,10 +72,16 @@ numbered-number_of InheritCycle = refl
 numbered-number_of CallCycle = refl
 numbered-number_of CallArguments = refl
 numbered-number_of Clash = refl
+numbered-number_of CallPlace = refl
 numbered-number_of ExpansionLimit = refl
 numbered-number_of Unresolved = refl
+numbered-number_of AliasOpen = refl
+numbered-number_of AliasTwice = refl
+numbered-number_of AliasCycle = refl
+numbered-number_of SetCycle = refl
 numbered-number_of ClassWide = refl
 numbered-number_of CommonTwice = refl
+numbered-number_of TooMany = refl
 
 -- no two causes have one number
 pub one_cause : (c d : FaultCode) → number_of c ≡ number_of d → c ≡ d

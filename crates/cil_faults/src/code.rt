@@ -31,21 +31,33 @@ pub enum FaultCode {
     CallArguments,
     /// Two different declarations have one name.
     Clash,
+    /// A call in a branch of a booleanif brings a statement that may not stand in a branch.
+    CallPlace,
     /// The policy has too many statements when all blocks and calls are expanded.
     ExpansionLimit,
     /// A word names nothing.
     Unresolved,
+    /// An alias has no target that is enabled.
+    AliasOpen,
+    /// Statements give an alias two different targets.
+    AliasTwice,
+    /// An alias leads to itself, in one or more steps.
+    AliasCycle,
+    /// An attribute depends on itself, in one or more steps.
+    SetCycle,
     /// A class has more permissions than a class may have.
     ClassWide,
     /// A class shares the permissions of two different commons.
     CommonTwice,
+    /// The policy has more types, roles or users than a policy may have.
+    TooMany,
 }
 
 impl FaultCode {
     ghost use Rattle.std.specs.Prelude.{◌≡◌};
     ghost use Rattle.cil_faults.specs.Codes.{number_of};
 
-    /// The number of this cause in a printed fault: from 21 to 56.
+    /// The number of this cause in a printed fault: from 21 to 60.
     pub fn number(self) -> u32
         ensures { result ≡ number_of self }
     {
@@ -63,10 +75,16 @@ impl FaultCode {
             FaultCode::CallCycle => 34,
             FaultCode::CallArguments => 35,
             FaultCode::Clash => 36,
+            FaultCode::CallPlace => 37,
             FaultCode::ExpansionLimit => 38,
             FaultCode::Unresolved => 41,
+            FaultCode::AliasOpen => 51,
+            FaultCode::AliasTwice => 52,
+            FaultCode::AliasCycle => 53,
+            FaultCode::SetCycle => 54,
             FaultCode::ClassWide => 55,
             FaultCode::CommonTwice => 56,
+            FaultCode::TooMany => 60,
         }
     }
 }
@@ -87,10 +105,16 @@ impl fmt::Display for FaultCode {
             FaultCode::CallCycle => write!(f, "macro that calls itself"),
             FaultCode::CallArguments => write!(f, "wrong arguments"),
             FaultCode::Clash => write!(f, "two different declarations"),
+            FaultCode::CallPlace => write!(f, "call of what no branch may have"),
             FaultCode::ExpansionLimit => write!(f, "too many statements"),
             FaultCode::Unresolved => write!(f, "unresolved name"),
+            FaultCode::AliasOpen => write!(f, "alias without a target"),
+            FaultCode::AliasTwice => write!(f, "alias with two targets"),
+            FaultCode::AliasCycle => write!(f, "alias that leads to itself"),
+            FaultCode::SetCycle => write!(f, "set that depends on itself"),
             FaultCode::ClassWide => write!(f, "class with too many permissions"),
             FaultCode::CommonTwice => write!(f, "class with two different commons"),
+            FaultCode::TooMany => write!(f, "too many of one kind"),
         }
     }
 }

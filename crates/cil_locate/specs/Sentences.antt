@@ -20,10 +20,16 @@ sentence_of causes.InheritCycle = codes "block that inherits itself"
 sentence_of causes.CallCycle = codes "macro that calls itself"
 sentence_of causes.CallArguments = codes "wrong arguments"
 sentence_of causes.Clash = codes "two different declarations"
+sentence_of causes.CallPlace = codes "call of what no branch may have"
 sentence_of causes.ExpansionLimit = codes "too many statements"
 sentence_of causes.Unresolved = codes "unresolved name"
+sentence_of causes.AliasOpen = codes "alias without a target"
+sentence_of causes.AliasTwice = codes "alias with two targets"
+sentence_of causes.AliasCycle = codes "alias that leads to itself"
+sentence_of causes.SetCycle = codes "set that depends on itself"
 sentence_of causes.ClassWide = codes "class with too many permissions"
 sentence_of causes.CommonTwice = codes "class with two different commons"
+sentence_of causes.TooMany = codes "too many of one kind"
 
 -- of a text that cannot be read
 abbrev pub reading_sentence : ReadCode → List ℕ

@@ -24,10 +24,16 @@ pub(crate) fn sentence(code: FaultCode) -> &'static str
         FaultCode::CallCycle => "macro that calls itself",
         FaultCode::CallArguments => "wrong arguments",
         FaultCode::Clash => "two different declarations",
+        FaultCode::CallPlace => "call of what no branch may have",
         FaultCode::ExpansionLimit => "too many statements",
         FaultCode::Unresolved => "unresolved name",
+        FaultCode::AliasOpen => "alias without a target",
+        FaultCode::AliasTwice => "alias with two targets",
+        FaultCode::AliasCycle => "alias that leads to itself",
+        FaultCode::SetCycle => "set that depends on itself",
         FaultCode::ClassWide => "class with too many permissions",
         FaultCode::CommonTwice => "class with two different commons",
+        FaultCode::TooMany => "too many of one kind",
     }
 }
 

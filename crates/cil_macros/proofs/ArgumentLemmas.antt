@@ -33,7 +33,7 @@ no_fault t true spelled f g = refl
 no_fault t false true f g = refl
 no_fault t false false f g = refl
 
-leaf_word : (sign : Sign) (w : Word) → is_read_as (looked_up sign) (Leaf w) ≡ is_sound_word sign w.bytes
+pub leaf_word : (sign : Sign) (w : Word) → is_read_as (looked_up sign) (Leaf w) ≡ is_sound_word sign w.bytes
 unfolding cell_in read_word
 leaf_word sign w = no_fault _ (is_reserved w.bytes) (is_spelled sign w.bytes) _ _
 

@@ -1,21 +1,21 @@
--- What is placed behind what stands is of the body of a call, in optionals or not: it has its statement, its arguments, its scope
+-- What is placed behind what stands is of the body of a call, in optionals and booleanifs or not: it has its statement, its arguments, its scope
 -- and its macros.
 use Rattle.std.proofs.Common.{◌≡◌, inl, inr, ℕ, zero, suc, ◌+◌, ◌<◌, List, [], ◌∷◌, ◌++◌, length, get_or, map, refl, sym, ◌∙◌, ap, arith, append_assoc}
 use Rattle.std.specs.Prelude.{Option, Some, None, slice_get}
 use Rattle.std.proofs.lemmas.List.{append-nil, length-append, length-map, map-append}
 use Rattle.cil_base.specs.Places.{get_behind, get_in_front, in_range, is_there, none_some, some_same}
 use Rattle.cil_syntax.specs.Written.{Written}
-use Rattle.cil_blocks.specs.Contents.{Standing, is_optional}
+use Rattle.cil_blocks.specs.Contents.{Standing, keeps_place}
 use Rattle.cil_blocks.specs.Entries.{standings_of, statement_at}
 use Rattle.cil_blocks.specs.declared.entry.Entry.{Entry}
 use Rattle.cil_blocks.proofs.EntryLemmas.{mapped_at, standings_length, statements_from}
 use Rattle.cil_macros.specs.declared.entry.Body.{Body}
 use Rattle.cil_macros.specs.declared.entry.Called.{Called}
-use Rattle.cil_macros.specs.Calls.{Unfolded, placed_called, placed_in_optional, unfolded}
-use Rattle.cil_macros.specs.Entries.{AreBodies, IsBody, IsInBody, IsOf, IsOptionalOf, placed_by, placed_from, placed_of, placed_through, placed_under}
-use Rattle.cil_macros.specs.Opens.{starts}
+use Rattle.cil_macros.specs.Calls.{Unfolded, placed_called, unfolded}
+use Rattle.cil_macros.specs.Entries.{AreBodies, IsBody, IsInBody, IsOf, IsInnerOf, placed_by, placed_from, placed_of, placed_through, placed_under}
+use Rattle.cil_macros.specs.Opens.{placed_inside, starts}
 use Rattle.cil_macros.specs.Placed.{Placed, placed_standing}
-use Rattle.cil_macros.proofs.CalledMacros.{optional_opens_none}
+use Rattle.cil_macros.proofs.CalledMacros.{kept_opens_none}
 
 pub mapped_get : {X Y : Type 0} (f : X → Y) (xs : List X) (k : ℕ) (x : X) → slice_get xs k ≡ Some x → slice_get (map f xs) k ≡ Some (f x)
 mapped_get f [] k x e = absurd (none_some x e)
@@ -76,7 +76,7 @@ module _ (ws : List Written) (ss : List Standing) where
   abbrev stated : Placed → Written
   stated p = p.standing.statement
 
-  through_statement : (p : Placed) (o : Option Unfolded) (w : Written) → stated (placed_through p o w) ≡ w
+  through_statement : (p : Placed) (o : Option Unfolded) (w : Written) → stated (placed_through ws p o w) ≡ w
   through_statement p None w = refl
   through_statement p (Some u) w = refl
 
@@ -133,27 +133,27 @@ module _ (ws : List Written) (ss : List Standing) where
           placed = brought_at cs j c e x.before
               ∙ ap (λ k. Some (placed_under ws ss (slice_get (placed_of ws ss cs) k) (statement_at ws c.statement))) (sym same)
               ∙ ap (λ q. Some (placed_under ws ss q (statement_at ws c.statement))) b.is_call
-              ∙ ap (λ q. Some (placed_through b.call q (statement_at ws c.statement))) b.is_opened;
+              ∙ ap (λ q. Some (placed_through ws b.call q (statement_at ws c.statement))) b.is_opened;
           is = record { space = refl; scope = refl; bounds = refl; body = refl; macros = refl };
         }
 
-    -- it is opened by an optional of its body
-    by_optional : (j : ℕ) (c : Called) → slice_get cs j ≡ Some c → c.opener < length ss + j → (x : IsOptionalOf ws cs (length ss) c.opener c.body)
+    -- it is opened by an optional or a booleanif of its body
+    by_inner : (j : ℕ) (c : Called) → slice_get cs j ≡ Some c → c.opener < length ss + j → (x : IsInnerOf ws cs (length ss) c.opener c.body)
         → IsBrought (length ss + x.rank) x.called → IsBrought (length ss + j) c
-    by_optional j c e less x o =
+    by_inner j c e less x o =
         let behind = x.behind in
         let before = o.before in
-        let keyword = ap (λ (w : Written). is_optional w.statement.keyword) (called_statement cs x.rank x.called o.there x.is o.placed) ∙ x.optional in
+        let keyword = ap (λ (w : Written). keeps_place w.statement.keyword) (called_statement cs x.rank x.called o.there x.is o.placed) ∙ x.keeps in
         record {
           body = o.body;
           is_body = ap (slice_get bs) (sym x.body) ∙ o.is_body;
           before = omega (arith, behind, before, less);
           so = o.so;
-          there = placed_in_optional o.there (statement_at ws c.statement);
+          there = placed_inside ws o.there (statement_at ws c.statement);
           placed = brought_at cs j c e less
               ∙ ap (λ k. Some (placed_under ws ss (slice_get (placed_of ws ss cs) k) (statement_at ws c.statement))) x.behind
               ∙ ap (λ q. Some (placed_under ws ss q (statement_at ws c.statement))) o.placed
-              ∙ ap (λ q. Some (placed_through o.there q (statement_at ws c.statement))) (optional_opens_none ws ss o.there keyword);
+              ∙ ap (λ q. Some (placed_through ws o.there q (statement_at ws c.statement))) (kept_opens_none ws ss o.there keyword);
           is = record { space = o.is.space; scope = o.is.scope; bounds = o.is.bounds; body = o.is.body; macros = o.is.macros };
         }
 
@@ -164,7 +164,7 @@ module _ (ws : List Written) (ss : List Standing) where
         let before = x.before in
         elim x.opened [
           | inl same ↦ by_call j c x e same
-          | inr o ↦ let behind = o.behind in by_optional j c e x.before o (brought_below n o.rank o.called (omega (arith, less, before, behind)) o.is)
+          | inr o ↦ let behind = o.behind in by_inner j c e x.before o (brought_below n o.rank o.called (omega (arith, less, before, behind)) o.is)
         ]
 
     pub is_brought : (j : ℕ) (c : Called) → slice_get cs j ≡ Some c → IsBrought (length ss + j) c

@@ -29,9 +29,9 @@ use Rattle.cil_macros.specs.declared.meant.Meant.{Meant}
 use Rattle.cil_macros.specs.declared.openings.Opening.{Opening}
 use Rattle.cil_macros.specs.declared.placed_word.PlacedWord.{PlacedWord}
 use Rattle.cil_macros.specs.declared.scene.Scene.{Scene}
-use Rattle.cil_macros.specs.Calls.{Unfolded, is_call, unfolded}
+use Rattle.cil_macros.specs.Calls.{IsPlaced, Unfolded, is_call, unfolded}
 use Rattle.cil_macros.specs.Instances.{AreInstances, AreMeant}
-use Rattle.cil_macros.specs.Items.{Kept, all_placed, argument_words, call_words, is_text, item_at, items_in, leaves, listed_unless, macro_words, placed_at, says, scoped_by, unfolded_words, word_in_argument}
+use Rattle.cil_macros.specs.Items.{Kept, all_placed, argument_words, call_says, call_words, is_text, item_at, items_in, leaves, listed_unless, macro_words, placed_at, says, scoped_by, unfolded_words, with_macro, word_in_argument}
 use Rattle.cil_macros.specs.Macros.{all_standing}
 use Rattle.cil_macros.specs.Meant.{bounds_by, kind_sign, meant_in, meant_term, scope_there}
 use Rattle.cil_macros.specs.Parameters.{Parameter, macro_parameters, parameters_in}
@@ -42,6 +42,7 @@ use Rattle.cil_macros.proofs.ArgumentLemmas.{first_left, one_parameter}
 use Rattle.cil_macros.proofs.CallOpening.{no_macro_there}
 use Rattle.cil_macros.proofs.PlacedLemmas.{is_place, placed_so}
 use Rattle.cil_macros.proofs.ServingLemmas.{no_parameter}
+use Rattle.cil_macros.proofs.WordValues.{placed_no_lists, unfolded_are_words, unfolded_so}
 
 -- ---- the word of the macro
 
@@ -243,26 +244,37 @@ all_opened s os are meant = record {
 
 -- ---- what a call says
 
-says_words : (ws : List Written) (ss : List Standing) (p : Placed) (keyword : Keyword) (args : Terms Word) → is_call keyword ≡ true → says ws ss p keyword args ≡ leaves (call_words ws ss p args)
-unfolding says
-says_words ws ss p keywords.Call args e = refl
-says_words ws ss p keyword args e = absurd (let f : false ≡ true = e in cc)
+macro_said : (p : Placed) (o : Option Word) (us : List ScopedWord) → with_macro p o (leaves us) ≡ leaves (macro_words p o ++ us)
+unfolding leaves
+macro_said p None us = refl
+macro_said p (Some w) us = refl
 
-item_says : (i : Kept) (at : ℕ) (words : List PlacedWord) → at < length (items_in i)
+module _ (ws : List Written) (ss : List Standing) (p : Placed) (placed : IsPlaced ws ss p) where
+  says_call : (args : Terms Word) → call_says ws ss p args ≡ leaves (call_words ws ss p args)
+  says_call args =
+      ap (with_macro p (first_word args)) (unfolded_are_words (unfolded ws ss p) (unfolded_so ws p (placed_no_lists ws ss p placed) ss))
+      ∙ macro_said p (first_word args) (unfolded_words (unfolded ws ss p))
+
+  says_words : (keyword : Keyword) (args : Terms Word) → is_call keyword ≡ true → says ws ss p keyword args ≡ leaves (call_words ws ss p args)
+  unfolding says
+  says_words keywords.Call args e = says_call args
+  says_words keyword args e = absurd (let f : false ≡ true = e in cc)
+
+item_says : (i : Kept) (at : ℕ) (words : List PlacedWord) → at < length (items_in i) → IsPlaced (written_in i.0) (all_standing i.0) (placed_at i at)
     → ((p : Placed) → slice_get (all_placed i) at ≡ Some p → map (scoped_by (all_placed i)) words ≡ call_words (written_in i.0) (all_standing i.0) p p.standing.statement.statement.args)
     → is_call (item_at i at).keyword ≡ true → (item_at i at).args ≡ leaves (map (scoped_by (all_placed i)) words)
-item_says i at words within so e =
+item_says i at words within placed so e =
     let p = placed_at i at in
-    says_words (written_in i.0) (all_standing i.0) p p.standing.statement.statement.keyword p.standing.statement.statement.args e
+    says_words (written_in i.0) (all_standing i.0) p placed p.standing.statement.statement.keyword p.standing.statement.statement.args e
     ∙ ap leaves (sym (so p (placed_so i at (is_place i at within))))
 
 -- the same where there is memory
-pub words_say : {E : Type 0} (j i : Kept) → j ≡ i → (at : ℕ) → at < length (items_in i) → (r : Result (Vec PlacedWord Global) E)
+pub words_say : {E : Type 0} (j i : Kept) → j ≡ i → (at : ℕ) → at < length (items_in i) → IsPlaced (written_in i.0) (all_standing i.0) (placed_at i at) → (r : Result (Vec PlacedWord Global) E)
     → IfOk r (λ words. (p : Placed) → slice_get (all_placed j) at ≡ Some p
     → map (scoped_by (all_placed j)) words.items ≡ call_words (written_in j.0) (all_standing j.0) p p.standing.statement.statement.args)
     → IfOk r (λ words. is_call (item_at i at).keyword ≡ true → (item_at i at).args ≡ leaves (map (scoped_by (all_placed i)) words.items))
-words_say j i same at within (Ok words) so =
-    item_says i at words.items within
+words_say j i same at within placed (Ok words) so =
+    item_says i at words.items within placed
     (subst (λ (k : Kept). (p : Placed) → slice_get (all_placed k) at ≡ Some p
     → map (scoped_by (all_placed k)) words.items ≡ call_words (written_in k.0) (all_standing k.0) p p.standing.statement.statement.args) same so)
-words_say j i same at within (Err e) so = tt
+words_say j i same at within placed (Err e) so = tt

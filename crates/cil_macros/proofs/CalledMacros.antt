@@ -14,7 +14,7 @@ use Rattle.cil_syntax.specs.declared.term.Word.{Word}
 use Rattle.cil_faults.specs.Namespaces.{Namespace}
 use Rattle.cil_syntax.specs.Scopes.{asked, spaces_asked}
 use Rattle.cil_syntax.specs.Written.{Written, is_macro}
-use Rattle.cil_blocks.specs.Contents.{Standing, first_word, is_optional, path_cmp, path_of}
+use Rattle.cil_blocks.specs.Contents.{Standing, first_word, keeps_place, path_cmp, path_of}
 use Rattle.cil_macros.specs.Calls.{Unfolded, bounds_of_call, called_macro, has_macro, is_call, is_macro_named, is_repeated, macro_in, macro_in_scope, macro_of_word, nearer_of, nearest, unfolded, unfolded_by, unfolded_with}
 use Rattle.cil_macros.specs.Placed.{Bound, Placed}
 
@@ -37,9 +37,9 @@ nearest_is (s ∷ ss) m e = nearest_of s m ss (nearest ss) (nearest_is ss) e
 
 -- ---- what a call names
 
-optional_no_call : (k : Keyword) → is_optional k ≡ true → is_call k ≡ false
-optional_no_call keywords.Call e = absurd (let f : false ≡ true = e in cc)
-optional_no_call k e = refl
+kept_no_call : (k : Keyword) → keeps_place k ≡ true → is_call k ≡ false
+kept_no_call keywords.Call e = absurd (let f : false ≡ true = e in cc)
+kept_no_call k e = refl
 
 call_names : (b : Bool) (o : Option Standing) (m : Standing) → (if b then o else None) ≡ Some m → (b ≡ true) × (o ≡ Some m)
 call_names true o m e = (refl, e)
@@ -93,9 +93,9 @@ module _ (ws : List Written) (ss : List Standing) where
       let named = names_macro p u.macro (unfolded_of p (called_macro ss p) u e) in
       record { call = named.0; is_standing = named.1; macro = named.2 }
 
-  -- an optional is no call
-  pub optional_opens_none : (p : Placed) → is_optional p.standing.statement.statement.keyword ≡ true → unfolded ws ss p ≡ None
+  -- an optional or a booleanif is no call
+  pub kept_opens_none : (p : Placed) → keeps_place p.standing.statement.statement.keyword ≡ true → unfolded ws ss p ≡ None
   unfolding unfolded called_macro
-  optional_opens_none p e =
+  kept_opens_none p e =
       ap (λ b. unfolded_by ws p (if b then macro_of_word ss p (first_word p.standing.statement.statement.args) else None))
-      (optional_no_call p.standing.statement.statement.keyword e)
+      (kept_no_call p.standing.statement.statement.keyword e)

@@ -1,4 +1,5 @@
--- What calls bring, as it is kept: one more is one placed statement more, and what a call or an optional opens is what is in it.
+-- What calls bring, as it is kept: one more is one placed statement more, and what a call, an optional or a booleanif opens is what
+-- is in it.
 use Rattle.std.proofs.Common.{◌≡◌, ℕ, ◌+◌, ◌<◌, ◌≤◌, Bool, true, false, List, [], ◌∷◌, ◌++◌, length, get_or, map, take, refl, sym, ◌∙◌, ap, subst, arith, append_assoc}
 use Rattle.std.specs.Prelude.{Some, None, slice_get}
 use Rattle.std.specs.List.Sorted.{IsStrictlySortedBy}
@@ -7,19 +8,19 @@ use Rattle.cil_base.specs.Places.{get_in_front}
 use Rattle.cil_base.specs.Rising.{IsOver}
 use Rattle.cil_base.specs.Lists.{Lists}
 use Rattle.cil_syntax.specs.Written.{Written, written_cmp}
-use Rattle.cil_blocks.specs.Contents.{Standing, is_optional, standing_cmp}
+use Rattle.cil_blocks.specs.Contents.{Standing, keeps_place, standing_cmp}
 use Rattle.cil_blocks.specs.Entries.{AreParts, parts_at, statement_at}
 use Rattle.cil_blocks.specs.Opens.{parts}
 use Rattle.cil_blocks.specs.declared.parts.Parts.{Parts}
 use Rattle.cil_blocks.proofs.EntryLemmas.{map_two}
 use Rattle.cil_base.specs.Queue as queue
 use Rattle.cil_macros.specs.declared.entry.Called.{Called}
-use Rattle.cil_macros.specs.Calls.{IsPlaced, Unfolded, is_call, placed_called, placed_cmp, placed_in_optional, unfolded}
+use Rattle.cil_macros.specs.Calls.{IsPlaced, Unfolded, is_call, placed_called, placed_cmp, unfolded}
 use Rattle.cil_macros.specs.Entries.{placed_by, placed_from, placed_of, placed_through, placed_under}
-use Rattle.cil_macros.specs.Opens.{opens_call, opens_inside, opens_placed, starts}
+use Rattle.cil_macros.specs.Opens.{opens_call, opens_inside, opens_placed, placed_inside, starts}
 use Rattle.cil_macros.specs.Placed.{Body, Placed, placed_standing}
-use Rattle.cil_macros.proofs.CalledMacros.{is_macro_call, optional_opens_none}
-use Rattle.cil_macros.proofs.PlacedWalk.{call_no_optional, chosen_false, chosen_true, placed_reached, queue_order, reached_placed}
+use Rattle.cil_macros.proofs.CalledMacros.{is_macro_call, kept_opens_none}
+use Rattle.cil_macros.proofs.PlacedWalk.{call_keeps_none, chosen_false, chosen_true, placed_reached, queue_order, reached_placed}
 
 module _ (ws : List Written) (ss : List Standing) where
   -- ---- the view of one more
@@ -65,28 +66,28 @@ module _ (ws : List Written) (ss : List Standing) where
 
   -- ---- what a placed statement opens, by numbers
 
-  -- what is in no body, or no optional, opens what a call opens
-  pub no_optional_opens : (p : Placed) → is_optional p.standing.statement.statement.keyword ≡ false → opens_placed ws ss p ≡ opens_call ws p (unfolded ws ss p)
+  -- what is in no body, or neither an optional nor a booleanif, opens what a call opens
+  pub other_opens : (p : Placed) → keeps_place p.standing.statement.statement.keyword ≡ false → opens_placed ws ss p ≡ opens_call ws p (unfolded ws ss p)
   unfolding opens_placed
-  no_optional_opens p e = chosen_false (is_optional p.standing.statement.statement.keyword) (opens_inside ws p p.body) (opens_call ws p (unfolded ws ss p)) e
+  other_opens p e = chosen_false (keeps_place p.standing.statement.statement.keyword) (opens_inside ws p p.body) (opens_call ws p (unfolded ws ss p)) e
 
-  optional_opens : (p : Placed) → is_optional p.standing.statement.statement.keyword ≡ true → opens_placed ws ss p ≡ opens_inside ws p p.body
+  kept_opens : (p : Placed) → keeps_place p.standing.statement.statement.keyword ≡ true → opens_placed ws ss p ≡ opens_inside ws p p.body
   unfolding opens_placed
-  optional_opens p e = chosen_true (is_optional p.standing.statement.statement.keyword) (opens_inside ws p p.body) (opens_call ws p (unfolded ws ss p)) e
+  kept_opens p e = chosen_true (keeps_place p.standing.statement.statement.keyword) (opens_inside ws p p.body) (opens_call ws p (unfolded ws ss p)) e
 
   pub standing_opens : (p : Placed) → p.body ≡ None → opens_placed ws ss p ≡ opens_call ws p (unfolded ws ss p)
-  standing_opens p none = either (is_optional p.standing.statement.statement.keyword) refl
+  standing_opens p none = either (keeps_place p.standing.statement.statement.keyword) refl
     where
-      either : (b : Bool) → is_optional p.standing.statement.statement.keyword ≡ b → opens_placed ws ss p ≡ opens_call ws p (unfolded ws ss p)
-      either true e = optional_opens p e ∙ ap (opens_inside ws p) none ∙ ap (opens_call ws p) (sym (optional_opens_none ws ss p e))
-      either false e = no_optional_opens p e
+      either : (b : Bool) → keeps_place p.standing.statement.statement.keyword ≡ b → opens_placed ws ss p ≡ opens_call ws p (unfolded ws ss p)
+      either true e = kept_opens p e ∙ ap (opens_inside ws p) none ∙ ap (opens_call ws p) (sym (kept_opens_none ws ss p e))
+      either false e = other_opens p e
 
   pub opens_nothing : (p : Placed) → opens_placed ws ss p ≡ opens_call ws p (unfolded ws ss p) → unfolded ws ss p ≡ None → opens_placed ws ss p ≡ []
   opens_nothing p so e = so ∙ ap (opens_call ws p) e
 
   opens_body : (p : Placed) (u : Unfolded) → unfolded ws ss p ≡ Some u → opens_placed ws ss p ≡ map (placed_called p u) (parts ws u.macro.statement)
   opens_body p u e =
-      no_optional_opens p (call_no_optional p.standing.statement.statement.keyword (is_macro_call ws ss p u e).call) ∙ ap (opens_call ws p) e
+      other_opens p (call_keeps_none p.standing.statement.statement.keyword (is_macro_call ws ss p u e).call) ∙ ap (opens_call ws p) e
 
   pub opens_so : (ps : Parts) → AreParts ws ps → (done : List Placed) (at k : ℕ) (p : Placed) (u : Unfolded) → slice_get done at ≡ Some p → unfolded ws ss p ≡ Some u
       → k < length ws → u.macro.statement ≡ statement_at ws k → map (placed_by ws ss done at) (parts_at ps k) ≡ opens_placed ws ss p
@@ -94,21 +95,21 @@ module _ (ws : List Written) (ss : List Standing) where
       map_two ws (placed_under ws ss (slice_get done at)) (statement_at ws) (parts_at ps k)
       ∙ ap (map (placed_under ws ss (slice_get done at))) (are_parts.inside k within)
       ∙ ap (λ o. map (placed_under ws ss o) (parts ws (statement_at ws k))) here
-      ∙ ap (λ o. map (placed_through p o) (parts ws (statement_at ws k))) e
+      ∙ ap (λ o. map (placed_through ws p o) (parts ws (statement_at ws k))) e
       ∙ ap (λ w. map (placed_called p u) (parts ws w)) (sym same)
       ∙ sym (opens_body p u e)
 
-  -- an optional of a body opens the statements directly in it
+  -- an optional or a booleanif of a body opens the statements directly in it
   pub opens_within : (ps : Parts) → AreParts ws ps → (done : List Placed) (at k : ℕ) (p : Placed) (b : Body) → slice_get done at ≡ Some p → p.body ≡ Some b
-      → is_optional p.standing.statement.statement.keyword ≡ true → k < length ws → p.standing.statement ≡ statement_at ws k
+      → keeps_place p.standing.statement.statement.keyword ≡ true → k < length ws → p.standing.statement ≡ statement_at ws k
       → map (placed_by ws ss done at) (parts_at ps k) ≡ opens_placed ws ss p
   opens_within ps are_parts done at k p b here e is within same =
       map_two ws (placed_under ws ss (slice_get done at)) (statement_at ws) (parts_at ps k)
       ∙ ap (map (placed_under ws ss (slice_get done at))) (are_parts.inside k within)
       ∙ ap (λ o. map (placed_under ws ss o) (parts ws (statement_at ws k))) here
-      ∙ ap (λ o. map (placed_through p o) (parts ws (statement_at ws k))) (optional_opens_none ws ss p is)
-      ∙ ap (λ w. map (placed_in_optional p) (parts ws w)) (sym same)
-      ∙ sym (optional_opens p is ∙ ap (opens_inside ws p) e)
+      ∙ ap (λ o. map (placed_through ws p o) (parts ws (statement_at ws k))) (kept_opens_none ws ss p is)
+      ∙ ap (λ w. map (placed_inside ws p) (parts ws w)) (sym same)
+      ∙ sym (kept_opens p is ∙ ap (opens_inside ws p) e)
 
   -- ---- the loop
 

@@ -1,12 +1,12 @@
 -- The step of macros: its faults are those that are told, or that of the limit.
-use Rattle.std.proofs.Common.{◌≡◌, ◌+◌, ◌≤◌, Bool, true, false, List, [], length, refl, sym, ◌∙◌, ap, subst, inl, inr, arith}
-use Rattle.std.specs.Prelude.{Contains, Option, Some, None, is_some, not}
+use Rattle.std.proofs.Common.{◌≡◌, ◌⊎◌, ℕ, zero, suc, ◌+◌, ◌≤◌, Bool, true, false, List, [], ◌∷◌, ◌++◌, length, refl, sym, ◌∙◌, ap, subst, inl, inr, arith}
+use Rattle.std.specs.Prelude.{Contains, Option, Some, None, is_some, not, slice_get}
+use Rattle.std.proofs.lemmas.Bool.{and_from, and_parts}
 use Rattle.std.specs.Cmp.{IsTotalOrder}
-use Rattle.std.specs.List.{flat_map}
 use Rattle.std.proofs.lemmas.Cmp.{lists_total, nat_cmp_total, on_total, then_total}
 use Rattle.std.proofs.lemmas.List.Elements.{Contains-append_cases, Contains-append_left, Contains-append_right}
 use Rattle.cil_base.specs.Lists.{Lists, contains_cases, contains_here, contains_none}
-use Rattle.cil_base.specs.MadeLists.{contains_flat, from_flat}
+use Rattle.cil_base.specs.Places.{get_at, get_contains, none_some, some_same}
 use Rattle.cil_base.specs.Rising.{IsOver, not_over}
 use Rattle.cil_faults.specs.declared.code.FaultCode.{FaultCode}
 use Rattle.cil_faults.specs.declared.code.FaultCode.TheVariants as causes
@@ -21,13 +21,17 @@ use Rattle.cil_blocks.specs.InheritFaults.{limit_fault, most_instances}
 use Rattle.cil_blocks.specs.Places.{Standings, entries_in}
 use Rattle.cil_blocks.proofs.EntryLemmas.{standings_length}
 use Rattle.cil_macros.specs.declared.entry.Called.{Called}
-use Rattle.cil_macros.specs.CallFaults.{faults_of, is_again, is_unfit, told, told_if}
-use Rattle.cil_macros.specs.Calls.{IsPlaced, bounds_of_call, called_macro, is_repeated, placed_cmp}
-use Rattle.cil_macros.specs.ExpandFaults.{ExpandFault, ExpandStep, call_arguments, call_cycle, of_calls, too_many}
+use Rattle.cil_macros.specs.declared.faults.Wrong.{Wrong}
+use Rattle.cil_macros.specs.Brings.{AreCallMarks, BringsOther, is_marked}
+use Rattle.cil_macros.specs.CallFaults.{faults_from, faults_of, is_again, is_unfit, told, told_if, wrong_of}
+use Rattle.cil_macros.specs.CallPlaces.{is_call_in_branch, is_in_branch}
+use Rattle.cil_macros.specs.Calls.{IsPlaced, bounds_of_call, called_macro, is_call, is_repeated, placed_cmp}
+use Rattle.cil_macros.specs.ExpandFaults.{ExpandFault, ExpandStep, call_arguments, call_cycle, call_place, call_misplaced, of_calls, too_many}
 use Rattle.cil_macros.specs.Macros.{all_standing}
 use Rattle.cil_macros.specs.Placed.{Placed}
 use Rattle.cil_macros.specs.Walks.{placed_in, written_in}
 use Rattle.cil_macros.proofs.EntryLemmas.{placed_length}
+use Rattle.cil_macros.proofs.WordValues.{none_misplaced}
 use Rattle.cil_faults.proofs.RefusalLemmas.{faults_alike}
 
 pub placed_total : IsTotalOrder placed_cmp
@@ -48,63 +52,144 @@ unfit_none None e = refl
 unfit_none (Some x) e = cc
 
 module _ (ws : List Written) (ss : List Standing) where
+  -- what is told of a word is one of the three
+  module _ (space : Namespace) (x : Wrong) (w : Word) where
+    told_cases : (f : Fault) → Contains (told space x (Some w)) f
+        → ((x.again ≡ true) × (fault_at causes.CallCycle w.at space w.bytes ≡ f))
+        ⊎ (((x.unfit ≡ true) × (fault_at causes.CallArguments w.at space w.bytes ≡ f)) ⊎ ((x.misplaced ≡ true) × (fault_at causes.CallPlace w.at space w.bytes ≡ f)))
+    told_cases f c =
+        elim (Contains-append_cases (told_if x.again causes.CallCycle space w) (told_if x.unfit causes.CallArguments space w ++ told_if x.misplaced causes.CallPlace space w) f c) [
+          | inl d ↦ inl (if_told x.again causes.CallCycle space w f d)
+          | inr d ↦ inr (elim (Contains-append_cases (told_if x.unfit causes.CallArguments space w) (told_if x.misplaced causes.CallPlace space w) f d) [
+            | inl e ↦ inl (if_told x.unfit causes.CallArguments space w f e)
+            | inr e ↦ inr (if_told x.misplaced causes.CallPlace space w f e)
+          ])
+        ]
+
+    told_again : x.again ≡ true → Contains (told space x (Some w)) (fault_at causes.CallCycle w.at space w.bytes)
+    told_again e =
+        Contains-append_left (told_if x.again causes.CallCycle space w) (told_if x.unfit causes.CallArguments space w ++ told_if x.misplaced causes.CallPlace space w)
+        (fault_at causes.CallCycle w.at space w.bytes) (is_told x.again causes.CallCycle space w e)
+
+    told_unfit : x.unfit ≡ true → Contains (told space x (Some w)) (fault_at causes.CallArguments w.at space w.bytes)
+    told_unfit e =
+        Contains-append_right (told_if x.again causes.CallCycle space w) (told_if x.unfit causes.CallArguments space w ++ told_if x.misplaced causes.CallPlace space w)
+        (fault_at causes.CallArguments w.at space w.bytes)
+        (Contains-append_left (told_if x.unfit causes.CallArguments space w) (told_if x.misplaced causes.CallPlace space w) (fault_at causes.CallArguments w.at space w.bytes)
+        (is_told x.unfit causes.CallArguments space w e))
+
+    told_misplaced : x.misplaced ≡ true → Contains (told space x (Some w)) (fault_at causes.CallPlace w.at space w.bytes)
+    told_misplaced e =
+        Contains-append_right (told_if x.again causes.CallCycle space w) (told_if x.unfit causes.CallArguments space w ++ told_if x.misplaced causes.CallPlace space w)
+        (fault_at causes.CallPlace w.at space w.bytes)
+        (Contains-append_right (told_if x.unfit causes.CallArguments space w) (told_if x.misplaced causes.CallPlace space w) (fault_at causes.CallPlace w.at space w.bytes)
+        (is_told x.misplaced causes.CallPlace space w e))
+
+  again_some : (p : Placed) (o : Option Standing) → is_again p o ≡ true → (m : Standing) × (o ≡ Some m) × (is_repeated p m ≡ true)
+  again_some p None e = absurd (let f : false ≡ true = e in cc)
+  again_some p (Some m) e = (m, refl, e)
+
+  unfit_some : (p : Placed) (o : Option Standing) → is_unfit ws p o ≡ true → (m : Standing) × (o ≡ Some m) × (bounds_of_call ws p m ≡ None)
+  unfit_some p None e = absurd (let f : false ≡ true = e in cc)
+  unfit_some p (Some m) e = (m, refl, unfit_none (bounds_of_call ws p m) e)
+
   -- what was told is wrong
-  told_is : (p : Placed) (o : Option Standing) (q : Option Word) (f : Fault) → IsPlaced ws ss p → called_macro ss p ≡ o → first_word p.standing.statement.statement.args ≡ q
-      → Contains (told p.standing.space (record { again = is_again p o; unfit = is_unfit ws p o }) q) f → ExpandFault ws ss f
-  told_is p o None f ip e g c = absurd (contains_none f c)
-  told_is p None (Some w) f ip e g c = absurd (contains_none f c)
-  told_is p (Some m) (Some w) f ip e g c =
-      elim (Contains-append_cases (told_if (is_repeated p m) causes.CallCycle p.standing.space w) (told_if (not (is_some (bounds_of_call ws p m))) causes.CallArguments p.standing.space w) f c) [
-        | inl d ↦ let t = if_told (is_repeated p m) causes.CallCycle p.standing.space w f d in subst (ExpandFault ws ss) t.1 (call_cycle p m w ip e g t.0)
-        | inr d ↦ let t = if_told (not (is_some (bounds_of_call ws p m))) causes.CallArguments p.standing.space w f d in
-            subst (ExpandFault ws ss) t.1 (call_arguments p m w ip e g (unfit_none (bounds_of_call ws p m) t.0))
+  told_is : (p : Placed) (mark : Bool) (q : Option Word) (f : Fault) → IsPlaced ws ss p → (mark ≡ true → is_call_in_branch p.standing.statement ≡ true → BringsOther ws ss p)
+      → first_word p.standing.statement.statement.args ≡ q → Contains (told p.standing.space (wrong_of ws ss mark p) q) f → ExpandFault ws ss f
+  told_is p mark None f ip brings g c = absurd (contains_none f c)
+  told_is p mark (Some w) f ip brings g c =
+      elim (told_cases p.standing.space (wrong_of ws ss mark p) w f c) [
+        | inl t ↦ let m = again_some p (called_macro ss p) t.0 in subst (ExpandFault ws ss) t.1 (call_cycle p m.0 w ip m.1 g m.2)
+        | inr d ↦ elim d [
+          | inl t ↦ let m = unfit_some p (called_macro ss p) t.0 in subst (ExpandFault ws ss) t.1 (call_arguments p m.0 w ip m.1 g m.2)
+          | inr t ↦ let b = and_parts mark (is_call_in_branch p.standing.statement) t.0 in
+              let x = brings b.0 b.1 in
+              subst (ExpandFault ws ss) t.1 (call_place p x.other w ip b.1 x.placed x.through x.misplaced g)
+        ]
       ]
 
   -- what is wrong is told
-  here : (p : Placed) (m : Standing) (w : Word) (f : Fault) → called_macro ss p ≡ Some m → first_word p.standing.statement.statement.args ≡ Some w
-      → Contains (told p.standing.space (record { again = is_repeated p m; unfit = not (is_some (bounds_of_call ws p m)) }) (Some w)) f → Contains (faults_of ws ss p) f
-  here p m w f e g c =
-      subst (λ o. Contains (told p.standing.space (record { again = is_again p o; unfit = is_unfit ws p o }) (first_word p.standing.statement.statement.args)) f) (sym e)
-      (subst (λ q. Contains (told p.standing.space (record { again = is_repeated p m; unfit = not (is_some (bounds_of_call ws p m)) }) q) f) (sym g) c)
+  here : (p : Placed) (mark : Bool) (w : Word) (f : Fault) → first_word p.standing.statement.statement.args ≡ Some w
+      → Contains (told p.standing.space (wrong_of ws ss mark p) (Some w)) f → Contains (faults_of ws ss mark p) f
+  here p mark w f g c = subst (λ q. Contains (told p.standing.space (wrong_of ws ss mark p) q) f) (sym g) c
+
+  -- ---- what is told of all
+
+  module _ (marks : List Bool) where
+    from_some : (k : ℕ) (xs : List Placed) (f : Fault) → Contains (faults_from ws ss marks k xs) f
+        → (i : ℕ) × (p : Placed) × (slice_get xs i ≡ Some p) × Contains (faults_of ws ss (is_marked marks (k + i)) p) f
+    unfolding faults_from
+    from_some k [] f c = absurd (contains_none f c)
+    from_some k (p ∷ xs) f c =
+        elim (Contains-append_cases (faults_of ws ss (is_marked marks k) p) (faults_from ws ss marks (suc k) xs) f c) [
+          | inl d ↦ (0, p, refl, subst (λ n. Contains (faults_of ws ss (is_marked marks n) p) f) (let e : k ≡ k + 0 = omega arith in e) d)
+          | inr d ↦ let r = from_some (suc k) xs f d in
+              (suc r.0, r.1, r.2, subst (λ n. Contains (faults_of ws ss (is_marked marks n) r.1) f) (let e : suc k + r.0 ≡ k + suc r.0 = omega arith in e) r.3)
+        ]
+
+    some_from : (k : ℕ) (xs : List Placed) (f : Fault) (i : ℕ) (p : Placed) → slice_get xs i ≡ Some p → Contains (faults_of ws ss (is_marked marks (k + i)) p) f
+        → Contains (faults_from ws ss marks k xs) f
+    unfolding faults_from
+    some_from k [] f i p e c = absurd (none_some p e)
+    some_from k (x ∷ xs) f zero p e c =
+        Contains-append_left (faults_of ws ss (is_marked marks k) x) (faults_from ws ss marks (suc k) xs) f
+        (subst (λ y. Contains (faults_of ws ss (is_marked marks k) y) f) (sym (some_same x p e))
+        (subst (λ n. Contains (faults_of ws ss (is_marked marks n) p) f) (let g : k + 0 ≡ k = omega arith in g) c))
+    some_from k (x ∷ xs) f (suc i) p e c =
+        Contains-append_right (faults_of ws ss (is_marked marks k) x) (faults_from ws ss marks (suc k) xs) f
+        (some_from (suc k) xs f i p e (subst (λ n. Contains (faults_of ws ss (is_marked marks n) p) f) (let g : k + suc i ≡ suc k + i = omega arith in g) c))
 
   module _ (xs : List Placed) (are : Lists placed_cmp (IsPlaced ws ss) xs) where
-    pub told_fault : (f : Fault) → Contains (flat_map (faults_of ws ss) xs) f → ExpandFault ws ss f
-    told_fault f c =
-        let p = from_flat (faults_of ws ss) xs f c in
-        told_is p.0 (called_macro ss p.0) (first_word p.0.standing.statement.statement.args) f ((are.members p.0).0 p.1) refl refl p.2
-
-    pub fault_told : (f : Fault) → ExpandFault ws ss f → Contains (flat_map (faults_of ws ss) xs) f
-    fault_told f (call_cycle p m w ip e g again) =
-        contains_flat (faults_of ws ss) xs p (fault_at causes.CallCycle w.at p.standing.space w.bytes) ((are.members p).1 ip)
-        (here p m w (fault_at causes.CallCycle w.at p.standing.space w.bytes) e g
-        (Contains-append_left (told_if (is_repeated p m) causes.CallCycle p.standing.space w) (told_if (not (is_some (bounds_of_call ws p m))) causes.CallArguments p.standing.space w)
-        (fault_at causes.CallCycle w.at p.standing.space w.bytes) (is_told (is_repeated p m) causes.CallCycle p.standing.space w again)))
-    fault_told f (call_arguments p m w ip e g none) =
-        contains_flat (faults_of ws ss) xs p (fault_at causes.CallArguments w.at p.standing.space w.bytes) ((are.members p).1 ip)
-        (here p m w (fault_at causes.CallArguments w.at p.standing.space w.bytes) e g
-        (Contains-append_right (told_if (is_repeated p m) causes.CallCycle p.standing.space w) (told_if (not (is_some (bounds_of_call ws p m))) causes.CallArguments p.standing.space w)
-        (fault_at causes.CallArguments w.at p.standing.space w.bytes)
-        (is_told (not (is_some (bounds_of_call ws p m))) causes.CallArguments p.standing.space w (ap (λ o. not (is_some o)) none))))
-
-    -- ---- the step
-
     pub not_too_many : length xs ≤ most_instances → IsOver placed_cmp (IsPlaced ws ss) most_instances → ⊥
     not_too_many h over = not_over placed_cmp placed_total (IsPlaced ws ss) xs most_instances are h over
-
-    pub refused_calls : length xs ≤ most_instances → (faults l : List Fault) → faults ≡ flat_map (faults_of ws ss) xs → AreFaults (Contains faults) l → AreFaults (ExpandStep ws ss) l
-    refused_calls h faults l e so =
-        faults_alike (Contains faults) (ExpandStep ws ss) l (λ f c. of_calls f (not_too_many h) (told_fault f (subst (λ fs. Contains fs f) e c))) back so
-      where
-        back : (f : Fault) → ExpandStep ws ss f → Contains faults f
-        back f (of_calls g few x) = subst (λ fs. Contains fs f) (sym e) (fault_told f x)
-        back f (too_many over) = absurd (not_too_many h over)
-
-    pub no_fault : (faults : List Fault) → faults ≡ flat_map (faults_of ws ss) xs → faults ≡ [] → (f : Fault) → ExpandFault ws ss f → ⊥
-    no_fault faults e none f x = contains_none f (subst (λ fs. Contains fs f) (sym e ∙ none) (fault_told f x))
 
     pub no_step : length xs ≤ most_instances → ((f : Fault) → ExpandFault ws ss f → ⊥) → (f : Fault) → ExpandStep ws ss f → ⊥
     no_step h none f (of_calls g few x) = none f x
     no_step h none f (too_many over) = not_too_many h over
+
+  module _ (xs : List Placed) (are : Lists placed_cmp (IsPlaced ws ss) xs) (marks : List Bool) (marked : AreCallMarks ws ss xs marks) where
+    pub told_fault : (f : Fault) → Contains (faults_from ws ss marks 0 xs) f → ExpandFault ws ss f
+    told_fault f c =
+        let r = from_some marks 0 xs f c in
+        told_is r.1 (is_marked marks r.0) (first_word r.1.standing.statement.statement.args) f ((are.members r.1).0 (get_contains xs r.0 r.1 r.2))
+        (λ m b. (marked r.0 r.1 r.2 (and_parts (is_call r.1.standing.statement.statement.keyword) (is_in_branch r.1.standing.statement) b).0).0 m) refl
+        (subst (λ n. Contains (faults_of ws ss (is_marked marks n) r.1) f) (let e : 0 + r.0 ≡ r.0 = omega arith in e) r.3)
+
+    told_there : (p : Placed) (f : Fault) → IsPlaced ws ss p → ((k : ℕ) → slice_get xs k ≡ Some p → Contains (faults_of ws ss (is_marked marks k) p) f)
+        → Contains (faults_from ws ss marks 0 xs) f
+    told_there p f ip c = let k = get_at xs p ((are.members p).1 ip) in
+        some_from marks 0 xs f k.0 p k.2 (subst (λ n. Contains (faults_of ws ss (is_marked marks n) p) f) (let e : k.0 ≡ 0 + k.0 = omega arith in e) (c k.0 k.2))
+
+    pub fault_told : (f : Fault) → ExpandFault ws ss f → Contains (faults_from ws ss marks 0 xs) f
+    fault_told f (call_cycle p m w ip e g again) =
+        told_there p (fault_at causes.CallCycle w.at p.standing.space w.bytes) ip
+        (λ k at. here p (is_marked marks k) w (fault_at causes.CallCycle w.at p.standing.space w.bytes) g
+        (told_again p.standing.space (wrong_of ws ss (is_marked marks k) p) w (ap (is_again p) e ∙ again)))
+    fault_told f (call_arguments p m w ip e g none) =
+        told_there p (fault_at causes.CallArguments w.at p.standing.space w.bytes) ip
+        (λ k at. here p (is_marked marks k) w (fault_at causes.CallArguments w.at p.standing.space w.bytes) g
+        (told_unfit p.standing.space (wrong_of ws ss (is_marked marks k) p) w (ap (is_unfit ws p) e ∙ ap (λ o. not (is_some o)) none)))
+    fault_told f (call_misplaced p u w ip e g has) = absurd (none_misplaced ws ss p u ip e has)
+    fault_told f (call_place p q w ip b iq through misplaced g) =
+        told_there p (fault_at causes.CallPlace w.at p.standing.space w.bytes) ip
+        (λ k at. here p (is_marked marks k) w (fault_at causes.CallPlace w.at p.standing.space w.bytes) g
+        (told_misplaced p.standing.space (wrong_of ws ss (is_marked marks k) p) w
+        (and_from (is_marked marks k) (is_call_in_branch p.standing.statement)
+        ((marked k p at (and_parts (is_call p.standing.statement.statement.keyword) (is_in_branch p.standing.statement) b).0).1
+        (record { other = q; placed = iq; through = through; misplaced = misplaced })) b)))
+
+    -- ---- the step
+
+    pub refused_calls : length xs ≤ most_instances → (faults l : List Fault) → faults ≡ faults_from ws ss marks 0 xs → AreFaults (Contains faults) l → AreFaults (ExpandStep ws ss) l
+    refused_calls h faults l e so =
+        faults_alike (Contains faults) (ExpandStep ws ss) l (λ f c. of_calls f (not_too_many xs are h) (told_fault f (subst (λ fs. Contains fs f) e c))) back so
+      where
+        back : (f : Fault) → ExpandStep ws ss f → Contains faults f
+        back f (of_calls g few x) = subst (λ fs. Contains fs f) (sym e) (fault_told f x)
+        back f (too_many over) = absurd (not_too_many xs are h over)
+
+    pub no_fault : (faults : List Fault) → faults ≡ faults_from ws ss marks 0 xs → faults ≡ [] → (f : Fault) → ExpandFault ws ss f → ⊥
+    no_fault faults e none f x = contains_none f (subst (λ fs. Contains fs f) (sym e ∙ none) (fault_told f x))
 
   pub limit_alone : IsOver placed_cmp (IsPlaced ws ss) most_instances → (f : Fault) → ExpandStep ws ss f → f ≡ limit_fault
   limit_alone over f (of_calls g few x) = absurd (few over)

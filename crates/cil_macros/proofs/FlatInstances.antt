@@ -1,21 +1,23 @@
 -- Where no macro stands, nothing is placed but what stands: nothing is in a body.
-use Rattle.std.proofs.Common.{◌≡◌, true, false, List, [], ◌∷◌, length, refl, sym, ◌∙◌, ap, subst, inl, inr, arith}
+use Rattle.std.proofs.Common.{◌≡◌, true, false, List, [], ◌∷◌, ◌++◌, length, refl, sym, ◌∙◌, ap, subst, inl, inr, arith}
 use Rattle.std.specs.Prelude.{Contains, Option, Some, None}
 use Rattle.std.specs.List.Sorted.{IsStrictlySortedBy}
-use Rattle.std.proofs.lemmas.Bool.{cases_lt}
+use Rattle.std.proofs.lemmas.Bool.{and_parts, cases_lt}
 use Rattle.std.proofs.lemmas.List.{length-map}
 use Rattle.cil_base.specs.Lists.{Lists, contains_cases, contains_here, contains_none}
 use Rattle.cil_base.specs.MadeLists.{contains_map, from_map}
 use Rattle.cil_base.specs.Places.{none_some}
-use Rattle.cil_base.specs.Rising.{IsOver}
+use Rattle.cil_base.specs.Rising.{IsOver, tied_same}
 use Rattle.cil_faults.specs.declared.fault.Fault.{Fault}
 use Rattle.cil_faults.specs.Fails.{AreFaults}
 use Rattle.cil_faults.specs.Laws.{Outcome, succeeds, fails}
-use Rattle.cil_syntax.specs.Written.{Written, is_macro, written_cmp}
-use Rattle.cil_blocks.specs.Contents.{Standing, Stands, in_block, in_optional as optional_stands, inherited, standing_cmp, top}
+use Rattle.cil_syntax.specs.Written.{Written, is_macro, written_cmp, written_total}
+use Rattle.cil_blocks.specs.Contents.{Standing, Stands, standing_cmp}
 use Rattle.cil_blocks.specs.InheritFaults.{limit_fault, most_instances}
-use Rattle.cil_macros.specs.Calls.{IsPlaced, Unfolded, called, called_macro, in_optional, is_call, placed_cmp, stands, unfolded}
-use Rattle.cil_macros.specs.ExpandFaults.{ExpandFault, ExpandStep, call_arguments, call_cycle, too_many}
+use Rattle.cil_blocks.proofs.ProgramLemmas.{tied}
+use Rattle.cil_macros.specs.CallPlaces.{is_in_branch}
+use Rattle.cil_macros.specs.Calls.{IsPlaced, Unfolded, called, called_macro, in_branch, in_optional, is_call, placed_cmp, stands, unfolded}
+use Rattle.cil_macros.specs.ExpandFaults.{ExpandFault, ExpandStep, call_arguments, call_cycle, call_place, call_misplaced, too_many}
 use Rattle.cil_macros.specs.Laws.{HaveFlatInstances}
 use Rattle.cil_macros.specs.Opens.{starts}
 use Rattle.cil_macros.specs.Placed.{Placed, placed_standing}
@@ -23,6 +25,8 @@ use Rattle.cil_macros.proofs.CallLemmas.{uncalled}
 use Rattle.cil_macros.proofs.CalledMacros.{names_macro}
 use Rattle.cil_macros.proofs.ExpandLemmas.{limit_alone, no_step}
 use Rattle.cil_macros.proofs.PlacedWalk.{queue_order}
+use Rattle.cil_macros.proofs.ThroughLemmas.{came_through_none, stands_ended}
+use Rattle.cil_macros.proofs.WordValues.{none_misplaced}
 use Rattle.cil_macros.proofs.WrittenLemmas.{stands_written}
 
 never : true ≡ false → ⊥
@@ -48,6 +52,9 @@ module _ (ws : List Written) (ss : List Standing) (rising : IsStrictlySortedBy w
   placed_stands p (in_optional q b w iq e o c i) =
       let m = from_map placed_standing ss q (placed_stands q iq) in
       absurd (none_some b (ap (λ (r : Placed). r.body) m.2 ∙ e))
+  placed_stands p (in_branch q b w iq e o c i) =
+      let m = from_map placed_standing ss q (placed_stands q iq) in
+      absurd (none_some b (ap (λ (r : Placed). r.body) m.2 ∙ e))
 
   unfolds_calls : (p : Placed) (u : Unfolded) → unfolded ws ss p ≡ Some u → is_call p.standing.statement.statement.keyword ≡ true
   unfolds_calls p u e = absurd (not_unfolded p u e)
@@ -61,9 +68,21 @@ module _ (ws : List Written) (ss : List Standing) (rising : IsStrictlySortedBy w
     );
   }
 
+  one_at : (v w : Written) → Contains ws v → Contains ws w → v.statement.at ≡ w.statement.at → v ≡ w
+  one_at v w c d e = tied_same written_cmp written_total ws v w rising c d (tied v w e)
+
   no_fault : (f : Fault) → ExpandFault ws ss f → ⊥
   no_fault f (call_cycle p m w ip e g again) = no_macro p m e
   no_fault f (call_arguments p m w ip e g none) = no_macro p m e
+  no_fault f (call_misplaced p u w ip e g has) = none_misplaced ws ss p u ip e has
+  no_fault f (call_place p q w ip b iq x misplaced g) =
+      let s = from_map placed_standing ss p (placed_stands p ip) in
+      let t = from_map placed_standing ss q (placed_stands q iq) in
+      let st = (are.members s.0).0 s.1 in
+      came_through_none ws one_at s.0 (stands_written ws s.0 st) (stands_ended ws s.0 st)
+      (ap (λ (r : Placed). is_call r.standing.statement.statement.keyword) s.2
+      ∙ (and_parts (is_call p.standing.statement.statement.keyword) (is_in_branch p.standing.statement) b).0) t.0 x.at x.more ((are.members t.0).0 t.1)
+      (ap (λ (r : Placed). r.standing.trail) t.2 ∙ x.so ∙ ap (λ (r : Placed). r.standing.trail ++ x.at ∷ x.more) (sym s.2))
 
   limit_listed : IsOver placed_cmp (IsPlaced ws ss) most_instances → AreFaults (ExpandStep ws ss) (limit_fault ∷ [])
   unfolding IsStrictlySortedBy

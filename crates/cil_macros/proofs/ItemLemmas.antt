@@ -6,14 +6,14 @@ use Rattle.cil_base.specs.Places.{drop_at, is_there}
 use Rattle.cil_syntax.specs.declared.kind.Keyword.{Keyword}
 use Rattle.cil_syntax.specs.declared.kind.Keyword.TheVariants as keywords
 use Rattle.cil_syntax.specs.declared.term.Word.{Word}
-use Rattle.cil_syntax.specs.Terms.{Terms, nil}
+use Rattle.cil_syntax.specs.Terms.{Term, Leaf, Name, Form, Terms, nil, cons}
 use Rattle.cil_syntax.specs.Written.{Written}
 use Rattle.cil_blocks.specs.Contents.{Standing, standing_top}
 use Rattle.cil_blocks.specs.Entries.{nothing}
-use Rattle.cil_macros.specs.Item.{Item, all_replaced}
-use Rattle.cil_macros.specs.Items.{Kept, all_placed, item_at, item_of, items_in, placed_at, says, says_as_written, word_of}
+use Rattle.cil_macros.specs.Item.{Item, all_replaced, replaced}
+use Rattle.cil_macros.specs.Items.{Kept, all_placed, item_at, item_of, items_in, placed_at, said_by, says, says_as_written, word_of}
 use Rattle.cil_macros.specs.Macros.{all_standing}
-use Rattle.cil_macros.specs.Placed.{Placed, placed_standing}
+use Rattle.cil_macros.specs.Placed.{Placed, all_filled, filled, placed_standing}
 use Rattle.cil_macros.specs.Walks.{written_in}
 
 -- ---- places
@@ -45,15 +45,38 @@ module _ (i : Kept) (at : ℕ) (within : at < length (items_in i)) where
   pub items_left : drop at (items_in i) ≡ item_at i at ∷ drop (at + 1) (items_in i)
   items_left = drop_at (items_in i) at (item_at i at) (item_at i at) within (item_got (item_at i at))
 
+-- ---- terms whose words are replaced by words
+
+module _ {L M : Type 0} (f : L → Term M) (g : L → M) (words : (w : L) → f w ≡ Leaf (g w)) where
+  mutual
+    unfolding filled all_filled replaced all_replaced
+
+    one_filled : (t : Term L) → filled f t ≡ replaced (λ at. at) g t
+    one_filled (Leaf w) = words w
+    one_filled (Name at name) = refl
+    one_filled (Form at op parts) = ap (Form at op) (filled_with_words parts)
+
+    pub filled_with_words : (ts : Terms L) → all_filled f ts ≡ all_replaced (λ at. at) g ts
+    filled_with_words nil = refl
+    filled_with_words (cons t ts) =
+        let p = one_filled t in
+        let q = filled_with_words ts in
+        λ i. cons (p i) (q i)
+
 -- ---- what items say
 
 -- each statement says what is written, but for calls and what is judged with the blocks
-pub said_as_written : (ws : List Written) (ss : List Standing) (p : Placed) (k : Keyword) (args : Terms Word) → says_as_written k ≡ true → says ws ss p k args ≡ all_replaced (λ at. at) (word_of ws p) args
+pub said_filled : (ws : List Written) (ss : List Standing) (p : Placed) (k : Keyword) (args : Terms Word) → says_as_written k ≡ true → says ws ss p k args ≡ all_filled (said_by ws p) args
 unfolding says
-said_as_written ws ss p keywords.BlockAbstract args e = absurd cc
-said_as_written ws ss p keywords.BlockInherit args e = absurd cc
-said_as_written ws ss p keywords.Call args e = absurd cc
-said_as_written ws ss p k args e = refl
+said_filled ws ss p keywords.BlockAbstract args e = absurd cc
+said_filled ws ss p keywords.BlockInherit args e = absurd cc
+said_filled ws ss p keywords.Call args e = absurd cc
+said_filled ws ss p k args e = refl
+
+-- and each word as a word, where each says one
+pub said_as_written : (ws : List Written) (ss : List Standing) (p : Placed) → ((w : Word) → said_by ws p w ≡ Leaf (word_of ws p w)) → (k : Keyword) (args : Terms Word) → says_as_written k ≡ true
+    → says ws ss p k args ≡ all_replaced (λ at. at) (word_of ws p) args
+said_as_written ws ss p words k args e = said_filled ws ss p k args e ∙ filled_with_words (said_by ws p) (word_of ws p) words args
 
 module _ (ws : List Written) (ss : List Standing) (p : Placed) (args : Terms Word) where
   pub inherit_says : says ws ss p keywords.BlockInherit args ≡ nil

@@ -1,8 +1,14 @@
+mod ArgumentExamples
 pub mod ArgumentLemmas
 pub mod AskedLemmas
 pub mod BodyLemmas
 pub mod BodyMeaning
+pub mod BranchExamples
+pub mod BranchLemmas
+pub mod BranchValues
+pub mod BringsLemmas
 pub mod CallLemmas
+pub mod CallPlaceLemmas
 pub mod CallOpening
 pub mod CallWordLemmas
 pub mod CalledMacros
@@ -14,9 +20,13 @@ pub mod ExpandLemmas
 pub mod FaultLemmas
 pub mod FirstLemmas
 pub mod FlatInstances
-pub mod Kept
+pub mod FormLemmas
+pub mod InnerLemmas
 pub mod ItemLemmas
+pub mod ItemsThere
+pub mod Kept
 pub mod LawLemmas
+pub mod ListLemmas
 pub mod MacroLemmas
 pub mod MacroScope
 pub mod MeaningLemmas
@@ -24,7 +34,6 @@ pub mod NearestLemmas
 pub mod NestingLemmas
 pub mod OneInstance
 pub mod OpeningLemmas
-pub mod OptionalLemmas
 pub mod PlacedLemmas
 pub mod PlacedWalk
 pub mod RoundLemmas
@@ -32,10 +41,10 @@ pub mod SameParameters
 pub mod ScopeEndLemmas
 pub mod ScopeLemmas
 pub mod ServingLemmas
+pub mod ThroughLemmas
 pub mod TurnLemmas
 pub mod ValueLemmas
 pub mod WalkLemmas
+pub mod WordValues
 pub mod WordsOfTexts
-pub mod FormLemmas
-pub mod ItemsThere
 pub mod WrittenLemmas

@@ -4,17 +4,25 @@ use Rattle.std.specs.Prelude.{Option, Some, None, find, slice_get}
 use Rattle.std.specs.Option.{option_map}
 use Rattle.cil_base.specs.Places.{none_some, some_same}
 use Rattle.cil_syntax.specs.declared.kind.Sign.{Sign}
+use Rattle.cil_syntax.specs.declared.kind.Sign.TheVariants as signs
+use Rattle.cil_syntax.specs.declared.term.Op.{Op}
+use Rattle.cil_syntax.specs.declared.term.Op.TheVariants as ops
 use Rattle.cil_faults.specs.declared.spot.Spot.{Spot}
 use Rattle.cil_syntax.specs.declared.term.Word.{Word}
+use Rattle.cil_syntax.specs.Terms.{Name, Form, nil, cons}
 use Rattle.cil_macros.specs.declared.meant.Meant.{Meant}
 use Rattle.cil_macros.specs.Meant.{AreArguments, bounds_by, first_for, is_for, kind_sign, meant_in, meant_term}
 use Rattle.cil_macros.specs.Parameters.{Parameter}
-use Rattle.cil_macros.specs.Placed.{Bound, Placed, is_served, put}
+use Rattle.cil_macros.specs.Placed.{Bound, Placed, is_served, put, put_list}
 use Rattle.cil_macros.specs.Scene.{IsArgument}
 
 module _ (ps : List Placed) where
+  text_put : (sign : Sign) (at bt : Spot) (op : Op) (bytes : List ℕ) → put_list sign at op (cons (Name bt bytes) nil) ≡ Form at op (cons (Name bt bytes) nil)
+  text_put signs.MappedPermissions at bt op bytes = refl
+  text_put sign at bt op bytes = refl
+
   put_in : (sign s : Sign) (at : Spot) (bytes : List ℕ) (scope : Option ℕ) → put sign (meant_in ps s at bytes scope) ≡ meant_in ps sign at bytes scope
-  put_in sign s at bytes None = refl
+  put_in sign s at bytes None = text_put sign at at ops.UnreadText bytes
   put_in sign s at bytes (Some k) = refl
 
   put_meant : (sign s : Sign) (m : Meant) → put sign (meant_term ps s m) ≡ meant_term ps sign m

@@ -16,7 +16,7 @@ use Rattle.cil_syntax.specs.Program.{IsNested, begins_as, begins_with_word, is_b
 use Rattle.cil_syntax.specs.Terms.{Leaf, Name, Form, Terms, nil, cons}
 use Rattle.cil_syntax.specs.Written.{Written}
 use Rattle.cil_blocks.specs.declared.entry.Entry.{Entry}
-use Rattle.cil_blocks.specs.Contents.{Standing, Stands, first_word, is_inheriting, path_of, spot_cmp, top, in_block, in_optional, inherited}
+use Rattle.cil_blocks.specs.Contents.{Standing, Stands, first_word, is_inheriting, path_of, spot_cmp, top, in_block, in_branch, in_optional, inherited}
 use Rattle.cil_blocks.specs.Entries.{nothing, opener_of, standing_as, standing_through, standing_under, standings_from, standings_of, statement_at, stepped}
 use Rattle.cil_blocks.specs.InheritFaults.{unresolved}
 use Rattle.cil_blocks.specs.Opens.{target_of}
@@ -97,6 +97,7 @@ module _ (ws : List Written) where
   written s (top w c u) = c
   written s (in_block p w st k a c i) = c
   written s (in_optional p w st k c i) = c
+  written s (in_branch p w st k c i) = c
   written s (inherited p b w st k t c i) = c
 
 -- something came through the same blockinherits as what stands at a place

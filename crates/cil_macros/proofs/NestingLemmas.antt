@@ -1,4 +1,4 @@
--- The innermost optional round what is placed, by what opened it.
+-- The innermost optional round what is placed, and its branch, by what opened it.
 use Rattle.std.proofs.Common.{◌≡◌, ℕ, zero, suc, ◌+◌, ◌<◌, ◌≤◌, true, false, if◌then◌else◌, List, [], ◌∷◌, ◌++◌, get_or, length, map, take, refl, sym, ◌∙◌, ap, subst, inl, inr, arith}
 use Rattle.std.specs.Prelude.{IfSome, MatchOption, Option, Some, None, slice_get}
 use Rattle.std.proofs.lemmas.Bool.{cases_lt}
@@ -6,30 +6,34 @@ use Rattle.std.proofs.lemmas.List.{length-map, length-take-le, map-append, take_
 use Rattle.cil_base.specs.Places.{at_or_last, get_contains, get_so, in_range, never_cons, none_some, some_at, some_same}
 use Rattle.cil_syntax.specs.declared.kind.Keyword.{Keyword}
 use Rattle.cil_syntax.specs.declared.kind.Keyword.TheVariants as keywords
+use Rattle.cil_faults.specs.declared.spot.Spot.{Spot}
 use Rattle.cil_syntax.specs.Written.{Written}
-use Rattle.cil_blocks.specs.Contents.{Standing, is_optional}
+use Rattle.cil_blocks.specs.Branches.{branch_value}
+use Rattle.cil_blocks.specs.Contents.{Branch, Standing, condition_of, is_conditional, is_optional, keeps_place}
 use Rattle.cil_blocks.specs.Entries.{standing_as, standing_through, standing_under, statement_at}
 use Rattle.cil_blocks.specs.Named.{rank}
 use Rattle.cil_blocks.specs.Opens.{target_of}
 use Rattle.cil_blocks.specs.Places.{Standings, entries_in}
-use Rattle.cil_blocks.proofs.EntryLemmas.{standings_length}
+use Rattle.cil_blocks.proofs.EntryLemmas.{as_statement, standings_length}
+use Rattle.cil_blocks.proofs.Keeping.{no_conditional, no_optional}
 use Rattle.cil_macros.specs.declared.entry.Body.{Body}
 use Rattle.cil_macros.specs.declared.entry.Called.{Called}
-use Rattle.cil_macros.specs.Calls.{placed_called, placed_in_optional}
-use Rattle.cil_macros.specs.Entries.{AreBodies, IsOf, IsOptionalOf, placed_through, placed_under}
+use Rattle.cil_macros.specs.Calls.{placed_called}
+use Rattle.cil_macros.specs.Entries.{AreBodies, IsInnerOf, IsOf, placed_through, placed_under}
 use Rattle.cil_macros.specs.Item.{Item, front, innermost}
 use Rattle.cil_macros.specs.Items.{Kept, all_placed, item_at, item_of, items_in, placed_at}
 use Rattle.cil_macros.specs.Macros.{all_standing}
 use Rattle.cil_macros.specs.Nearest.{IsOpenedBy}
-use Rattle.cil_macros.specs.Nesting.{AreInnermost, IsOpenedThere, IsOutside, innermost_in, innermost_rank, round_in}
-use Rattle.cil_macros.specs.Placed.{Placed, placed_standing}
+use Rattle.cil_macros.specs.Nesting.{AreInnermost, IsOpenedThere, IsOutside, branch_in, innermost_in, innermost_rank, round_in}
+use Rattle.cil_macros.specs.Opens.{placed_inside}
+use Rattle.cil_macros.specs.Placed.{Placed, condition_there, meaning, placed_standing, word_of}
 use Rattle.cil_macros.specs.Rounds.{AreNested, number_of, round_of}
 use Rattle.cil_macros.specs.Walks.{placed_in, written_in}
 use Rattle.cil_macros.proofs.BodyLemmas.{brought_at, called_statement, is_brought, mapped_get, standing_at}
 use Rattle.cil_macros.proofs.CallLemmas.{stood_at}
-use Rattle.cil_macros.proofs.CalledMacros.{is_macro_call, optional_opens_none}
+use Rattle.cil_macros.proofs.CalledMacros.{is_macro_call, kept_opens_none}
 use Rattle.cil_macros.proofs.PlacedLemmas.{items_many, none_beyond, placed_beyond, placed_so}
-use Rattle.cil_macros.proofs.PlacedWalk.{call_no_optional, chosen_false, chosen_true}
+use Rattle.cil_macros.proofs.PlacedWalk.{call_keeps_none, chosen_false, chosen_true}
 
 -- ---- what is round what something opens
 
@@ -40,6 +44,38 @@ through_round s (Some b) w = refl
 standing_round : (ws : List Written) (s : Standing) (k : Keyword) (w : Written) → (standing_as ws s k w).round ≡ (if is_optional k then s.trail ∷ s.round else s.round)
 standing_round ws s keywords.BlockInherit w = through_round s (target_of ws s.statement) w
 standing_round ws s k w = refl
+
+-- ---- in which branch is what something opens
+
+through_branch : (s : Standing) (o : Option Written) (w : Written) → (standing_through s o w).branch ≡ s.branch
+through_branch s None w = refl
+through_branch s (Some b) w = refl
+
+-- the branch of what a standing statement opens
+branch_by : Standing → Keyword → Spot → Option Branch
+branch_by s k at = if is_conditional k then Some (condition_of s, branch_value s.statement.statement.args at) else s.branch
+
+standing_branch : (ws : List Written) (s : Standing) (k : Keyword) (w : Written) → (standing_as ws s k w).branch ≡ branch_by s k w.statement.at
+unfolding branch_by
+standing_branch ws s keywords.BlockInherit w = through_branch s (target_of ws s.statement) w
+standing_branch ws s k w = refl
+
+-- the words of what stands without calls are in the scope of its place
+condition_stands : (ws : List Written) (s : Standing) → condition_of s ≡ condition_there ws (placed_standing s)
+unfolding word_of meaning
+condition_stands ws s = refl
+
+stands_in_branch : (ws : List Written) (s : Standing) (w : Written)
+    → (standing_as ws s s.statement.statement.keyword w).branch ≡ branch_in ws (placed_standing s) w.statement.at
+unfolding branch_by
+stands_in_branch ws s w =
+    standing_branch ws s s.statement.statement.keyword w
+    ∙ ap (λ c. if is_conditional s.statement.statement.keyword then Some (c, branch_value s.statement.statement.args w.statement.at) else s.branch) (condition_stands ws s)
+
+branch_of_other : (ws : List Written) (p : Placed) (at : Spot) → keeps_place p.standing.statement.statement.keyword ≡ false → branch_in ws p at ≡ p.standing.branch
+branch_of_other ws p at e =
+    chosen_false (is_conditional p.standing.statement.statement.keyword) (Some (condition_there ws p, branch_value p.standing.statement.statement.args at)) p.standing.branch
+    (no_conditional p.standing.statement.statement.keyword e)
 
 round_of_optional : (p : Placed) → is_optional p.standing.statement.statement.keyword ≡ true → round_in p ≡ p.standing.trail ∷ p.standing.round
 round_of_optional p e = chosen_true (is_optional p.standing.statement.statement.keyword) (p.standing.trail ∷ p.standing.round) p.standing.round e
@@ -57,10 +93,12 @@ module _ (s : Standings) (cs : List Called) where
   -- ---- what opened what stands
 
   pub stands_opened : (at : ℕ) → at < length (entries_in s) → (o : Option ℕ) → IfSome o (λ k. k < at) → ((m : Standing) → slice_get ss at ≡ Some m → IsOpenedBy ws ss m o)
-      → MatchOption o (IsOutside (placed_in s cs) at) (IsOpenedThere (placed_in s cs) at)
+      → MatchOption o (IsOutside (placed_in s cs) at) (IsOpenedThere ws (placed_in s cs) at)
   stands_opened at within None lower by = λ p here.
-      let m = stood_at s cs at within p here in
-      ap (λ (q : Placed). q.standing.round) m.2 ∙ ap (λ (q : Standing). q.round) (by m.0 m.1).so
+      let m = stood_at s cs at within p here in (
+        ap (λ (q : Placed). q.standing.round) m.2 ∙ ap (λ (q : Standing). q.round) (by m.0 m.1).so,
+        ap (λ (q : Placed). q.standing.branch) m.2 ∙ ap (λ (q : Standing). q.branch) (by m.0 m.1).so,
+      )
   stands_opened at within (Some k) lower by =
       let l = standings_length ws (entries_in s) in
       let q = some_at ss k (omega (arith, within, lower, l)) in
@@ -74,57 +112,73 @@ module _ (s : Standings) (cs : List Called) where
             ap (λ (r : Placed). r.standing.round) m.2
             ∙ ap (λ (r : Standing). r.round) (x.so ∙ ap (λ i. standing_under ws i x.statement) q.1)
             ∙ standing_round ws q.0 q.0.statement.statement.keyword x.statement;
+        branch = λ p here.
+            let m = stood_at s cs at within p here in
+            let x = by m.0 m.1 in
+            let so : m.0 ≡ standing_as ws q.0 q.0.statement.statement.keyword x.statement = x.so ∙ ap (λ i. standing_under ws i x.statement) q.1 in
+            let statement : p.standing.statement ≡ x.statement =
+            ap (λ (r : Placed). r.standing.statement) m.2 ∙ ap (λ (r : Standing). r.statement) so ∙ as_statement ws q.0 q.0.statement.statement.keyword x.statement in
+            ap (λ (r : Placed). r.standing.branch) m.2
+            ∙ ap (λ (r : Standing). r.branch) so
+            ∙ stands_in_branch ws q.0 x.statement
+            ∙ ap (λ (w : Written). branch_in ws (placed_standing q.0) w.statement.at) (sym statement);
       }
 
   -- ---- what opened what a call brought
 
   module _ (bs : List Body) (are : AreBodies ws ss cs bs) where
     by_call : (j : ℕ) (c : Called) → slice_get cs j ≡ Some c → (x : IsOf ws (length ss) cs bs (length ss + j) c) → x.body.call ≡ c.opener
-        → IsOpenedThere (placed_in s cs) (length ss + j) c.opener
+        → IsOpenedThere ws (placed_in s cs) (length ss + j) c.opener
     by_call j c there x same =
         let b = are.each c.body x.body x.is_body in
         let opener = ap (slice_get (placed_in s cs)) (sym same) ∙ b.is_call in
+        let other = call_keeps_none b.call.standing.statement.statement.keyword (is_macro_call ws ss b.call b.opened b.is_opened).call in
+        let is : (p : Placed) → slice_get (placed_in s cs) (length ss + j) ≡ Some p → p ≡ placed_called b.call b.opened (statement_at ws c.statement) =
+        λ p here. some_same p (placed_called b.call b.opened (statement_at ws c.statement))
+        (sym here ∙ brought_at ws ss cs j c there x.before
+        ∙ ap (λ q. Some (placed_under ws ss q (statement_at ws c.statement))) opener
+        ∙ ap (λ q. Some (placed_through ws b.call q (statement_at ws c.statement))) b.is_opened) in
         record {
           lower = x.before;
           opener = b.call;
           is = opener;
           round = λ p here.
-              ap (λ (q : Placed). q.standing.round)
-              (some_same p (placed_called b.call b.opened (statement_at ws c.statement))
-              (sym here ∙ brought_at ws ss cs j c there x.before
-              ∙ ap (λ q. Some (placed_under ws ss q (statement_at ws c.statement))) opener
-              ∙ ap (λ q. Some (placed_through b.call q (statement_at ws c.statement))) b.is_opened))
-              ∙ sym (round_of_other b.call (call_no_optional b.call.standing.statement.statement.keyword (is_macro_call ws ss b.call b.opened b.is_opened).call));
+              ap (λ (q : Placed). q.standing.round) (is p here)
+              ∙ sym (round_of_other b.call (no_optional b.call.standing.statement.statement.keyword other));
+          branch = λ p here.
+              ap (λ (q : Placed). q.standing.branch) (is p here) ∙ sym (branch_of_other ws b.call p.standing.statement.statement.at other);
         }
 
-    by_optional : (j : ℕ) (c : Called) → slice_get cs j ≡ Some c → c.opener < length ss + j → IsOptionalOf ws cs (length ss) c.opener c.body
-        → IsOpenedThere (placed_in s cs) (length ss + j) c.opener
-    by_optional j c there before x =
+    by_inner : (j : ℕ) (c : Called) → slice_get cs j ≡ Some c → c.opener < length ss + j → IsInnerOf ws cs (length ss) c.opener c.body
+        → IsOpenedThere ws (placed_in s cs) (length ss + j) c.opener
+    by_inner j c there before x =
         let b = is_brought ws ss cs bs are x.rank x.called x.is in
         let opener = ap (slice_get (placed_in s cs)) x.behind ∙ b.placed in
-        let optional = ap (λ (w : Written). is_optional w.statement.keyword) (called_statement ws ss cs x.rank x.called b.there x.is b.placed) ∙ x.optional in
+        let kept = ap (λ (w : Written). keeps_place w.statement.keyword) (called_statement ws ss cs x.rank x.called b.there x.is b.placed) ∙ x.keeps in
+        let is : (p : Placed) → slice_get (placed_in s cs) (length ss + j) ≡ Some p → p ≡ placed_inside ws b.there (statement_at ws c.statement) =
+        λ p here. some_same p (placed_inside ws b.there (statement_at ws c.statement))
+        (sym here ∙ brought_at ws ss cs j c there before
+        ∙ ap (λ q. Some (placed_under ws ss q (statement_at ws c.statement))) opener
+        ∙ ap (λ q. Some (placed_through ws b.there q (statement_at ws c.statement))) (kept_opens_none ws ss b.there kept)) in
         record {
           lower = before;
           opener = b.there;
           is = opener;
-          round = λ p here.
-              ap (λ (q : Placed). q.standing.round)
-              (some_same p (placed_in_optional b.there (statement_at ws c.statement))
-              (sym here ∙ brought_at ws ss cs j c there before
-              ∙ ap (λ q. Some (placed_under ws ss q (statement_at ws c.statement))) opener
-              ∙ ap (λ q. Some (placed_through b.there q (statement_at ws c.statement))) (optional_opens_none ws ss b.there optional)))
-              ∙ sym (round_of_optional b.there optional);
+          round = λ p here. ap (λ (q : Placed). q.standing.round) (is p here);
+          branch = λ p here.
+              ap (λ (q : Placed). q.standing.branch) (is p here)
+              ∙ ap (λ (q : Placed). branch_in ws b.there q.standing.statement.statement.at) (sym (is p here));
         }
 
-    pub brought_inside : (at j : ℕ) (c : Called) → at ≡ length (entries_in s) + j → slice_get cs j ≡ Some c → IsOpenedThere (placed_in s cs) at c.opener
+    pub brought_inside : (at j : ℕ) (c : Called) → at ≡ length (entries_in s) + j → slice_get cs j ≡ Some c → IsOpenedThere ws (placed_in s cs) at c.opener
     brought_inside at j c place there =
         let l = standings_length ws (entries_in s) in
         let x = are.brought j c there in
         let behind : length ss + j ≡ at = omega (arith, place, l) in
-        subst (λ k. IsOpenedThere (placed_in s cs) k c.opener) behind
+        subst (λ k. IsOpenedThere ws (placed_in s cs) k c.opener) behind
         (elim x.opened [
           | inl same ↦ by_call j c there x same
-          | inr o ↦ by_optional j c there x.before o
+          | inr o ↦ by_inner j c there x.before o
         ])
 
 -- ---- one number after another
@@ -172,9 +226,9 @@ module _ (ps : List Placed) where
 
   module _ (at : ℕ) (numbers : List ℕ) (so : AreInnermost ps at numbers) where
     pub outside_rank : IsOutside ps at → (p : Placed) → slice_get ps at ≡ Some p → 0 ≡ innermost_rank ps p
-    outside_rank none p here = ap (λ r. rank (front (map (number_of ps) r))) (sym (none p here))
+    outside_rank none p here = ap (λ r. rank (front (map (number_of ps) r))) (sym (none p here).0)
 
-    module _ (place : ℕ) (x : IsOpenedThere ps at place) where
+    module _ (ws : List Written) (place : ℕ) (x : IsOpenedThere ws ps at place) where
       pub optional_rank : number_of ps x.opener.standing.trail ≡ place → is_optional x.opener.standing.statement.statement.keyword ≡ true
           → (p : Placed) → slice_get ps at ≡ Some p → place + 1 ≡ innermost_rank ps p
       optional_rank number e p here =

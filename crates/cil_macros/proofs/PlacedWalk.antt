@@ -1,5 +1,5 @@
 -- What is placed is what the queue reaches that begins with all that stands.
-use Rattle.std.proofs.Common.{◌≡◌, suc, ◌<◌, Bool, true, false, if◌then◌else◌, List, [], ◌∷◌, ◌++◌, map, refl, sym, ◌∙◌, ap, subst, arith}
+use Rattle.std.proofs.Common.{◌≡◌, suc, ◌<◌, Bool, true, false, if◌then◌else◌, List, [], ◌∷◌, ◌++◌, map, refl, sym, ◌∙◌, ap, subst, inl, inr, arith}
 use Rattle.std.specs.Prelude.{Contains, Option, Some, None}
 use Rattle.std.specs.declared.cmp.Ordering.{Ordering}
 use Rattle.std.specs.declared.cmp.Ordering.TheVariants.{Less, Equal, Greater}
@@ -15,12 +15,14 @@ use Rattle.cil_syntax.specs.declared.kind.Keyword.{Keyword}
 use Rattle.cil_syntax.specs.declared.kind.Keyword.TheVariants as keywords
 use Rattle.cil_faults.specs.declared.spot.Spot.{Spot}
 use Rattle.cil_syntax.specs.Written.{Written, written_cmp}
-use Rattle.cil_blocks.specs.Contents.{Standing, is_at, is_optional, path_cmp, spot_cmp, spot_total, standing_cmp}
+use Rattle.cil_blocks.specs.Contents.{IsIn, Standing, is_at, is_conditional, is_optional, keeps_place, path_cmp, spot_cmp, spot_total, standing_cmp}
 use Rattle.cil_blocks.specs.Opens.{parts}
+use Rattle.cil_blocks.proofs.Keeping.{conditional_keeps, conditional_no_optional, optional_keeps, optional_unconditional, which_keeps}
 use Rattle.cil_blocks.proofs.StandingWalk.{in_parts, parts_of}
-use Rattle.cil_macros.specs.Calls.{IsPlaced, Unfolded, called, in_optional, is_call, placed_called, placed_cmp, placed_in_optional, stands, unfolded}
-use Rattle.cil_macros.specs.Opens.{opens_call, opens_inside, opens_placed, starts}
-use Rattle.cil_macros.specs.Placed.{Body, Placed, placed_standing}
+use Rattle.cil_blocks.specs.Branches.{branch_value}
+use Rattle.cil_macros.specs.Calls.{IsPlaced, Unfolded, called, in_branch, in_optional, is_call, placed_called, placed_cmp, placed_in_branch, placed_in_optional, stands, unfolded}
+use Rattle.cil_macros.specs.Opens.{opens_call, opens_inside, opens_placed, placed_inside, starts}
+use Rattle.cil_macros.specs.Placed.{Body, Placed, condition_there, placed_standing}
 
 pub chosen_true : {X : Type 0} (b : Bool) (x y : X) → b ≡ true → (if b then x else y) ≡ x
 chosen_true b x y e = rw e refl
@@ -28,9 +30,35 @@ chosen_true b x y e = rw e refl
 pub chosen_false : {X : Type 0} (b : Bool) (x y : X) → b ≡ false → (if b then x else y) ≡ y
 chosen_false b x y e = rw e refl
 
-pub call_no_optional : (k : Keyword) → is_call k ≡ true → is_optional k ≡ false
-call_no_optional keywords.Call e = refl
-call_no_optional k e = absurd (let f : false ≡ true = e in cc)
+pub call_keeps_none : (k : Keyword) → is_call k ≡ true → keeps_place k ≡ false
+call_keeps_none keywords.Call e = refl
+call_keeps_none k e = absurd (let f : false ≡ true = e in cc)
+
+-- what is in an optional or in a booleanif, by which of the two it is
+inside_by : List Written → Placed → Written → Bool → Bool → Placed
+inside_by ws p w optional conditional = record {
+  standing = record {
+    statement = w;
+    space = p.standing.space;
+    chain = p.standing.chain;
+    scope = p.standing.scope;
+    round = if optional then p.standing.trail ∷ p.standing.round else p.standing.round;
+    branch = if conditional then Some (condition_there ws p, branch_value p.standing.statement.statement.args w.statement.at) else p.standing.branch;
+    trail = p.standing.trail ++ w.statement.at ∷ [];
+  };
+  bounds = p.bounds;
+  body = p.body;
+  macros = p.macros;
+  steps = suc p.steps;
+}
+
+pub inside_optional : (ws : List Written) (p : Placed) (w : Written) → is_optional p.standing.statement.statement.keyword ≡ true → placed_inside ws p w ≡ placed_in_optional p w
+unfolding inside_by
+inside_optional ws p w o = λ i. inside_by ws p w (o i) (optional_unconditional p.standing.statement.statement.keyword o i)
+
+pub inside_branch : (ws : List Written) (p : Placed) (w : Written) → is_conditional p.standing.statement.statement.keyword ≡ true → placed_inside ws p w ≡ placed_in_branch ws p w
+unfolding inside_by
+inside_branch ws p w o = λ i. inside_by ws p w (conditional_no_optional p.standing.statement.statement.keyword o i) (o i)
 
 module _ (ws : List Written) (ss : List Standing) (unfolds_calls : (p : Placed) (u : Unfolded) → unfolded ws ss p ≡ Some u → is_call p.standing.statement.statement.keyword ≡ true) where
   opened_call : (p q : Placed) (o : Option Unfolded) → unfolded ws ss p ≡ o → IsPlaced ws ss p → Contains (opens_call ws p o) q → IsPlaced ws ss q
@@ -40,14 +68,22 @@ module _ (ws : List Written) (ss : List Standing) (unfolds_calls : (p : Placed) 
       let k = parts_of ws u.macro.statement m.0 m.1 in
       subst (IsPlaced ws ss) m.2 (called p u m.0 ip e k.0 k.1)
 
-  opened_inside : (p q : Placed) (o : Option Body) → p.body ≡ o → is_optional p.standing.statement.statement.keyword ≡ true → IsPlaced ws ss p → Contains (opens_inside ws p o) q → IsPlaced ws ss q
+  inside_placed : (p : Placed) (b : Body) (w : Written) → IsPlaced ws ss p → p.body ≡ Some b → keeps_place p.standing.statement.statement.keyword ≡ true
+      → Contains ws w → IsIn w p.standing.statement → IsPlaced ws ss (placed_inside ws p w)
+  inside_placed p b w ip e k c i =
+      elim (which_keeps p.standing.statement.statement.keyword k) [
+        | inl o ↦ subst (IsPlaced ws ss) (sym (inside_optional ws p w o)) (in_optional p b w ip e o c i)
+        | inr o ↦ subst (IsPlaced ws ss) (sym (inside_branch ws p w o)) (in_branch p b w ip e o c i)
+      ]
+
+  opened_inside : (p q : Placed) (o : Option Body) → p.body ≡ o → keeps_place p.standing.statement.statement.keyword ≡ true → IsPlaced ws ss p → Contains (opens_inside ws p o) q → IsPlaced ws ss q
   opened_inside p q None e k ip c = absurd (contains_none q c)
   opened_inside p q (Some b) e k ip c =
-      let m = from_map (placed_in_optional p) (parts ws p.standing.statement) q c in
+      let m = from_map (placed_inside ws p) (parts ws p.standing.statement) q c in
       let i = parts_of ws p.standing.statement m.0 m.1 in
-      subst (IsPlaced ws ss) m.2 (in_optional p b m.0 ip e k i.0 i.1)
+      subst (IsPlaced ws ss) m.2 (inside_placed p b m.0 ip e k i.0 i.1)
 
-  opened_either : (p q : Placed) (b : Bool) → is_optional p.standing.statement.statement.keyword ≡ b → IsPlaced ws ss p
+  opened_either : (p q : Placed) (b : Bool) → keeps_place p.standing.statement.statement.keyword ≡ b → IsPlaced ws ss p
       → Contains (if b then opens_inside ws p p.body else opens_call ws p (unfolded ws ss p)) q → IsPlaced ws ss q
   opened_either p q true e ip c = opened_inside p q p.body refl e ip c
   opened_either p q false e ip c = opened_call p q (unfolded ws ss p) refl ip c
@@ -55,7 +91,18 @@ module _ (ws : List Written) (ss : List Standing) (unfolds_calls : (p : Placed) 
   pub placed_reached : (p : Placed) → IsReached placed_cmp (starts ss) (opens_placed ws ss) p → IsPlaced ws ss p
   unfolding opens_placed
   placed_reached p (at_first q c) = let m = from_map placed_standing ss q c in subst (IsPlaced ws ss) m.2 (stands m.0 m.1)
-  placed_reached p (onward q r i c) = opened_either q r (is_optional q.standing.statement.statement.keyword) refl (placed_reached q i) c
+  placed_reached p (onward q r i c) = opened_either q r (keeps_place q.standing.statement.statement.keyword) refl (placed_reached q i) c
+
+  kept_reached : (q : Placed) (b : Body) (w : Written) (x : Placed) → IsReached placed_cmp (starts ss) (opens_placed ws ss) q → q.body ≡ Some b
+      → keeps_place q.standing.statement.statement.keyword ≡ true → Contains ws w → IsIn w q.standing.statement → placed_inside ws q w ≡ x
+      → IsReached placed_cmp (starts ss) (opens_placed ws ss) x
+  unfolding opens_placed
+  kept_reached q b w x r e k c i same =
+      subst (IsReached placed_cmp (starts ss) (opens_placed ws ss)) same
+      (onward q (placed_inside ws q w) r
+      (subst (λ l. Contains l (placed_inside ws q w))
+      (sym (chosen_true (keeps_place q.standing.statement.statement.keyword) (opens_inside ws q q.body) (opens_call ws q (unfolded ws ss q)) k ∙ ap (opens_inside ws q) e))
+      (contains_map (placed_inside ws q) (parts ws q.standing.statement) w (in_parts ws q.standing.statement w c i))))
 
   pub reached_placed : (p : Placed) → IsPlaced ws ss p → IsReached placed_cmp (starts ss) (opens_placed ws ss) p
   unfolding opens_placed
@@ -63,14 +110,13 @@ module _ (ws : List Written) (ss : List Standing) (unfolds_calls : (p : Placed) 
   reached_placed p (called q u w iq e c i) =
       onward q (placed_called q u w) (reached_placed q iq)
       (subst (λ l. Contains l (placed_called q u w))
-      (sym (chosen_false (is_optional q.standing.statement.statement.keyword) (opens_inside ws q q.body) (opens_call ws q (unfolded ws ss q))
-      (call_no_optional q.standing.statement.statement.keyword (unfolds_calls q u e)) ∙ ap (opens_call ws q) e))
+      (sym (chosen_false (keeps_place q.standing.statement.statement.keyword) (opens_inside ws q q.body) (opens_call ws q (unfolded ws ss q))
+      (call_keeps_none q.standing.statement.statement.keyword (unfolds_calls q u e)) ∙ ap (opens_call ws q) e))
       (contains_map (placed_called q u) (parts ws u.macro.statement) w (in_parts ws u.macro.statement w c i)))
   reached_placed p (in_optional q b w iq e k c i) =
-      onward q (placed_in_optional q w) (reached_placed q iq)
-      (subst (λ l. Contains l (placed_in_optional q w))
-      (sym (chosen_true (is_optional q.standing.statement.statement.keyword) (opens_inside ws q q.body) (opens_call ws q (unfolded ws ss q)) k ∙ ap (opens_inside ws q) e))
-      (contains_map (placed_in_optional q) (parts ws q.standing.statement) w (in_parts ws q.standing.statement w c i)))
+      kept_reached q b w (placed_in_optional q w) (reached_placed q iq) e (optional_keeps q.standing.statement.statement.keyword k) c i (inside_optional ws q w k)
+  reached_placed p (in_branch q b w iq e k c i) =
+      kept_reached q b w (placed_in_branch ws q w) (reached_placed q iq) e (conditional_keeps q.standing.statement.statement.keyword k) c i (inside_branch ws q w k)
 
   -- ---- the order of the queue
 
@@ -92,7 +138,7 @@ module _ (ws : List Written) (ss : List Standing) (unfolds_calls : (p : Placed) 
 
   inside_step : (p q : Placed) (o : Option Body) → Contains (opens_inside ws p o) q → IsStepOf p q
   inside_step p q None c = absurd (contains_none q c)
-  inside_step p q (Some b) c = mapped_step p q (placed_in_optional p) (parts ws p.standing.statement) (λ w. refl) (λ w. refl) c
+  inside_step p q (Some b) c = mapped_step p q (placed_inside ws p) (parts ws p.standing.statement) (λ w. refl) (λ w. refl) c
 
   either_step : (p q : Placed) (b : Bool) → Contains (if b then opens_inside ws p p.body else opens_call ws p (unfolded ws ss p)) q → IsStepOf p q
   either_step p q true c = inside_step p q p.body c
@@ -100,7 +146,7 @@ module _ (ws : List Written) (ss : List Standing) (unfolds_calls : (p : Placed) 
 
   a_step : (p q : Placed) → Contains (opens_placed ws ss p) q → IsStepOf p q
   unfolding opens_placed
-  a_step p q c = either_step p q (is_optional p.standing.statement.statement.keyword) c
+  a_step p q c = either_step p q (keeps_place p.standing.statement.statement.keyword) c
 
   -- fewer steps first
   fewer : (p q : Placed) → p.steps < q.steps → placed_cmp p q ≡ Less
@@ -145,7 +191,7 @@ module _ (ws : List Written) (ss : List Standing) (unfolds_calls : (p : Placed) 
     inside_rises : (p : Placed) (o : Option Body) → IsStrictlySortedBy placed_cmp (opens_inside ws p o)
     inside_rises p None = nothing_rises
     inside_rises p (Some b) =
-        rising_map written_cmp (placed_in_optional p) (λ v w e. as_many (placed_in_optional p v) (placed_in_optional p w) refl
+        rising_map written_cmp (placed_inside ws p) (λ v w e. as_many (placed_inside ws p v) (placed_inside ws p w) refl
         (opened_beside spot_cmp spot_total p.standing.trail v.statement.at w.statement.at e)) (parts ws p.standing.statement) (parts_rise p.standing.statement)
 
     either_rises : (p : Placed) (b : Bool) → IsStrictlySortedBy placed_cmp (if b then opens_inside ws p p.body else opens_call ws p (unfolded ws ss p))
@@ -154,7 +200,7 @@ module _ (ws : List Written) (ss : List Standing) (unfolds_calls : (p : Placed) 
 
     opens_rise : (p : Placed) → IsStrictlySortedBy placed_cmp (opens_placed ws ss p)
     unfolding opens_placed
-    opens_rise p = either_rises p (is_optional p.standing.statement.statement.keyword)
+    opens_rise p = either_rises p (keeps_place p.standing.statement.statement.keyword)
 
     pub queue_order : IsQueueOrder placed_cmp (starts ss) (opens_placed ws ss)
     queue_order = record {

@@ -13,12 +13,13 @@ use Rattle.cil_syntax.specs.declared.kind.Keyword.{Keyword}
 use Rattle.cil_syntax.specs.declared.kind.Keyword.TheVariants as keywords
 use Rattle.cil_faults.specs.declared.spot.Spot.{Spot}
 use Rattle.cil_syntax.specs.Written.{Written}
-use Rattle.cil_blocks.specs.Contents.{Standing, Stands, in_block, in_optional as optional_stands, inherited, is_block, is_inheriting, is_optional, path_cmp, same_spot, top}
+use Rattle.cil_blocks.specs.Contents.{Standing, Stands, in_block, in_branch as branch_stands, in_optional as optional_stands, inherited, is_block, is_inheriting, is_optional, keeps_place, path_cmp, same_spot, top}
 use Rattle.cil_blocks.specs.OneStanding.{AreApart}
 use Rattle.cil_blocks.specs.Places.{AreStandings, Standings, statements_in}
+use Rattle.cil_blocks.proofs.Keeping.{conditional_keeps, optional_keeps}
 use Rattle.cil_blocks.proofs.ProgramLemmas.{are_apart}
 use Rattle.cil_blocks.proofs.StandingWalk.{same_spots, spots_same}
-use Rattle.cil_macros.specs.Calls.{IsPlaced, called, in_optional, is_call, placed_cmp, placed_in_optional, stands}
+use Rattle.cil_macros.specs.Calls.{IsPlaced, called, in_branch, in_optional, is_call, placed_cmp, placed_in_branch, placed_in_optional, stands}
 use Rattle.cil_macros.specs.declared.chain.Brought.{Brought}
 use Rattle.cil_macros.specs.Instances.{AreInstances}
 use Rattle.cil_macros.specs.Item.{Item}
@@ -57,21 +58,21 @@ call_no_block : (k : Keyword) → is_call k ≡ true → is_block k ≡ true →
 call_no_block keywords.Call a b = cc
 call_no_block k a b = cc
 
-call_no_optional : (k : Keyword) → is_call k ≡ true → is_optional k ≡ true → ⊥
-call_no_optional keywords.Call a b = cc
-call_no_optional k a b = cc
+call_keeps_none : (k : Keyword) → is_call k ≡ true → keeps_place k ≡ true → ⊥
+call_keeps_none keywords.Call a b = cc
+call_keeps_none k a b = cc
 
 call_no_inheriting : (k : Keyword) → is_call k ≡ true → is_inheriting k ≡ true → ⊥
 call_no_inheriting keywords.Call a b = cc
 call_no_inheriting k a b = cc
 
-optional_no_block : (k : Keyword) → is_optional k ≡ true → is_block k ≡ true → ⊥
-optional_no_block keywords.Block a b = cc
-optional_no_block k a b = cc
+kept_no_block : (k : Keyword) → keeps_place k ≡ true → is_block k ≡ true → ⊥
+kept_no_block keywords.Block a b = cc
+kept_no_block k a b = cc
 
-optional_no_inheriting : (k : Keyword) → is_optional k ≡ true → is_inheriting k ≡ true → ⊥
-optional_no_inheriting keywords.BlockInherit a b = cc
-optional_no_inheriting k a b = cc
+kept_no_inheriting : (k : Keyword) → keeps_place k ≡ true → is_inheriting k ≡ true → ⊥
+kept_no_inheriting keywords.BlockInherit a b = cc
+kept_no_inheriting k a b = cc
 
 module _ (ws : List Written) (ss : List Standing) (apart : AreApart ws) (each : (s : Standing) → Contains ss s → Stands ws s) where
   -- ---- a trail ends with the place of the statement
@@ -84,12 +85,14 @@ module _ (ws : List Written) (ss : List Standing) (apart : AreApart ws) (each : 
   standing_trail s (top w c u) = record { before = []; is = refl }
   standing_trail s (in_block p w sp b a c u) = record { before = p.trail; is = refl }
   standing_trail s (optional_stands p w sp o c u) = record { before = p.trail; is = refl }
+  standing_trail s (branch_stands p w sp o c u) = record { before = p.trail; is = refl }
   standing_trail s (inherited p b w sp i t c u) = record { before = p.trail; is = refl }
 
   placed_trail : (p : Placed) → IsPlaced ws ss p → IsTrail p.standing
   placed_trail p (stands s c) = standing_trail s (each s c)
   placed_trail p (called q u w iq e c i) = record { before = q.standing.trail; is = refl }
   placed_trail p (in_optional q b w iq e o c i) = record { before = q.standing.trail; is = refl }
+  placed_trail p (in_branch q b w iq e o c i) = record { before = q.standing.trail; is = refl }
 
   not_empty : (s : Standing) → IsTrail s → [] ≡ s.trail → ⊥
   not_empty s t e = never_empty s.statement.statement.at s.statement.statement.at t.before (e ∙ t.is)
@@ -111,8 +114,13 @@ module _ (ws : List Written) (ss : List Standing) (apart : AreApart ws) (each : 
       call_no_block q.standing.statement.statement.keyword k
       (ap is_block (sym (same_keyword p q sp iq (same_ends p.trail q.standing.trail v.statement.at w.statement.at e).0)) ∙ b)
   no_call s q w (optional_stands p v sp o c u) iq k e =
-      call_no_optional q.standing.statement.statement.keyword k
-      (ap is_optional (sym (same_keyword p q sp iq (same_ends p.trail q.standing.trail v.statement.at w.statement.at e).0)) ∙ o)
+      call_keeps_none q.standing.statement.statement.keyword k
+      (ap keeps_place (sym (same_keyword p q sp iq (same_ends p.trail q.standing.trail v.statement.at w.statement.at e).0))
+      ∙ optional_keeps p.statement.statement.keyword o)
+  no_call s q w (branch_stands p v sp o c u) iq k e =
+      call_keeps_none q.standing.statement.statement.keyword k
+      (ap keeps_place (sym (same_keyword p q sp iq (same_ends p.trail q.standing.trail v.statement.at w.statement.at e).0))
+      ∙ conditional_keeps p.statement.statement.keyword o)
   no_call s q w (inherited p b v sp i t c u) iq k e =
       call_no_inheriting q.standing.statement.statement.keyword k
       (ap is_inheriting (sym (same_keyword p q sp iq (same_ends p.trail q.standing.trail v.statement.at w.statement.at e).0)) ∙ i)
@@ -124,13 +132,25 @@ module _ (ws : List Written) (ss : List Standing) (apart : AreApart ws) (each : 
   in_no_body s q (top v c u) (in_optional r b w ir f o d i) e =
       absurd (not_empty r.standing (placed_trail r ir) (same_ends [] r.standing.trail v.statement.at w.statement.at e).0)
   in_no_body s q (in_block p v sp k a c u) (in_optional r b w ir f o d i) e =
-      absurd (optional_no_block r.standing.statement.statement.keyword o (ap is_block (sym (same_keyword p r sp ir (same_ends p.trail r.standing.trail v.statement.at w.statement.at e).0)) ∙ k))
+      absurd (kept_no_block r.standing.statement.statement.keyword (optional_keeps r.standing.statement.statement.keyword o) (ap is_block (sym (same_keyword p r sp ir (same_ends p.trail r.standing.trail v.statement.at w.statement.at e).0)) ∙ k))
   in_no_body s q (optional_stands p v sp k c u) (in_optional r b w ir f o d i) e =
       absurd (none_some b (sym (in_no_body p r sp ir (same_ends p.trail r.standing.trail v.statement.at w.statement.at e).0) ∙ f))
+  in_no_body s q (branch_stands p v sp k c u) (in_optional r b w ir f o d i) e =
+      absurd (none_some b (sym (in_no_body p r sp ir (same_ends p.trail r.standing.trail v.statement.at w.statement.at e).0) ∙ f))
+  in_no_body s q (top v c u) (in_branch r b w ir f o d i) e =
+      absurd (not_empty r.standing (placed_trail r ir) (same_ends [] r.standing.trail v.statement.at w.statement.at e).0)
+  in_no_body s q (in_block p v sp k a c u) (in_branch r b w ir f o d i) e =
+      absurd (kept_no_block r.standing.statement.statement.keyword (conditional_keeps r.standing.statement.statement.keyword o) (ap is_block (sym (same_keyword p r sp ir (same_ends p.trail r.standing.trail v.statement.at w.statement.at e).0)) ∙ k))
+  in_no_body s q (optional_stands p v sp k c u) (in_branch r b w ir f o d i) e =
+      absurd (none_some b (sym (in_no_body p r sp ir (same_ends p.trail r.standing.trail v.statement.at w.statement.at e).0) ∙ f))
+  in_no_body s q (branch_stands p v sp k c u) (in_branch r b w ir f o d i) e =
+      absurd (none_some b (sym (in_no_body p r sp ir (same_ends p.trail r.standing.trail v.statement.at w.statement.at e).0) ∙ f))
+  in_no_body s q (inherited p g v sp k t c u) (in_branch r b w ir f o d i) e =
+      absurd (kept_no_inheriting r.standing.statement.statement.keyword (conditional_keeps r.standing.statement.statement.keyword o) (ap is_inheriting (sym (same_keyword p r sp ir (same_ends p.trail r.standing.trail v.statement.at w.statement.at e).0)) ∙ k))
   in_no_body s q (inherited p g v sp k t c u) (in_optional r b w ir f o d i) e =
-      absurd (optional_no_inheriting r.standing.statement.statement.keyword o (ap is_inheriting (sym (same_keyword p r sp ir (same_ends p.trail r.standing.trail v.statement.at w.statement.at e).0)) ∙ k))
+      absurd (kept_no_inheriting r.standing.statement.statement.keyword (optional_keeps r.standing.statement.statement.keyword o) (ap is_inheriting (sym (same_keyword p r sp ir (same_ends p.trail r.standing.trail v.statement.at w.statement.at e).0)) ∙ k))
 
-  -- what came through the same statements came through as many calls and optionals of bodies
+  -- what came through the same statements came through as many calls, and optionals and booleanifs of bodies
   same_steps : (p q : Placed) → IsPlaced ws ss p → IsPlaced ws ss q → p.standing.trail ≡ q.standing.trail → p.steps ≡ q.steps
   same_steps p q (stands s c) (stands t d) e = refl
   same_steps p q (stands s c) (called r u w ir f d i) e = absurd (no_call s r w (each s c) ir (is_macro_call ws ss r u f).call e)
@@ -141,11 +161,18 @@ module _ (ws : List Written) (ss : List Standing) (apart : AreApart ws) (each : 
   same_steps p q (called r u w ir f d i) (in_optional t b x it g o c j) e = ap suc (same_steps r t ir it (same_ends r.standing.trail t.standing.trail w.statement.at x.statement.at e).0)
   same_steps p q (in_optional r b w ir f o d i) (called t v x it g c j) e = ap suc (same_steps r t ir it (same_ends r.standing.trail t.standing.trail w.statement.at x.statement.at e).0)
   same_steps p q (in_optional r b w ir f o d i) (in_optional t a x it g k c j) e = ap suc (same_steps r t ir it (same_ends r.standing.trail t.standing.trail w.statement.at x.statement.at e).0)
+  same_steps p q (stands s c) (in_branch r b w ir f o d i) e = absurd (none_some b (sym (in_no_body s (placed_in_branch ws r w) (each s c) (in_branch r b w ir f o d i) e) ∙ f))
+  same_steps p q (in_branch r b w ir f o d i) (stands t c) e = absurd (none_some b (sym (in_no_body t (placed_in_branch ws r w) (each t c) (in_branch r b w ir f o d i) (sym e)) ∙ f))
+  same_steps p q (called r u w ir f d i) (in_branch t b x it g o c j) e = ap suc (same_steps r t ir it (same_ends r.standing.trail t.standing.trail w.statement.at x.statement.at e).0)
+  same_steps p q (in_branch r b w ir f o d i) (called t v x it g c j) e = ap suc (same_steps r t ir it (same_ends r.standing.trail t.standing.trail w.statement.at x.statement.at e).0)
+  same_steps p q (in_optional r b w ir f o d i) (in_branch t a x it g k c j) e = ap suc (same_steps r t ir it (same_ends r.standing.trail t.standing.trail w.statement.at x.statement.at e).0)
+  same_steps p q (in_branch r b w ir f o d i) (in_optional t a x it g k c j) e = ap suc (same_steps r t ir it (same_ends r.standing.trail t.standing.trail w.statement.at x.statement.at e).0)
+  same_steps p q (in_branch r b w ir f o d i) (in_branch t a x it g k c j) e = ap suc (same_steps r t ir it (same_ends r.standing.trail t.standing.trail w.statement.at x.statement.at e).0)
 
   -- ---- the number of what is placed
 
   module _ (ps : List Placed) (are : Lists placed_cmp (IsPlaced ws ss) ps) where
-    at_one_place : (i j : ℕ) (p q : Placed) → slice_get ps i ≡ Some p → slice_get ps j ≡ Some q → p.standing.trail ≡ q.standing.trail → i ≡ j
+    pub at_one_place : (i j : ℕ) (p q : Placed) → slice_get ps i ≡ Some p → slice_get ps j ≡ Some q → p.standing.trail ≡ q.standing.trail → i ≡ j
     at_one_place i j p q e f same =
         let steps = same_steps p q ((are.members p).0 (get_contains ps i p e)) ((are.members q).0 (get_contains ps j q f)) same in
         tied_places placed_cmp placed_total ps i j p q are.rising e f
@@ -183,11 +210,13 @@ module _ (ws : List Written) (ss : List Standing) (apart : AreApart ws) (each : 
     standing_round s t ts (in_block p w sp b a c u) e = standing_round p t ts sp e
     standing_round s t ts (optional_stands p w sp o c u) e =
         record { by = placed_standing p; placed = stands p (all p sp); optional = o; trail = cons_head p.trail t p.round ts e; round = cons_tail p.trail t p.round ts e }
+    standing_round s t ts (branch_stands p w sp o c u) e = standing_round p t ts sp e
     standing_round s t ts (inherited p b w sp i k c u) e = standing_round p t ts sp e
 
     placed_round : (p : Placed) (t : List Spot) (ts : List (List Spot)) → IsPlaced ws ss p → p.standing.round ≡ t ∷ ts → IsRound t ts
     placed_round p t ts (stands s c) e = standing_round s t ts (each s c) e
     placed_round p t ts (called q u w iq f c i) e = placed_round q t ts iq e
+    placed_round p t ts (in_branch q b w iq f o c i) e = placed_round q t ts iq e
     placed_round p t ts (in_optional q b w iq f o c i) e =
         record { by = q; placed = iq; optional = o; trail = cons_head q.standing.trail t q.standing.round ts e; round = cons_tail q.standing.trail t q.standing.round ts e }
 

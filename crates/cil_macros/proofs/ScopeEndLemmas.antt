@@ -52,6 +52,7 @@ through_ends s (Some b) w = tidy_ends _
 as_ends : (ws : List Written) (s : Standing) (k : Keyword) (w : Written) → StandsSo s → StandsSo (standing_as ws s k w)
 as_ends ws s keywords.BlockInherit w so = through_ends s (target_of ws s.statement) w
 as_ends ws s keywords.Optional w so = so
+as_ends ws s keywords.BooleanIf w so = so
 as_ends ws s k w so = tidy_ends _
 
 under_ends : (ws : List Written) (o : Option Standing) (w : Written) → IfSome o StandsSo → StandsSo (standing_under ws o w)
@@ -70,13 +71,13 @@ standings_end ws done (e ∷ es) all =
 abbrev PlacedSo : Placed → Type 0
 PlacedSo p = EndsGlobally p.standing.scope
 
-placed_through_ends : (p : Placed) (u : Option Unfolded) (w : Written) → PlacedSo p → PlacedSo (placed_through p u w)
-placed_through_ends p None w so = so
-placed_through_ends p (Some u) w so = tidy_ends _
+placed_through_ends : (ws : List Written) (p : Placed) (u : Option Unfolded) (w : Written) → PlacedSo p → PlacedSo (placed_through ws p u w)
+placed_through_ends ws p None w so = so
+placed_through_ends ws p (Some u) w so = tidy_ends _
 
 placed_under_ends : (ws : List Written) (ss : List Standing) (o : Option Placed) (w : Written) → IfSome o PlacedSo → PlacedSo (placed_under ws ss o w)
 placed_under_ends ws ss None w so = alone_ends
-placed_under_ends ws ss (Some p) w so = placed_through_ends p (unfolded ws ss p) w so
+placed_under_ends ws ss (Some p) w so = placed_through_ends ws p (unfolded ws ss p) w so
 
 placed_end : (ws : List Written) (ss : List Standing) (done : List Placed) (cs : List Called) → AllByRecursion PlacedSo done → AllByRecursion PlacedSo (placed_from ws ss done cs)
 unfolding placed_from

@@ -31,13 +31,17 @@ one_faultless : (t : Term Word) (faults : List Inner) (value : Term Word) → fa
 one_faultless t [] value e = sym (some_same t value e)
 one_faultless t (f ∷ fs) value e = cc
 
-leaf_value : (kind : Op) (w : Word) (value : Term Word) → read_argument (argument_kind kind) (cell_in (Leaf w)) ≡ Some value
+pub leaf_value : (kind : Op) (w : Word) (value : Term Word) → read_argument (argument_kind kind) (cell_in (Leaf w)) ≡ Some value
     → value ≡ Leaf record { at = w.at; bytes = w.bytes; sign = kind_sign kind }
 unfolding cell_in read_word
 leaf_value ops.TypeKind w value e = one_faultless (Leaf record { at = w.at; bytes = w.bytes; sign = signs.Types }) (word_faults w.at (is_spelled signs.Types w.bytes) w.bytes) value e
 leaf_value ops.RoleKind w value e = one_faultless (Leaf record { at = w.at; bytes = w.bytes; sign = signs.Roles }) (word_faults w.at (is_spelled signs.Roles w.bytes) w.bytes) value e
 leaf_value ops.UserKind w value e = one_faultless (Leaf record { at = w.at; bytes = w.bytes; sign = signs.Users }) (word_faults w.at (is_spelled signs.Users w.bytes) w.bytes) value e
 leaf_value ops.ClassKind w value e = one_faultless (Leaf record { at = w.at; bytes = w.bytes; sign = signs.PlainClass }) (word_faults w.at (is_spelled signs.PlainClass w.bytes) w.bytes) value e
+leaf_value ops.BooleanKind w value e = one_faultless (Leaf record { at = w.at; bytes = w.bytes; sign = signs.Booleans }) (word_faults w.at (is_spelled signs.Booleans w.bytes) w.bytes) value e
+leaf_value ops.ClassMapKind w value e = one_faultless (Leaf record { at = w.at; bytes = w.bytes; sign = signs.ClassMaps }) (word_faults w.at (is_spelled signs.ClassMaps w.bytes) w.bytes) value e
+leaf_value ops.SensitivityKind w value e = one_faultless (Leaf record { at = w.at; bytes = w.bytes; sign = signs.Sensitivities }) (word_faults w.at (is_spelled signs.Sensitivities w.bytes) w.bytes) value e
+leaf_value ops.CategoryKind w value e = one_faultless (Leaf record { at = w.at; bytes = w.bytes; sign = signs.Categories }) (word_faults w.at (is_spelled signs.Categories w.bytes) w.bytes) value e
 leaf_value ops.NameKind w value e = sym (some_same (Leaf record { at = w.at; bytes = w.bytes; sign = signs.Text }) value e)
 leaf_value ops.TextKind w value e = sym (some_same (Leaf record { at = w.at; bytes = w.bytes; sign = signs.Text }) value e)
 leaf_value kind w value e = cc
@@ -62,17 +66,17 @@ unfolding read_list
 list_value ops.TypeKind at cells value e = cc
 list_value kind at cells value e = cc
 
-text_is_string : (at : Spot) (parts : Terms Word) → text_cell at parts ≡ string_cell at (string_in parts)
+pub text_is_string : (at : Spot) (parts : Terms Word) → text_cell at parts ≡ string_cell at (string_in parts)
 text_is_string at nil = refl
 text_is_string at (cons (Leaf w) ts) = refl
 text_is_string at (cons (Name bt bytes) ts) = refl
 text_is_string at (cons (Form bt op more) ts) = refl
 
-name_value : (kind : Op) (at : Spot) (bytes : List ℕ) (value : Term Word) → read_argument (argument_kind kind) (cell_in (Name at bytes)) ≡ Some value → value ≡ kept_text at bytes
+pub name_value : (kind : Op) (at : Spot) (bytes : List ℕ) (value : Term Word) → read_argument (argument_kind kind) (cell_in (Name at bytes)) ≡ Some value → value ≡ kept_text at bytes
 unfolding cell_in
 name_value kind at bytes value e = string_value kind at bytes value e
 
-form_value : (kind : Op) (at : Spot) (op : Op) (parts : Terms Word) (value : Term Word) → read_argument (argument_kind kind) (cell_in (Form at op parts)) ≡ Some value
+pub form_value : (kind : Op) (at : Spot) (op : Op) (parts : Terms Word) (value : Term Word) → read_argument (argument_kind kind) (cell_in (Form at op parts)) ≡ Some value
     → value ≡ kept_text at (string_in parts)
 unfolding cell_in
 form_value kind at op parts value e = by (is_text op) e

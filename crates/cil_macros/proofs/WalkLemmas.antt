@@ -5,7 +5,7 @@ use Rattle.std.proofs.lemmas.List.{append-nil, map-append, take_more}
 use Rattle.std.proofs.lemmas.List.Elements.{Contains-append_cases}
 use Rattle.cil_base.specs.Lists.{contains_cases, contains_none, Lists}
 use Rattle.cil_base.specs.Places.{get_behind, get_in_front, in_range, is_there, none_some, some_same}
-use Rattle.cil_blocks.specs.Contents.{Standing, is_optional}
+use Rattle.cil_blocks.specs.Contents.{Standing, keeps_place}
 use Rattle.cil_blocks.specs.declared.namespaces.Space.{Space}
 use Rattle.cil_blocks.specs.declared.parts.Parts.{Parts}
 use Rattle.cil_blocks.specs.Entries.{AreParts, parts_at, standings_of, statement_at}
@@ -16,7 +16,7 @@ use Rattle.cil_syntax.specs.Written.{Written, is_macro}
 use Rattle.cil_macros.specs.declared.entry.Body.{Body}
 use Rattle.cil_macros.specs.declared.entry.Called.{Called}
 use Rattle.cil_macros.specs.Calls.{IsPlaced, Unfolded, is_call, placed_cmp, unfolded}
-use Rattle.cil_macros.specs.Entries.{AreBodies, AreBodySpaces, IsBody, IsOf, IsOptionalOf, placed_by, placed_from, placed_of, placed_under}
+use Rattle.cil_macros.specs.Entries.{AreBodies, AreBodySpaces, IsBody, IsInnerOf, IsOf, placed_by, placed_from, placed_of, placed_under}
 use Rattle.cil_macros.specs.Opens.{opens_placed, starts}
 use Rattle.cil_macros.specs.Placed.{Placed}
 use Rattle.cil_macros.specs.Walks.{AreBodyScopes, IsBodyScope, IsUnfoldedAt, called_by, placed_in, written_in}
@@ -25,7 +25,7 @@ use Rattle.cil_macros.proofs.EntryLemmas.{AreSoFar, all_placed, opens_so, opens_
 use Rattle.cil_macros.proofs.CallLemmas.{placed_there}
 use Rattle.cil_base.specs.Rising.{IsOver}
 use Rattle.cil_macros.proofs.BodyLemmas.{called_statement, is_brought}
-use Rattle.cil_macros.proofs.CalledMacros.{is_macro_call, optional_opens_none}
+use Rattle.cil_macros.proofs.CalledMacros.{is_macro_call, kept_opens_none}
 
 get_of_contains : {X : Type 0} (xs : List X) (x : X) → Contains xs x → (i : ℕ) × (slice_get xs i ≡ Some x)
 get_of_contains xs x (k, h, e) = (k, is_there xs k x h ∙ ap Some e)
@@ -46,11 +46,11 @@ number_of_macro [] k e = let f : false ≡ true = e in cc
 number_of_macro (w ∷ ws) zero e = omega arith
 number_of_macro (w ∷ ws) (suc k) e = let h = number_of_macro ws k e in omega (arith, h)
 
--- so is an optional
-pub number_of_optional : (ws : List Written) (k : ℕ) → is_optional (statement_at ws k).statement.keyword ≡ true → k < length ws
-number_of_optional [] k e = let f : false ≡ true = e in cc
-number_of_optional (w ∷ ws) zero e = omega arith
-number_of_optional (w ∷ ws) (suc k) e = let h = number_of_optional ws k e in omega (arith, h)
+-- so is an optional or a booleanif
+pub number_of_kept : (ws : List Written) (k : ℕ) → keeps_place (statement_at ws k).statement.keyword ≡ true → k < length ws
+number_of_kept [] k e = let f : false ≡ true = e in cc
+number_of_kept (w ∷ ws) zero e = omega arith
+number_of_kept (w ∷ ws) (suc k) e = let h = number_of_kept ws k e in omega (arith, h)
 
 -- what each statement that is brought together has
 called_one : (opener body : ℕ) (ns : List ℕ) (j : ℕ) (c : Called) → slice_get (map (called_by opener body) ns) j ≡ Some c → (c.body ≡ body) × (c.opener ≡ opener)
@@ -118,21 +118,21 @@ module _ (ws : List Written) (ss : List Standing) where
         y.same p q m (stood_before cs new more placed call p h f) (stood_before cs new more placed from q (omega (arith, h, near)) g) k;
   }
 
-  -- so does an optional of a body
-  optional_stays : (cs more : List Called) (at number : ℕ) → IsOptionalOf ws cs (length ss) at number → IsOptionalOf ws (cs ++ more) (length ss) at number
-  optional_stays cs more at number x = record {
+  -- so does an optional or a booleanif of a body
+  inner_stays : (cs more : List Called) (at number : ℕ) → IsInnerOf ws cs (length ss) at number → IsInnerOf ws (cs ++ more) (length ss) at number
+  inner_stays cs more at number x = record {
     rank = x.rank;
     behind = x.behind;
     called = x.called;
     is = get_in_front cs more x.rank (in_range cs x.rank x.called x.is) ∙ x.is;
     body = x.body;
-    optional = x.optional;
+    keeps = x.keeps;
   }
 
-  opened_stays : (cs more : List Called) (b : Body) (c : Called) → (b.call ≡ c.opener) ⊎ IsOptionalOf ws cs (length ss) c.opener c.body
-      → (b.call ≡ c.opener) ⊎ IsOptionalOf ws (cs ++ more) (length ss) c.opener c.body
+  opened_stays : (cs more : List Called) (b : Body) (c : Called) → (b.call ≡ c.opener) ⊎ IsInnerOf ws cs (length ss) c.opener c.body
+      → (b.call ≡ c.opener) ⊎ IsInnerOf ws (cs ++ more) (length ss) c.opener c.body
   opened_stays cs more b c (inl e) = inl e
-  opened_stays cs more b c (inr x) = inr (optional_stays cs more c.opener c.body x)
+  opened_stays cs more b c (inr x) = inr (inner_stays cs more c.opener c.body x)
 
   -- what is at a place of two lists is of the first or of the second
   pub either_at : {X : Type 0} (xs ys : List X) (i : ℕ) (x : X) → slice_get (xs ++ ys) i ≡ Some x
@@ -240,20 +240,20 @@ module _ (ws : List Written) (ss : List Standing) where
           | inr none ↦ absurd (contains_none x none)
         ]
 
-  -- ---- what is in an optional of a body
+  -- ---- what is in an optional or a booleanif of a body
 
-  module _ (cs : List Called) (bs : List Body) (at number : ℕ) (numbers : List ℕ) (are : AreBodies ws ss cs bs) (x : IsOptionalOf ws cs (length ss) at number) where
+  module _ (cs : List Called) (bs : List Body) (at number : ℕ) (numbers : List ℕ) (are : AreBodies ws ss cs bs) (x : IsInnerOf ws cs (length ss) at number) where
     abbrev inside : List Called
     inside = cs ++ map (called_by at number) numbers
 
     abbrev within : List Placed
     within = map (placed_by ws ss (placed_of ws ss cs) at) numbers
 
-    pub optional_below : at < length ss + length cs
-    optional_below = let h = in_range cs x.rank x.called x.is in let e = x.behind in omega (arith, h, e)
+    pub inner_below : at < length ss + length cs
+    inner_below = let h = in_range cs x.rank x.called x.is in let e = x.behind in omega (arith, h, e)
 
     pub placed_within : placed_of ws ss inside ≡ placed_of ws ss cs ++ within
-    placed_within = all_brought cs at number numbers optional_below
+    placed_within = all_brought cs at number numbers inner_below
 
     call_below : (b : Body) → Contains bs b → b.call < length (placed_of ws ss cs)
     call_below b c =
@@ -261,19 +261,19 @@ module _ (ws : List Written) (ss : List Standing) where
         let y = are.each i.0 b i.1 in
         in_range (placed_of ws ss cs) b.call y.call y.is_call
 
-    -- it is of the body of the optional
-    of_optional : (j k : ℕ) (c : Called) → j ≡ length cs + k → slice_get (map (called_by at number) numbers) k ≡ Some c → IsOf ws (length ss) inside bs (length ss + j) c
-    of_optional j k c f e =
+    -- it is of the body of that
+    of_inner : (j k : ℕ) (c : Called) → j ≡ length cs + k → slice_get (map (called_by at number) numbers) k ≡ Some c → IsOf ws (length ss) inside bs (length ss + j) c
+    of_inner j k c f e =
         let o = called_one at number numbers k c e in
         let same = o.1 in
         let y = are.brought x.rank x.called x.is in
-        let below = optional_below in
+        let below = inner_below in
         record {
           body = y.body;
           is_body = ap (slice_get bs) (o.0 ∙ sym x.body) ∙ y.is_body;
           before = omega (arith, below, f, same);
-          opened = inr (optional_stays cs (map (called_by at number) numbers) c.opener c.body
-              (record { rank = x.rank; behind = o.1 ∙ x.behind; called = x.called; is = x.is; body = x.body ∙ sym o.0; optional = x.optional }));
+          opened = inr (inner_stays cs (map (called_by at number) numbers) c.opener c.body
+              (record { rank = x.rank; behind = o.1 ∙ x.behind; called = x.called; is = x.is; body = x.body ∙ sym o.0; keeps = x.keeps }));
         }
 
     pub bodies_within : AreBodies ws ss inside bs
@@ -292,7 +292,7 @@ module _ (ws : List Written) (ss : List Standing) where
               before = y.before;
               opened = opened_stays cs (map (called_by at number) numbers) y.body c y.opened;
             }
-        by j c (inr (k, f, g)) = of_optional j k c f g
+        by j c (inr (k, f, g)) = of_inner j k c f g
 
     pub spaces_within : (spaces : List Space) → AreBodySpaces ws ss spaces cs bs → AreBodySpaces ws ss spaces inside bs
     spaces_within spaces old b p c e = old b p c (stood_before cs inside within placed_within b.call p (call_below b c) e)
@@ -357,9 +357,9 @@ module _ (s : Standings) (cs : List Called) (bs : List Body) (at called : ℕ) (
       keyword : is_macro (statement_at (written_in s) k).statement.keyword ≡ true
       keyword = ap (λ (w : Written). is_macro w.statement.keyword) (sym same) ∙ (is_macro_call (written_in s) (all_standing s) p u.opened u.is).macro
 
--- where the statement is an optional of a body
+-- where the statement is an optional or a booleanif of a body
 module _ (s : Standings) (cs : List Called) (bs : List Body) (at number : ℕ) (numbers : List ℕ) (new : List Called) (e : new ≡ cs ++ map (called_by at number) numbers)
-    (are : AreBodies (written_in s) (all_standing s) cs bs) (x : IsOptionalOf (written_in s) cs (length (all_standing s)) at number) where
+    (are : AreBodies (written_in s) (all_standing s) cs bs) (x : IsInnerOf (written_in s) cs (length (all_standing s)) at number) where
   abbrev ws : List Written
   ws = written_in s
 
@@ -375,26 +375,26 @@ module _ (s : Standings) (cs : List Called) (bs : List Body) (at number : ℕ) (
   pub scopes_inside : AreBodyScopes ss (placed_in s cs) bs → AreBodyScopes ss (placed_in s new) bs
   scopes_inside old = subst (λ xs. AreBodyScopes ss (placed_in s xs) bs) (sym e) (scopes_within ws ss cs bs at number numbers are x old)
 
-  -- what is placed is what was placed, and what is in the optional
+  -- what is placed is what was placed, and what is in the statement
   pub placed_inside : (ps : Parts) → AreParts ws ps → (k : ℕ) → ((p : Placed) → slice_get (placed_in s cs) at ≡ Some p → p.standing.statement ≡ statement_at ws k)
       → numbers ≡ parts_at ps k → (p : Placed) → slice_get (placed_in s cs) at ≡ Some p → placed_in s new ≡ placed_in s cs ++ opens_placed ws ss p
   placed_inside ps are_parts k stated n p here =
       let b = is_brought ws ss cs bs are x.rank x.called x.is in
       let there : p ≡ b.there = some_same p b.there (sym here ∙ ap (slice_get (placed_in s cs)) x.behind ∙ b.placed) in
       let said = called_statement ws ss cs x.rank x.called p x.is (ap (slice_get (placed_in s cs)) (sym x.behind) ∙ here) in
-      let optional = ap (λ (w : Written). is_optional w.statement.keyword) said ∙ x.optional in
+      let kept = ap (λ (w : Written). keeps_place w.statement.keyword) said ∙ x.keeps in
       ap (placed_in s) e
       ∙ placed_within ws ss cs bs at number numbers are x
       ∙ ap (λ ks. placed_in s cs ++ map (placed_by ws ss (placed_in s cs) at) ks) n
       ∙ ap (λ xs. placed_in s cs ++ xs)
-      (opens_within ws ss ps are_parts (placed_in s cs) at k p _ here (ap (λ (q : Placed). q.body) there ∙ b.is.body) optional
-      (number_of_optional ws k (ap (λ (w : Written). is_optional w.statement.keyword) (sym (stated p here)) ∙ optional)) (stated p here))
+      (opens_within ws ss ps are_parts (placed_in s cs) at k p _ here (ap (λ (q : Placed). q.body) there ∙ b.is.body) kept
+      (number_of_kept ws k (ap (λ (w : Written). keeps_place w.statement.keyword) (sym (stated p here)) ∙ kept)) (stated p here))
 
   -- it is no call
-  pub optional_unfolds_none : (p : Placed) → slice_get (placed_in s cs) at ≡ Some p → unfolded ws ss p ≡ None
-  optional_unfolds_none p here =
-      optional_opens_none ws ss p
-      (ap (λ (w : Written). is_optional w.statement.keyword) (called_statement ws ss cs x.rank x.called p x.is (ap (slice_get (placed_in s cs)) (sym x.behind) ∙ here)) ∙ x.optional)
+  pub inner_unfolds_none : (p : Placed) → slice_get (placed_in s cs) at ≡ Some p → unfolded ws ss p ≡ None
+  inner_unfolds_none p here =
+      kept_opens_none ws ss p
+      (ap (λ (w : Written). keeps_place w.statement.keyword) (called_statement ws ss cs x.rank x.called p x.is (ap (slice_get (placed_in s cs)) (sym x.behind) ∙ here)) ∙ x.keeps)
 
 -- ---- the whole walk
 

@@ -4,6 +4,7 @@ use Rattle.std.specs.Prelude.{◌≡◌, ℕ, Bool, true, false, if◌then◌els
 use Rattle.std.proofs.Common.{◌+◌, ◌-◌, take, drop, slice_range, sym, ap, subst, arith}
 use Rattle.cil_modset.specs.Modules.{module_of}
 use Rattle.cil_syntax.specs.declared.kind.Sign.{Sign}
+use Rattle.cil_syntax.specs.declared.kind.Sign.TheVariants as signs
 use Rattle.cil_syntax.specs.declared.term.Op.{Op}
 use Rattle.cil_syntax.specs.declared.term.Op.TheVariants as ops
 use Rattle.cil_faults.specs.declared.spot.Spot.{Spot}
@@ -16,10 +17,10 @@ use Rattle.cil_syntax.specs.Terms.{Term, Leaf, Name, Form, Terms, nil, cons}
 use Rattle.cil_syntax.specs.Written.{Written}
 use Rattle.cil_syntax.proofs.SliceLemmas.{IsPlain, Whole, WholeIn, FrontText, Has, EachCell, word_has, string_has, list_has, written_whole}
 use Rattle.cil_blocks.specs.Contents.{Standing, Stands}
-use Rattle.cil_macros.specs.Calls.{Unfolded, IsPlaced, stands, called, in_optional, bound, bound_more, bounds_of_call, called_macro, filled_by, is_repeated, unfolded, unfolded_by, unfolded_with}
+use Rattle.cil_macros.specs.Calls.{Unfolded, IsPlaced, stands, called, in_branch, in_optional, bound, bound_more, bounds_of_call, called_macro, filled_by, is_repeated, unfolded, unfolded_by, unfolded_with}
 use Rattle.cil_macros.specs.Laws.{HaveWordsOfTexts}
 use Rattle.cil_macros.specs.Parameters.{ArgumentKind, Parameter, argument_kind, argument_of, call_arguments, cell_in, cells_in, faultless, is_text, macro_parameters, read_argument, sound, text_cell}
-use Rattle.cil_macros.specs.Placed.{Bound, Placed, filled, all_filled, is_served, meaning, meant_by, put}
+use Rattle.cil_macros.specs.Placed.{Bound, Placed, filled, all_filled, is_served, meaning, meant_by, of_plain_class, put, put_list}
 use Rattle.cil_macros.proofs.WrittenLemmas.{stands_written}
 
 never : false ≡ true → ⊥
@@ -127,10 +128,20 @@ module _ (P : Spot → List ℕ → Type 0) (empty : (at : Spot) → P at []) wh
   found_has w [] h = tt
   found_has w (b ∷ bs) h = one_bound (is_served w b) (Some b) (find (is_served w) bs) h.0 (found_has w bs h.1)
 
+  plain_has : (ts : Terms ScopedWord) → EachTextIn (λ (w : ScopedWord). P w.at w.bytes) P ts → EachTextIn (λ (w : ScopedWord). P w.at w.bytes) P (of_plain_class ts)
+  plain_has nil h = h
+  plain_has (cons (Leaf w) ts) h = h
+  plain_has (cons (Name at name) ts) h = h
+  plain_has (cons (Form at op parts) ts) h = h
+
+  list_put : (sign : Sign) (at : Spot) (op : Op) (parts : Terms ScopedWord) → OfMeant (Form at op parts) → OfMeant (put_list sign at op parts)
+  list_put signs.MappedPermissions at op parts h = plain_has parts h
+  list_put sign at op parts h = h
+
   put_has : (sign : Sign) (t : Term ScopedWord) → OfMeant t → OfMeant (put sign t)
   put_has sign (Leaf w) h = h
   put_has sign (Name at name) h = h
-  put_has sign (Form at op parts) h = h
+  put_has sign (Form at op parts) h = list_put sign at op parts h
 
   module _ (ws : List Written) (p : Placed) (bounds : EachBound p.bounds) where
     meant_has : (w : Word) → P w.at w.bytes → (o : Option Bound) → IfBound o → OfMeant (meant_by ws p w o)
@@ -210,6 +221,7 @@ module _ (P : Spot → List ℕ → Type 0) (empty : (at : Spot) → P at []) wh
     placed_has p (called q u w placed e c i) =
         let before = placed_has q placed in (subst IfUnfolded e (unfolded_has ws q before.0 ss before.1), said w c)
     placed_has p (in_optional q b w placed e o c i) = ((placed_has q placed).0, said w c)
+    placed_has p (in_branch q b w placed e o c i) = ((placed_has q placed).0, said w c)
 
     placed_mean : (p : Placed) → IsPlaced ws ss p → EachTextIn (λ (w : Word). OfMeant (meaning ws p w)) P p.standing.statement.statement.args
     placed_mean p placed =

@@ -1,5 +1,5 @@
 -- What is wrong with calls, placed statement by placed statement, as it is told.
-use Rattle.std.specs.Prelude.{◌≡◌, ℕ, Bool, false, not, if◌then◌else◌, List, [], ◌∷◌, ◌++◌, Option, Some, None, is_some, slice_get}
+use Rattle.std.specs.Prelude.{◌≡◌, ℕ, suc, Bool, false, ◌&&◌, not, if◌then◌else◌, List, [], ◌∷◌, ◌++◌, Option, Some, None, is_some, slice_get}
 use Rattle.cil_faults.specs.declared.code.FaultCode.{FaultCode}
 use Rattle.cil_faults.specs.declared.code.FaultCode.TheVariants as causes
 use Rattle.cil_faults.specs.declared.fault.Fault.{Fault}
@@ -11,6 +11,8 @@ use Rattle.cil_blocks.specs.Contents.{Standing, first_word}
 use Rattle.cil_blocks.specs.Places.{Standings}
 use Rattle.cil_macros.specs.declared.entry.Called.{Called}
 use Rattle.cil_macros.specs.declared.faults.Wrong.{Wrong}
+use Rattle.cil_macros.specs.Brings.{is_marked}
+use Rattle.cil_macros.specs.CallPlaces.{is_call_in_branch}
 use Rattle.cil_macros.specs.Calls.{bounds_of_call, called_macro, is_repeated}
 use Rattle.cil_macros.specs.Macros.{all_standing}
 use Rattle.cil_macros.specs.Placed.{Placed}
@@ -32,16 +34,28 @@ told_if wrong code space w = if wrong then fault_at code w.at space w.bytes ∷ 
 
 abbrev pub told : Namespace → Wrong → Option Word → List Fault
 told space x None = []
-told space x (Some w) = told_if x.again causes.CallCycle space w ++ told_if x.unfit causes.CallArguments space w
+told space x (Some w) =
+    told_if x.again causes.CallCycle space w
+    ++ (told_if x.unfit causes.CallArguments space w ++ told_if x.misplaced causes.CallPlace space w)
 
--- what is wrong with a placed statement
-abbrev pub wrong_of : List Written → List Standing → Placed → Wrong
-wrong_of ws ss p = record { again = is_again p (called_macro ss p); unfit = is_unfit ws p (called_macro ss p) }
+-- what is wrong with a placed statement, where it is marked or not
+abbrev pub wrong_of : List Written → List Standing → Bool → Placed → Wrong
+wrong_of ws ss mark p = record {
+  again = is_again p (called_macro ss p);
+  unfit = is_unfit ws p (called_macro ss p);
+  misplaced = mark && is_call_in_branch p.standing.statement;
+}
 
 -- and its faults
-abbrev pub faults_of : List Written → List Standing → Placed → List Fault
-faults_of ws ss p = told p.standing.space (wrong_of ws ss p) (first_word p.standing.statement.statement.args)
+abbrev pub faults_of : List Written → List Standing → Bool → Placed → List Fault
+faults_of ws ss mark p = told p.standing.space (wrong_of ws ss mark p) (first_word p.standing.statement.statement.args)
+
+-- those of all that is placed from a place on
+unfoldable pub faults_from : List Written → List Standing → List Bool → ℕ → List Placed → List Fault
+faults_from ws ss marks k [] = []
+faults_from ws ss marks k (p ∷ ps) = faults_of ws ss (is_marked marks k) p ++ faults_from ws ss marks (suc k) ps
 
 -- what is wrong there
-abbrev pub SaysWrong : Standings → List Called → ℕ → Wrong → Type 0
-SaysWrong s cs at x = (p : Placed) → slice_get (placed_in s cs) at ≡ Some p → x ≡ wrong_of (written_in s) (all_standing s) p
+abbrev pub SaysWrong : Standings → List Called → List Bool → ℕ → Wrong → Type 0
+SaysWrong s cs marks at x =
+    (p : Placed) → slice_get (placed_in s cs) at ≡ Some p → x ≡ wrong_of (written_in s) (all_standing s) (is_marked marks at) p

@@ -14,9 +14,9 @@ use Rattle.cil_syntax.specs.Scopes.{Scope, ScopedWord, asked, same_space, spaces
 use Rattle.cil_syntax.specs.Spelling.{same_bytes}
 use Rattle.cil_syntax.specs.Terms.{Term, Terms, nil, cons}
 use Rattle.cil_syntax.specs.Written.{Written, is_macro}
-use Rattle.cil_blocks.specs.Contents.{IsIn, Standing, first_word, is_optional, name_of, path_cmp, path_of, same_spot, standing_in_optional}
+use Rattle.cil_blocks.specs.Contents.{IsIn, Standing, first_word, is_conditional, is_optional, name_of, path_cmp, path_of, same_spot, standing_in_optional, standing_under_condition}
 use Rattle.cil_macros.specs.Parameters.{Parameter, argument_of, call_arguments, macro_parameters}
-use Rattle.cil_macros.specs.Placed.{Body, Bound, Placed, filled, meaning, placed_standing}
+use Rattle.cil_macros.specs.Placed.{Body, Bound, Placed, condition_there, filled, meaning, placed_standing}
 
 abbrev pub is_call : Keyword → Bool
 is_call keywords.Call = true
@@ -108,8 +108,8 @@ abbrev pub home_of : Scope → Option Body → Scope
 home_of scope None = scope
 home_of scope (Some b) = b.home
 
--- a statement of the body of a macro, at a call: it stands where the call stands, and its words see the place of the macro
--- first
+-- a statement of the body of a macro, at a call: it stands where the call stands, in the branch of the call too, and its words
+-- see the place of the macro first
 abbrev pub placed_called : Placed → Unfolded → Written → Placed
 placed_called p u w = record {
   standing = record {
@@ -118,6 +118,7 @@ placed_called p u w = record {
     chain = path_of p.standing;
     scope = tidy (u.macro.scope ++ p.standing.scope);
     round = p.standing.round;
+    branch = p.standing.branch;
     trail = p.standing.trail ++ w.statement.at ∷ [];
   };
   bounds = u.bounds;
@@ -136,15 +137,27 @@ placed_in_optional p w = record {
   steps = suc p.steps;
 }
 
+-- a statement in a branch of a booleanif of a body
+abbrev pub placed_in_branch : List Written → Placed → Written → Placed
+placed_in_branch ws p w = record {
+  standing = standing_under_condition p.standing (condition_there ws p) w;
+  bounds = p.bounds;
+  body = p.body;
+  macros = p.macros;
+  steps = suc p.steps;
+}
+
 -- what is placed: what stands; what is directly in the macro of a call that is placed and unfolded; what is directly in an
--- optional that is placed in a body
+-- optional, or in a branch of a booleanif, that is placed in a body
 pub data IsPlaced (ws : List Written) (ss : List Standing) : Placed → Type 0 where
   stands : (s : Standing) → Contains ss s → IsPlaced ws ss (placed_standing s)
   called : (p : Placed) (u : Unfolded) (w : Written) → IsPlaced ws ss p → unfolded ws ss p ≡ Some u → Contains ws w → IsIn w u.macro.statement
       → IsPlaced ws ss (placed_called p u w)
   in_optional : (p : Placed) (b : Body) (w : Written) → IsPlaced ws ss p → p.body ≡ Some b → is_optional p.standing.statement.statement.keyword ≡ true
       → Contains ws w → IsIn w p.standing.statement → IsPlaced ws ss (placed_in_optional p w)
+  in_branch : (p : Placed) (b : Body) (w : Written) → IsPlaced ws ss p → p.body ≡ Some b → is_conditional p.standing.statement.statement.keyword ≡ true
+      → Contains ws w → IsIn w p.standing.statement → IsPlaced ws ss (placed_in_branch ws p w)
 
--- the order: what lies in fewer bodies and optionals of bodies first, and then by the statements through which it came
+-- the order: what lies in fewer bodies, and optionals and booleanifs of bodies, first, and then by the statements through which it came
 abbrev pub placed_cmp : Placed → Placed → Ordering
 placed_cmp = then_cmp (on (λ p. p.steps) nat_cmp) (on (λ p. p.standing.trail) path_cmp)

@@ -3,26 +3,26 @@
 use Rattle.std.specs.Prelude.{◌≡◌, ◌⊎◌, ℕ, ◌+◌, ◌<◌, true, List, [], ◌∷◌, ◌++◌, length, Contains, Option, Some, None, slice_get}
 use Rattle.cil_syntax.specs.Scopes.{tidy}
 use Rattle.cil_syntax.specs.Written.{Written}
-use Rattle.cil_blocks.specs.Contents.{Standing, is_optional, standing_top}
+use Rattle.cil_blocks.specs.Contents.{Standing, keeps_place, standing_top}
 use Rattle.cil_blocks.specs.declared.namespaces.Space.{Space}
 use Rattle.cil_blocks.specs.Entries.{statement_at}
 use Rattle.cil_blocks.specs.Namespaces.{IsNumber}
 use Rattle.cil_macros.specs.declared.entry.Body.{Body}
 use Rattle.cil_macros.specs.declared.entry.Called.{Called}
-use Rattle.cil_macros.specs.Calls.{Unfolded, home_of, placed_called, placed_in_optional, unfolded}
-use Rattle.cil_macros.specs.Opens.{starts}
+use Rattle.cil_macros.specs.Calls.{Unfolded, home_of, placed_called, unfolded}
+use Rattle.cil_macros.specs.Opens.{placed_inside, starts}
 use Rattle.cil_macros.specs.Placed.{Placed, placed_standing}
 
 -- ---- what is placed
 
--- a statement that a placed one opens: a call what is in its macro, and an optional what is in it
-abbrev pub placed_through : Placed → Option Unfolded → Written → Placed
-placed_through p None w = placed_in_optional p w
-placed_through p (Some u) w = placed_called p u w
+-- a statement that a placed one opens: a call what is in its macro, and an optional or a booleanif what is in it
+abbrev pub placed_through : List Written → Placed → Option Unfolded → Written → Placed
+placed_through ws p None w = placed_inside ws p w
+placed_through ws p (Some u) w = placed_called p u w
 
 abbrev pub placed_under : List Written → List Standing → Option Placed → Written → Placed
 placed_under ws ss None w = placed_standing (standing_top w)
-placed_under ws ss (Some p) w = placed_through p (unfolded ws ss p) w
+placed_under ws ss (Some p) w = placed_through ws p (unfolded ws ss p) w
 
 -- the statement of a number, opened by the one at a place
 abbrev pub placed_by : List Written → List Standing → List Placed → ℕ → ℕ → Placed
@@ -46,22 +46,22 @@ pub record IsBody (ws : List Written) (ss : List Standing) (ps : List Placed) (b
   pub is_opened : unfolded ws ss call ≡ Some opened
   pub is_macro : slice_get ss b.macro_rank ≡ Some opened.macro
 
--- what is placed there is an optional in the body of this number
-pub record IsOptionalOf (ws : List Written) (cs : List Called) (standing at number : ℕ) : Type 0 where
+-- what is placed there is an optional or a booleanif in the body of this number
+pub record IsInnerOf (ws : List Written) (cs : List Called) (standing at number : ℕ) : Type 0 where
   pub rank : ℕ
   pub behind : at ≡ standing + rank
   pub called : Called
   pub is : slice_get cs rank ≡ Some called
   pub body : called.body ≡ number
-  pub optional : is_optional (statement_at ws called.statement).statement.keyword ≡ true
+  pub keeps : keeps_place (statement_at ws called.statement).statement.keyword ≡ true
 
--- a statement that a call brings is of one body: what opened it stands before it, and is the call of that body or an optional
--- in it
+-- a statement that a call brings is of one body: what opened it stands before it, and is the call of that body, or an optional or
+-- a booleanif in it
 pub record IsOf (ws : List Written) (standing : ℕ) (cs : List Called) (bs : List Body) (count : ℕ) (c : Called) : Type 0 where
   pub body : Body
   pub is_body : slice_get bs c.body ≡ Some body
   pub before : c.opener < count
-  pub opened : (body.call ≡ c.opener) ⊎ IsOptionalOf ws cs standing c.opener c.body
+  pub opened : (body.call ≡ c.opener) ⊎ IsInnerOf ws cs standing c.opener c.body
 
 -- all that calls have brought so far
 pub record AreBodies (ws : List Written) (ss : List Standing) (cs : List Called) (bs : List Body) : Type 0 where

@@ -5,18 +5,27 @@ use Rattle.std.proofs.Common.{refl, sym, ◌∙◌, ap}
 use Rattle.cil_syntax.specs.declared.kind.Sign.{Sign}
 use Rattle.cil_syntax.specs.declared.term.Op.{Op}
 use Rattle.cil_syntax.specs.declared.term.Word.{Word}
-use Rattle.cil_syntax.specs.Shapes.{Shape}
+use Rattle.cil_syntax.specs.Readings.{read_row}
+use Rattle.cil_syntax.specs.Shapes.{Row, Shape}
 use Rattle.cil_syntax.specs.Words.{is_spelled}
 use Rattle.cil_syntax.specs.Spelling.{is_reserved}
 use Rattle.cil_syntax.specs.Terms.{Term, Terms, nil, cons}
 use Rattle.cil_syntax.specs.Written.{Written}
 use Rattle.cil_macros.specs.Calls.{bound, bound_more, filled_by}
-use Rattle.cil_macros.specs.Parameters.{Parameter, argument_kind, argument_of, cell_in, read_argument, sound}
+use Rattle.cil_macros.specs.Parameters.{Parameter, argument_kind, argument_of, cell_in, cells_in, kind_of_argument, read_argument, sound}
 use Rattle.cil_macros.specs.Placed.{Bound, Placed}
 
 -- a term that was kept reads by a shape without a fault
 abbrev pub is_read_as : Shape → Term Word → Bool
 is_read_as shape t = is_some (sound ((cell_in t).read shape))
+
+-- items that were kept read by a row without a fault
+abbrev pub are_read_as : Row → Terms Word → Bool
+are_read_as row ts = is_some (sound (read_row row (cells_in ts)))
+
+-- an argument has the form of a kind, supported or not
+abbrev pub is_of_kind : Op → Term Word → Bool
+is_of_kind kind t = is_some (read_argument (kind_of_argument kind) (cell_in t))
 
 -- an argument has the form of a kind
 abbrev pub has_form : Op → Term Word → Bool

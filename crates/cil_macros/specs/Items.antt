@@ -18,40 +18,85 @@ use Rattle.cil_blocks.specs.Places.{Standings, spaces_in}
 use Rattle.cil_macros.specs.declared.entry.Called.{Called}
 use Rattle.cil_macros.specs.declared.placed_word.PlacedWord.{PlacedWord}
 use Rattle.cil_macros.specs.Calls.{IsPlaced, Unfolded, placed_cmp, unfolded}
-use Rattle.cil_macros.specs.Item.{Item, all_replaced}
+use Rattle.cil_macros.specs.Item.{Item}
 use Rattle.cil_macros.specs.Macros.{all_standing}
 use Rattle.cil_macros.specs.Meant.{scope_there}
-use Rattle.cil_macros.specs.Placed.{Bound, Placed, meaning, placed_standing}
+use Rattle.cil_macros.specs.Parameters.{is_text as is_text_op}
+use Rattle.cil_macros.specs.Placed.{Bound, Placed, all_filled, condition_there, meaning, placed_standing}
+unfoldable pub use Rattle.cil_macros.specs.Placed.{as_word, unasked, word_of}
 use Rattle.cil_macros.specs.Rounds.{round_of}
 use Rattle.cil_macros.specs.Walks.{placed_in, written_in}
 
 -- ---- words
 
--- a word that no namespace is asked for
-abbrev pub unasked : Word → ScopedWord
-unasked w = record { at = w.at; bytes = w.bytes; sign = w.sign; scope = [] }
+-- a term as the argument that a word stands for. A text serves no place of a word that is looked up
+abbrev pub joined_as : Bool → Word → Term ScopedWord → Term ScopedWord
+joined_as true w t = Leaf (unasked w)
+joined_as false w t = t
 
--- what is meant, as a word. A string serves no place of a word that is looked up
-abbrev pub as_word : Word → Term ScopedWord → ScopedWord
-as_word w (Leaf v) = v
-as_word w (Name at name) = unasked w
-as_word w (Form at op parts) = unasked w
+abbrev pub said_as : Word → Term ScopedWord → Term ScopedWord
+said_as w (Leaf v) = Leaf v
+said_as w (Name at name) = Leaf (unasked w)
+said_as w (Form at op parts) = joined_as (is_text_op op) w (Form at op parts)
 
 -- what a word of a placed statement says there: the argument for which it stands, or itself in its scope
-unfoldable pub word_of : List Written → Placed → Word → ScopedWord
-word_of ws p w = as_word w (meaning ws p w)
+unfoldable pub said_by : List Written → Placed → Word → Term ScopedWord
+said_by ws p w = said_as w (meaning ws p w)
 
 -- ---- what statements say
-
--- words, one after another
-unfoldable pub leaves : List ScopedWord → Terms ScopedWord
-leaves [] = nil
-leaves (w ∷ ws) = cons (Leaf w) (leaves ws)
 
 -- names and strings are not looked up
 abbrev pub is_text : Sign → Bool
 is_text signs.Text = true
 is_text sign = false
+
+abbrev pub is_text_value : Term ScopedWord → Bool
+is_text_value (Leaf w) = is_text w.sign
+is_text_value (Name at name) = true
+is_text_value (Form at op parts) = is_text_op op
+
+abbrev pub put_unless : Bool → Term ScopedWord → Terms ScopedWord → Terms ScopedWord
+put_unless true t ts = ts
+put_unless false t ts = cons t ts
+
+-- the arguments that are no texts
+unfoldable pub values_of : List Bound → Terms ScopedWord
+values_of [] = nil
+values_of (b ∷ bs) = put_unless (is_text_value b.value) b.value (values_of bs)
+
+abbrev pub unfolded_values : Option Unfolded → Terms ScopedWord
+unfolded_values None = nil
+unfolded_values (Some u) = values_of u.bounds
+
+-- the word of the macro: it is looked up where the call stands
+abbrev pub with_macro : Placed → Option Word → Terms ScopedWord → Terms ScopedWord
+with_macro p None ts = ts
+with_macro p (Some w) ts = cons (Leaf record { at = w.at; bytes = w.bytes; sign = w.sign; scope = p.standing.scope }) ts
+
+-- what a call says: the word of its macro and, where it is unfolded, its arguments that are looked up
+abbrev pub call_says : List Written → List Standing → Placed → Terms Word → Terms ScopedWord
+call_says ws ss p args = with_macro p (first_word args) (unfolded_values (unfolded ws ss p))
+
+-- the words of blockinherit and blockabstract are no words of a policy: they are judged with the blocks
+unfoldable pub says : List Written → List Standing → Placed → Keyword → Terms Word → Terms ScopedWord
+says ws ss p keywords.BlockInherit args = nil
+says ws ss p keywords.BlockAbstract args = nil
+says ws ss p keywords.Call args = call_says ws ss p args
+says ws ss p keyword args = all_filled (said_by ws p) args
+
+-- the other statements say what is written
+abbrev pub says_as_written : Keyword → Bool
+says_as_written keywords.BlockInherit = false
+says_as_written keywords.BlockAbstract = false
+says_as_written keywords.Call = false
+says_as_written keyword = true
+
+-- ---- the words of a call, where its arguments are words
+
+-- words, one after another
+unfoldable pub leaves : List ScopedWord → Terms ScopedWord
+leaves [] = nil
+leaves (w ∷ ws) = cons (Leaf w) (leaves ws)
 
 abbrev pub listed_unless : {X : Type 0} → Bool → X → List X
 listed_unless true x = []
@@ -70,28 +115,14 @@ abbrev pub unfolded_words : Option Unfolded → List ScopedWord
 unfolded_words None = []
 unfolded_words (Some u) = argument_words u.bounds
 
--- the word of the macro: it is looked up where the call stands
 abbrev pub macro_words : Placed → Option Word → List ScopedWord
 macro_words p None = []
 macro_words p (Some w) = record { at = w.at; bytes = w.bytes; sign = w.sign; scope = p.standing.scope } ∷ []
 
--- the words of a call: that of its macro and, where it is unfolded, its arguments
 abbrev pub call_words : List Written → List Standing → Placed → Terms Word → List ScopedWord
 call_words ws ss p args = macro_words p (first_word args) ++ unfolded_words (unfolded ws ss p)
 
--- the words of blockinherit and blockabstract are no words of a policy: they are judged with the blocks
-unfoldable pub says : List Written → List Standing → Placed → Keyword → Terms Word → Terms ScopedWord
-says ws ss p keywords.BlockInherit args = nil
-says ws ss p keywords.BlockAbstract args = nil
-says ws ss p keywords.Call args = leaves (call_words ws ss p args)
-says ws ss p keyword args = all_replaced (λ at. at) (word_of ws p) args
-
--- the other statements say what is written
-abbrev pub says_as_written : Keyword → Bool
-says_as_written keywords.BlockInherit = false
-says_as_written keywords.BlockAbstract = false
-says_as_written keywords.Call = false
-says_as_written keyword = true
+-- ---- items
 
 -- a placed statement as it takes part in a policy, among all that is placed
 abbrev pub item_of : List Written → List Standing → List Placed → Placed → Item
@@ -101,6 +132,7 @@ item_of ws ss ps p = record {
   space = p.standing.space;
   args = says ws ss p p.standing.statement.statement.keyword p.standing.statement.statement.args;
   round = round_of ps p;
+  branch = p.standing.branch;
 }
 
 -- the items of modules: those of all that is placed, in order
@@ -137,6 +169,14 @@ item_at i k = item_of (written_in i.0) (all_standing i.0) (all_placed i) (placed
 -- what a word of the statement at a place says there
 abbrev pub word_at : Kept → ℕ → Word → ScopedWord
 word_at i k = word_of (written_in i.0) (placed_at i k)
+
+-- each word of it says a word there: it stands for no list
+abbrev pub SaysWords : Kept → ℕ → Type 0
+SaysWords i k = (w : Word) → said_by (written_in i.0) (placed_at i k) w ≡ Leaf (word_at i k w)
+
+-- the condition of the booleanif at a place
+abbrev pub condition_at : Kept → ℕ → Term ScopedWord
+condition_at i k = condition_there (written_in i.0) (placed_at i k)
 
 -- a word in the scope of what is placed somewhere
 abbrev pub scope_by : List Placed → Option ℕ → List (List (List ℕ))

@@ -1,5 +1,7 @@
 pub mod Asked
+pub mod Brings
 pub mod CallFaults
+pub mod CallPlaces
 pub mod Calls
 pub mod DeclaredInBodies
 pub mod Depths
@@ -7,10 +9,12 @@ pub mod Entries
 pub mod ExpandFaults
 pub mod Firsts
 pub mod Fits
+pub mod InBranches
 pub mod Instances
 pub mod Item
 pub mod Items
 pub mod Laws
+pub mod ListForms
 pub mod Macros
 pub mod Meant
 pub mod Nearest

@@ -37,7 +37,11 @@ abbrev pub kind_sign : Op → Sign
 kind_sign ops.TypeKind = signs.Types
 kind_sign ops.RoleKind = signs.Roles
 kind_sign ops.UserKind = signs.Users
+kind_sign ops.BooleanKind = signs.Booleans
 kind_sign ops.ClassKind = signs.PlainClass
+kind_sign ops.ClassMapKind = signs.ClassMaps
+kind_sign ops.SensitivityKind = signs.Sensitivities
+kind_sign ops.CategoryKind = signs.Categories
 kind_sign op = signs.Text
 
 -- parameters with what their arguments mean

@@ -7,8 +7,9 @@ use Rattle.cil_syntax.specs.declared.term.Op.{Op}
 use Rattle.cil_syntax.specs.declared.term.Op.TheVariants as ops
 use Rattle.cil_faults.specs.declared.spot.Spot.{Spot}
 use Rattle.cil_syntax.specs.declared.term.Word.{Word}
-use Rattle.cil_syntax.specs.Shapes.{Shape, looked_up, any_text, Inner, Reading, a_word, a_string, a_list, Cell}
+use Rattle.cil_syntax.specs.Shapes.{Shape, looked_up, any_text, set_of, Inner, Reading, a_word, a_string, a_list, Cell}
 use Rattle.cil_syntax.specs.Readings.{head_word, read_list}
+use Rattle.cil_syntax.specs.Table.{class_permission, level, range}
 use Rattle.cil_syntax.specs.Words.{read_word, read_string}
 use Rattle.cil_syntax.specs.Terms.{Term, Leaf, Name, Form, Terms, nil, cons}
 use Rattle.cil_syntax.specs.Written.{Named}
@@ -54,6 +55,13 @@ pub data Place : Type 0 where
   of_classes : Place
   of_blocks : Place
   of_texts : Place
+  of_commons : Place
+  of_class_permissions : Place
+  of_booleans : Place
+  of_sensitivities : Place
+  of_categories : Place
+  of_levels : Place
+  of_level_ranges : Place
 
 abbrev pub place_number : Place → ℕ
 place_number of_types = 0
@@ -62,9 +70,15 @@ place_number of_users = 2
 place_number of_classes = 3
 place_number of_blocks = 4
 place_number of_texts = 5
+place_number of_commons = 6
+place_number of_class_permissions = 7
+place_number of_booleans = 8
+place_number of_sensitivities = 9
+place_number of_categories = 10
+place_number of_levels = 11
+place_number of_level_ranges = 12
 
--- the place where a word stands. A permission and an argument that is not read yet are at none; the places of the other
--- name spaces come with the kinds of parameters that serve them
+-- the place where a word stands. A permission and an argument that is not read yet are at none
 abbrev pub place_of : Sign → Option Place
 place_of signs.Types = Some of_types
 place_of signs.PlainType = Some of_types
@@ -79,25 +93,58 @@ place_of signs.UserAttributes = Some of_users
 place_of signs.Classes = Some of_classes
 place_of signs.PlainClass = Some of_classes
 place_of signs.ClassMaps = Some of_classes
+place_of signs.Commons = Some of_commons
+place_of signs.ClassPermissions = Some of_class_permissions
+place_of signs.NamedPermissions = Some of_class_permissions
+place_of signs.MappedPermissions = Some of_class_permissions
+place_of signs.Booleans = Some of_booleans
+place_of signs.Sensitivities = Some of_sensitivities
+place_of signs.SensitivityAliases = Some of_sensitivities
+place_of signs.Categories = Some of_categories
+place_of signs.CategoryAliases = Some of_categories
+place_of signs.CategorySets = Some of_categories
+place_of signs.Levels = Some of_levels
+place_of signs.LevelRanges = Some of_level_ranges
 place_of signs.Blocks = Some of_blocks
 place_of signs.Macros = Some of_blocks
 place_of signs.Text = Some of_texts
-place_of sign = None
+place_of signs.Permission = None
+place_of signs.Unread = None
 
 -- what an argument of a kind is, and where it may be put
 pub record ArgumentKind : Type 0 where
   pub shape : Shape
   pub serves : Place
 
--- what the argument of a parameter of this kind is
+-- what the argument of a parameter of a kind is
+abbrev pub kind_of_argument : Op → Option ArgumentKind
+kind_of_argument ops.TypeKind = Some record { shape = looked_up signs.Types; serves = of_types }
+kind_of_argument ops.RoleKind = Some record { shape = looked_up signs.Roles; serves = of_roles }
+kind_of_argument ops.UserKind = Some record { shape = looked_up signs.Users; serves = of_users }
+kind_of_argument ops.BooleanKind = Some record { shape = looked_up signs.Booleans; serves = of_booleans }
+kind_of_argument ops.ClassKind = Some record { shape = looked_up signs.PlainClass; serves = of_classes }
+kind_of_argument ops.ClassMapKind = Some record { shape = looked_up signs.ClassMaps; serves = of_classes }
+kind_of_argument ops.ClassPermissionKind = Some record { shape = class_permission; serves = of_class_permissions }
+kind_of_argument ops.SensitivityKind = Some record { shape = looked_up signs.Sensitivities; serves = of_sensitivities }
+kind_of_argument ops.CategoryKind = Some record { shape = looked_up signs.Categories; serves = of_categories }
+kind_of_argument ops.CategorySetKind = Some record { shape = set_of signs.CategorySets; serves = of_categories }
+kind_of_argument ops.LevelKind = Some record { shape = level; serves = of_levels }
+kind_of_argument ops.LevelRangeKind = Some record { shape = range; serves = of_level_ranges }
+kind_of_argument ops.NameKind = Some record { shape = any_text; serves = of_texts }
+kind_of_argument ops.TextKind = Some record { shape = any_text; serves = of_texts }
+kind_of_argument op = None
+
+-- an argument of this kind may be a list: such kinds are not supported yet, and nothing is an argument of theirs
+abbrev pub may_be_list : Op → Bool
+may_be_list ops.ClassPermissionKind = true
+may_be_list ops.CategorySetKind = true
+may_be_list ops.LevelKind = true
+may_be_list ops.LevelRangeKind = true
+may_be_list op = false
+
+-- the same of the kinds that are supported
 abbrev pub argument_kind : Op → Option ArgumentKind
-argument_kind ops.TypeKind = Some record { shape = looked_up signs.Types; serves = of_types }
-argument_kind ops.RoleKind = Some record { shape = looked_up signs.Roles; serves = of_roles }
-argument_kind ops.UserKind = Some record { shape = looked_up signs.Users; serves = of_users }
-argument_kind ops.ClassKind = Some record { shape = looked_up signs.PlainClass; serves = of_classes }
-argument_kind ops.NameKind = Some record { shape = any_text; serves = of_texts }
-argument_kind ops.TextKind = Some record { shape = any_text; serves = of_texts }
-argument_kind op = None
+argument_kind op = if may_be_list op then None else kind_of_argument op
 
 abbrev pub is_place : Option Place → Place → Bool
 is_place None p = false

@@ -68,7 +68,7 @@ pub record AreBrought (s : Standings) (b : Brought) : Type 0 where
   pub scopes : AreBodyScopes (all_standing s) (placed_in s b.entries.items) b.bodies.items
   pub firsts : AreFirsts (all_standing s) b
 
--- what is placed there opens what a call opens: it is no optional of a body
+-- what is placed there opens what a call opens: it is no optional and no booleanif of a body
 abbrev pub OpensAsCall : Standings → List Called → ℕ → Type 0
 OpensAsCall s cs at =
     (p : Placed) → slice_get (placed_in s cs) at ≡ Some p

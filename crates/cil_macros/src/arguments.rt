@@ -6,10 +6,11 @@ ghost use Rattle.cil_syntax.specs.declared.term.Word.{Word};
 ghost use Rattle.cil_syntax.specs.Said.{all_said, args_of, said_of};
 ghost use Rattle.cil_syntax.specs.Shapes.{any_text, looked_up};
 ghost use Rattle.cil_syntax.specs.Terms.{Terms, cons};
-ghost use Rattle.cil_macros.specs.Fits.{fits, has_form, is_read_as, is_sound_word};
+ghost use Rattle.cil_macros.specs.Fits.{fits, has_form, is_of_kind, is_read_as, is_sound_word};
 ghost use Rattle.cil_macros.specs.Meant.{first_for, is_for, kind_sign};
-ghost use Rattle.cil_macros.specs.Parameters.{argument_kind, call_arguments, is_text, macro_parameters, parameters_in, serves_sign};
+ghost use Rattle.cil_macros.specs.Parameters.{argument_kind, call_arguments, is_text, macro_parameters, may_be_list, parameters_in, serves_sign};
 
+use crate::list_arguments::{is_class_permission, is_level, is_range, is_set};
 use cil_syntax::{Op, Parameter, Sign, Statement, Term, Word, is_reserved, is_spelled_for};
 
 /// Whether the arguments of a call fit the parameters of a macro: they are as many, and each has the form of its
@@ -61,15 +62,43 @@ fn behind_fitting(parameter: &Term, module: u64, arguments: &[Term], taken: usiz
     Some(taken + 1)
 }
 
-/// Whether an argument has the form of a kind.
+/// Whether an argument has the form of a kind. None has that of a kind that is not supported yet.
 fn has_form(kind: Op, argument: &Term) -> bool
     ensures { (n : ℕ) → result ≡ has_form kind (said_of n argument.now) }
+{
+    if may_be_list(kind) {
+        return false;
+    }
+    is_of_kind(kind, argument)
+}
+
+/// Whether arguments of a kind may be lists: such kinds are not supported yet.
+fn may_be_list(kind: Op) -> bool
+    ensures { result ≡ may_be_list kind }
+{
+    matches!(
+        kind,
+        Op::ClassPermissionKind | Op::CategorySetKind | Op::LevelKind | Op::LevelRangeKind
+    )
+}
+
+/// Whether an argument has the form of a kind, supported or not.
+pub fn is_of_kind(kind: Op, argument: &Term) -> bool
+    ensures { (n : ℕ) → result ≡ is_of_kind kind (said_of n argument.now) }
 {
     match kind {
         Op::TypeKind => is_word(Sign::Types, argument),
         Op::RoleKind => is_word(Sign::Roles, argument),
         Op::UserKind => is_word(Sign::Users, argument),
+        Op::BooleanKind => is_word(Sign::Booleans, argument),
         Op::ClassKind => is_word(Sign::PlainClass, argument),
+        Op::ClassMapKind => is_word(Sign::ClassMaps, argument),
+        Op::ClassPermissionKind => is_class_permission(argument),
+        Op::SensitivityKind => is_word(Sign::Sensitivities, argument),
+        Op::CategoryKind => is_word(Sign::Categories, argument),
+        Op::CategorySetKind => is_set(Sign::CategorySets, argument),
+        Op::LevelKind => is_level(argument),
+        Op::LevelRangeKind => is_range(argument),
         Op::NameKind => is_text(argument),
         Op::TextKind => is_text(argument),
         _ => false,
@@ -117,7 +146,14 @@ fn serves(kind: Op, sign: Sign) -> bool
         ),
         Op::RoleKind => matches!(sign, Sign::Roles | Sign::PlainRole | Sign::RoleAttributes),
         Op::UserKind => matches!(sign, Sign::Users | Sign::PlainUser | Sign::UserAttributes),
+        Op::BooleanKind => matches!(sign, Sign::Booleans),
         Op::ClassKind => matches!(sign, Sign::Classes | Sign::PlainClass | Sign::ClassMaps),
+        Op::ClassMapKind => matches!(sign, Sign::Classes | Sign::PlainClass | Sign::ClassMaps),
+        Op::SensitivityKind => matches!(sign, Sign::Sensitivities | Sign::SensitivityAliases),
+        Op::CategoryKind => matches!(
+            sign,
+            Sign::Categories | Sign::CategoryAliases | Sign::CategorySets
+        ),
         Op::NameKind | Op::TextKind => matches!(sign, Sign::Text),
         _ => false,
     }
@@ -131,13 +167,17 @@ pub(crate) fn sign_of(kind: Op) -> Sign
         Op::TypeKind => Sign::Types,
         Op::RoleKind => Sign::Roles,
         Op::UserKind => Sign::Users,
+        Op::BooleanKind => Sign::Booleans,
         Op::ClassKind => Sign::PlainClass,
+        Op::ClassMapKind => Sign::ClassMaps,
+        Op::SensitivityKind => Sign::Sensitivities,
+        Op::CategoryKind => Sign::Categories,
         _ => Sign::Text,
     }
 }
 
 /// Whether an argument is a word that may be looked up.
-fn is_word(sign: Sign, argument: &Term) -> bool
+pub(crate) fn is_word(sign: Sign, argument: &Term) -> bool
     ensures { (n : ℕ) → result ≡ is_read_as (looked_up sign) (said_of n argument.now) }
 {
     match argument {
@@ -148,7 +188,7 @@ fn is_word(sign: Sign, argument: &Term) -> bool
 }
 
 /// Whether a word has the spelling that its sign wants, and is not reserved.
-fn is_sound(sign: Sign, word: &[u8]) -> bool
+pub(crate) fn is_sound(sign: Sign, word: &[u8]) -> bool
     ensures { result ≡ is_sound_word sign word.now }
 {
     !is_reserved(word) && is_spelled_for(sign, word)
@@ -166,7 +206,7 @@ fn is_text(argument: &Term) -> bool
 }
 
 /// Whether what joins some parts makes a string of them.
-fn is_text_op(op: Op) -> bool
+pub(crate) fn is_text_op(op: Op) -> bool
     ensures { result ≡ is_text op }
 {
     matches!(op, Op::UnreadText)

@@ -7,6 +7,7 @@ ghost use Rattle.cil_macros.specs.Instances.{AreInstances};
 ghost use Rattle.cil_macros.specs.Macros.{all_standing};
 ghost use Rattle.cil_macros.specs.Walks.{written_in};
 
+use crate::brings::marks_of;
 use crate::chain::Brought;
 use crate::declared_names::declared_in_bodies;
 use crate::faults::call_faults;
@@ -27,7 +28,7 @@ use std::alloc::Global;
 /// scopes and the faults this project's profile.)
 ///
 /// Errors: one fault where there are more than 1,000,000 instances; otherwise the faults of calls that came through their own
-/// macro, and of calls whose arguments do not fit; or out of memory.
+/// macro, of calls whose arguments do not fit, and of calls in branches that bring what may not be in a branch; or out of memory.
 pub fn expand<'s, 'p, 'a>(
     alloc: Global,
     spaces: &'s Spaces<'p, 'a>,
@@ -68,7 +69,8 @@ fn brought_by(alloc: Global, spaces: &Spaces) -> Result<Brought, Failure>
     let Some(brought) = walk(alloc, &source, MOST_INSTANCES)? else {
         return Err(Failure::Faults(over_the_limit(alloc)?));
     };
-    let faults = call_faults(alloc, &source, &brought)?;
+    let marks = marks_of(alloc, spaces, &brought)?;
+    let faults = call_faults(alloc, &source, &brought, marks.as_slice())?;
     if let Some(list) = FaultList::of(faults) {
         return Err(Failure::Faults(list));
     }

@@ -1,31 +1,40 @@
 //! What is wrong with calls, told at the word of the macro, in the namespace in which the call is placed. A look at each placed
-//! statement is the cost.
+//! statement is the cost; what marks cost stands in `brings.rt`.
 
-ghost use Rattle.std.specs.Prelude.{◌≡◌, ◌+◌, ◌<◌, ◌≤◌, ◌++◌, ◌∷◌, [], IfOk, OnOk, Some, length, slice_get};
-ghost use Rattle.std.specs.List.{flat_map};
+ghost use Rattle.std.specs.Prelude.{◌≡◌, ◌&&◌, ◌+◌, ◌<◌, ◌≤◌, ◌++◌, ◌∷◌, [], IfOk, OnOk, Some, length, slice_get};
+ghost use Rattle.cil_syntax.specs.Program.{IsNested, program_of};
+ghost use Rattle.cil_blocks.specs.Contents.{first_word, is_conditional};
+ghost use Rattle.cil_blocks.specs.Entries.{statement_at};
 ghost use Rattle.cil_blocks.specs.Namespaces.{space_at};
-ghost use Rattle.cil_blocks.specs.Places.{entries_in};
-ghost use Rattle.cil_macros.specs.CallFaults.{SaysWrong, faults_of, told_if};
+ghost use Rattle.cil_blocks.specs.Places.{AreStandings, entries_in};
+ghost use Rattle.cil_macros.specs.Brings.{is_marked};
+ghost use Rattle.cil_macros.specs.CallFaults.{SaysWrong, faults_from, told, told_if};
+ghost use Rattle.cil_macros.specs.CallPlaces.{is_call_in_branch, is_in_branch};
 ghost use Rattle.cil_macros.specs.Macros.{all_standing};
 ghost use Rattle.cil_macros.specs.Placed.{Placed};
 ghost use Rattle.cil_macros.specs.Walks.{AreBrought, IsSource, placed_in, written_in};
 
+use crate::branches::is_conditional;
+use crate::brings::has_mark;
 use crate::calls::{comes_again, has_arguments, macro_at, space_at};
 use crate::chain::{Brought, statement_at};
+use crate::macros::is_call_at;
 use crate::source::Source;
 use cil_base::NoMemory;
 use cil_blocks::spelled::spelled;
-use cil_blocks::{Namespaces, ScopeList};
-use cil_syntax::{Bytes, Fault, FaultCode, Word, word_and_terms};
+use cil_blocks::{Namespaces, ScopeList, Spaces};
+use cil_syntax::{Bytes, Fault, FaultCode, Statement, Word, word_and_terms};
 use std::alloc::Global;
 
-/// What is wrong with a call. Both may be.
+/// What is wrong with a call. More than one may be.
 #[derive(Clone, Copy)]
 pub struct Wrong {
     /// It came through its macro already.
     pub again: bool,
     /// Its arguments are too few or too many, or have not the forms that the macro asks.
     pub unfit: bool,
+    /// It is written in a branch, and brings what may not be in one.
+    pub misplaced: bool,
 }
 
 /// Where a fault is told: at a word, in the namespace of a number.
@@ -41,15 +50,17 @@ pub fn call_faults(
     alloc: Global,
     source: &Source,
     brought: &Brought,
+    marks: &[bool],
 ) -> Result<Vec<Fault>, NoMemory>
     requires source { IsSource source.now }
     requires brought { AreBrought source.now.spaces.now brought.now }
-    ensures { IfOk result (λ faults. faults.items ≡ flat_map (faults_of (written_in source.now.spaces.now) (all_standing source.now.spaces.now)) (placed_in source.now.spaces.now brought.now.entries.items)) }
+    ensures { IfOk result (λ faults. faults.items ≡ faults_from (written_in source.now.spaces.now) (all_standing source.now.spaces.now) marks.now 0 (placed_in source.now.spaces.now brought.now.entries.items)) }
 {
     let mut faults = Vec::new(alloc);
     let mut scope = ScopeList::new(alloc);
     for at in 0..source.spaces.entries().len() + brought.entries.len() {
-        report(alloc, &mut faults, source, brought, at, &mut scope)?;
+        let wrong = wrong_at(alloc, source, brought, marks, at, &mut scope)?;
+        report(alloc, &mut faults, source, brought, at, wrong)?;
     }
     Ok(faults)
 }
@@ -61,15 +72,14 @@ fn report(
     source: &Source,
     brought: &Brought,
     at: usize,
-    scope: &mut ScopeList,
+    wrong: Wrong,
 ) -> Result<(), NoMemory>
     requires source { IsSource source.now }
     requires brought { AreBrought source.now.spaces.now brought.now }
     requires within { at < length (entries_in source.now.spaces.now) + length brought.now.entries.items }
     ensures { OnOk result ((p : Placed) → slice_get (placed_in source.now.spaces.now brought.now.entries.items) at ≡ Some p
-        → faults.new.items ≡ faults.old.items ++ faults_of (written_in source.now.spaces.now) (all_standing source.now.spaces.now) p) }
+        → faults.new.items ≡ faults.old.items ++ told p.standing.space wrong (first_word p.standing.statement.statement.args)) }
 {
-    let wrong = wrong_at(alloc, source, brought, at, scope)?;
     let number = statement_at(source.spaces.entries(), brought.entries.as_slice(), at);
     let Some(statement) = source.spaces.statements().get(number) else {
         return Ok(());
@@ -84,6 +94,7 @@ fn report(
     };
     report_if(alloc, faults, wrong.again, FaultCode::CallCycle, &site)?;
     report_if(alloc, faults, wrong.unfit, FaultCode::CallArguments, &site)?;
+    report_if(alloc, faults, wrong.misplaced, FaultCode::CallPlace, &site)?;
     Ok(())
 }
 
@@ -92,24 +103,71 @@ fn wrong_at(
     alloc: Global,
     source: &Source,
     brought: &Brought,
+    marks: &[bool],
     at: usize,
     scope: &mut ScopeList,
 ) -> Result<Wrong, NoMemory>
     requires source { IsSource source.now }
     requires brought { AreBrought source.now.spaces.now brought.now }
     requires within { at < length (entries_in source.now.spaces.now) + length brought.now.entries.items }
-    ensures { IfOk result (SaysWrong source.now.spaces.now brought.now.entries.items at) }
+    ensures { IfOk result (SaysWrong source.now.spaces.now brought.now.entries.items marks.now at) }
 {
+    let misplaced = is_misplaced(source.spaces, brought, marks, at);
     let Some(called) = macro_at(alloc, source, brought, at, scope)? else {
         return Ok(Wrong {
             again: false,
             unfit: false,
+            misplaced,
         });
     };
     Ok(Wrong {
         again: comes_again(source, brought, at, called),
         unfit: !has_arguments(source, brought, at, called),
+        misplaced,
     })
+}
+
+/// Whether the statement at a place is marked, and a call that is written in a branch.
+fn is_misplaced(spaces: &Spaces, brought: &Brought, marks: &[bool], at: usize) -> bool
+    requires standings { AreStandings spaces.now }
+    requires within { at < length (entries_in spaces.now) + length brought.now.entries.items }
+    ensures { (p : Placed) → slice_get (placed_in spaces.now brought.now.entries.items) at ≡ Some p → result ≡ (is_marked marks.now at && is_call_in_branch p.standing.statement) }
+{
+    let number = statement_at(spaces.entries(), brought.entries.as_slice(), at);
+    has_mark(marks, at) && is_call_in_branch(spaces.statements(), number)
+}
+
+/// Whether the statement of a number is a call that is written in a branch.
+fn is_call_in_branch(statements: &[Statement], number: usize) -> bool
+    requires { IsNested statements.now }
+    ensures { result ≡ is_call_in_branch (statement_at (program_of statements.now) number) }
+{
+    is_call_at(statements, number) && is_in_branch(statements, number)
+}
+
+/// Whether the statement of a number is written in a branch.
+fn is_in_branch(statements: &[Statement], number: usize) -> bool
+    requires { IsNested statements.now }
+    ensures { result ≡ is_in_branch (statement_at (program_of statements.now) number) }
+{
+    match statements.get(number) {
+        None => false,
+        Some(statement) => match statement.under {
+            None => false,
+            Some(round) => is_booleanif_at(statements, round),
+        },
+    }
+}
+
+/// Whether the statement of a number is a booleanif.
+fn is_booleanif_at(statements: &[Statement], number: usize) -> bool
+    requires { IsNested statements.now }
+    ensures { result ≡ is_conditional (statement_at (program_of statements.now) number).statement.keyword }
+{
+    match statements.get(number) {
+        None => false,
+        Some(statement) => is_conditional(statement.keyword),
+    }
 }
 
 /// Tells a fault, if there is one.

@@ -2,6 +2,7 @@
 
 ghost use Rattle.std.specs.Prelude.{◌≡◌, ◌<◌, Some, length, slice_get};
 
+use crate::branches::{Branch, branch_at};
 use crate::call_words::call_words_at;
 use crate::calls::{have_one_scope, scope_at, space_at};
 use crate::chain::{Brought, statement_at};
@@ -50,13 +51,14 @@ impl<'s, 'p, 'a> Model for Instances<'s, 'p, 'a> {
 }
 
 impl<'s, 'p, 'a> Instances<'s, 'p, 'a> {
-    ghost use Rattle.std.specs.Prelude.{◌≡◌, ◌↔◌, ◌+◌, ◌<◌, ◌≤◌, ◌∷◌, [], ℕ, IfOk, IfSome, IsTrue, MatchOption, OnOk, Some, length, map, slice_get, true};
+    ghost use Rattle.std.specs.Prelude.{◌≡◌, ◌↔◌, ◌+◌, ◌<◌, ◌≤◌, ◌∷◌, [], ℕ, IfOk, IfSome, IsTrue, MatchOption, None, OnOk, Some, length, map, slice_get, true};
     ghost use Rattle.cil_base.specs.Lists.{Lists};
     ghost use Rattle.cil_syntax.specs.Program.{statement_of};
     ghost use Rattle.cil_syntax.specs.Scopes.{EndsGlobally};
+    ghost use Rattle.cil_blocks.specs.Contents.{is_conditional};
     ghost use Rattle.cil_blocks.specs.Entries.{statement_at};
     ghost use Rattle.cil_blocks.specs.Namespaces.{AreNamespaces, IsNumber};
-    ghost use Rattle.cil_macros.specs.Items.{all_placed, item_at, items_in, leaves, namespaces_in, placed_at, scope_by, scoped_by, word_at};
+    ghost use Rattle.cil_macros.specs.Items.{SaysWords, all_placed, condition_at, item_at, items_in, leaves, namespaces_in, placed_at, scope_by, scoped_by, word_at};
     ghost use Rattle.cil_blocks.specs.InheritFaults.{most_instances};
     ghost use Rattle.cil_blocks.specs.Places.{entries_in};
     ghost use Rattle.cil_macros.specs.Calls.{IsPlaced, is_call, placed_cmp};
@@ -103,10 +105,11 @@ impl<'s, 'p, 'a> Instances<'s, 'p, 'a> {
         namespaces
     }
 
-    /// The statement at a place.
+    /// The statement at a place. Each word of it says a word there: no argument is a list.
     pub fn statement_there(&self, at: usize) -> &'p Statement<'a>
         requires { at < length (items_in self.now) }
-        ensures { statement_of result.now ≡ (placed_at self.now at).standing.statement.statement }
+        ensures is { statement_of result.now ≡ (placed_at self.now at).standing.statement.statement }
+        ensures words { SaysWords self.now at }
     {
         numbered(self.spaces.statements(), self.statement(at))
     }
@@ -149,6 +152,20 @@ impl<'s, 'p, 'a> Instances<'s, 'p, 'a> {
             place = optional;
         }
         Ok(round)
+    }
+
+    /// In which branch of which booleanif the statement at a place is: the innermost one round it, which is at a lower place; none
+    /// where it is in none. What a call in a branch brings is in that branch. It costs a step for each statement through which
+    /// it came, up to the booleanif, and takes no memory.
+    pub fn branch(&self, at: usize) -> Option<Branch>
+        ensures value { MatchOption result ((item_at self.now at).branch ≡ None) (λ b. (item_at self.now at).branch ≡ Some (condition_at self.now b.at, b.value)) }
+        ensures booleanif { IfSome result (λ b. is_conditional (item_at self.now b.at).keyword ≡ true) }
+        ensures lower { IfSome result (λ b. b.at < at) }
+    {
+        if at >= self.len() {
+            return None;
+        }
+        branch_at(self.spaces, &self.brought, at)
     }
 
     /// Each optional round a statement is an optional of these instances, and round it are the others. The call does nothing.

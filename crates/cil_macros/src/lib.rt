@@ -2,12 +2,15 @@
 //!
 //! Start at `expansion.rt` (`expand`), and at `instances.rt` for what it answers. `specs/Parameters.antt` says what parameters and
 //! arguments are, `specs/Placed.antt` what the words of a placed statement mean, `specs/Calls.antt` which macro a call names and
-//! what is placed, `specs/ExpandFaults.antt` what is wrong with calls; `laws.rt` has laws of these.
+//! what is placed, `specs/ExpandFaults.antt` what is wrong with calls; `laws.rt` has laws of these. In which branch of a booleanif
+//! something is, `branches.rt` finds.
 #![tactic(auto)]
 
 mod arguments;
 pub mod asked;
 mod body_scope;
+pub mod branches;
+pub mod brings;
 mod call_words;
 pub mod calls;
 pub mod chain;
@@ -17,6 +20,7 @@ pub mod expansion;
 pub mod faults;
 pub mod instances;
 pub mod laws;
+pub mod list_arguments;
 mod macros;
 mod meaning;
 pub mod meant;
@@ -28,7 +32,8 @@ pub mod scene;
 pub mod source;
 pub mod walk;
 
-pub use arguments::arguments_fit;
+pub use arguments::{arguments_fit, is_of_kind};
+pub use branches::Branch;
 pub use declared_names::{Declared, declared_in_bodies};
 pub use expansion::expand;
 pub use instances::Instances;

@@ -57,10 +57,10 @@ fn next_number(spaces: &Spaces, brought: &Brought, numbers: &Numbers, at: usize)
 }
 
 /// The place of what opened the statement at a place; none at the top of a module.
-fn opener_at(spaces: &Spaces, brought: &Brought, at: usize) -> Option<usize>
+pub fn opener_at(spaces: &Spaces, brought: &Brought, at: usize) -> Option<usize>
     requires brought { AreBrought spaces.now brought.now }
     requires within { at < length (entries_in spaces.now) + length brought.now.entries.items }
-    ensures { MatchOption result (IsOutside (placed_in spaces.now brought.now.entries.items) at) (IsOpenedThere (placed_in spaces.now brought.now.entries.items) at) }
+    ensures { MatchOption result (IsOutside (placed_in spaces.now brought.now.entries.items) at) (IsOpenedThere (written_in spaces.now) (placed_in spaces.now brought.now.entries.items) at) }
 {
     let entries = spaces.entries();
     if at < entries.len() {

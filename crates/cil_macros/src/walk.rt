@@ -17,7 +17,7 @@ use crate::entry::{Body, Called};
 use crate::source::Source;
 use cil_base::NoMemory;
 use cil_blocks::ScopeList;
-use cil_blocks::names::is_optional_at;
+use cil_blocks::names::keeps_place_at;
 use cil_blocks::walker::parts_at;
 use indexmap::IndexMap;
 use std::alloc::Global;
@@ -53,13 +53,13 @@ pub fn walk(alloc: Global, source: &Source, limit: usize) -> Result<Option<Broug
 impl Brought {
     ghost use Rattle.std.specs.Prelude.{◌≡◌, ◌+◌, ◌<◌, ◌++◌, MatchOption, OnOk, Some, length, map, slice_get};
     ghost use Rattle.cil_blocks.specs.Places.{entries_in};
-    ghost use Rattle.cil_macros.specs.Entries.{IsOptionalOf};
+    ghost use Rattle.cil_macros.specs.Entries.{IsInnerOf};
     ghost use Rattle.cil_macros.specs.Macros.{all_standing};
     ghost use Rattle.cil_macros.specs.Opens.{opens_placed};
     ghost use Rattle.cil_macros.specs.Placed.{Placed};
     ghost use Rattle.cil_macros.specs.Walks.{AreBrought, AreInTurn, IsSource, OpensAsCall, called_by, placed_in, written_in};
 
-    /// Adds what the statement at a place opens: where it is an optional that a call brings, the statements directly in it;
+    /// Adds what the statement at a place opens: where it is an optional or a booleanif that a call brings, the statements directly in it;
     /// where it is a call that is unfolded, those directly in its macro.
     fn open(
         &mut self,
@@ -78,18 +78,18 @@ impl Brought {
         ensures opened { OnOk result ((p : Placed) → slice_get (placed_in source.now.spaces.now self.old.entries.items) at ≡ Some p
             → placed_in source.now.spaces.now self.new.entries.items ≡ placed_in source.now.spaces.now self.old.entries.items ++ opens_placed (written_in source.now.spaces.now) (all_standing source.now.spaces.now) p) }
     {
-        match self.optional_body(source, at) {
+        match self.inner_body(source, at) {
             None => self.open_call(alloc, source, at, scope, own),
-            Some(body) => self.open_optional(source, at, body),
+            Some(body) => self.open_inner(source, at, body),
         }
     }
 
-    /// Adds the statements directly in an optional, which belong to the same body.
-    fn open_optional(&mut self, source: &Source, at: usize, body: usize) -> Result<(), NoMemory>
+    /// Adds the statements directly in an optional or in a booleanif, which belong to the same body.
+    fn open_inner(&mut self, source: &Source, at: usize, body: usize) -> Result<(), NoMemory>
         requires source { IsSource source.now }
         requires brought { AreBrought source.now.spaces.now self.old }
         requires turn { AreInTurn source.now.spaces.now self.old.entries.items self.old.bodies.items at }
-        requires optional { IsOptionalOf (written_in source.now.spaces.now) self.old.entries.items (length (all_standing source.now.spaces.now)) at body }
+        requires inner { IsInnerOf (written_in source.now.spaces.now) self.old.entries.items (length (all_standing source.now.spaces.now)) at body }
         ensures brought { OnOk result (AreBrought source.now.spaces.now self.new) }
         ensures turn { OnOk result (AreInTurn source.now.spaces.now self.new.entries.items self.new.bodies.items (at + 1)) }
         ensures opened { OnOk result ((p : Placed) → slice_get (placed_in source.now.spaces.now self.old.entries.items) at ≡ Some p
@@ -147,15 +147,15 @@ impl Brought {
         Ok(())
     }
 
-    /// The body to which the statement at a place belongs, where that is an optional that a call brings.
-    fn optional_body(&self, source: &Source, at: usize) -> Option<usize>
+    /// The body to which the statement at a place belongs, where that is an optional or a booleanif that a call brings.
+    fn inner_body(&self, source: &Source, at: usize) -> Option<usize>
         requires { IsSource source.now }
         ensures { MatchOption result (OpensAsCall source.now.spaces.now self.now.entries.items at)
-            (IsOptionalOf (written_in source.now.spaces.now) self.now.entries.items (length (all_standing source.now.spaces.now)) at) }
+            (IsInnerOf (written_in source.now.spaces.now) self.now.entries.items (length (all_standing source.now.spaces.now)) at) }
     {
         let before = at.checked_sub(source.spaces.entries().len())?;
         let called = self.entries.get(before)?;
-        if is_optional_at(source.spaces.statements(), called.statement) {
+        if keeps_place_at(source.spaces.statements(), called.statement) {
             Some(called.body)
         } else {
             None
@@ -163,7 +163,7 @@ impl Brought {
     }
 }
 
-/// Adds the statements that a call brings, or those in an optional of its body.
+/// Adds the statements that a call brings, or those in an optional or a booleanif of its body.
 fn push_called(
     called: &mut Vec<Called>,
     numbers: &[usize],

@@ -1,5 +1,5 @@
 -- What a class has by commons, computed from the definitions in small policies.
-use Rattle.std.specs.Prelude.{◌≡◌, ℕ, true, false, List, [], ◌∷◌, codes, refl}
+use Rattle.std.specs.Prelude.{◌≡◌, ℕ, true, false, List, [], ◌∷◌, codes, refl, None}
 use Rattle.cil_syntax.specs.declared.kind.Keyword.{Keyword}
 use Rattle.cil_syntax.specs.declared.kind.Keyword.TheVariants as keywords
 use Rattle.cil_syntax.specs.declared.kind.Sign.{Sign}
@@ -16,7 +16,7 @@ abbrev leaf : Sign → List ℕ → Term ScopedWord
 leaf sign bytes = Leaf (record { at = nowhere; bytes = bytes; sign = sign; scope = [] ∷ [] })
 
 abbrev says : Keyword → Terms ScopedWord → Item
-says k args = record { keyword = k; at = nowhere; space = []; args = args; round = [] }
+says k args = record { keyword = k; at = nowhere; space = []; args = args; round = []; branch = None }
 
 abbrev lists : Keyword → List ℕ → Terms ScopedWord → Item
 lists k name names = says k (cons (Name nowhere name) (cons (Form nowhere ops.Listed names) nil))

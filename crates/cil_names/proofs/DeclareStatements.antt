@@ -1,6 +1,6 @@
 -- The statements of instances that say what is written: their names and contents.
-use Rattle.std.specs.Prelude.{Contains, None, Some}
-use Rattle.std.proofs.Common.{◌≡◌, ℕ, ◌+◌, ◌<◌, true, List, [], ◌∷◌, ◌++◌, drop, length, refl, sym, ◌∙◌, ap, subst}
+use Rattle.std.specs.Prelude.{Bool, Contains, None, Some}
+use Rattle.std.proofs.Common.{◌≡◌, ℕ, ◌+◌, ◌<◌, true, false, List, [], ◌∷◌, ◌++◌, drop, length, refl, sym, ◌∙◌, ap, subst}
 use Rattle.cil_base.specs.Lists.{contains_here}
 use Rattle.cil_faults.specs.declared.code.FaultCode.TheVariants as causes
 use Rattle.cil_faults.specs.declared.fault.Fault.{Fault}
@@ -8,6 +8,7 @@ use Rattle.cil_syntax.specs.declared.kind.Kind.{Kind}
 use Rattle.cil_syntax.specs.declared.program.Statement as rust
 use Rattle.cil_faults.specs.declared.spot.Spot.{Spot}
 use Rattle.cil_syntax.specs.declared.term.Term as terms
+use Rattle.cil_syntax.specs.declared.term.Op.{Op}
 use Rattle.cil_syntax.specs.declared.term.Word.{Word}
 use Rattle.cil_syntax.specs.Forms.{BeginsWithName, name_in_front}
 use Rattle.cil_syntax.specs.Program.{statement_of}
@@ -15,15 +16,17 @@ use Rattle.cil_faults.specs.Reported.{spelled_fault}
 use Rattle.cil_syntax.specs.Said.{all_said, args_of}
 use Rattle.cil_syntax.specs.Scopes.{ScopedWord}
 use Rattle.cil_syntax.specs.Table.{entry_of}
-use Rattle.cil_syntax.specs.Terms.{Leaf, Name, Form, Terms, nil, cons}
-use Rattle.cil_syntax.specs.Written.{Statement}
+use Rattle.cil_syntax.specs.Terms.{Term, Leaf, Name, Form, Terms, nil, cons}
+use Rattle.cil_syntax.specs.Written.{Statement, Written}
 use Rattle.cil_faults.specs.Namespaces.{qualified}
 use Rattle.cil_blocks.specs.Namespaces.{IsNumber, space_at}
-use Rattle.cil_macros.specs.Item.{all_replaced, replaced}
-use Rattle.cil_macros.specs.Items.{Kept, item_at, items_in, namespaces_in, placed_at, says_as_written, word_at}
+use Rattle.cil_macros.specs.Item.{all_replaced}
+use Rattle.cil_macros.specs.Items.{Kept, SaysWords, item_at, items_in, joined_as, namespaces_in, placed_at, said_as, said_by, says_as_written, word_at}
 use Rattle.cil_macros.specs.Macros.{all_standing}
+use Rattle.cil_macros.specs.Parameters.{is_text}
+use Rattle.cil_macros.specs.Placed.{Placed, all_filled, filled, meaning}
 use Rattle.cil_macros.specs.Walks.{written_in}
-use Rattle.cil_macros.proofs.ItemLemmas.{said_as_written}
+use Rattle.cil_macros.proofs.ItemLemmas.{filled_with_words, said_filled}
 use Rattle.cil_names.specs.declared.row.Row.{Row}
 use Rattle.cil_names.specs.Declarations.{content_of}
 use Rattle.cil_names.specs.DeclareRows.{AreRowsUpTo, IsRowAt, SaysWritten, bare_terms, behind, content_at}
@@ -32,18 +35,32 @@ use Rattle.cil_names.proofs.DeclareRowLemmas.{declares_written, no_row, one_row,
 
 -- ---- words replaced
 
-module _ (f : Word → ScopedWord) where
-  front_kept : (args : Terms Word) → name_in_front (all_replaced (λ at. at) f args) ≡ name_in_front args
-  unfolding all_replaced replaced
+module _ (ws : List Written) (p : Placed) where
+  no_name_joined : (b : Bool) (w : Word) (at : Spot) (op : Op) (parts : Terms ScopedWord) (rest : Terms ScopedWord) → name_in_front (cons (joined_as b w (Form at op parts)) rest) ≡ None
+  no_name_joined true w at op parts rest = refl
+  no_name_joined false w at op parts rest = refl
+
+  no_name_said : (w : Word) (t : Term ScopedWord) (rest : Terms ScopedWord) → name_in_front (cons (said_as w t) rest) ≡ None
+  no_name_said w (Leaf v) rest = refl
+  no_name_said w (Name at name) rest = refl
+  no_name_said w (Form at op parts) rest = no_name_joined (is_text op) w at op parts rest
+
+  no_name_by : (w : Word) (rest : Terms ScopedWord) → name_in_front (cons (said_by ws p w) rest) ≡ None
+  unfolding said_by
+  no_name_by w rest = no_name_said w (meaning ws p w) rest
+
+  front_kept : (args : Terms Word) → name_in_front (all_filled (said_by ws p) args) ≡ name_in_front args
+  unfolding all_filled filled
   front_kept nil = refl
-  front_kept (cons (Leaf w) rest) = refl
+  front_kept (cons (Leaf w) rest) = no_name_by w (all_filled (said_by ws p) rest)
   front_kept (cons (Name at name) rest) = refl
   front_kept (cons (Form at op parts) rest) = refl
 
-  begins_kept : (args : Terms Word) (at : Spot) (name : List ℕ) → BeginsWithName args at name → BeginsWithName (all_replaced (λ at. at) f args) at name
-  unfolding all_replaced replaced
-  begins_kept args at name begins = (all_replaced (λ at. at) f begins.0, ap (all_replaced (λ at. at) f) begins.1)
+  begins_kept : (args : Terms Word) (at : Spot) (name : List ℕ) → BeginsWithName args at name → BeginsWithName (all_filled (said_by ws p) args) at name
+  unfolding all_filled filled
+  begins_kept args at name begins = (all_filled (said_by ws p) begins.0, ap (all_filled (said_by ws p)) begins.1)
 
+module _ (f : Word → ScopedWord) where
   said_behind : (m : ℕ) (ts : List terms.Term) → content_of (behind (all_replaced (λ at. at) f (all_said m ts))) ≡ bare_terms m f (drop 1 ts)
   unfolding bare_terms all_replaced
   said_behind m [] = refl
@@ -56,25 +73,28 @@ module _ (i : Kept) (k : ℕ) where
   there = (placed_at i k).standing.statement.statement
 
   -- the item says what the statement says
-  args_written : says_as_written (item_at i k).keyword ≡ true → (item_at i k).args ≡ all_replaced (λ at. at) (word_at i k) there.args
-  args_written e = said_as_written (written_in i.0) (all_standing i.0) (placed_at i k) there.keyword there.args e
+  args_filled : says_as_written (item_at i k).keyword ≡ true → (item_at i k).args ≡ all_filled (said_by (written_in i.0) (placed_at i k)) there.args
+  args_filled e = said_filled (written_in i.0) (all_standing i.0) (placed_at i k) there.keyword there.args e
 
   module _ (s : rust.Statement) (is : statement_of s ≡ there) where
     pub keyword_there : s.keyword ≡ (item_at i k).keyword
     keyword_there = ap (λ (x : Statement). x.keyword) is
 
     module _ (written : says_as_written (item_at i k).keyword ≡ true) where
-      args_there : (item_at i k).args ≡ all_replaced (λ at. at) (word_at i k) (args_of s)
-      args_there = args_written written ∙ ap (λ (x : Statement). all_replaced (λ at. at) (word_at i k) x.args) (sym is)
+      args_there : (item_at i k).args ≡ all_filled (said_by (written_in i.0) (placed_at i k)) (args_of s)
+      args_there = args_filled written ∙ ap (λ (x : Statement). all_filled (said_by (written_in i.0) (placed_at i k)) x.args) (sym is)
 
       pub no_front : name_in_front (args_of s) ≡ None → name_in_front (item_at i k).args ≡ None
-      no_front e = ap name_in_front args_there ∙ front_kept (word_at i k) (args_of s) ∙ e
+      no_front e = ap name_in_front args_there ∙ front_kept (written_in i.0) (placed_at i k) (args_of s) ∙ e
 
       pub begins_there : (at : Spot) (name : List ℕ) → BeginsWithName (args_of s) at name → BeginsWithName (item_at i k).args at name
-      begins_there at name begins = subst (λ args. BeginsWithName args at name) (sym args_there) (begins_kept (word_at i k) (args_of s) at name begins)
+      begins_there at name begins = subst (λ args. BeginsWithName args at name) (sym args_there) (begins_kept (written_in i.0) (placed_at i k) (args_of s) at name begins)
 
-      pub content_there : content_at i (Some k) ≡ bare_terms s.at.«module» (word_at i k) (drop 1 s.args.items)
-      content_there = ap (λ args. content_of (behind args)) args_there ∙ said_behind (word_at i k) s.at.«module» s.args.items
+      -- where each word says a word
+      pub content_there : SaysWords i k → content_at i (Some k) ≡ bare_terms s.at.«module» (word_at i k) (drop 1 s.args.items)
+      content_there words =
+          ap (λ args. content_of (behind args)) (args_there ∙ filled_with_words (said_by (written_in i.0) (placed_at i k)) (word_at i k) words (args_of s))
+          ∙ said_behind (word_at i k) s.at.«module» s.args.items
 
 -- ---- the row of the statement at a place
 

@@ -25,7 +25,7 @@ abbrev leaf : List ℕ → Term ScopedWord
 leaf bytes = Leaf (word bytes)
 
 abbrev item : Keyword → Terms ScopedWord → Item
-item keyword args = record { keyword = keyword; at = nowhere; space = []; args = args; round = [] }
+item keyword args = record { keyword = keyword; at = nowhere; space = []; args = args; round = []; branch = None }
 
 abbrev declares : Keyword → List ℕ → Item
 declares keyword name = item keyword (cons (Name nowhere name) nil)

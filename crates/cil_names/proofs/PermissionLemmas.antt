@@ -44,7 +44,7 @@ use Rattle.cil_names.specs.Declarations.{Declaration, Symbol, content_of, declar
 use Rattle.cil_names.specs.Entries.{AreOrdered, HasNoEntry, IsEntryAt, is_entry}
 use Rattle.cil_blocks.specs.Entries.{statement_at}
 use Rattle.cil_macros.specs.Item.{Item, all_replaced, is_enabled, names_in, nobody, replaced}
-use Rattle.cil_macros.specs.Items.{Kept, item_at, items_in, placed_at, says_as_written, word_at}
+use Rattle.cil_macros.specs.Items.{Kept, SaysWords, item_at, items_in, placed_at, says_as_written, word_at}
 use Rattle.cil_macros.specs.Macros.{all_standing}
 use Rattle.cil_macros.specs.Walks.{written_in}
 use Rattle.cil_macros.proofs.ItemLemmas.{items_taken, said_as_written}
@@ -500,10 +500,10 @@ pub none_in_optional : (x : Item) → (x.round ≡ [] → ⊥) → DeclaresNoLis
 none_in_optional x inside sign name d = inside d.outside
 
 module _ (i : Kept) (at : ℕ) where
-  module _ (s : Statement) (says : statement_of s ≡ (placed_at i at).standing.statement.statement) where
+  module _ (s : Statement) (says : statement_of s ≡ (placed_at i at).standing.statement.statement) (words : SaysWords i at) where
     list_says : (sign : Sign) → list_sign s.keyword ≡ Some sign → (item_at i at).args ≡ all_replaced (λ bt. bt) (word_at i at) (args_of s)
     list_says sign k =
-        said_as_written (written_in i.0) (all_standing i.0) (placed_at i at) (placed_at i at).standing.statement.statement.keyword (placed_at i at).standing.statement.statement.args
+        said_as_written (written_in i.0) (all_standing i.0) (placed_at i at) words (placed_at i at).standing.statement.statement.keyword (placed_at i at).standing.statement.statement.args
         (ap says_as_written (sym (ap (λ t. t.keyword) says)) ∙ (list_kind s.keyword sign k).written)
         ∙ ap (all_replaced (λ bt. bt) (word_at i at)) (sym (ap (λ t. t.args) says))
 

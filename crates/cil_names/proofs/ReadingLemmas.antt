@@ -96,7 +96,7 @@ module _ (r : Reading) (is : IsReading r) where
   pub written_read : says_as_written r.statement.now.keyword ≡ true → (terms : List rust.Term) → terms ≡ r.statement.now.args.items
       → (item_read r).args ≡ all_replaced (λ at. at) (word_read r) (all_said r.statement.now.at.«module» terms)
   written_read e terms same =
-      said_as_written (written_in r.instances.now.0) (all_standing r.instances.now.0) there there.standing.statement.statement.keyword there.standing.statement.statement.args
+      said_as_written (written_in r.instances.now.0) (all_standing r.instances.now.0) there is.words there.standing.statement.statement.keyword there.standing.statement.statement.args
       (ap says_as_written keyword_read ∙ e)
       ∙ ap (all_replaced (λ at. at) (word_read r)) (args_read ∙ ap (all_said r.statement.now.at.«module») (sym same))
 

@@ -18,17 +18,17 @@ use Rattle.cil_syntax.specs.Forms.{is_class_list}
 use Rattle.cil_syntax.specs.Scopes.{ScopedWord}
 use Rattle.cil_syntax.specs.Terms.{Term, Leaf, Name, Form, Terms, nil, cons}
 use Rattle.cil_macros.specs.Calls.{is_call}
-use Rattle.cil_macros.specs.Item.{all_replaced, all_words_in, replaced, words_in}
-use Rattle.cil_macros.specs.Items.{Kept, item_at, placed_at, says_as_written, word_of}
+use Rattle.cil_macros.specs.Item.{all_words_in, words_in}
+use Rattle.cil_macros.specs.Items.{Kept, item_at, placed_at, said_by, says_as_written}
 use Rattle.cil_macros.specs.Macros.{all_standing}
-use Rattle.cil_macros.specs.Placed.{Placed}
+use Rattle.cil_macros.specs.Placed.{Placed, all_filled, filled}
 use Rattle.cil_macros.specs.Walks.{written_in}
-use Rattle.cil_macros.proofs.ItemLemmas.{said_as_written}
+use Rattle.cil_macros.proofs.ItemLemmas.{said_filled}
 use Rattle.cil_names.specs.Resolves.{all_wanted_in, wanted_in, words_of, words_of_class}
 use Rattle.cil_names.specs.Declarations.{content_of}
 use Rattle.cil_names.specs.DeclareRows.{SaysWritten, behind, content_at}
 use Rattle.cil_names.specs.Worded.{IsOfStatement, IsWordless, has_some, is_worded}
-use Rattle.cil_names.proofs.ReadingLemmas.{no_words, says_nothing, words_of_terms}
+use Rattle.cil_names.proofs.ReadingLemmas.{no_words, says_nothing}
 
 -- ---- terms
 
@@ -140,6 +140,22 @@ mutual
       let (first, rest) = none_both (words_in t) (all_words_in ts) e in
       ap (λ l. l ++ all_wanted_in ts) (term_unasked t first) ∙ all_unasked ts rest
 
+-- terms without words have none where their words are replaced
+module _ {L M : Type 0} (f : L → Term M) where
+  mutual
+    unfolding words_in all_words_in filled all_filled
+
+    one_filled : (t : Term L) → words_in t ≡ [] → words_in (filled f t) ≡ []
+    one_filled (Leaf w) e = absurd cc
+    one_filled (Name at bytes) e = refl
+    one_filled (Form at op parts) e = none_filled parts e
+
+    none_filled : (ts : Terms L) → all_words_in ts ≡ [] → all_words_in (all_filled f ts) ≡ []
+    none_filled nil e = refl
+    none_filled (cons t ts) e =
+        let (first, rest) = none_both (words_in t) (all_words_in ts) e in
+        ap (λ l. l ++ all_words_in (all_filled f ts)) (one_filled t first) ∙ none_filled ts rest
+
 -- ---- the statement at a place
 
 none_some : {X : Type 0} (xs : List X) → has_some xs ≡ false → xs ≡ []
@@ -168,9 +184,8 @@ module _ (i : Kept) (at : ℕ) (unworded : is_worded (placed_at i at).standing.s
   pub unworded_says : all_words_in (item_at i at).args ≡ []
   unworded_says = elim (cases_Bool (says_as_written written.keyword)) [
     | inl t ↦
-        ap all_words_in (said_as_written (written_in i.0) (all_standing i.0) there written.keyword written.args t)
-        ∙ words_of_terms (word_of (written_in i.0) there) written.args
-        ∙ ap (map (word_of (written_in i.0) there)) (no_word t)
+        ap all_words_in (said_filled (written_in i.0) (all_standing i.0) there written.keyword written.args t)
+        ∙ none_filled (said_by (written_in i.0) there) written.args (no_word t)
     | inr f ↦ ap all_words_in (says_nothing (written_in i.0) (all_standing i.0) there written.keyword written.args no_call f) ∙ no_words
   ]
 
@@ -180,16 +195,16 @@ module _ (i : Kept) (at : ℕ) (unworded : is_worded (placed_at i at).standing.s
 
 -- ---- what has no words says the same at each place
 
-module _ {L M : Type 0} (f g : L → M) where
+module _ {L M : Type 0} (f g : L → Term M) where
   mutual
-    unfolding words_in all_words_in replaced all_replaced
+    unfolding words_in all_words_in filled all_filled
 
-    term_alike : (t : Term L) → words_in t ≡ [] → replaced (λ at. at) f t ≡ replaced (λ at. at) g t
+    term_alike : (t : Term L) → words_in t ≡ [] → filled f t ≡ filled g t
     term_alike (Leaf w) e = absurd cc
     term_alike (Name at bytes) e = refl
     term_alike (Form at op parts) e = ap (Form at op) (all_alike parts e)
 
-    all_alike : (ts : Terms L) → all_words_in ts ≡ [] → all_replaced (λ at. at) f ts ≡ all_replaced (λ at. at) g ts
+    all_alike : (ts : Terms L) → all_words_in ts ≡ [] → all_filled f ts ≡ all_filled g ts
     all_alike nil e = refl
     all_alike (cons t ts) e =
         let (first, rest) = none_both (words_in t) (all_words_in ts) e in
@@ -204,7 +219,7 @@ one_content i a b k first second wordless of =
     let q = placed_at i b in
     let same : p.standing.statement ≡ q.standing.statement = wordless.of ∙ sym of in
     ap (λ ts. content_of (behind ts))
-    (said_as_written (written_in i.0) (all_standing i.0) p p.standing.statement.statement.keyword p.standing.statement.statement.args first.written
-    ∙ all_alike (word_of (written_in i.0) p) (word_of (written_in i.0) q) p.standing.statement.statement.args wordless.wordless
-    ∙ ap (λ (w : Written). all_replaced (λ at. at) (word_of (written_in i.0) q) w.statement.args) same
-    ∙ sym (said_as_written (written_in i.0) (all_standing i.0) q q.standing.statement.statement.keyword q.standing.statement.statement.args second.written))
+    (said_filled (written_in i.0) (all_standing i.0) p p.standing.statement.statement.keyword p.standing.statement.statement.args first.written
+    ∙ all_alike (said_by (written_in i.0) p) (said_by (written_in i.0) q) p.standing.statement.statement.args wordless.wordless
+    ∙ ap (λ (w : Written). all_filled (said_by (written_in i.0) q) w.statement.args) same
+    ∙ sym (said_filled (written_in i.0) (all_standing i.0) q q.standing.statement.statement.keyword q.standing.statement.statement.args second.written))

@@ -5,15 +5,16 @@ use Rattle.cil_syntax.specs.Program.{statement_of}
 use Rattle.cil_syntax.specs.Scopes.{ScopedWord}
 use Rattle.cil_macros.specs.declared.placed_word.PlacedWord.{PlacedWord}
 use Rattle.cil_macros.specs.Item.{Item}
-use Rattle.cil_macros.specs.Items.{all_placed, item_at, items_in, placed_at, scoped_by, word_at}
+use Rattle.cil_macros.specs.Items.{SaysWords, all_placed, item_at, items_in, placed_at, scoped_by, word_at}
 use Rattle.cil_names.specs.declared.reading.Reading.{Reading}
 
 -- ---- a placed statement
 
--- there is such a place, and the statement is what is written there
+-- there is such a place, the statement is what is written there, and each word of it says a word
 pub record IsReading (r : Reading) : Type 0 where
   pub within : r.at < length (items_in r.instances.now)
   pub says : statement_of r.statement.now ≡ (placed_at r.instances.now r.at).standing.statement.statement
+  pub words : SaysWords r.instances.now r.at
 
 abbrev pub module_of : Reading → ℕ
 module_of r = r.statement.now.at.«module»

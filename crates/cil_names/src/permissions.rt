@@ -85,11 +85,7 @@ fn no_lists(alloc: Global, entries: &[Entry]) -> Result<Vec<Vec<Bytes>>, NoMemor
 fn no_statements(alloc: Global, entries: &[Entry]) -> Result<Vec<Option<usize>>, NoMemory>
     ensures { IfOk result (λ last. last.items ≡ map (λ _. None) entries.now) }
 {
-    let mut last = Vec::with_capacity(alloc, entries.len())?;
-    for _entry in entries {
-        last.push(None)?;
-    }
-    Ok(last)
+    Ok(vec![in alloc; None; entries.len()]?)
 }
 
 /// Adds the permissions that the statement at a place lists for a class, a class map or a common, unless they were added: for

@@ -1,6 +1,6 @@
 -- Small policies with optionals, by the definitions: which are in force, what shows it, and what is counted. The label of an
 -- optional declares nothing and is left out.
-use Rattle.std.specs.Prelude.{◌&&◌, ◌||◌, ◌==◌, not, codes, Some, slice_get}
+use Rattle.std.specs.Prelude.{◌&&◌, ◌||◌, ◌==◌, not, codes, Some, slice_get, None}
 use Rattle.std.specs.List.{list_all}
 use Rattle.std.proofs.Common.{◌≡◌, ℕ, zero, suc, ◌<◌, Bool, true, false, List, [], ◌∷◌, refl, sym, ◌∙◌, ap, subst, arith}
 use Rattle.std.proofs.lemmas.Bool.Decides.{nat_tests}
@@ -29,7 +29,7 @@ abbrev word : Sign → List ℕ → ScopedWord
 word sign bytes = record { at = nowhere; bytes = bytes; sign = sign; scope = [] ∷ [] }
 
 abbrev says : Keyword → List ℕ → Terms ScopedWord → Item
-says k round args = record { keyword = k; at = nowhere; space = []; args = args; round = round }
+says k round args = record { keyword = k; at = nowhere; space = []; args = args; round = round; branch = None }
 
 abbrev optional : Keyword
 optional = keywords.Optional

@@ -685,29 +685,54 @@ later_6 = (refl, refl, refl, refl)
 -- `(boolean bo true)`
 -- `(booleanif bo (false (allow b a (file (open)))))`
 -- `(neverallow b a (file (open read)))`
+-- `(mls true)`
+-- `(sensitivity s0)`
+-- `(category c0)`
 -- `(sensitivityorder (s0 s1))`
 -- `(categoryorder (c0 c1 c2 c3))`
--- `(sensitivitycategory s0 (all))`
--- `(userrange u ((s0) (s1 (range c0 c3))))`
--- `(mlsconstrain (file (read)) (dom l1 l2))`
 pub rows_1 : (found_as keywords.Boolean (list 0 (next (word 1 (codes "boolean")) (next (word 9 (codes "bo")) (next (word 12 (codes "true")) none)))) ≡ [])
     × (found_as keywords.BooleanIf (list 0 (next (word 1 (codes "booleanif")) (next (word 11 (codes "bo")) (next (list 14 (next (word 15 (codes "false")) (next (list 21 (next (word 22 (codes "allow")) (next (word 28 (codes "b")) (next (word 30 (codes "a")) (next (list 32 (next (word 33 (codes "file")) (next (list 38 (next (word 39 (codes "open")) none)) none))) none))))) none))) none)))) ≡ [])
     × (found_as keywords.NeverAllow (list 0 (next (word 1 (codes "neverallow")) (next (word 12 (codes "b")) (next (word 14 (codes "a")) (next (list 16 (next (word 17 (codes "file")) (next (list 22 (next (word 23 (codes "open")) (next (word 28 (codes "read")) none))) none))) none))))) ≡ [])
+    × (found_as keywords.Mls (list 0 (next (word 1 (codes "mls")) (next (word 5 (codes "true")) none))) ≡ [])
+    × (found_as keywords.Sensitivity (list 0 (next (word 1 (codes "sensitivity")) (next (word 13 (codes "s0")) none))) ≡ [])
+    × (found_as keywords.Category (list 0 (next (word 1 (codes "category")) (next (word 10 (codes "c0")) none))) ≡ [])
     × (found_as keywords.SensitivityOrder (list 0 (next (word 1 (codes "sensitivityorder")) (next (list 18 (next (word 19 (codes "s0")) (next (word 22 (codes "s1")) none))) none))) ≡ [])
     × (found_as keywords.CategoryOrder (list 0 (next (word 1 (codes "categoryorder")) (next (list 15 (next (word 16 (codes "c0")) (next (word 19 (codes "c1")) (next (word 22 (codes "c2")) (next (word 25 (codes "c3")) none))))) none))) ≡ [])
-    × (found_as keywords.SensitivityCategory (list 0 (next (word 1 (codes "sensitivitycategory")) (next (word 21 (codes "s0")) (next (list 24 (next (word 25 (codes "all")) none)) none)))) ≡ [])
-    × (found_as keywords.UserRange (list 0 (next (word 1 (codes "userrange")) (next (word 11 (codes "u")) (next (list 13 (next (list 14 (next (word 15 (codes "s0")) none)) (next (list 19 (next (word 20 (codes "s1")) (next (list 23 (next (word 24 (codes "range")) (next (word 30 (codes "c0")) (next (word 33 (codes "c3")) none)))) none))) none))) none)))) ≡ [])
-    × (found_as keywords.MlsConstrain (list 0 (next (word 1 (codes "mlsconstrain")) (next (list 14 (next (word 15 (codes "file")) (next (list 20 (next (word 21 (codes "read")) none)) none))) (next (list 28 (next (word 29 (codes "dom")) (next (word 33 (codes "l1")) (next (word 36 (codes "l2")) none)))) none)))) ≡ [])
 unfolding verdict_of cells_of cell_of read_row read_word read_string read_list rules containers types classes users entry_of set_aside_words later_words left_out_words heads first_words begins_with
 rows_1 = (refl, refl, refl, refl, refl, refl, refl, refl)
 
+-- `(sensitivitycategory s0 (all))`
+-- `(userrange u ((s0) (s1 (range c0 c3))))`
+-- `(mlsconstrain (file (read)) (dom l1 l2))`
+-- `(typeattribute cil_gen_require)`
+-- `(roleattribute cil_gen_require)`
+-- `(roletype system_r foo_t)`
 -- `(typeattributeset cil_gen_require foo_t)`
 -- `(optional foo_optional_2 (typeattributeset cil_gen_require bar_t) (allow foo_t bar_t (file (read ))))`
+pub rows_2 : (found_as keywords.SensitivityCategory (list 0 (next (word 1 (codes "sensitivitycategory")) (next (word 21 (codes "s0")) (next (list 24 (next (word 25 (codes "all")) none)) none)))) ≡ [])
+    × (found_as keywords.UserRange (list 0 (next (word 1 (codes "userrange")) (next (word 11 (codes "u")) (next (list 13 (next (list 14 (next (word 15 (codes "s0")) none)) (next (list 19 (next (word 20 (codes "s1")) (next (list 23 (next (word 24 (codes "range")) (next (word 30 (codes "c0")) (next (word 33 (codes "c3")) none)))) none))) none))) none)))) ≡ [])
+    × (found_as keywords.MlsConstrain (list 0 (next (word 1 (codes "mlsconstrain")) (next (list 14 (next (word 15 (codes "file")) (next (list 20 (next (word 21 (codes "read")) none)) none))) (next (list 28 (next (word 29 (codes "dom")) (next (word 33 (codes "l1")) (next (word 36 (codes "l2")) none)))) none)))) ≡ [])
+    × (found_as keywords.TypeAttribute (list 0 (next (word 1 (codes "typeattribute")) (next (word 15 (codes "cil_gen_require")) none))) ≡ [])
+    × (found_as keywords.RoleAttribute (list 0 (next (word 1 (codes "roleattribute")) (next (word 15 (codes "cil_gen_require")) none))) ≡ [])
+    × (found (list 0 (next (word 1 (codes "roletype")) (next (word 10 (codes "system_r")) (next (word 19 (codes "foo_t")) none)))) ≡ [])
+    × (found_as keywords.TypeAttributeSet (list 0 (next (word 1 (codes "typeattributeset")) (next (word 18 (codes "cil_gen_require")) (next (word 34 (codes "foo_t")) none)))) ≡ [])
+    × (found (list 0 (next (word 1 (codes "optional")) (next (word 10 (codes "foo_optional_2")) (next (list 25 (next (word 26 (codes "typeattributeset")) (next (word 43 (codes "cil_gen_require")) (next (word 59 (codes "bar_t")) none)))) (next (list 66 (next (word 67 (codes "allow")) (next (word 73 (codes "foo_t")) (next (word 79 (codes "bar_t")) (next (list 85 (next (word 86 (codes "file")) (next (list 91 (next (word 92 (codes "read")) none)) none))) none))))) none))))) ≡ [])
+unfolding verdict_of cells_of cell_of read_row read_word read_string read_list rules containers types classes users entry_of set_aside_words later_words left_out_words heads first_words begins_with
+rows_2 = (refl, refl, refl, refl, refl, refl, refl, refl)
+
+-- `(optional foo_optional_3 (typeattributeset cil_gen_require foo_t) (allow foo_t self (file (open read ))))`
+-- `(allow foo_t bar_t (file (read )))`
+-- `(allow foo_t self (file (open read )))`
+-- `(filecon "/usr/bin/foo" file (system_u object_r foo_t ((s0) (s0))))`
 -- `(classmap m (rw))`
 -- `(classmapping m rw (file (all)))`
-pub rows_2 : (found_as keywords.TypeAttributeSet (list 0 (next (word 1 (codes "typeattributeset")) (next (word 18 (codes "cil_gen_require")) (next (word 34 (codes "foo_t")) none)))) ≡ [])
-    × (found (list 0 (next (word 1 (codes "optional")) (next (word 10 (codes "foo_optional_2")) (next (list 25 (next (word 26 (codes "typeattributeset")) (next (word 43 (codes "cil_gen_require")) (next (word 59 (codes "bar_t")) none)))) (next (list 66 (next (word 67 (codes "allow")) (next (word 73 (codes "foo_t")) (next (word 79 (codes "bar_t")) (next (list 85 (next (word 86 (codes "file")) (next (list 91 (next (word 92 (codes "read")) none)) none))) none))))) none))))) ≡ [])
+-- `(allow b a (m (rw)))`
+pub rows_3 : (found (list 0 (next (word 1 (codes "optional")) (next (word 10 (codes "foo_optional_3")) (next (list 25 (next (word 26 (codes "typeattributeset")) (next (word 43 (codes "cil_gen_require")) (next (word 59 (codes "foo_t")) none)))) (next (list 66 (next (word 67 (codes "allow")) (next (word 73 (codes "foo_t")) (next (word 79 (codes "self")) (next (list 84 (next (word 85 (codes "file")) (next (list 90 (next (word 91 (codes "open")) (next (word 96 (codes "read")) none))) none))) none))))) none))))) ≡ [])
+    × (found (list 0 (next (word 1 (codes "allow")) (next (word 7 (codes "foo_t")) (next (word 13 (codes "bar_t")) (next (list 19 (next (word 20 (codes "file")) (next (list 25 (next (word 26 (codes "read")) none)) none))) none))))) ≡ [])
+    × (found (list 0 (next (word 1 (codes "allow")) (next (word 7 (codes "foo_t")) (next (word 13 (codes "self")) (next (list 18 (next (word 19 (codes "file")) (next (list 24 (next (word 25 (codes "open")) (next (word 30 (codes "read")) none))) none))) none))))) ≡ [])
+    × (found (list 0 (next (word 1 (codes "filecon")) (next (Quoted (record { start = 9; end = 23 }) (34 ∷ 47 ∷ 117 ∷ 115 ∷ 114 ∷ 47 ∷ 98 ∷ 105 ∷ 110 ∷ 47 ∷ 102 ∷ 111 ∷ 111 ∷ 34 ∷ [])) (next (word 24 (codes "file")) (next (list 29 (next (word 30 (codes "system_u")) (next (word 39 (codes "object_r")) (next (word 48 (codes "foo_t")) (next (list 54 (next (list 55 (next (word 56 (codes "s0")) none)) (next (list 60 (next (word 61 (codes "s0")) none)) none))) none))))) none))))) ≡ [])
     × (found_as keywords.ClassMap (list 0 (next (word 1 (codes "classmap")) (next (word 10 (codes "m")) (next (list 12 (next (word 13 (codes "rw")) none)) none)))) ≡ [])
     × (found_as keywords.ClassMapping (list 0 (next (word 1 (codes "classmapping")) (next (word 14 (codes "m")) (next (word 16 (codes "rw")) (next (list 19 (next (word 20 (codes "file")) (next (list 25 (next (word 26 (codes "all")) none)) none))) none))))) ≡ [])
+    × (found (list 0 (next (word 1 (codes "allow")) (next (word 7 (codes "b")) (next (word 9 (codes "a")) (next (list 11 (next (word 12 (codes "m")) (next (list 14 (next (word 15 (codes "rw")) none)) none))) none))))) ≡ [])
 unfolding verdict_of cells_of cell_of read_row read_word read_string read_list rules containers types classes users entry_of set_aside_words later_words left_out_words heads first_words begins_with
-rows_2 = (refl, refl, refl, refl)
+rows_3 = (refl, refl, refl, refl, refl, refl, refl)

@@ -1,5 +1,5 @@
 -- What was read without fault is in order as a program: each statement stands where it may, and begins as it should.
-use Rattle.std.proofs.Common.{◌≡◌, ℕ, true, ◌&&◌, not, List, [], ◌∷◌, ◌++◌, map, refl, sym, ◌∙◌, ap, subst, inl, inr}
+use Rattle.std.proofs.Common.{◌≡◌, ℕ, Bool, true, false, ◌&&◌, not, List, [], ◌∷◌, ◌++◌, map, refl, sym, ◌∙◌, ap, subst, inl, inr}
 use Rattle.std.specs.Prelude.{Contains, Some, None}
 use Rattle.std.specs.List.Sorted.{IsStrictlySortedBy}
 use Rattle.std.proofs.lemmas.List.Elements.{Contains-append_cases}
@@ -10,10 +10,11 @@ use Rattle.cil_base.specs.Searches.{found_is}
 use Rattle.cil_faults.specs.declared.fault.Fault.{Fault}
 use Rattle.cil_syntax.specs.declared.kind.Keyword.{Keyword}
 use Rattle.cil_syntax.specs.declared.kind.Keyword.TheVariants as keywords
+use Rattle.cil_syntax.specs.declared.kind.Kind.{Kind}
 use Rattle.cil_syntax.specs.declared.program.Statement as program
 use Rattle.cil_syntax.specs.declared.term.Word.{Word}
 use Rattle.cil_syntax.specs.Grammar.{FitsRow, name, word, one, as_many, not_as_many}
-use Rattle.cil_syntax.specs.Program.{IsNested, begins_as, begins_with_name, begins_with_word, is_begun, program_of}
+use Rattle.cil_syntax.specs.Program.{IsNested, begins_as, begins_with_declared, begins_with_name, begins_with_word, is_begun, is_begun_as, program_of}
 use Rattle.cil_syntax.specs.Shapes.{Row, item, declared_name, looked_up}
 use Rattle.cil_syntax.specs.Spelling.{same_bytes}
 use Rattle.cil_syntax.specs.Table.{Entry, classes, containers, effective, entry_of, users, rules, set_aside, set_aside_words, table, types, in_rules, in_containers, in_types, in_classes, in_users}
@@ -30,46 +31,38 @@ name_begun m row ns ts (one shape r n ms t us (name place bytes free spelled) re
 word_begun : (m : ℕ) (sign : _) (row : Row) (ns : Nodes) (ts : Terms Word) → FitsRow m (item (looked_up sign) row) ns ts → begins_with_word ts ≡ true
 word_begun m sign row ns ts (one shape r n ms t us (word s place bytes free spelled) rest) = refl
 
+-- what a row asks for first is a name that is declared
+abbrev asks_name_first : Row → Bool
+asks_name_first (item declared_name row) = true
+asks_name_first row = false
+
+named_first : (m : ℕ) (row : Row) (ns : Nodes) (ts : Terms Word) → asks_name_first row ≡ true → FitsRow m row ns ts → begins_with_name ts ≡ true
+named_first m (item declared_name row) ns ts e fit = name_begun m row ns ts fit
+named_first m row ns ts e fit = absurd cc
+
+-- a statement that declares something asks for its name first
+abbrev is_named_well : List Kind → Row → Bool
+is_named_well [] row = true
+is_named_well (k ∷ ks) row = asks_name_first row
+
+named_well : (k : Keyword) → is_named_well (entry_of k).declares (entry_of k).row ≡ true
+unfolding entry_of
+named_well keywords.Type_ = refl
+named_well k = refl
+
+begun_by : (m : ℕ) (ks : List Kind) (row : Row) (ns : Nodes) (ts : Terms Word) → is_named_well ks row ≡ true → FitsRow m row ns ts → is_begun_as (begins_with_declared ks) ts ≡ true
+begun_by m [] row ns ts e fit = refl
+begun_by m (k ∷ ks) row ns ts e fit = named_first m row ns ts e fit
+
 begun : (k : Keyword) (m : ℕ) (ns : Nodes) (ts : Terms Word) → FitsRow m (entry_of k).row ns ts → is_begun k ts ≡ true
 unfolding entry_of begins_as
 begun keywords.Call m ns ts (as_many count first second xs us long fit) = word_begun m _ _ ns ts fit
 begun keywords.Call m ns ts (not_as_many count first second xs us other fit) = word_begun m _ _ ns ts fit
 begun keywords.BlockAbstract m ns ts fit = word_begun m _ _ ns ts fit
 begun keywords.BlockInherit m ns ts fit = word_begun m _ _ ns ts fit
-begun keywords.RoleType m ns ts fit = refl
-begun keywords.UserRole m ns ts fit = refl
-begun keywords.Allow m ns ts fit = refl
-begun keywords.SetAside m ns ts fit = refl
-begun keywords.ClassCommon m ns ts fit = refl
-begun keywords.ClassMapping m ns ts fit = refl
-begun keywords.ClassPermissionSet m ns ts fit = refl
-begun keywords.ClassOrder m ns ts fit = refl
-begun keywords.TypeAliasActual m ns ts fit = refl
-begun keywords.TypeAttributeSet m ns ts fit = refl
-begun keywords.ExpandTypeAttribute m ns ts fit = refl
-begun keywords.TypeTransition m ns ts fit = refl
-begun keywords.TypeChange m ns ts fit = refl
-begun keywords.TypeMember m ns ts fit = refl
-begun keywords.RoleAttributeSet m ns ts fit = refl
-begun keywords.RoleAllow m ns ts fit = refl
-begun keywords.RoleTransition m ns ts fit = refl
-begun keywords.UserAttributeSet m ns ts fit = refl
-begun keywords.UserLevel m ns ts fit = refl
-begun keywords.UserRange m ns ts fit = refl
-begun keywords.BooleanIf m ns ts fit = refl
-begun keywords.AuditAllow m ns ts fit = refl
-begun keywords.DontAudit m ns ts fit = refl
-begun keywords.NeverAllow m ns ts fit = refl
-begun keywords.Constrain m ns ts fit = refl
-begun keywords.MlsConstrain m ns ts fit = refl
-begun keywords.Mls m ns ts fit = refl
-begun keywords.SensitivityAliasActual m ns ts fit = refl
-begun keywords.SensitivityOrder m ns ts fit = refl
-begun keywords.SensitivityCategory m ns ts fit = refl
-begun keywords.CategoryAliasActual m ns ts fit = refl
-begun keywords.CategoryOrder m ns ts fit = refl
-begun keywords.RangeTransition m ns ts fit = refl
-begun k m ns ts fit = name_begun m _ ns ts fit
+begun keywords.Block m ns ts fit = name_begun m _ ns ts fit
+begun keywords.Optional m ns ts fit = name_begun m _ ns ts fit
+begun k m ns ts fit = begun_by m (entry_of k).declares (entry_of k).row ns ts (named_well k) fit
 
 -- ---- entries and keywords
 

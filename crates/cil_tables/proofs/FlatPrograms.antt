@@ -11,9 +11,9 @@ use Rattle.cil_syntax.specs.declared.kind.Keyword.TheVariants as keywords
 use Rattle.cil_faults.specs.declared.spot.Spot.{Spot}
 use Rattle.cil_syntax.specs.Table.{entry_of, plain}
 use Rattle.cil_syntax.specs.Written.{Context, FoundIn, IsItem, IsWritten, Written, at_top, body_of, inside, top, within, written, written_cmp}
-use Rattle.cil_blocks.specs.Contents.{Standing, Stands, in_block, in_optional as in_standing_optional, inherited, is_block, is_inheriting, is_named, is_optional, top as standing_on_top}
+use Rattle.cil_blocks.specs.Contents.{Standing, Stands, in_block, in_branch as in_standing_branch, in_optional as in_standing_optional, inherited, is_block, is_inheriting, is_named, is_optional, top as standing_on_top}
 use Rattle.cil_blocks.specs.Laws.{IsFlat}
-use Rattle.cil_macros.specs.Calls.{IsPlaced, called, in_optional, placed_cmp, stands}
+use Rattle.cil_macros.specs.Calls.{IsPlaced, called, in_branch, in_optional, placed_cmp, stands}
 use Rattle.cil_macros.specs.Item.{Item}
 use Rattle.cil_macros.specs.Items.{item_of}
 use Rattle.cil_macros.specs.Placed.{Placed}
@@ -81,6 +81,7 @@ module _ (ws : List Written) (flat : (w : Written) → Contains ws w → IsFlat 
   standing_flat _ (standing_on_top w c top_of) = refl
   standing_flat _ (in_block s w st is_it not_abstract c is_in) = absurd (nowhere_in w s.statement.statement.at c is_in)
   standing_flat _ (in_standing_optional s w st is_it c is_in) = absurd (nowhere_in w s.statement.statement.at c is_in)
+  standing_flat _ (in_standing_branch s w st is_it c is_in) = absurd (nowhere_in w s.statement.statement.at c is_in)
   standing_flat _ (inherited s b w st is_it target c is_in) = absurd (nowhere_in w b.statement.at c is_in)
 
   module _ (ss : List Standing) (standing : (s : Standing) → Contains ss s → Stands ws s) where
@@ -88,6 +89,7 @@ module _ (ws : List Written) (flat : (w : Written) → Contains ws w → IsFlat 
     placed_flat _ (stands s c) = standing_flat s (standing s c)
     placed_flat _ (called p u w is unfolds c is_in) = absurd (nowhere_in w u.macro.statement.statement.at c is_in)
     placed_flat _ (in_optional p b w is body is_it c is_in) = absurd (nowhere_in w p.standing.statement.statement.at c is_in)
+    placed_flat _ (in_branch p b w is body is_it c is_in) = absurd (nowhere_in w p.standing.statement.statement.at c is_in)
 
     pub items_flat : (placed : List Placed) → Lists placed_cmp (IsPlaced ws ss) placed → AreFlat (map (item_of ws ss placed) placed)
     items_flat placed are x c =
@@ -100,6 +102,7 @@ module _ (ws : List Written) where
   standing_among _ (standing_on_top w c top_of) = c
   standing_among _ (in_block s w st is_it not_abstract c is_in) = c
   standing_among _ (in_standing_optional s w st is_it c is_in) = c
+  standing_among _ (in_standing_branch s w st is_it c is_in) = c
   standing_among _ (inherited s b w st is_it target c is_in) = c
 
   module _ (ss : List Standing) (standing : (s : Standing) → Contains ss s → Stands ws s) where
@@ -107,6 +110,7 @@ module _ (ws : List Written) where
     placed_among _ (stands s c) = standing_among s (standing s c)
     placed_among _ (called p u w is unfolds c is_in) = c
     placed_among _ (in_optional p b w is body is_it c is_in) = c
+    placed_among _ (in_branch p b w is body is_it c is_in) = c
 
     pub without_optionals : ((w : Written) → Contains ws w → is_flat w.statement.keyword ≡ true) → (placed : List Placed) → Lists placed_cmp (IsPlaced ws ss) placed
         → (x : Item) → Contains (map (item_of ws ss placed) placed) x → is_optional x.keyword ≡ false

@@ -16,14 +16,15 @@ use Rattle.cil_syntax.specs.Spelling.{is_name}
 use Rattle.cil_syntax.specs.Table.{entry_of}
 use Rattle.cil_syntax.specs.Terms.{Name, Terms, cons}
 use Rattle.cil_syntax.specs.Written.{Named, Written, bytes_of, named_in_front}
-use Rattle.cil_blocks.specs.Contents.{Standing, Stands, in_block, in_optional as in_standing_optional, inherited, is_block, top}
+use Rattle.cil_blocks.specs.Contents.{Standing, Stands, in_block, in_branch as in_standing_branch, in_optional as in_standing_optional, inherited, is_block, top}
 use Rattle.cil_blocks.specs.declared.namespaces.Space.{Space}
 use Rattle.cil_blocks.specs.Namespaces.{space_at}
-use Rattle.cil_macros.specs.Calls.{IsPlaced, called, in_optional, placed_cmp, stands}
+use Rattle.cil_macros.specs.Calls.{IsPlaced, called, in_branch, in_optional, placed_cmp, stands}
 use Rattle.cil_macros.specs.Item.{Item, OptSet, everybody}
 use Rattle.cil_macros.specs.Items.{item_of, word_of}
 use Rattle.cil_macros.specs.Placed.{Placed}
 use Rattle.cil_macros.proofs.ItemLemmas.{said_as_written}
+use Rattle.cil_macros.proofs.WordValues.{placed_says_words}
 use Rattle.cil_names.specs.declared.entry.Entry.{Entry}
 use Rattle.cil_names.specs.Declarations.{Declaration, Declared, IsDeclaration, Symbol, by, declared_by, name_of, object}
 use Rattle.cil_names.specs.Entries.{AreEntries}
@@ -79,6 +80,7 @@ module _ (ws : List Written) (begun : AreBegun ws) where
             (block_named s.statement.statement.keyword s.statement.statement.args is_it (begun s.statement well.among)) well.names;
       }
   standing_well _ (in_standing_optional s w st is_it c inside) = record { among = c; names = (standing_well s st).names }
+  standing_well _ (in_standing_branch s w st is_it c inside) = record { among = c; names = (standing_well s st).names }
   standing_well _ (inherited s b w st is_it target c inside) = record { among = c; names = (standing_well s st).names }
 
   module _ (ss : List Standing) (standing : (s : Standing) → Contains ss s → Stands ws s) where
@@ -86,6 +88,7 @@ module _ (ws : List Written) (begun : AreBegun ws) where
     placed_well _ (stands s c) = standing_well s (standing s c)
     placed_well _ (called p u w is unfolds c inside) = record { among = c; names = (placed_well p is).names }
     placed_well _ (in_optional p b w is body is_it c inside) = record { among = c; names = (placed_well p is).names }
+    placed_well _ (in_branch p b w is body is_it c inside) = record { among = c; names = (placed_well p is).names }
 
     -- ---- what it declares
 
@@ -112,7 +115,7 @@ module _ (ws : List Written) (begun : AreBegun ws) where
         let args = p.standing.statement.statement.args in
         let kind = of_own_kind x.space (entry_of x.keyword).declares x.args d c in
         let front = in_front x.space (entry_of x.keyword).declares x.args d c in
-        let says = said_as_written ws ss p kw args (declares_written kw d.kind kind) in
+        let says = said_as_written ws ss p (placed_says_words ws ss p is) kw args (declares_written kw d.kind kind) in
         let (more, e) = said_front (word_of ws p) args front.at d.name front.rest (sym says ∙ front.says) in
         name_more d.name d.space (begins_with kw d.kind front.at d.name more kind (ap (is_begun kw) (sym e) ∙ begun p.standing.statement well.among))
         (subst AreNames (sym front.in_space) well.names)

@@ -23,6 +23,7 @@ use cil_base::{Bytes, Names, NoMemory};
 use cil_blocks::{Spaces, inherit};
 use cil_classes::{Classes, classes};
 use cil_faults::Failure;
+use cil_index::Section;
 use cil_macros::{Instances, expand};
 use cil_modset::ModuleSet;
 use cil_names::{
@@ -161,7 +162,8 @@ fn tables_of(
     };
     let user_roles = links_of(alloc, instances, &known, USER_ROLES)?;
     let role_types = links_of(alloc, instances, &known, ROLE_TYPES)?;
-    let allow = rules_of(alloc, instances, &known, classes.rows.as_slice())?;
+    let rules = rules_of(alloc, instances, &known, classes.rows.as_slice())?;
+    let allow = Section::of(alloc, rules.as_slice(), classes.rows.len())?;
     let Classes { rows } = classes;
     let Numbering {
         sections,

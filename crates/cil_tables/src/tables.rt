@@ -11,7 +11,7 @@ ghost use Rattle.cil_tables.specs.Table.{link_cmp, link_total};
 use crate::holders::Links;
 use cil_base::{Bytes, Names};
 use cil_classes::Class;
-use cil_rules::Rule;
+use cil_index::Section;
 use std::cmp::Ordering;
 use std::marker::Model;
 
@@ -73,7 +73,7 @@ pub struct Tables {
     pub(crate) classes: Vec<Class>,
     pub(crate) user_roles: Links,
     pub(crate) role_types: Links,
-    pub(crate) allow: Vec<Rule>,
+    pub(crate) allow: Section,
 }
 
 impl Model for Tables {
@@ -88,7 +88,7 @@ impl Model for Tables {
       classes = a.classes.items;
       user_roles = a.user_roles;
       role_types = a.role_types;
-      allow = a.allow.items;
+      allow = a.allow;
     } };
 
     ghost invariant = { λ a. IsOrderly record {
@@ -98,7 +98,7 @@ impl Model for Tables {
       classes = a.classes.items;
       user_roles = a.user_roles;
       role_types = a.role_types;
-      allow = a.allow.items;
+      allow = a.allow;
     } };
 }
 
@@ -154,10 +154,10 @@ impl Tables {
         &self.role_types
     }
 
-    /// The records of the allow rules.
-    pub fn allow(&self) -> &[Rule]
+    /// The allow rules, with their index.
+    pub fn allow(&self) -> &Section
         ensures rules { result.now ≡ self.now.allow }
     {
-        self.allow.as_slice()
+        &self.allow
     }
 }

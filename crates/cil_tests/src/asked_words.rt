@@ -10,6 +10,10 @@ const ASKED: &[&str] = &[
     "(type t)(roletype object_r t)(role r)(block p (type u))(roletype r t) => object_r: Role object_r; t: Type_ t; r: Role r; t: Type_ t; ",
     // A class word with two candidates: its permissions are those of the first one.
     "(class c (p))(type t)(block a (class c (q))(block b (allow t self (c (q p))))) => t: Type_ t; c: Class a.c, Class c; q: Class a.c; p: -; ",
+    // Arguments that are texts are not looked up, though one of them has the name of a type; the argument between them is. One that
+    // is handed on is none either.
+    "(macro m ((name x)(type y)(string z)) (roletype object_r y))(type t)(type u)(call m (u t \"v w\")) => m: Macro m; t: Type_ t; object_r: Role object_r; t: Type_ t; ",
+    "(macro k ((string s)))(macro m ((string p)) (call k (p)))(type t)(call m (t))(call k (\"t\")) => m: Macro m; k: Macro k; k: Macro k; ",
     // A statement in an optional.
     "(class c (p))(type t)(optional o (allow t self (c (p)))) => t: Type_ t; c: Class c; p: Class c; ",
 ];
@@ -31,24 +35,29 @@ fn a_refused_growth_of_the_table(rt: HostRuntime) {
     }
 }
 
-/// How deep blocks are in one another.
-const DEPTH: usize = 100;
+/// In how many namespaces a name is declared.
+const ROUNDS: usize = 200;
 
-/// As many blocks in one another, each with a type `t`, and in the innermost one a word that asks for `t`; and what it could name.
-fn nested(alloc: Global) -> Option<(String, String)> {
+/// Templates of which each has a block with a type `t` that inherits the one before it, and the first one a word that asks for `t`: by
+/// a block that inherits the last it stands in as many namespaces, one in the other. And what the word could name.
+fn inherited(alloc: Global) -> Option<(String, String)> {
     let mut text = String::new(alloc);
-    let mut behind = String::new(alloc);
     let mut want = String::new(alloc);
-    for _ in 0..DEPTH {
-        write!(text, "(block b (type t)").ok()?;
-        write!(behind, ")").ok()?;
+    write!(text, "(block c0 (blockabstract c0)(roletype object_r t))").ok()?;
+    for round in 0..ROUNDS {
+        let next = round + 1;
+        write!(
+            text,
+            "(block c{next} (blockabstract c{next})(block a (type t)(blockinherit c{round})))"
+        )
+        .ok()?;
     }
-    write!(text, "(roletype object_r t){behind}").ok()?;
+    write!(text, "(block b (blockinherit c{ROUNDS}))").ok()?;
     write!(want, "object_r: Role object_r; t: ").ok()?;
-    for round in 0..DEPTH {
-        write!(want, "{}Type_ ", if round > 0 { ", " } else { "" }).ok()?;
-        for _ in round..DEPTH {
-            write!(want, "b.").ok()?;
+    for round in 0..ROUNDS {
+        write!(want, "{}Type_ b.", if round > 0 { ", " } else { "" }).ok()?;
+        for _ in round..ROUNDS {
+            write!(want, "a.").ok()?;
         }
         write!(want, "t").ok()?;
     }
@@ -57,8 +66,8 @@ fn nested(alloc: Global) -> Option<(String, String)> {
 }
 
 #[test]
-fn a_word_could_name_a_hundred_entries(rt: HostRuntime) {
-    let holds = match nested(rt.alloc()) {
+fn a_word_could_name_two_hundred_entries(rt: HostRuntime) {
+    let holds = match inherited(rt.alloc()) {
         Some((text, want)) => is_answer(rt.alloc(), &[text.as_str()], &Listed, want.as_str()),
         None => false,
     };

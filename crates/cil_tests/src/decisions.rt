@@ -17,7 +17,12 @@ use std::test::Fail;
 fn wide_policy(alloc: Global) -> Option<Tables> {
     let wide = "(class wide (p00 p01 p02 p03 p04 p05 p06 p07 p08 p09 p10 p11 p12 p13 p14 p15 \
         p16 p17 p18 p19 p20 p21 p22 p23 p24 p25 p26 p27 p28 p29 p30 p31))(allow a b (wide (p00 p31)))";
-    let modules = set_of(alloc, &[FIRST, wide]).ok()?;
+    policy(alloc, &[FIRST, wide])
+}
+
+/// The tables of these modules.
+fn policy(alloc: Global, texts: &[&str]) -> Option<Tables> {
+    let modules = set_of(alloc, texts).ok()?;
     Some(compile(alloc, &modules).ok()?.tables)
 }
 
@@ -96,6 +101,51 @@ fn decides_by_the_rules(rt: HostRuntime) -> Result<(), Fail> {
         let got = (found.allowed, found.auditallow, found.auditdeny);
         assert_eq!(rt; got, (allowed, 0, auditdeny), "{source:?} {number}");
     }
+    Ok(())
+}
+
+/// One type and `self` on both sides, in three classes; some twice.
+const RULED: &str =
+    "(class file (open read))(class dir (add open))(class none ())(user u)(role r)(userrole u r)\
+    (type a)(type b)(type c)(type d)(roletype r a)(roletype r b)(roletype r c)(roletype r d)\
+    (allow a b (file (read)))(allow a b (file (open)))(allow a b (dir (add)))(allow a self (file (open read)))\
+    (allow b a (file (read)))(allow c self (dir (open)))(allow c c (dir (add)))(allow d a (dir (add open)))\
+    (allow d self (file (open)))(allow b a (file (read)))";
+
+/// What is allowed by rules that are asked one by one.
+fn walked(tables: &Tables, source: usize, target: usize, class: usize) -> u32 {
+    let rules = tables.allow();
+    let mut mask = 0;
+    for place in 0..rules.len() {
+        mask |= rules.covered_at(place, source, target, class);
+    }
+    mask
+}
+
+/// Whether decisions on a source and a class, for each target, are those of a walk over the rules.
+fn decides_alike(tables: &Tables, source: usize, class: usize) -> bool {
+    for target in 0..5usize {
+        let got = decide(tables, &context(source), &context(target), class_id(class));
+        if got.allowed != walked(tables, source, target, class) {
+            return false;
+        }
+    }
+    true
+}
+
+#[test]
+fn decides_as_a_walk_over_the_rules(rt: HostRuntime) -> Result<(), Fail> {
+    let tables = policy(rt.alloc(), &[RULED]).ok_or("no tables")?;
+    assert_eq!(rt; tables.allow().len(), 9);
+    for class in 0..4usize {
+        for source in 0..5usize {
+            assert!(rt; decides_alike(&tables, source, class), "{source} {class}");
+        }
+    }
+    // Class 1 is file, 0 dir; type 2 is c.
+    let (from, onto) = (context(2), context(2));
+    let got = decide(&tables, &from, &onto, class_id(0));
+    assert_eq!(rt; got.allowed, 0b11);
     Ok(())
 }
 

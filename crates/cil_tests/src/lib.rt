@@ -7,11 +7,17 @@
 #[cfg(test)]
 mod answers;
 #[cfg(test)]
+mod arguments;
+#[cfg(test)]
 mod asked_words;
 #[cfg(test)]
 mod bodies;
 #[cfg(test)]
+mod branches;
+#[cfg(test)]
 mod candidates;
+#[cfg(test)]
+mod covering;
 #[cfg(test)]
 mod decisions;
 #[cfg(test)]

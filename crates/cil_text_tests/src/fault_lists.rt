@@ -112,8 +112,13 @@ fn of_policies(alloc: Global) -> Result<String, Fail> {
         FaultCode::ReservedName,
         FaultCode::Clash,
         FaultCode::Unresolved,
+        FaultCode::AliasOpen,
+        FaultCode::AliasTwice,
+        FaultCode::AliasCycle,
+        FaultCode::SetCycle,
         FaultCode::ClassWide,
         FaultCode::CommonTwice,
+        FaultCode::TooMany,
     ] {
         write!(out, "{} {code}\n", code.number())?;
     }
@@ -135,8 +140,9 @@ fn faults_have_their_numbers_and_sentences(rt: HostRuntime) -> Result<(), Fail> 
     assert_eq!(rt;
         of_policies(rt.alloc())?.as_str(),
         "21 unknown statement\n22 not supported\n23 wrong shape\n25 no name\n26 reserved word\n36 two different declarations\n\
-        41 unresolved name\n55 class with too many permissions\n\
-        56 class with two different commons\nno memory, no memory, no memory, NoMemory\n"
+        41 unresolved name\n51 alias without a target\n52 alias with two targets\n53 alias that leads to itself\n\
+        54 set that depends on itself\n55 class with too many permissions\n56 class with two different commons\n\
+        60 too many of one kind\nno memory, no memory, no memory, NoMemory\n"
     );
     Ok(())
 }

@@ -12,7 +12,7 @@ use Rattle.cil_attrs.proofs.giver.given_at.Goals as goal
 
 pub returns-then-not-is_giving-clause-gift : goal.returns-then-not-is_giving-clause-gift
 returns-then-not-is_giving-clause-gift c = λ xs names which known is are.
-    let there = keyword_there c.args.instances.now c.args.at c.statement_there-statement.result.now c.statement_there-statement.ensures in
+    let there = keyword_there c.args.instances.now c.args.at c.statement_there-statement.result.now c.statement_there-statement.ensures.is in
     other_keyword c.args.known.now xs which (item_at c.args.instances.now c.args.at)
     (ap (λ keyword. any_sets which (λ j. j.giving keyword)) there ∙ sym (c.is_giving.ensures which is) ∙ c.if-not-is_giving.true)
 
@@ -24,7 +24,7 @@ pub returns-in_default-clause-gift : goal.returns-in_default-clause-gift
 returns-in_default-clause-gift c = λ xs names which known is are.
     let i = c.args.instances.now in
     let s = c.statement_there-statement.result.now in
-    let says = said_there i c.args.at s c.statement_there-statement.ensures (written_of c.args.space.now which is c.requires.written s.keyword (sym (c.is_giving.ensures which is) ∙ c.if-not-is_giving.false)) in
+    let says = said_there i c.args.at s c.statement_there-statement.ensures.is c.statement_there-statement.ensures.words (written_of c.args.space.now which is c.requires.written s.keyword (sym (c.is_giving.ensures which is) ∙ c.if-not-is_giving.false)) in
     other_terms c.args.known.now xs which (item_at i c.args.at) (word_at i c.args.at) (args_of s) says
     (subst (λ ts. word_and_term (all_said s.at.«module» ts) ≡ None) c.as_slice.ensures.value c.in_default.ensures)
 
@@ -35,8 +35,8 @@ returns-in_default-set_named-clause-gift c = λ xs names which known is are.
     let s = c.statement_there-statement.result.now in
     let x = item_at i c.args.at in
     let f = word_at i c.args.at in
-    let there = keyword_there i c.args.at s c.statement_there-statement.ensures in
-    let says = said_there i c.args.at s c.statement_there-statement.ensures (written_of c.args.space.now which is c.requires.written s.keyword (sym (c.is_giving.ensures which is) ∙ c.if-not-is_giving.false)) in
+    let there = keyword_there i c.args.at s c.statement_there-statement.ensures.is in
+    let says = said_there i c.args.at s c.statement_there-statement.ensures.is c.statement_there-statement.ensures.words (written_of c.args.space.now which is c.requires.written s.keyword (sym (c.is_giving.ensures which is) ∙ c.if-not-is_giving.false)) in
     let e = said_of s.at.«module» c.in-Some.term.now in
     let w = c.in-Some.ensures.0 in
     let said = subst (λ ts. all_said s.at.«module» ts ≡ cons (Leaf w) (cons e nil)) c.as_slice.ensures.value c.in-Some.ensures.1 in
@@ -51,8 +51,8 @@ returns-clause-gift c = λ xs names which known is are.
     let s = c.statement_there-statement.result.now in
     let x = item_at i c.args.at in
     let f = word_at i c.args.at in
-    let there = keyword_there i c.args.at s c.statement_there-statement.ensures in
-    let says = said_there i c.args.at s c.statement_there-statement.ensures (written_of c.args.space.now which is c.requires.written s.keyword (sym (c.is_giving.ensures which is) ∙ c.if-not-is_giving.false)) in
+    let there = keyword_there i c.args.at s c.statement_there-statement.ensures.is in
+    let says = said_there i c.args.at s c.statement_there-statement.ensures.is c.statement_there-statement.ensures.words (written_of c.args.space.now which is c.requires.written s.keyword (sym (c.is_giving.ensures which is) ∙ c.if-not-is_giving.false)) in
     let e = said_of s.at.«module» c.in-Some.term.now in
     let w = c.in-Some.ensures.0 in
     let said = subst (λ ts. all_said s.at.«module» ts ≡ cons (Leaf w) (cons e nil)) c.as_slice.ensures.value c.in-Some.ensures.1 in

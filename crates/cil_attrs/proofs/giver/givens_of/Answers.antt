@@ -1,5 +1,5 @@
 use Rattle.std.specs.Prelude.{[], option_map}
-use Rattle.std.proofs.Common.{◌<◌, ◌∙◌, ap, length, map, subst, sym, arith}
+use Rattle.std.proofs.Common.{refl, ◌<◌, ◌∙◌, ap, length, map, subst, sym, arith}
 use Rattle.std.proofs.lemmas.Option.{slice_get-map}
 use Rattle.cil_macros.specs.Items.{item_at, items_in}
 use Rattle.cil_macros.proofs.ItemLemmas.{item_there, items_taken}
@@ -24,7 +24,7 @@ loop-at-preserved c =
     let row = c.row.ensures (map (row_in k) (items_in i)) (row_in k x) c.requires.table (slice_get-map (row_in k) (items_in i) at ∙ ap (option_map (row_in k)) (item_there i at within)) in
     elim c.match-given_at.branch [
       | in-Some+in_ok-push w ↦ rw w.givens-is (λ names which known is. gift_more k (items_in i) which i (items_in i) at x (items_taken i at within) c.loop-at.givens.items
-          (c.loop-at.invariant names which known is) w.in-Some.given _ (rw w.in-Some.is at c.given_at.ensures.at) (rw w.in-Some.is at c.given_at.ensures.gift (items_in i) names which known is row) w.in_ok-push.ensures.items)
+          (c.loop-at.invariant names which known is) w.in-Some.given _ (rw w.in-Some.is at c.given_at.ensures.at) (rw w.in-Some.is at c.given_at.ensures.gift (items_in i) names which known is row) within refl w.in_ok-push.ensures.items)
       | in_default w ↦ rw w.givens-is (λ names which known is. none_more k (items_in i) which i (items_in i) at x (items_taken i at within) c.loop-at.givens.items
           (c.loop-at.invariant names which known is) (rw w.in_default.is at c.given_at.ensures.gift (items_in i) names which known is row))
     ]

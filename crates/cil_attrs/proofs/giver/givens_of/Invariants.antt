@@ -3,9 +3,9 @@ use Rattle.cil_syntax.specs.declared.kind.Kind.{Kind}
 use Rattle.cil_macros.specs.Items.{items_in}
 use Rattle.cil_names.specs.Known.{IsKnown}
 use Rattle.cil_names.specs.Spaces.{SpaceOf}
-use Rattle.cil_attrs.specs.Givers.{AreGifts, IsSpaceOf}
+use Rattle.cil_attrs.specs.Givers.{AreGifts, HasKinds}
 use Rattle.cil_attrs.proofs.giver.givens_of.Given as goal
 
 abbrev pub invariant-loop-at : goal.invariant-loop-at
-invariant-loop-at l = (names : Kind → List (List ℕ)) (which : SpaceOf) → IsKnown l.known (items_in l.instances) names → IsSpaceOf l.space which
+invariant-loop-at l = (names : Kind → List (List ℕ)) (which : SpaceOf) → IsKnown l.known (items_in l.instances) names → HasKinds l.space which
     → AreGifts l.known (items_in l.instances) which l.instances (take l.at (items_in l.instances)) l.givens.items

@@ -1,10 +1,10 @@
 use Rattle.std.proofs.Common.{arith, sym, ◌∙◌, ap}
 use Rattle.cil_syntax.specs.declared.program.Statement.{Statement}
 use Rattle.cil_syntax.specs.Program.{program_of}
-use Rattle.cil_blocks.specs.Contents.{is_block, is_inheriting, is_optional}
+use Rattle.cil_blocks.specs.Contents.{is_block, is_inheriting, keeps_place}
 use Rattle.cil_base.specs.Places.{there_as}
 use Rattle.cil_blocks.proofs.NameLemmas.{keyword_some}
-use Rattle.cil_blocks.proofs.OpenedLemmas.{says_block, says_nothing, says_optional, says_target}
+use Rattle.cil_blocks.proofs.OpenedLemmas.{says_block, says_nothing, says_kept, says_target}
 use Rattle.cil_blocks.proofs.ProgramLemmas.{program_length}
 use Rattle.cil_blocks.proofs.opened.opened_at.Goals as goal
 
@@ -25,14 +25,14 @@ returns-then-is_inheriting c =
     (ap (λ (s : Statement). is_inheriting s.keyword) c.index-statements-number.is ∙ sym c.is_inheriting.ensures ∙ c.if-is_inheriting.true)
     (omega (arith, l, h)) c.requires.targets c.at.ensures c.first_number.ensures
 
-pub returns-then-is_optional : goal.returns-then-is_optional
-returns-then-is_optional c =
+pub returns-then-keeps_place : goal.returns-then-keeps_place
+returns-then-keeps_place c =
     let l = program_length c.args.statements.now in
     let h = c.requires.within in
-    λ one. says_optional (program_of c.args.statements.now) c.args.number c.index-statements-number.result.keyword
+    λ one. says_kept (program_of c.args.statements.now) c.args.number c.index-statements-number.result.keyword
     (keyword_some c.args.statements.now c.requires.nested c.args.number c.index-statements-number.result
     (there_as c.args.statements.now c.args.number c.index-statements-number.result c.requires.within c.index-statements-number.is))
-    (ap (λ (s : Statement). is_optional s.keyword) c.index-statements-number.is ∙ sym c.is_optional.ensures ∙ c.if-is_optional.true) (omega (arith, l, h))
+    (ap (λ (s : Statement). keeps_place s.keyword) c.index-statements-number.is ∙ sym c.keeps_place.ensures ∙ c.if-keeps_place.true) (omega (arith, l, h))
 
 pub returns : goal.returns
 returns c =
@@ -40,4 +40,4 @@ returns c =
     (keyword_some c.args.statements.now c.requires.nested c.args.number c.index-statements-number.result
     (there_as c.args.statements.now c.args.number c.index-statements-number.result c.requires.within c.index-statements-number.is))
     (ap (λ (s : Statement). is_block s.keyword) c.index-statements-number.is ∙ sym c.is_block.ensures ∙ c.if-is_block.false) (ap (λ (s : Statement). is_inheriting s.keyword) c.index-statements-number.is ∙ sym c.is_inheriting.ensures ∙ c.if-is_inheriting.false)
-    (ap (λ (s : Statement). is_optional s.keyword) c.index-statements-number.is ∙ sym c.is_optional.ensures ∙ c.if-is_optional.false)
+    (ap (λ (s : Statement). keeps_place s.keyword) c.index-statements-number.is ∙ sym c.keeps_place.ensures ∙ c.if-keeps_place.false)

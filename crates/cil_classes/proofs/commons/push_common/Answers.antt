@@ -42,7 +42,7 @@ returns-in_default-two_words c =
     let x = item_at i c.args.at in
     let s = c.statement_there-statement.result.now in
     let shares = rw c.in-Some.is at c.in_ok-one.ensures in
-    let says = said_there i c.args.at s c.statement_there-statement.ensures (joins_as_written s.keyword (ap is_class_common (sym (keyword_there i c.args.at s c.statement_there-statement.ensures)) ∙ shares.0.1.keyword)) in
+    let says = said_there i c.args.at s c.statement_there-statement.ensures.is c.statement_there-statement.ensures.words (joins_as_written s.keyword (ap is_class_common (sym (keyword_there i c.args.at s c.statement_there-statement.ensures.is)) ∙ shares.0.1.keyword)) in
     absurd (other_terms (namespaces_in i) c.args.names.now (items_in i) x (word_at i c.args.at) (args_of s) says c.in_default-two_words.ensures shares.0.0 shares.0.1)
 
 pub returns : goal.returns
@@ -53,7 +53,7 @@ returns c =
     let shares = rw c.in-Some.is at c.in_ok-one.ensures in
     let are = subst AreNamespaces c.namespaces-namespaces.ensures.value c.are_namespaces.ensures in
     let pair = shares.1 shares.0.0 shares.0.1 in
-    let says = said_there i c.args.at s c.statement_there-statement.ensures (joins_as_written s.keyword (ap is_class_common (sym (keyword_there i c.args.at s c.statement_there-statement.ensures)) ∙ shares.0.1.keyword)) in
+    let says = said_there i c.args.at s c.statement_there-statement.ensures.is c.statement_there-statement.ensures.words (joins_as_written s.keyword (ap is_class_common (sym (keyword_there i c.args.at s c.statement_there-statement.ensures.is)) ∙ shares.0.1.keyword)) in
     let words = says_words (items_in i) x (word_at i c.args.at) (args_of s) says c.in-Some-two_words.words.first c.in-Some-two_words.words.second c.in-Some-two_words.ensures in
     let word : shares.0.1.class_word ≡ word_at i c.args.at c.in-Some-two_words.words.first =
     class_word_is (namespaces_in i) are c.args.names.now c.requires.entries.ordered (items_in i) c.args.shared.now c.requires.shared x shares.0.0 shares.0.1 c.in-Some.one pair _ _ words in

@@ -1,7 +1,9 @@
-use Rattle.std.proofs.Common.{◌<◌, ◌≤◌, List, arith, length, subst, sym}
+use Rattle.std.specs.Prelude.{◌↔◌}
+use Rattle.std.proofs.Common.{◌<◌, ◌≤◌, Bool, ℕ, List, arith, length, subst, sym}
 use Rattle.cil_macros.specs.Items.{item_at, items_in, namespaces_in}
 use Rattle.cil_macros.proofs.ItemLemmas.{items_taken}
 use Rattle.cil_names.specs.declared.entry.Entry.{Entry}
+use Rattle.cil_classes.specs.Commons.{IsFlagged, IsTwice}
 use Rattle.cil_classes.proofs.CommonLemmas.{all_told, class_within, more_told, none_told}
 use Rattle.cil_classes.proofs.commons.push_commons.Goals as goal
 
@@ -28,3 +30,9 @@ pub flags_of_two-requires-clause-within : goal.flags_of_two-requires-clause-with
 flags_of_two-requires-clause-within c = λ h ch.
     subst (λ (es : List Entry). h.class < length es) (sym c.entries.ensures.value)
     (class_within (namespaces_in c.args.instances.now) c.args.names.now (items_in c.args.instances.now) c.args.shared.now c.requires.shared h ch)
+
+pub flags_of_two-requires-clause-rising : goal.flags_of_two-requires-clause-rising
+flags_of_two-requires-clause-rising c = c.requires.shared.rising
+
+pub push_common-requires-clause-twice : goal.push_common-requires-clause-twice
+push_common-requires-clause-twice c = subst (λ (flags : List Bool). (d : ℕ) → IsFlagged flags d ↔ IsTwice c.args.shared.now d) (sym c.as_slice.ensures.value) c.in_ok-twice.ensures

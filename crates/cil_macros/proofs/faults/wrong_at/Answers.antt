@@ -1,3 +1,4 @@
+use Rattle.cil_macros.specs.Brings.{is_marked}
 use Rattle.cil_macros.specs.Macros.{all_standing}
 use Rattle.cil_macros.specs.Walks.{written_in}
 use Rattle.cil_macros.proofs.CallLemmas.{is_meant, macro_below, not_meant, placed_there}
@@ -19,10 +20,12 @@ has_arguments-requires-clause-standing c =
 pub returns-in_default : goal.returns-in_default
 returns-in_default c = λ p e.
     let s = c.args.source.now.spaces.now in
-    nothing_wrong (written_in s) (all_standing s) p (not_meant s c.args.brought.now.entries.items c.args.at c.in_ok-called.field-0 c.in_default.is c.in_ok-called.ensures.meant p e)
+    nothing_wrong (written_in s) (all_standing s) (is_marked c.args.marks.now c.args.at) p c.is_misplaced-misplaced.result (not_meant s c.args.brought.now.entries.items c.args.at c.in_ok-called.field-0 c.in_default.is c.in_ok-called.ensures.meant p e)
+    (c.is_misplaced-misplaced.ensures p e)
 
 pub returns : goal.returns
 returns c = λ p e.
     let s = c.args.source.now.spaces.now in
     let m = is_meant s c.args.brought.now.entries.items c.args.at c.in_ok-called.field-0 c.in-Some.called c.in-Some.is c.in_ok-called.ensures.meant p e in
-    this_wrong (written_in s) (all_standing s) p m.called c.comes_again.result c.has_arguments.result m.is (c.comes_again.ensures p m.called e m.at) (c.has_arguments.ensures p m.called e m.at m.is)
+    this_wrong (written_in s) (all_standing s) (is_marked c.args.marks.now c.args.at) p m.called c.comes_again.result c.has_arguments.result c.is_misplaced-misplaced.result m.is (c.comes_again.ensures p m.called e m.at) (c.has_arguments.ensures p m.called e m.at m.is)
+    (c.is_misplaced-misplaced.ensures p e)

@@ -6,9 +6,9 @@ use Rattle.cil_names.proofs.clash.push_clash.Goals as goal
 
 pub returns-in_default : goal.returns-in_default
 returns-in_default c =
-    absurd (never_nameless c.args.instances.now c.args.at c.args.row.now c.requires c.statement_there-statement.result.now c.statement_there-statement.ensures c.in_default.ensures)
+    absurd (never_nameless c.args.instances.now c.args.at c.args.row.now c.requires c.statement_there-statement.result.now c.statement_there-statement.ensures.is c.in_default.ensures)
 
 pub returns : goal.returns
 returns c =
-    fault_pushed c.args.instances.now c.args.at c.args.row.now c.requires c.statement_there-statement.result.now c.statement_there-statement.ensures c.in-Some.name.at _ _ _ _
+    fault_pushed c.args.instances.now c.args.at c.args.row.now c.requires c.statement_there-statement.result.now c.statement_there-statement.ensures.is c.in-Some.name.at _ _ _ _
     c.in-Some.ensures (c.in_ok-space.ensures ∙ ap (λ ss. qualified (space_at ss c.args.row.now.space)) c.namespaces.ensures.value) c.in_ok-push_fault_in.ensures

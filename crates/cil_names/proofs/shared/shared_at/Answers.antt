@@ -16,15 +16,15 @@ pub returns-in_default : goal.returns-in_default
 returns-in_default c =
     let i = c.args.instances.now in
     let s = c.statement_there-statement.result.now in
-    let says = said_there i c.args.at s c.statement_there-statement.ensures (joins_as_written s.keyword (sym c.if-not-is_class_common.ensures)) in
+    let says = said_there i c.args.at s c.statement_there-statement.ensures.is c.statement_there-statement.ensures.words (joins_as_written s.keyword (sym c.if-not-is_class_common.ensures)) in
     other_terms (namespaces_in i) c.args.names.now (items_in i) (item_at i c.args.at) (word_at i c.args.at) (args_of s) says c.in_default.ensures
 
 pub returns : goal.returns
 returns c =
     let i = c.args.instances.now in
     let s = c.statement_there-statement.result.now in
-    let says = said_there i c.args.at s c.statement_there-statement.ensures (joins_as_written s.keyword (sym c.if-not-is_class_common.ensures)) in
+    let says = said_there i c.args.at s c.statement_there-statement.ensures.is c.statement_there-statement.ensures.words (joins_as_written s.keyword (sym c.if-not-is_class_common.ensures)) in
     pair_is (namespaces_in i) c.args.names.now (items_in i) (item_at i c.args.at) (word_at i c.args.at) (args_of s) says c.in-Some.words.first c.in-Some.words.second c.in-Some.ensures
     (c.is_outside.ensures.0 c.if-not-is_outside.false)
-    (ap is_class_common (keyword_there i c.args.at s c.statement_there-statement.ensures) ∙ sym c.if-not-is_class_common.ensures) c.in_ok-class.class c.in_ok-common.common c.in_ok-class.ensures
+    (ap is_class_common (keyword_there i c.args.at s c.statement_there-statement.ensures.is) ∙ sym c.if-not-is_class_common.ensures) c.in_ok-class.class c.in_ok-common.common c.in_ok-class.ensures
     c.in_ok-common.ensures c.joined.result c.joined.ensures

@@ -9,7 +9,7 @@ use Rattle.cil_rules.proofs.rules.rule_of.Goals as goal
 
 pub returns-then-not-same_keyword : goal.returns-then-not-same_keyword
 returns-then-not-same_keyword c = λ xs names known classes are.
-    let there = keyword_there c.args.instances.now c.args.at c.statement_there-statement.result.now c.statement_there-statement.ensures in
+    let there = keyword_there c.args.instances.now c.args.at c.statement_there-statement.result.now c.statement_there-statement.ensures.is in
     other_keyword xs c.args.known.now (item_at c.args.instances.now c.args.at) (λ e. true≢false (sym (c.same_keyword.ensures.1 (sym there ∙ e)) ∙ c.if-not-same_keyword.true))
 
 pub returns-then-not-is_enabled : goal.returns-then-not-is_enabled
@@ -20,7 +20,7 @@ pub returns-in_default : goal.returns-in_default
 returns-in_default c = λ xs names known classes are.
     let i = c.args.instances.now in
     let s = c.statement_there-statement.result.now in
-    let says = said_there i c.args.at s c.statement_there-statement.ensures (ap says_as_written (c.same_keyword.ensures.0 c.if-not-same_keyword.false)) in
+    let says = said_there i c.args.at s c.statement_there-statement.ensures.is c.statement_there-statement.ensures.words (ap says_as_written (c.same_keyword.ensures.0 c.if-not-same_keyword.false)) in
     other_terms xs c.args.known.now (item_at i c.args.at) (word_at i c.args.at) (args_of s) says c.in_default.ensures
 
 pub returns-in_default-number : goal.returns-in_default-number
@@ -32,7 +32,7 @@ returns-in_default-number c =
     let m = s.at.«module» in
     let x = item_at i c.args.at in
     let f = word_at i c.args.at in
-    let says = said_there i c.args.at s c.statement_there-statement.ensures (ap says_as_written (c.same_keyword.ensures.0 c.if-not-same_keyword.false)) in
+    let says = said_there i c.args.at s c.statement_there-statement.ensures.is c.statement_there-statement.ensures.words (ap says_as_written (c.same_keyword.ensures.0 c.if-not-same_keyword.false)) in
     let source = c.in-Some.parts.source in
     let target = said_of m c.in-Some.parts.target.now in
     let class_permission = said_of m c.in-Some.parts.class_permission.now in
@@ -48,7 +48,7 @@ returns-in_default-given_by c =
     let m = s.at.«module» in
     let x = item_at i c.args.at in
     let f = word_at i c.args.at in
-    let says = said_there i c.args.at s c.statement_there-statement.ensures (ap says_as_written (c.same_keyword.ensures.0 c.if-not-same_keyword.false)) in
+    let says = said_there i c.args.at s c.statement_there-statement.ensures.is c.statement_there-statement.ensures.words (ap says_as_written (c.same_keyword.ensures.0 c.if-not-same_keyword.false)) in
     let source = c.in-Some.parts.source in
     let target = said_of m c.in-Some.parts.target.now in
     let class_permission = said_of m c.in-Some.parts.class_permission.now in
@@ -65,7 +65,7 @@ returns-in_default-2 c =
     let m = s.at.«module» in
     let x = item_at i c.args.at in
     let f = word_at i c.args.at in
-    let says = said_there i c.args.at s c.statement_there-statement.ensures (ap says_as_written (c.same_keyword.ensures.0 c.if-not-same_keyword.false)) in
+    let says = said_there i c.args.at s c.statement_there-statement.ensures.is c.statement_there-statement.ensures.words (ap says_as_written (c.same_keyword.ensures.0 c.if-not-same_keyword.false)) in
     let source = c.in-Some.parts.source in
     let target = said_of m c.in-Some.parts.target.now in
     let class_permission = said_of m c.in-Some.parts.class_permission.now in
@@ -83,7 +83,7 @@ returns c =
     let x = item_at i c.args.at in
     let f = word_at i c.args.at in
     let is = c.same_keyword.ensures.0 c.if-not-same_keyword.false in
-    let says = said_there i c.args.at s c.statement_there-statement.ensures (ap says_as_written is) in
+    let says = said_there i c.args.at s c.statement_there-statement.ensures.is c.statement_there-statement.ensures.words (ap says_as_written is) in
     let source = c.in-Some.parts.source in
     let target = said_of m c.in-Some.parts.target.now in
     let class_permission = said_of m c.in-Some.parts.class_permission.now in
@@ -95,4 +95,4 @@ returns c =
     c.in_ok-class.class c.in-Some-given_by.given.mask
     (rw c.in_ok-class.ensures (c.in-Some-given_by.ensures xs names f known classes
     (class_begins k x f (args_of s) says source target class_permission c.in-Some.ensures c.args.words.now are c.behind_first-of_target.result.now c.behind_first-of_target.ensures c.behind-of_class.result.now (c.behind-of_class.ensures f))))
-    (keyword_there i c.args.at s c.statement_there-statement.ensures ∙ is) (sym c.is_enabled.ensures ∙ c.if-not-is_enabled.false)
+    (keyword_there i c.args.at s c.statement_there-statement.ensures.is ∙ is) (sym c.is_enabled.ensures ∙ c.if-not-is_enabled.false)

@@ -8,6 +8,7 @@ use Rattle.cil_names.specs.Rows.{IsTableOf}
 use Rattle.cil_names.specs.Shared.{AreShared}
 use Rattle.cil_names.specs.Unresolved.{ArePermissions}
 use Rattle.cil_optionals.specs.declared.reason.Reason.{Reason}
+use Rattle.cil_faults.specs.declared.failure.Failure.TheVariants.{NoMemory}
 use Rattle.cil_tables.specs.CompileRefusal.{ItemsFail}
 use Rattle.cil_optionals.specs.Lines.{AreReasonsOf}
 use Rattle.cil_tables.proofs.CompileLemmas.{clash_first, handed_on, widths_first, words_first}
@@ -62,6 +63,12 @@ returns-in_err-tables-clause-faults c =
     handed_on (ItemsFail (items_in c.args.instances.now)) _ _ c.from_residual-in_err-tables.ensures.1
     (widths_first (items_in c.args.instances.now) c.in_ok-names.ensures.1 (is_in c.in_ok-chosen.chosen.enabled) c.in_ok-chosen.ensures.greatest c.in_ok-judged.ensures.1 _
     c.in_err-tables.ensures)
+
+pub returns-in_err-optionals-clause-faults : goal.returns-in_err-optionals-clause-faults
+returns-in_err-optionals-clause-faults c = handed_on (ItemsFail (items_in c.args.instances.now)) _ NoMemory c.from_residual-in_err-optionals.ensures.1 tt
+
+pub returns-in_err-reasons-clause-faults : goal.returns-in_err-reasons-clause-faults
+returns-in_err-reasons-clause-faults c = handed_on (ItemsFail (items_in c.args.instances.now)) _ NoMemory c.from_residual-in_err-reasons.ensures.1 tt
 
 pub returns-clause-compiled : goal.returns-clause-compiled
 returns-clause-compiled c = record {

@@ -13,7 +13,9 @@ use Rattle.cil_rules.specs.Records.{IsCase, IsRuleOf}
 use Rattle.cil_rules.specs.Order.{rule_cmp}
 use Rattle.cil_classes.specs.ClassRows.{AreClasses}
 use Rattle.cil_names.specs.Known.{AreKnown}
-use Rattle.cil_tables.proofs.JoinLemmas.{table_of}
+use Rattle.cil_index.specs.Sets.{AreRising}
+use Rattle.cil_rules.specs.declared.rule.Rule.{Rule}
+use Rattle.cil_tables.proofs.JoinLemmas.{rules_rise, section_gives, table_of}
 use Rattle.cil_tables.proofs.NamedLemmas.{class_of_row, classes_are, classes_given, classes_rise, names_are, rows_rise}
 use Rattle.cil_tables.proofs.WideClasses.{few}
 use Rattle.cil_tables.proofs.compiler.tables_of.Goals as goal
@@ -34,6 +36,22 @@ rules_of-requires-clause-few c = λ row member.
     let k = class_of_row c.args.lookup.now.namespaces.now (items_in c.args.instances.now) c.args.lookup.now.names.now c.requires.entries (is_in c.args.lookup.now.enabled.now) c.in_ok-numbering.numbering.sections c.in_ok-numbering.numbering.numbers.items c.in_ok-numbering.ensures.numbers (c.in_ok-numbering.ensures.apart c.requires.plain) c.args.permissions.now c.requires.permissions c.in_ok-classes.classes.rows.items c.in_ok-classes.ensures.0 row
     (subst (λ (rows : List Class). Contains rows row) c.as_slice-2.ensures.value member) in
     few (items_in c.args.instances.now) (is_in c.args.lookup.now.enabled.now) c.in_ok-classes.ensures.1 k.0 row k.1 k.2
+
+pub of-requires : goal.of-requires
+of-requires c =
+    let known : AreKnown c.args.lookup.now.namespaces.now (items_in c.args.instances.now) c.args.lookup.now.names.now (is_in c.args.lookup.now.enabled.now) (names_of c.in_ok-numbering.numbering.sections) c.as_slice.result.now c.args.permissions.now =
+    record {
+      namespaces = c.are_namespaces.ensures;
+      entries = c.requires.entries;
+      numbered = subst (AreNumbers c.args.lookup.now.namespaces.now c.args.lookup.now.names.now (is_in c.args.lookup.now.enabled.now) (names_of c.in_ok-numbering.numbering.sections)) (sym c.as_slice.ensures.value) c.in_ok-numbering.ensures.numbers;
+      permissions = c.requires.permissions;
+    } in
+    let classes : AreClasses (items_in c.args.instances.now) (is_in c.args.lookup.now.enabled.now) c.in_ok-numbering.numbering.sections.classes.items c.as_slice-2.result.now =
+    subst (AreClasses (items_in c.args.instances.now) (is_in c.args.lookup.now.enabled.now) c.in_ok-numbering.numbering.sections.classes.items) (sym c.as_slice-2.ensures.value)
+    (classes_are c.args.lookup.now.namespaces.now (items_in c.args.instances.now) c.args.lookup.now.names.now c.requires.entries (is_in c.args.lookup.now.enabled.now) c.in_ok-numbering.numbering.sections c.in_ok-numbering.numbering.numbers.items c.in_ok-numbering.ensures.numbers (c.in_ok-numbering.ensures.apart c.requires.plain) c.args.permissions.now c.requires.permissions c.in_ok-classes.classes.rows.items c.in_ok-classes.ensures.0) in
+    subst (λ (z : List Rule). AreRising z) (sym c.as_slice-3.ensures.value)
+    (rules_rise (items_in c.args.instances.now) (is_in c.args.lookup.now.enabled.now) (names_of c.in_ok-numbering.numbering.sections kinds.Type_) c.as_slice-2.result.now _
+    (c.in_ok-rules.ensures (names_of c.in_ok-numbering.numbering.sections) known classes))
 
 pub invariant_of-result : goal.invariant_of-result
 invariant_of-result c =
@@ -75,7 +93,9 @@ returns c =
           (names kinds.Type_ _ (c.in_ok-numbering.ensures.numbers.lists kinds.Type_ refl))
           (classes_given c.args.lookup.now.namespaces.now (items_in c.args.instances.now) c.args.lookup.now.names.now c.requires.entries (is_in c.args.lookup.now.enabled.now) c.in_ok-numbering.numbering.sections c.in_ok-numbering.numbering.numbers.items c.in_ok-numbering.ensures.numbers (c.in_ok-numbering.ensures.apart c.requires.plain) c.args.permissions.now c.requires.permissions c.in_ok-classes.classes.rows.items c.in_ok-classes.ensures.0)
           (c.in_ok-user_roles.ensures (names_of c.in_ok-numbering.numbering.sections) known) (c.in_ok-role_types.ensures (names_of c.in_ok-numbering.numbering.sections) known)
-          (subst (λ (rows : List Class). Gives rule_cmp (IsCase (items_in c.args.instances.now) (is_in c.args.lookup.now.enabled.now) keywords.Allow) (IsRuleOf (items_in c.args.instances.now) (is_in c.args.lookup.now.enabled.now) (names_of c.in_ok-numbering.numbering.sections kinds.Type_) rows) c.in_ok-allow.allow.items)
-          c.as_slice-2.ensures.value (c.in_ok-allow.ensures (names_of c.in_ok-numbering.numbering.sections) known classes)),
+          (subst (λ (rows : List Class). Gives rule_cmp (IsCase (items_in c.args.instances.now) (is_in c.args.lookup.now.enabled.now) keywords.Allow) (IsRuleOf (items_in c.args.instances.now) (is_in c.args.lookup.now.enabled.now) (names_of c.in_ok-numbering.numbering.sections kinds.Type_) rows) c.in_ok-allow.allow)
+          c.as_slice-2.ensures.value (section_gives _ _ _ c.as_slice-3.result.now _ c.in_ok-allow.ensures
+          (subst (λ (z : List Rule). Gives rule_cmp (IsCase (items_in c.args.instances.now) (is_in c.args.lookup.now.enabled.now) keywords.Allow) (IsRuleOf (items_in c.args.instances.now) (is_in c.args.lookup.now.enabled.now) (names_of c.in_ok-numbering.numbering.sections kinds.Type_) c.as_slice-2.result.now) z)
+          (sym c.as_slice-3.ensures.value) (c.in_ok-rules.ensures (names_of c.in_ok-numbering.numbering.sections) known classes)))),
       c.in_ok-classes.ensures.1,
     )

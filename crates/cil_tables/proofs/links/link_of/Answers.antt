@@ -8,7 +8,7 @@ use Rattle.cil_tables.proofs.links.link_of.Goals as goal
 
 pub returns-then-not-same_keyword : goal.returns-then-not-same_keyword
 returns-then-not-same_keyword c = λ xs names known are.
-    let there = keyword_there c.args.instances.now c.args.at c.statement_there-statement.result.now c.statement_there-statement.ensures in
+    let there = keyword_there c.args.instances.now c.args.at c.statement_there-statement.result.now c.statement_there-statement.ensures.is in
     other_keyword xs c.args.known.now _ _ _ _ _ (item_at c.args.instances.now c.args.at) (λ e. true≢false (sym (c.same_keyword.ensures.1 (sym there ∙ e)) ∙ c.if-not-same_keyword.true))
 
 pub returns-then-not-is_enabled : goal.returns-then-not-is_enabled
@@ -21,7 +21,7 @@ returns-in_err-_words c =
     (λ xs names known are.
     let i = c.args.instances.now in
     let s = c.statement_there-statement.result.now in
-    let says = said_there i c.args.at s c.statement_there-statement.ensures (ap says_as_written (c.same_keyword.ensures.0 c.if-not-same_keyword.false) ∙ c.requires.written) in
+    let says = said_there i c.args.at s c.statement_there-statement.ensures.is c.statement_there-statement.ensures.words (ap says_as_written (c.same_keyword.ensures.0 c.if-not-same_keyword.false) ∙ c.requires.written) in
     other_terms xs c.args.known.now _ _ _ _ _ (item_at i c.args.at) (word_at i c.args.at) (args_of s) says c.in_err-_words.ensures)
 
 pub returns-in_err-holder : goal.returns-in_err-holder
@@ -33,7 +33,7 @@ returns-in_err-holder c =
     let s = c.statement_there-statement.result.now in
     let x = item_at i c.args.at in
     let f = word_at i c.args.at in
-    let says = said_there i c.args.at s c.statement_there-statement.ensures (ap says_as_written (c.same_keyword.ensures.0 c.if-not-same_keyword.false) ∙ c.requires.written) in
+    let says = said_there i c.args.at s c.statement_there-statement.ensures.is c.statement_there-statement.ensures.words (ap says_as_written (c.same_keyword.ensures.0 c.if-not-same_keyword.false) ∙ c.requires.written) in
     let first = c.in_ok-_words._words.first in
     let second = c.in_ok-_words._words.second in
     no_holder xs k _ _ _ _ _ x f (args_of s) says first second c.in_ok-_words.ensures
@@ -50,7 +50,7 @@ returns-in_err-held c =
     let s = c.statement_there-statement.result.now in
     let x = item_at i c.args.at in
     let f = word_at i c.args.at in
-    let says = said_there i c.args.at s c.statement_there-statement.ensures (ap says_as_written (c.same_keyword.ensures.0 c.if-not-same_keyword.false) ∙ c.requires.written) in
+    let says = said_there i c.args.at s c.statement_there-statement.ensures.is c.statement_there-statement.ensures.words (ap says_as_written (c.same_keyword.ensures.0 c.if-not-same_keyword.false) ∙ c.requires.written) in
     let first = c.in_ok-_words._words.first in
     let second = c.in_ok-_words._words.second in
     no_held xs k _ _ _ _ _ x f (args_of s) says first second c.in_ok-_words.ensures
@@ -67,11 +67,11 @@ returns c =
     let x = item_at i c.args.at in
     let f = word_at i c.args.at in
     let is = c.same_keyword.ensures.0 c.if-not-same_keyword.false in
-    let says = said_there i c.args.at s c.statement_there-statement.ensures (ap says_as_written is ∙ c.requires.written) in
+    let says = said_there i c.args.at s c.statement_there-statement.ensures.is c.statement_there-statement.ensures.words (ap says_as_written is ∙ c.requires.written) in
     let first = c.in_ok-_words._words.first in
     let second = c.in_ok-_words._words.second in
     a_link xs k c.args.joins.keyword c.args.joins.holder_kind c.args.joins.held_kind (names c.args.joins.holder_kind) (names c.args.joins.held_kind) x f (args_of s) says first second c.in_ok-_words.ensures
-    (keyword_there i c.args.at s c.statement_there-statement.ensures ∙ is) (sym c.is_enabled.ensures ∙ c.if-not-is_enabled.false) c.in_ok-holder.holder c.in_ok-held.held
+    (keyword_there i c.args.at s c.statement_there-statement.ensures.is ∙ is) (sym c.is_enabled.ensures ∙ c.if-not-is_enabled.false) c.in_ok-holder.holder c.in_ok-held.held
     (c.in_ok-holder.ensures xs names (f first) known
     (first_means xs k c.args.joins.keyword c.args.joins.holder_kind c.args.joins.held_kind (names c.args.joins.holder_kind) (names c.args.joins.held_kind) x f (args_of s) says first second c.in_ok-_words.ensures
     c.args.words.now are c.meaning_at.result c.meaning_at.ensures))

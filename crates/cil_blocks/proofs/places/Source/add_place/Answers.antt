@@ -2,7 +2,7 @@ use Rattle.std.proofs.Common.{get_or, refl, sym, ◌∙◌}
 use Rattle.std.specs.Prelude.{None}
 use Rattle.cil_syntax.specs.Program.{program_of}
 use Rattle.cil_blocks.specs.declared.entry.Entry.{Entry}
-use Rattle.cil_blocks.proofs.PlacingLemmas.{opener_reached, reached_again, reached_global, reached_inside, reached_optional, reached_space}
+use Rattle.cil_blocks.proofs.PlacingLemmas.{opener_reached, reached_again, reached_global, reached_inside, reached_kept, reached_space}
 use Rattle.cil_blocks.proofs.places.Source.add_place.Goals as goal
 
 abbrev no_entry : Entry
@@ -23,13 +23,13 @@ returns-in-Some-repeated-clause-first c =
     c.args.places.now c.push_again.new.self c.requires.next refl (record { lower = low.lower; same = low.same; higher = low.higher }) c.in-Some-repeated.ensures c.requires.first
     c.in_ok-push_again.ensures
 
-pub returns-then-is_optional_at-clause-first : goal.returns-then-is_optional_at-clause-first
-returns-then-is_optional_at-clause-first c =
+pub returns-then-keeps_place_at-clause-first : goal.returns-then-keeps_place_at-clause-first
+returns-then-keeps_place_at-clause-first c =
     let es = c.args.self.now.entries.now in
     let low = c.in-Some.ensures in
-    reached_optional (program_of c.args.self.now.statements.now) c.args.namespaces.now es (get_or es c.args.rank no_entry) (get_or es c.in-Some.opener no_entry) no_entry c.args.rank
-    c.in-Some.opener c.args.places.now c.push_again-then-is_optional_at.new.self c.requires.next refl refl (record { lower = low.lower; same = low.same; higher = low.higher })
-    (sym (c.is_optional_at.ensures c.requires.nested) ∙ c.if-is_optional_at.true) c.requires.first c.in_ok-push_again-2.ensures
+    reached_kept (program_of c.args.self.now.statements.now) c.args.namespaces.now es (get_or es c.args.rank no_entry) (get_or es c.in-Some.opener no_entry) no_entry c.args.rank
+    c.in-Some.opener c.args.places.now c.push_again-then-keeps_place_at.new.self c.requires.next refl refl (record { lower = low.lower; same = low.same; higher = low.higher })
+    (sym (c.keeps_place_at.ensures c.requires.nested) ∙ c.if-keeps_place_at.true) c.requires.first c.in_ok-push_again-2.ensures
 
 pub returns-in_default-space : goal.returns-in_default-space
 returns-in_default-space c =
@@ -51,4 +51,4 @@ returns-clause-first c =
     reached_inside (program_of c.args.self.now.statements.now) c.args.namespaces.now c.inside.new.namespaces es (get_or es c.args.rank no_entry) (get_or es c.in-Some.opener no_entry) no_entry
     c.args.rank c.in-Some.opener c.in-Some-space.outer c.args.places.now c.push_inside.new.self r c.in_ok-inside.inside.space c.in_ok-inside.inside.written c.requires.next refl refl
     (record { lower = low.lower; same = low.same; higher = low.higher }) c.requires.first at same
-    (sym (c.is_optional_at.ensures c.requires.nested) ∙ c.if-is_optional_at.false) so.once.0 so.once.1 so.grown so.inside (c.in_ok-push_inside.ensures r at)
+    (sym (c.keeps_place_at.ensures c.requires.nested) ∙ c.if-keeps_place_at.false) so.once.0 so.once.1 so.grown so.inside (c.in_ok-push_inside.ensures r at)

@@ -1,5 +1,0 @@
-use Rattle.std.proofs.Common.{◌≡◌, ℕ, false, length, get_or}
-use Rattle.cil_classes.proofs.commons.no_flags.Given as goal
-
-abbrev pub invariant-loop-entry : goal.invariant-loop-entry
-invariant-loop-entry l = (length l.flags.items ≡ l.entry) × ((d : ℕ) → get_or l.flags.items d false ≡ false)

@@ -1,0 +1,154 @@
+-- Rules by numbers stand in the order of the rules.
+use Rattle.std.specs.Prelude.{Contains, Some, slice_get}
+use Rattle.std.specs.Cmp.{IsTotalOrder}
+use Rattle.std.specs.Ordering.{eq_by_cmp, nat_cmp, ordering_reverse, ordering_then}
+use Rattle.std.specs.declared.cmp.Ordering.{Ordering}
+use Rattle.std.specs.declared.cmp.Ordering.TheVariants.{Less, Equal, Greater}
+use Rattle.std.specs.List.{AllByRecursion}
+use Rattle.std.specs.List.Retain.{DiffersFromLast, IsFiltered}
+use Rattle.std.specs.List.Sorted.{IsPermutation, IsSorted, IsStrictlySortedBy}
+use Rattle.std.proofs.Common.{◌≡◌, ℕ, ◌+◌, ◌<◌, ◌≤◌, List, [], ◌∷◌, ◌++◌, length, map, get_or, take, refl, sym, ◌∙◌, ap, subst, inl, inr, arith}
+use Rattle.std.proofs.lemmas.Bool.{cases_lt}
+use Rattle.std.proofs.lemmas.Cmp.{nat_cmp_total}
+use Rattle.std.proofs.lemmas.List.{get_or_default, map-append, take_all, take_more}
+use Rattle.std.proofs.lemmas.List.Elements.{Contains-append_cases}
+use Rattle.std.proofs.lemmas.Map.Keys.{Less-from_sorted}
+use Rattle.std.proofs.lemmas.Map.Lookups.{exact_bytes}
+use Rattle.cil_base.proofs.SortedLists.{sorted_list}
+use Rattle.cil_base.specs.Lists.{Lists, contains_cases, contains_here, contains_later, contains_none, text_cmp}
+use Rattle.cil_base.specs.MadeLists.{contains_map, from_map}
+use Rattle.cil_base.specs.Paths.{both_equal, equal_from, its_own, less_from, same_by}
+use Rattle.cil_base.specs.Places.{cons_head, cons_tail, get_so, in_range}
+use Rattle.cil_rules.specs.Order.{rule_cmp, same_rules, target_fields}
+use Rattle.cil_rules.specs.declared.rule.Rule.{Rule}
+use Rattle.cil_sets.specs.Answers.{set_cmp, set_total}
+use Rattle.cil_index.specs.declared.record.Record.{Record}
+use Rattle.cil_index.specs.declared.record.Reach.{Reach}
+use Rattle.cil_index.specs.declared.record.Reach.TheVariants as reaches
+use Rattle.cil_index.specs.Kept.{rule_of, target_of}
+use Rattle.cil_index.specs.Order.{AreWithin, IsReachWithin, IsWithin, reach_fields, record_cmp, record_total}
+use Rattle.cil_index.specs.Sets.{set_of}
+
+-- numbers of a rising list compare as what they stand for
+module _ {X : Type 0} (order : X → X → Ordering) (total : IsTotalOrder order) (xs : List X) (rising : IsStrictlySortedBy order xs) where
+  below : (i j : ℕ) (d e : X) → i < j → j < length xs → order (get_or xs i d) (get_or xs j e) ≡ Less
+  below i j d e less lj =
+      subst (λ y. order (get_or xs i d) y ≡ Less) (get_or_default xs j d e lj) (Less-from_sorted order xs i j d rising less lj)
+
+  pub number_cmp : (i j : ℕ) (d e : X) → i < length xs → j < length xs → nat_cmp i j ≡ order (get_or xs i d) (get_or xs j e)
+  number_cmp i j d e li lj =
+      elim (cases_lt i j) [
+        | inl less ↦ less_from i j less ∙ sym (below i j d e less lj)
+        | inr ge ↦ elim (cases_lt j i) [
+          | inl more ↦ nat_cmp_total.antisymm i j ∙ ap ordering_reverse (less_from j i more ∙ sym (below j i e d more li)) ∙ sym (total.antisymm (get_or xs i d) (get_or xs j e))
+          | inr le ↦ let same : i ≡ j = omega (arith, ge, le) in
+              let value : get_or xs i d ≡ get_or xs j e = ap (λ k. get_or xs k d) same ∙ get_or_default xs j d e lj in
+              equal_from i j same ∙ sym (its_own (order (get_or xs j e) (get_or xs j e)) (total.antisymm (get_or xs j e) (get_or xs j e))) ∙ ap (λ x. order x (get_or xs j e)) (sym value)
+        ]
+      ]
+
+then_equal : (o : Ordering) → ordering_then o Equal ≡ o
+then_equal Less = refl
+then_equal Equal = refl
+then_equal Greater = refl
+
+to_map : {X Y : Type 0} (f : X → Y) (xs : List X) (x : X) (y : Y) → Contains xs x → f x ≡ y → Contains (map f xs) y
+to_map f xs x y c e = subst (Contains (map f xs)) e (contains_map f xs x c)
+
+module _ (sets : List (List ℕ)) (rise : IsStrictlySortedBy set_cmp sets) where
+  source_cmp : (i j : ℕ) → i < length sets → j < length sets → nat_cmp i j ≡ set_cmp (set_of sets i) (set_of sets j)
+  source_cmp i j li lj = number_cmp set_cmp set_total sets rise i j [] [] li lj
+
+  reaches_cmp : (a b : Reach) → IsReachWithin sets a → IsReachWithin sets b
+      → text_cmp (reach_fields a) (reach_fields b) ≡ text_cmp (target_fields (target_of sets a)) (target_fields (target_of sets b))
+  reaches_cmp (reaches.Types i) (reaches.Types j) wa wb = then_equal (nat_cmp i j) ∙ source_cmp i j wa wb
+  reaches_cmp (reaches.Types i) reaches.Itself wa wb = refl
+  reaches_cmp reaches.Itself (reaches.Types j) wa wb = refl
+  reaches_cmp reaches.Itself reaches.Itself wa wb = refl
+
+  -- records compare as their rules
+  pub records_cmp : (a b : Record) → IsWithin sets a → IsWithin sets b → record_cmp a b ≡ rule_cmp (rule_of sets a) (rule_of sets b)
+  records_cmp a b wa wb = λ i.
+      ordering_then (ordering_then (ordering_then (source_cmp a.source b.source wa.source wb.source i) (reaches_cmp a.target b.target wa.target wb.target i)) (nat_cmp a.class b.class))
+      (nat_cmp a.mask b.mask)
+
+  all_below : (r : Record) (rs : List Record) → AreWithin sets (r ∷ rs) → AllByRecursion (λ q. record_cmp r q ≡ Less) rs
+      → AllByRecursion (λ q. rule_cmp (rule_of sets r) q ≡ Less) (map (rule_of sets) rs)
+  all_below r [] within all = tt
+  all_below r (q ∷ rs) within all = (
+    sym (records_cmp r q (within r (contains_here r (q ∷ rs))) (within q (contains_later q r (q ∷ rs) (contains_here q rs)))) ∙ all.0,
+    all_below r rs (λ x c. elim (contains_cases x r rs c) [
+      | inl e ↦ within x (subst (Contains (r ∷ q ∷ rs)) e (contains_here r (q ∷ rs)))
+      | inr d ↦ within x (contains_later x r (q ∷ rs) (contains_later x q rs d))
+    ]) all.1,
+  )
+
+  -- records that rise stand for rules that rise
+  rules_rise : (rs : List Record) → AreWithin sets rs → IsStrictlySortedBy record_cmp rs → IsStrictlySortedBy rule_cmp (map (rule_of sets) rs)
+  unfolding IsStrictlySortedBy
+  rules_rise [] within rising = tt
+  rules_rise (r ∷ rs) within rising = (all_below r rs within rising.0, rules_rise rs (λ x c. within x (contains_later x r rs c)) rising.1)
+
+  rules_listed : (raw rs : List Record) → AreWithin sets raw → Lists record_cmp (Contains raw) rs
+      → Lists rule_cmp (Contains (map (rule_of sets) raw)) (map (rule_of sets) rs)
+  rules_listed raw rs within listed = record {
+    rising = rules_rise rs (λ r c. within r ((listed.members r).0 c)) listed.rising;
+    members = λ x. (
+      λ c. let r = from_map (rule_of sets) rs x c in to_map (rule_of sets) raw r.0 x ((listed.members r.0).0 r.1) r.2,
+      λ c. let r = from_map (rule_of sets) raw x c in to_map (rule_of sets) rs r.0 x ((listed.members r.0).1 r.1) r.2,
+    );
+  }
+
+  -- what a sort of records leaves without its repeats is the list of their rules
+  pub records_listed : (rules : List Rule) (raw ys zs : List Record) → map (rule_of sets) raw ≡ rules → AreWithin sets raw → IsPermutation raw ys → IsSorted record_cmp ys
+      → IsFiltered (DiffersFromLast (eq_by_cmp record_cmp)) [] ys zs → Lists rule_cmp (Contains rules) (map (rule_of sets) zs)
+  records_listed rules raw ys zs are within moved sorted kept =
+      subst (λ rs. Lists rule_cmp (Contains rs) (map (rule_of sets) zs)) are (rules_listed raw zs within (sorted_list record_cmp record_total exact_records raw ys zs moved sorted kept))
+    where
+      one_record : (a b : Record) → a.source ≡ b.source → a.target ≡ b.target → a.class ≡ b.class → a.mask ≡ b.mask → a ≡ b
+      one_record a b s t c m = λ i. record { source = s i; target = t i; class = c i; mask = m i }
+
+      one_reach : (a b : Reach) → reach_fields a ≡ reach_fields b → a ≡ b
+      one_reach (reaches.Types i) (reaches.Types j) e = ap reaches.Types (cons_head _ _ _ _ (cons_tail _ _ _ _ e))
+      one_reach (reaches.Types i) reaches.Itself e = absurd (let f : 0 ≡ 1 = cons_head _ _ _ _ e in omega (arith, f))
+      one_reach reaches.Itself (reaches.Types j) e = absurd (let f : 1 ≡ 0 = cons_head _ _ _ _ e in omega (arith, f))
+      one_reach reaches.Itself reaches.Itself e = refl
+
+      -- two records that tie are one
+      exact_records : (a b : Record) → record_cmp a b ≡ Equal → a ≡ b
+      exact_records a b e =
+          let mask = both_equal _ _ e in
+          let class_ = both_equal _ _ mask.0 in
+          let target = both_equal _ _ class_.0 in
+          one_record a b (same_by _ _ target.0) (one_reach a.target b.target (exact_bytes _ _ target.1)) (same_by _ _ class_.1) (same_by _ _ mask.1)
+
+-- ---- records, one by one
+
+module _ (sets : List (List ℕ)) where
+  -- the records of the first rules, and one more
+  pub record_more : (rules : List Rule) (i : ℕ) (v : Rule) (r : Record) (old new : List Record) → i < length rules → v ≡ get_or rules i v → rule_of sets r ≡ v
+      → IsWithin sets r → new ≡ old ++ r ∷ [] → (map (rule_of sets) old ≡ take i rules) × AreWithin sets old → (map (rule_of sets) new ≡ take (i + 1) rules) × AreWithin sets new
+  record_more rules i v r old new less is keeps inside push so_far = (
+    ap (map (rule_of sets)) push ∙ map-append (rule_of sets) old (r ∷ []) ∙ (λ k. so_far.0 k ++ keeps k ∷ [])
+        ∙ sym (take_more rules i v less ∙ ap (λ (x : Rule). take i rules ++ x ∷ []) (sym is)),
+    λ x c. elim (Contains-append_cases old (r ∷ []) x (subst (λ (z : List Record). Contains z x) push c)) [
+      | inl d ↦ so_far.1 x d
+      | inr d ↦ elim (contains_cases x r [] d) [ inl e ↦ subst (IsWithin sets) e inside | inr none ↦ absurd (contains_none x none) ]
+    ],
+  )
+
+  pub record_all : (rules : List Rule) (i : ℕ) (records : List Record) → length rules ≤ i → map (rule_of sets) records ≡ take i rules → map (rule_of sets) records ≡ rules
+  record_all rules i records over are = are ∙ take_all i rules over
+
+  pub no_record : (rules : List Rule) (records : List Record) → records ≡ [] → (map (rule_of sets) records ≡ take 0 rules) × AreWithin sets records
+  no_record rules records none = (ap (map (rule_of sets)) none, λ x c. absurd (contains_none x (subst (λ (z : List Record). Contains z x) none c)))
+
+  pub kept_is : (r : Rule) (n : ℕ) (reach : Reach) → slice_get sets n ≡ Some r.source → target_of sets reach ≡ r.target
+      → rule_of sets (record { source = n; target = reach; class = r.class; mask = r.mask }) ≡ r
+  kept_is r n reach at reaches = same_rules _ r (get_so sets n r.source [] at) reaches refl refl
+
+  pub set_there : (n : ℕ) (set : List ℕ) → slice_get sets n ≡ Some set → set_of sets n ≡ set
+  set_there n set at = get_so sets n set [] at
+
+  pub number_there : (n : ℕ) (set : List ℕ) → slice_get sets n ≡ Some set → n < length sets
+  number_there n set at = in_range sets n set at

@@ -1,0 +1,110 @@
+-- The sets of numbers: what each has, and by what it is found.
+use Rattle.std.specs.Prelude.{Contains, ◌↔◌, IsTrue}
+use Rattle.std.proofs.Common.{◌≡◌, ℕ, zero, suc, Bool, true, false, ◌-◌, ◌<◌, ◌≤◌, List, [], ◌∷◌, ◌++◌, length, get_or, refl, sym, ◌∙◌, ap, subst, inl, inr, arith}
+use Rattle.std.proofs.lemmas.Bool.{cases_lt}
+use Rattle.std.proofs.Math.ListN.{get_or-append, get_or-eq_default}
+use Rattle.std.proofs.Math.Dec.{eqb}
+use Rattle.std.proofs.lemmas.Bool.Decides.{eqb_tells}
+use Rattle.std.proofs.Math.Seq.{get_or-append_seam, get_or-append_right}
+use Rattle.std.proofs.lemmas.List.{get_or_default, length-append}
+use Rattle.cil_base.specs.Lists.{contains_here, contains_cases, contains_none}
+use Rattle.cil_index.specs.Sets.{all_sets, small_sets, set_of, AreSeveral}
+use Rattle.cil_index.specs.Entries.{in_key, key_of_set, several}
+
+pub length-small : (n : ℕ) → length (small_sets n) ≡ suc n
+unfolding small_sets
+length-small zero = refl
+length-small (suc n) = let e = length-small n in let f = length-append (small_sets n) ((n ∷ []) ∷ []) in omega (arith, e, f)
+
+small_at : (ones n : ℕ) → n < ones → get_or (small_sets ones) (suc n) [] ≡ n ∷ []
+unfolding small_sets
+small_at zero n l = absurd (omega (arith, l))
+small_at (suc m) n l =
+    let size = length-small m in
+    elim (cases_lt n m) [
+      | inl less ↦ get_or-append (small_sets m) ((m ∷ []) ∷ []) [] (suc n) (omega (arith, less, size)) ∙ small_at m n less
+      | inr ge ↦ let same : n ≡ m = omega (arith, l, ge) in
+          let at : suc n ≡ length (small_sets m) = omega (arith, size, same) in
+          ap (λ k. get_or (small_sets m ++ (m ∷ []) ∷ []) k []) at ∙ get_or-append_seam (small_sets m) (m ∷ []) [] [] ∙ ap (λ k. k ∷ []) (sym same)
+    ]
+
+empty_at : (ones : ℕ) → get_or (small_sets ones) 0 [] ≡ []
+unfolding small_sets
+empty_at zero = refl
+empty_at (suc m) = let size = length-small m in get_or-append (small_sets m) ((m ∷ []) ∷ []) [] 0 (omega (arith, size)) ∙ empty_at m
+
+pub small_there : (ones n : ℕ) (more : List (List ℕ)) → n < ones → set_of (all_sets ones more) (suc n) ≡ n ∷ []
+unfolding all_sets
+small_there ones n more l =
+    let size = length-small ones in get_or-append (small_sets ones) more [] (suc n) (omega (arith, l, size)) ∙ small_at ones n l
+
+pub empty_there : (ones : ℕ) (more : List (List ℕ)) → set_of (all_sets ones more) 0 ≡ []
+unfolding all_sets
+empty_there ones more = let size = length-small ones in get_or-append (small_sets ones) more [] 0 (omega (arith, size)) ∙ empty_at ones
+
+pub several_there : (ones n : ℕ) (more : List (List ℕ)) → ones < n → set_of (all_sets ones more) n ≡ get_or more (n - ones - 1) []
+unfolding all_sets
+several_there ones n more l =
+    let size = length-small ones in
+    let at : n - length (small_sets ones) ≡ n - ones - 1 = omega (arith, size, l) in
+    get_or-append_right (small_sets ones) more n [] (omega (arith, l, size)) ∙ ap (λ k. get_or more k []) at
+
+pub in_one : (n t : ℕ) → Contains (n ∷ []) t ↔ (n ≡ t)
+in_one n t = (
+  λ c. elim (contains_cases t n [] c) [ inl e ↦ e | inr d ↦ absurd (contains_none t d) ],
+  λ e. subst (Contains (n ∷ [])) e (contains_here n []),
+)
+
+none_in : (t : ℕ) (set : List ℕ) → set ≡ [] → IsTrue false ↔ Contains set t
+none_in t set e = rw e (λ h. let f : false ≡ true = h in absurd cc, λ c. absurd (contains_none t c))
+
+module _ (ones : ℕ) (more sets : List (List ℕ)) (view : all_sets ones more ≡ sets) where
+  empty_is : (n : ℕ) → n ≡ 0 → set_of sets n ≡ []
+  empty_is n e = ap (set_of sets) e ∙ ap (λ s. set_of s 0) (sym view) ∙ empty_there ones more
+
+  one_is : (n : ℕ) → (n ≡ 0 → ⊥) → n ≤ ones → set_of sets n ≡ (n - 1) ∷ []
+  one_is n some within =
+      let before : n - 1 < ones = omega (arith, some, within) in
+      let at : n ≡ suc (n - 1) = omega (arith, some) in
+      ap (set_of sets) at ∙ ap (λ s. set_of s (suc (n - 1))) (sym view) ∙ small_there ones (n - 1) more before
+
+  other_is : (n : ℕ) → ones < n → set_of sets n ≡ get_or more (n - ones - 1) []
+  other_is n over = ap (λ s. set_of s n) (sym view) ∙ several_there ones n more over
+
+  -- the empty set has nothing
+  pub empty_has : (n t : ℕ) → n ≡ 0 → IsTrue false ↔ Contains (set_of sets n) t
+  empty_has n t e = none_in t (set_of sets n) (empty_is n e)
+
+  -- a set of one type has just this
+  pub one_has : (n t : ℕ) → (n ≡ 0 → ⊥) → n ≤ ones → IsTrue (eqb (n - 1) t) ↔ Contains (set_of sets n) t
+  one_has n t some within = rw (one_is n some within) (elim (eqb_tells (n - 1) t) [
+    | inl yes_ ↦ (λ h. (in_one (n - 1) t).1 yes_.1, λ c. yes_.0)
+    | inr no_ ↦ (λ h. let e = no_.0 in absurd cc, λ c. absurd (no_.1 ((in_one (n - 1) t).0 c)))
+  ])
+
+  pub other_has : (n t : ℕ) (set : List ℕ) (answer : Bool) → ones < n → n - ones - 1 < length more → set ≡ get_or more (n - ones - 1) set → IsTrue answer ↔ Contains set t
+      → IsTrue answer ↔ Contains (set_of sets n) t
+  other_has n t set answer over within is tells =
+      let at : set_of sets n ≡ set = other_is n over ∙ get_or_default more (n - ones - 1) [] set within ∙ sym is in
+      rw at tells
+
+  pub none_has : (n t : ℕ) → ones < n → length more ≤ n - ones - 1 → IsTrue false ↔ Contains (set_of sets n) t
+  none_has n t over past = none_in t (set_of sets n) (other_is n over ∙ get_or-eq_default more [] past)
+
+  pub key_empty : (n : ℕ) → n ≡ 0 → several ≡ key_of_set (set_of sets n)
+  key_empty n e = ap key_of_set (sym (empty_is n e))
+
+  pub key_one : (n : ℕ) → (n ≡ 0 → ⊥) → n ≤ ones → in_key (n - 1) ≡ key_of_set (set_of sets n)
+  key_one n some within = ap key_of_set (sym (one_is n some within))
+
+  pub key_several : (n : ℕ) → ones < n → AreSeveral more → several ≡ key_of_set (set_of sets n)
+  key_several n over many = elim (cases_lt (n - ones - 1) (length more)) [
+    | inl within ↦ let set = get_or more (n - ones - 1) [] in
+        rw (other_is n over) (of_many set (many set (n - ones - 1, within, get_or_default more (n - ones - 1) set [] within)))
+    | inr past ↦ let at : set_of sets n ≡ [] = other_is n over ∙ get_or-eq_default more [] past in ap key_of_set (sym at)
+  ]
+    where
+      of_many : (set : List ℕ) → 2 ≤ length set → several ≡ key_of_set set
+      of_many [] l = absurd (omega (arith, l))
+      of_many (t ∷ []) l = absurd (omega (arith, l))
+      of_many (t ∷ u ∷ rest) l = refl

@@ -1,0 +1,7 @@
+use Rattle.std.proofs.Common.{take}
+use Rattle.cil_index.specs.Searched.{rules_in}
+use Rattle.cil_index.proofs.CoverLemmas.{IsJoined}
+use Rattle.cil_index.proofs.cover.joined.Given as goal
+
+abbrev pub invariant-loop-entry : goal.invariant-loop-entry
+invariant-loop-entry l = IsJoined (rules_in l.searched) l.asked.source l.asked.target l.asked.class (take l.entry-index l.entries) l.mask

@@ -1,0 +1,7 @@
+use Rattle.std.specs.Prelude.{map}
+use Rattle.cil_index.specs.Kept.{rule_of}
+use Rattle.cil_index.proofs.IndexLemmas.{HasFirst}
+use Rattle.cil_index.proofs.index.unsorted.Given as goal
+
+abbrev pub invariant-loop-place : goal.invariant-loop-place
+invariant-loop-place l = HasFirst (map (rule_of l.sets) l.records) l.place l.entries.items

@@ -1,0 +1,77 @@
+-- The index of rules: an entry for each rule, by its class and, where source or target is one type, by that type.
+use Rattle.std.specs.Prelude.{◌≡◌, ◌⊎◌, ◌<◌, ◌≤◌, ◌+◌, ◌-◌, ℕ, cond, nat_lt, length, get_or, take, drop, List, [], ◌∷◌, Contains, Some, slice_get}
+use Rattle.std.specs.List.Sorted.{IsPartitionPoint, IsSorted}
+use Rattle.std.specs.Cmp.{IsTotalOrder}
+use Rattle.std.proofs.lemmas.Cmp.{on_total, nat_list_cmp_total}
+use Rattle.std.specs.Ordering.{on}
+use Rattle.std.specs.declared.cmp.Ordering.{Ordering}
+use Rattle.cil_base.specs.Lists.{text_cmp}
+use Rattle.cil_rules.specs.declared.rule.Rule.{Rule}
+use Rattle.cil_rules.specs.declared.rule.Target.{Target}
+use Rattle.cil_rules.specs.declared.rule.Target.TheVariants.{Types, Itself}
+use Rattle.cil_index.specs.declared.index.Bounds.{Bounds}
+use Rattle.cil_index.specs.declared.key.Entry.{Entry}
+use Rattle.cil_index.specs.declared.key.Key.{Key}
+
+-- what stands in a key for all but one type: for no type, for several, and for one for whose number a key has no room
+abbrev pub several : ℕ
+several = 4294967295
+
+-- what stands in a key for a type or a class
+abbrev pub in_key : ℕ → ℕ
+in_key n = cond (nat_lt n several) n several
+
+-- the type, where the set has just one
+abbrev pub key_of_set : List ℕ → ℕ
+key_of_set [] = several
+key_of_set (t ∷ []) = in_key t
+key_of_set (t ∷ u ∷ rest) = several
+
+-- a rule with one source that reaches itself reaches one type
+abbrev pub key_of_target : Target → List ℕ → ℕ
+key_of_target (Types numbers) source = key_of_set numbers
+key_of_target Itself source = key_of_set source
+
+-- the key of a rule
+abbrev pub key_of_rule : Rule → Key
+key_of_rule r = record { class = in_key r.class; source = key_of_set r.source; target = key_of_target r.target r.source }
+
+abbrev pub key_fields : Key → List ℕ
+key_fields k = k.class ∷ k.source ∷ k.target ∷ []
+
+-- keys stand by class, source and target
+abbrev pub key_cmp : Key → Key → Ordering
+key_cmp = on key_fields text_cmp
+
+abbrev pub entry_cmp : Entry → Entry → Ordering
+entry_cmp = on (λ e. e.key) key_cmp
+
+pub key_total : IsTotalOrder key_cmp
+key_total = on_total key_fields nat_list_cmp_total
+
+pub entry_total : IsTotalOrder entry_cmp
+entry_total = on_total (λ e. e.key) key_total
+
+-- each rule has an entry with its key and its place
+abbrev pub HasEntries : List Rule → List Entry → Type 0
+HasEntries rules entries = (place : ℕ) (r : Rule) → slice_get rules place ≡ Some r → Contains entries (record { key = key_of_rule r; place = place })
+
+-- and the entries are sorted
+pub record IsIndex (rules : List Rule) (entries : List Entry) : Type 0 where
+  pub sorted : IsSorted entry_cmp entries
+  pub each : HasEntries rules entries
+
+-- where the entries of each class begin
+abbrev pub AreStarts : List Entry → List ℕ → Type 0
+AreStarts entries starts = (c : ℕ) → c < length starts → IsPartitionPoint (λ e. e.key.class < c) (λ e. c ≤ e.key.class) entries (get_or starts c 0)
+
+-- ---- private words
+
+pub record AreBoundsAt (starts : List ℕ) (c : ℕ) (b : Bounds) : Type 0 where
+  pub within : c + 1 < length starts
+  pub from_is : b.from ≡ get_or starts c 0
+  pub to_is : b.to ≡ get_or starts (c + 1) 0
+
+-- the part of the entries between two places, or all of them
+abbrev pub IsPart : List Entry → Bounds → List Entry → Type 0
+IsPart entries b part = (part ≡ entries) ⊎ ((b.from ≤ b.to) × (b.to ≤ length entries) × (part ≡ take (b.to - b.from) (drop b.from entries)))

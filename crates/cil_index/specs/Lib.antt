@@ -1,0 +1,6 @@
+pub mod Entries
+pub mod Found
+pub mod Kept
+pub mod Order
+pub mod Searched
+pub mod Sets

@@ -1,0 +1,8 @@
+-- Private words: the rules that are searched.
+use Rattle.std.specs.Prelude.{List, map}
+use Rattle.cil_rules.specs.declared.rule.Rule.{Rule}
+use Rattle.cil_index.specs.declared.cover.Searched.{Searched}
+use Rattle.cil_index.specs.Kept.{rule_of}
+
+abbrev pub rules_in : Searched → List Rule
+rules_in s = map (rule_of s.sets.now) s.records.now

@@ -1,0 +1,111 @@
+//! What rules cover, by the index.
+
+ghost use Rattle.std.specs.Prelude.{◌≡◌, ◌↔◌, ℕ, IsBitSet, IsTrue, Contains};
+ghost use Rattle.std.specs.List.Sorted.{IsSorted};
+ghost use Rattle.cil_rules.specs.Covers.{HasCover, Reaches};
+ghost use Rattle.cil_index.specs.declared.key.Entry.{Entry as AnEntry};
+ghost use Rattle.cil_index.specs.Entries.{AreStarts, IsIndex, entry_cmp};
+ghost use Rattle.cil_index.specs.Kept.{rule_of, target_of};
+ghost use Rattle.cil_index.specs.Found.{CoversAt, Matches};
+ghost use Rattle.cil_index.specs.Searched.{rules_in};
+
+use crate::index::{class_part, with_key};
+use crate::key::{Entry, Key, SEVERAL, key_of_type};
+use crate::record::{Reach, Record};
+use crate::sets::Sets;
+
+/// The rules that are searched, by their records.
+#[derive(Clone, Copy)]
+pub struct Searched<'s> {
+    pub sets: &'s Sets,
+    pub records: &'s [Record],
+}
+
+/// What is asked: a pair of types and a class.
+#[derive(Clone, Copy)]
+pub struct Asked {
+    pub source: usize,
+    pub target: usize,
+    pub class: usize,
+}
+
+/// The permissions that the rules cover, by their index. It takes no memory: at most four searches by halving.
+pub fn covered(searched: &Searched, entries: &[Entry], starts: &[u32], asked: &Asked) -> u32
+    requires index { IsIndex (rules_in searched.now) entries.now }
+    requires starts { AreStarts entries.now starts.now }
+    ensures { (bit : ℕ) → IsBitSet result bit ↔ HasCover (rules_in searched.now) asked.now.source asked.now.target asked.now.class bit }
+{
+    let class = key_of_type(asked.class);
+    let source = key_of_type(asked.source);
+    let target = key_of_type(asked.target);
+    let part = class_part(entries, starts, class);
+    found(searched, part, asked, key(class, source, target))
+        | found(searched, part, asked, key(class, source, SEVERAL))
+        | found(searched, part, asked, key(class, SEVERAL, target))
+        | found(searched, part, asked, key(class, SEVERAL, SEVERAL))
+}
+
+/// A key of these parts.
+fn key(class: u32, source: u32, target: u32) -> Key
+    ensures { result ≡ record { class = class; source = source; target = target } }
+{
+    Key {
+        class,
+        source,
+        target,
+    }
+}
+
+/// The permissions of the rules with a key that cover what is asked.
+fn found(searched: &Searched, part: &[Entry], asked: &Asked, key: Key) -> u32
+    requires { IsSorted entry_cmp part.now }
+    ensures sound { (bit : ℕ) → IsBitSet result bit → HasCover (rules_in searched.now) asked.now.source asked.now.target asked.now.class bit }
+    ensures all { (e : AnEntry) (bit : ℕ) → Contains part.now e → e.key ≡ key → CoversAt (rules_in searched.now) asked.now.source asked.now.target asked.now.class e.place bit → IsBitSet result bit }
+{
+    joined(searched, asked, with_key(part, &key))
+}
+
+/// The permissions of the rules of some entries that cover what is asked.
+fn joined(searched: &Searched, asked: &Asked, entries: &[Entry]) -> u32
+    ensures sound { (bit : ℕ) → IsBitSet result bit → HasCover (rules_in searched.now) asked.now.source asked.now.target asked.now.class bit }
+    ensures all { (e : AnEntry) (bit : ℕ) → Contains entries.now e → CoversAt (rules_in searched.now) asked.now.source asked.now.target asked.now.class e.place bit → IsBitSet result bit }
+{
+    let mut mask = 0;
+    for entry in entries {
+        mask |= mask_at(searched, asked, entry.place as usize);
+    }
+    mask
+}
+
+/// The permissions of the rule at a place, where it is on what is asked.
+pub fn mask_at(searched: &Searched, asked: &Asked, place: usize) -> u32
+    ensures { (bit : ℕ) → IsBitSet result bit ↔ CoversAt (rules_in searched.now) asked.now.source asked.now.target asked.now.class place bit }
+{
+    let Some(kept) = searched.records.get(place) else {
+        return 0;
+    };
+    if matches(searched.sets, asked, kept) {
+        kept.mask
+    } else {
+        0
+    }
+}
+
+/// Whether a rule is on what is asked.
+fn matches(sets: &Sets, asked: &Asked, kept: &Record) -> bool
+    ensures { IsTrue result ↔ Matches (rule_of sets.now kept.now) asked.now.source asked.now.target asked.now.class }
+{
+    kept.class as usize == asked.class
+        && reaches(sets, kept.target, asked)
+        && sets.has(kept.source, asked.source)
+}
+
+/// Whether a rule reaches the target.
+fn reaches(sets: &Sets, target: Reach, asked: &Asked) -> bool
+    ensures { IsTrue result ↔ Reaches (target_of sets.now target) asked.now.source asked.now.target }
+{
+    match target {
+        Reach::Itself => asked.source == asked.target,
+        Reach::Types(set) => sets.has(set, asked.target),
+    }
+}

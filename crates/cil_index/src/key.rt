@@ -1,0 +1,100 @@
+//! By what a rule is found: its class, and its source and its target where these are one type.
+
+ghost use Rattle.std.specs.Prelude.{◌≡◌, ℕ, refl};
+ghost use Rattle.std.specs.Cmp.{eq_by_cmp_equiv, partial_equiv_from_equiv, partial_order_from_total};
+ghost use Rattle.std.specs.Ordering.{as_partial_cmp, eq_by_cmp, ordering_index};
+ghost use Rattle.cil_index.specs.Entries.{entry_cmp, entry_total, in_key, key_cmp};
+
+use std::cmp::Ordering;
+
+/// What stands in a key for all but one type.
+pub const SEVERAL: u32 = u32::MAX;
+
+/// A class, a source and a target, by their numbers.
+#[derive(Clone, Copy, Debug)]
+pub struct Key {
+    pub class: u32,
+    pub source: u32,
+    pub target: u32,
+}
+
+/// A rule in the index.
+#[derive(Clone, Copy, Debug)]
+pub struct Entry {
+    pub key: Key,
+    /// Where the rule stands.
+    pub place: u32,
+}
+
+// Policies have hundreds of thousands of rules.
+const _: () = prove!(size_of::<Entry>() <= 16);
+
+/// What stands in a key for a type or a class: its number, where there is room for it.
+pub fn key_of_type(number: usize) -> u32
+    ensures { result ≡ in_key number }
+{
+    if number < SEVERAL as usize {
+        number as u32
+    } else {
+        SEVERAL
+    }
+}
+
+/// The order of keys: by class, source, target.
+pub fn compare(a: &Key, b: &Key) -> Ordering
+    ensures { result ≡ key_cmp a.now b.now }
+{
+    a.class
+        .cmp(&b.class)
+        .then(a.source.cmp(&b.source))
+        .then(a.target.cmp(&b.target))
+}
+
+/// How an entry compares with a key: 0 where it is below, 1 where it has the key, 2 where it is above.
+pub fn rank(entry: &Entry, key: &Key) -> u8
+    ensures { result ≡ ordering_index (key_cmp entry.now.key key.now) }
+{
+    match compare(&entry.key, key) {
+        Ordering::Less => 0,
+        Ordering::Equal => 1,
+        Ordering::Greater => 2,
+    }
+}
+
+impl PartialEq for Entry {
+    ghost eq = { eq_by_cmp entry_cmp };
+
+    ghost laws = { partial_equiv_from_equiv (eq_by_cmp_equiv entry_total) };
+
+    fn eq(&self, other: &Entry) -> bool {
+        self.cmp(other) == Ordering::Equal
+    }
+}
+
+impl Eq for Entry {
+    ghost laws = { eq_by_cmp_equiv entry_total };
+}
+
+impl PartialOrd for Entry {
+    ghost partial_cmp = { as_partial_cmp entry_cmp };
+
+    ghost laws = { partial_order_from_total entry_total };
+
+    fn partial_cmp(&self, other: &Entry) -> Option<Ordering> {
+        Some(self.cmp(other))
+    }
+}
+
+impl Ord for Entry {
+    ghost cmp = { entry_cmp };
+
+    ghost total = { entry_total };
+
+    ghost matches_partial_cmp = { λ a b. refl };
+
+    ghost matches_eq = { λ a b. refl };
+
+    fn cmp(&self, other: &Entry) -> Ordering {
+        compare(&self.key, &other.key)
+    }
+}

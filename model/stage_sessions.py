@@ -1,0 +1,111 @@
+"""Random sessions over policies with what can be accepted beside today's language, as parts that can be left out."""
+import block_sessions
+from block_sessions import any_context
+from optional_sessions import LINES, names_out, pairs_in, pairs_out, rules_out, some
+from pieces import install, often
+from rules import targets_of
+from stage_policies import StageDraft
+
+MOST_ASKED = 14
+MOST_OF_A_RULE = 3
+FULL_BODY, FULL_SIZE = b"(booleanif p (true (allow a a (file (read))))(false (allow a a (file (read)))))", 3
+ODD_LINES = [
+    b"SET a TRUE\n", b"SET a\n", b"SET a true true\n", b"SET  true\n", b"set a true\n", b"CHECK a b c\n",
+    b"CHECK a b c d e\n", b"CHECK u:r:a u:r:a file \n", b"SET a true \n", b"SET a 1\n",
+]
+
+
+def stages(rng, language):
+    """Policies with what --stages accepts, right and wrong, with queries, SET, CHECK, OPTIONALS and WHY."""
+    if often(rng, 0.005):
+        return too_many(rng)
+    if often(rng, 0.002) and b"booleanif" in language.statements:
+        return block_sessions.too_many(rng, FULL_BODY, FULL_SIZE)
+    parts = block_sessions.loads(rng, StageDraft(rng, language), asked, 0.35)
+    for _ in range(rng.choice([0, 0, 1, 2])):
+        parts.insert(rng.randrange(len(parts) + 1), rng.choice([*LINES, *ODD_LINES]))
+    return parts
+
+
+def asked(rng, policy):
+    """What is asked after a load: of rules and what is near them, of contexts, while booleans are turned."""
+    if not policy:
+        return [b"SET a true\n", b"CHECK a b c d\n"] if often(rng, 0.1) else []
+    queries = some(rng, of_rules(rng, policy))
+    queries += [block_sessions.query(rng, policy, block_sessions.asked_of(policy)) for _ in range(rng.randrange(2, 5))]
+    for made in (pairs_in(rng, policy), rules_out(rng, policy), pairs_out(rng, policy), names_out(policy)):
+        queries += [each for each in some(rng, made) if is_near(policy, each)][:4]
+    queries += by_aliases(rng, policy)
+    turned = sorted(policy.defaults)
+    conditional = of_rules(rng, policy, is_conditional=True)
+    for _ in range(rng.choice([1, 2, 3]) if turned or often(rng, 0.1) else 0):
+        name = rng.choice(turned) if turned and often(rng, 0.9) else rng.choice([b"a", b".p", b"k.q", b"k"])
+        queries.append(b"SET %s %s\n" % (name, rng.choice([b"true", b"false"])))
+        queries += rng.sample(conditional, min(len(conditional), 8))
+    for each in rng.sample(queries, min(len(queries), 5)):
+        if each.startswith(b"AV "):
+            queries.append(check_of(rng, policy, each))
+    return queries + LINES
+
+
+def of_rules(rng, policy, is_conditional=False):
+    """Queries for some of the pairs of types and classes that rules cover, and for some that they nearly do."""
+    made = []
+    types = sorted(policy.names[b"type"])
+    for rule in policy.rules:
+        if is_conditional and not rule.instance.branch:
+            continue
+        classes = sorted({of_class for of_class, _ in rule.pairs})
+        if not classes or not rule.sources:
+            continue
+        for _ in range(MOST_OF_A_RULE):
+            source = rng.choice(sorted(rule.sources))
+            targets = sorted(targets_of(rule, source))
+            target = rng.choice(targets) if targets and often(rng, 0.8) else rng.choice(types)
+            if often(rng, 0.15):
+                source = rng.choice(types)
+            made.append(av(rng, policy, source, target, rng.choice(classes)))
+    return made
+
+
+def is_near(policy, query):
+    """Whether a query could be answered by its types and class."""
+    _, source, target, class_name = query.split()
+    types = [each.split(b":")[-1] for each in (source, target)]
+    return policy.names[b"type"].issuperset(types) and class_name in policy.names[b"class"]
+
+
+def av(rng, policy, source, target, class_name):
+    return b"AV %s %s %s\n" % (any_context(rng, policy, source), any_context(rng, policy, target), class_name)
+
+
+def by_aliases(rng, policy):
+    """Queries with aliases and attributes in place of types."""
+    names = sorted(policy.aliases) * 4 + sorted(policy.names[b"typeattribute"])
+    classes = sorted(policy.names[b"class"]) or [b"file"]
+    types = sorted(policy.names[b"type"]) or [b"a"]
+    return [
+        av(rng, policy, *rng.sample([rng.choice(names), rng.choice(types)], 2), rng.choice(classes))
+        for _ in range(3) if names
+    ]
+
+
+def check_of(rng, policy, query):
+    _, source, target, class_name = query.split()
+    listed = sorted(policy.permissions.get(class_name, [])) or [b"read"]
+    reply = policy.query(source, target, class_name, policy.defaults)
+    allowed = reply.split(b" ")[1].split(b",") if reply.startswith(b"OK ") and reply[3:4] != b"-" else listed
+    permission = rng.choice(rng.choice([allowed, allowed, listed, [b"nope", b"-"]]))
+    return b"CHECK %s %s %s %s\n" % (source, target, class_name, permission)
+
+
+def too_many(rng):
+    """As many users, roles or booleans as may be, or one more, some of them in vain."""
+    declared, suffix = rng.choice([(b"user", b""), (b"role", b""), (b"boolean", b" true")])
+    count = rng.choice([4094, 4095, 4096, 4097])
+    text = b"".join(b"(%s n%d%s)" % (declared, i, suffix) for i in range(count))
+    wide = b"(class w (%s))" % b" ".join(b"p%d" % i for i in range(33))
+    return [
+        install(text), install(b"(optional o (%s m%s)(roletype r nobody))" % (declared, suffix)),
+        install(rng.choice([b"", b"(typealias x)", b"(type a)", wide])), b"LOAD\n",
+    ]
