@@ -52,5 +52,6 @@ pub use permission_word::{
     Class, ClassPermission, class_at, class_of, permission_of, with_permission,
 };
 pub use permissions::permissions_of;
+pub use spelled::spelled;
 pub use shared::{Shared, commons_of, shared_at};
 pub use table::{Lookup, Words};

@@ -10,14 +10,15 @@ use cil_base::NoMemory;
 use std::alloc::Global;
 use std::cmp::Ordering;
 use std::marker::Model;
+use std::rc::Rc;
 use std::slice;
 
 /// How a set of numbers is kept. A set of one number takes no memory of its own, for most rules have one source and one
-/// target.
+/// target; any other is shared by all rules that name it.
 #[derive(Debug, Drop)]
 enum Kept {
     One(usize),
-    Other(Box<Vec<usize>>),
+    Other(Rc<Vec<usize>>),
 }
 
 /// A set of numbers, which rise. Contracts see it as its list.
@@ -50,8 +51,25 @@ impl Numbers {
         }
         let all = Vec::from_slice(alloc, numbers)?;
         Ok(Numbers {
-            numbers: Kept::Other(Box::new(alloc, all)?),
+            numbers: Kept::Other(Rc::new(alloc, all)?),
         })
+    }
+
+    /// The same numbers once more. They are not copied. Errors: out of memory.
+    pub fn share(&self) -> Result<Numbers, NoMemory>
+        ensures { IfOk result (λ set. set ≡ self.now) }
+    {
+        match &self.numbers {
+            Kept::One(number) => Ok(Numbers {
+                numbers: Kept::One(*number),
+            }),
+            Kept::Other(numbers) => {
+                let same = numbers.clone()?;
+                Ok(Numbers {
+                    numbers: Kept::Other(same),
+                })
+            }
+        }
     }
 
     /// The numbers that were handed in.

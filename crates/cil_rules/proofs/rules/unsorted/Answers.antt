@@ -1,10 +1,12 @@
 use Rattle.std.specs.Prelude.{option_map}
-use Rattle.std.proofs.Common.{◌<◌, ◌∙◌, ap, length, map, arith}
+use Rattle.std.proofs.Common.{◌<◌, ◌≤◌, ◌∙◌, ap, length, map, arith}
 use Rattle.std.proofs.lemmas.Option.{slice_get-map}
 use Rattle.cil_macros.specs.Items.{item_at, items_in}
 use Rattle.cil_macros.proofs.ItemLemmas.{item_there, items_taken}
-use Rattle.cil_names.specs.Known.{row_in}
-use Rattle.cil_base.proofs.RecordLemmas.{none_more, record_more}
+use Rattle.cil_syntax.specs.declared.kind.Kind.TheVariants as kinds
+use Rattle.cil_names.specs.Known.{enabled_in, row_in}
+use Rattle.cil_rules.specs.Records.{CaseBy, IsRuleOf}
+use Rattle.cil_base.proofs.RecordLemmas.{all_records, none_more, record_more}
 use Rattle.cil_rules.proofs.rules.unsorted.Goals as goal
 use Rattle.cil_rules.proofs.rules.unsorted.Goals.{in-Some+in_ok-push, in_default}
 
@@ -17,8 +19,15 @@ loop-at-preserved c =
     let x = item_at i at in
     let row = c.row.ensures (map (row_in k) (items_in i)) (row_in k x) c.requires.table (slice_get-map (row_in k) (items_in i) at ∙ ap (option_map (row_in k)) (item_there i at within)) in
     elim c.match-branch-3.branch [
-      | in-Some+in_ok-push w ↦ rw w.rules-is (λ names known classes. record_more _ _ (items_in i) at x (items_taken i at within) _
-          (c.loop-at.invariant names known classes) w.in-Some.rule _ (rw w.in-Some.is at c.in_ok-rule.ensures (items_in i) names known classes row) w.in_ok-push.ensures.items)
-      | in_default w ↦ rw w.rules-is (λ names known classes. none_more _ _ (items_in i) at x (items_taken i at within) _
-          (c.loop-at.invariant names known classes) (rw w.in_default.is at c.in_ok-rule.ensures (items_in i) names known classes row))
+      | in-Some+in_ok-push w ↦ rw w.rules-is (λ names known standing classes. record_more _ _ (items_in i) at x (items_taken i at within) _
+          (c.loop-at.invariant names known standing classes) w.in-Some.rule _ (rw w.in-Some.is at c.in_ok-rule.ensures (items_in i) names known standing classes row) w.in_ok-push.ensures.items)
+      | in_default w ↦ rw w.rules-is (λ names known standing classes. none_more _ _ (items_in i) at x (items_taken i at within) _
+          (c.loop-at.invariant names known standing classes) (rw w.in_default.is at c.in_ok-rule.ensures (items_in i) names known standing classes row))
     ]
+
+pub returns : goal.returns
+returns c = λ names known standing classes.
+    let k = c.args.known.now in
+    let xs = items_in c.args.instances.now in
+    let over : length xs ≤ c.loop-at.at = let f = c.loop-at-test.false in let n = c.len-at-end.ensures.items in omega (arith, f, n) in
+    all_records (CaseBy xs (enabled_in k)) (IsRuleOf xs (enabled_in k) (names kinds.Type_) c.args.classes.now) xs c.loop-at.at c.loop-at.rules.items (c.loop-at.invariant names known standing classes) over
