@@ -32,7 +32,7 @@ pub mod reading;
 mod row;
 mod run;
 mod shared;
-mod spelled;
+pub mod spelled;
 mod table;
 mod unscoped;
 pub mod worded;
@@ -52,6 +52,5 @@ pub use permission_word::{
     Class, ClassPermission, class_at, class_of, permission_of, with_permission,
 };
 pub use permissions::permissions_of;
-pub use spelled::spelled;
 pub use shared::{Shared, commons_of, shared_at};
 pub use table::{Lookup, Words};

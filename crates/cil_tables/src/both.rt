@@ -16,7 +16,7 @@ pub struct Both<A, B> {
 }
 
 /// Both values, where there are both. Errors: the faults of the one and of the other together, or out of memory.
-pub(crate) fn both<A: Drop, B: Drop>(
+pub(crate) fn together<A: Drop, B: Drop>(
     first: Result<A, Failure>,
     second: Result<B, Failure>,
 ) -> Result<Both<A, B>, Failure>

@@ -20,7 +20,7 @@ ghost use Rattle.cil_classes.specs.ClassRows.{AreRowsOf};
 ghost use Rattle.cil_tables.specs.SetsStep.{SetsFault};
 ghost use Rattle.cil_tables.specs.Standings.{AllStand};
 
-use crate::both::{Both, both};
+use crate::both::{Both, together};
 use crate::sections::{Given, given_of};
 use crate::standings::{Standings, standings_of};
 use crate::tables::Tables;
@@ -226,5 +226,5 @@ fn judged_sets<'s, 'a>(
         instances,
     );
     let standings = standings_of(alloc, known, instances, &numbering.sections);
-    both(rows, standings)
+    together(rows, standings)
 }

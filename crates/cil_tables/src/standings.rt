@@ -11,7 +11,7 @@ ghost use Rattle.cil_names.specs.Rows.{IsTableOf};
 ghost use Rattle.cil_tables.specs.SetsStep.{MembersFault};
 ghost use Rattle.cil_tables.specs.Standings.{AllStand, AreAllMembers};
 
-use crate::both::{Both, both};
+use crate::both::{Both, together};
 use cil_attrs::{Members, Space, members, standing_of};
 use cil_base::NoMemory;
 use cil_faults::Failure;
@@ -78,11 +78,11 @@ fn all_members<'s, 'a>(
     let users = members(alloc, known, instances, sections.users.as_slice(), &Space::Users);
     let roles = members(alloc, known, instances, sections.roles.as_slice(), &Space::Roles);
     let types = members(alloc, known, instances, sections.types.as_slice(), &Space::Types);
-    let both_roles_types = both(roles, types);
+    let both_roles_types = together(roles, types);
     let Both {
         first: users,
         second: others,
-    } = both(users, both_roles_types)?;
+    } = together(users, both_roles_types)?;
     let Both {
         first: roles,
         second: types,
