@@ -45,10 +45,10 @@ pub struct AllMembers {
 /// What words stand for, where these are the names of users, roles and types.
 ///
 /// Errors: the faults of aliases and attributes, and too many users, roles or types; or out of memory.
-pub(crate) fn standings_of<'s, 'a>(
+pub(crate) fn standings_of(
     alloc: Global,
-    known: &Known<'s, 'a>,
-    instances: &Instances<'_, 's, 'a>,
+    known: &Known,
+    instances: &Instances,
     sections: &Sections,
 ) -> Result<Standings, Failure>
     requires namespaces { known.now.lookup.namespaces.now ≡ namespaces_in instances.now }
@@ -63,10 +63,10 @@ pub(crate) fn standings_of<'s, 'a>(
 }
 
 /// The members of all aliases and attributes, or the faults of all three name spaces.
-fn all_members<'s, 'a>(
+fn all_members(
     alloc: Global,
-    known: &Known<'s, 'a>,
-    instances: &Instances<'_, 's, 'a>,
+    known: &Known,
+    instances: &Instances,
     sections: &Sections,
 ) -> Result<AllMembers, Failure>
     requires namespaces { known.now.lookup.namespaces.now ≡ namespaces_in instances.now }

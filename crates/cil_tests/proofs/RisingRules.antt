@@ -3,7 +3,7 @@ use Rattle.std.proofs.Common.{◌≡◌, List, [], ◌∷◌, ◌++◌, subst, i
 use Rattle.std.specs.Prelude.{Contains}
 use Rattle.std.proofs.lemmas.List.Elements.{Contains-append_cases}
 use Rattle.cil_base.specs.Lists.{contains_cases, contains_none}
-use Rattle.cil_rules.specs.declared.rule.Rule.{Rule}
+use Rattle.cil_rules.specs.Rule.{Rule}
 use Rattle.cil_index.specs.Sets.{AreRising, IsRisingRule}
 
 pub rising_more : (old new : List Rule) (r : Rule) → AreRising old → IsRisingRule r → new ≡ old ++ r ∷ [] → AreRising new

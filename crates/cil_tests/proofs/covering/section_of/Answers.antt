@@ -1,5 +1,5 @@
 use Rattle.std.proofs.Common.{List, subst, sym}
-use Rattle.cil_rules.specs.declared.rule.Rule.{Rule}
+use Rattle.cil_rules.specs.Rule.{Rule}
 use Rattle.cil_index.specs.Sets.{AreRising}
 use Rattle.cil_tests.proofs.covering.section_of.Goals as goal
 
