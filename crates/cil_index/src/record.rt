@@ -89,7 +89,11 @@ fn compare_reaches(a: Reach, b: Reach) -> Ordering
 
 /// The records of rules, in the order of the rules, each once, by the numbers of the sets of declared names. A rule costs what sorting
 /// costs, by numbers alone. Errors: out of memory.
-pub fn records_of(alloc: Global, numbers: &[u32], rules: &[NamedRule]) -> Result<Vec<Record>, NoMemory>
+pub fn records_of(
+    alloc: Global,
+    numbers: &[u32],
+    rules: &[NamedRule],
+) -> Result<Vec<Record>, NoMemory>
     ensures { IfOk result (λ records. (distinct named : List (List ℕ)) → IsStrictlySortedBy set_cmp distinct → AreNumbered distinct named numbers.now
         → Lists rule_cmp (Contains (map (rule_named named) rules.now)) (map (rule_of distinct) records.items)) }
 {

@@ -75,9 +75,27 @@ fn all_members(
     requires apart { AreApart known.now.lookup.names.now (enabled_in known.now) known.now.numbers.now }
     ensures { Answers (AreAllMembers known.now (items_in instances.now) (names_of sections.now)) (MembersFault (enabled_in known.now) (items_in instances.now)) result }
 {
-    let users = members(alloc, known, instances, sections.users.as_slice(), &Space::Users);
-    let roles = members(alloc, known, instances, sections.roles.as_slice(), &Space::Roles);
-    let types = members(alloc, known, instances, sections.types.as_slice(), &Space::Types);
+    let users = members(
+        alloc,
+        known,
+        instances,
+        sections.users.as_slice(),
+        &Space::Users,
+    );
+    let roles = members(
+        alloc,
+        known,
+        instances,
+        sections.roles.as_slice(),
+        &Space::Roles,
+    );
+    let types = members(
+        alloc,
+        known,
+        instances,
+        sections.types.as_slice(),
+        &Space::Types,
+    );
     let both_roles_types = together(roles, types);
     let Both {
         first: users,
@@ -95,11 +113,7 @@ fn all_members(
 }
 
 /// What words stand for, by the members of aliases and attributes. Error: out of memory.
-fn all_sets(
-    alloc: Global,
-    all: &AllMembers,
-    sections: &Sections,
-) -> Result<Standings, NoMemory>
+fn all_sets(alloc: Global, all: &AllMembers, sections: &Sections) -> Result<Standings, NoMemory>
     ensures { IfOk result (λ standings. (k : Lookups) (xs : List Item) → IsKnown k xs (names_of sections.now) → AreAllMembers k xs (names_of sections.now) all.now
         → AllStand k xs (names_of sections.now) standings) }
 {
