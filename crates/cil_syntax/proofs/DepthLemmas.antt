@@ -111,7 +111,7 @@ module _ (m : ℕ) where
     fits_nests k _ _ _ h (any_string place bytes) = (tt, tt)
     fits_nests zero _ _ _ h (any_list place kids parts fit) = absurd h
     fits_nests (suc k) _ _ _ h (any_list place kids parts fit) = form_nests (spot_of m place) ops.UnreadList k parts (row_nests k (many unread) kids parts h fit)
-    fits_nests k _ _ _ h (text_word place bytes) = tt
+    fits_nests k _ _ _ h (text_word place bytes) = (tt, tt)
     fits_nests k _ _ _ h (text_string place bytes) = (tt, tt)
 
     row_nests : (k : ℕ) (row : Row) (ns : Nodes) (ts : Terms Word) → NodesNest k ns → FitsRow m row ns ts → AllNest (Some k) ts

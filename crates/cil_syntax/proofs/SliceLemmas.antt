@@ -264,7 +264,7 @@ module _ (P : Spot → List ℕ → Type 0) where
   word_has at bytes p (list_of op row) = tt
   word_has at bytes p (tagged word op row) = tt
   word_has at bytes p unread = p
-  word_has at bytes p any_text = p
+  word_has at bytes p any_text = ((λ e. p), (p, tt))
 
   pub string_has : (at : Spot) (bytes : List ℕ) → P at bytes → (shape : Shape) → Has (read_string at bytes shape)
   unfolding read_string

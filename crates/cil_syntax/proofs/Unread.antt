@@ -22,13 +22,13 @@ use Rattle.cil_syntax.specs.Words.{reads, read_word, read_string}
 use Rattle.cil_syntax.specs.Shapes.{unread, any_text, many, statements, anything, is_list, Cell}
 use Rattle.cil_syntax.specs.Readings.{all_lists, formed, read_list, read_row, cell_of, cells_of}
 use Rattle.cil_syntax.specs.Terms.{nil, spot_of}
-use Rattle.cil_syntax.specs.Told.{AreTold, Tells, is_branch, kept_as}
+use Rattle.cil_syntax.specs.Told.{AreTold, Tells, is_branch, kept_as, kept_whole}
 use Rattle.cil_syntax.proofs.Heads.{word_view, quoted_view, list_read}
 
 -- ---- nodes
 
 -- a text is kept
-text_kept : (m : ℕ) (n : Node) → (cell_of m n).read any_text ≡ kept_as m signs.Text n
+text_kept : (m : ℕ) (n : Node) → (cell_of m n).read any_text ≡ kept_whole m n
 unfolding cell_of read_word read_string read_list
 text_kept m (TextWord place bytes) = refl
 text_kept m (Quoted place bytes) = refl
@@ -58,7 +58,7 @@ module _ (m : ℕ) (space : List ℕ) (n : Node) (s : shapes.Shape) (old new : L
       let view : shape_of shapes.Unread ≡ unread = search (rules, rows.the_lemmas) in
       subst (λ x. Tells m space ((cell_of m n).read x) old new r) (sym (ap shape_of is ∙ view)) told
 
-  pub text_told : s ≡ shapes.AnyText → Tells m space (kept_as m signs.Text n) old new r → Tells m space ((cell_of m n).read (shape_of s)) old new r
+  pub text_told : s ≡ shapes.AnyText → Tells m space (kept_whole m n) old new r → Tells m space ((cell_of m n).read (shape_of s)) old new r
   text_told is told =
       let view : shape_of shapes.AnyText ≡ any_text = search (rules, rows.the_lemmas) in
       subst (λ x. Tells m space ((cell_of m n).read x) old new r) (sym (ap shape_of is ∙ view))

@@ -78,7 +78,7 @@ read_word at bytes (either first second) =
 read_word at bytes (list_of op row) = None
 read_word at bytes (tagged word op row) = None
 read_word at bytes unread = kept_word at signs.Unread bytes
-read_word at bytes any_text = kept_word at signs.Text bytes
+read_word at bytes any_text = kept_string at bytes
 
 -- a string by a shape
 unfoldable pub read_string : Spot → List ℕ → Shape → Option (Reading (Term Word))

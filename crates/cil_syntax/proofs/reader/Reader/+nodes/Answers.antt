@@ -79,8 +79,8 @@ read_node-returns-in-Unread t c =
 
 pub read_node-returns-in-AnyText : goal.read_node-returns-in-AnyText
 read_node-returns-in-AnyText t c =
-    text_told c.args.self.now.number (space_of c.args.self.now.place.now) (node_of c.args.self.now.text.now c.args.node.now) c.args.shape.now _ _ c.keep_text.result c.in-AnyText.is
-    (c.keep_text.ensures c.args.faults.now.items)
+    text_told c.args.self.now.number (space_of c.args.self.now.place.now) (node_of c.args.self.now.text.now c.args.node.now) c.args.shape.now _ _ c.keep_whole.result c.in-AnyText.is
+    (c.keep_whole.ensures c.args.faults.now.items)
 
 pub read_row-returns-in-Anything : goal.read_row-returns-in-Anything
 read_row-returns-in-Anything t c = anything_told c.args.self.now.number (space_of c.args.self.now.place.now) _ c.args.row.now _ c.new.result c.in-Anything.is c.new.ensures.items
