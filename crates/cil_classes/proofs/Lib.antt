@@ -2,6 +2,7 @@ pub mod BitLemmas
 pub mod ClassRowLemmas
 pub mod CommonLemmas
 pub mod GivenLemmas
+pub mod LeastLemmas
 pub mod MaskLemmas
 pub mod OutsideLemmas
 pub mod PermLemmas

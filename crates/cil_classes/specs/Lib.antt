@@ -1,6 +1,8 @@
 pub mod ClassRows
 pub mod Commons
 pub mod Faults
+pub mod Given
+pub mod Least
 pub mod Masks
 pub mod Numbers
 pub mod Pairs

@@ -11,6 +11,7 @@ mod checked;
 mod commons;
 mod expression;
 mod given;
+pub mod laws;
 mod mask;
 mod perms;
 mod row;
