@@ -1,3 +1,4 @@
+pub mod Assigned
 pub mod ClassRows
 pub mod Commons
 pub mod Faults

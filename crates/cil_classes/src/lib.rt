@@ -7,6 +7,7 @@
 //! made of masks a crate above.
 #![tactic(auto)]
 
+mod assigned;
 mod checked;
 mod commons;
 mod expression;
