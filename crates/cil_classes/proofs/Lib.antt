@@ -5,8 +5,10 @@ pub mod CommonLemmas
 pub mod GivenLemmas
 pub mod LeastLemmas
 pub mod MaskLemmas
+pub mod NodeLemmas
 pub mod OutsideLemmas
 pub mod PermLemmas
+pub mod TiedLemmas
 pub mod ValueExamples
 pub mod ValueLemmas
 pub mod WidthLemmas

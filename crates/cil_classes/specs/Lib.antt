@@ -5,9 +5,12 @@ pub mod Faults
 pub mod Given
 pub mod Least
 pub mod Masks
+pub mod NodeOrder
+pub mod Nodes
 pub mod Numbers
 pub mod Pairs
 pub mod Perms
 pub mod Row
+pub mod Tied
 pub mod Values
 pub mod Widths

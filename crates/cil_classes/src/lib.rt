@@ -14,6 +14,7 @@ mod expression;
 mod given;
 pub mod laws;
 mod mask;
+mod nodes;
 mod perms;
 mod row;
 mod rows;
