@@ -2,11 +2,15 @@ pub mod AssignLemmas
 pub mod BitLemmas
 pub mod ClassRowLemmas
 pub mod CommonLemmas
+pub mod EntryForLemmas
+pub mod FormedLemmas
 pub mod GivenLemmas
+pub mod LeadLemmas
 pub mod LeastLemmas
 pub mod MaskLemmas
 pub mod NodeLemmas
 pub mod OutsideLemmas
+pub mod PartLemmas
 pub mod PermLemmas
 pub mod TiedLemmas
 pub mod ValueExamples

@@ -9,6 +9,7 @@ pub mod NodeOrder
 pub mod Nodes
 pub mod Numbers
 pub mod Pairs
+pub mod Parts
 pub mod Perms
 pub mod Row
 pub mod Tied

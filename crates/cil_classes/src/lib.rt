@@ -15,6 +15,7 @@ mod given;
 pub mod laws;
 mod mask;
 mod nodes;
+mod parts;
 mod perms;
 mod row;
 mod rows;
