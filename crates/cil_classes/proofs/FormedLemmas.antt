@@ -7,7 +7,7 @@ use Rattle.cil_base.specs.Lists.{Lists, text_cmp}
 use Rattle.cil_base.specs.Places.{get_contains, some_at}
 use Rattle.cil_faults.specs.Spots.{spot_at}
 use Rattle.cil_faults.specs.declared.spot.Spot.{Spot}
-use Rattle.cil_syntax.specs.Forms.{IsClassForm, class_form, leaf_of}
+use Rattle.cil_syntax.specs.Forms.{IsClassForm, class_form, leaf_of, word_and_term}
 use Rattle.cil_syntax.specs.Kinds.{is_wanted}
 use Rattle.cil_syntax.specs.declared.kind.Kind.{Kind}
 use Rattle.cil_syntax.specs.declared.kind.Kind.TheVariants as kinds
@@ -19,10 +19,10 @@ use Rattle.cil_syntax.specs.declared.term.Term as rust
 use Rattle.cil_syntax.specs.declared.term.Word.{Word}
 use Rattle.cil_syntax.specs.Said.{all_said, said_of, word_in}
 use Rattle.cil_syntax.specs.Scopes.{ScopedWord}
-use Rattle.cil_syntax.specs.Terms.{Term, Leaf, Name, Form, nil, cons}
+use Rattle.cil_syntax.specs.Terms.{Term, Leaf, Name, Form, Terms, nil, cons}
 use Rattle.cil_syntax.proofs.SaidLemmas.{form_said, leaf_said, name_said}
-use Rattle.cil_macros.specs.Item.{Item, words_in}
-use Rattle.cil_macros.proofs.FormLemmas.{across, class_across, form_across, leaf_across, name_across}
+use Rattle.cil_macros.specs.Item.{Item, all_replaced, replaced, words_in}
+use Rattle.cil_macros.proofs.FormLemmas.{across, all_across, class_across, form_across, leaf_across, name_across}
 use Rattle.cil_names.specs.declared.known.Known.{Known}
 use Rattle.cil_names.specs.Known.{BeginWith, IsKnown, enabled_in, meant_in, value_in}
 use Rattle.cil_names.specs.PermissionWords.{listed_for}
@@ -36,7 +36,7 @@ use Rattle.cil_classes.specs.Numbers.{AreNumbered}
 use Rattle.cil_classes.specs.Parts.{AreAmong, AreNodes, IsEntryFor, IsForm}
 use Rattle.cil_classes.proofs.EntryForLemmas.{its_permissions, list_for}
 use Rattle.cil_classes.proofs.GivenLemmas.{numbers_behind}
-use Rattle.std.proofs.lemmas.Option.{same_Some}
+use Rattle.std.proofs.lemmas.Option.{none-some, same_Some}
 use Rattle.cil_names.specs.declared.entry.Entry.{Entry}
 
 -- ---- forms
@@ -109,3 +109,32 @@ module _ (k : Known) (xs : List Item) (names : Kind → List (List ℕ)) (known 
 
   pub rising_there : IsStrictlySortedBy text_cmp (listed_at k.permissions.now d)
   rising_there = (its_permissions k xs names known w d for.entry for.means for.at (ap (is_wanted signs.Classes) for.of_kind)).rising
+
+-- ---- the terms of statements
+
+one_term : (t : Term Word) → word_and_term (cons t nil) ≡ None
+one_term (Leaf w) = refl
+one_term (Name at bytes) = refl
+one_term (Form at op parts) = refl
+
+three_terms : (a b c : Term Word) (ts : Terms Word) → word_and_term (cons a (cons b (cons c ts))) ≡ None
+three_terms (Leaf w) b c ts = refl
+three_terms (Name at bytes) b c ts = refl
+three_terms (Form at op parts) b c ts = refl
+
+pub no_word_and_term : (m : ℕ) (ts : List rust.Term) → (length ts ≡ 2 → ⊥) → word_and_term (all_said m ts) ≡ None
+no_word_and_term m [] other = refl
+no_word_and_term m (a ∷ []) other = one_term (said_of m a)
+no_word_and_term m (a ∷ b ∷ []) other = absurd (other refl)
+no_word_and_term m (a ∷ b ∷ c ∷ ts) other = three_terms (said_of m a) (said_of m b) (said_of m c) (all_said m ts)
+
+module _ (f : Word → ScopedWord) where
+  pub set_across : (w : Word) (t : Term Word) → all_across f (cons (Leaf w) (cons t nil)) ≡ cons (Leaf (f w)) (cons (across f t) nil)
+  unfolding all_replaced
+  set_across w t = refl
+
+  pub no_leaf_across : (t : Term Word) → leaf_of t ≡ None → leaf_of (across f t) ≡ None
+  unfolding replaced
+  no_leaf_across (Leaf w) e = absurd (none-some w (sym e))
+  no_leaf_across (Name at bytes) e = refl
+  no_leaf_across (Form at op parts) e = refl

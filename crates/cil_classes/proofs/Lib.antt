@@ -5,6 +5,8 @@ pub mod CommonLemmas
 pub mod EntryForLemmas
 pub mod FormedLemmas
 pub mod GivenLemmas
+pub mod GivensLemmas
+pub mod GivingLemmas
 pub mod LeadLemmas
 pub mod LeastLemmas
 pub mod MaskLemmas

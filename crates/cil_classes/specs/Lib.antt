@@ -3,6 +3,7 @@ pub mod ClassRows
 pub mod Commons
 pub mod Faults
 pub mod Given
+pub mod Givings
 pub mod Least
 pub mod Masks
 pub mod NodeOrder

@@ -12,6 +12,7 @@ mod checked;
 mod commons;
 mod expression;
 mod given;
+mod givens;
 pub mod laws;
 mod mask;
 mod nodes;
