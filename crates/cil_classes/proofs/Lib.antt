@@ -7,6 +7,7 @@ pub mod FormedLemmas
 pub mod GivenLemmas
 pub mod GivensLemmas
 pub mod GivingLemmas
+pub mod HeldLemmas
 pub mod LeadLemmas
 pub mod LeastLemmas
 pub mod MaskLemmas

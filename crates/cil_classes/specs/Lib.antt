@@ -4,6 +4,7 @@ pub mod Commons
 pub mod Faults
 pub mod Given
 pub mod Givings
+pub mod Held
 pub mod Least
 pub mod Masks
 pub mod NodeOrder

@@ -13,6 +13,7 @@ mod commons;
 mod expression;
 mod given;
 mod givens;
+mod held;
 pub mod laws;
 mod mask;
 mod nodes;
