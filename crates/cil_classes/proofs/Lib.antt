@@ -14,7 +14,7 @@ pub mod MaskLemmas
 pub mod NodeLemmas
 pub mod OutsideLemmas
 pub mod PartLemmas
-pub mod PermLemmas
+pub mod PushLemmas
 pub mod TiedLemmas
 pub mod ValueExamples
 pub mod ValueLemmas

@@ -98,6 +98,19 @@ module _ (k : Known) (xs : List Item) (names : Kind → List (List ℕ)) (known 
       let one : f.entry ≡ g.entry = same_Some f.entry g.entry (sym f.at ∙ ap (slice_get k.lookup.names.now) same ∙ g.at) in
       sym f.of_kind ∙ ap (λ (x : Entry). x.kind) one ∙ g.of_kind
 
+  -- a list on a class leads to no holder
+  pub never_both : (cp : Term ScopedWord) (c : Symbol) (p : List ℕ) (h : Holder) → Direct xs (enabled_in k) cp c p → Leads xs (enabled_in k) cp h → ⊥
+  never_both cp c p h d leads =
+      let first = parts_of_direct xs (enabled_in k) cp c p d in
+      elim (parts_of_lead xs (enabled_in k) cp h leads) [
+        | inl by_name ↦ form_no_leaf cp first.word first.expression by_name.word first.form by_name.is
+        | inr by_map ↦
+            let same = same_Some (by_map.word, by_map.expression) (first.word, first.expression) (sym by_map.form ∙ first.form) in
+            let stands = subst (λ u. StandsFor xs (enabled_in k) kinds.ClassMap u by_map.symbol) (ap (λ p. p.0) same) by_map.stands in
+            let kinds_same : kinds.Class ≡ kinds.ClassMap = one_kind_of kinds.Class kinds.ClassMap refl refl first.word c by_map.symbol first.stands stands in
+            absurd cc
+      ]
+
   -- two declared classes of one name are one
   pub one_class : AreApart k.lookup.names.now (enabled_in k) k.numbers.now → (c d : Symbol) → Declared xs (enabled_in k) kinds.Class c → Declared xs (enabled_in k) kinds.Class d → name_of c ≡ name_of d
       → c ≡ d
@@ -182,16 +195,7 @@ module _ (k : Known) (xs : List Item) (names : Kind → List (List ℕ)) (known 
           has_it c p pair same = subst (λ t. has_permission xs t p ≡ true) same (has_direct xs (enabled_in k) cp c p pair)
 
           never : (h : Holder) → Leads xs (enabled_in k) cp h → ⊥
-          never h leads =
-              let first = parts_of_direct xs (enabled_in k) cp given.symbol given.some.0 (as_direct xs (enabled_in k) cp given.symbol given.some.0 given.some.1) in
-              elim (parts_of_lead xs (enabled_in k) cp h leads) [
-                | inl by_name ↦ form_no_leaf cp first.word first.expression by_name.word first.form by_name.is
-                | inr by_map ↦
-                    let same = same_Some (by_map.word, by_map.expression) (first.word, first.expression) (sym by_map.form ∙ first.form) in
-                    let stands = subst (λ u. StandsFor xs (enabled_in k) kinds.ClassMap u by_map.symbol) (ap (λ p. p.0) same) by_map.stands in
-                    let kinds_same : kinds.Class ≡ kinds.ClassMap = one_kind_of kinds.Class kinds.ClassMap refl refl first.word given.symbol by_map.symbol first.stands stands in
-                    absurd cc
-              ]
+          never h leads = never_both cp given.symbol given.some.0 h (as_direct xs (enabled_in k) cp given.symbol given.some.0 given.some.1) leads
 
       -- any other class permission
       pub no_part : (part : Part) → GivesNothing xs (enabled_in k) cp → AreLed k xs nodes cp part.from.items → part.mask ≡ 0 → IsPartIn k xs rows nodes part cp

@@ -13,6 +13,7 @@ pub mod Numbers
 pub mod Pairs
 pub mod Parts
 pub mod Perms
+pub mod Pushed
 pub mod Row
 pub mod Tied
 pub mod Values

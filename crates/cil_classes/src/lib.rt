@@ -25,5 +25,7 @@ mod widths;
 
 pub use checked::classes;
 pub use given::{GivenMask, given_by};
+pub use held::{ClassMasks, GivenPermissions, given_permissions};
+pub use nodes::Node;
 pub use perms::{expand_perms, push_perms};
 pub use row::{Class, ClassId, Classes};
