@@ -1,7 +1,6 @@
 -- What class permissions and map permissions are given, as masks.
-use Rattle.std.specs.Prelude.{◌⊎◌, ◌↔◌, Contains, IsBitSet, IsPermutation, All, bit_or, set}
-use Rattle.std.specs.List.{flat_map}
-use Rattle.std.proofs.Common.{◌≡◌, ℕ, ◌+◌, ◌<◌, ◌≤◌, false, List, [], ◌∷◌, ◌++◌, length, map, take, drop, get_or, refl, sym, ◌∙◌, ap, subst, inl, inr, arith}
+use Rattle.std.specs.Prelude.{◌⊎◌, Contains, IsBitSet, IsPermutation, All, bit_or, set}
+use Rattle.std.proofs.Common.{◌≡◌, ℕ, ◌+◌, ◌<◌, ◌≤◌, List, [], ◌∷◌, ◌++◌, length, take, drop, get_or, refl, sym, ◌∙◌, ap, subst, inl, inr, arith}
 use Rattle.std.proofs.lemmas.Bool.{cases_eq}
 use Rattle.std.proofs.lemmas.List.{get_or_default, get_or-set_other, get_or-set_same, get_or-replicate, length-set, take-append-le, take_all, take_more}
 use Rattle.std.proofs.lemmas.List.Elements.{Contains-append_left, Contains-append_right, Contains-append_cases}
@@ -14,7 +13,7 @@ use Rattle.cil_settle.specs.Settled.{leads_within}
 use Rattle.cil_classes.proofs.BitLemmas.{none_set, set_in_either}
 use Rattle.cil_settle.specs.Spread.{Flows, IsSpread, begins, goes_on, mask_at}
 use Rattle.cil_classes.specs.declared.assigned.Given.{Given}
-use Rattle.cil_classes.specs.Assigned.{AreEdges, AreMasks, AreStarted, Has, IsAdded, IsOwn, IsWithin, all_edges, edge_to, edges_to, own, through}
+use Rattle.cil_classes.specs.Assigned.{AreEdges, AreMasks, AreStarted, Has, IsAdded, IsWithin, all_edges, edge_to, edges_to, own, through}
 
 -- ---- edges
 
@@ -46,8 +45,7 @@ added class_ g masks old within is same = record {
   bits = λ v bit. elim (cases_eq v g.to) [
     | inl e ↦
         let here : mask_at (set masks g.to (bit_or old g.part.mask)) v ≡ bit_or (mask_at masks v) g.part.mask =
-        ap (mask_at (set masks g.to (bit_or old g.part.mask))) e ∙ get_or-set_same masks g.to (bit_or old g.part.mask) 0 within ∙ ap (λ k. bit_or k g.part.mask) (is ∙ ap (mask_at masks) (sym e)) in
-        (
+        ap (mask_at (set masks g.to (bit_or old g.part.mask))) e ∙ get_or-set_same masks g.to (bit_or old g.part.mask) 0 within ∙ ap (λ k. bit_or k g.part.mask) (is ∙ ap (mask_at masks) (sym e)) in (
           λ b. elim ((set_in_either (mask_at masks v) g.part.mask bit).0 (subst (λ k. IsBitSet k bit) here b)) [ inl c ↦ inl c | inr c ↦ inr (same, sym e, c) ],
           λ d. subst (λ k. IsBitSet k bit) (sym here) ((set_in_either (mask_at masks v) g.part.mask bit).1 (elim d [ inl c ↦ inl c | inr t ↦ inr t.2 ])),
         )

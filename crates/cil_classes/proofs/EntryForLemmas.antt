@@ -1,5 +1,5 @@
 -- The entry of the symbol for which a word stands, of a kind without aliases and attributes.
-use Rattle.std.specs.Prelude.{Option, Some, None, if◌then◌else◌, slice_get, Contains}
+use Rattle.std.specs.Prelude.{Some, if◌then◌else◌, slice_get, Contains}
 use Rattle.std.specs.Option.{option_map_or}
 use Rattle.std.proofs.Common.{◌≡◌, ℕ, true, List, [], refl, sym, ◌∙◌, ap, subst}
 use Rattle.std.proofs.lemmas.Option.{same_Some}

@@ -1,9 +1,9 @@
 -- Class permissions by their forms: words, names and lists; and the meanings of their words.
-use Rattle.std.specs.Prelude.{Option, Some, None, Contains, slice_get}
+use Rattle.std.specs.Prelude.{Option, Some, None, slice_get}
 use Rattle.std.specs.Global.{Vec}
 use Rattle.std.specs.List.Sorted.{IsStrictlySortedBy}
 use Rattle.std.proofs.Common.{◌≡◌, ℕ, ◌<◌, ◌≤◌, List, [], ◌∷◌, ◌++◌, drop, get_or, length, map, refl, sym, ◌∙◌, ap, subst, arith}
-use Rattle.cil_base.specs.Lists.{Lists, text_cmp}
+use Rattle.cil_base.specs.Lists.{text_cmp}
 use Rattle.cil_base.specs.Places.{get_contains, some_at}
 use Rattle.cil_faults.specs.Spots.{spot_at}
 use Rattle.cil_faults.specs.declared.spot.Spot.{Spot}
@@ -24,7 +24,7 @@ use Rattle.cil_syntax.proofs.SaidLemmas.{form_said, leaf_said, name_said}
 use Rattle.cil_macros.specs.Item.{Item, all_replaced, replaced, words_in}
 use Rattle.cil_macros.proofs.FormLemmas.{across, all_across, class_across, form_across, leaf_across, name_across}
 use Rattle.cil_names.specs.declared.known.Known.{Known}
-use Rattle.cil_names.specs.Known.{BeginWith, IsKnown, enabled_in, meant_in, value_in}
+use Rattle.cil_names.specs.Known.{BeginWith, IsKnown, meant_in, value_in}
 use Rattle.cil_names.specs.PermissionWords.{listed_for}
 use Rattle.cil_names.specs.Resolves.{wanted_in}
 use Rattle.cil_names.specs.Unresolved.{listed_at, term_with}

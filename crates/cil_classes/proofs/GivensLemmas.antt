@@ -1,11 +1,11 @@
 -- The nodes of what statements give something to, and what they give, as lists.
-use Rattle.std.specs.Prelude.{Contains, IsPermutation, MatchOption, Option, Some, None, slice_get}
+use Rattle.std.specs.Prelude.{Contains, IsPermutation, Option, Some, None, slice_get}
 use Rattle.std.specs.List.Retain.{DiffersFromLast, IsFiltered}
 use Rattle.std.specs.List.Sorted.{IsSorted, IsStrictlySortedBy}
 use Rattle.std.specs.Global.{Vec}
 use Rattle.std.specs.Option.{option_map_or}
 use Rattle.std.specs.Ordering.{eq_by_cmp}
-use Rattle.std.proofs.Common.{◌≡◌, ℕ, true, List, [], ◌∷◌, refl, sym, ◌∙◌, ap, subst}
+use Rattle.std.proofs.Common.{◌≡◌, ℕ, true, List, [], refl, sym, ◌∙◌, ap, subst}
 use Rattle.std.proofs.lemmas.Option.{none-some, same_Some}
 use Rattle.cil_base.proofs.SortedLists.{sorted_list}
 use Rattle.cil_base.specs.Lists.{Lists, text_cmp}
@@ -32,9 +32,9 @@ use Rattle.cil_classes.specs.declared.givens.Giving.{Giving}
 use Rattle.cil_classes.specs.declared.nodes.Node.{Node}
 use Rattle.cil_classes.specs.declared.row.Class.{Class}
 use Rattle.cil_classes.specs.Given.{Holder, IsGiven, by_mapping, by_set, mapped, named}
-use Rattle.cil_classes.specs.Givings.{Gift, GivesTo, HaveNodes, IsGivenBy, IsGivenFor, IsGivingOf, IsNodeFor}
+use Rattle.cil_classes.specs.Givings.{GivesTo, HaveNodes, IsGivenBy, IsGivenFor, IsGivingOf, IsNodeFor}
 use Rattle.cil_classes.specs.NodeOrder.{node_cmp, node_total, one_node, same_node}
-use Rattle.cil_classes.specs.Nodes.{IsBitOf, IsEntryOf, IsNode, IsNodeIn, StandsAs}
+use Rattle.cil_classes.specs.Nodes.{IsBitOf, IsEntryOf, IsNodeIn, StandsAs}
 use Rattle.cil_classes.specs.Parts.{AreNodes, IsPartIn}
 use Rattle.cil_classes.specs.Tied.{AreGivens, IsThere}
 use Rattle.cil_classes.proofs.EntryForLemmas.{same_entry}

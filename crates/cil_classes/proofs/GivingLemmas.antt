@@ -1,15 +1,13 @@
 -- What a statement gives, by the meanings of its words.
-use Rattle.std.specs.Prelude.{Contains, MatchOption, Option, Some, None, if◌then◌else◌, option_map, slice_get}
-use Rattle.std.proofs.Common.{◌≡◌, ℕ, ◌<◌, ◌≤◌, Bool, true, false, List, [], ◌∷◌, ◌++◌, drop, get_or, length, map, refl, sym, ◌∙◌, ap, subst, arith}
+use Rattle.std.specs.Prelude.{Contains, Option, Some, None, if◌then◌else◌, slice_get}
+use Rattle.std.proofs.Common.{◌≡◌, ℕ, ◌<◌, ◌≤◌, true, false, List, [], ◌∷◌, ◌++◌, drop, get_or, length, map, refl, sym, ◌∙◌, ap, subst, arith}
 use Rattle.std.proofs.lemmas.Bool.{true≢false}
 use Rattle.std.proofs.lemmas.List.{map-append}
 use Rattle.std.proofs.lemmas.Option.{none-some, same_Some}
 use Rattle.cil_base.specs.Lists.{Lists, text_cmp}
 use Rattle.cil_base.specs.Places.{get_at, get_contains, in_range, some_at}
-use Rattle.cil_base.specs.Records.{IsRecordOf}
 use Rattle.cil_syntax.specs.Forms.{leaf_of, rule_form, word_and_term}
 use Rattle.cil_syntax.specs.Kinds.{is_wanted}
-use Rattle.cil_syntax.specs.declared.kind.Keyword.{Keyword}
 use Rattle.cil_syntax.specs.declared.kind.Keyword.TheVariants as keywords
 use Rattle.cil_syntax.specs.declared.kind.Kind.{Kind}
 use Rattle.cil_syntax.specs.declared.kind.Kind.TheVariants as kinds
@@ -18,20 +16,19 @@ use Rattle.cil_syntax.specs.declared.term.Word.{Word}
 use Rattle.cil_syntax.specs.Said.{said_of}
 use Rattle.cil_syntax.specs.Scopes.{ScopedWord}
 use Rattle.cil_syntax.specs.Terms.{Term, Leaf, Terms, nil, cons}
-use Rattle.cil_macros.specs.Item.{Item, OptSet, is_enabled, all_words_in, words_in}
+use Rattle.cil_macros.specs.Item.{Item, OptSet, is_enabled, words_in}
 use Rattle.cil_macros.proofs.FormLemmas.{across, all_across, leaf_across, no_rule, no_word, rule_across}
 use Rattle.cil_names.specs.Declarations.{Symbol}
 use Rattle.cil_names.specs.declared.known.Known.{Known}
-use Rattle.cil_names.specs.Known.{BeginWith, IsKnown, StandsForNothing, enabled_in, meant_by, meant_in, value_in}
+use Rattle.cil_names.specs.Known.{IsKnown, StandsForNothing, enabled_in, meant_in, value_in}
 use Rattle.cil_names.specs.Members.{StandsFor}
 use Rattle.cil_names.specs.Numbers.{symbol_of}
 use Rattle.cil_names.specs.PermissionWords.{listed_for, number_among}
 use Rattle.cil_names.specs.Resolves.{Permission as APermission, Word as AWord, all_wanted_in, has_permission, wanted_in}
 use Rattle.cil_names.specs.Unresolved.{listed_at}
 use Rattle.cil_classes.specs.declared.givens.Giving.{Giving}
-use Rattle.cil_classes.specs.declared.nodes.Node.{Node}
 use Rattle.cil_classes.specs.Given.{Holder, mapped, named}
-use Rattle.cil_classes.specs.Givings.{Gift, GivesTo, IsGivenBy, IsGivingOf, IsNodeFor, is_mapping, row_given, words_given, words_of_mapping}
+use Rattle.cil_classes.specs.Givings.{Gift, GivesTo, IsGivenBy, IsGivingOf, is_mapping, row_given, words_of_mapping}
 use Rattle.cil_classes.specs.Nodes.{IsEntryOf}
 use Rattle.cil_classes.specs.Parts.{IsEntryFor}
 use Rattle.cil_classes.specs.Tied.{IsThere}

@@ -1,9 +1,9 @@
 -- The masks that are kept say what is given to class permissions and to permissions of class maps.
-use Rattle.std.specs.Prelude.{◌↔◌, ◌⊎◌, All, Contains, IsBitSet, Some, slice_get}
+use Rattle.std.specs.Prelude.{All, Contains, IsBitSet}
 use Rattle.std.specs.List.Retain.{DiffersFromLast, IsFiltered}
 use Rattle.std.specs.List.Sorted.{IsPermutation, IsSorted, IsStrictlySortedBy}
 use Rattle.std.specs.Ordering.{eq_by_cmp, nat_cmp}
-use Rattle.std.proofs.Common.{◌≡◌, ℕ, ◌+◌, ◌<◌, ◌≤◌, Bool, List, [], ◌∷◌, ◌++◌, get_or, length, map, take, refl, sym, ◌∙◌, ap, subst, inl, inr, arith}
+use Rattle.std.proofs.Common.{◌≡◌, ℕ, ◌+◌, ◌<◌, ◌≤◌, Bool, List, [], ◌∷◌, ◌++◌, get_or, length, map, take, sym, ◌∙◌, ap, subst, inl, inr, arith}
 use Rattle.std.proofs.lemmas.List.{get_or_default, map-append, take_all, take_more}
 use Rattle.std.proofs.lemmas.List.Elements.{Contains-append_cases}
 use Rattle.std.proofs.Math.Dec.{eqb}
@@ -11,13 +11,12 @@ use Rattle.std.proofs.lemmas.Bool.Decides.{nat_tests}
 use Rattle.std.proofs.lemmas.Cmp.{nat_cmp_total}
 use Rattle.cil_base.proofs.SortedLists.{sorted_list}
 use Rattle.cil_base.specs.Paths.{same_by}
-use Rattle.cil_base.specs.Lists.{Lists, contains_cases, contains_here, contains_none}
-use Rattle.cil_base.specs.MadeLists.{contains_map, from_map}
+use Rattle.cil_base.specs.Lists.{Lists, contains_cases, contains_none}
+use Rattle.cil_base.specs.MadeLists.{from_map}
 use Rattle.cil_base.specs.Places.{in_range}
 use Rattle.cil_base.specs.Records.{AreRecordsOf}
 use Rattle.cil_syntax.specs.declared.kind.Kind.{Kind}
 use Rattle.cil_macros.specs.Item.{Item}
-use Rattle.cil_names.specs.Declarations.{Symbol}
 use Rattle.cil_names.specs.declared.known.Known.{Known}
 use Rattle.cil_names.specs.Known.{IsKnown, enabled_in}
 use Rattle.cil_classes.specs.declared.assigned.Given.{Given}
@@ -113,8 +112,7 @@ module _ (k : Known) (xs : List Item) (names : Kind → List (List ℕ)) (known 
     all = λ holder symbol p there holds.
         let (g, cg, node, part) = givens_are.each holder holds.given holds.is_given there in
         let root = root_of xs (enabled_in k) (IsNodeIn k nodes) (IsBitOf xs (enabled_in k) rows) givens givens_are holder symbol p holds.given there holds.is_given holds.gives in
-        let (h, ch, same) = held.all root.given root.among (λ zero. none_set root.bit (subst (λ j. IsBitSet j root.bit) zero root.set)) in
-        (
+        let (h, ch, same) = held.all root.given root.among (λ zero. none_set root.bit (subst (λ j. IsBitSet j root.bit) zero root.set)) in (
           (g.to, subst (λ ns. IsNodeIn k ns g.to holder) (sym is_nodes) node),
           record { masks = h; among = ch; bit = root.bit; is_bit = subst (λ n. IsBitOf xs (enabled_in k) rows n root.bit symbol p) (sym same) root.is_bit },
         );

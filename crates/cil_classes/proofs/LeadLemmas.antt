@@ -1,11 +1,10 @@
 -- The nodes of all to which a class permission leads.
-use Rattle.std.specs.Prelude.{◌⊎◌, ◌↔◌, ◌&&◌, Contains, Option, Some, None, slice_get}
-use Rattle.std.specs.List.Sorted.{IsStrictlySortedBy}
-use Rattle.std.proofs.Common.{◌≡◌, ℕ, ◌+◌, ◌<◌, ◌≤◌, Bool, true, false, List, [], ◌∷◌, ◌++◌, length, drop, refl, sym, ◌∙◌, ap, subst, inl, inr, arith}
+use Rattle.std.specs.Prelude.{◌⊎◌, ◌↔◌, Contains, Some, None, slice_get}
+use Rattle.std.proofs.Common.{◌≡◌, ℕ, ◌+◌, ◌<◌, ◌≤◌, Bool, true, List, [], ◌∷◌, ◌++◌, length, refl, sym, ◌∙◌, ap, subst, inl, inr, arith}
 use Rattle.std.proofs.lemmas.Bool.{and_from, and_parts}
 use Rattle.std.proofs.lemmas.List.Elements.{Contains-append_left, Contains-append_right, Contains-append_cases}
 use Rattle.std.proofs.lemmas.Option.{none-some, same_Some}
-use Rattle.cil_base.specs.Lists.{Lists, contains_cases, contains_here, contains_none, text_cmp}
+use Rattle.cil_base.specs.Lists.{contains_cases, contains_here, contains_none}
 use Rattle.cil_base.specs.Places.{get_contains, some_at}
 use Rattle.cil_syntax.specs.Forms.{class_form, leaf_of}
 use Rattle.cil_syntax.specs.declared.kind.Kind.{Kind}
@@ -28,7 +27,7 @@ use Rattle.cil_names.specs.Unresolved.{listed_at}
 use Rattle.cil_classes.specs.declared.nodes.Node.{Node}
 use Rattle.cil_classes.specs.declared.nodes.Run.{Run}
 use Rattle.cil_classes.specs.Given.{Holder, mapped, named}
-use Rattle.cil_classes.specs.Nodes.{IsEntryOf, IsNode, IsNodeIn, IsRunOf, StandsAs}
+use Rattle.cil_classes.specs.Nodes.{IsEntryOf, IsNodeIn, IsRunOf, StandsAs}
 use Rattle.cil_classes.specs.Numbers.{IsHeld}
 use Rattle.cil_classes.specs.Parts.{AreAmong, AreLed, AreNodes, AreThoseUpTo, IsEntryFor, IsHeldAt}
 use Rattle.cil_classes.specs.Tied.{Leads, to_mapped, to_named}
@@ -81,8 +80,7 @@ pub all_of_run : (P : ℕ → Type 0) (run : Run) (v : ℕ) (from : List ℕ) �
 all_of_run P run v from over so u = (
   λ c. let m = (so.members u).0 c in
       let low = m.0 in
-      let less = m.1 in
-      (
+      let less = m.1 in (
         m.0,
         elim so.high [ inl l ↦ omega (arith, less, l) | inr e ↦ absurd (omega (arith, low, less, e)) ],
         m.2,
@@ -205,8 +203,7 @@ module _ (k : Known) (xs : List Item) (names : Kind → List (List ℕ)) (known 
     its_lead h leads = elim (parts_of_lead xs (enabled_in k) cp h leads) [
       | inl by_name ↦ absurd (form_no_leaf cp word expression by_name.word form by_name.is)
       | inr by_map ↦
-          let same = same_Some (by_map.word, by_map.expression) (word, expression) (sym by_map.form ∙ form) in
-          (
+          let same = same_Some (by_map.word, by_map.expression) (word, expression) (sym by_map.form ∙ form) in (
             by_map.symbol,
             by_map.permission,
             by_map.holder,

@@ -4,7 +4,7 @@ use Rattle.cil_syntax.specs.Scopes.{ScopedWord}
 use Rattle.cil_syntax.specs.Terms.{Term}
 use Rattle.cil_macros.specs.Item.{Item, OptSet}
 use Rattle.cil_names.specs.Declarations.{Symbol}
-use Rattle.cil_classes.specs.Given.{HasPair, Holder, IsGiven, mapped, named, of_class, of_map, of_name}
+use Rattle.cil_classes.specs.Given.{HasPair, Holder, mapped, named, of_class, of_map, of_name}
 use Rattle.cil_classes.specs.Least.{Assignment, Gives, HasWhatIsGiven, Holds, IsLeast, Satisfies, by_name, on_class, on_map}
 
 module _ (xs : List Item) (s : OptSet) (has : Assignment) where

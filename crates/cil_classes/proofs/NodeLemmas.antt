@@ -1,16 +1,13 @@
 -- Nodes in their order: those of an entry stand side by side, and each stands for one class permission or permission of a class map.
-use Rattle.std.specs.Prelude.{◌↔◌, Option, Some, None, Result, Ok, Err, MatchResult, IsSome, slice_get}
-use Rattle.std.specs.Global.{Vec}
+use Rattle.std.specs.Prelude.{Some, Result, Ok, Err, MatchResult, slice_get}
 use Rattle.std.specs.List.Sorted.{IsBinarySearchResult, IsNonDecreasingBy, IsPartitionPoint, IsSearchInRange, IsStrictlySortedBy}
 use Rattle.std.specs.Ordering.{nat_cmp, ordering_then}
-use Rattle.std.specs.Result.{result_ok}
 use Rattle.std.specs.declared.cmp.Ordering.{Ordering}
 use Rattle.std.specs.declared.cmp.Ordering.TheVariants.{Equal, Greater, Less}
-use Rattle.std.proofs.Common.{◌≡◌, ℕ, ◌<◌, ◌≤◌, true, false, List, length, get_or, refl, sym, ◌∙◌, ap, subst, inl, inr, arith}
+use Rattle.std.proofs.Common.{◌≡◌, ℕ, ◌<◌, ◌≤◌, true, false, List, length, get_or, refl, ◌∙◌, ap, inl, inr, arith}
 use Rattle.std.proofs.Math.Dec.{leb, ltb}
 use Rattle.std.proofs.lemmas.Bool.{cases_lt}
 use Rattle.std.proofs.lemmas.Bool.Decides.{nat_tests}
-use Rattle.std.proofs.lemmas.Option.{same_Some}
 use Rattle.cil_base.specs.Places.{get_so, in_range}
 use Rattle.cil_base.proofs.SearchLemmas.{one_number, rising_at, searched}
 use Rattle.cil_classes.specs.declared.nodes.Node.{Node}
@@ -83,8 +80,7 @@ run_is nodes d run start end = record {
       let same : (get_or nodes v n).entry ≡ n.entry = ap (λ (x : Node). x.entry) is in
       omega (arith, l, h, same);
   in_run = λ v n at same.
-      let is : (get_or nodes v n).entry ≡ n.entry = ap (λ (x : Node). x.entry) (get_so nodes v n n at) in
-      (
+      let is : (get_or nodes v n).entry ≡ n.entry = ap (λ (x : Node). x.entry) (get_so nodes v n n at) in (
         elim (cases_lt v run.start) [
           | inl less ↦ absurd (let b = start.0 v n (omega arith) less in omega (arith, b, is, same))
           | inr ge ↦ ge

@@ -1,10 +1,9 @@
 -- What a class permission gives, by numbers: permissions of a class, or all that is given to some nodes.
-use Rattle.std.specs.Prelude.{◌⊎◌, ◌↔◌, Contains, IsBitSet, Option, Some, None, slice_get}
+use Rattle.std.specs.Prelude.{Contains, IsBitSet, Some, slice_get}
 use Rattle.std.specs.Option.{option_map}
-use Rattle.std.specs.List.Sorted.{IsStrictlySortedBy}
-use Rattle.std.proofs.Common.{◌≡◌, ℕ, true, List, [], ◌∷◌, get_or, map, refl, sym, ◌∙◌, ap, subst, inl, inr}
+use Rattle.std.proofs.Common.{◌≡◌, ℕ, true, List, [], get_or, refl, sym, ◌∙◌, ap, subst, inl, inr}
 use Rattle.std.proofs.lemmas.Bool.{and_parts}
-use Rattle.std.proofs.lemmas.Option.{none-some, same_Some, slice_get-map}
+use Rattle.std.proofs.lemmas.Option.{same_Some, slice_get-map}
 use Rattle.cil_base.specs.Lists.{Lists, contains_none, text_cmp}
 use Rattle.cil_base.proofs.NameSearches.{number_is}
 use Rattle.cil_base.specs.Places.{get_at, get_contains}
@@ -13,7 +12,7 @@ use Rattle.cil_syntax.specs.Forms.{class_form}
 use Rattle.cil_syntax.specs.Kinds.{is_wanted}
 use Rattle.cil_syntax.specs.declared.kind.Kind.{Kind}
 use Rattle.cil_syntax.specs.declared.kind.Kind.TheVariants as kinds
-use Rattle.cil_syntax.specs.Scopes.{ScopedWord, asked}
+use Rattle.cil_syntax.specs.Scopes.{ScopedWord}
 use Rattle.cil_syntax.specs.Terms.{Term}
 use Rattle.cil_macros.specs.Item.{Item, OptSet}
 use Rattle.cil_names.proofs.AnswerLemmas.{one_entry}
@@ -31,11 +30,10 @@ use Rattle.cil_names.specs.Resolves.{has_permission}
 use Rattle.cil_classes.specs.ClassRows.{AreClasses}
 use Rattle.cil_classes.specs.Given.{Holder}
 use Rattle.cil_classes.specs.Masks.{GivesNothing, IsGiven}
-use Rattle.cil_classes.specs.Nodes.{IsBitOf, IsNodeIn}
 use Rattle.cil_classes.specs.Pairs.{HasPair, of_class}
-use Rattle.cil_classes.specs.Parts.{AreLed, AreNodes, IsPartIn}
-use Rattle.cil_classes.specs.Tied.{Direct, IsPart, Leads, direct}
-use Rattle.cil_classes.specs.Values.{in_value, in_value_there}
+use Rattle.cil_classes.specs.Parts.{AreLed, IsPartIn}
+use Rattle.cil_classes.specs.Tied.{Direct, Leads, direct}
+use Rattle.cil_classes.specs.Values.{in_value_there}
 use Rattle.cil_classes.specs.declared.assigned.Part.{Part}
 use Rattle.cil_classes.specs.declared.nodes.Node.{Node}
 use Rattle.cil_classes.specs.declared.row.Class.{Class}
@@ -71,8 +69,7 @@ module _ (k : Known) (xs : List Item) (names : Kind → List (List ℕ)) (known 
   -- a declared class has an entry
   its_entry : (c : Symbol) (kind : Kind) → Declared xs (enabled_in k) kind c → (d : ℕ) × IsEntryFor k.lookup.namespaces.now k.lookup.names.now (enabled_in k) kind c.space c.name d
   its_entry c kind declared =
-      let (i, f) = known.entries.each (enabled_in k) declared.declaration declared.declares in
-      (
+      let (i, f) = known.entries.each (enabled_in k) declared.declaration declared.declares in (
         i,
         record {
           entry = f.entry;
@@ -152,11 +149,10 @@ module _ (k : Known) (xs : List Item) (names : Kind → List (List ℕ)) (known 
               let symbol = given.only_symbol c p pair in
               let row_same : is.row.name ≡ given.row.name = is.named ∙ ap name_of symbol ∙ sym given.named in
               let number : class_ ≡ n = one_row class_ n is.row given.row is.is_row given.is_row row_same in
-              let row : is.row ≡ given.row = same_Some is.row given.row (sym is.is_row ∙ ap (slice_get rows) number ∙ given.is_row) in
-              (
+              let row : is.row ≡ given.row = same_Some is.row given.row (sym is.is_row ∙ ap (slice_get rows) number ∙ given.is_row) in (
                 is_class ∙ sym number,
                 subst (λ j. IsBitSet j bit) (sym is_mask)
-                ((given.bits bit).1 (p, ap (λ (r : Class). slice_get r.permissions bit) (sym row) ∙ is.at, subst (λ t. HasPair xs (enabled_in k) cp t p) symbol pair)),
+                    ((given.bits bit).1 (p, ap (λ (r : Class). slice_get r.permissions bit) (sym row) ∙ is.at, subst (λ t. HasPair xs (enabled_in k) cp t p) symbol pair)),
               ),
           λ both.
               let number : n ≡ class_ = sym is_class ∙ both.0 in

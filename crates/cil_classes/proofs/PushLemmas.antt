@@ -1,9 +1,9 @@
 -- The masks of a class permission: those of a list on a class, or the unions of the masks of some nodes.
-use Rattle.std.specs.Prelude.{◌⊎◌, ◌↔◌, Contains, IsBitSet, Some, bit_or, slice_get}
+use Rattle.std.specs.Prelude.{Contains, IsBitSet, Some, bit_or, slice_get}
 use Rattle.std.specs.List.Sorted.{IsStrictlySortedBy}
 use Rattle.std.specs.Ordering.{nat_cmp, on}
 use Rattle.std.specs.declared.cmp.Ordering.TheVariants.{Less}
-use Rattle.std.proofs.Common.{◌≡◌, ℕ, ◌+◌, ◌<◌, ◌≤◌, List, [], ◌∷◌, ◌++◌, get_or, length, map, take, refl, sym, ◌∙◌, ap, subst, inl, inr, append-nil, append_assoc, arith}
+use Rattle.std.proofs.Common.{◌≡◌, ℕ, ◌+◌, ◌<◌, ◌≤◌, List, [], ◌∷◌, ◌++◌, get_or, length, map, take, refl, sym, ◌∙◌, ap, subst, inl, inr, append-nil, append_assoc}
 use Rattle.std.proofs.lemmas.List.{map-append, take_all, take_more}
 use Rattle.std.proofs.lemmas.List.Elements.{Contains-append_left, Contains-append_right, Contains-append_cases}
 use Rattle.std.proofs.lemmas.Option.{same_Some}
@@ -27,11 +27,11 @@ use Rattle.cil_classes.specs.declared.held.GivenPermissions.{GivenPermissions}
 use Rattle.cil_classes.specs.declared.row.Class.{Class}
 use Rattle.cil_classes.specs.declared.row.ClassId.{ClassId}
 use Rattle.cil_classes.specs.ClassRows.{AreClasses}
-use Rattle.cil_classes.specs.Given.{HasPair, Holder}
+use Rattle.cil_classes.specs.Given.{HasPair}
 use Rattle.cil_classes.specs.Held.{IsAssigned}
 use Rattle.cil_classes.specs.Nodes.{IsBitOf}
 use Rattle.cil_classes.specs.Parts.{IsPartIn}
-use Rattle.cil_classes.specs.Perms.{AreAdded, AreMasksOf, IsAmong, IsMaskOfClass}
+use Rattle.cil_classes.specs.Perms.{AreAdded, AreMasksOf, IsMaskOfClass}
 use Rattle.cil_classes.specs.Pushed.{ArePushed, AreUnions, IsInSome, IsPushed, IsUnionOf}
 use Rattle.cil_classes.specs.Tied.{Direct}
 use Rattle.cil_classes.proofs.BitLemmas.{none_set, set_in_either}
@@ -47,8 +47,7 @@ no_union masks (v ∷ vs) bit = (λ s. absurd (none_set bit s), λ i. absurd (co
 
 pub more_union : (masks from : List ℕ) (i d a b : ℕ) → i < length from → (v : ℕ) → v ≡ get_or from i d → b ≡ mask_at masks v → IsUnionOf masks (take i from) a → IsUnionOf masks (take (i + 1) from) (bit_or a b)
 more_union masks from i d a b within v is at so bit =
-    let next : take (i + 1) from ≡ take i from ++ v ∷ [] = take_more from i d within ∙ ap (λ x. take i from ++ x ∷ []) (sym is) in
-    (
+    let next : take (i + 1) from ≡ take i from ++ v ∷ [] = take_more from i d within ∙ ap (λ x. take i from ++ x ∷ []) (sym is) in (
       λ s. elim ((set_in_either a b bit).0 s) [
         | inl before ↦ let u = (so bit).0 before in record { node = u.node; among = subst (λ l. Contains l u.node) (sym next) (Contains-append_left (take i from) (v ∷ []) u.node u.among); set = u.set }
         | inr here ↦ record {
@@ -222,8 +221,7 @@ module _ (k : Known) (xs : List Item) (names : Kind → List (List ℕ)) (known 
       bits = λ bit. (
         λ set.
             let (c, p, is) = is_part.of_bit bit set in
-            let pair = of_direct xs (enabled_in k) cp c p ((is_part.bits part.class bit c p is).1 (refl, set)) in
-            (
+            let pair = of_direct xs (enabled_in k) cp c p ((is_part.bits part.class bit c p is).1 (refl, set)) in (
               p,
               in_row part.class its_bit.0 bit first_bit.0 c first_bit.1 p first_bit.2 is,
               subst (λ d. HasPair xs (enabled_in k) cp d p) (same_symbol part.class bit its_bit.0 c first_bit.0 p first_bit.1 is first_bit.2) pair,
@@ -271,8 +269,7 @@ module _ (k : Known) (xs : List Item) (names : Kind → List (List ℕ)) (known 
     its_pair : (h : ClassMasks) (bit : ℕ) → Contains a.held.items h → IsInSome h.masks.items part.from.items bit
         → (c : Symbol) × (p : List ℕ) × IsBitOf xs (enabled_in k) rows h.class bit c p × HasPair xs (enabled_in k) cp c p
     its_pair h bit ch in_some =
-        let said = assigned.said h in_some.node bit ch in_some.set in
-        (
+        let said = assigned.said h in_some.node bit ch in_some.set in (
           said.symbol,
           said.permission,
           said.is_bit,

@@ -1,6 +1,6 @@
 -- The bits of nodes are the permissions of what the nodes stand for.
-use Rattle.std.specs.Prelude.{◌↔◌, ◌⊎◌, ◌&&◌, Contains, IsBitSet}
-use Rattle.std.proofs.Common.{◌≡◌, ℕ, List, true, refl, sym, ◌∙◌, subst, inl, inr}
+use Rattle.std.specs.Prelude.{◌⊎◌, Contains, IsBitSet}
+use Rattle.std.proofs.Common.{ℕ, List, sym, ◌∙◌, subst, inl, inr}
 use Rattle.std.proofs.lemmas.Bool.{and_parts}
 use Rattle.cil_syntax.specs.Scopes.{ScopedWord}
 use Rattle.cil_syntax.specs.Terms.{Term}
@@ -11,7 +11,7 @@ use Rattle.cil_classes.specs.declared.assigned.Given.{Given}
 use Rattle.cil_classes.specs.Assigned.{Has, own, through}
 use Rattle.cil_classes.specs.Given.{HasPair, Holder, IsGiven, mapped, named, of_class, of_map, of_name}
 use Rattle.cil_classes.specs.Least.{Holds}
-use Rattle.cil_classes.specs.Tied.{AreExact, AreGivens, Direct, IsPart, IsThere, Leads, direct, to_mapped, to_named}
+use Rattle.cil_classes.specs.Tied.{AreExact, AreGivens, Direct, IsThere, Leads, direct, to_mapped, to_named}
 use Rattle.cil_classes.specs.Values.{in_value_there}
 use Rattle.cil_classes.proofs.ValueLemmas.{value_there}
 

@@ -1,5 +1,5 @@
 -- Which permissions of which classes nodes have, as it is kept: the masks of each class. No other crate needs these words.
-use Rattle.std.specs.Prelude.{◌≡◌, ◌↔◌, ℕ, List, Contains, IsBitSet, map}
+use Rattle.std.specs.Prelude.{◌≡◌, ℕ, List, Contains, IsBitSet, map}
 use Rattle.std.specs.Ordering.{nat_cmp}
 use Rattle.std.specs.List.Sorted.{IsStrictlySortedBy}
 use Rattle.cil_settle.specs.Spread.{mask_at}

@@ -1,5 +1,5 @@
 -- Class permissions, permissions of class maps and permissions of classes, by numbers. No other crate needs these words.
-use Rattle.std.specs.Prelude.{◌≡◌, ◌<◌, ◌≤◌, ◌↔◌, ℕ, List, Some, slice_get}
+use Rattle.std.specs.Prelude.{◌≡◌, ◌<◌, ◌≤◌, ℕ, List, Some, slice_get}
 use Rattle.std.specs.Global.{Vec}
 use Rattle.cil_base.specs.declared.bytes.Bytes.{Bytes}
 use Rattle.cil_syntax.specs.declared.kind.Kind.{Kind}

@@ -13,7 +13,7 @@ use Rattle.cil_names.specs.Resolves.{has_permission}
 use Rattle.cil_classes.specs.declared.assigned.Given.{Given}
 use Rattle.cil_classes.specs.declared.assigned.Part.{Part}
 use Rattle.cil_classes.specs.Assigned.{Has}
-use Rattle.cil_classes.specs.Given.{HasPair, Holder, IsGiven, mapped, named}
+use Rattle.cil_classes.specs.Given.{Holder, IsGiven, mapped, named}
 use Rattle.cil_classes.specs.Least.{Holds}
 use Rattle.cil_classes.specs.Values.{in_value}
 

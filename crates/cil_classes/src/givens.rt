@@ -94,7 +94,15 @@ pub fn givens_of(
 {
     let mut givens = Vec::new(alloc);
     for at in 0..instances.len() {
-        if let Some(given) = given_at(alloc, instances, at, known.words.row(at), known, classes, nodes)? {
+        if let Some(given) = given_at(
+            alloc,
+            instances,
+            at,
+            known.words.row(at),
+            known,
+            classes,
+            nodes,
+        )? {
             givens.push(given)?;
         }
     }

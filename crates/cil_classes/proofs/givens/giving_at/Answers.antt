@@ -1,6 +1,5 @@
-use Rattle.std.proofs.Common.{ap, refl, sym, ◌∙◌, true}
+use Rattle.std.proofs.Common.{ap, sym, ◌∙◌}
 use Rattle.std.proofs.lemmas.Bool.{true≢false}
-use Rattle.cil_syntax.specs.Said.{args_of}
 use Rattle.cil_macros.specs.Items.{item_at, says_as_written, word_at}
 use Rattle.cil_macros.proofs.ItemsThere.{keyword_there, said_there}
 use Rattle.cil_names.specs.Known.{enabled_in}

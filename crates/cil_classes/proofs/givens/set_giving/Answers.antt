@@ -1,4 +1,4 @@
-use Rattle.std.proofs.Common.{refl, sym, ◌∙◌}
+use Rattle.std.proofs.Common.{refl, ◌∙◌}
 use Rattle.cil_syntax.specs.Said.{args_of, said_of}
 use Rattle.cil_classes.proofs.GivingLemmas.{no_permission_named, no_set, set_given, set_meant}
 use Rattle.cil_classes.proofs.givens.set_giving.Goals as goal

@@ -1,5 +1,5 @@
 use Rattle.std.proofs.Common.{arith}
-use Rattle.cil_classes.proofs.HeldLemmas.{are_held, classes_pushed, none_held, one_held}
+use Rattle.cil_classes.proofs.HeldLemmas.{are_held, classes_pushed, one_held}
 use Rattle.cil_classes.proofs.held.held_of.Goals as goal
 
 pub loop-number-preserved : goal.loop-number-preserved

@@ -1,5 +1,4 @@
 use Rattle.std.proofs.Common.{refl}
-use Rattle.cil_syntax.specs.declared.kind.Kind.TheVariants as kinds
 use Rattle.cil_names.specs.Unresolved.{term_with}
 use Rattle.cil_classes.proofs.PartLemmas.{no_part, some_part}
 use Rattle.cil_classes.proofs.parts.part_of.Goals as goal

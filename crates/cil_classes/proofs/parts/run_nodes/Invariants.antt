@@ -1,4 +1,3 @@
-use Rattle.std.specs.Prelude.{◌≡◌}
 use Rattle.cil_classes.specs.Parts.{AreThoseUpTo}
 use Rattle.cil_classes.proofs.parts.run_nodes.Given as goal
 
