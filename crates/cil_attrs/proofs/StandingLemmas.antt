@@ -37,7 +37,12 @@ use Rattle.cil_attrs.specs.Members.{AreMembers}
 use Rattle.cil_attrs.specs.Standing.{AreAllBelow, AreBelow}
 use Rattle.cil_attrs.proofs.EvaluatedLemmas.{among_is}
 use Rattle.cil_attrs.proofs.HoldingLemmas.{word_holds}
-use Rattle.cil_attrs.proofs.MembersLemmas.{either_so}
+
+either_so : (a b c d : Bool) → (a ≡ true → c ≡ true) → (b ≡ true → d ≡ true) → (a || b) ≡ true → (c || d) ≡ true
+either_so true b true d f g h = refl
+either_so true b false d f g h = absurd (let e : false ≡ true = f refl in cc)
+either_so false b true d f g h = refl
+either_so false b false d f g h = g h
 
 -- ---- what is held below a number
 

@@ -6,9 +6,7 @@ use Rattle.std.proofs.lemmas.List.Elements.{Contains-append_cases}
 use Rattle.cil_base.specs.Lists.{contains_cases, contains_none}
 use Rattle.cil_base.specs.Places.{get_at, get_contains, none_some, some_same}
 use Rattle.cil_classes.proofs.BitLemmas.{none_set, set_in_either}
-use Rattle.cil_rules.specs.declared.rule.Rule.{Rule}
-use Rattle.cil_rules.specs.declared.rule.Target.{Target}
-use Rattle.cil_rules.specs.declared.rule.Target.TheVariants.{Types, Itself}
+use Rattle.cil_rules.specs.Rule.{Rule, Target, Types, Itself}
 use Rattle.cil_rules.specs.Covers.{HasCover, Reaches}
 use Rattle.cil_index.specs.declared.key.Entry.{Entry}
 use Rattle.cil_index.specs.declared.key.Key.{Key}

@@ -5,14 +5,16 @@ ghost use Rattle.std.specs.List.Sorted.{IsSorted};
 ghost use Rattle.cil_rules.specs.Covers.{HasCover, Reaches};
 ghost use Rattle.cil_index.specs.declared.key.Entry.{Entry as AnEntry};
 ghost use Rattle.cil_index.specs.Entries.{AreStarts, IsIndex, entry_cmp};
-ghost use Rattle.cil_index.specs.Kept.{rule_of, target_of};
+ghost use Rattle.cil_rules.specs.Kept.{target_named};
+ghost use Rattle.cil_index.specs.Kept.{rule_of};
 ghost use Rattle.cil_index.specs.Found.{CoversAt, Matches};
 ghost use Rattle.cil_index.specs.Searched.{rules_in};
 
 use crate::index::{class_part, with_key};
 use crate::key::{Entry, Key, SEVERAL, key_of_type};
-use crate::record::{Reach, Record};
+use crate::record::Record;
 use crate::sets::Sets;
+use cil_rules::Reach;
 
 /// The rules that are searched, by their records.
 #[derive(Clone, Copy)]
@@ -102,7 +104,7 @@ fn matches(sets: &Sets, asked: &Asked, kept: &Record) -> bool
 
 /// Whether a rule reaches the target.
 fn reaches(sets: &Sets, target: Reach, asked: &Asked) -> bool
-    ensures { IsTrue result ↔ Reaches (target_of sets.now target) asked.now.source asked.now.target }
+    ensures { IsTrue result ↔ Reaches (target_named sets.now target) asked.now.source asked.now.target }
 {
     match target {
         Reach::Itself => asked.source == asked.target,

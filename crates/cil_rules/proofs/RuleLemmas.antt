@@ -1,8 +1,5 @@
 -- The records of allow rules.
 use Rattle.std.specs.Prelude.{Contains, Option, Some, None}
-use Rattle.std.specs.List.Retain.{DiffersFromLast, IsFiltered}
-use Rattle.std.specs.List.Sorted.{IsPermutation, IsSorted}
-use Rattle.std.specs.Ordering.{eq_by_cmp}
 use Rattle.std.proofs.Common.{◌≡◌, ℕ, ◌++◌, true, false, List, [], ◌∷◌, drop, get_or, length, map, refl, sym, ◌∙◌, ap, subst}
 use Rattle.std.proofs.Math.Seq.{drop-append_seam}
 use Rattle.std.proofs.lemmas.Bool.{true≢false}
@@ -19,12 +16,11 @@ use Rattle.cil_syntax.specs.declared.term.Word.{Word}
 use Rattle.cil_syntax.specs.Terms.{Term, Leaf, Terms, nil, cons}
 use Rattle.cil_macros.specs.Item.{Item, OptSet, is_enabled}
 use Rattle.cil_syntax.specs.Scopes.{ScopedWord}
-use Rattle.cil_base.proofs.SortedLists.{sorted_list}
 use Rattle.cil_names.specs.declared.known.Known.{Known}
 use Rattle.cil_classes.specs.declared.row.Class.{Class}
-use Rattle.cil_rules.specs.declared.rule.Numbers.{Numbers}
-use Rattle.cil_rules.specs.declared.rule.Rule.{Rule}
-use Rattle.cil_rules.specs.declared.rule.Target.{Target}
+use Rattle.cil_rules.specs.declared.rule.NamedRule.{NamedRule}
+use Rattle.cil_rules.specs.Kept.{rule_named}
+use Rattle.cil_rules.specs.Rule.{Rule, Target}
 use Rattle.cil_rules.specs.Records.{Case, HasNumber, HasTarget, IsCase, IsRuleOf, CaseBy}
 use Rattle.cil_names.specs.Known.{AreStanding, BeginWith, HasNumberFor, IsKnown, StandsForNothing, enabled_in, meant_by, meant_in, row_in, set_meant, value_in, wanted_with}
 use Rattle.cil_names.specs.Members.{StandsFor}
@@ -32,7 +28,7 @@ use Rattle.cil_names.specs.Resolves.{Wanted, Word as AWord, all_wanted_in, wante
 use Rattle.cil_classes.specs.Pairs.{HasPair}
 use Rattle.cil_base.specs.Records.{AreRecordsOf, IsRecordOf}
 use Rattle.cil_classes.specs.Masks.{GivesNothing, IsGiven}
-use Rattle.cil_rules.specs.Order.{rule_cmp, rule_total, one_rule}
+use Rattle.cil_rules.specs.Order.{rule_cmp}
 use Rattle.cil_macros.proofs.FormLemmas.{across, all_across, no_rule, rule_across}
 use Rattle.cil_names.proofs.StandingLemmas.{nothing_stands}
 use Rattle.cil_rules.proofs.TargetLemmas.{IsReached, some_type, types_listed}
@@ -144,7 +140,7 @@ module _ (xs : List Item) (k : Known) (x : Item) where
       without_permission none c by =
           none c.class_ by.permission.0 (subst (λ t. HasPair xs (enabled_in k) t c.class_ by.permission.0) (class_of c by) by.permission.1)
 
-      module _ (types : List (List ℕ)) (classes : List Class) (sources : Numbers) (listed : Lists nat_cmp (HasNumber xs (enabled_in k) types (f source)) sources) (some : sources ≡ [] → ⊥)
+      module _ (types : List (List ℕ)) (classes : List Class) (sources : List ℕ) (listed : Lists nat_cmp (HasNumber xs (enabled_in k) types (f source)) sources) (some : sources ≡ [] → ⊥)
           (reached : Target) (is_reached : IsReached xs (enabled_in k) types (across f target) reached) (class_ mask : ℕ)
           (given : IsGiven xs (enabled_in k) classes (across f class_permission) class_ mask) where
         abbrev its_case : Case
@@ -210,12 +206,14 @@ module _ (xs : List Item) (s : OptSet) (types : List (List ℕ)) (classes : List
     permission = is.permission;
   }
 
-  pub rules_listed : (ys zs : List Rule) → IsPermutation raw ys → IsSorted rule_cmp ys → IsFiltered (DiffersFromLast (eq_by_cmp rule_cmp)) [] ys zs
-      → Gives rule_cmp (IsCase xs s keywords.Allow) (IsRuleOf xs s types classes) zs
-  rules_listed ys zs moved sorted kept =
-      let list = sorted_list rule_cmp rule_total one_rule raw ys zs moved sorted kept in
-      record {
-        rising = list.rising;
-        each = λ k is. let r = are.each is.rule.item k is.rule.is_item (of_case k is) in (r.0, r.1, (list.members r.0).1 r.2);
-        only = λ y c. let o = are.only y ((list.members y).0 c) in (o.1, as_case o.0 o.1 o.2 o.3, o.4);
-      }
+  -- a list of them in their order has the rule of each case
+  pub rules_listed : (zs : List Rule) → Lists rule_cmp (Contains raw) zs → Gives rule_cmp (IsCase xs s keywords.Allow) (IsRuleOf xs s types classes) zs
+  rules_listed zs list = record {
+    rising = list.rising;
+    each = λ k is. let r = are.each is.rule.item k is.rule.is_item (of_case k is) in (r.0, r.1, (list.members r.0).1 r.2);
+    only = λ y c. let o = are.only y ((list.members y).0 c) in (o.1, as_case o.0 o.1 o.2 o.3, o.4);
+  }
+
+-- one rule more
+pub one_more : (sets : List (List ℕ)) (old new : List NamedRule) (r : NamedRule) → new ≡ old ++ r ∷ [] → map (rule_named sets) new ≡ map (rule_named sets) old ++ rule_named sets r ∷ []
+one_more sets old new r push = ap (map (rule_named sets)) push ∙ map-append (rule_named sets) old (r ∷ [])

@@ -22,9 +22,11 @@ use Rattle.cil_syntax.specs.Scopes.{ScopedWord}
 use Rattle.cil_syntax.specs.declared.term.Word.{Word}
 use Rattle.cil_names.specs.Unresolved.{term_with}
 use Rattle.cil_names.specs.declared.known.Known.{Known}
-use Rattle.cil_rules.specs.declared.rule.Numbers.{Numbers}
-use Rattle.cil_rules.specs.declared.rule.Target.{Target}
-use Rattle.cil_rules.specs.declared.rule.Target.TheVariants as targets
+use Rattle.cil_rules.specs.declared.rule.Reach.{Reach}
+use Rattle.cil_rules.specs.declared.rule.Reach.TheVariants as reaches
+use Rattle.cil_rules.specs.Kept.{set_named, target_named}
+use Rattle.cil_rules.specs.Rule.{Target}
+use Rattle.cil_rules.specs.Rule as targets
 use Rattle.cil_rules.specs.Records.{HasNumber, HasTarget, IsTargetOf}
 use Rattle.cil_names.specs.Known.{AreStanding, BeginWith, HasNumberFor, IsKnown, enabled_in, meant_in, set_meant, value_in}
 use Rattle.cil_names.specs.Declarations.{Symbol}
@@ -86,12 +88,13 @@ module _ (k : Known) (f : Word → ScopedWord) (m : ℕ) (t : rust.Term) where
       its_set : Lists nat_cmp (HasNumberFor xs (enabled_in k) kinds.Type_ types (f (word_in m w))) (set_meant sets r)
       its_set = subst (λ q. Lists nat_cmp (HasNumberFor xs (enabled_in k) kinds.Type_ types (f (word_in m w))) (set_meant sets q)) (sym (word_means w is words begin r first)) (standing (f (word_in m w)))
 
-      pub word_reached : (kept numbers : Numbers) → kept ≡ set_meant sets r → (kept ≡ [] → ⊥) → numbers ≡ kept → IsReached xs (enabled_in k) types (term_with f m t) (targets.Types numbers)
-      word_reached kept numbers e some same =
+      pub word_reached : (d n : ℕ) → set_named sets d ≡ set_meant sets r → (set_named sets d ≡ [] → ⊥) → n ≡ d
+          → IsReached xs (enabled_in k) types (term_with f m t) (target_named sets (reaches.Types n))
+      word_reached d n e some same =
           let listed = types_listed xs (enabled_in k) types (f (word_in m w)) (set_meant sets r) its_set in
-          subst (λ u. IsReached xs (enabled_in k) types u (targets.Types numbers)) (sym (is_word w is)) (
+          subst (λ u. IsReached xs (enabled_in k) types u (targets.Types (set_named sets n))) (sym (is_word w is)) (
             some_type xs (enabled_in k) types (f (word_in m w)) (set_meant sets r) listed (λ none. some (e ∙ none)),
-            subst (Lists nat_cmp (HasNumber xs (enabled_in k) types (f (word_in m w)))) (sym (same ∙ e)) listed,
+            subst (Lists nat_cmp (HasNumber xs (enabled_in k) types (f (word_in m w)))) (sym (ap (set_named sets) same ∙ e)) listed,
           )
 
       pub word_lost : set_meant sets r ≡ [] → HasTarget xs (enabled_in k) (term_with f m t) → ⊥
@@ -104,10 +107,10 @@ module _ (k : Known) (f : Word → ScopedWord) (m : ℕ) (t : rust.Term) where
         subst (HasTarget xs (enabled_in k))
         (ap (across f) (ap (said_of m) is ∙ name_said m at bytes) ∙ name_across f (spot_at m at) bytes) h
 
-    pub form_reached : (at : ℕ) (op : Op) (parts : Vec rust.Term Global) (r : Option Target) → t ≡ variants.Form op at parts
-        → MatchOption r (op ≡ ops.Itself → ⊥) (λ target. (op ≡ ops.Itself) × (target ≡ targets.Itself))
+    pub form_reached : (sets : List (List ℕ)) (at : ℕ) (op : Op) (parts : Vec rust.Term Global) (r : Option Reach) → t ≡ variants.Form op at parts
+        → MatchOption r (op ≡ ops.Itself → ⊥) (λ reach. (op ≡ ops.Itself) × (reach ≡ reaches.Itself))
         → MatchOption r (HasTarget xs (enabled_in k) (term_with f m t) → ⊥)
-        (λ target. HasTarget xs (enabled_in k) (term_with f m t) × IsTargetOf xs (enabled_in k) types (term_with f m t) target)
-    form_reached at op parts None is other = λ h. other (subst (HasTarget xs (enabled_in k)) (is_form at op parts is) h)
-    form_reached at op parts (Some target) is itself =
-        subst (λ u. IsReached xs (enabled_in k) types u target) (sym (is_form at op parts is)) (itself.0, itself)
+        (λ reach. HasTarget xs (enabled_in k) (term_with f m t) × IsTargetOf xs (enabled_in k) types (term_with f m t) (target_named sets reach))
+    form_reached sets at op parts None is other = λ h. other (subst (HasTarget xs (enabled_in k)) (is_form at op parts is) h)
+    form_reached sets at op parts (Some reach) is itself =
+        subst (λ u. IsReached xs (enabled_in k) types u (target_named sets reach)) (sym (is_form at op parts is)) (itself.0, (itself.0, ap (target_named sets) itself.1))

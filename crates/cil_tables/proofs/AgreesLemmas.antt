@@ -13,8 +13,7 @@ use Rattle.cil_syntax.specs.declared.kind.Kind.TheVariants as kinds
 use Rattle.cil_syntax.specs.Terms.{Term, Leaf, Name, Form}
 use Rattle.cil_tables.specs.declared.context.Context.{Context as Numbers}
 use Rattle.cil_classes.specs.declared.row.Class.{Class}
-use Rattle.cil_rules.specs.declared.rule.Target.{Target}
-use Rattle.cil_rules.specs.declared.rule.Target.TheVariants.{Types, Itself}
+use Rattle.cil_rules.specs.Rule.{Target, Types, Itself}
 use Rattle.cil_tables.specs.Agrees.{Agrees, SameContext, SamePermission}
 use Rattle.cil_names.specs.Says.{AreJoined}
 use Rattle.cil_tables.specs.Contexts.{Context, IsValid}

@@ -77,7 +77,7 @@ module _ (k : Known) (types : List (List ℕ)) where
       pub all_targets : is_of (enabled_in k) kinds.TypeAlias e ≡ true → (targets : List ℕ) → get_or types d [] ≡ targets → (new : List Alias)
           → new ≡ aliases ++ map (alias_to (spelled_of k.lookup.namespaces.now e)) targets → IsLeft new
       all_targets is_alias targets same new pushed a = (
-        λ c. elim (Contains-append_cases aliases (map (alias_to (spelled_of k.lookup.namespaces.now e)) targets) a (subst (λ as. Contains as a) pushed c)) [
+        λ c. elim (Contains-append_cases aliases (map (alias_to (spelled_of k.lookup.namespaces.now e)) targets) a (subst (λ ls. Contains ls a) pushed c)) [
           | inl o ↦ inl o
           | inr m ↦ let t = from_map (alias_to (spelled_of k.lookup.namespaces.now e)) targets a m in inr (record {
             entry = e;
@@ -87,7 +87,7 @@ module _ (k : Known) (types : List (List ℕ)) where
             target = subst (λ ns. Contains ns a.target) (sym same) (subst (Contains targets) (ap (λ (b : Alias). b.target) t.2) t.1);
           })
         ],
-        λ h. subst (λ as. Contains as a) (sym pushed) (elim h [
+        λ h. subst (λ ls. Contains ls a) (sym pushed) (elim h [
           | inl o ↦ Contains-append_left aliases (map (alias_to (spelled_of k.lookup.namespaces.now e)) targets) a o
           | inr is ↦ Contains-append_right aliases (map (alias_to (spelled_of k.lookup.namespaces.now e)) targets) a
               (subst (Contains (map (alias_to (spelled_of k.lookup.namespaces.now e)) targets))

@@ -30,6 +30,9 @@ use Rattle.cil_tables.proofs.FiniteFaults.{finite_class}
 use Rattle.cil_tables.proofs.FinitePolicy.{finite_names}
 use Rattle.cil_tables.proofs.NoGifts.{HaveFlatKeywords, declares_no_alias, gives_none, none_depends}
 
+decided_less : (a b : ℕ) → Decided (a < b)
+decided_less a b = elim (cases_lt a b) [ inl less ↦ inl less | inr ge ↦ inr (λ less. absurd (omega (arith, less, ge))) ]
+
 -- only types have aliases
 alias_kind : (kind : Kind) (j : Sets) → (space_of kind).aliases ≡ Some j → j.kind ≡ kinds.TypeAlias
 alias_kind kinds.Type_ j e = ap (λ (i : Sets). i.kind) (sym (same_Some _ j e))
@@ -58,10 +61,10 @@ module _ (xs : List Item) (flat : HaveFlatKeywords xs) (s : OptSet) (kind : Kind
 
   module _ (limit : ℕ) (word : List ℕ) (is_limit : limit_of (space_of kind).item ≡ Some (limit, word)) where
     abbrev IsOver : Fault → Type 0
-    IsOver f = (global_fault causes.ClassWide nowhere word ≡ f) × (limit < length its_names.list)
+    IsOver f = (global_fault causes.TooMany nowhere word ≡ f) × (limit < length its_names.list)
 
     finite_over : Finite IsOver
-    finite_over = finite_if (limit < length its_names.list) (global_fault causes.ClassWide nowhere word) (cases_lt limit (length its_names.list))
+    finite_over = finite_if (limit < length its_names.list) (global_fault causes.TooMany nowhere word) (decided_less limit (length its_names.list))
 
     over_there : (f : Fault) → IsOver f → SetFault xs s (space_of kind) f
     over_there f h = many (record {
@@ -87,7 +90,7 @@ module _ (xs : List Item) (flat : HaveFlatKeywords xs) (s : OptSet) (kind : Kind
         let counted = ap length one in
         let limits : limit ≡ m.limit = ap (λ (p : ℕ × List ℕ). p.0) same in
         let over = m.many in
-        (ap (λ (p : ℕ × List ℕ). global_fault causes.ClassWide nowhere p.1) same ∙ sym m.told, omega (arith, counted, limits, over))
+        (ap (λ (p : ℕ × List ℕ). global_fault causes.TooMany nowhere p.1) same ∙ sym m.told, omega (arith, counted, limits, over))
 
     finite_set_faults : Finite (SetFault xs s (space_of kind))
     finite_set_faults = finite_same IsOver (SetFault xs s (space_of kind)) over_there over_back finite_over

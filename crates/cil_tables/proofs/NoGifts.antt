@@ -75,7 +75,7 @@ no_sets : (o : Option Sets) (k : Keyword) (named : Sets → Bool) → option_map
 no_sets None k named e = refl
 no_sets (Some j) k named e = ap (λ b. b && named j) e
 
-empty : Family
+pub empty : Family
 empty a t = false
 
 -- the keywords of all items are such
@@ -132,6 +132,6 @@ pub no_alias : (xs : List Item) → HaveFlatKeywords xs → (s : OptSet) (a : Sy
 no_alias xs flat s a d = of_declaration d.declaration d.declares d.of_kind
   where
     of_declaration : (e : Declaration) → IsDeclaration xs s e → e.kind ≡ kinds.TypeAlias → ⊥
-    of_declaration e object k = let f : kinds.Role ≡ kinds.TypeAlias = k in cc
-    of_declaration e (by x e c on by_it) k =
+    of_declaration _ object k = let f : kinds.Role ≡ kinds.TypeAlias = k in cc
+    of_declaration _ (by x e c on by_it) k =
         declares_no_alias x.keyword (flat x c) (subst (Contains (entry_of x.keyword).declares) k (of_own_kind x.space (entry_of x.keyword).declares x.args e by_it))

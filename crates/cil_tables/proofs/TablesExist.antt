@@ -19,9 +19,7 @@ use Rattle.cil_syntax.specs.declared.kind.Keyword.TheVariants as keywords
 use Rattle.cil_syntax.specs.declared.kind.Kind.TheVariants as kinds
 use Rattle.cil_syntax.specs.Terms.{Term, Leaf, Name, Form}
 use Rattle.cil_classes.specs.declared.row.Class.{Class}
-use Rattle.cil_rules.specs.declared.rule.Rule.{Rule}
-use Rattle.cil_rules.specs.declared.rule.Target.{Target}
-use Rattle.cil_rules.specs.declared.rule.Target.TheVariants.{Types, Itself}
+use Rattle.cil_rules.specs.Rule.{Rule, Target, Types, Itself}
 use Rattle.cil_rules.specs.Records.{Case, HasBit, HasNumber, HasTarget, IsCase, IsRuleOf, IsTargetOf}
 use Rattle.cil_tables.specs.Links.{IsLink}
 use Rattle.cil_tables.specs.Compiled.{IsNameOf, IsTable}

@@ -137,12 +137,12 @@ fn placed_policy(alloc: Global, instances: &Instances) -> Result<Compiled, Failu
 /// join.
 ///
 /// Errors: the faults of aliases, attributes and classes together, or out of memory.
-fn tables_of<'s, 'a>(
+fn tables_of(
     alloc: Global,
-    instances: &Instances<'_, 's, 'a>,
-    lookup: &Lookup<'s, 'a>,
-    words: &'s Words,
-    permissions: &'s [Vec<Bytes>],
+    instances: &Instances,
+    lookup: &Lookup,
+    words: &Words,
+    permissions: &[Vec<Bytes>],
     shared: &[Shared],
 ) -> Result<Tables, Failure>
     requires namespaces { lookup.now.namespaces.now ≡ namespaces_in instances.now }
@@ -200,10 +200,10 @@ fn tables_of<'s, 'a>(
 /// The classes of a policy, and what its words stand for.
 ///
 /// Errors: the faults of aliases, attributes and classes together, or out of memory.
-fn judged_sets<'s, 'a>(
+fn judged_sets(
     alloc: Global,
-    instances: &Instances<'_, 's, 'a>,
-    known: &Known<'s, 'a>,
+    instances: &Instances,
+    known: &Known,
     numbering: &Numbering,
     shared: &[Shared],
 ) -> Result<Both<Classes, Standings>, Failure>

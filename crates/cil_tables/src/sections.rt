@@ -59,8 +59,6 @@ pub(crate) fn given_of(
     requires ordered { AreOrdered known.now.lookup.namespaces.now known.now.lookup.names.now }
     requires rising { (row : ARow) → Contains classes.now row → IsStrictlySortedBy text_cmp row.permissions }
     requires few { (row : ARow) → Contains classes.now row → length row.permissions ≤ most_permissions }
-    requires known { (names : kinds.Kind → List (List ℕ)) × IsKnown known.now (items_in instances.now) names × AllStand known.now (items_in instances.now) names stand.now
-        × AreClasses (items_in instances.now) (enabled_in known.now) (names variants.Class) classes.now }
     ensures { IfOk result (λ given. (names : kinds.Kind → List (List ℕ)) → IsKnown known.now (items_in instances.now) names → AllStand known.now (items_in instances.now) names stand.now
         → AreClasses (items_in instances.now) (enabled_in known.now) (names variants.Class) classes.now
         → AreGiven (items_in instances.now) (enabled_in known.now) names classes.now given) }
@@ -91,8 +89,6 @@ fn allow_of(
     requires table { IsTableOf (map (row_in known.now) (items_in instances.now)) known.now.words.now }
     requires rising { (row : ARow) → Contains classes.now row → IsStrictlySortedBy text_cmp row.permissions }
     requires few { (row : ARow) → Contains classes.now row → length row.permissions ≤ most_permissions }
-    requires known { (names : kinds.Kind → List (List ℕ)) × IsKnown known.now (items_in instances.now) names × AreStanding known.now (items_in instances.now) names variants.Type_ types.now
-        × AreClasses (items_in instances.now) (enabled_in known.now) (names variants.Class) classes.now }
     ensures { IfOk result (λ allow. (names : kinds.Kind → List (List ℕ)) → IsKnown known.now (items_in instances.now) names
         → AreStanding known.now (items_in instances.now) names variants.Type_ types.now
         → AreClasses (items_in instances.now) (enabled_in known.now) (names variants.Class) classes.now
@@ -100,7 +96,7 @@ fn allow_of(
         (IsRuleOf (items_in instances.now) (enabled_in known.now) (names variants.Type_) classes.now) allow) }
 {
     let rules = rules_of(alloc, instances, known, types, classes)?;
-    let allow = Section::of(alloc, rules.as_slice(), classes.len())?;
+    let allow = Section::of(alloc, rules.as_slice(), types, classes.len())?;
     Ok(allow)
 }
 

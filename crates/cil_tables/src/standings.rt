@@ -45,10 +45,10 @@ pub struct AllMembers {
 /// What words stand for, where these are the names of users, roles and types.
 ///
 /// Errors: the faults of aliases and attributes, and too many users, roles or types; or out of memory.
-pub(crate) fn standings_of<'s, 'a>(
+pub(crate) fn standings_of(
     alloc: Global,
-    known: &Known<'s, 'a>,
-    instances: &Instances<'_, 's, 'a>,
+    known: &Known,
+    instances: &Instances,
     sections: &Sections,
 ) -> Result<Standings, Failure>
     requires namespaces { known.now.lookup.namespaces.now ≡ namespaces_in instances.now }
@@ -63,10 +63,10 @@ pub(crate) fn standings_of<'s, 'a>(
 }
 
 /// The members of all aliases and attributes, or the faults of all three name spaces.
-fn all_members<'s, 'a>(
+fn all_members(
     alloc: Global,
-    known: &Known<'s, 'a>,
-    instances: &Instances<'_, 's, 'a>,
+    known: &Known,
+    instances: &Instances,
     sections: &Sections,
 ) -> Result<AllMembers, Failure>
     requires namespaces { known.now.lookup.namespaces.now ≡ namespaces_in instances.now }
@@ -75,9 +75,27 @@ fn all_members<'s, 'a>(
     requires apart { AreApart known.now.lookup.names.now (enabled_in known.now) known.now.numbers.now }
     ensures { Answers (AreAllMembers known.now (items_in instances.now) (names_of sections.now)) (MembersFault (enabled_in known.now) (items_in instances.now)) result }
 {
-    let users = members(alloc, known, instances, sections.users.as_slice(), &Space::Users);
-    let roles = members(alloc, known, instances, sections.roles.as_slice(), &Space::Roles);
-    let types = members(alloc, known, instances, sections.types.as_slice(), &Space::Types);
+    let users = members(
+        alloc,
+        known,
+        instances,
+        sections.users.as_slice(),
+        &Space::Users,
+    );
+    let roles = members(
+        alloc,
+        known,
+        instances,
+        sections.roles.as_slice(),
+        &Space::Roles,
+    );
+    let types = members(
+        alloc,
+        known,
+        instances,
+        sections.types.as_slice(),
+        &Space::Types,
+    );
     let both_roles_types = together(roles, types);
     let Both {
         first: users,
@@ -95,11 +113,7 @@ fn all_members<'s, 'a>(
 }
 
 /// What words stand for, by the members of aliases and attributes. Error: out of memory.
-fn all_sets(
-    alloc: Global,
-    all: &AllMembers,
-    sections: &Sections,
-) -> Result<Standings, NoMemory>
+fn all_sets(alloc: Global, all: &AllMembers, sections: &Sections) -> Result<Standings, NoMemory>
     ensures { IfOk result (λ standings. (k : Lookups) (xs : List Item) → IsKnown k xs (names_of sections.now) → AreAllMembers k xs (names_of sections.now) all.now
         → AllStand k xs (names_of sections.now) standings) }
 {

@@ -1,14 +1,11 @@
-use Rattle.std.proofs.Common.{ap, subst, sym, ◌∙◌}
-use Rattle.std.specs.Ordering.{nat_cmp}
+use Rattle.std.proofs.Common.{◌≡◌, ap, sym, ◌∙◌}
 use Rattle.std.proofs.lemmas.Bool.{true≢false}
-use Rattle.cil_base.specs.Lists.{Lists}
 use Rattle.cil_syntax.specs.declared.kind.Kind.TheVariants as kinds
 use Rattle.cil_syntax.specs.Said.{args_of, said_of}
 use Rattle.cil_macros.specs.Items.{item_at, says_as_written, word_at}
 use Rattle.cil_macros.proofs.ItemsThere.{keyword_there, said_there}
 use Rattle.cil_rules.proofs.RuleLemmas.{a_rule, class_begins, left_out, other_keyword, other_terms, source_listed, source_lost, target_begins, without_permission, without_source, without_target}
-use Rattle.cil_names.specs.Known.{enabled_in}
-use Rattle.cil_rules.specs.Records.{HasNumber}
+use Rattle.cil_rules.specs.Kept.{set_named, target_named}
 use Rattle.cil_rules.proofs.rules.rule_of.Goals as goal
 
 pub returns-then-not-same_keyword : goal.returns-then-not-same_keyword
@@ -92,12 +89,14 @@ returns c =
     let source = c.in-Some.parts.source in
     let target = said_of m c.in-Some.parts.target.now in
     let class_permission = said_of m c.in-Some.parts.class_permission.now in
-    let kept = c.in-Some-some_at.source.now in
-    let source_set = source_listed k xs names known c.args.types.now standing x f (args_of s) says source target class_permission c.in-Some.ensures c.args.words.now are c.meaning_at.result c.meaning_at.ensures
-    kept c.in-Some-some_at.ensures.0 in
-    a_rule xs k x f (args_of s) says source target class_permission c.in-Some.ensures (names kinds.Type_) c.args.classes.now c.in_ok-share.field-0
-    (subst (Lists nat_cmp (HasNumber xs (enabled_in k) (names kinds.Type_) (f source))) (sym c.in_ok-share.ensures) source_set) (λ e. c.in-Some-some_at.ensures.1 (sym c.in_ok-share.ensures ∙ e))
-    c.in-Some-2.target
+    let types = c.args.types.now in
+    let d = c.in-Some-some_at.source in
+    let same : set_named types c.in_ok-source.source ≡ set_named types d = ap (set_named types) c.in_ok-source.ensures in
+    let source_set = source_listed k xs names known types standing x f (args_of s) says source target class_permission c.in-Some.ensures c.args.words.now are c.meaning_at.result c.meaning_at.ensures
+    (set_named types c.in_ok-source.source) (same ∙ c.in-Some-some_at.ensures.0) in
+    a_rule xs k x f (args_of s) says source target class_permission c.in-Some.ensures (names kinds.Type_) c.args.classes.now (set_named types c.in_ok-source.source)
+    source_set (λ e. c.in-Some-some_at.ensures.1 (sym same ∙ e))
+    (target_named types c.in-Some-2.target)
     (rw c.in-Some-2.is at c.in_ok-target.ensures k xs names f m known standing
     (target_begins k x f (args_of s) says source target class_permission c.in-Some.ensures c.args.words.now are c.behind_first-of_target.result.now c.behind_first-of_target.ensures))
     c.in_ok-class.class c.in-Some-given_by.given.mask

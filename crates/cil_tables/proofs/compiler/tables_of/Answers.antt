@@ -58,20 +58,6 @@ given_of-requires-clause-few c = λ row member.
     (subst (λ (rows : List Class). Contains rows row) c.as_slice-2.ensures.value member) in
     few (items_in c.args.instances.now) (is_in c.args.lookup.now.enabled.now) (λ f e. c.in_ok-judged.ensures.1 f (inl e)) k.0 row k.1 k.2
 
-pub given_of-requires-clause-known : goal.given_of-requires-clause-known
-given_of-requires-clause-known c =
-    let known : AreKnown c.args.lookup.now.namespaces.now (items_in c.args.instances.now) c.args.lookup.now.names.now (is_in c.args.lookup.now.enabled.now) (names_of c.in_ok-numbering.numbering.sections) c.as_slice.result.now c.args.permissions.now =
-    record {
-      namespaces = c.are_namespaces.ensures;
-      entries = c.requires.entries;
-      numbered = subst (AreNumbers c.args.lookup.now.namespaces.now c.args.lookup.now.names.now (is_in c.args.lookup.now.enabled.now) (names_of c.in_ok-numbering.numbering.sections)) (sym c.as_slice.ensures.value) c.in_ok-numbering.ensures.numbers;
-      permissions = c.requires.permissions;
-    } in
-    let classes : AreClasses (items_in c.args.instances.now) (is_in c.args.lookup.now.enabled.now) c.in_ok-numbering.numbering.sections.classes.items c.as_slice-2.result.now =
-    subst (AreClasses (items_in c.args.instances.now) (is_in c.args.lookup.now.enabled.now) c.in_ok-numbering.numbering.sections.classes.items) (sym c.as_slice-2.ensures.value)
-    (classes_are c.args.lookup.now.namespaces.now (items_in c.args.instances.now) c.args.lookup.now.names.now c.requires.entries (is_in c.args.lookup.now.enabled.now) c.in_ok-numbering.numbering.sections c.in_ok-numbering.numbering.numbers.items c.in_ok-numbering.ensures.numbers (c.in_ok-numbering.ensures.apart c.requires.plain) c.args.permissions.now c.requires.permissions c.in_ok-judged.judged.first.rows.items c.in_ok-judged.ensures.0.0) in
-    (names_of c.in_ok-numbering.numbering.sections, known, c.in_ok-judged.ensures.0.1, classes)
-
 pub invariant_of-result : goal.invariant_of-result
 invariant_of-result c =
     let known : AreKnown c.args.lookup.now.namespaces.now (items_in c.args.instances.now) c.args.lookup.now.names.now (is_in c.args.lookup.now.enabled.now) (names_of c.in_ok-numbering.numbering.sections) c.as_slice.result.now c.args.permissions.now =

@@ -11,7 +11,7 @@ use Rattle.cil_tables.proofs.links.joined_at.Goals as goal
 
 pub returns-then-not-same_keyword : goal.returns-then-not-same_keyword
 returns-then-not-same_keyword c = λ xs names known some others are.
-    let there = keyword_there c.args.instances.now c.args.at c.statement_there-statement.result.now c.statement_there-statement.ensures in
+    let there = keyword_there c.args.instances.now c.args.at c.statement_there-statement.result.now c.statement_there-statement.ensures.is in
     other_keyword xs c.args.known.now _ _ _ _ _ (item_at c.args.instances.now c.args.at) (λ e. true≢false (sym (c.same_keyword.ensures.1 (sym there ∙ e)) ∙ c.if-not-same_keyword.true))
 
 pub returns-then-not-is_enabled : goal.returns-then-not-is_enabled
@@ -24,7 +24,7 @@ returns-in_err-_words c =
     (λ xs names known some others are.
     let i = c.args.instances.now in
     let s = c.statement_there-statement.result.now in
-    let says = said_there i c.args.at s c.statement_there-statement.ensures (ap says_as_written (c.same_keyword.ensures.0 c.if-not-same_keyword.false) ∙ c.requires.written) in
+    let says = said_there i c.args.at s c.statement_there-statement.ensures.is c.statement_there-statement.ensures.words (ap says_as_written (c.same_keyword.ensures.0 c.if-not-same_keyword.false) ∙ c.requires.written) in
     other_terms xs c.args.known.now _ _ _ _ _ (item_at i c.args.at) (word_at i c.args.at) (args_of s) says c.in_err-_words.ensures)
 
 pub returns-in_err-first : goal.returns-in_err-first
@@ -37,7 +37,7 @@ returns-in_err-first c =
     let x = item_at i c.args.at in
     let f = word_at i c.args.at in
     let j = c.args.joins in
-    let says = said_there i c.args.at s c.statement_there-statement.ensures (ap says_as_written (c.same_keyword.ensures.0 c.if-not-same_keyword.false) ∙ c.requires.written) in
+    let says = said_there i c.args.at s c.statement_there-statement.ensures.is c.statement_there-statement.ensures.words (ap says_as_written (c.same_keyword.ensures.0 c.if-not-same_keyword.false) ∙ c.requires.written) in
     let first = c.in_ok-_words._words.first in
     let second = c.in_ok-_words._words.second in
     no_holder xs k j.keyword j.holder_kind j.held_kind (names j.holder_kind) (names j.held_kind) x f (args_of s) says first second c.in_ok-_words.ensures (set_meant c.args.holders.now c.meaning_at.result)
@@ -57,7 +57,7 @@ returns-in_err-second c =
     let x = item_at i c.args.at in
     let f = word_at i c.args.at in
     let j = c.args.joins in
-    let says = said_there i c.args.at s c.statement_there-statement.ensures (ap says_as_written (c.same_keyword.ensures.0 c.if-not-same_keyword.false) ∙ c.requires.written) in
+    let says = said_there i c.args.at s c.statement_there-statement.ensures.is c.statement_there-statement.ensures.words (ap says_as_written (c.same_keyword.ensures.0 c.if-not-same_keyword.false) ∙ c.requires.written) in
     let first = c.in_ok-_words._words.first in
     let second = c.in_ok-_words._words.second in
     no_held xs k j.keyword j.holder_kind j.held_kind (names j.holder_kind) (names j.held_kind) x f (args_of s) says first second c.in_ok-_words.ensures (set_meant c.args.holders.now (meant_in k (f first)))
@@ -77,7 +77,7 @@ returns c =
     let f = word_at i c.args.at in
     let j = c.args.joins in
     let is = c.same_keyword.ensures.0 c.if-not-same_keyword.false in
-    let says = said_there i c.args.at s c.statement_there-statement.ensures (ap says_as_written is ∙ c.requires.written) in
+    let says = said_there i c.args.at s c.statement_there-statement.ensures.is c.statement_there-statement.ensures.words (ap says_as_written is ∙ c.requires.written) in
     let first = c.in_ok-_words._words.first in
     let second = c.in_ok-_words._words.second in
     joins_all xs k j.keyword j.holder_kind j.held_kind (names j.holder_kind) (names j.held_kind) x f (args_of s) says first second c.in_ok-_words.ensures c.in_ok-first.first.now c.in_ok-second.second.now
@@ -89,4 +89,4 @@ returns c =
     (subst (λ r. Lists nat_cmp (HasNumberFor xs (enabled_in k) j.held_kind (names j.held_kind) (f second)) (set_meant c.args.helds.now r))
     (sym (second_means xs k j.keyword j.holder_kind j.held_kind (names j.holder_kind) (names j.held_kind) x f (args_of s) says first second c.in_ok-_words.ensures c.args.words.now are c.meaning_at-2.result c.meaning_at-2.ensures))
     (others (f second))))
-    (keyword_there i c.args.at s c.statement_there-statement.ensures ∙ is) (sym c.is_enabled.ensures ∙ c.if-not-is_enabled.false)
+    (keyword_there i c.args.at s c.statement_there-statement.ensures.is ∙ is) (sym c.is_enabled.ensures ∙ c.if-not-is_enabled.false)

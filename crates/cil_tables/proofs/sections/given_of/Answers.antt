@@ -4,11 +4,6 @@ use Rattle.cil_macros.specs.Items.{items_in}
 use Rattle.cil_names.specs.Known.{AreStanding, HaveMembers}
 use Rattle.cil_tables.proofs.sections.given_of.Goals as goal
 
-pub allow_of-requires-clause-known : goal.allow_of-requires-clause-known
-allow_of-requires-clause-known c =
-    let (names, known, stand, classes) = c.requires.known in
-    (names, known, subst (AreStanding c.args.known.now (items_in c.args.instances.now) names kinds.Type_) (sym c.as_slice-types.ensures.value) stand.types, classes)
-
 pub returns : goal.returns
 returns c = λ names known stand classes.
     let k = c.args.known.now in
