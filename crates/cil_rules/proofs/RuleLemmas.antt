@@ -22,7 +22,7 @@ use Rattle.cil_rules.specs.declared.rule.NamedRule.{NamedRule}
 use Rattle.cil_rules.specs.Kept.{rule_named}
 use Rattle.cil_rules.specs.Rule.{Rule, Target}
 use Rattle.cil_rules.specs.Records.{Case, HasNumber, HasTarget, IsCase, IsRuleOf, CaseBy}
-use Rattle.cil_names.specs.Known.{AreStanding, BeginWith, HasNumberFor, IsKnown, StandsForNothing, enabled_in, meant_by, meant_in, row_in, set_meant, value_in, wanted_with}
+use Rattle.cil_names.specs.Known.{AreStanding, BeginWith, HasNumberFor, IsKnown, StandsForNothing, enabled_in, meant_by, meant_in, set_meant, value_in, wanted_with}
 use Rattle.cil_names.specs.Members.{StandsFor}
 use Rattle.cil_names.specs.Resolves.{Wanted, Word as AWord, all_wanted_in, wanted_in}
 use Rattle.cil_classes.specs.Pairs.{HasPair}
@@ -41,7 +41,7 @@ unfolding all_wanted_in wanted_in
 rule_wanted source target class_permission = refl
 
 module _ (k : Known) (x : Item) (f : Word → ScopedWord) (args : Terms Word) (says : x.args ≡ all_across f args) (source : Word) (target class_permission : Term Word)
-    (said : args ≡ cons (Leaf source) (cons target (cons class_permission nil))) (words : List (Option ℕ)) (are : words ≡ row_in k x) where
+    (said : args ≡ cons (Leaf source) (cons target (cons class_permission nil))) (words : List (Option ℕ)) (are : words ≡ map (value_in k) (all_wanted_in x.args)) where
   abbrev by_meaning : Wanted → Option ℕ
   by_meaning = value_in k
 
@@ -81,7 +81,7 @@ module _ (k : Known) (x : Item) (f : Word → ScopedWord) (args : Terms Word) (s
 
 module _ (k : Known) (xs : List Item) (names : Kind → List (List ℕ)) (known : IsKnown k xs names) (sets : List (List ℕ)) (standing : AreStanding k xs names kinds.Type_ sets) (x : Item) (f : Word → ScopedWord)
     (args : Terms Word) (says : x.args ≡ all_across f args) (source : Word) (target class_permission : Term Word) (said : args ≡ cons (Leaf source) (cons target (cons class_permission nil)))
-    (words : List (Option ℕ)) (are : words ≡ row_in k x) (r : Option ℕ) (first : r ≡ get_or words 0 None) where
+    (words : List (Option ℕ)) (are : words ≡ map (value_in k) (all_wanted_in x.args)) (r : Option ℕ) (first : r ≡ get_or words 0 None) where
   its_set : Lists nat_cmp (HasNumberFor xs (enabled_in k) kinds.Type_ (names kinds.Type_) (f source)) (set_meant sets r)
   its_set =
       subst (λ q. Lists nat_cmp (HasNumberFor xs (enabled_in k) kinds.Type_ (names kinds.Type_) (f source)) (set_meant sets q))

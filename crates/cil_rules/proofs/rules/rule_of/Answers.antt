@@ -1,9 +1,12 @@
-use Rattle.std.proofs.Common.{◌≡◌, ap, sym, ◌∙◌}
+use Rattle.std.proofs.Common.{◌≡◌, ap, map, sym, ◌∙◌}
 use Rattle.std.proofs.lemmas.Bool.{true≢false}
 use Rattle.cil_syntax.specs.declared.kind.Kind.TheVariants as kinds
 use Rattle.cil_syntax.specs.Said.{args_of, said_of}
 use Rattle.cil_macros.specs.Items.{item_at, says_as_written, word_at}
 use Rattle.cil_macros.proofs.ItemsThere.{keyword_there, said_there}
+use Rattle.cil_names.specs.Known.{value_in}
+use Rattle.cil_names.specs.Resolves.{is_mapping}
+use Rattle.cil_names.proofs.ReadingLemmas.{plain_said}
 use Rattle.cil_rules.proofs.RuleLemmas.{a_rule, class_begins, left_out, other_keyword, other_terms, source_listed, source_lost, target_begins, without_permission, without_source, without_target}
 use Rattle.cil_rules.specs.Kept.{set_named, target_named}
 use Rattle.cil_rules.proofs.rules.rule_of.Goals as goal
@@ -26,7 +29,7 @@ returns-in_default c = λ xs names known standing classes are.
 
 pub returns-in_default-some_at : goal.returns-in_default-some_at
 returns-in_default-some_at c =
-    λ xs names known standing classes are.
+    λ xs names known standing classes row.
     let k = c.args.known.now in
     let i = c.args.instances.now in
     let s = c.statement_there-statement.result.now in
@@ -34,6 +37,7 @@ returns-in_default-some_at c =
     let x = item_at i c.args.at in
     let f = word_at i c.args.at in
     let says = said_there i c.args.at s c.statement_there-statement.ensures.is c.statement_there-statement.ensures.words (ap says_as_written (c.same_keyword.ensures.0 c.if-not-same_keyword.false)) in
+    let are = row ∙ ap (map (value_in k)) (plain_said x.keyword x.args (ap is_mapping (keyword_there i c.args.at s c.statement_there-statement.ensures.is ∙ c.same_keyword.ensures.0 c.if-not-same_keyword.false))) in
     let source = c.in-Some.parts.source in
     let target = said_of m c.in-Some.parts.target.now in
     let class_permission = said_of m c.in-Some.parts.class_permission.now in
@@ -43,7 +47,7 @@ returns-in_default-some_at c =
 
 pub returns-in_default-given_by : goal.returns-in_default-given_by
 returns-in_default-given_by c =
-    λ xs names known standing classes are.
+    λ xs names known standing classes row.
     let k = c.args.known.now in
     let i = c.args.instances.now in
     let s = c.statement_there-statement.result.now in
@@ -51,6 +55,7 @@ returns-in_default-given_by c =
     let x = item_at i c.args.at in
     let f = word_at i c.args.at in
     let says = said_there i c.args.at s c.statement_there-statement.ensures.is c.statement_there-statement.ensures.words (ap says_as_written (c.same_keyword.ensures.0 c.if-not-same_keyword.false)) in
+    let are = row ∙ ap (map (value_in k)) (plain_said x.keyword x.args (ap is_mapping (keyword_there i c.args.at s c.statement_there-statement.ensures.is ∙ c.same_keyword.ensures.0 c.if-not-same_keyword.false))) in
     let source = c.in-Some.parts.source in
     let target = said_of m c.in-Some.parts.target.now in
     let class_permission = said_of m c.in-Some.parts.class_permission.now in
@@ -60,7 +65,7 @@ returns-in_default-given_by c =
 
 pub returns-in_default-2 : goal.returns-in_default-2
 returns-in_default-2 c =
-    λ xs names known standing classes are.
+    λ xs names known standing classes row.
     let k = c.args.known.now in
     let i = c.args.instances.now in
     let s = c.statement_there-statement.result.now in
@@ -68,6 +73,7 @@ returns-in_default-2 c =
     let x = item_at i c.args.at in
     let f = word_at i c.args.at in
     let says = said_there i c.args.at s c.statement_there-statement.ensures.is c.statement_there-statement.ensures.words (ap says_as_written (c.same_keyword.ensures.0 c.if-not-same_keyword.false)) in
+    let are = row ∙ ap (map (value_in k)) (plain_said x.keyword x.args (ap is_mapping (keyword_there i c.args.at s c.statement_there-statement.ensures.is ∙ c.same_keyword.ensures.0 c.if-not-same_keyword.false))) in
     let source = c.in-Some.parts.source in
     let target = said_of m c.in-Some.parts.target.now in
     let class_permission = said_of m c.in-Some.parts.class_permission.now in
@@ -77,7 +83,7 @@ returns-in_default-2 c =
 
 pub returns : goal.returns
 returns c =
-    λ xs names known standing classes are.
+    λ xs names known standing classes row.
     let k = c.args.known.now in
     let i = c.args.instances.now in
     let s = c.statement_there-statement.result.now in
@@ -86,6 +92,7 @@ returns c =
     let f = word_at i c.args.at in
     let is = c.same_keyword.ensures.0 c.if-not-same_keyword.false in
     let says = said_there i c.args.at s c.statement_there-statement.ensures.is c.statement_there-statement.ensures.words (ap says_as_written is) in
+    let are = row ∙ ap (map (value_in k)) (plain_said x.keyword x.args (ap is_mapping (keyword_there i c.args.at s c.statement_there-statement.ensures.is ∙ c.same_keyword.ensures.0 c.if-not-same_keyword.false))) in
     let source = c.in-Some.parts.source in
     let target = said_of m c.in-Some.parts.target.now in
     let class_permission = said_of m c.in-Some.parts.class_permission.now in
