@@ -73,8 +73,8 @@ module _ (k : Known) (x : Item) (f : Word → ScopedWord) (args : Terms Word) (s
     target_begins = record { more = meant_by k f class_permission; are = target_there }
 
     -- and behind these those of the class permission
-    pub class_begins : (of_class : List (Option ℕ)) → of_class ≡ drop (length (wanted_with f target)) of_target → BeginWith k f class_permission of_class
-    class_begins of_class behind_target = record {
+    pub class_begins : (behind_both : List (Option ℕ)) → behind_both ≡ drop (length (wanted_with f target)) of_target → BeginWith k f class_permission behind_both
+    class_begins behind_both behind_target = record {
       more = [];
       are =
           behind_target
