@@ -11,12 +11,13 @@ use Rattle.cil_blocks.specs.Entries.{statement_at}
 use Rattle.cil_blocks.specs.Places.{entries_in}
 use Rattle.cil_blocks.proofs.EntryLemmas.{standings_length}
 use Rattle.cil_macros.specs.declared.entry.Body as code
+use Rattle.cil_macros.specs.declared.meant.Argument.{Argument}
 use Rattle.cil_macros.specs.declared.meant.Meant.{Meant}
 use Rattle.cil_macros.specs.declared.openings.Opening.{Opening}
 use Rattle.cil_macros.specs.declared.scene.Scene.{Scene}
 use Rattle.cil_macros.specs.Calls.{home_of}
 use Rattle.cil_macros.specs.Macros.{all_standing}
-use Rattle.cil_macros.specs.Meant.{AreArguments, meant_term, scope_there}
+use Rattle.cil_macros.specs.Meant.{AreArguments, meant_term, put_there, scope_there}
 use Rattle.cil_macros.specs.Openings.{IsNumbered, IsOpening}
 use Rattle.cil_macros.specs.Parameters.{macro_parameters}
 use Rattle.cil_macros.specs.Placed.{Body, Bound, Placed, declares, is_served, meaning, meant_by, scope_in, scope_of}
@@ -127,8 +128,8 @@ module _ (s : Scene) (os : List Opening) (at : ℕ) (known : IsKnown s os at) (p
             (sym (ap (λ (q : Placed). q.bounds) placed_here ∙ brought.is.bounds))
             (opening.arguments brought.so.call brought.so.opened is_call brought.so.is_opened))
 
-        pub argument_word : (w : Word) → (m : Meant) → IsArgument ps w p.bounds m → meant_term ps w.sign m ≡ meaning ws p w
-        argument_word w m x = sym (by_argument ws p w (Some x.bound) x.is ∙ x.put_there)
+        pub argument_word : (w : Word) → (m : Argument) → IsArgument ps w p.bounds m → put_there ps w.sign m ≡ meaning ws p w
+        argument_word w m x = sym (by_argument ws p w (Some x.bound) x.is ∙ x.put_so)
 
         pub home_word : (w : Word) → find (is_served w) p.bounds ≡ None → true ≡ declares ws (statement_at ws called) w.bytes w.sign
             → meant_term ps w.sign (kept_word w o.home) ≡ meaning ws p w

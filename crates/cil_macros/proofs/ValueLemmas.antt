@@ -14,16 +14,19 @@ use Rattle.cil_syntax.specs.declared.term.Term.{the_lemmas}
 use Rattle.cil_syntax.specs.declared.term.Term.TheVariants as variants
 use Rattle.cil_syntax.specs.declared.term.Word.{Word}
 use Rattle.cil_syntax.specs.Said.{all_said, said_of, word_in}
+use Rattle.cil_syntax.specs.Scopes.{ScopedWord}
 use Rattle.cil_syntax.specs.Shapes.{Cell, Inner, a_list, a_string}
 use Rattle.cil_syntax.specs.Readings.{head_word, read_list}
 use Rattle.cil_syntax.specs.Words.{is_spelled, read_string, read_word, word_faults}
 use Rattle.cil_syntax.specs.Terms.{Term, Leaf, Name, Form, Terms, nil, cons}
 use Rattle.cil_faults.specs.Spots.{spot_at}
 use Rattle.cil_syntax.specs.Written.{Written}
+use Rattle.cil_macros.specs.declared.meant.Argument.{Argument}
+use Rattle.cil_macros.specs.declared.meant.Argument.TheVariants as arguments
 use Rattle.cil_macros.specs.declared.meant.Meant.{Meant}
-use Rattle.cil_macros.specs.Meant.{kind_sign, meant_term}
+use Rattle.cil_macros.specs.Meant.{kind_sign, meant_term, put_there, value_there}
 use Rattle.cil_macros.specs.Parameters.{Parameter, argument_kind, argument_of, cell_in, cells_in, faultless, is_text, read_argument, string_in, text_cell}
-use Rattle.cil_macros.specs.Placed.{Placed, filled, meaning}
+use Rattle.cil_macros.specs.Placed.{Placed, filled, meaning, put_list}
 
 -- ---- words
 
@@ -88,20 +91,29 @@ form_value kind at op parts value e = by (is_text op) e
 
 -- ---- what they mean
 
+-- no kind is one for class maps, where a list would be of a class alone
+kind_keeps : (kind : Op) (at : Spot) (op : Op) (parts : Terms ScopedWord) → put_list (kind_sign kind) at op parts ≡ Form at op parts
+kind_keeps ops.TypeKind at op parts = refl
+kind_keeps kind at op parts = refl
+
+put_by_kind : (ps : List Placed) (kind : Op) (m : Argument) → put_there ps (kind_sign kind) m ≡ value_there ps kind m
+put_by_kind ps kind (arguments.Plain m) = refl
+put_by_kind ps kind (arguments.List l) = kind_keeps kind l.at l.op _
+
 module _ (ws : List Written) (ps : List Placed) (p : Placed) (kind : Op) (x : Parameter) (same : x.kind ≡ kind) (m : ℕ) (t : rust.Term) (value : Term Word)
     (is : argument_of x (said_of m t) ≡ Some value) where
   read_so : read_argument (argument_kind kind) (cell_in (said_of m t)) ≡ Some value
   unfolding argument_of
   read_so = ap (λ k. read_argument (argument_kind k) (cell_in (said_of m t))) (sym same) ∙ is
 
-  pub word_means : (w : LookedUp) → t ≡ variants.Leaf w → (own : Word) → own.at ≡ spot_at m w.at → own.bytes ≡ w.bytes → own.sign ≡ kind_sign kind → (r : Meant)
-      → meant_term ps own.sign r ≡ meaning ws p own → meant_term ps (kind_sign kind) r ≡ filled (meaning ws p) value
+  pub word_means : (w : LookedUp) → t ≡ variants.Leaf w → (own : Word) → own.at ≡ spot_at m w.at → own.bytes ≡ w.bytes → own.sign ≡ kind_sign kind → (r : Argument)
+      → put_there ps own.sign r ≡ meaning ws p own → value_there ps kind r ≡ filled (meaning ws p) value
   unfolding filled
   word_means w e own at bytes sign r means =
       let view : said_of m (variants.Leaf w) ≡ Leaf (word_in m w) = search (rules, the_lemmas) in
       let v = leaf_value kind (word_in m w) value (ap (λ u. read_argument (argument_kind kind) (cell_in u)) (sym view ∙ sym (ap (said_of m) e)) ∙ read_so) in
       let one : own ≡ record { at = spot_at m w.at; bytes = w.bytes; sign = kind_sign kind } = λ i. record { at = at i; bytes = bytes i; sign = sign i } in
-      ap (λ g. meant_term ps g r) (sym sign) ∙ means ∙ ap (meaning ws p) one ∙ ap (filled (meaning ws p)) (sym v)
+      sym (put_by_kind ps kind r) ∙ ap (λ g. put_there ps g r) (sym sign) ∙ means ∙ ap (meaning ws p) one ∙ ap (filled (meaning ws p)) (sym v)
 
   string_filled : (at : Spot) (bytes : List ℕ) → filled (meaning ws p) (kept_text at bytes) ≡ kept_text at bytes
   unfolding filled

@@ -172,6 +172,10 @@ pub(crate) fn sign_of(kind: Op) -> Sign
         Op::ClassMapKind => Sign::ClassMaps,
         Op::SensitivityKind => Sign::Sensitivities,
         Op::CategoryKind => Sign::Categories,
+        Op::ClassPermissionKind => Sign::ClassPermissions,
+        Op::CategorySetKind => Sign::CategorySets,
+        Op::LevelKind => Sign::Levels,
+        Op::LevelRangeKind => Sign::LevelRanges,
         _ => Sign::Text,
     }
 }

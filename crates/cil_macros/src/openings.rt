@@ -17,7 +17,7 @@ use crate::arguments::{listed, sign_of};
 use crate::chain::{standing_statement, statement_at};
 use crate::entry::Body;
 use crate::meaning::{body_number, meaning_at};
-use crate::meant::Meant;
+use crate::meant::{Argument, Meant};
 use crate::scene::Scene;
 use cil_base::NoMemory;
 use cil_syntax::{Excerpt, Op, Spot, Statement, Term, Word};
@@ -28,8 +28,8 @@ use std::alloc::Global;
 pub struct Opening<'a> {
     /// The place of the outermost call: the one that stands in no body.
     pub home: usize,
-    /// What the arguments mean, one for each parameter of the macro.
-    pub arguments: Vec<Meant<'a>>,
+    /// What the arguments are, one for each parameter of the macro.
+    pub arguments: Vec<Argument<'a>>,
 }
 
 /// What the body of a macro takes its arguments from.
@@ -87,7 +87,7 @@ impl<'c, 's, 'p, 'a> Call<'c, 's, 'p, 'a> {
     ghost use Rattle.cil_blocks.specs.Places.{entries_in};
     ghost use Rattle.cil_macros.specs.Calls.{Unfolded, bound, home_of, unfolded};
     ghost use Rattle.cil_macros.specs.Macros.{all_standing};
-    ghost use Rattle.cil_macros.specs.Meant.{AreArguments, scope_there};
+    ghost use Rattle.cil_macros.specs.Meant.{AreArguments, IsWhole, scope_there};
     ghost use Rattle.cil_macros.specs.Scene.{IsKnown, SaysValue, placed_of_scene};
     ghost use Rattle.cil_macros.specs.Parameters.{call_arguments, macro_parameters};
     ghost use Rattle.cil_macros.specs.Placed.{Bound, Placed};
@@ -107,7 +107,7 @@ impl<'c, 's, 'p, 'a> Call<'c, 's, 'p, 'a> {
     }
 
     /// What the arguments mean, where the macro of a rank is called.
-    fn arguments(&self, alloc: Global, called: usize) -> Result<Vec<Meant<'a>>, NoMemory>
+    fn arguments(&self, alloc: Global, called: usize) -> Result<Vec<Argument<'a>>, NoMemory>
         requires call { IsKnown self.now.scene.now self.now.openings.now self.now.at }
         requires standing { called < length (entries_in self.now.scene.now.spaces.now) }
         ensures { IfOk result (λ ms. (p : Placed) (u : Unfolded) → slice_get (placed_of_scene self.now.scene.now) self.now.at ≡ Some p
@@ -137,7 +137,7 @@ impl<'c, 's, 'p, 'a> Call<'c, 's, 'p, 'a> {
         alloc: Global,
         called: &Statement<'a>,
         call: &Statement<'a>,
-    ) -> Result<Vec<Meant<'a>>, NoMemory>
+    ) -> Result<Vec<Argument<'a>>, NoMemory>
         requires { IsKnown self.now.scene.now self.now.openings.now self.now.at }
         ensures { IfOk result (λ ms. (p : Placed) (bs : List Bound) → slice_get (placed_of_scene self.now.scene.now) self.now.at ≡ Some p
             → bound (written_in self.now.scene.now.spaces.now) p (macro_parameters (args_of called.now)) (call_arguments (args_of call.now)) ≡ Some bs
@@ -150,16 +150,24 @@ impl<'c, 's, 'p, 'a> Call<'c, 's, 'p, 'a> {
                 let Some(argument) = arguments.get(meanings.len()) else {
                     return Ok(meanings);
                 };
-                meanings.push(self.argument_meaning(parameter.kind, argument, call.at.module))?;
+                let value = self.argument_value(alloc, parameter.kind, argument, call.at.module)?;
+                meanings.push(value)?;
             }
         }
         Ok(meanings)
     }
 
-    /// What an argument of a kind means, which is written in this module.
-    fn argument_meaning(&self, kind: Op, argument: &Term<'a>, module: u64) -> Meant<'a>
+    /// What an argument of a kind is, which is written in this module. A list that is handed on is copied, a step for each part.
+    fn argument_value(
+        &self,
+        alloc: Global,
+        kind: Op,
+        argument: &Term<'a>,
+        module: u64,
+    ) -> Result<Argument<'a>, NoMemory>
         requires { IsKnown self.now.scene.now self.now.openings.now self.now.at }
-        ensures { SaysValue self.now.scene.now self.now.at kind (said_of «module» argument.now) result }
+        ensures value { IfOk result (SaysValue self.now.scene.now self.now.at kind (said_of «module» argument.now)) }
+        ensures whole { IfOk result (IsWhole (placed_of_scene self.now.scene.now)) }
     {
         match argument {
             Term::Leaf(word) => {
@@ -168,11 +176,19 @@ impl<'c, 's, 'p, 'a> Call<'c, 's, 'p, 'a> {
                     bytes: Excerpt::of(word.bytes.as_slice()),
                     sign: sign_of(kind),
                 };
-                meaning_at(self.scene, self.openings, self.at, &own)
+                let meaning = meaning_at(self.scene, self.openings, self.at, &own);
+                let value = meaning.as_argument(alloc)?;
+                Ok(value)
             }
-            Term::Name(at, bytes) => Meant::string(Spot::of(module, *at), bytes.as_slice()),
+            Term::Name(at, bytes) => Ok(Argument::Plain(Meant::string(
+                Spot::of(module, *at),
+                bytes.as_slice(),
+            ))),
             Term::Form(_, at, parts) => {
-                Meant::string(Spot::of(module, *at), string_in(parts.as_slice()))
+                Ok(Argument::Plain(Meant::string(
+                    Spot::of(module, *at),
+                    string_in(parts.as_slice()),
+                )))
             }
         }
     }
