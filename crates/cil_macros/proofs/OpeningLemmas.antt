@@ -104,20 +104,20 @@ module _ (ws : List Written) (p : Placed) where
               (sym (λ j. bound ws p (one_here j) (first_left n arguments (length ms) a there at j)) ∙ so.is)
 
           pub put_one : (x : Argument) (new : List Argument) → new ≡ ms ++ x ∷ []
-              → ((value : Term Word) → argument_of its (said_of n a) ≡ Some value → value_there ps kind x ≡ filled (meaning ws p) value) → IsWhole ps x → IsPut (i + 1) new
-          put_one x new f means whole =
+              → ((value : Term Word) → argument_of its (said_of n a) ≡ Some value → (value_there ps kind x ≡ filled (meaning ws p) value) × IsWhole ps x) → IsPut (i + 1) new
+          put_one x new f means =
               subst (IsPut (i + 1)) (sym f)
               (record {
                 rest = bound_here.others;
                 is = ap (λ k. bound ws p (left (i + 1)) (all_said n (drop k arguments))) (length-append ms (x ∷ [])) ∙ bound_here.bound_so;
-                so = λ more g. so.so (x ∷ more) (bound_here.all ∙ (λ j. (record { parameter = its; value = sym (means bound_here.value bound_here.is) j }) ∷ g j) ∙ ap (λ xs. bounds_by ps xs (x ∷ more)) (sym one_here))
+                so = λ more g. so.so (x ∷ more) (bound_here.all ∙ (λ j. (record { parameter = its; value = sym (means bound_here.value bound_here.is).0 j }) ∷ g j) ∙ ap (λ xs. bounds_by ps xs (x ∷ more)) (sym one_here))
                     ∙ ap (bounds_by ps (parameters_in (all_said m terms))) (sym (append_assoc ms (x ∷ []) more));
                 many =
                     let l = length-append ms (x ∷ []) in
                     let k = so.many in
                     let h = ap length one_here in
                     omega (arith, l, k, h);
-                whole = whole_more ps ms x so.whole whole;
+                whole = whole_more ps ms x so.whole (means bound_here.value bound_here.is).1;
               })
 
     pub put_all : (i : ℕ) (ms : List Argument) → length terms ≤ i → IsPut i ms → AreArguments ps (parameters_in (all_said m terms)) bs ms

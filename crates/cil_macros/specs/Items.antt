@@ -1,6 +1,6 @@
 -- The statements that take part in a policy: each that is placed, its words with the namespaces that they ask and the
 -- arguments put in. CIL Reference Guide, "Call / Macro Statements"; which words a call has is this project's profile.
-use Rattle.std.specs.Prelude.{◌≡◌, ℕ, Bool, true, false, List, [], ◌∷◌, ◌++◌, map, get_or, Option, Some, None, slice_get}
+use Rattle.std.specs.Prelude.{◌≡◌, ℕ, Bool, true, false, List, [], ◌∷◌, ◌++◌, map, get_or, Option, Some, None}
 use Rattle.std.specs.List.{flat_map}
 use Rattle.cil_base.specs.Lists.{Lists}
 use Rattle.cil_syntax.specs.declared.kind.Keyword.{Keyword}

@@ -24,6 +24,7 @@ pub mod Openings
 pub mod Opens
 pub mod Parameters
 pub mod Placed
+pub mod Puts
 pub mod Rounds
 pub mod Scene
 pub mod Walks

@@ -1,7 +1,6 @@
 -- An argument that is a list, as it is kept: its parts one after another, not as a tree. So no pass over it calls itself, however
 -- many macros handed it on. This project's profile.
 use Rattle.std.specs.Prelude.{◌≡◌, ℕ, List, [], ◌∷◌, ◌++◌, map, Option, Some, None, slice_get}
-use Rattle.cil_syntax.specs.declared.kind.Sign.{Sign}
 use Rattle.cil_syntax.specs.declared.term.Op.{Op}
 use Rattle.cil_faults.specs.declared.spot.Spot.{Spot}
 use Rattle.cil_syntax.specs.Scopes.{ScopedWord}

@@ -73,7 +73,7 @@ fn has_form(kind: Op, argument: &Term) -> bool
 }
 
 /// Whether arguments of a kind may be lists: such kinds are not supported yet.
-fn may_be_list(kind: Op) -> bool
+pub(crate) fn may_be_list(kind: Op) -> bool
     ensures { result ≡ may_be_list kind }
 {
     matches!(

@@ -13,9 +13,11 @@ ghost use Rattle.cil_macros.specs.Placed.{Placed};
 ghost use Rattle.cil_macros.specs.Scene.{IsScene, placed_of_scene};
 ghost use Rattle.cil_macros.specs.Walks.{placed_in, written_in};
 
-use crate::arguments::{listed, sign_of};
+use crate::arguments::{listed, may_be_list, sign_of};
 use crate::chain::{standing_statement, statement_at};
 use crate::entry::Body;
+use crate::list_values::{Caller, is_every};
+use crate::listed::Listed;
 use crate::meaning::{body_number, meaning_at};
 use crate::meant::{Argument, Meant};
 use crate::scene::Scene;
@@ -83,11 +85,14 @@ fn opening_of<'a>(
 
 impl<'c, 's, 'p, 'a> Call<'c, 's, 'p, 'a> {
     ghost use Rattle.std.specs.Prelude.{◌≡◌, ◌+◌, ◌<◌, List, IfOk, Some, length, slice_get};
-    ghost use Rattle.cil_syntax.specs.Said.{args_of, said_of};
+    ghost use Rattle.cil_faults.specs.Spots.{spot_at};
+    ghost use Rattle.cil_syntax.specs.declared.term.Op.{Op as AnOp};
+    ghost use Rattle.cil_syntax.specs.Said.{all_said, args_of, said_of};
+    ghost use Rattle.cil_syntax.specs.Terms.{Form, Leaf};
     ghost use Rattle.cil_blocks.specs.Places.{entries_in};
     ghost use Rattle.cil_macros.specs.Calls.{Unfolded, bound, home_of, unfolded};
     ghost use Rattle.cil_macros.specs.Macros.{all_standing};
-    ghost use Rattle.cil_macros.specs.Meant.{AreArguments, IsWhole, scope_there};
+    ghost use Rattle.cil_macros.specs.Meant.{AreArguments, scope_there};
     ghost use Rattle.cil_macros.specs.Scene.{IsKnown, SaysValue, placed_of_scene};
     ghost use Rattle.cil_macros.specs.Parameters.{call_arguments, macro_parameters};
     ghost use Rattle.cil_macros.specs.Placed.{Bound, Placed};
@@ -157,7 +162,7 @@ impl<'c, 's, 'p, 'a> Call<'c, 's, 'p, 'a> {
         Ok(meanings)
     }
 
-    /// What an argument of a kind is, which is written in this module. A list that is handed on is copied, a step for each part.
+    /// What an argument of a kind is, which is written in this module.
     fn argument_value(
         &self,
         alloc: Global,
@@ -166,18 +171,11 @@ impl<'c, 's, 'p, 'a> Call<'c, 's, 'p, 'a> {
         module: u64,
     ) -> Result<Argument<'a>, NoMemory>
         requires { IsKnown self.now.scene.now self.now.openings.now self.now.at }
-        ensures value { IfOk result (SaysValue self.now.scene.now self.now.at kind (said_of «module» argument.now)) }
-        ensures whole { IfOk result (IsWhole (placed_of_scene self.now.scene.now)) }
+        ensures { IfOk result (SaysValue self.now.scene.now self.now.at kind (said_of «module» argument.now)) }
     {
         match argument {
             Term::Leaf(word) => {
-                let own = Word {
-                    at: Spot::of(module, word.at),
-                    bytes: Excerpt::of(word.bytes.as_slice()),
-                    sign: sign_of(kind),
-                };
-                let meaning = meaning_at(self.scene, self.openings, self.at, &own);
-                let value = meaning.as_argument(alloc)?;
+                let value = self.word_value(alloc, kind, &word.in_module(module))?;
                 Ok(value)
             }
             Term::Name(at, bytes) => Ok(Argument::Plain(Meant::string(
@@ -185,12 +183,58 @@ impl<'c, 's, 'p, 'a> Call<'c, 's, 'p, 'a> {
                 bytes.as_slice(),
             ))),
             Term::Form(_, at, parts) => {
-                Ok(Argument::Plain(Meant::string(
-                    Spot::of(module, *at),
-                    string_in(parts.as_slice()),
-                )))
+                let value = self.form_value(alloc, kind, *at, parts.as_slice(), module)?;
+                Ok(value)
             }
         }
+    }
+
+    /// What an argument is that is a word: the set of everything, or what the word means. A list that is handed on is copied, a
+    /// step for each part.
+    fn word_value(&self, alloc: Global, kind: Op, word: &Word<'a>) -> Result<Argument<'a>, NoMemory>
+        requires { IsKnown self.now.scene.now self.now.openings.now self.now.at }
+        ensures { IfOk result (SaysValue self.now.scene.now self.now.at kind (Leaf word.now)) }
+    {
+        if is_every(kind, word.bytes.as_slice()) {
+            return Ok(Argument::List(Listed {
+                at: word.at,
+                op: Op::All,
+                parts: Vec::new(alloc),
+            }));
+        }
+        let own = Word {
+            at: word.at,
+            bytes: Excerpt::of(word.bytes.as_slice()),
+            sign: sign_of(kind),
+        };
+        let meaning = meaning_at(self.scene, self.openings, self.at, &own);
+        let value = meaning.as_argument(alloc)?;
+        Ok(value)
+    }
+
+    /// What an argument is that joins some parts: a list where its kind has lists, and otherwise a string.
+    fn form_value(
+        &self,
+        alloc: Global,
+        kind: Op,
+        at: u32,
+        parts: &[Term<'a>],
+        module: u64,
+    ) -> Result<Argument<'a>, NoMemory>
+        requires { IsKnown self.now.scene.now self.now.openings.now self.now.at }
+        ensures { IfOk result (λ a. (op : AnOp) → SaysValue self.now.scene.now self.now.at kind (Form (spot_at «module» at) op (all_said «module» parts.now)) a) }
+    {
+        if !may_be_list(kind) {
+            return Ok(Argument::Plain(Meant::string(Spot::of(module, at), string_in(parts))));
+        }
+        let caller = Caller {
+            scene: self.scene,
+            openings: self.openings,
+            at: self.at,
+            module,
+        };
+        let list = caller.list(alloc, kind, at, parts)?;
+        Ok(Argument::List(list))
     }
 }
 

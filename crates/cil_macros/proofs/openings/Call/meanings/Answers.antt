@@ -1,8 +1,8 @@
-use Rattle.std.proofs.Common.{◌≡◌, ◌+◌, ◌∙◌, ap, arith, get_or, length, refl, subst, sym}
+use Rattle.std.proofs.Common.{◌≡◌, ◌+◌, ◌∙◌, ap, arith, get_or, length, subst, sym}
 use Rattle.std.specs.declared.alloc.Global.{Global}
 use Rattle.std.specs.declared.vec.Vec.{Vec}
 use Rattle.std.proofs.lemmas.List.{drop_all}
-use Rattle.cil_syntax.specs.Said.{args_of}
+use Rattle.cil_syntax.specs.Said.{args_of, said_of}
 use Rattle.cil_macros.specs.declared.meant.Argument.{Argument}
 use Rattle.cil_macros.specs.Calls.{bound}
 use Rattle.cil_macros.specs.Meant.{AreArguments}
@@ -11,6 +11,7 @@ use Rattle.cil_macros.specs.Scene.{placed_of_scene}
 use Rattle.cil_macros.specs.Walks.{written_in}
 use Rattle.cil_macros.proofs.ArgumentLemmas.{parameters_listed}
 use Rattle.cil_macros.proofs.OpeningLemmas.{IsPut, put_all, put_first, put_none, put_one, put_over}
+use Rattle.cil_macros.proofs.ArgumentValues.{unmasked_value}
 use Rattle.cil_macros.proofs.openings.Call.meanings.Goals.{in-Some+in-Some-get+in_ok-value+in_ok-push, in_default}
 use Rattle.cil_macros.proofs.openings.Call.meanings.Goals as goal
 
@@ -47,7 +48,7 @@ loop-term-preserved c = elim c.match-parameter.branch [
       (c.loop-term.invariant p bs here all) w.in-Some.parameter.kind _ w.in-Some.ensures w.in-Some-get.argument.now (omega (arith, within, same))
       (w.in-Some-get.ensures.lookup.1 ∙ ap (λ k. get_or c.listed-arguments.result.now k w.in-Some-get.argument.now) same)
       w.in_ok-value.value c.match-parameter.meanings.items new
-      (λ value is. w.in_ok-value.ensures.value p _ value here refl is) w.in_ok-value.ensures.whole
+      (λ value is. w.in_ok-value.ensures p value here (unmasked_value _ (said_of c.args.call.now.at.«module» w.in-Some-get.argument.now) value is))
   | in_default w ↦ λ p bs here all.
       let s = c.args.self.now.scene.now in
       let same = ap (λ (v : Vec Argument Global). v.items) w.meanings-is in
