@@ -1,5 +1,5 @@
 -- What words mean where they are placed, as it is kept: a word in the scope of what is placed somewhere, or a string.
-use Rattle.std.specs.Prelude.{◌≡◌, ℕ, Bool, ◌&&◌, if◌then◌else◌, suc, List, [], ◌∷◌, length, Option, Some, None, slice_get}
+use Rattle.std.specs.Prelude.{◌≡◌, ℕ, Bool, true, false, ◌&&◌, if◌then◌else◌, suc, List, [], ◌∷◌, length, Option, Some, None, slice_get}
 use Rattle.std.specs.Option.{option_map}
 use Rattle.cil_syntax.specs.declared.kind.Sign.{Sign}
 use Rattle.cil_syntax.specs.declared.kind.Sign.TheVariants as signs
@@ -76,6 +76,10 @@ meaning_there ps sign (meanings.List l) = put sign (list_there ps l.now)
 abbrev pub IsWholeMeaning : List Placed → Meaning → Type 0
 IsWholeMeaning ps (meanings.Plain m) = Unit {0}
 IsWholeMeaning ps (meanings.List l) = IsWholeList ps l.now
+
+abbrev pub is_list : Argument → Bool
+is_list (arguments.Plain m) = false
+is_list (arguments.List l) = true
 
 -- parameters with what their arguments mean
 abbrev pub bounds_by : List Placed → List Parameter → List Argument → List Bound

@@ -8,7 +8,7 @@ use crate::calls::{have_one_scope, scope_at, space_at};
 use crate::chain::{Brought, statement_at};
 use crate::declared_names::Declared;
 use crate::entry::Called;
-use crate::meaning::meaning_at;
+use crate::meaning::{meaning_at, says_words_at};
 use crate::meant::Meaning;
 use crate::nesting::innermost_at;
 use crate::openings::Opening;
@@ -231,6 +231,19 @@ impl<'s, 'p, 'a> Instances<'s, 'p, 'a> {
     {
         let meant = self.meaning(at, word);
         word_meant(word, &meant)
+    }
+
+    /// Whether each word of the statement at a place says a word there. Where it is no, a word may say a list. It costs one step.
+    pub fn says_words(&self, at: usize) -> bool
+        requires { at < length (items_in self.now) }
+        ensures { IsTrue result → SaysWords self.now at }
+    {
+        let scene = Scene {
+            spaces: self.spaces,
+            brought: &self.brought,
+            declared: &self.declared,
+        };
+        says_words_at(&scene, self.openings.as_slice(), at)
     }
 
     /// What a word of the statement at a place says there: a word, or the list that is the argument for which it stands.

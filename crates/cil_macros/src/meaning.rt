@@ -1,15 +1,18 @@
 //! What a word means where it is placed: its argument, or itself in a scope. A word of a body costs a step for each parameter
 //! of its macro.
 
-ghost use Rattle.std.specs.Prelude.{◌≡◌, ◌+◌, ◌<◌, List, MatchOption, None, Some, find, length, slice_get};
+ghost use Rattle.std.specs.Prelude.{◌≡◌, ◌+◌, ◌<◌, IsTrue, List, MatchOption, None, Some, find, length, slice_get};
 ghost use Rattle.cil_syntax.specs.Program.{IsNested, program_of};
+ghost use Rattle.cil_syntax.specs.Terms.{Leaf};
 ghost use Rattle.cil_syntax.specs.Written.{Written};
+ghost use Rattle.cil_syntax.specs.declared.term.Word.{Word as AWord};
 ghost use Rattle.cil_blocks.specs.Contents.{Standing};
 ghost use Rattle.cil_blocks.specs.Entries.{statement_at};
 ghost use Rattle.cil_blocks.specs.Places.{entries_in};
 ghost use Rattle.cil_macros.specs.Entries.{AreBodies, placed_of};
 ghost use Rattle.cil_macros.specs.Macros.{all_standing};
 ghost use Rattle.cil_macros.specs.Meant.{AreArguments, IsWholeMeaning, meaning_there};
+ghost use Rattle.cil_macros.specs.Items.{said_by, word_of};
 ghost use Rattle.cil_macros.specs.Openings.{IsNumbered};
 ghost use Rattle.cil_macros.specs.Parameters.{macro_parameters};
 ghost use Rattle.cil_macros.specs.Placed.{Bound, Placed, is_served, meaning};
@@ -51,6 +54,19 @@ pub fn meaning_at<'o, 'a>(
         return Meaning::Plain(Meant::word(word.at, word.bytes.as_slice(), opening.home));
     }
     Meaning::Plain(Meant::word(word.at, word.bytes.as_slice(), at))
+}
+
+/// Whether each word of the statement at a place says a word there: no argument of its body is a list. It costs one step.
+pub fn says_words_at(scene: &Scene, openings: &[Opening], at: usize) -> bool
+    requires { IsKnown scene.now openings.now at }
+    ensures { IsTrue result → (p : Placed) (w : AWord) → slice_get (placed_of_scene scene.now) at ≡ Some p
+        → said_by (written_in scene.now.spaces.now) p w ≡ Leaf (word_of (written_in scene.now.spaces.now) p w) }
+{
+    let standing = scene.spaces.entries().len();
+    match body_number(scene.brought, standing, at) {
+        None => true,
+        Some(number) => !openings[number].lists,
+    }
 }
 
 /// The argument for which a word stands in the body of the macro that is the statement of a number.

@@ -77,8 +77,15 @@ pub enum Meaning<'o, 'a> {
 impl<'a> Argument<'a> {
     ghost use Rattle.std.specs.Prelude.{◌≡◌, List};
     ghost use Rattle.cil_macros.specs.Placed.{Placed};
-    ghost use Rattle.cil_macros.specs.Meant.{IsWhole, IsWholeMeaning, meaning_there, put_there};
+    ghost use Rattle.cil_macros.specs.Meant.{IsWhole, IsWholeMeaning, is_list, meaning_there, put_there};
     ghost use Rattle.cil_syntax.specs.declared.kind.Sign.{Sign};
+
+    /// Whether it is a list.
+    pub fn is_list(&self) -> bool
+        ensures { result ≡ is_list self.now }
+    {
+        matches!(self, Argument::List(_))
+    }
 
     /// What a word means that stands for it.
     pub fn meaning(&self) -> Meaning<'_, 'a>

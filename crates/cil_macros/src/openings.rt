@@ -6,7 +6,8 @@ ghost use Rattle.cil_syntax.specs.Said.{all_said};
 ghost use Rattle.cil_blocks.specs.Places.{entries_in};
 ghost use Rattle.cil_macros.specs.Calls.{Unfolded, home_of, unfolded};
 ghost use Rattle.cil_macros.specs.Macros.{all_standing};
-ghost use Rattle.cil_macros.specs.Meant.{AreArguments, scope_there};
+ghost use Rattle.std.specs.List.{list_any};
+ghost use Rattle.cil_macros.specs.Meant.{AreArguments, is_list, scope_there};
 ghost use Rattle.cil_macros.specs.Openings.{AreOpenings, IsOpening};
 ghost use Rattle.cil_macros.specs.Parameters.{macro_parameters, string_in};
 ghost use Rattle.cil_macros.specs.Placed.{Placed};
@@ -32,6 +33,8 @@ pub struct Opening<'a> {
     pub home: usize,
     /// What the arguments are, one for each parameter of the macro.
     pub arguments: Vec<Argument<'a>>,
+    /// Whether one of them is a list.
+    pub lists: bool,
 }
 
 /// What the body of a macro takes its arguments from.
@@ -77,10 +80,24 @@ fn opening_of<'a>(
         at: body.call,
     };
     let arguments = call.arguments(alloc, body.macro_rank)?;
+    let lists = has_list(arguments.as_slice());
     Ok(Opening {
         home: call.home(),
         arguments,
+        lists,
     })
+}
+
+/// Whether an argument is a list.
+fn has_list(arguments: &[Argument]) -> bool
+    ensures { result ≡ list_any is_list arguments.now }
+{
+    for argument in arguments {
+        if argument.is_list() {
+            return true;
+        }
+    }
+    false
 }
 
 impl<'c, 's, 'p, 'a> Call<'c, 's, 'p, 'a> {
