@@ -42,6 +42,7 @@ pub mod PutLemmas
 pub mod ReadLemmas
 pub mod RoundLemmas
 pub mod SameParameters
+pub mod SaidParts
 pub mod ScopeEndLemmas
 pub mod ScopeLemmas
 pub mod ServingLemmas

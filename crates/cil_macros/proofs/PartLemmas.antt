@@ -1,5 +1,5 @@
 -- Terms as their parts, and what parts say: the parts of some terms say these terms.
-use Rattle.std.proofs.Common.{◌≡◌, List, [], ◌∷◌, ◌++◌, refl, sym, ◌∙◌, ap, append_assoc}
+use Rattle.std.proofs.Common.{◌≡◌, ℕ, List, [], ◌∷◌, ◌++◌, refl, sym, ◌∙◌, ap, append_assoc}
 use Rattle.std.proofs.lemmas.List.{append-nil, map-append}
 use Rattle.cil_syntax.specs.declared.term.Op.{Op}
 use Rattle.cil_faults.specs.declared.spot.Spot.{Spot}
@@ -61,6 +61,10 @@ form_parts at op ts = refl
 pub leaf_parts : (w : ScopedWord) → parts_of (Leaf w) ≡ Rattle.cil_macros.specs.Listed.word w ∷ []
 unfolding parts_of
 leaf_parts w = refl
+
+pub name_parts : (at : Spot) (bytes : List ℕ) → parts_of (Name at bytes) ≡ Rattle.cil_macros.specs.Listed.text at bytes ∷ []
+unfolding parts_of
+name_parts at bytes = refl
 
 -- ---- parts behind others, as they are kept
 

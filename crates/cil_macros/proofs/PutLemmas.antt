@@ -21,7 +21,7 @@ use Rattle.cil_syntax.specs.Scopes.{ScopedWord}
 use Rattle.cil_syntax.specs.Shapes.{Cell, Reading, Row, Shape, close, item, looked_up, many, set_of}
 use Rattle.cil_syntax.specs.Spelling.{same_bytes}
 use Rattle.cil_syntax.specs.Table.{class_permission, level, range}
-use Rattle.cil_syntax.specs.Terms.{Term, Leaf, Form, Terms, nil, cons}
+use Rattle.cil_syntax.specs.Terms.{Term, Leaf, Name, Form, Terms, nil, cons}
 use Rattle.cil_syntax.specs.Words.{is_spelled, read_looked_up, read_string, read_word, reads, word_faults}
 use Rattle.cil_syntax.proofs.SaidLemmas.{form_said, leaf_said}
 use Rattle.cil_faults.specs.Spots.{spot_at}
@@ -55,15 +55,19 @@ module _ (f : Word → Term ScopedWord) where
   unfolding filled
   filled_leaf w = refl
 
+  pub filled_name : (at : Spot) (bytes : List ℕ) → filled f (Name at bytes) ≡ Name at bytes
+  unfolding filled
+  filled_name at bytes = refl
+
   pub filled_form : (at : Spot) (op : Op) (ts : Terms Word) → filled f (Form at op ts) ≡ Form at op (all_filled f ts)
   unfolding filled
   filled_form at op ts = refl
 
-  parts_more : (t : Term Word) (ts : Terms Word) → all_parts_of (all_filled f (cons t ts)) ≡ parts_of (filled f t) ++ all_parts_of (all_filled f ts)
+  pub parts_more : (t : Term Word) (ts : Terms Word) → all_parts_of (all_filled f (cons t ts)) ≡ parts_of (filled f t) ++ all_parts_of (all_filled f ts)
   unfolding filled parts_of
   parts_more t ts = refl
 
-  parts_none : all_parts_of (all_filled f nil) ≡ []
+  pub parts_none : all_parts_of (all_filled f nil) ≡ []
   unfolding filled parts_of
   parts_none = refl
 

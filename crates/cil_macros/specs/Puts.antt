@@ -13,6 +13,7 @@ use Rattle.cil_syntax.specs.Shapes.{Cell, a_list}
 use Rattle.cil_syntax.specs.Terms.{Term, Leaf, Name, Form, Terms, nil}
 use Rattle.cil_macros.specs.declared.listed.Part.{Part}
 use Rattle.cil_macros.specs.declared.scene.Scene.{Scene}
+use Rattle.cil_macros.specs.Items.{said_by}
 use Rattle.cil_macros.specs.ListForms.{kept_cells}
 use Rattle.cil_macros.specs.declared.listed.Listed.{Listed}
 use Rattle.cil_macros.specs.declared.listed.Part.TheVariants as kept_parts
@@ -77,3 +78,21 @@ SaysList s at o l =
 -- a string, as it is kept
 abbrev pub text_parts : Spot → List ℕ → List Part
 text_parts at bytes = kept_parts.Opens at ops.UnreadText ∷ kept_parts.Text at bytes ∷ kept_parts.Closes ∷ []
+
+-- ---- what a placed statement says
+
+-- the parts of what a word says at a place were put behind others
+abbrev pub SaysWord : Scene → ℕ → Word → List Part → List Part → Type 0
+SaysWord s at w old new =
+    (p : Placed) → slice_get (placed_of_scene s) at ≡ Some p
+    → parts_there (placed_of_scene s) new ≡ parts_there (placed_of_scene s) old ++ parts_of (said_by (written_in s.spaces.now) p w)
+
+abbrev pub SaysTerm : Scene → ℕ → Term Word → List Part → List Part → Type 0
+SaysTerm s at t old new =
+    (p : Placed) → slice_get (placed_of_scene s) at ≡ Some p
+    → parts_there (placed_of_scene s) new ≡ parts_there (placed_of_scene s) old ++ parts_of (filled (said_by (written_in s.spaces.now) p) t)
+
+abbrev pub SaysTerms : Scene → ℕ → Terms Word → List Part → List Part → Type 0
+SaysTerms s at ts old new =
+    (p : Placed) → slice_get (placed_of_scene s) at ≡ Some p
+    → parts_there (placed_of_scene s) new ≡ parts_there (placed_of_scene s) old ++ all_parts_of (all_filled (said_by (written_in s.spaces.now) p) ts)

@@ -30,6 +30,7 @@ mod nearest;
 mod nesting;
 pub mod openings;
 pub mod placed_word;
+pub mod said_parts;
 pub mod scene;
 pub mod source;
 pub mod walk;

@@ -70,7 +70,7 @@ fn push_text<'a>(parts: &mut Vec<Part<'a>>, meant: &Meant<'a>) -> Result<(), NoM
 }
 
 /// Adds a list.
-fn push_list<'a>(parts: &mut Vec<Part<'a>>, list: &Listed<'a>) -> Result<(), NoMemory>
+pub(crate) fn push_list<'a>(parts: &mut Vec<Part<'a>>, list: &Listed<'a>) -> Result<(), NoMemory>
     ensures { OnOk result ((ps : List Placed) → IsWholeList ps list.now → parts_there ps parts.new.items ≡ parts_there ps parts.old.items ++ parts_of (list_there ps list.now)) }
 {
     parts.push(Part::Opens(list.at, list.op))?;
