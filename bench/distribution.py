@@ -20,8 +20,7 @@ has the numbers of statements and of words, what inheritance and calls bring inc
 
 With --attributes it is a policy without blocks and optionals whose words stand for sets: 4,098 types, 284 aliases and
 338 attributes, which 59,699 statements give their members, 6,799 roletype and 175,718 allow statements over all these.
-It takes --scale too, and the files queries and answers say what must follow. The program does not accept attributes yet:
-its LOAD replies with faults 22.
+It takes --scale too, and the files queries and answers say what must follow.
 """
 import os
 import sys

@@ -39,7 +39,7 @@ text() {
         }
         if (form == "macro-calls") {
             print "(macro m ((type a)(role r)) (type x)(roletype r a))"
-            for (n = 0; n < count; n++) printf "(type ty%d)(role ro%d)(call m (ty%d ro%d))\n", n, n, n, n
+            for (n = 0; n < count; n++) printf "(type ty%d)(role ro%d)(call m (ty%d ro%d))\n", n, n % 4000, n, n % 4000
         }
         if (form == "macro-doubling") {
             print "(macro m0 () (type t))"

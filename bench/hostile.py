@@ -30,6 +30,9 @@ import time
 LONGEST = 4_000_000
 ALL = 64_000_000
 
+# A policy may have so many types and roles (60), the role object_r among them.
+MOST_TYPES, MOST_ROLES = 65_535, 4_096
+
 
 # ---- texts
 
@@ -405,7 +408,7 @@ def long_fault_words(size):
 
 def far_names(size):
     """One name in very many blocks, and words of that name in optionals outside, whose scope has none of these blocks."""
-    blocks = "".join(pieces(size // 2, "(block b{:x}(type x))".format))
+    blocks = "".join(pieces(size // 2, "(block b{:x}(type x))".format)[:MOST_TYPES])
     return [blocks + "(optional a(roletype object_r x))" * (size // 2 // 33)]
 
 
@@ -454,8 +457,10 @@ def dots(size):
 
 
 def pairs(size):
-    """Pairs of a role and a type."""
-    return numbered(size, "(role a{0:x})(type a{0:x})(roletype a{0:x} a{0:x})".format)
+    """Pairs of a role and a type, of as many roles and types as there may be."""
+    def pair(n):
+        return f"(role a{n % (MOST_ROLES - 1):x})(type a{n % MOST_TYPES:x})(roletype a{n % (MOST_ROLES - 1):x} a{n % MOST_TYPES:x})"
+    return numbered(size, pair)
 
 
 def hashed(state, byte):
@@ -526,6 +531,74 @@ def other_words(size):
     return asked_words(size, 0)
 
 
+# ---- aliases and attributes
+
+def types(size=LONGEST):
+    """Types, as many as there is room for and as there may be."""
+    return "".join(pieces(min(size, 12 * MOST_TYPES), "(type a{:x})".format)[:MOST_TYPES])
+
+
+# An attribute of all types.
+ALL_TYPES = "(typeattribute z)(typeattributeset z all)"
+
+
+def many_types(size):
+    """More types than there may be (60)."""
+    return numbered(size, "(type a{:x})".format)
+
+
+def growing_sets(size):
+    """Attributes, each of which has what the one before has, and one type more."""
+    def link(n):
+        before = f"s{n - 1:x} " if n else ""
+        return f"(type a{n:x})(typeattribute s{n:x})(typeattributeset s{n:x}({before}a{n:x}))"
+    return numbered(size, link)
+
+
+def set_words(size):
+    """An attribute whose list names an attribute of very many types very often."""
+    return [types(size // 4) + ALL_TYPES + f"(typeattribute y)(typeattributeset y({' z' * (size * 3 // 8)}))"]
+
+
+def nested_sets(size):
+    """Statements of an attribute whose expressions are operators 120 deep, over an attribute of very many types."""
+    deep = "(xor z(not " * 60 + "z" + "))" * 60
+    return [types(size // 8) + ALL_TYPES + "(typeattribute y)" + f"(typeattributeset y{deep})" * (size * 7 // 8 // 800)]
+
+
+def set_ring(size):
+    """Attributes in a ring: each is what the next one is (54)."""
+    links = pieces(size, lambda n: f"(typeattribute s{n:x})(typeattributeset s{n:x} s{n + 1:x})")
+    last = len(links)
+    return ["".join(links) + f"(typeattribute s{last:x})(typeattributeset s{last:x} s0)"]
+
+
+def alias_line(size):
+    """Aliases, each of which stands for the next one. The last one stands for a type."""
+    links = pieces(size, lambda n: f"(typealias a{n:x})(typealiasactual a{n:x} a{n + 1:x})")
+    return ["".join(links) + f"(type a{len(links):x})"]
+
+
+def full_links(size):
+    """A size is a number of statements: each gives all roles all types."""
+    roles = "".join(f"(role b{n:x})" for n in range(MOST_ROLES - 1))
+    every = "(roleattribute y)(roleattributeset y all)"
+    return [types() + ALL_TYPES + roles + every + "(roletype y z)" * size]
+
+
+def full_rules(size):
+    """A size is a number of rules: each is on a class of its own, from all types to all types."""
+    each = (f"(class c{n:x}(e))(allow z z(c{n:x}(e)))" for n in range(size))
+    return [types() + ALL_TYPES + "".join(each)]
+
+
+def unlike_rules(size):
+    """A size is a number of rules: each is between the types of an attribute of its own, which has all types but one."""
+    def rule(n):
+        return f"(typeattribute s{n:x})(typeattributeset s{n:x}(not a{n:x}))(allow s{n:x} s{n:x}(c(e)))"
+    return [types() + "(class c(e))", "".join(map(rule, range(size)))]
+
+
 # ---- optionals
 
 def same_optionals(size):
@@ -539,8 +612,8 @@ def optional_chain(size):
 
 
 def optional_ring(size):
-    """The same, but the last one's is there, in the first."""
-    links = pieces(size, lambda n: f"(optional a(type a{n:x})(roletype object_r a{n + 1:x}))")
+    """The same, but the last one's is there, in the first. There are no more than there may be types."""
+    links = pieces(size, lambda n: f"(optional a(type a{n:x})(roletype object_r a{n + 1:x}))")[:MOST_TYPES - 1]
     return ["".join(links) + f"(optional a(type a{len(links):x})(roletype object_r a0))"]
 
 
@@ -577,9 +650,9 @@ def candidates(size):
 # ---- requests
 
 def rules(size):
-    """Rules, of which each query looks at all."""
+    """Rules between types, of which each query looks at few."""
     yield "(user u)(class c(e))"
-    yield from numbered(size, "(type a{0:x})(allow a{0:x} a0(c(e)))".format)
+    yield from numbered(size, lambda n: f"(type a{n % MOST_TYPES:x})(allow a{n % MOST_TYPES:x} a{n // MOST_TYPES:x}(c(e)))")
 
 
 def none(_size):
@@ -667,6 +740,11 @@ FORMS = {
     "permission-list": (permission_list, 1_000_000, load), "deep-operators": (deep_operators, LONGEST, load),
     "pairs": (pairs, LONGEST, load), "flood": (flood, LONGEST, load),
     "flood-words": (flood_words, 400_000, load), "other-words": (other_words, 400_000, load),
+    "many-types": (many_types, LONGEST, load), "growing-sets": (growing_sets, LONGEST, load),
+    "set-words": (set_words, LONGEST, load), "nested-sets": (nested_sets, LONGEST, load),
+    "set-ring": (set_ring, LONGEST, load), "alias-line": (alias_line, LONGEST, load),
+    "full-links": (full_links, 100, load), "full-rules": (full_rules, 1_000, load),
+    "unlike-rules": (unlike_rules, 1_000, load),
     "same-optionals": (same_optionals, 11_000_000, lines), "optional-chain": (optional_chain, LONGEST, lines),
     "optional-ring": (optional_ring, LONGEST, lines), "deep-optionals": (deep_optionals, 7_800_000, load),
     "optional-lines": (optional_lines, LONGEST, load),

@@ -2,9 +2,9 @@
 """Runs the worked examples of the rules on the model. Status: 0 all are answered as the rules say, 1 one is not.
 
 Each example is its modules, and the requests with the replies that the rules give for them. The forms of statements are
-those of scripts/forms.txt, with their faults. The rows of rows/later are sessions with statements that the program does
-not accept yet. With --long there are also examples of nearly a million instances, which
-take minutes.
+those of scripts/forms.txt, with their faults. The rows of ROWS are sessions of the program, and those of rows/later, where
+that folder is, have statements that it does not accept yet. With --long there are also examples of nearly a million
+instances, which take minutes.
 """
 import hashlib
 import pathlib
@@ -292,15 +292,22 @@ def sort_key(line):
     return int(code), int(module), int(at), space, word
 
 
-def later_rows():
-    """The sessions of rows/later: what each row shows, the bytes of the session and of its replies."""
+# The files of rows/ whose rows run over the model too.
+ROWS = ["attributes.session", "transitions.session"]
+
+
+def rows():
+    """The rows of sessions: what each shows, what is accepted, the bytes of the session and of its replies."""
     folder = pathlib.Path(__file__).resolve().parent.parent
     sys.path.insert(0, str(folder / "scripts"))
     import sessions
-    for path in sorted((folder / "rows" / "later").glob("*.session")):
+    files = [(folder / "rows" / name, table.ACCEPTED) for name in ROWS]
+    later = sorted((folder / "rows" / "later").glob("*.session"))
+    for path, language in files + [(path, table.accepting(table.STAGES)) for path in later]:
         for row in sessions.rows_of(path):
             for steps in row.sessions:
-                yield row.name, b"".join(step.given for step in steps), b"".join(step.reply for step in steps)
+                given, replies = (b"".join(each) for each in zip(*((step.given, step.reply) for step in steps)))
+                yield row.name, language, given, replies
 
 
 def main():
@@ -317,9 +324,9 @@ def main():
         if (b"".join(replies), status) != (wanted, wanted_status):
             wrong += 1
             print(f"{shown}: the rules have {wanted!r} and {wanted_status}, the model has {replies!r} and {status}")
-    rows = list(later_rows())
-    for shown, given, wanted in rows:
-        replies, _ = model.run(given, model.Host(table.accepting(table.STAGES)))
+    all_rows = list(rows())
+    for shown, language, given, wanted in all_rows:
+        replies, _ = model.run(given, model.Host(language))
         if b"".join(replies) != wanted:
             wrong += 1
             print(f"{shown}: the row has {wanted!r}, the model has {replies!r}")
@@ -333,7 +340,7 @@ def main():
         if found != wanted:
             wrong += 1
             print(f"{text}: the rules have {wanted}, the model has {found}")
-    print(f"{len(examples) + len(SESSIONS) + len(REASONS)} examples, {len(rows)} rows and {len(all_forms)} forms, {wrong} wrong")
+    print(f"{len(examples) + len(SESSIONS) + len(REASONS)} examples, {len(all_rows)} rows and {len(all_forms)} forms, {wrong} wrong")
     sys.exit(1 if wrong else 0)
 
 

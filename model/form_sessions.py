@@ -1,4 +1,4 @@
-"""Random sessions with statements of all kinds in every form. They show step:Shape alone, since one is always unknown."""
+"""Random sessions with statements of all kinds in every form. They show faults of shapes alone, since one is always unknown."""
 import expressions
 import table
 from pieces import LATER, ODD, UNKNOWN, Quoted, bent, install, module_of, often

@@ -1,4 +1,4 @@
-"""What aliases and attributes of types, roles and users stand for, as sets of full names; or the faults of step:Sets."""
+"""What aliases and attributes of types, roles and users stand for, as sets of full names; or what is wrong with them."""
 import collections
 
 from contents import reached

@@ -404,7 +404,8 @@ class StageDraft(OptionalDraft):
             return
         named = []
         if keyword == b"typetransition" and often(self.rng, 0.4):
-            named = [self.rng.choice([Quoted(b"x y"), b"x", b"all"])]
+            # A word is a name too, but the program still looks it up (rows/later/transitions.session).
+            named = [self.rng.choice([Quoted(b"x y"), Quoted(b"x"), Quoted(b"all")])]
         target = b"self" if often(self.rng, 0.2) else self.word(spot, b"type")
         last = OptionalDraft.word(self, spot, b"type")
         spot.body.append([keyword, self.word(spot, b"type"), target, class_word, *named, last])

@@ -16,7 +16,7 @@ ODD_LINES = [
 
 
 def stages(rng, language):
-    """Policies with what --stages accepts, right and wrong, with queries, SET, CHECK, OPTIONALS and WHY."""
+    """Policies with what the stages of today and of --stages add, right and wrong, with queries, SET, CHECK, OPTIONALS and WHY."""
     if often(rng, 0.005):
         return too_many(rng)
     if often(rng, 0.002) and b"booleanif" in language.statements:

@@ -3,7 +3,7 @@ import re
 
 from sessions import ROOT
 
-OF_THE_POLICY = {38}
+OF_THE_POLICY = {38, 60}
 
 
 def sentences():

@@ -15,6 +15,7 @@ pub mod OrderLemmas
 pub mod PlainLemmas
 pub mod SolvedLemmas
 pub mod SpaceLemmas
+pub mod StandingLemmas
 pub mod StepLemmas
 pub mod TargetLemmas
 pub mod ToldLemmas

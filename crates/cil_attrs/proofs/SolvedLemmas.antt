@@ -47,7 +47,7 @@ same_number a b e = grind (arith, nat_tests)
 number_itself : (a : ℕ) → (a == a) ≡ true
 number_itself a = grind (arith, nat_tests)
 
-same_is : (a b : Symbol) → is_same_symbol a b ≡ true → a ≡ b
+pub same_is : (a b : Symbol) → is_same_symbol a b ≡ true → a ≡ b
 same_is a b e =
     let p = both (same_space a.space b.space) (same_bytes a.name b.name) e in
     symbol_by a b ((spaces_decide a.space b.space).0 p.0) ((bytes_decides a.name b.name).0 p.1)

@@ -10,4 +10,5 @@ pub mod NameSpaces
 pub mod Order
 pub mod Plain
 pub mod SetFaults
+pub mod Standing
 pub mod Targets

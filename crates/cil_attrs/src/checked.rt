@@ -37,10 +37,10 @@ use std::alloc::Global;
 ///
 /// Errors: aliases without a target or with two different ones, sets that depend on themselves, too many items; or out of memory. An
 /// expression over sets that named permissions would be out of memory too: there is none, since no statement of this kind is read so.
-pub fn members<'s, 'a>(
+pub fn members(
     alloc: Global,
-    known: &Known<'s, 'a>,
-    instances: &Instances<'_, 's, 'a>,
+    known: &Known,
+    instances: &Instances,
     names: &[Bytes],
     space: &Space,
 ) -> Result<Members, Failure>
@@ -63,12 +63,12 @@ pub fn members<'s, 'a>(
 }
 
 /// What all statements give sets, where no expression names permissions. Error: out of memory.
-fn plain_givens<'s, 'a>(
+fn plain_givens<'s, 'k, 'a>(
     alloc: Global,
     instances: &Instances<'_, 's, 'a>,
-    known: &Known<'s, 'a>,
+    known: &Known<'k, '_>,
     of: &SpaceKinds,
-) -> Result<Vec<Given<'s, 'a>>, NoMemory>
+) -> Result<Vec<Given<'s, 'k, 'a>>, NoMemory>
     requires table { IsTableOf (map (row_in known.now) (items_in instances.now)) known.now.words.now }
     requires written { AreWritten of.now }
     ensures gifts { IfOk result (λ givens. (sections : kinds.Kind → List (List ℕ)) (which : SpaceOf) → IsKnown known.now (items_in instances.now) sections → HasKinds of.now which

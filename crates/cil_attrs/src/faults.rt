@@ -38,10 +38,10 @@ use std::alloc::Global;
 /// themselves are flagged. A statement costs a few steps, and one that declares an alias or an attribute a few searches by halving.
 ///
 /// Errors: the faults (aliases without a target or with two, sets that depend on themselves, too many items), or out of memory.
-pub fn check_sets<'s, 'a>(
+pub fn check_sets(
     alloc: Global,
-    instances: &Instances<'_, 's, 'a>,
-    known: &Known<'s, 'a>,
+    instances: &Instances,
+    known: &Known,
     names: &[Bytes],
     space: Space,
     circular: &[bool],
@@ -106,11 +106,11 @@ fn push_many(
 }
 
 /// Reports aliases that stand for nothing, and those that stand for two different things.
-fn push_targets<'s, 'a>(
+fn push_targets(
     alloc: Global,
     faults: &mut Vec<Fault>,
-    instances: &Instances<'_, 's, 'a>,
-    known: &Known<'s, 'a>,
+    instances: &Instances,
+    known: &Known,
     space: Space,
 ) -> Result<(), NoMemory>
     requires namespaces { known.now.lookup.namespaces.now ≡ namespaces_in instances.now }
@@ -129,11 +129,11 @@ fn push_targets<'s, 'a>(
     Ok(())
 }
 
-fn push_alias_targets<'s, 'a>(
+fn push_alias_targets(
     alloc: Global,
     faults: &mut Vec<Fault>,
-    instances: &Instances<'_, 's, 'a>,
-    known: &Known<'s, 'a>,
+    instances: &Instances,
+    known: &Known,
     space: Space,
     aliases: SetKind,
 ) -> Result<(), NoMemory>

@@ -41,12 +41,12 @@ pub struct SpaceKinds {
 
 /// What all statements give sets, in the order of the statements. A statement costs a step, and one that gives something the length
 /// of the way round it to the outermost optional. Error: out of memory.
-pub fn givens_of<'s, 'a>(
+pub fn givens_of<'s, 'k, 'a>(
     alloc: Global,
     instances: &Instances<'_, 's, 'a>,
-    known: &Known<'s, 'a>,
+    known: &Known<'k, '_>,
     space: &SpaceKinds,
-) -> Result<Vec<Given<'s, 'a>>, NoMemory>
+) -> Result<Vec<Given<'s, 'k, 'a>>, NoMemory>
     requires table { IsTableOf (map (row_in known.now) (items_in instances.now)) known.now.words.now }
     requires written { AreWritten space.now }
     ensures { IfOk result (λ givens. (names : kinds.Kind → List (List ℕ)) (which : SpaceOf) → IsKnown known.now (items_in instances.now) names → HasKinds space.now which
@@ -62,13 +62,13 @@ pub fn givens_of<'s, 'a>(
 }
 
 /// What the statement at a place gives a set, by what its words mean; none where it gives nothing.
-pub fn given_at<'s, 'a>(
+pub fn given_at<'s, 'k, 'a>(
     instances: &Instances<'_, 's, 'a>,
     at: usize,
-    words: &'s [Meaning],
+    words: &'k [Meaning],
     known: &Known,
     space: &SpaceKinds,
-) -> Option<Given<'s, 'a>>
+) -> Option<Given<'s, 'k, 'a>>
     requires within { at < length (items_in instances.now) }
     requires written { AreWritten space.now }
     ensures at { IfSome result (λ g. g.at ≡ at) }

@@ -6,9 +6,10 @@
 //! name spaces, `faults.rt` their faults, `targets.rt` what statements say of aliases, `declared.rt` faults at declared names,
 //! `evaluator.rt` the value of a set expression, `giver.rt` what one statement gives a set, `plain.rt` which expressions have a value,
 //! `beginning.rt` what names hold at first, `order.rt` which sets depend on themselves, `making.rt` the sets in an order in which each
-//! is made before it is named. `laws.rt` says that each symbol of a name space is an item, an alias or an attribute.
+//! is made before it is named, `standing.rt` for which items the words of a kind stand. `laws.rt` says that each symbol of a name space
+//! is an item, an alias or an attribute.
 //!
-//! Not done here: ranges of categories. No statement that gives a set its members is read yet, so the host does not use this crate.
+//! Not done here: ranges of categories.
 #![tactic(auto)]
 
 mod beginning;
@@ -23,6 +24,7 @@ mod making;
 mod order;
 mod plain;
 mod space;
+mod standing;
 mod targets;
 mod way;
 
@@ -32,3 +34,4 @@ pub use faults::check_sets;
 pub use giver::{SetKind, SpaceKinds};
 pub use held::Members;
 pub use space::{Limit, Space};
+pub use standing::standing_of;

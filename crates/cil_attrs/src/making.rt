@@ -18,7 +18,7 @@ use std::mem;
 
 /// What a statement gives a set.
 #[derive(Clone, Copy)]
-pub struct Given<'s, 'a> {
+pub struct Given<'s, 'k, 'a> {
     /// The number of the entry of the set.
     pub set: usize,
     /// The place of the statement.
@@ -28,7 +28,7 @@ pub struct Given<'s, 'a> {
     /// The number of the module of the statement.
     pub module: u64,
     /// The meanings of the words of the expression.
-    pub words: &'s [Meaning],
+    pub words: &'k [Meaning],
 }
 
 /// What each entry holds where each set has got what these give it. In the order of the statements no expression names the set

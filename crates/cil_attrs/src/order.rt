@@ -102,7 +102,10 @@ fn is_set(held: &Held) -> bool
 }
 
 /// What statements give, sorted by the ranks of the sets.
-pub fn ranked<'s, 'a>(mut givens: Vec<Given<'s, 'a>>, ranks: &[usize]) -> Vec<Given<'s, 'a>>
+pub fn ranked<'s, 'k, 'a>(
+    mut givens: Vec<Given<'s, 'k, 'a>>,
+    ranks: &[usize],
+) -> Vec<Given<'s, 'k, 'a>>
     ensures sorted { IsNonDecreasingBy (λ x. get_or ranks.now x.set 0) result.items }
     ensures same { IsPermutation givens.entry.items result.items }
 {

@@ -33,10 +33,10 @@ pub struct Step {
 }
 
 /// What enabled statements say of the aliases of these items. Error: out of memory.
-pub fn steps_of<'s, 'a>(
+pub fn steps_of(
     alloc: Global,
-    instances: &Instances<'_, 's, 'a>,
-    known: &Known<'s, 'a>,
+    instances: &Instances,
+    known: &Known,
     item: Kind,
     aliases: SetKind,
 ) -> Result<Vec<Step>, NoMemory>

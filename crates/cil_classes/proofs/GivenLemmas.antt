@@ -201,19 +201,19 @@ module _ (k : Known) (xs : List Item) (names : Kind → List (List ℕ)) (known 
   -- the entry that a word means is that of the class
   module _ (c : Symbol) (stands : StandsFor xs (enabled_in k) kinds.Class w c) (d : ℕ) (named : IsNamed k.lookup.namespaces.now xs entries (enabled_in k) w d) where
     there : c.space ≡ named.space
-    there = same_Some c.space named.space (sym (found_of xs (enabled_in k) kinds.Class w c stands) ∙ named.found)
+    there = same_Some c.space named.space (sym (found_of xs (enabled_in k) kinds.Class refl w c stands) ∙ named.found)
 
     its_symbol : symbol_of k.lookup.namespaces.now named.entry ≡ c
     its_symbol =
         let (space, name, wanted) = parts_of k.lookup.namespaces.now (asked w.bytes).name w.sign named.space named.entry named.fits in
-        symbol_by (symbol_of k.lookup.namespaces.now named.entry) c (space ∙ sym there) (name ∙ sym (named_of xs (enabled_in k) kinds.Class w c stands))
+        symbol_by (symbol_of k.lookup.namespaces.now named.entry) c (space ∙ sym there) (name ∙ sym (named_of xs (enabled_in k) kinds.Class refl w c stands))
 
     its_kind : named.entry.kind ≡ kinds.Class
     its_kind =
         let (i, f) = known.entries.each (enabled_in k) stands.declared.declaration stands.declared.declares in
         let fits = they_are k.lookup.namespaces.now (asked w.bytes).name w.sign named.space f.entry (f.in_space ∙ stands.declared.in_space ∙ there)
-        (f.of_name ∙ stands.declared.of_name ∙ named_of xs (enabled_in k) kinds.Class w c stands)
-        (ap (is_wanted w.sign) (f.of_kind ∙ stands.declared.of_kind) ∙ wanted_of xs (enabled_in k) kinds.Class w c stands) in
+        (f.of_name ∙ stands.declared.of_name ∙ named_of xs (enabled_in k) kinds.Class refl w c stands)
+        (ap (is_wanted w.sign) (f.of_kind ∙ stands.declared.of_kind) ∙ wanted_of xs (enabled_in k) kinds.Class refl w c stands) in
         let one : named.entry ≡ f.entry = same_Some named.entry f.entry (sym named.at ∙ ap (slice_get entries) (sym (named.only i f.entry f.at fits)) ∙ f.at) in
         ap (λ (x : Entry). x.kind) one ∙ f.of_kind ∙ stands.declared.of_kind
 
@@ -245,7 +245,7 @@ module _ (k : Known) (xs : List Item) (names : Kind → List (List ℕ)) (known 
       go (meant_in k w) refl (law k.lookup.namespaces.now xs entries (enabled_in k) w known.namespaces known.entries)
     where
       go : (o : Option ℕ) → o ≡ meant_in k w → IsAnswer k.lookup.namespaces.now xs entries (enabled_in k) w o → listed_for k.lookup.namespaces.now entries k.permissions.now w ≡ permissions
-      go None means none = absurd (none-some c.space (sym none ∙ found_of xs (enabled_in k) kinds.Class w c stands))
+      go None means none = absurd (none-some c.space (sym none ∙ found_of xs (enabled_in k) kinds.Class refl w c stands))
       go (Some d) means named = row_listed c stands d named permissions are p some means
 
 -- the mask that was made by the numbers of the permissions is that of the permissions of the row

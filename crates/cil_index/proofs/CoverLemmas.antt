@@ -6,9 +6,7 @@ use Rattle.std.proofs.lemmas.List.Elements.{Contains-append_cases}
 use Rattle.cil_base.specs.Lists.{contains_cases, contains_none}
 use Rattle.cil_base.specs.Places.{get_at, get_contains, none_some, some_same}
 use Rattle.cil_classes.proofs.BitLemmas.{none_set, set_in_either}
-use Rattle.cil_rules.specs.declared.rule.Rule.{Rule}
-use Rattle.cil_rules.specs.declared.rule.Target.{Target}
-use Rattle.cil_rules.specs.declared.rule.Target.TheVariants.{Types, Itself}
+use Rattle.cil_rules.specs.Rule.{Rule, Target, Types, Itself}
 use Rattle.cil_rules.specs.Covers.{HasCover, Reaches}
 use Rattle.cil_index.specs.declared.key.Entry.{Entry}
 use Rattle.cil_index.specs.declared.key.Key.{Key}
@@ -138,6 +136,14 @@ at_other rules place r source target class_ at differs bit = (
   λ s. absurd (none_set bit s),
   λ c. absurd (differs (subst (λ (z : Rule). Matches z source target class_) (some_same c.rule r (sym c.is_there ∙ at))
       (record { has_source = c.covers.has_source; has_target = c.covers.has_target; of_class = c.covers.of_class }))),
+)
+
+-- nor does one whose source set lacks the source
+pub at_lacking : (rules : List Rule) (place source target class_ : ℕ) (set : List ℕ) → ((r : Rule) → slice_get rules place ≡ Some r → set ≡ r.source) → (Contains set source → ⊥)
+    → (bit : ℕ) → IsBitSet 0 bit ↔ CoversAt rules source target class_ place bit
+at_lacking rules place source target class_ set is lacks bit = (
+  λ b. absurd (none_set bit b),
+  λ v. absurd (lacks (subst (λ (z : List ℕ). Contains z source) (sym (is v.rule v.is_there)) v.covers.has_source)),
 )
 
 pub at_none : (rules : List Rule) (place : ℕ) (source target class_ : ℕ) → slice_get rules place ≡ None → (bit : ℕ)

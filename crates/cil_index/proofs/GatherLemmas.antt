@@ -1,19 +1,13 @@
 -- Sets that are gathered, in any order.
-use Rattle.std.specs.Prelude.{Contains, ◌⊎◌}
-use Rattle.std.specs.List.Sorted.{IsStrictlySortedBy}
-use Rattle.std.specs.Ordering.{nat_cmp}
-use Rattle.std.proofs.Common.{◌≡◌, ℕ, zero, suc, ◌+◌, ◌<◌, ◌≤◌, List, [], ◌∷◌, ◌++◌, length, get_or, take, sym, ◌∙◌, ap, subst, inl, inr, arith}
+use Rattle.std.specs.Prelude.{Contains, Some, slice_get}
+use Rattle.std.proofs.Common.{◌≡◌, ℕ, zero, suc, ◌+◌, ◌<◌, ◌≤◌, List, [], ◌∷◌, ◌++◌, length, get_or, take, refl, sym, ◌∙◌, ap, subst, inl, inr, arith}
 use Rattle.std.proofs.lemmas.Bool.{cases_lt}
-use Rattle.std.proofs.lemmas.Cmp.{nat_cmp_total}
-use Rattle.std.proofs.lemmas.List.{take_all, take_more}
+use Rattle.std.proofs.Math.ListN.{get_or-append, get_or-eq_default}
+use Rattle.std.proofs.Math.Seq.{get_or-append_seam}
+use Rattle.std.proofs.lemmas.List.{get_or_default, length-append, take_all, take_more}
 use Rattle.std.proofs.lemmas.List.Elements.{Contains-append_cases, Contains-append_left, Contains-append_right}
-use Rattle.cil_base.specs.Lists.{Lists, contains_cases, contains_here, contains_none, same_members}
-use Rattle.cil_base.specs.Rising.{rising_nothing}
-use Rattle.cil_base.specs.Sorted.{lists_of}
-use Rattle.cil_rules.specs.declared.rule.Rule.{Rule}
-use Rattle.cil_rules.specs.declared.rule.Target.{Target}
-use Rattle.cil_rules.specs.declared.rule.Target.TheVariants.{Types, Itself}
-use Rattle.cil_index.specs.Sets.{HasSets, HasTargets, all_sets, small_sets}
+use Rattle.cil_base.specs.Lists.{contains_cases, contains_here, contains_none}
+use Rattle.cil_index.specs.Sets.{AreNumbered, IsSmallNumber, all_sets, set_of, small_sets}
 
 -- ---- which sets are there
 
@@ -85,56 +79,73 @@ one_long [] d e = absurd (omega (arith, e))
 one_long (x ∷ []) d e = λ i. x ∷ []
 one_long (x ∷ y ∷ xs) d e = absurd (omega (arith, e))
 
--- ---- a set from its members
+-- a set with fewer than two members, by its least one
+pub single : (xs : List ℕ) (v : ℕ) → length xs < 2 → Contains xs v → xs ≡ v ∷ []
+single [] v few c = absurd (contains_none v c)
+single (x ∷ []) v few c = elim (contains_cases v x [] c) [ inl e ↦ ap (λ k. k ∷ []) e | inr none ↦ absurd (contains_none v none) ]
+single (x ∷ y ∷ xs) v few c = absurd (omega (arith, few))
 
-pub taken_none : (xs set : List ℕ) → set ≡ [] → Lists nat_cmp (Contains (take 0 xs)) set
-taken_none xs set e = subst (Lists nat_cmp (Contains [])) (sym e) (record { rising = rising_nothing nat_cmp; members = λ x. (λ c. c, λ c. c) })
+pub nothing : (xs : List ℕ) → ((v : ℕ) → Contains xs v → 0 ≤ v → ⊥) → xs ≡ []
+nothing [] none = λ i. []
+nothing (x ∷ xs) none = absurd (none x (contains_here x xs) (omega arith))
 
-pub taken_more : (xs : List ℕ) (i v d : ℕ) (old new : List ℕ) → i < length xs → v ≡ get_or xs i d → Lists nat_cmp (Contains (take i xs)) old
-    → Lists nat_cmp (λ u. Contains old u ⊎ (u ≡ v)) new → Lists nat_cmp (Contains (take (i + 1) xs)) new
-taken_more xs i v d old new less is so_far added =
-    let one_more : take (i + 1) xs ≡ take i xs ++ v ∷ [] = take_more xs i d less ∙ ap (λ r. take i xs ++ r ∷ []) (sym is) in
-    subst (λ (z : List ℕ). Lists nat_cmp (Contains z) new) (sym one_more) (lists_of nat_cmp _ _ new
-    (λ u h. elim h [
-      | inl c ↦ Contains-append_left (take i xs) (v ∷ []) u ((so_far.members u).0 c)
-      | inr e ↦ Contains-append_right (take i xs) (v ∷ []) u (subst (Contains (v ∷ [])) (sym e) (contains_here v []))
-    ])
-    (λ u c. elim (Contains-append_cases (take i xs) (v ∷ []) u c) [
-      | inl d ↦ inl ((so_far.members u).1 d)
-      | inr d ↦ elim (contains_cases u v [] d) [ inl e ↦ inr (sym e) | inr none ↦ absurd (contains_none u none) ]
-    ])
-    added)
+pub small_none : (xs : List ℕ) → ((v : ℕ) → Contains xs v → 0 ≤ v → ⊥) → IsSmallNumber xs 0
+small_none xs none = subst (λ ys. IsSmallNumber ys 0) (sym (nothing xs none)) refl
 
-pub taken_all : (xs : List ℕ) (i : ℕ) (set : List ℕ) → length xs ≤ i → IsStrictlySortedBy nat_cmp xs → Lists nat_cmp (Contains (take i xs)) set → set ≡ xs
-taken_all xs i set over up so_far =
-    let all : Lists nat_cmp (Contains xs) set = subst (λ (z : List ℕ). Lists nat_cmp (Contains z) set) (take_all i xs over) so_far in
-    same_members nat_cmp nat_cmp_total set xs all.rising up (λ z c. (all.members z).0 c) (λ z c. (all.members z).1 c)
+pub small_one : (xs : List ℕ) (v n : ℕ) → length xs < 2 → Contains xs v → n ≡ suc v → IsSmallNumber xs n
+small_one xs v n few c next = subst (λ ys. IsSmallNumber ys n) (sym (single xs v few c)) (refl, next)
 
--- ---- the sets of rules
+-- ---- sets, one after another
 
-has_targets : (old new : List (List ℕ)) → ((set : List ℕ) → Contains old set → Contains new set) → (t : Target) → HasTargets old t → HasTargets new t
-has_targets old new stays (Types numbers) h = stays numbers h
-has_targets old new stays Itself h = tt
+pub sets_none : (sets named : List (List ℕ)) (set : List ℕ) → Contains (take 0 named) set → Contains sets set
+sets_none sets named set c = absurd (contains_none set c)
 
-pub has_more : (old new : List (List ℕ)) → ((set : List ℕ) → Contains old set → Contains new set) → (r : Rule) → HasSets old r → HasSets new r
-has_more old new stays r h = record { source = stays r.source h.source; target = has_targets old new stays r.target h.target }
-
-pub rules_none : (sets : List (List ℕ)) (rules : List Rule) (r : Rule) → Contains (take 0 rules) r → HasSets sets r
-rules_none sets rules r c = absurd (contains_none r c)
-
-pub rules_more : (rules : List Rule) (i : ℕ) (v : Rule) (old new : List (List ℕ)) → i < length rules → v ≡ get_or rules i v
-    → ((r : Rule) → Contains (take i rules) r → HasSets old r) → ((set : List ℕ) → Contains old set → Contains new set) → HasSets new v
-    → (r : Rule) → Contains (take (i + 1) rules) r → HasSets new r
-rules_more rules i v old new less is so_far stays here r c =
-    let one_more : take (i + 1) rules ≡ take i rules ++ v ∷ [] = take_more rules i v less ∙ ap (λ (x : Rule). take i rules ++ x ∷ []) (sym is) in
-    elim (Contains-append_cases (take i rules) (v ∷ []) r (subst (λ (z : List Rule). Contains z r) one_more c)) [
-      | inl d ↦ has_more old new stays r (so_far r d)
-      | inr d ↦ elim (contains_cases r v [] d) [ inl e ↦ subst (HasSets new) e here | inr none ↦ absurd (contains_none r none) ]
+pub sets_more : (named : List (List ℕ)) (i : ℕ) (v : List ℕ) (old new : List (List ℕ)) → i < length named → v ≡ get_or named i v
+    → ((set : List ℕ) → Contains (take i named) set → Contains old set) → ((set : List ℕ) → Contains old set → Contains new set) → Contains new v
+    → (set : List ℕ) → Contains (take (i + 1) named) set → Contains new set
+sets_more named i v old new less is so_far stays here set c =
+    let more : take (i + 1) named ≡ take i named ++ v ∷ [] = take_more named i v less ∙ ap (λ (x : List ℕ). take i named ++ x ∷ []) (sym is) in
+    elim (Contains-append_cases (take i named) (v ∷ []) set (subst (λ (z : List (List ℕ)). Contains z set) more c)) [
+      | inl d ↦ stays set (so_far set d)
+      | inr d ↦ elim (contains_cases set v [] d) [ inl e ↦ subst (Contains new) e here | inr none ↦ absurd (contains_none set none) ]
     ]
 
-pub rules_all : (rules : List Rule) (i : ℕ) (sets : List (List ℕ)) → length rules ≤ i → ((r : Rule) → Contains (take i rules) r → HasSets sets r)
-    → (r : Rule) → Contains rules r → HasSets sets r
-rules_all rules i sets over all r c = all r (subst (λ (z : List Rule). Contains z r) (sym (take_all i rules over)) c)
+pub sets_all : (named : List (List ℕ)) (i : ℕ) (sets : List (List ℕ)) → length named ≤ i → ((set : List ℕ) → Contains (take i named) set → Contains sets set)
+    → (set : List ℕ) → Contains named set → Contains sets set
+sets_all named i sets over all set c = all set (subst (λ (z : List (List ℕ)). Contains z set) (sym (take_all i named over)) c)
 
-pub rule_there : (rules : List Rule) (i : ℕ) (v : Rule) → i < length rules → v ≡ get_or rules i v → Contains rules v
-rule_there rules i v less is = (i, less, sym is)
+pub set_there : (named : List (List ℕ)) (i : ℕ) (v : List ℕ) → i < length named → v ≡ get_or named i v → Contains named v
+set_there named i v less is = (i, less, sym is)
+
+-- ---- the numbers of sets
+
+-- those of the first ones
+abbrev pub AreFirst : (distinct named : List (List ℕ)) → ℕ → List ℕ → Type 0
+AreFirst distinct named i numbers = (length numbers ≡ i) × ((d : ℕ) → d < i → slice_get distinct (get_or numbers d 0) ≡ Some (set_of named d))
+
+module _ (distinct named : List (List ℕ)) where
+  pub no_numbers : (numbers : List ℕ) → numbers ≡ [] → AreFirst distinct named 0 numbers
+  no_numbers numbers none = (ap (λ (z : List ℕ). length z) none, λ d l. absurd (omega (arith, l)))
+
+  pub numbers_more : (i n : ℕ) (v : List ℕ) (old new : List ℕ) → i < length named → v ≡ get_or named i v → slice_get distinct n ≡ Some v → new ≡ old ++ n ∷ []
+      → AreFirst distinct named i old → AreFirst distinct named (i + 1) new
+  numbers_more i n v old new less is at push so_far = (
+    ap (λ (z : List ℕ). length z) push ∙ length-append old (n ∷ []) ∙ ap (λ k. k + 1) so_far.0,
+    λ d l. elim (cases_lt d i) [
+      | inl below ↦ let len = so_far.0 in
+          subst (λ k. slice_get distinct k ≡ Some (set_of named d)) (sym (ap (λ (z : List ℕ). get_or z d 0) push ∙ get_or-append old (n ∷ []) 0 d (omega (arith, below, len)))) (so_far.1 d below)
+      | inr over ↦ let same : d ≡ i = omega (arith, l, over) in
+          subst (λ k. slice_get distinct (get_or new k 0) ≡ Some (set_of named k)) (sym same)
+          (subst (λ k. slice_get distinct k ≡ Some (set_of named i))
+          (sym (ap (λ (z : List ℕ). get_or z i 0) push ∙ ap (λ k. get_or (old ++ n ∷ []) k 0) (sym so_far.0) ∙ get_or-append_seam old n [] 0))
+          (at ∙ ap Some (is ∙ get_or_default named i v [] less)))
+    ],
+  )
+
+  pub all_numbers : (i : ℕ) (numbers : List ℕ) → length named ≤ i → slice_get distinct 0 ≡ Some [] → AreFirst distinct named i numbers → AreNumbered distinct named numbers
+  all_numbers i numbers over empty first d = elim (cases_lt d i) [
+    | inl below ↦ first.1 d below
+    | inr beyond ↦ let len = first.0 in
+        subst (λ k. slice_get distinct k ≡ Some (set_of named d)) (sym (get_or-eq_default numbers 0 (omega (arith, beyond, len))))
+        (empty ∙ ap Some (sym (get_or-eq_default named [] (omega (arith, beyond, over)))))
+  ]

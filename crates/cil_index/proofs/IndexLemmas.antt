@@ -11,7 +11,7 @@ use Rattle.std.proofs.lemmas.Option.{same_Some, slice_get-map}
 use Rattle.cil_index.specs.declared.key.Entry.{Entry}
 use Rattle.cil_index.specs.declared.key.Key.{Key}
 use Rattle.cil_index.specs.Entries.{HasEntries, IsIndex, entry_cmp, key_of_rule}
-use Rattle.cil_rules.specs.declared.rule.Rule.{Rule}
+use Rattle.cil_rules.specs.Rule.{Rule}
 
 -- the first rules have their entries
 abbrev pub HasFirst : List Rule → ℕ → List Entry → Type 0

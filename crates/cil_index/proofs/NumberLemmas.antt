@@ -16,7 +16,7 @@ use Rattle.cil_base.specs.Paths.{less_from}
 use Rattle.cil_base.specs.Places.{cons_tail, get_at, get_behind, is_there}
 use Rattle.cil_base.specs.Rising.{rising_in_front, rising_join, rising_nothing}
 use Rattle.cil_sets.specs.Answers.{set_cmp, set_fields, set_total}
-use Rattle.cil_index.specs.Sets.{AreSeveral, all_sets, small_sets}
+use Rattle.cil_index.specs.Sets.{AreSeveral, IsSmallNumber, all_sets, small_sets}
 use Rattle.cil_index.proofs.SetLemmas.{empty_there, length-small, small_there}
 
 pub one_set : (a b : List ℕ) → set_cmp a b ≡ Equal → a ≡ b
@@ -113,6 +113,10 @@ module _ (ones : ℕ) (several sets : List (List ℕ)) (view : all_sets ones sev
       subst (λ z. slice_get z n ≡ Some numbers) view
       (ap (slice_get (all_sets ones several)) next
       ∙ is_there (all_sets ones several) (suc t) [] (let size = whole ones several in omega (arith, size, below)) ∙ ap Some (small_there ones t several below ∙ sym is))
+
+  pub small_is : AreSeveral several → (numbers : List ℕ) (n : ℕ) → Contains sets numbers → IsSmallNumber numbers n → slice_get sets n ≡ Some numbers
+  small_is many [] n has is = subst (λ k. slice_get sets k ≡ Some []) (sym is) (empty_number [] refl)
+  small_is many (t ∷ more) n has is = one_number (t ∷ more) t n (ap (λ ts. t ∷ ts) is.0) many has is.1
 
   pub several_number : (place n : ℕ) (set numbers : List ℕ) → slice_get several place ≡ Some set → set ≡ numbers → n ≡ suc (place + ones) → slice_get sets n ≡ Some numbers
   several_number place n set numbers at is next =

@@ -10,7 +10,7 @@ use Rattle.std.specs.List.Sorted.{IsPermutation, IsSorted, IsStrictlySortedBy}
 use Rattle.std.proofs.Common.{◌≡◌, ℕ, ◌+◌, ◌<◌, ◌≤◌, List, [], ◌∷◌, ◌++◌, length, map, get_or, take, refl, sym, ◌∙◌, ap, subst, inl, inr, arith}
 use Rattle.std.proofs.lemmas.Bool.{cases_lt}
 use Rattle.std.proofs.lemmas.Cmp.{nat_cmp_total}
-use Rattle.std.proofs.lemmas.List.{get_or_default, map-append, take_all, take_more}
+use Rattle.std.proofs.lemmas.List.{get_or-map, get_or_default, length-map, map-append, take_all, take_more}
 use Rattle.std.proofs.lemmas.List.Elements.{Contains-append_cases}
 use Rattle.std.proofs.lemmas.Map.Keys.{Less-from_sorted}
 use Rattle.std.proofs.lemmas.Map.Lookups.{exact_bytes}
@@ -20,14 +20,16 @@ use Rattle.cil_base.specs.MadeLists.{contains_map, from_map}
 use Rattle.cil_base.specs.Paths.{both_equal, equal_from, its_own, less_from, same_by}
 use Rattle.cil_base.specs.Places.{cons_head, cons_tail, get_so, in_range}
 use Rattle.cil_rules.specs.Order.{rule_cmp, same_rules, target_fields}
-use Rattle.cil_rules.specs.declared.rule.Rule.{Rule}
+use Rattle.cil_rules.specs.declared.rule.NamedRule.{NamedRule}
+use Rattle.cil_rules.specs.Rule.{Rule, Types}
 use Rattle.cil_sets.specs.Answers.{set_cmp, set_total}
 use Rattle.cil_index.specs.declared.record.Record.{Record}
-use Rattle.cil_index.specs.declared.record.Reach.{Reach}
-use Rattle.cil_index.specs.declared.record.Reach.TheVariants as reaches
-use Rattle.cil_index.specs.Kept.{rule_of, target_of}
+use Rattle.cil_rules.specs.declared.rule.Reach.{Reach}
+use Rattle.cil_rules.specs.declared.rule.Reach.TheVariants as reaches
+use Rattle.cil_rules.specs.Kept.{rule_named, target_named}
+use Rattle.cil_index.specs.Kept.{rule_of}
 use Rattle.cil_index.specs.Order.{AreWithin, IsReachWithin, IsWithin, reach_fields, record_cmp, record_total}
-use Rattle.cil_index.specs.Sets.{set_of}
+use Rattle.cil_index.specs.Sets.{AreNumbered, set_of}
 
 -- numbers of a rising list compare as what they stand for
 module _ {X : Type 0} (order : X → X → Ordering) (total : IsTotalOrder order) (xs : List X) (rising : IsStrictlySortedBy order xs) where
@@ -60,7 +62,7 @@ module _ (sets : List (List ℕ)) (rise : IsStrictlySortedBy set_cmp sets) where
   source_cmp i j li lj = number_cmp set_cmp set_total sets rise i j [] [] li lj
 
   reaches_cmp : (a b : Reach) → IsReachWithin sets a → IsReachWithin sets b
-      → text_cmp (reach_fields a) (reach_fields b) ≡ text_cmp (target_fields (target_of sets a)) (target_fields (target_of sets b))
+      → text_cmp (reach_fields a) (reach_fields b) ≡ text_cmp (target_fields (target_named sets a)) (target_fields (target_named sets b))
   reaches_cmp (reaches.Types i) (reaches.Types j) wa wb = then_equal (nat_cmp i j) ∙ source_cmp i j wa wb
   reaches_cmp (reaches.Types i) reaches.Itself wa wb = refl
   reaches_cmp reaches.Itself (reaches.Types j) wa wb = refl
@@ -143,12 +145,35 @@ module _ (sets : List (List ℕ)) where
   pub no_record : (rules : List Rule) (records : List Record) → records ≡ [] → (map (rule_of sets) records ≡ take 0 rules) × AreWithin sets records
   no_record rules records none = (ap (map (rule_of sets)) none, λ x c. absurd (contains_none x (subst (λ (z : List Record). Contains z x) none c)))
 
-  pub kept_is : (r : Rule) (n : ℕ) (reach : Reach) → slice_get sets n ≡ Some r.source → target_of sets reach ≡ r.target
-      → rule_of sets (record { source = n; target = reach; class = r.class; mask = r.mask }) ≡ r
-  kept_is r n reach at reaches = same_rules _ r (get_so sets n r.source [] at) reaches refl refl
+-- a rule by the numbers of sets is the one by declared names
+module _ (distinct named : List (List ℕ)) (numbers : List ℕ) (are : AreNumbered distinct named numbers) where
+  at_number : (n d : ℕ) → n ≡ get_or numbers d 0 → slice_get distinct n ≡ Some (set_of named d)
+  at_number n d is = ap (slice_get distinct) is ∙ are d
 
-  pub set_there : (n : ℕ) (set : List ℕ) → slice_get sets n ≡ Some set → set_of sets n ≡ set
-  set_there n set at = get_so sets n set [] at
+  pub reach_is : (n d : ℕ) → n ≡ get_or numbers d 0 → (target_named distinct (reaches.Types n) ≡ target_named named (reaches.Types d)) × IsReachWithin distinct (reaches.Types n)
+  reach_is n d is = (ap Types (get_so distinct n (set_of named d) [] (at_number n d is)), in_range distinct n (set_of named d) (at_number n d is))
 
-  pub number_there : (n : ℕ) (set : List ℕ) → slice_get sets n ≡ Some set → n < length sets
-  number_there n set at = in_range sets n set at
+  pub kept_is : (r : NamedRule) (n : ℕ) (reach : Reach) → n ≡ get_or numbers r.source 0 → (target_named distinct reach ≡ target_named named r.target) × IsReachWithin distinct reach
+      → (rule_of distinct (record { source = n; target = reach; class = r.class; mask = r.mask }) ≡ rule_named named r)
+      × IsWithin distinct (record { source = n; target = reach; class = r.class; mask = r.mask })
+  kept_is r n reach is reaches = (
+    same_rules _ (rule_named named r) (get_so distinct n (set_of named r.source) [] (at_number n r.source is)) reaches.0 refl refl,
+    record { source = in_range distinct n (set_of named r.source) (at_number n r.source is); target = reaches.1 },
+  )
+
+  -- the records of the first rules, and one more
+  pub named_more : (rules : List NamedRule) (i : ℕ) (d : NamedRule) (r : Record) (old new : List Record) → i < length rules
+      → (rule_of distinct r ≡ rule_named named (get_or rules i d)) × IsWithin distinct r → new ≡ old ++ r ∷ []
+      → (map (rule_of distinct) old ≡ take i (map (rule_named named) rules)) × AreWithin distinct old
+      → (map (rule_of distinct) new ≡ take (i + 1) (map (rule_named named) rules)) × AreWithin distinct new
+  named_more rules i d r old new less keeps push so_far =
+      record_more distinct (map (rule_named named) rules) i (rule_named named (get_or rules i d)) r old new (let size = length-map rules (rule_named named) in omega (arith, less, size))
+      (sym (get_or-map (rule_named named) rules i d (rule_named named (get_or rules i d)) less)) keeps.0 keeps.1 push so_far
+
+  pub named_all : (rules : List NamedRule) (i : ℕ) (records : List Record) → length rules ≤ i
+      → (map (rule_of distinct) records ≡ take i (map (rule_named named) rules)) × AreWithin distinct records
+      → (map (rule_of distinct) records ≡ map (rule_named named) rules) × AreWithin distinct records
+  named_all rules i records over so_far = (
+    record_all distinct (map (rule_named named) rules) i records (let size = length-map rules (rule_named named) in omega (arith, over, size)) so_far.0,
+    so_far.1,
+  )

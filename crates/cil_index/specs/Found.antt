@@ -1,6 +1,6 @@
 -- What the rule at a place covers.
 use Rattle.std.specs.Prelude.{◌≡◌, ℕ, List, Contains, Some, slice_get}
-use Rattle.cil_rules.specs.declared.rule.Rule.{Rule}
+use Rattle.cil_rules.specs.Rule.{Rule}
 use Rattle.cil_rules.specs.Covers.{Covers, Reaches}
 
 -- the rule at the place covers the permission

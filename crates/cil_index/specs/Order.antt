@@ -6,8 +6,8 @@ use Rattle.std.specs.declared.cmp.Ordering.{Ordering}
 use Rattle.std.proofs.lemmas.Cmp.{then_total, on_total, nat_cmp_total, nat_list_cmp_total}
 use Rattle.cil_base.specs.Lists.{text_cmp}
 use Rattle.cil_index.specs.declared.record.Record.{Record}
-use Rattle.cil_index.specs.declared.record.Reach.{Reach}
-use Rattle.cil_index.specs.declared.record.Reach.TheVariants as reaches
+use Rattle.cil_rules.specs.declared.rule.Reach.{Reach}
+use Rattle.cil_rules.specs.declared.rule.Reach.TheVariants as reaches
 
 -- a reach as numbers: 0 and the number of its set, or 1 for the source itself
 abbrev pub reach_fields : Reach → List ℕ

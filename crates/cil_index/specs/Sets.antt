@@ -1,10 +1,5 @@
 -- The sets of types that rules name, by their numbers.
-use Rattle.std.specs.Prelude.{ℕ, ◌≤◌, zero, suc, List, [], ◌∷◌, ◌++◌, length, Contains, get_or}
-use Rattle.std.specs.List.Sorted.{IsStrictlySortedBy}
-use Rattle.std.specs.Ordering.{nat_cmp}
-use Rattle.cil_rules.specs.declared.rule.Rule.{Rule}
-use Rattle.cil_rules.specs.declared.rule.Target.{Target}
-use Rattle.cil_rules.specs.declared.rule.Target.TheVariants.{Types, Itself}
+use Rattle.std.specs.Prelude.{◌≡◌, ℕ, ◌≤◌, zero, suc, List, [], ◌∷◌, ◌++◌, length, Contains, Some, get_or, slice_get}
 
 -- the empty set, and then a set of each type alone
 unfoldable pub small_sets : ℕ → List (List ℕ)
@@ -23,25 +18,13 @@ AreSeveral sets = (set : List ℕ) → Contains sets set → 2 ≤ length set
 abbrev pub set_of : List (List ℕ) → ℕ → List ℕ
 set_of sets number = get_or sets number []
 
--- ---- the sets of a rule
+-- ---- the sets of declared names
 
--- the types that it names rise
-abbrev pub IsRisingTarget : Target → Type 0
-IsRisingTarget (Types numbers) = IsStrictlySortedBy nat_cmp numbers
-IsRisingTarget Itself = Unit {0}
+-- these are their numbers among the distinct ones. A number that is no declared name has the empty set
+abbrev pub AreNumbered : (distinct named : List (List ℕ)) → List ℕ → Type 0
+AreNumbered distinct named numbers = (d : ℕ) → slice_get distinct (get_or numbers d 0) ≡ Some (set_of named d)
 
-pub record IsRisingRule (r : Rule) : Type 0 where
-  pub source : IsStrictlySortedBy nat_cmp r.source
-  pub target : IsRisingTarget r.target
-
-abbrev pub AreRising : List Rule → Type 0
-AreRising rules = (r : Rule) → Contains rules r → IsRisingRule r
-
--- the set that it names is among these
-abbrev pub HasTargets : List (List ℕ) → Target → Type 0
-HasTargets sets (Types numbers) = Contains sets numbers
-HasTargets sets Itself = Unit {0}
-
-pub record HasSets (sets : List (List ℕ)) (r : Rule) : Type 0 where
-  pub source : Contains sets r.source
-  pub target : HasTargets sets r.target
+-- this is the number of the empty set, or of one type alone
+abbrev pub IsSmallNumber : List ℕ → ℕ → Type 0
+IsSmallNumber [] n = n ≡ 0
+IsSmallNumber (t ∷ more) n = (more ≡ []) × (n ≡ suc t)

@@ -1,18 +1,22 @@
 //! What rules cover, by the index.
 
-ghost use Rattle.std.specs.Prelude.{◌≡◌, ◌↔◌, ℕ, IsBitSet, IsTrue, Contains};
+ghost use Rattle.std.specs.Prelude.{◌≡◌, ◌↔◌, ℕ, IfSome, IsBitSet, IsTrue, Contains, Some, slice_get};
 ghost use Rattle.std.specs.List.Sorted.{IsSorted};
 ghost use Rattle.cil_rules.specs.Covers.{HasCover, Reaches};
+ghost use Rattle.cil_rules.specs.Rule.{Rule as ARule};
 ghost use Rattle.cil_index.specs.declared.key.Entry.{Entry as AnEntry};
 ghost use Rattle.cil_index.specs.Entries.{AreStarts, IsIndex, entry_cmp};
-ghost use Rattle.cil_index.specs.Kept.{rule_of, target_of};
+ghost use Rattle.cil_rules.specs.Kept.{target_named};
+ghost use Rattle.cil_index.specs.Kept.{rule_of};
 ghost use Rattle.cil_index.specs.Found.{CoversAt, Matches};
 ghost use Rattle.cil_index.specs.Searched.{rules_in};
+ghost use Rattle.cil_index.specs.Sets.{set_of};
 
 use crate::index::{class_part, with_key};
 use crate::key::{Entry, Key, SEVERAL, key_of_type};
-use crate::record::{Reach, Record};
+use crate::record::Record;
 use crate::sets::Sets;
+use cil_rules::Reach;
 
 /// The rules that are searched, by their records.
 #[derive(Clone, Copy)]
@@ -65,16 +69,68 @@ fn found(searched: &Searched, part: &[Entry], asked: &Asked, key: Key) -> u32
     joined(searched, asked, with_key(part, &key))
 }
 
-/// The permissions of the rules of some entries that cover what is asked.
+/// The permissions of the rules of some entries that cover what is asked. Rules whose sources are one set stand behind one another, so a
+/// set that lacks the source is asked once.
 fn joined(searched: &Searched, asked: &Asked, entries: &[Entry]) -> u32
     ensures sound { (bit : ℕ) → IsBitSet result bit → HasCover (rules_in searched.now) asked.now.source asked.now.target asked.now.class bit }
     ensures all { (e : AnEntry) (bit : ℕ) → Contains entries.now e → CoversAt (rules_in searched.now) asked.now.source asked.now.target asked.now.class e.place bit → IsBitSet result bit }
 {
     let mut mask = 0;
+    let mut lacking = None;
     for entry in entries {
-        mask |= mask_at(searched, asked, entry.place as usize);
+        let tested = test_at(searched, asked, entry.place as usize, lacking);
+        mask |= tested.mask;
+        lacking = tested.lacking;
     }
     mask
+}
+
+/// What the rule at a place adds, and the number of a set that lacks the source, if one was met.
+#[derive(Clone, Copy)]
+struct Tested {
+    mask: u32,
+    lacking: Option<u32>,
+}
+
+/// Tests the rule at a place, where the set of this number lacks the source.
+fn test_at(searched: &Searched, asked: &Asked, place: usize, lacking: Option<u32>) -> Tested
+    requires { IfSome lacking (λ set. Contains (set_of searched.now.sets.now set) asked.now.source → ⊥) }
+    ensures mask { (bit : ℕ) → IsBitSet result.mask bit ↔ CoversAt (rules_in searched.now) asked.now.source asked.now.target asked.now.class place bit }
+    ensures lacking { IfSome result.lacking (λ set. Contains (set_of searched.now.sets.now set) asked.now.source → ⊥) }
+{
+    let source = source_at(searched, place);
+    if is_that(lacking, source) {
+        return Tested { mask: 0, lacking };
+    }
+    if !searched.sets.has(source, asked.source) {
+        return Tested {
+            mask: 0,
+            lacking: Some(source),
+        };
+    }
+    Tested {
+        mask: mask_at(searched, asked, place),
+        lacking,
+    }
+}
+
+fn is_that(known: Option<u32>, number: u32) -> bool
+    ensures { IsTrue result → known ≡ Some number }
+{
+    match known {
+        Some(known) => known == number,
+        None => false,
+    }
+}
+
+/// The number of the source set of the rule at a place.
+fn source_at(searched: &Searched, place: usize) -> u32
+    ensures { (r : ARule) → slice_get (rules_in searched.now) place ≡ Some r → set_of searched.now.sets.now result ≡ r.source }
+{
+    match searched.records.get(place) {
+        Some(kept) => kept.source,
+        None => 0,
+    }
 }
 
 /// The permissions of the rule at a place, where it is on what is asked.
@@ -102,7 +158,7 @@ fn matches(sets: &Sets, asked: &Asked, kept: &Record) -> bool
 
 /// Whether a rule reaches the target.
 fn reaches(sets: &Sets, target: Reach, asked: &Asked) -> bool
-    ensures { IsTrue result ↔ Reaches (target_of sets.now target) asked.now.source asked.now.target }
+    ensures { IsTrue result ↔ Reaches (target_named sets.now target) asked.now.source asked.now.target }
 {
     match target {
         Reach::Itself => asked.source == asked.target,

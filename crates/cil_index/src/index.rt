@@ -3,15 +3,16 @@
 ghost use Rattle.std.specs.Prelude.{◌≡◌, ◌≤◌, ◌<◌, ℕ, Contains, IfOk, IfSome, List, Some, get_or, length, map, slice_get};
 ghost use Rattle.std.specs.Ordering.{ordering_index};
 ghost use Rattle.std.specs.List.Sorted.{IsPartitionPoint, IsSorted};
-ghost use Rattle.cil_rules.specs.declared.rule.Rule.{Rule as ARule};
+ghost use Rattle.cil_rules.specs.Rule.{Rule as ARule};
 ghost use Rattle.cil_index.specs.declared.key.Entry.{Entry as AnEntry};
 ghost use Rattle.cil_index.specs.Entries.{AreBoundsAt, AreStarts, HasEntries, IsIndex, IsPart, entry_cmp, key_cmp, key_of_rule};
 ghost use Rattle.cil_index.specs.Kept.{rule_of};
 
 use crate::key::{Entry, Key, key_of_type, rank};
-use crate::record::{Reach, Record};
+use crate::record::Record;
 use crate::sets::Sets;
 use cil_base::NoMemory;
+use cil_rules::Reach;
 use std::alloc::Global;
 
 /// The place of the first entry that is not below the key.

@@ -1,31 +1,21 @@
 //! Rules by numbers.
 
-ghost use Rattle.std.specs.Prelude.{◌≡◌, Contains, IfOk, List, ℕ, map, refl};
+ghost use Rattle.std.specs.Prelude.{◌≡◌, Contains, IfOk, List, get_or, ℕ, map, refl};
 ghost use Rattle.std.specs.Cmp.{eq_by_cmp_equiv, partial_equiv_from_equiv, partial_order_from_total};
 ghost use Rattle.std.specs.Ordering.{as_partial_cmp, eq_by_cmp};
 ghost use Rattle.std.specs.List.Sorted.{IsStrictlySortedBy};
 ghost use Rattle.cil_base.specs.Lists.{Lists, text_cmp};
-ghost use Rattle.cil_rules.specs.declared.rule.Rule.{Rule as ARule};
+ghost use Rattle.cil_rules.specs.Kept.{rule_named, target_named};
 ghost use Rattle.cil_rules.specs.Order.{rule_cmp};
 ghost use Rattle.cil_sets.specs.Answers.{set_cmp};
-ghost use Rattle.cil_index.specs.Kept.{rule_of, target_of};
+ghost use Rattle.cil_index.specs.Kept.{rule_of};
 ghost use Rattle.cil_index.specs.Order.{AreWithin, IsReachWithin, IsWithin, reach_fields, record_cmp, record_total};
-ghost use Rattle.cil_index.specs.Sets.{AreRising, HasSets, HasTargets, IsRisingRule, IsRisingTarget};
+ghost use Rattle.cil_index.specs.Sets.{AreNumbered};
 
-use crate::sets::Sets;
 use cil_base::NoMemory;
-use cil_rules::{Rule, Target};
+use cil_rules::{NamedRule, Reach};
 use std::alloc::Global;
 use std::cmp::Ordering;
-
-/// What a rule reaches.
-#[derive(Clone, Copy, Debug)]
-pub enum Reach {
-    /// The types of the set of this number.
-    Types(u32),
-    /// The source type itself.
-    Itself,
-}
 
 /// A rule, its sets by numbers.
 #[derive(Clone, Copy, Debug)]
@@ -97,58 +87,62 @@ fn compare_reaches(a: Reach, b: Reach) -> Ordering
     }
 }
 
-/// The records of rules, in the order of the rules, each once. Beside the look-up of its sets a rule costs what sorting costs, by numbers
-/// alone. Errors: out of memory.
-pub fn records_of(alloc: Global, sets: &Sets, rules: &[Rule]) -> Result<Vec<Record>, NoMemory>
-    requires numbered { IsStrictlySortedBy set_cmp sets.now }
-    requires rising { AreRising rules.now }
-    requires sets { (rule : ARule) → Contains rules.now rule → HasSets sets.now rule }
-    ensures { IfOk result (λ records. Lists rule_cmp (Contains rules.now) (map (rule_of sets.now) records.items)) }
+/// The records of rules, in the order of the rules, each once, by the numbers of the sets of declared names. A rule costs what sorting
+/// costs, by numbers alone. Errors: out of memory.
+pub fn records_of(
+    alloc: Global,
+    numbers: &[u32],
+    rules: &[NamedRule],
+) -> Result<Vec<Record>, NoMemory>
+    ensures { IfOk result (λ records. (distinct named : List (List ℕ)) → IsStrictlySortedBy set_cmp distinct → AreNumbered distinct named numbers.now
+        → Lists rule_cmp (Contains (map (rule_named named) rules.now)) (map (rule_of distinct) records.items)) }
 {
-    let mut records = unsorted(alloc, sets, rules)?;
+    let mut records = unsorted(alloc, numbers, rules)?;
     records.sort_unstable();
     records.dedup();
     Ok(records)
 }
 
 /// The records of rules, in the order in which these were handed in. Errors: out of memory.
-fn unsorted(alloc: Global, sets: &Sets, rules: &[Rule]) -> Result<Vec<Record>, NoMemory>
-    requires rising { AreRising rules.now }
-    requires sets { (rule : ARule) → Contains rules.now rule → HasSets sets.now rule }
-    ensures rules { IfOk result (λ records. map (rule_of sets.now) records.items ≡ rules.now) }
-    ensures within { IfOk result (λ records. AreWithin sets.now records.items) }
+fn unsorted(alloc: Global, numbers: &[u32], rules: &[NamedRule]) -> Result<Vec<Record>, NoMemory>
+    ensures { IfOk result (λ records. (distinct named : List (List ℕ)) → AreNumbered distinct named numbers.now
+        → (map (rule_of distinct) records.items ≡ map (rule_named named) rules.now) × AreWithin distinct records.items) }
 {
     let mut records = Vec::with_capacity(alloc, rules.len())?;
     for rule in rules {
-        records.push(record_of(alloc, sets, rule)?)?;
+        records.push(record_of(numbers, rule))?;
     }
     Ok(records)
 }
 
-/// The record of a rule. Errors: out of memory.
-fn record_of(alloc: Global, sets: &Sets, rule: &Rule) -> Result<Record, NoMemory>
-    requires rising { IsRisingRule rule.now }
-    requires sets { HasSets sets.now rule.now }
-    ensures rule { IfOk result (λ kept. rule_of sets.now kept ≡ rule.now) }
-    ensures within { IfOk result (IsWithin sets.now) }
+/// The record of a rule.
+fn record_of(numbers: &[u32], rule: &NamedRule) -> Record
+    ensures { (distinct named : List (List ℕ)) → AreNumbered distinct named numbers.now → (rule_of distinct result ≡ rule_named named rule.now) × IsWithin distinct result }
 {
-    Ok(Record {
-        source: sets.number(alloc, rule.source.as_slice())?,
-        target: reach_of(alloc, sets, &rule.target)?,
+    Record {
+        source: number_at(numbers, rule.source),
+        target: reach_of(numbers, rule.target),
         class: rule.class,
         mask: rule.mask,
-    })
+    }
 }
 
-/// What a rule reaches, by numbers. Errors: out of memory.
-fn reach_of(alloc: Global, sets: &Sets, target: &Target) -> Result<Reach, NoMemory>
-    requires rising { IsRisingTarget target.now }
-    requires sets { HasTargets sets.now target.now }
-    ensures target { IfOk result (λ reach. target_of sets.now reach ≡ target.now) }
-    ensures within { IfOk result (IsReachWithin sets.now) }
+/// What a rule reaches, by the number of a set.
+fn reach_of(numbers: &[u32], target: Reach) -> Reach
+    ensures { (distinct named : List (List ℕ)) → AreNumbered distinct named numbers.now → (target_named distinct result ≡ target_named named target) × IsReachWithin distinct result }
 {
     match target {
-        Target::Types(numbers) => Ok(Reach::Types(sets.number(alloc, numbers.as_slice())?)),
-        Target::Itself => Ok(Reach::Itself),
+        Reach::Types(d) => Reach::Types(number_at(numbers, d)),
+        Reach::Itself => Reach::Itself,
+    }
+}
+
+/// The number of the set of a declared name.
+fn number_at(numbers: &[u32], d: u32) -> u32
+    ensures { result ≡ get_or numbers.now d 0 }
+{
+    match numbers.get(d as usize) {
+        Some(number) => *number,
+        None => 0,
     }
 }

@@ -3,17 +3,18 @@
 ghost use Rattle.std.specs.Prelude.{◌≡◌, ◌↔◌, ℕ, Contains, IfOk, IsBitSet, length, map};
 ghost use Rattle.cil_base.specs.Lists.{Lists};
 ghost use Rattle.cil_rules.specs.Covers.{HasCover};
+ghost use Rattle.cil_rules.specs.Kept.{rule_named};
 ghost use Rattle.cil_rules.specs.Order.{rule_cmp};
 ghost use Rattle.cil_index.specs.Found.{CoversAt};
-ghost use Rattle.cil_index.specs.Sets.{AreRising};
 
 use crate::cover::{Asked, Searched, covered, mask_at};
 use crate::index::{index_of, starts_of};
 use crate::key::Entry;
 use crate::record::{Record, records_of};
-use crate::sets::Sets;
+use crate::sets::{Sets, numbers_of};
 use cil_base::NoMemory;
-use cil_rules::Rule;
+use cil_rules::NamedRule;
+use cil_sets::Numbers;
 use std::alloc::Global;
 use std::marker::Model;
 
@@ -29,7 +30,7 @@ pub struct Section {
 
 impl Model for Section {
     ghost use Rattle.std.specs.Prelude.{List, map};
-    ghost use Rattle.cil_rules.specs.declared.rule.Rule.{Rule};
+    ghost use Rattle.cil_rules.specs.Rule.{Rule};
     ghost use Rattle.cil_index.specs.Entries.{AreStarts, IsIndex};
     ghost use Rattle.cil_index.specs.Kept.{rule_of};
 
@@ -41,14 +42,19 @@ impl Model for Section {
 }
 
 impl Section {
-    /// These rules in their order, each once, where there are so many classes. It costs a look-up of each set, and two sorts by numbers.
-    /// Errors: out of memory.
-    pub fn of(alloc: Global, rules: &[Rule], classes: usize) -> Result<Section, NoMemory>
-        requires { AreRising rules.now }
-        ensures { IfOk result (Lists rule_cmp (Contains rules.now)) }
+    /// These rules in their order, each once, where these are the sets of declared names and there are so many classes. It costs a look-up
+    /// of each set, and two sorts of the rules by numbers. Errors: out of memory.
+    pub fn of(
+        alloc: Global,
+        rules: &[NamedRule],
+        named: &[Numbers],
+        classes: usize,
+    ) -> Result<Section, NoMemory>
+        ensures { IfOk result (Lists rule_cmp (Contains (map (rule_named named.now) rules.now))) }
     {
-        let sets = Sets::of(alloc, rules)?;
-        let records = records_of(alloc, &sets, rules)?;
+        let sets = Sets::of(alloc, named)?;
+        let numbers = numbers_of(alloc, &sets, named)?;
+        let records = records_of(alloc, numbers.as_slice(), rules)?;
         let entries = index_of(alloc, &sets, records.as_slice())?;
         // Where a class ends is where the next begins.
         let starts = starts_of(alloc, entries.as_slice(), classes.saturating_add(1))?;

@@ -1,21 +1,18 @@
 //! Sets of types by numbers.
 
-ghost use Rattle.std.specs.Prelude.{◌≡◌, ◌↔◌, ◌<◌, ℕ, suc, Contains, IfOk, IsTrue, List, OnOk, Some, length, slice_get};
+ghost use Rattle.std.specs.Prelude.{◌≡◌, ◌↔◌, ◌<◌, ℕ, suc, [], Contains, IfOk, IsTrue, List, OnOk, Some, length, slice_get};
 ghost use Rattle.std.specs.List.Sorted.{IsStrictlySortedBy};
-ghost use Rattle.std.specs.Ordering.{nat_cmp};
-ghost use Rattle.cil_rules.specs.declared.rule.Rule.{Rule as ARule};
 ghost use Rattle.cil_sets.specs.Answers.{set_cmp};
 ghost use Rattle.cil_index.specs.Entries.{key_of_set};
-ghost use Rattle.cil_index.specs.Sets.{AreRising, HasSets, HasTargets, IsRisingTarget, IsRisingRule, set_of};
+ghost use Rattle.cil_index.specs.Sets.{AreNumbered, IsSmallNumber, set_of};
 
 use crate::key::{SEVERAL, key_of_type};
 use cil_base::NoMemory;
-use cil_rules::{Rule, Target};
 use cil_sets::Numbers;
 use std::alloc::Global;
 use std::marker::Model;
 
-/// Sets of types that some rules name, in any order and as often as they name them.
+/// Sets of types, in any order, and some of them several times.
 #[derive(Drop)]
 struct Gathered {
     ones: u32,
@@ -42,31 +39,29 @@ impl Gathered {
         }
     }
 
-    /// Adds a set, by its numbers. Errors: out of memory.
-    fn add(&mut self, alloc: Global, numbers: &[usize]) -> Result<(), NoMemory>
-        requires { IsStrictlySortedBy nat_cmp numbers.now }
-        ensures stays { (set : List ℕ) → Contains self.old set → Contains self.new set }
-        ensures added { OnOk result (Contains self.new numbers.now) }
+    /// Adds a set. Errors: out of memory.
+    fn add(&mut self, alloc: Global, set: &Numbers) -> Result<(), NoMemory>
+        ensures stays { (other : List ℕ) → Contains self.old other → Contains self.new other }
+        ensures added { OnOk result (Contains self.new set.now) }
     {
-        if numbers.len() < 2 {
-            return self.add_small(numbers);
+        if set.len() < 2 {
+            return self.add_small(set);
         }
-        let set = set_from(alloc, numbers)?;
-        self.several.push(set)?;
+        let same = set.try_clone(alloc)?;
+        self.several.push(same)?;
         Ok(())
     }
 
     /// Adds a set of one type, and with it those of the types below; the empty set is there. Beyond 4,294,967,294 it is out of memory.
-    fn add_small(&mut self, numbers: &[usize]) -> Result<(), NoMemory>
-        requires { length numbers.now < 2 }
-        ensures stays { (set : List ℕ) → Contains self.old set → Contains self.new set }
-        ensures added { OnOk result (Contains self.new numbers.now) }
+    fn add_small(&mut self, set: &Numbers) -> Result<(), NoMemory>
+        requires { length set.now < 2 }
+        ensures stays { (other : List ℕ) → Contains self.old other → Contains self.new other }
+        ensures added { OnOk result (Contains self.new set.now) }
     {
         let ones = self.ones as usize;
-        if numbers.is_empty() {
+        let Some(number) = set.next_from(0) else {
             return Ok(());
-        }
-        let number = numbers[0];
+        };
         if number >= u32::MAX as usize {
             return Err(NoMemory);
         }
@@ -75,44 +70,10 @@ impl Gathered {
         }
         Ok(())
     }
-
-    /// Adds the sets of a rule. Errors: out of memory.
-    fn add_rule(&mut self, alloc: Global, rule: &Rule) -> Result<(), NoMemory>
-        requires { IsRisingRule rule.now }
-        ensures stays { (set : List ℕ) → Contains self.old set → Contains self.new set }
-        ensures added { OnOk result (HasSets self.new rule.now) }
-    {
-        self.add(alloc, rule.source.as_slice())?;
-        self.add_target(alloc, &rule.target)
-    }
-
-    /// Adds the set that a rule reaches, where it names one. Errors: out of memory.
-    fn add_target(&mut self, alloc: Global, target: &Target) -> Result<(), NoMemory>
-        requires { IsRisingTarget target.now }
-        ensures stays { (set : List ℕ) → Contains self.old set → Contains self.new set }
-        ensures added { OnOk result (HasTargets self.new target.now) }
-    {
-        match target {
-            Target::Types(numbers) => self.add(alloc, numbers.as_slice()),
-            Target::Itself => Ok(()),
-        }
-    }
 }
 
-/// A set, from its members. Errors: out of memory.
-fn set_from(alloc: Global, numbers: &[usize]) -> Result<Numbers, NoMemory>
-    requires { IsStrictlySortedBy nat_cmp numbers.now }
-    ensures { IfOk result (λ set. set ≡ numbers.now) }
-{
-    let mut set = Numbers::new(alloc);
-    for number in numbers {
-        set.add(*number)?;
-    }
-    Ok(set)
-}
-
-/// The distinct sets of some rules, in their order: first the empty one, then one of each type alone, and then those of several types.
-/// The number of a set is its place.
+/// Distinct sets of types, in their order: first the empty one, then one of each type alone, and then those of several types. The number
+/// of a set is its place.
 #[derive(Debug, Drop)]
 pub struct Sets {
     ones: u32,
@@ -133,14 +94,13 @@ impl Model for Sets {
 }
 
 impl Sets {
-    /// The sets that some rules name. It costs a step for each of their members, and a sort of the sets of several types. Errors: out of
-    /// memory.
-    pub fn of(alloc: Global, rules: &[Rule]) -> Result<Sets, NoMemory>
-        requires { AreRising rules.now }
+    /// Some sets, each once. It costs a step for each of their blocks, and a sort of the sets of several types. Errors: out of memory.
+    pub fn of(alloc: Global, named: &[Numbers]) -> Result<Sets, NoMemory>
         ensures rising { IfOk result (IsStrictlySortedBy set_cmp) }
-        ensures all { IfOk result (λ sets. (rule : ARule) → Contains rules.now rule → HasSets sets rule) }
+        ensures empty { IfOk result (λ sets. slice_get sets 0 ≡ Some []) }
+        ensures all { IfOk result (λ sets. (set : List ℕ) → Contains named.now set → Contains sets set) }
     {
-        let gathered = gathered_from(alloc, rules)?;
+        let gathered = gathered_from(alloc, named)?;
         Ok(sorted(gathered))
     }
 
@@ -175,35 +135,53 @@ impl Sets {
         key_of_type((set - 1) as usize)
     }
 
-    /// The number of a set that is among them. Errors: out of memory, which is also the answer if there are more than 4,294,967,295.
-    pub fn number(&self, alloc: Global, numbers: &[usize]) -> Result<u32, NoMemory>
-        requires rising { IsStrictlySortedBy nat_cmp numbers.now }
-        requires there { Contains self.now numbers.now }
-        ensures { IfOk result (λ n. slice_get self.now n ≡ Some numbers.now) }
+    /// The number of a set that is among them. Errors: out of memory, which is the answer if there are more than 4,294,967,295.
+    pub fn number(&self, set: &Numbers) -> Result<u32, NoMemory>
+        requires { Contains self.now set.now }
+        ensures { IfOk result (λ n. slice_get self.now n ≡ Some set.now) }
     {
         let several = self.several.as_slice();
-        if numbers.is_empty() {
-            return Ok(0);
+        if set.len() < 2 {
+            return small_number(set);
         }
-        if numbers.len() == 1 {
-            return next(numbers[0]);
-        }
-        let set = set_from(alloc, numbers)?;
-        match several.binary_search(&set) {
+        match several.binary_search(set) {
             Ok(place) => next(place + self.ones as usize),
             Err(_) => unreachable!(),
         }
     }
 }
 
-/// All sets that some rules name. Errors: out of memory.
-fn gathered_from(alloc: Global, rules: &[Rule]) -> Result<Gathered, NoMemory>
-    requires { AreRising rules.now }
-    ensures { IfOk result (λ sets. (rule : ARule) → Contains rules.now rule → HasSets sets rule) }
+/// The number of the empty set, or of one type alone. Beyond 4,294,967,295 it is out of memory.
+fn small_number(set: &Numbers) -> Result<u32, NoMemory>
+    requires { length set.now < 2 }
+    ensures { IfOk result (λ n. IsSmallNumber set.now n) }
+{
+    match set.next_from(0) {
+        Some(number) => next(number),
+        None => Ok(0),
+    }
+}
+
+/// For each of some sets its number among the distinct ones. Errors: out of memory.
+pub fn numbers_of(alloc: Global, sets: &Sets, named: &[Numbers]) -> Result<Vec<u32>, NoMemory>
+    requires empty { slice_get sets.now 0 ≡ Some [] }
+    requires there { (set : List ℕ) → Contains named.now set → Contains sets.now set }
+    ensures { IfOk result (λ numbers. AreNumbered sets.now named.now numbers.items) }
+{
+    let mut numbers = Vec::with_capacity(alloc, named.len())?;
+    for set in named {
+        numbers.push(sets.number(set)?)?;
+    }
+    Ok(numbers)
+}
+
+/// Some sets. Errors: out of memory.
+fn gathered_from(alloc: Global, named: &[Numbers]) -> Result<Gathered, NoMemory>
+    ensures { IfOk result (λ sets. (set : List ℕ) → Contains named.now set → Contains sets set) }
 {
     let mut gathered = Gathered::new(alloc);
-    for rule in rules {
-        gathered.add_rule(alloc, rule)?;
+    for set in named {
+        gathered.add(alloc, set)?;
     }
     Ok(gathered)
 }
@@ -211,6 +189,7 @@ fn gathered_from(alloc: Global, rules: &[Rule]) -> Result<Gathered, NoMemory>
 /// The same sets in their order, each once.
 fn sorted(gathered: Gathered) -> Sets
     ensures rising { IsStrictlySortedBy set_cmp result }
+    ensures empty { slice_get result 0 ≡ Some [] }
     ensures all { (set : List ℕ) → Contains gathered set → Contains result set }
 {
     let Gathered { ones, mut several } = gathered;

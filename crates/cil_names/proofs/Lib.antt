@@ -40,5 +40,6 @@ pub mod SpelledLemmas
 pub mod UnresolvedLemmas
 pub mod WordedLemmas
 pub mod StandLemmas
+pub mod StandingLemmas
 pub mod LeafLemmas
 pub mod UnscopedLemmas

@@ -6,6 +6,7 @@ use Rattle.std.specs.Option.{option_map_or}
 use Rattle.std.specs.Cmp.Lexicographic.{bytes_decides}
 use Rattle.cil_base.specs.Searches.{any_from, any_true}
 use Rattle.cil_syntax.specs.declared.kind.Kind.{Kind}
+use Rattle.cil_syntax.specs.declared.kind.Kind.TheVariants as kinds
 use Rattle.cil_syntax.specs.Kinds.{is_wanted, kind_number}
 use Rattle.cil_faults.specs.Namespaces.{Namespace}
 use Rattle.cil_syntax.specs.Scopes.{ScopedWord, asked, same_space}
@@ -16,8 +17,8 @@ use Rattle.cil_macros.specs.Item.{Item, OptSet, is_enabled}
 use Rattle.cil_names.specs.Declarations.{Declaration, Declared, IsDeclaration, Symbol, by, declared_by, object, object_role}
 use Rattle.cil_names.specs.Resolves.{found_in}
 use Rattle.cil_names.specs.Family.{Family, holds, no_range}
-use Rattle.cil_names.specs.Members.{StandsFor, space_of}
-use Rattle.cil_names.specs.Spaces.{is_declared, is_of_symbol, names, names_set, is_same_symbol, symbol_in}
+use Rattle.cil_names.specs.Members.{HasNoSets, StandsFor, space_of}
+use Rattle.cil_names.specs.Spaces.{SpaceOf, is_declared, is_set, is_of_symbol, names, names_set, is_same_symbol, symbol_in}
 
 both : (a b : Bool) → (a && b) ≡ true → (a ≡ true) × (b ≡ true)
 both true b e = (refl, e)
@@ -72,16 +73,35 @@ declared_is xs s kind t = (λ e. there e, λ d. back d.declaration d.declares (s
       second (is_of_symbol kind t object_role) _ (any_from (λ (x : Item). is_enabled s x && list_any (is_of_symbol kind t) (declared_by x)) xs x c
       (pair _ _ on (any_from (is_of_symbol kind t) (declared_by x) d within e)))
 
+-- ---- name spaces
+
+-- a name space is that of its items
+pub item_of : (kind : Kind) → (space_of kind).item ≡ kind
+item_of kinds.Type_ = refl
+item_of kinds.Role = refl
+item_of kinds.User = refl
+item_of kind = refl
+
 -- ---- words of kinds without sets
 
-module _ (xs : List Item) (s : OptSet) (kind : Kind) (w : ScopedWord) (t : Symbol) where
-  none_there : (m : Family) (r : Option Namespace) → option_map_or (λ n. names_set xs s (space_of kind) w (symbol_in w n) && m (symbol_in w n) t) r false ≡ false
+abbrev bare : Kind → SpaceOf
+bare kind = record { item = kind; aliases = None; attributes = None }
+
+module _ (xs : List Item) (s : OptSet) (kind : Kind) (none : HasNoSets kind) (w : ScopedWord) (t : Symbol) where
+  none_there : (m : Family) (r : Option Namespace) → option_map_or (λ n. names_set xs s (bare kind) w (symbol_in w n) && m (symbol_in w n) t) r false ≡ false
   none_there m None = refl
   none_there m (Some n) = refl
 
-  names_held : (m : Family) → holds xs s (space_of kind) no_range m w t ≡ (names xs s kind w t || false)
+  names_bare : (m : Family) → holds xs s (bare kind) no_range m w t ≡ (names xs s kind w t || false)
   unfolding holds
-  names_held m = ap (λ b. names xs s kind w t || b) (none_there m (found_in xs s w))
+  names_bare m = ap (λ b. names xs s kind w t || b) (none_there m (found_in xs s w))
+
+  names_held : (m : Family) → holds xs s (space_of kind) no_range m w t ≡ (names xs s kind w t || false)
+  names_held m = ap (λ space. holds xs s space no_range m w t) none ∙ names_bare m
+
+  -- no symbol is a set
+  no_set : (a : Symbol) → is_set xs s (space_of kind) a ≡ false
+  no_set a = ap (λ space. is_set xs s space a) none
 
   or_false : (b : Bool) → (b || false) ≡ true → b ≡ true
   or_false true e = refl
@@ -107,7 +127,7 @@ module _ (xs : List Item) (s : OptSet) (kind : Kind) (w : ScopedWord) (t : Symbo
         (q.0, f.0, f.1, st.declared),
     λ h. record {
       family = λ a u. false;
-      solves = λ a u e. absurd (let c : false ≡ true = e in cc);
+      solves = λ a u e. absurd (let c : false ≡ true = sym (no_set a) ∙ e in cc);
       held = names_held (λ a u. false) ∙ first _ _ (pair _ _ (pair _ _ h.0 ((declared_is xs s kind t).1 h.3)) (found_back (found_in xs s w) h.1 h.2));
       declared = h.3;
     },

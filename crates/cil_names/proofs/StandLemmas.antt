@@ -17,16 +17,16 @@ use Rattle.cil_syntax.specs.Kinds.{is_wanted}
 use Rattle.cil_blocks.specs.Namespaces.{space_at}
 use Rattle.cil_names.specs.declared.known.Known.{Known}
 use Rattle.cil_names.specs.Known.{IsNumbered, IsKnown, IsNumberFor, StandsForNothing, enabled_in, meant_in}
-use Rattle.cil_names.specs.Members.{StandsFor}
+use Rattle.cil_names.specs.Members.{HasNoSets, StandsFor}
 use Rattle.cil_names.proofs.MemberLemmas.{found_of, named_of, stands_by, wanted_of}
 use Rattle.cil_base.proofs.NameSearches.{number_is}
 
 -- ---- words
 
-module _ (k : Known) (xs : List Item) (names : Kind → List (List ℕ)) (known : IsKnown k xs names) (kind : Kind) (w : ScopedWord) where
+module _ (k : Known) (xs : List Item) (names : Kind → List (List ℕ)) (known : IsKnown k xs names) (kind : Kind) (plain : HasNoSets kind) (w : ScopedWord) where
   -- a word that means nothing
   not_found : found_in xs (enabled_in k) w ≡ None → StandsForNothing xs (enabled_in k) kind w
-  not_found none t stands = none-some t.space (sym none ∙ found_of xs (enabled_in k) kind w t stands)
+  not_found none t stands = none-some t.space (sym none ∙ found_of xs (enabled_in k) kind plain w t stands)
 
   module _ (d : ℕ) (named : IsNamed k.lookup.namespaces.now xs k.lookup.names.now (enabled_in k) w d) (e : Entry) (at : slice_get k.lookup.names.now d ≡ Some e) where
     same : named.entry ≡ e
@@ -36,9 +36,9 @@ module _ (k : Known) (xs : List Item) (names : Kind → List (List ℕ)) (known 
     kind_is : (t : Symbol) → StandsFor xs (enabled_in k) kind w t → e.kind ≡ kind
     kind_is t st =
         let (i, f) = known.entries.each (enabled_in k) st.declared.declaration st.declared.declares in
-        let there : t.space ≡ named.space = same_Some t.space named.space (sym (found_of xs (enabled_in k) kind w t st) ∙ named.found) in
-        let fits = they_are k.lookup.namespaces.now (asked w.bytes).name w.sign named.space f.entry (f.in_space ∙ st.declared.in_space ∙ there) (f.of_name ∙ st.declared.of_name ∙ named_of xs (enabled_in k) kind w t st)
-        (ap (is_wanted w.sign) (f.of_kind ∙ st.declared.of_kind) ∙ wanted_of xs (enabled_in k) kind w t st) in
+        let there : t.space ≡ named.space = same_Some t.space named.space (sym (found_of xs (enabled_in k) kind plain w t st) ∙ named.found) in
+        let fits = they_are k.lookup.namespaces.now (asked w.bytes).name w.sign named.space f.entry (f.in_space ∙ st.declared.in_space ∙ there) (f.of_name ∙ st.declared.of_name ∙ named_of xs (enabled_in k) kind plain w t st)
+        (ap (is_wanted w.sign) (f.of_kind ∙ st.declared.of_kind) ∙ wanted_of xs (enabled_in k) kind plain w t st) in
         let one : e ≡ f.entry = same_Some e f.entry (sym at ∙ ap (slice_get k.lookup.names.now) (sym (named.only i f.entry f.at fits)) ∙ f.at) in
         ap (λ (x : Entry). x.kind) one ∙ f.of_kind ∙ st.declared.of_kind
 
@@ -66,14 +66,14 @@ module _ (k : Known) (xs : List Item) (names : Kind → List (List ℕ)) (known 
         subst (λ j. IsNumbered (names kind) its_symbol j) (sym is_n) (subst (λ y. IsNumbered (names kind) y (get_or k.numbers.now d 0)) its_name placed) in
         record {
           symbol = its_symbol;
-          stands = stands_by xs (enabled_in k) kind w its_symbol (ap (is_wanted w.sign) (sym of_kind ∙ ap (λ (y : Entry). y.kind) (sym same)) ∙ wanted) named.found refl (record {
+          stands = stands_by xs (enabled_in k) kind plain w its_symbol (ap (is_wanted w.sign) (sym of_kind ∙ ap (λ (y : Entry). y.kind) (sym same)) ∙ wanted) named.found refl (record {
             declaration = x;
             declares = is_x;
             of_kind = has_kind ∙ of_kind;
             in_space = in_space ∙ ap (λ (y : Symbol). y.space) its_name;
             of_name = of_name ∙ ap (λ (y : Symbol). y.name) its_name;
           });
-          only_symbol = λ u st. symbol_by u its_symbol (same_Some u.space named.space (sym (found_of xs (enabled_in k) kind w u st) ∙ named.found)) (named_of xs (enabled_in k) kind w u st);
+          only_symbol = λ u st. symbol_by u its_symbol (same_Some u.space named.space (sym (found_of xs (enabled_in k) kind plain w u st) ∙ named.found)) (named_of xs (enabled_in k) kind plain w u st);
           numbered = numbered;
           only_number = (number_is (names kind) (name_of its_symbol) n numbered (known.numbered.lists kind section).rising).only;
         }

@@ -7,6 +7,7 @@ ghost use Rattle.cil_macros.specs.Item.{Item, is_enabled};
 ghost use Rattle.cil_macros.specs.Items.{item_at};
 ghost use Rattle.cil_syntax.specs.Scopes.{ScopedWord};
 ghost use Rattle.cil_names.specs.Numbers.{has_section};
+ghost use Rattle.cil_names.specs.Members.{HasNoSets};
 ghost use Rattle.cil_names.specs.Known.{IsKnown, IsNumberFor, StandsForNothing, enabled_in, meant_in};
 
 use crate::laws;
@@ -29,9 +30,10 @@ pub struct Known<'s, 'a> {
 }
 
 impl<'s, 'a> Known<'s, 'a> {
-    /// The number of the symbol of this kind for which a word of this meaning stands.
+    /// The number of the symbol of this kind for which a word of this meaning stands: of a kind without aliases and attributes.
     pub fn number(&self, kind: Kind, meaning: Option<usize>) -> Option<usize>
-        requires { has_section kind ≡ true }
+        requires section { has_section kind ≡ true }
+        requires plain { HasNoSets kind }
         ensures { (xs : List Item) (names : kinds.Kind → List (List ℕ)) (w : ScopedWord) → IsKnown self.now xs names → meaning ≡ meant_in self.now w
             → MatchOption result (StandsForNothing xs (enabled_in self.now) kind w) (IsNumberFor xs (enabled_in self.now) kind (names kind) w) }
     {

@@ -2,7 +2,7 @@
 //! that needs the law calls the function.
 
 ghost use Rattle.cil_names.specs.Laws.{CandidatesAreEntries, MeansWhatItNames, ResolvesByCandidates, WantedMeansWhatItNames};
-ghost use Rattle.cil_names.specs.MemberLaws.{HasOneFamily, HoldsTheSame, StandsForOne, TestsDeclared};
+ghost use Rattle.cil_names.specs.MemberLaws.{HasOneFamily, HoldsTheSame, StandsAsHeld, StandsForOne, TestsDeclared};
 
 /// What a word means is the entry that it names, and nothing where it names nothing.
 pub fn means_what_it_names()
@@ -44,4 +44,10 @@ pub fn tests_declared()
 /// A word of a kind that has no aliases and no attributes stands for the one symbol that it names.
 pub fn stands_for_one()
     ensures { StandsForOne }
+{}
+
+/// Where no set depends on itself, which ranks show, a word stands for what it holds in any family of sets that has the members that
+/// statements give.
+pub fn stands_as_held()
+    ensures { StandsAsHeld }
 {}

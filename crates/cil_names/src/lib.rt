@@ -32,7 +32,7 @@ pub mod reading;
 mod row;
 mod run;
 mod shared;
-mod spelled;
+pub mod spelled;
 mod table;
 mod unscoped;
 pub mod worded;

@@ -1,37 +1,37 @@
 -- The records of allow rules.
 use Rattle.std.specs.Prelude.{Contains, Option, Some, None}
-use Rattle.std.specs.List.Retain.{DiffersFromLast, IsFiltered}
-use Rattle.std.specs.List.Sorted.{IsPermutation, IsSorted}
-use Rattle.std.specs.Ordering.{eq_by_cmp}
 use Rattle.std.proofs.Common.{◌≡◌, ℕ, ◌++◌, true, false, List, [], ◌∷◌, drop, get_or, length, map, refl, sym, ◌∙◌, ap, subst}
 use Rattle.std.proofs.Math.Seq.{drop-append_seam}
 use Rattle.std.proofs.lemmas.Bool.{true≢false}
 use Rattle.std.proofs.lemmas.List.{append-nil, length-map, map-append}
 use Rattle.std.proofs.lemmas.Option.{none-some, same_Some}
+use Rattle.std.specs.Ordering.{nat_cmp}
 use Rattle.cil_base.specs.Gives.{Gives}
+use Rattle.cil_base.specs.Lists.{Lists}
 use Rattle.cil_syntax.specs.Forms.{rule_form}
 use Rattle.cil_syntax.specs.declared.kind.Keyword.TheVariants as keywords
+use Rattle.cil_syntax.specs.declared.kind.Kind.{Kind}
 use Rattle.cil_syntax.specs.declared.kind.Kind.TheVariants as kinds
 use Rattle.cil_syntax.specs.declared.term.Word.{Word}
 use Rattle.cil_syntax.specs.Terms.{Term, Leaf, Terms, nil, cons}
 use Rattle.cil_macros.specs.Item.{Item, OptSet, is_enabled}
 use Rattle.cil_syntax.specs.Scopes.{ScopedWord}
-use Rattle.cil_base.proofs.SortedLists.{sorted_list}
 use Rattle.cil_names.specs.declared.known.Known.{Known}
 use Rattle.cil_classes.specs.declared.row.Class.{Class}
-use Rattle.cil_rules.specs.declared.rule.Numbers.{Numbers}
-use Rattle.cil_rules.specs.declared.rule.Rule.{Rule}
-use Rattle.cil_rules.specs.declared.rule.Target.{Target}
-use Rattle.cil_rules.specs.Records.{Case, HasTarget, IsCase, IsRuleOf, CaseBy}
-use Rattle.cil_names.specs.Known.{BeginWith, IsNumberFor, StandsForNothing, enabled_in, meant_by, meant_in, row_in, value_in, wanted_with}
+use Rattle.cil_rules.specs.declared.rule.NamedRule.{NamedRule}
+use Rattle.cil_rules.specs.Kept.{rule_named}
+use Rattle.cil_rules.specs.Rule.{Rule, Target}
+use Rattle.cil_rules.specs.Records.{Case, HasNumber, HasTarget, IsCase, IsRuleOf, CaseBy}
+use Rattle.cil_names.specs.Known.{AreStanding, BeginWith, HasNumberFor, IsKnown, StandsForNothing, enabled_in, meant_by, meant_in, row_in, set_meant, value_in, wanted_with}
 use Rattle.cil_names.specs.Members.{StandsFor}
 use Rattle.cil_names.specs.Resolves.{Wanted, Word as AWord, all_wanted_in, wanted_in}
 use Rattle.cil_classes.specs.Pairs.{HasPair}
 use Rattle.cil_base.specs.Records.{AreRecordsOf, IsRecordOf}
 use Rattle.cil_classes.specs.Masks.{GivesNothing, IsGiven}
-use Rattle.cil_rules.specs.Order.{rule_cmp, rule_total, one_rule}
+use Rattle.cil_rules.specs.Order.{rule_cmp}
 use Rattle.cil_macros.proofs.FormLemmas.{across, all_across, no_rule, rule_across}
-use Rattle.cil_rules.proofs.TargetLemmas.{IsReached, only_number}
+use Rattle.cil_names.proofs.StandingLemmas.{nothing_stands}
+use Rattle.cil_rules.proofs.TargetLemmas.{IsReached, some_type, types_listed}
 
 -- ---- the meanings of what a rule asks for
 
@@ -76,6 +76,24 @@ module _ (k : Known) (x : Item) (f : Word → ScopedWord) (args : Terms Word) (s
           ∙ drop-append_seam (meant_by k f target) (meant_by k f class_permission)
           ∙ sym (append-nil (meant_by k f class_permission));
     }
+
+-- ---- the source
+
+module _ (k : Known) (xs : List Item) (names : Kind → List (List ℕ)) (known : IsKnown k xs names) (sets : List (List ℕ)) (standing : AreStanding k xs names kinds.Type_ sets) (x : Item) (f : Word → ScopedWord)
+    (args : Terms Word) (says : x.args ≡ all_across f args) (source : Word) (target class_permission : Term Word) (said : args ≡ cons (Leaf source) (cons target (cons class_permission nil)))
+    (words : List (Option ℕ)) (are : words ≡ row_in k x) (r : Option ℕ) (first : r ≡ get_or words 0 None) where
+  its_set : Lists nat_cmp (HasNumberFor xs (enabled_in k) kinds.Type_ (names kinds.Type_) (f source)) (set_meant sets r)
+  its_set =
+      subst (λ q. Lists nat_cmp (HasNumberFor xs (enabled_in k) kinds.Type_ (names kinds.Type_) (f source)) (set_meant sets q))
+      (sym (source_means k x f args says source target class_permission said words are r first)) (standing (f source))
+
+  -- the numbers of the types of the source
+  pub source_listed : (kept : List ℕ) → kept ≡ set_meant sets r → Lists nat_cmp (HasNumber xs (enabled_in k) (names kinds.Type_) (f source)) kept
+  source_listed kept e =
+      subst (Lists nat_cmp (HasNumber xs (enabled_in k) (names kinds.Type_) (f source))) (sym e) (types_listed xs (enabled_in k) (names kinds.Type_) (f source) (set_meant sets r) its_set)
+
+  pub source_lost : set_meant sets r ≡ [] → StandsForNothing xs (enabled_in k) kinds.Type_ (f source)
+  source_lost empty = nothing_stands k xs names known kinds.Type_ refl (f source) (set_meant sets r) its_set empty
 
 -- ---- the record of one statement
 
@@ -122,7 +140,7 @@ module _ (xs : List Item) (k : Known) (x : Item) where
       without_permission none c by =
           none c.class_ by.permission.0 (subst (λ t. HasPair xs (enabled_in k) t c.class_ by.permission.0) (class_of c by) by.permission.1)
 
-      module _ (types : List (List ℕ)) (classes : List Class) (n : ℕ) (number : IsNumberFor xs (enabled_in k) kinds.Type_ types (f source) n) (sources : Numbers) (one : sources ≡ n ∷ [])
+      module _ (types : List (List ℕ)) (classes : List Class) (sources : List ℕ) (listed : Lists nat_cmp (HasNumber xs (enabled_in k) types (f source)) sources) (some : sources ≡ [] → ⊥)
           (reached : Target) (is_reached : IsReached xs (enabled_in k) types (across f target) reached) (class_ mask : ℕ)
           (given : IsGiven xs (enabled_in k) classes (across f class_permission) class_ mask) where
         abbrev its_case : Case
@@ -138,7 +156,7 @@ module _ (xs : List Item) (k : Known) (x : Item) where
 
         is_record : IsRuleOf xs (enabled_in k) types classes its_case its_rule
         is_record = record {
-          source = only_number xs (enabled_in k) types (f source) n sources number one;
+          source = listed;
           target = is_reached.1;
           row = given.row;
           is_row = given.is_row;
@@ -158,7 +176,7 @@ module _ (xs : List Item) (k : Known) (x : Item) where
               enabled = enabled;
               is_keyword = is;
               says = is_rule;
-              source = (number.symbol, number.stands);
+              source = some_type xs (enabled_in k) types (f source) sources listed some;
               target = is_reached.0;
               permission = given.some;
             },
@@ -188,12 +206,14 @@ module _ (xs : List Item) (s : OptSet) (types : List (List ℕ)) (classes : List
     permission = is.permission;
   }
 
-  pub rules_listed : (ys zs : List Rule) → IsPermutation raw ys → IsSorted rule_cmp ys → IsFiltered (DiffersFromLast (eq_by_cmp rule_cmp)) [] ys zs
-      → Gives rule_cmp (IsCase xs s keywords.Allow) (IsRuleOf xs s types classes) zs
-  rules_listed ys zs moved sorted kept =
-      let list = sorted_list rule_cmp rule_total one_rule raw ys zs moved sorted kept in
-      record {
-        rising = list.rising;
-        each = λ k is. let r = are.each is.rule.item k is.rule.is_item (of_case k is) in (r.0, r.1, (list.members r.0).1 r.2);
-        only = λ y c. let o = are.only y ((list.members y).0 c) in (o.1, as_case o.0 o.1 o.2 o.3, o.4);
-      }
+  -- a list of them in their order has the rule of each case
+  pub rules_listed : (zs : List Rule) → Lists rule_cmp (Contains raw) zs → Gives rule_cmp (IsCase xs s keywords.Allow) (IsRuleOf xs s types classes) zs
+  rules_listed zs list = record {
+    rising = list.rising;
+    each = λ k is. let r = are.each is.rule.item k is.rule.is_item (of_case k is) in (r.0, r.1, (list.members r.0).1 r.2);
+    only = λ y c. let o = are.only y ((list.members y).0 c) in (o.1, as_case o.0 o.1 o.2 o.3, o.4);
+  }
+
+-- one rule more
+pub one_more : (sets : List (List ℕ)) (old new : List NamedRule) (r : NamedRule) → new ≡ old ++ r ∷ [] → map (rule_named sets) new ≡ map (rule_named sets) old ++ rule_named sets r ∷ []
+one_more sets old new r push = ap (map (rule_named sets)) push ∙ map-append (rule_named sets) old (r ∷ [])

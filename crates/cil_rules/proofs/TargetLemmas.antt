@@ -1,12 +1,12 @@
 -- What the target of a rule reaches, and the numbers of the types of a record.
 use Rattle.std.specs.Prelude.{Contains, Option, Some, None, MatchOption}
-use Rattle.std.specs.List.Sorted.{IsStrictlySortedBy}
 use Rattle.std.specs.Ordering.{nat_cmp}
 use Rattle.std.specs.declared.alloc.Global.{Global}
 use Rattle.std.specs.declared.vec.Vec.{Vec}
 use Rattle.std.proofs.Common.{◌≡◌, ℕ, ◌++◌, List, [], ◌∷◌, get_or, map, refl, sym, ◌∙◌, ap, subst, inl, inr}
-use Rattle.cil_base.specs.Lists.{Lists, contains_here, contains_cases, contains_none}
+use Rattle.cil_base.specs.Lists.{Lists, contains_here}
 use Rattle.cil_base.specs.declared.bytes.Bytes.{Bytes}
+use Rattle.cil_syntax.specs.declared.kind.Kind.{Kind}
 use Rattle.cil_syntax.specs.declared.kind.Kind.TheVariants as kinds
 use Rattle.cil_syntax.specs.declared.term.LookedUp.{LookedUp}
 use Rattle.cil_syntax.specs.declared.term.Op.{Op}
@@ -22,33 +22,40 @@ use Rattle.cil_syntax.specs.Scopes.{ScopedWord}
 use Rattle.cil_syntax.specs.declared.term.Word.{Word}
 use Rattle.cil_names.specs.Unresolved.{term_with}
 use Rattle.cil_names.specs.declared.known.Known.{Known}
-use Rattle.cil_rules.specs.declared.rule.Numbers.{Numbers}
-use Rattle.cil_rules.specs.declared.rule.Target.{Target}
-use Rattle.cil_rules.specs.declared.rule.Target.TheVariants as targets
+use Rattle.cil_rules.specs.declared.rule.Reach.{Reach}
+use Rattle.cil_rules.specs.declared.rule.Reach.TheVariants as reaches
+use Rattle.cil_rules.specs.Kept.{set_named, target_named}
+use Rattle.cil_rules.specs.Rule.{Target}
+use Rattle.cil_rules.specs.Rule as targets
 use Rattle.cil_rules.specs.Records.{HasNumber, HasTarget, IsTargetOf}
-use Rattle.cil_names.specs.Known.{IsNumbered, BeginWith, IsNumberFor, StandsForNothing, enabled_in, meant_in, value_in}
+use Rattle.cil_names.specs.Known.{AreStanding, BeginWith, HasNumberFor, IsKnown, enabled_in, meant_in, set_meant, value_in}
+use Rattle.cil_names.specs.Declarations.{Symbol}
+use Rattle.cil_names.specs.Members.{StandsFor}
 use Rattle.cil_macros.proofs.FormLemmas.{across, all_across, form_across, leaf_across, name_across}
 use Rattle.cil_names.specs.Resolves.{Word as AWord}
 use Rattle.cil_names.proofs.AskedLemmas.{leaf_asked}
+use Rattle.cil_names.proofs.StandingLemmas.{nothing_stands}
 
-one_rises : (m : ℕ) → IsStrictlySortedBy nat_cmp (m ∷ [])
-unfolding IsStrictlySortedBy
-one_rises m = (tt, tt)
-
--- the set of the number of one word
-pub only_number : (xs : List Item) (s : OptSet) (types : List (List ℕ)) (w : ScopedWord) (n : ℕ) (numbers : List ℕ) → IsNumberFor xs s kinds.Type_ types w n → numbers ≡ n ∷ []
+-- the numbers of the types for which a word stands are those of a record
+pub types_listed : (xs : List Item) (s : OptSet) (types : List (List ℕ)) (w : ScopedWord) (numbers : List ℕ) → Lists nat_cmp (HasNumberFor xs s kinds.Type_ types w) numbers
     → Lists nat_cmp (HasNumber xs s types w) numbers
-only_number xs s types w n numbers number same =
-    subst (Lists nat_cmp (HasNumber xs s types w)) (sym same) (record {
-      rising = one_rises n;
-      members = λ k. (
-        (λ c. elim (contains_cases k n [] c) [
-          | inl e ↦ subst (HasNumber xs s types w) e (record { kind = number.symbol; stands = number.stands; numbered = number.numbered })
-          | inr d ↦ absurd (contains_none k d)
-        ]),
-        (λ h. subst (Contains (n ∷ [])) (sym (number.only_number k (subst (λ t. IsNumbered types t k) (number.only_symbol h.kind h.stands) h.numbered))) (contains_here n [])),
-      );
-    })
+types_listed xs s types w numbers l = record {
+  rising = l.rising;
+  members = λ n. (
+    (λ c. let h = (l.members n).0 c in record { kind = h.symbol; stands = h.stands; numbered = h.numbered }),
+    (λ h. (l.members n).1 (record { symbol = h.kind; stands = h.stands; numbered = h.numbered })),
+  );
+}
+
+-- a set that is not empty has a member
+some_member : (numbers : List ℕ) → (numbers ≡ [] → ⊥) → (n : ℕ) × Contains numbers n
+some_member [] some = absurd (some refl)
+some_member (n ∷ ns) some = (n, contains_here n ns)
+
+-- a word stands for some type where it stands for some number
+pub some_type : (xs : List Item) (s : OptSet) (types : List (List ℕ)) (w : ScopedWord) (numbers : List ℕ) → Lists nat_cmp (HasNumber xs s types w) numbers → (numbers ≡ [] → ⊥)
+    → (t : Symbol) × StandsFor xs s kinds.Type_ w t
+some_type xs s types w numbers l some = let (n, c) = some_member numbers some in let h = (l.members n).0 c in (h.kind, h.stands)
 
 -- what a target reaches, and the target that says so
 abbrev pub IsReached : List Item → OptSet → List (List ℕ) → Term ScopedWord → Target → Type 0
@@ -72,26 +79,38 @@ module _ (k : Known) (f : Word → ScopedWord) (m : ℕ) (t : rust.Term) where
   is_form at op parts is =
       ap (across f) (ap (said_of m) is ∙ form_said m at op parts) ∙ form_across f (spot_at m at) op (all_said m parts.items)
 
-  module _ (xs : List Item) (types : List (List ℕ)) where
-    pub word_reached : (w : LookedUp) (n : ℕ) (numbers : Numbers) → t ≡ variants.Leaf w → IsNumberFor xs (enabled_in k) kinds.Type_ types (f (word_in m w)) n
-        → numbers ≡ n ∷ [] → IsReached xs (enabled_in k) types (term_with f m t) (targets.Types numbers)
-    word_reached w n numbers is number same =
-        subst (λ u. IsReached xs (enabled_in k) types u (targets.Types numbers)) (sym (is_word w is))
-        ((number.symbol, number.stands), only_number xs (enabled_in k) types (f (word_in m w)) n numbers number same)
+  module _ (xs : List Item) (names : Kind → List (List ℕ)) where
+    abbrev types : List (List ℕ)
+    types = names kinds.Type_
 
-    pub word_lost : (w : LookedUp) → t ≡ variants.Leaf w → StandsForNothing xs (enabled_in k) kinds.Type_ (f (word_in m w))
-        → HasTarget xs (enabled_in k) (term_with f m t) → ⊥
-    word_lost w is none h = let r = subst (HasTarget xs (enabled_in k)) (is_word w is) h in none r.0 r.1
+    module _ (known : IsKnown k xs names) (sets : List (List ℕ)) (standing : AreStanding k xs names kinds.Type_ sets) (words : List (Option ℕ)) (begin : BeginWith k f (said_of m t) words) (r : Option ℕ)
+        (first : r ≡ get_or words 0 None) (w : LookedUp) (is : t ≡ variants.Leaf w) where
+      its_set : Lists nat_cmp (HasNumberFor xs (enabled_in k) kinds.Type_ types (f (word_in m w))) (set_meant sets r)
+      its_set = subst (λ q. Lists nat_cmp (HasNumberFor xs (enabled_in k) kinds.Type_ types (f (word_in m w))) (set_meant sets q)) (sym (word_means w is words begin r first)) (standing (f (word_in m w)))
+
+      pub word_reached : (d n : ℕ) → set_named sets d ≡ set_meant sets r → (set_named sets d ≡ [] → ⊥) → n ≡ d
+          → IsReached xs (enabled_in k) types (term_with f m t) (target_named sets (reaches.Types n))
+      word_reached d n e some same =
+          let listed = types_listed xs (enabled_in k) types (f (word_in m w)) (set_meant sets r) its_set in
+          subst (λ u. IsReached xs (enabled_in k) types u (targets.Types (set_named sets n))) (sym (is_word w is)) (
+            some_type xs (enabled_in k) types (f (word_in m w)) (set_meant sets r) listed (λ none. some (e ∙ none)),
+            subst (Lists nat_cmp (HasNumber xs (enabled_in k) types (f (word_in m w)))) (sym (ap (set_named sets) same ∙ e)) listed,
+          )
+
+      pub word_lost : set_meant sets r ≡ [] → HasTarget xs (enabled_in k) (term_with f m t) → ⊥
+      word_lost empty h =
+          let reached = subst (HasTarget xs (enabled_in k)) (is_word w is) h in
+          nothing_stands k xs names known kinds.Type_ refl (f (word_in m w)) (set_meant sets r) its_set empty reached.0 reached.1
 
     pub name_lost : (at : ℕ) (bytes : Bytes) → t ≡ variants.Name at bytes → HasTarget xs (enabled_in k) (term_with f m t) → ⊥
     name_lost at bytes is h =
         subst (HasTarget xs (enabled_in k))
         (ap (across f) (ap (said_of m) is ∙ name_said m at bytes) ∙ name_across f (spot_at m at) bytes) h
 
-    pub form_reached : (at : ℕ) (op : Op) (parts : Vec rust.Term Global) (r : Option Target) → t ≡ variants.Form op at parts
-        → MatchOption r (op ≡ ops.Itself → ⊥) (λ target. (op ≡ ops.Itself) × (target ≡ targets.Itself))
+    pub form_reached : (sets : List (List ℕ)) (at : ℕ) (op : Op) (parts : Vec rust.Term Global) (r : Option Reach) → t ≡ variants.Form op at parts
+        → MatchOption r (op ≡ ops.Itself → ⊥) (λ reach. (op ≡ ops.Itself) × (reach ≡ reaches.Itself))
         → MatchOption r (HasTarget xs (enabled_in k) (term_with f m t) → ⊥)
-        (λ target. HasTarget xs (enabled_in k) (term_with f m t) × IsTargetOf xs (enabled_in k) types (term_with f m t) target)
-    form_reached at op parts None is other = λ h. other (subst (HasTarget xs (enabled_in k)) (is_form at op parts is) h)
-    form_reached at op parts (Some target) is itself =
-        subst (λ u. IsReached xs (enabled_in k) types u target) (sym (is_form at op parts is)) (itself.0, itself)
+        (λ reach. HasTarget xs (enabled_in k) (term_with f m t) × IsTargetOf xs (enabled_in k) types (term_with f m t) (target_named sets reach))
+    form_reached sets at op parts None is other = λ h. other (subst (HasTarget xs (enabled_in k)) (is_form at op parts is) h)
+    form_reached sets at op parts (Some reach) is itself =
+        subst (λ u. IsReached xs (enabled_in k) types u (target_named sets reach)) (sym (is_form at op parts is)) (itself.0, (itself.0, ap (target_named sets) itself.1))

@@ -1,8 +1,6 @@
 -- What the records of rules cover. The SELinux Notebook, "Computing Access Decisions".
 use Rattle.std.specs.Prelude.{◌≡◌, ℕ, Contains, IsBitSet, List}
-use Rattle.cil_rules.specs.declared.rule.Rule.{Rule}
-use Rattle.cil_rules.specs.declared.rule.Target.{Target}
-use Rattle.cil_rules.specs.declared.rule.Target.TheVariants.{Types, Itself}
+use Rattle.cil_rules.specs.Rule.{Rule, Target, Types, Itself}
 
 -- the target type is one that a rule reaches from the source type
 abbrev pub Reaches : Target → ℕ → ℕ → Type 0

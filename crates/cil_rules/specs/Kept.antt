@@ -1,8 +1,19 @@
--- The numbers of a set, by how it is kept.
-use Rattle.std.specs.Prelude.{ℕ, List, [], ◌∷◌}
-use Rattle.cil_rules.specs.declared.rule.Kept.{Kept}
-use Rattle.cil_rules.specs.declared.rule.Kept.TheVariants.{One, Other}
+-- How rules are handed on: with the number of a declared name in place of the types for which it stands.
+use Rattle.std.specs.Prelude.{ℕ, List, [], get_or}
+use Rattle.cil_rules.specs.declared.rule.NamedRule.{NamedRule}
+use Rattle.cil_rules.specs.declared.rule.Reach.{Reach}
+use Rattle.cil_rules.specs.declared.rule.Reach.TheVariants as reaches
+use Rattle.cil_rules.specs.Rule.{Rule, Target, Types, Itself}
 
-abbrev pub kept_numbers : Kept → List ℕ
-kept_numbers (One number) = number ∷ []
-kept_numbers (Other numbers) = numbers.value.items
+-- the set of the declared name of this number
+abbrev pub set_named : List (List ℕ) → ℕ → List ℕ
+set_named sets number = get_or sets number []
+
+-- what is reached, where these are the sets of the numbers
+abbrev pub target_named : List (List ℕ) → Reach → Target
+target_named sets (reaches.Types number) = Types (set_named sets number)
+target_named sets reaches.Itself = Itself
+
+-- the rule that is meant
+abbrev pub rule_named : List (List ℕ) → NamedRule → Rule
+rule_named sets r = record { source = set_named sets r.source; target = target_named sets r.target; class = r.class; mask = r.mask }

@@ -3,3 +3,4 @@ pub mod Covers
 pub mod Kept
 pub mod Order
 pub mod Records
+pub mod Rule

@@ -1,12 +1,13 @@
-//! The rules of a policy: their records by numbers, and which permissions they cover.
+//! The rules of a policy by numbers, and which permissions they cover.
 //!
-//! Start at `rules_of` in `rules.rt`. `specs/Covered.antt` says which rules of a policy cover a permission, `specs/Records.antt` which
-//! record a rule has, `specs/Covers.antt` what a record covers, and `specs/Order.antt` in which order records stand. That both say the
-//! same of whole tables is said a crate above.
+//! Start at `rules_of` in `rules.rt`. `specs/Covered.antt` says which rules of a policy cover a permission, `specs/Rule.antt` what a rule
+//! is in numbers, `specs/Records.antt` which rule a statement has, `specs/Covers.antt` what a rule covers, and `specs/Order.antt` in which
+//! order rules stand. `specs/Kept.antt` says how they are handed on, by declared names. That both say the same of whole tables is said a
+//! crate above.
 #![tactic(auto)]
 
 mod rule;
 mod rules;
 
-pub use rule::{Numbers, Rule, Target};
+pub use rule::{NamedRule, Reach};
 pub use rules::rules_of;

@@ -1,11 +1,10 @@
-//! The records of rules. A rule costs no look-up of a word and no search, but the numbers of its source, target and class,
-//! a walk over the words of its target, and a step for each of its permission words; at the end the records are sorted.
+//! The rules of a policy. A rule costs no look-up of a word and no search, but the numbers of its source, target and class, a walk over
+//! the words of its target, and a step for each of its permission words.
 
-ghost use Rattle.std.specs.Prelude.{◌≡◌, ◌<◌, ◌≤◌, ℕ, [], ◌∷◌, Contains, IfOk, List, MatchOption, length, map};
+ghost use Rattle.std.specs.Prelude.{◌≡◌, ◌↔◌, ◌<◌, ◌≤◌, ℕ, [], Contains, IfOk, IsTrue, List, MatchOption, get_or, length, map, option_map};
 ghost use Rattle.std.specs.List.Sorted.{IsStrictlySortedBy};
-ghost use Rattle.cil_base.specs.Gives.{Gives};
 ghost use Rattle.cil_base.specs.Lists.{text_cmp};
-ghost use Rattle.cil_syntax.specs.declared.kind.Keyword.TheVariants as keywords;
+ghost use Rattle.cil_base.specs.Records.{AreRecordsOf, IsRecordOf};
 ghost use Rattle.cil_syntax.specs.declared.kind.Kind as kinds;
 ghost use Rattle.cil_syntax.specs.declared.kind.Kind.TheVariants as variants;
 ghost use Rattle.cil_syntax.specs.declared.term.Op.TheVariants as ops;
@@ -14,85 +13,68 @@ ghost use Rattle.cil_syntax.specs.Said.{said_of};
 ghost use Rattle.cil_syntax.specs.Scopes.{ScopedWord};
 ghost use Rattle.cil_macros.specs.Item.{Item};
 ghost use Rattle.cil_macros.specs.Items.{item_at, items_in};
+ghost use Rattle.cil_names.specs.declared.known.Known.{Known as Lookups};
+ghost use Rattle.cil_names.specs.Known.{AreStanding, BeginWith, IsKnown, enabled_in, row_in, set_meant};
 ghost use Rattle.cil_names.specs.Rows.{IsTableOf};
 ghost use Rattle.cil_names.specs.Unresolved.{term_with};
 ghost use Rattle.cil_classes.specs.declared.row.Class.{Class as ARow};
-ghost use Rattle.cil_rules.specs.declared.rule.Target.TheVariants as targets;
-ghost use Rattle.cil_rules.specs.Records.{HasTarget, IsCase, IsRuleOf, IsTargetOf, CaseBy};
 ghost use Rattle.cil_classes.specs.ClassRows.{AreClasses};
-ghost use Rattle.cil_names.specs.Known.{BeginWith, IsKnown, enabled_in, row_in};
 ghost use Rattle.cil_classes.specs.Row.{AreOrderlyRows, most_permissions};
-ghost use Rattle.cil_base.specs.Records.{AreRecordsOf, IsRecordOf};
-ghost use Rattle.cil_rules.specs.Order.{rule_cmp};
+ghost use Rattle.cil_rules.specs.declared.rule.Reach.TheVariants as reaches;
+ghost use Rattle.cil_rules.specs.Kept.{rule_named, set_named, target_named};
+ghost use Rattle.cil_rules.specs.Records.{CaseBy, HasTarget, IsRuleOf, IsTargetOf};
 
-use crate::rule::{Numbers, Rule, Target};
+use crate::rule::{NamedRule, Reach};
 use cil_base::NoMemory;
 use cil_classes::{Class, given_by};
 use cil_macros::Instances;
 use cil_names::{Known, Meaning, behind, behind_first, meaning_at, same_keyword};
-use cil_syntax::{Keyword, Kind, Op, Term};
+use cil_sets::Numbers;
+use cil_syntax::{Keyword, Op, Term};
 use std::alloc::Global;
 
-/// The records of the enabled allow rules, in their order.
+/// The rules of the enabled allow statements, in the order of these, where the words of each declared name stand for these types. A rule
+/// whose source or target is an attribute without members is left out. Error: out of memory.
 pub fn rules_of(
     alloc: Global,
     instances: &Instances,
     known: &Known,
+    types: &[Numbers],
     classes: &[Class],
-) -> Result<Vec<Rule>, NoMemory>
+) -> Result<Vec<NamedRule>, NoMemory>
     requires table { IsTableOf (map (row_in known.now) (items_in instances.now)) known.now.words.now }
     requires rising { (row : ARow) → Contains classes.now row → IsStrictlySortedBy text_cmp row.permissions }
     requires few { (row : ARow) → Contains classes.now row → length row.permissions ≤ most_permissions }
     ensures { IfOk result (λ rules. (names : kinds.Kind → List (List ℕ)) → IsKnown known.now (items_in instances.now) names
-        → AreClasses (items_in instances.now) (enabled_in known.now) (names variants.Class) classes.now
-        → Gives rule_cmp (IsCase (items_in instances.now) (enabled_in known.now) keywords.Allow)
-        (IsRuleOf (items_in instances.now) (enabled_in known.now) (names variants.Type_) classes.now) rules.items) }
-{
-    let mut rules = unsorted(alloc, instances, known, classes)?;
-    rules.sort_unstable();
-    rules.dedup();
-    Ok(rules)
-}
-
-/// The same, in the order of the statements.
-fn unsorted(
-    alloc: Global,
-    instances: &Instances,
-    known: &Known,
-    classes: &[Class],
-) -> Result<Vec<Rule>, NoMemory>
-    requires table { IsTableOf (map (row_in known.now) (items_in instances.now)) known.now.words.now }
-    requires rows { AreOrderlyRows classes.now }
-    ensures { IfOk result (λ rules. (names : kinds.Kind → List (List ℕ)) → IsKnown known.now (items_in instances.now) names
+        → AreStanding known.now (items_in instances.now) names variants.Type_ types.now
         → AreClasses (items_in instances.now) (enabled_in known.now) (names variants.Class) classes.now
         → AreRecordsOf (CaseBy (items_in instances.now) (enabled_in known.now))
-        (IsRuleOf (items_in instances.now) (enabled_in known.now) (names variants.Type_) classes.now) (items_in instances.now) rules.items) }
+        (IsRuleOf (items_in instances.now) (enabled_in known.now) (names variants.Type_) classes.now) (items_in instances.now) (map (rule_named types.now) rules.items)) }
 {
     let mut rules = Vec::with_capacity(alloc, instances.len())?;
     for at in 0..instances.len() {
-        if let Some(rule) = rule_of(alloc, instances, at, known.words.row(at), known, classes)? {
+        if let Some(rule) = rule_of(instances, at, known.words.row(at), known, types, classes)? {
             rules.push(rule)?;
         }
     }
     Ok(rules)
 }
 
-/// The record of the statement at a place, if it is an enabled allow rule, by what its words mean; none where it covers
-/// nothing.
+/// The rule of the statement at a place, if it is an enabled allow rule, by what its words mean; none where it covers nothing.
 fn rule_of(
-    alloc: Global,
     instances: &Instances,
     at: usize,
     words: &[Meaning],
     known: &Known,
+    types: &[Numbers],
     classes: &[Class],
-) -> Result<Option<Rule>, NoMemory>
+) -> Result<Option<NamedRule>, NoMemory>
     requires within { at < length (items_in instances.now) }
     requires rows { AreOrderlyRows classes.now }
-    ensures { IfOk result (λ rule. (xs : List Item) (names : kinds.Kind → List (List ℕ)) → IsKnown known.now xs names
+    ensures { IfOk result (λ rule. (xs : List Item) (names : kinds.Kind → List (List ℕ)) → IsKnown known.now xs names → AreStanding known.now xs names variants.Type_ types.now
         → AreClasses xs (enabled_in known.now) (names variants.Class) classes.now → words.now ≡ row_in known.now (item_at instances.now at)
         → IsRecordOf (CaseBy xs (enabled_in known.now)) (IsRuleOf xs (enabled_in known.now) (names variants.Type_) classes.now)
-        (item_at instances.now at) rule) }
+        (item_at instances.now at) (option_map (rule_named types.now) rule)) }
 {
     let statement = instances.statement_there(at);
     if !same_keyword(statement.keyword, Keyword::Allow) {
@@ -105,7 +87,7 @@ fn rule_of(
         return Ok(None);
     };
     let module = statement.at.module;
-    let Some(source) = known.number(Kind::Type_, meaning_at(words, 0)) else {
+    let Some(source) = some_at(types, meaning_at(words, 0)) else {
         return Ok(None);
     };
     let of_target = behind_first(words);
@@ -113,46 +95,71 @@ fn rule_of(
     let Some(given) = given_by(known, classes, parts.class_permission, module, of_class) else {
         return Ok(None);
     };
-    let class = short(given.class)?;
-    let Some(target) = target_of(alloc, known, parts.target, module, of_target)? else {
+    let Some(target) = target_of(types, parts.target, of_target)? else {
         return Ok(None);
     };
-    Ok(Some(Rule {
-        source: only(alloc, source)?,
+    let source = short(source)?;
+    let class = short(given.class)?;
+    Ok(Some(NamedRule {
+        source,
         target,
         class,
         mask: given.mask,
     }))
 }
 
-/// The number of a class, in four bytes. A table has room for 4,294,967,296 classes; beyond them it is out of memory.
-fn short(class: usize) -> Result<u32, NoMemory>
-    ensures { IfOk result (λ number. number ≡ class) }
+/// The declared name that a word means, if its set has members.
+fn some_at(sets: &[Numbers], meaning: Option<usize>) -> Option<usize>
+    ensures { MatchOption result (set_meant sets.now meaning ≡ []) (λ d. (set_named sets.now d ≡ set_meant sets.now meaning) × (set_named sets.now d ≡ [] → ⊥)) }
 {
-    if class > u32::MAX as usize {
+    match meaning {
+        Some(d) => unless_empty(sets, d),
+        None => None,
+    }
+}
+
+/// The declared name of this number, if its set has members.
+fn unless_empty(sets: &[Numbers], d: usize) -> Option<usize>
+    ensures { MatchOption result (set_named sets.now d ≡ []) (λ same. (same ≡ d) × (set_named sets.now d ≡ [] → ⊥)) }
+{
+    if is_empty_at(sets, d) {
+        return None;
+    }
+    Some(d)
+}
+
+fn is_empty_at(sets: &[Numbers], d: usize) -> bool
+    ensures { IsTrue result ↔ (set_named sets.now d ≡ []) }
+{
+    match sets.get(d) {
+        Some(set) => set.is_empty(),
+        None => true,
+    }
+}
+
+/// A number in four bytes. A table has room for 4,294,967,296 of them; beyond these it is out of memory.
+fn short(number: usize) -> Result<u32, NoMemory>
+    ensures { IfOk result (λ same. same ≡ number) }
+{
+    if number > u32::MAX as usize {
         return Err(NoMemory);
     }
-    Ok(class as u32)
+    Ok(number as u32)
 }
 
 // ---- targets
 
-/// What a term of a rule of this module reaches, by meanings that begin with those of its words.
-fn target_of(
-    alloc: Global,
-    known: &Known,
-    term: &Term,
-    module: u64,
-    words: &[Meaning],
-) -> Result<Option<Target>, NoMemory>
-    ensures { IfOk result (λ r. (xs : List Item) (names : kinds.Kind → List (List ℕ)) (f : AWord → ScopedWord) → IsKnown known.now xs names → BeginWith known.now f (said_of «module» term.now) words.now
-        → MatchOption r (HasTarget xs (enabled_in known.now) (term_with f «module» term.now) → ⊥)
-        (λ target. HasTarget xs (enabled_in known.now) (term_with f «module» term.now)
-        × IsTargetOf xs (enabled_in known.now) (names variants.Type_) (term_with f «module» term.now) target)) }
+/// What a term of a rule reaches, by meanings that begin with those of its words; none where it reaches no type.
+fn target_of(types: &[Numbers], term: &Term, words: &[Meaning]) -> Result<Option<Reach>, NoMemory>
+    ensures { IfOk result (λ r. (k : Lookups) (xs : List Item) (names : kinds.Kind → List (List ℕ)) (f : AWord → ScopedWord) (m : ℕ) → IsKnown k xs names → AreStanding k xs names variants.Type_ types.now
+        → BeginWith k f (said_of m term.now) words.now
+        → MatchOption r (HasTarget xs (enabled_in k) (term_with f m term.now) → ⊥)
+        (λ reach. HasTarget xs (enabled_in k) (term_with f m term.now)
+        × IsTargetOf xs (enabled_in k) (names variants.Type_) (term_with f m term.now) (target_named types.now reach))) }
 {
     match term {
-        Term::Leaf(_) => match known.number(Kind::Type_, meaning_at(words, 0)) {
-            Some(number) => Ok(Some(Target::Types(only(alloc, number)?))),
+        Term::Leaf(_) => match some_at(types, meaning_at(words, 0)) {
+            Some(d) => Ok(Some(Reach::Types(short(d)?))),
             None => Ok(None),
         },
         Term::Name(_, _) => Ok(None),
@@ -161,18 +168,11 @@ fn target_of(
 }
 
 /// The source type as a target, where the operator says so.
-fn itself(op: Op) -> Option<Target>
-    ensures { MatchOption result (op ≡ ops.Itself → ⊥) (λ target. (op ≡ ops.Itself) × (target ≡ targets.Itself)) }
+fn itself(op: Op) -> Option<Reach>
+    ensures { MatchOption result (op ≡ ops.Itself → ⊥) (λ reach. (op ≡ ops.Itself) × (reach ≡ reaches.Itself)) }
 {
     match op {
-        Op::Itself => Some(Target::Itself),
+        Op::Itself => Some(Reach::Itself),
         _ => None,
     }
-}
-
-/// The set of one number.
-fn only(alloc: Global, number: usize) -> Result<Numbers, NoMemory>
-    ensures { IfOk result (λ numbers. numbers ≡ number ∷ []) }
-{
-    Numbers::from_slice(alloc, &[number])
 }

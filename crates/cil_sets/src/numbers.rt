@@ -59,6 +59,14 @@ impl Numbers {
         Ok(Numbers { parts })
     }
 
+    /// The same set once more. It costs a step for each block. Errors: out of memory.
+    pub fn try_clone(&self, alloc: Global) -> Result<Numbers, NoMemory>
+        ensures { IfOk result (λ set. set ≡ self.now) }
+    {
+        let parts = Vec::from_slice(alloc, self.parts.as_slice())?;
+        Ok(Numbers { parts })
+    }
+
     /// Adds a number. It costs a search by halving, and a move of the words behind if its block had no member. Errors: out of
     /// memory, which is also the answer to a number of 2^32 or more. Then the set is unchanged.
     pub fn add(&mut self, number: usize) -> Result<(), NoMemory>

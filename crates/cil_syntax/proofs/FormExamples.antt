@@ -48,14 +48,14 @@ found_as k n = faults_by (by_entry at_top (spot_of 7 (span_of n)) [] (behind_fir
 -- `(typeattributeset x (not a))`
 -- `(typeattributeset x (and a (not b)))`
 -- `(typeattributeset x (or a b))`
-pub sets_1 : (found_as keywords.TypeAttributeSet (list 0 (next (word 1 (codes "typeattributeset")) (next (word 18 (codes "x")) (next (word 20 (codes "a")) none)))) ≡ [])
-    × (found_as keywords.TypeAttributeSet (list 0 (next (word 1 (codes "typeattributeset")) (next (word 18 (codes "x")) (next (list 20 (next (word 21 (codes "a")) (next (word 23 (codes "b")) none))) none)))) ≡ [])
-    × (found_as keywords.TypeAttributeSet (list 0 (next (word 1 (codes "typeattributeset")) (next (word 18 (codes "x")) (next (word 20 (codes "all")) none)))) ≡ [])
-    × (found_as keywords.TypeAttributeSet (list 0 (next (word 1 (codes "typeattributeset")) (next (word 18 (codes "x")) (next (list 20 (next (word 21 (codes "all")) none)) none)))) ≡ [])
-    × (found_as keywords.TypeAttributeSet (list 0 (next (word 1 (codes "typeattributeset")) (next (word 18 (codes "x")) (next (list 20 (next (word 21 (codes "all")) (next (word 25 (codes "y")) none))) none)))) ≡ [])
-    × (found_as keywords.TypeAttributeSet (list 0 (next (word 1 (codes "typeattributeset")) (next (word 18 (codes "x")) (next (list 20 (next (word 21 (codes "not")) (next (word 25 (codes "a")) none))) none)))) ≡ [])
-    × (found_as keywords.TypeAttributeSet (list 0 (next (word 1 (codes "typeattributeset")) (next (word 18 (codes "x")) (next (list 20 (next (word 21 (codes "and")) (next (word 25 (codes "a")) (next (list 27 (next (word 28 (codes "not")) (next (word 32 (codes "b")) none))) none)))) none)))) ≡ [])
-    × (found_as keywords.TypeAttributeSet (list 0 (next (word 1 (codes "typeattributeset")) (next (word 18 (codes "x")) (next (list 20 (next (word 21 (codes "or")) (next (word 24 (codes "a")) (next (word 26 (codes "b")) none)))) none)))) ≡ [])
+pub sets_1 : (found (list 0 (next (word 1 (codes "typeattributeset")) (next (word 18 (codes "x")) (next (word 20 (codes "a")) none)))) ≡ [])
+    × (found (list 0 (next (word 1 (codes "typeattributeset")) (next (word 18 (codes "x")) (next (list 20 (next (word 21 (codes "a")) (next (word 23 (codes "b")) none))) none)))) ≡ [])
+    × (found (list 0 (next (word 1 (codes "typeattributeset")) (next (word 18 (codes "x")) (next (word 20 (codes "all")) none)))) ≡ [])
+    × (found (list 0 (next (word 1 (codes "typeattributeset")) (next (word 18 (codes "x")) (next (list 20 (next (word 21 (codes "all")) none)) none)))) ≡ [])
+    × (found (list 0 (next (word 1 (codes "typeattributeset")) (next (word 18 (codes "x")) (next (list 20 (next (word 21 (codes "all")) (next (word 25 (codes "y")) none))) none)))) ≡ [])
+    × (found (list 0 (next (word 1 (codes "typeattributeset")) (next (word 18 (codes "x")) (next (list 20 (next (word 21 (codes "not")) (next (word 25 (codes "a")) none))) none)))) ≡ [])
+    × (found (list 0 (next (word 1 (codes "typeattributeset")) (next (word 18 (codes "x")) (next (list 20 (next (word 21 (codes "and")) (next (word 25 (codes "a")) (next (list 27 (next (word 28 (codes "not")) (next (word 32 (codes "b")) none))) none)))) none)))) ≡ [])
+    × (found (list 0 (next (word 1 (codes "typeattributeset")) (next (word 18 (codes "x")) (next (list 20 (next (word 21 (codes "or")) (next (word 24 (codes "a")) (next (word 26 (codes "b")) none)))) none)))) ≡ [])
 unfolding verdict_of cells_of cell_of read_row read_word read_string read_list rules containers types classes users entry_of set_aside_words later_words left_out_words heads first_words begins_with
 sets_1 = (refl, refl, refl, refl, refl, refl, refl, refl)
 
@@ -67,14 +67,14 @@ sets_1 = (refl, refl, refl, refl, refl, refl, refl, refl)
 -- `(typeattributeset x (and a))`
 -- `(typeattributeset x (and a b c))`
 -- `(typeattributeset x (a and b))`
-pub sets_2 : (found_as keywords.TypeAttributeSet (list 0 (next (word 1 (codes "typeattributeset")) (next (word 18 (codes "x")) (next (list 20 (next (word 21 (codes "xor")) (next (list 25 (next (word 26 (codes "a")) (next (word 28 (codes "b")) none))) (next (word 31 (codes "c")) none)))) none)))) ≡ [])
-    × (found_as keywords.TypeAttributeSet (list 0 (next (word 1 (codes "typeattributeset")) (next (word 18 (codes "x")) (next (list 20 none) none)))) ≡ [])
-    × (found_as keywords.TypeAttributeSet (list 0 (next (word 1 (codes "typeattributeset")) (next (word 18 (codes "x")) (next (list 20 (next (word 21 (codes "and")) none)) none)))) ≡ fault causes.BadShape 0 (codes "typeattributeset") ∷ [])
-    × (found_as keywords.TypeAttributeSet (list 0 (next (word 1 (codes "typeattributeset")) (next (word 18 (codes "x")) (next (list 20 (next (word 21 (codes "not")) none)) none)))) ≡ fault causes.BadShape 0 (codes "typeattributeset") ∷ [])
-    × (found_as keywords.TypeAttributeSet (list 0 (next (word 1 (codes "typeattributeset")) (next (word 18 (codes "x")) (next (list 20 (next (word 21 (codes "not")) (next (word 25 (codes "a")) (next (word 27 (codes "b")) none)))) none)))) ≡ fault causes.BadShape 0 (codes "typeattributeset") ∷ [])
-    × (found_as keywords.TypeAttributeSet (list 0 (next (word 1 (codes "typeattributeset")) (next (word 18 (codes "x")) (next (list 20 (next (word 21 (codes "and")) (next (word 25 (codes "a")) none))) none)))) ≡ fault causes.BadShape 0 (codes "typeattributeset") ∷ [])
-    × (found_as keywords.TypeAttributeSet (list 0 (next (word 1 (codes "typeattributeset")) (next (word 18 (codes "x")) (next (list 20 (next (word 21 (codes "and")) (next (word 25 (codes "a")) (next (word 27 (codes "b")) (next (word 29 (codes "c")) none))))) none)))) ≡ fault causes.BadShape 0 (codes "typeattributeset") ∷ [])
-    × (found_as keywords.TypeAttributeSet (list 0 (next (word 1 (codes "typeattributeset")) (next (word 18 (codes "x")) (next (list 20 (next (word 21 (codes "a")) (next (word 23 (codes "and")) (next (word 27 (codes "b")) none)))) none)))) ≡ fault causes.ReservedName 23 (codes "and") ∷ [])
+pub sets_2 : (found (list 0 (next (word 1 (codes "typeattributeset")) (next (word 18 (codes "x")) (next (list 20 (next (word 21 (codes "xor")) (next (list 25 (next (word 26 (codes "a")) (next (word 28 (codes "b")) none))) (next (word 31 (codes "c")) none)))) none)))) ≡ [])
+    × (found (list 0 (next (word 1 (codes "typeattributeset")) (next (word 18 (codes "x")) (next (list 20 none) none)))) ≡ [])
+    × (found (list 0 (next (word 1 (codes "typeattributeset")) (next (word 18 (codes "x")) (next (list 20 (next (word 21 (codes "and")) none)) none)))) ≡ fault causes.BadShape 0 (codes "typeattributeset") ∷ [])
+    × (found (list 0 (next (word 1 (codes "typeattributeset")) (next (word 18 (codes "x")) (next (list 20 (next (word 21 (codes "not")) none)) none)))) ≡ fault causes.BadShape 0 (codes "typeattributeset") ∷ [])
+    × (found (list 0 (next (word 1 (codes "typeattributeset")) (next (word 18 (codes "x")) (next (list 20 (next (word 21 (codes "not")) (next (word 25 (codes "a")) (next (word 27 (codes "b")) none)))) none)))) ≡ fault causes.BadShape 0 (codes "typeattributeset") ∷ [])
+    × (found (list 0 (next (word 1 (codes "typeattributeset")) (next (word 18 (codes "x")) (next (list 20 (next (word 21 (codes "and")) (next (word 25 (codes "a")) none))) none)))) ≡ fault causes.BadShape 0 (codes "typeattributeset") ∷ [])
+    × (found (list 0 (next (word 1 (codes "typeattributeset")) (next (word 18 (codes "x")) (next (list 20 (next (word 21 (codes "and")) (next (word 25 (codes "a")) (next (word 27 (codes "b")) (next (word 29 (codes "c")) none))))) none)))) ≡ fault causes.BadShape 0 (codes "typeattributeset") ∷ [])
+    × (found (list 0 (next (word 1 (codes "typeattributeset")) (next (word 18 (codes "x")) (next (list 20 (next (word 21 (codes "a")) (next (word 23 (codes "and")) (next (word 27 (codes "b")) none)))) none)))) ≡ fault causes.ReservedName 23 (codes "and") ∷ [])
 unfolding verdict_of cells_of cell_of read_row read_word read_string read_list rules containers types classes users entry_of set_aside_words later_words left_out_words heads first_words begins_with
 sets_2 = (refl, refl, refl, refl, refl, refl, refl, refl)
 
@@ -86,13 +86,13 @@ sets_2 = (refl, refl, refl, refl, refl, refl, refl, refl)
 -- `(roleattributeset x (and r1 r))`
 -- `(userattributeset x (not .a))`
 -- `(categoryset c (range a b))`
-pub sets_3 : (found_as keywords.TypeAttributeSet (list 0 (next (word 1 (codes "typeattributeset")) (next (word 18 (codes "x")) (next (list 20 (next (word 21 (codes "range")) (next (word 27 (codes "a")) (next (word 29 (codes "b")) none)))) none)))) ≡ fault causes.ReservedName 21 (codes "range") ∷ [])
-    × (found_as keywords.TypeAttributeSet (list 0 (next (word 1 (codes "typeattributeset")) (next (word 18 (codes "x")) (next (list 20 (next (word 21 (codes "eq")) (next (word 24 (codes "a")) (next (word 26 (codes "b")) none)))) none)))) ≡ fault causes.ReservedName 21 (codes "eq") ∷ [])
-    × (found_as keywords.TypeAttributeSet (list 0 (next (word 1 (codes "typeattributeset")) (next (word 18 (codes "x")) (next (list 20 (next (word 21 (codes "a")) (next (list 23 (next (word 24 (codes "b")) (next (list 26 (next (word 27 (codes "c")) (next (Quoted (record { start = 29; end = 32 }) (34 ∷ 100 ∷ 34 ∷ [])) none))) none))) none))) none)))) ≡ fault causes.BadShape 0 (codes "typeattributeset") ∷ [])
-    × (found_as keywords.TypeAttributeSet (list 0 (next (word 1 (codes "typeattributeset")) (next (word 18 (codes "x")) (next (Quoted (record { start = 20; end = 23 }) (34 ∷ 97 ∷ 34 ∷ [])) none)))) ≡ fault causes.BadShape 0 (codes "typeattributeset") ∷ [])
-    × (found_as keywords.TypeAttributeSet (list 0 (next (word 1 (codes "typeattributeset")) (next (word 18 (codes "x")) (next (word 20 (codes "b..c")) none)))) ≡ fault causes.BadName 20 (codes "b..c") ∷ [])
-    × (found_as keywords.RoleAttributeSet (list 0 (next (word 1 (codes "roleattributeset")) (next (word 18 (codes "x")) (next (list 20 (next (word 21 (codes "and")) (next (word 25 (codes "r1")) (next (word 28 (codes "r")) none)))) none)))) ≡ fault causes.ReservedName 25 (codes "r1") ∷ [])
-    × (found_as keywords.UserAttributeSet (list 0 (next (word 1 (codes "userattributeset")) (next (word 18 (codes "x")) (next (list 20 (next (word 21 (codes "not")) (next (word 25 (codes ".a")) none))) none)))) ≡ [])
+pub sets_3 : (found (list 0 (next (word 1 (codes "typeattributeset")) (next (word 18 (codes "x")) (next (list 20 (next (word 21 (codes "range")) (next (word 27 (codes "a")) (next (word 29 (codes "b")) none)))) none)))) ≡ fault causes.ReservedName 21 (codes "range") ∷ [])
+    × (found (list 0 (next (word 1 (codes "typeattributeset")) (next (word 18 (codes "x")) (next (list 20 (next (word 21 (codes "eq")) (next (word 24 (codes "a")) (next (word 26 (codes "b")) none)))) none)))) ≡ fault causes.ReservedName 21 (codes "eq") ∷ [])
+    × (found (list 0 (next (word 1 (codes "typeattributeset")) (next (word 18 (codes "x")) (next (list 20 (next (word 21 (codes "a")) (next (list 23 (next (word 24 (codes "b")) (next (list 26 (next (word 27 (codes "c")) (next (Quoted (record { start = 29; end = 32 }) (34 ∷ 100 ∷ 34 ∷ [])) none))) none))) none))) none)))) ≡ fault causes.BadShape 0 (codes "typeattributeset") ∷ [])
+    × (found (list 0 (next (word 1 (codes "typeattributeset")) (next (word 18 (codes "x")) (next (Quoted (record { start = 20; end = 23 }) (34 ∷ 97 ∷ 34 ∷ [])) none)))) ≡ fault causes.BadShape 0 (codes "typeattributeset") ∷ [])
+    × (found (list 0 (next (word 1 (codes "typeattributeset")) (next (word 18 (codes "x")) (next (word 20 (codes "b..c")) none)))) ≡ fault causes.BadName 20 (codes "b..c") ∷ [])
+    × (found (list 0 (next (word 1 (codes "roleattributeset")) (next (word 18 (codes "x")) (next (list 20 (next (word 21 (codes "and")) (next (word 25 (codes "r1")) (next (word 28 (codes "r")) none)))) none)))) ≡ fault causes.ReservedName 25 (codes "r1") ∷ [])
+    × (found (list 0 (next (word 1 (codes "userattributeset")) (next (word 18 (codes "x")) (next (list 20 (next (word 21 (codes "not")) (next (word 25 (codes ".a")) none))) none)))) ≡ [])
     × (found_as keywords.CategorySet (list 0 (next (word 1 (codes "categoryset")) (next (word 13 (codes "c")) (next (list 15 (next (word 16 (codes "range")) (next (word 22 (codes "a")) (next (word 24 (codes "b")) none)))) none)))) ≡ [])
 unfolding verdict_of cells_of cell_of read_row read_word read_string read_list rules containers types classes users entry_of set_aside_words later_words left_out_words heads first_words begins_with
 sets_3 = (refl, refl, refl, refl, refl, refl, refl, refl)
@@ -410,10 +410,10 @@ pub statements_3 : (found_as keywords.ClassOrder (list 0 (next (word 1 (codes "c
     × (found_as keywords.ClassOrder (list 0 (next (word 1 (codes "classorder")) (next (list 12 (next (word 13 (codes "unordered")) none)) none))) ≡ [])
     × (found_as keywords.ClassOrder (list 0 (next (word 1 (codes "classorder")) (next (list 12 (next (word 13 (codes "unordered")) (next (word 23 (codes "unordered")) none))) none))) ≡ fault causes.ReservedName 23 (codes "unordered") ∷ [])
     × (found_as keywords.ClassOrder (list 0 (next (word 1 (codes "classorder")) (next (word 12 (codes "a")) none))) ≡ fault causes.BadShape 0 (codes "classorder") ∷ [])
-    × (found_as keywords.TypeAlias (list 0 (next (word 1 (codes "typealias")) (next (word 11 (codes "a")) none))) ≡ [])
-    × (found_as keywords.TypeAliasActual (list 0 (next (word 1 (codes "typealiasactual")) (next (word 17 (codes "a")) (next (word 19 (codes "b")) none)))) ≡ [])
-    × (found_as keywords.TypeAliasActual (list 0 (next (word 1 (codes "typealiasactual")) (next (word 17 (codes "a")) (next (list 19 (next (word 20 (codes "b")) none)) none)))) ≡ fault causes.BadShape 0 (codes "typealiasactual") ∷ [])
-    × (found_as keywords.TypeAttribute (list 0 (next (word 1 (codes "typeattribute")) (next (word 15 (codes "a")) none))) ≡ [])
+    × (found (list 0 (next (word 1 (codes "typealias")) (next (word 11 (codes "a")) none))) ≡ [])
+    × (found (list 0 (next (word 1 (codes "typealiasactual")) (next (word 17 (codes "a")) (next (word 19 (codes "b")) none)))) ≡ [])
+    × (found (list 0 (next (word 1 (codes "typealiasactual")) (next (word 17 (codes "a")) (next (list 19 (next (word 20 (codes "b")) none)) none)))) ≡ fault causes.BadShape 0 (codes "typealiasactual") ∷ [])
+    × (found (list 0 (next (word 1 (codes "typeattribute")) (next (word 15 (codes "a")) none))) ≡ [])
 unfolding verdict_of cells_of cell_of read_row read_word read_string read_list rules containers types classes users entry_of set_aside_words later_words left_out_words heads first_words begins_with
 statements_3 = (refl, refl, refl, refl, refl, refl, refl, refl)
 
@@ -425,14 +425,14 @@ statements_3 = (refl, refl, refl, refl, refl, refl, refl, refl)
 -- `(typetransition a b c d)`
 -- `(typetransition a b c "name" d)`
 -- `(typetransition a b c name d)`
-pub statements_4 : (found_as keywords.ExpandTypeAttribute (list 0 (next (word 1 (codes "expandtypeattribute")) (next (word 21 (codes "a")) (next (word 23 (codes "true")) none)))) ≡ [])
-    × (found_as keywords.ExpandTypeAttribute (list 0 (next (word 1 (codes "expandtypeattribute")) (next (list 21 (next (word 22 (codes "a")) (next (word 24 (codes "b")) none))) (next (word 27 (codes "false")) none)))) ≡ [])
-    × (found_as keywords.ExpandTypeAttribute (list 0 (next (word 1 (codes "expandtypeattribute")) (next (list 21 none) (next (word 24 (codes "true")) none)))) ≡ fault causes.BadShape 0 (codes "expandtypeattribute") ∷ [])
-    × (found_as keywords.ExpandTypeAttribute (list 0 (next (word 1 (codes "expandtypeattribute")) (next (word 21 (codes "a")) (next (word 23 (codes "maybe")) none)))) ≡ fault causes.BadShape 0 (codes "expandtypeattribute") ∷ [])
-    × (found_as keywords.ExpandTypeAttribute (list 0 (next (word 1 (codes "expandtypeattribute")) (next (list 21 (next (word 22 (codes "a")) (next (list 24 (next (word 25 (codes "b")) none)) none))) (next (word 29 (codes "true")) none)))) ≡ fault causes.BadShape 0 (codes "expandtypeattribute") ∷ [])
-    × (found_as keywords.TypeTransition (list 0 (next (word 1 (codes "typetransition")) (next (word 16 (codes "a")) (next (word 18 (codes "b")) (next (word 20 (codes "c")) (next (word 22 (codes "d")) none)))))) ≡ [])
-    × (found_as keywords.TypeTransition (list 0 (next (word 1 (codes "typetransition")) (next (word 16 (codes "a")) (next (word 18 (codes "b")) (next (word 20 (codes "c")) (next (Quoted (record { start = 22; end = 28 }) (34 ∷ 110 ∷ 97 ∷ 109 ∷ 101 ∷ 34 ∷ [])) (next (word 29 (codes "d")) none))))))) ≡ [])
-    × (found_as keywords.TypeTransition (list 0 (next (word 1 (codes "typetransition")) (next (word 16 (codes "a")) (next (word 18 (codes "b")) (next (word 20 (codes "c")) (next (word 22 (codes "name")) (next (word 27 (codes "d")) none))))))) ≡ [])
+pub statements_4 : (found (list 0 (next (word 1 (codes "expandtypeattribute")) (next (word 21 (codes "a")) (next (word 23 (codes "true")) none)))) ≡ [])
+    × (found (list 0 (next (word 1 (codes "expandtypeattribute")) (next (list 21 (next (word 22 (codes "a")) (next (word 24 (codes "b")) none))) (next (word 27 (codes "false")) none)))) ≡ [])
+    × (found (list 0 (next (word 1 (codes "expandtypeattribute")) (next (list 21 none) (next (word 24 (codes "true")) none)))) ≡ fault causes.BadShape 0 (codes "expandtypeattribute") ∷ [])
+    × (found (list 0 (next (word 1 (codes "expandtypeattribute")) (next (word 21 (codes "a")) (next (word 23 (codes "maybe")) none)))) ≡ fault causes.BadShape 0 (codes "expandtypeattribute") ∷ [])
+    × (found (list 0 (next (word 1 (codes "expandtypeattribute")) (next (list 21 (next (word 22 (codes "a")) (next (list 24 (next (word 25 (codes "b")) none)) none))) (next (word 29 (codes "true")) none)))) ≡ fault causes.BadShape 0 (codes "expandtypeattribute") ∷ [])
+    × (found (list 0 (next (word 1 (codes "typetransition")) (next (word 16 (codes "a")) (next (word 18 (codes "b")) (next (word 20 (codes "c")) (next (word 22 (codes "d")) none)))))) ≡ [])
+    × (found (list 0 (next (word 1 (codes "typetransition")) (next (word 16 (codes "a")) (next (word 18 (codes "b")) (next (word 20 (codes "c")) (next (Quoted (record { start = 22; end = 28 }) (34 ∷ 110 ∷ 97 ∷ 109 ∷ 101 ∷ 34 ∷ [])) (next (word 29 (codes "d")) none))))))) ≡ [])
+    × (found (list 0 (next (word 1 (codes "typetransition")) (next (word 16 (codes "a")) (next (word 18 (codes "b")) (next (word 20 (codes "c")) (next (word 22 (codes "name")) (next (word 27 (codes "d")) none))))))) ≡ [])
 unfolding verdict_of cells_of cell_of read_row read_word read_string read_list rules containers types classes users entry_of set_aside_words later_words left_out_words heads first_words begins_with
 statements_4 = (refl, refl, refl, refl, refl, refl, refl, refl)
 
@@ -444,14 +444,14 @@ statements_4 = (refl, refl, refl, refl, refl, refl, refl, refl)
 -- `(typechange a b c d)`
 -- `(typechange a b c n d)`
 -- `(typemember a self c d)`
-pub statements_5 : (found_as keywords.TypeTransition (list 0 (next (word 1 (codes "typetransition")) (next (word 16 (codes "a")) (next (word 18 (codes "b")) (next (word 20 (codes "c")) (next (word 22 (codes "all")) (next (word 26 (codes "d")) none))))))) ≡ [])
-    × (found_as keywords.TypeTransition (list 0 (next (word 1 (codes "typetransition")) (next (word 16 (codes "a")) (next (word 18 (codes "b")) (next (word 20 (codes "c")) (next (list 22 (next (word 23 (codes "x")) none)) (next (word 26 (codes "d")) none))))))) ≡ fault causes.BadShape 0 (codes "typetransition") ∷ [])
-    × (found_as keywords.TypeTransition (list 0 (next (word 1 (codes "typetransition")) (next (word 16 (codes "a")) (next (word 18 (codes "self")) (next (word 23 (codes "c")) (next (word 25 (codes "d")) none)))))) ≡ [])
-    × (found_as keywords.TypeTransition (list 0 (next (word 1 (codes "typetransition")) (next (word 16 (codes "a")) (next (word 18 (codes "b")) (next (word 20 (codes "c")) (next (word 22 (codes "d")) (next (word 24 (codes "e")) (next (word 26 (codes "f")) none)))))))) ≡ fault causes.BadShape 0 (codes "typetransition") ∷ [])
-    × (found_as keywords.TypeTransition (list 0 (next (word 1 (codes "typetransition")) (next (word 16 (codes "a")) (next (word 18 (codes "notself")) (next (word 26 (codes "c")) (next (word 28 (codes "d")) none)))))) ≡ fault causes.Unsupported 18 (codes "notself") ∷ [])
-    × (found_as keywords.TypeChange (list 0 (next (word 1 (codes "typechange")) (next (word 12 (codes "a")) (next (word 14 (codes "b")) (next (word 16 (codes "c")) (next (word 18 (codes "d")) none)))))) ≡ [])
-    × (found_as keywords.TypeChange (list 0 (next (word 1 (codes "typechange")) (next (word 12 (codes "a")) (next (word 14 (codes "b")) (next (word 16 (codes "c")) (next (word 18 (codes "n")) (next (word 20 (codes "d")) none))))))) ≡ fault causes.BadShape 0 (codes "typechange") ∷ [])
-    × (found_as keywords.TypeMember (list 0 (next (word 1 (codes "typemember")) (next (word 12 (codes "a")) (next (word 14 (codes "self")) (next (word 19 (codes "c")) (next (word 21 (codes "d")) none)))))) ≡ [])
+pub statements_5 : (found (list 0 (next (word 1 (codes "typetransition")) (next (word 16 (codes "a")) (next (word 18 (codes "b")) (next (word 20 (codes "c")) (next (word 22 (codes "all")) (next (word 26 (codes "d")) none))))))) ≡ [])
+    × (found (list 0 (next (word 1 (codes "typetransition")) (next (word 16 (codes "a")) (next (word 18 (codes "b")) (next (word 20 (codes "c")) (next (list 22 (next (word 23 (codes "x")) none)) (next (word 26 (codes "d")) none))))))) ≡ fault causes.BadShape 0 (codes "typetransition") ∷ [])
+    × (found (list 0 (next (word 1 (codes "typetransition")) (next (word 16 (codes "a")) (next (word 18 (codes "self")) (next (word 23 (codes "c")) (next (word 25 (codes "d")) none)))))) ≡ [])
+    × (found (list 0 (next (word 1 (codes "typetransition")) (next (word 16 (codes "a")) (next (word 18 (codes "b")) (next (word 20 (codes "c")) (next (word 22 (codes "d")) (next (word 24 (codes "e")) (next (word 26 (codes "f")) none)))))))) ≡ fault causes.BadShape 0 (codes "typetransition") ∷ [])
+    × (found (list 0 (next (word 1 (codes "typetransition")) (next (word 16 (codes "a")) (next (word 18 (codes "notself")) (next (word 26 (codes "c")) (next (word 28 (codes "d")) none)))))) ≡ fault causes.Unsupported 18 (codes "notself") ∷ [])
+    × (found (list 0 (next (word 1 (codes "typechange")) (next (word 12 (codes "a")) (next (word 14 (codes "b")) (next (word 16 (codes "c")) (next (word 18 (codes "d")) none)))))) ≡ [])
+    × (found (list 0 (next (word 1 (codes "typechange")) (next (word 12 (codes "a")) (next (word 14 (codes "b")) (next (word 16 (codes "c")) (next (word 18 (codes "n")) (next (word 20 (codes "d")) none))))))) ≡ fault causes.BadShape 0 (codes "typechange") ∷ [])
+    × (found (list 0 (next (word 1 (codes "typemember")) (next (word 12 (codes "a")) (next (word 14 (codes "self")) (next (word 19 (codes "c")) (next (word 21 (codes "d")) none)))))) ≡ [])
 unfolding verdict_of cells_of cell_of read_row read_word read_string read_list rules containers types classes users entry_of set_aside_words later_words left_out_words heads first_words begins_with
 statements_5 = (refl, refl, refl, refl, refl, refl, refl, refl)
 
@@ -463,10 +463,10 @@ statements_5 = (refl, refl, refl, refl, refl, refl, refl, refl)
 -- `(userlevel u (s))`
 -- `(userlevel u (s (c)))`
 -- `(userlevel u (s c d))`
-pub statements_6 : (found_as keywords.RoleAttribute (list 0 (next (word 1 (codes "roleattribute")) (next (word 15 (codes "r")) none))) ≡ [])
+pub statements_6 : (found (list 0 (next (word 1 (codes "roleattribute")) (next (word 15 (codes "r")) none))) ≡ [])
     × (found_as keywords.RoleAllow (list 0 (next (word 1 (codes "roleallow")) (next (word 11 (codes "a")) (next (word 13 (codes "b")) none)))) ≡ [])
-    × (found_as keywords.RoleTransition (list 0 (next (word 1 (codes "roletransition")) (next (word 16 (codes "a")) (next (word 18 (codes "b")) (next (word 20 (codes "c")) (next (word 22 (codes "d")) none)))))) ≡ [])
-    × (found_as keywords.UserAttribute (list 0 (next (word 1 (codes "userattribute")) (next (word 15 (codes "u")) none))) ≡ [])
+    × (found (list 0 (next (word 1 (codes "roletransition")) (next (word 16 (codes "a")) (next (word 18 (codes "b")) (next (word 20 (codes "c")) (next (word 22 (codes "d")) none)))))) ≡ [])
+    × (found (list 0 (next (word 1 (codes "userattribute")) (next (word 15 (codes "u")) none))) ≡ [])
     × (found_as keywords.UserLevel (list 0 (next (word 1 (codes "userlevel")) (next (word 11 (codes "u")) (next (word 13 (codes "l")) none)))) ≡ [])
     × (found_as keywords.UserLevel (list 0 (next (word 1 (codes "userlevel")) (next (word 11 (codes "u")) (next (list 13 (next (word 14 (codes "s")) none)) none)))) ≡ [])
     × (found_as keywords.UserLevel (list 0 (next (word 1 (codes "userlevel")) (next (word 11 (codes "u")) (next (list 13 (next (word 14 (codes "s")) (next (list 16 (next (word 17 (codes "c")) none)) none))) none)))) ≡ [])
@@ -546,7 +546,7 @@ pub statements_10 : (found_as keywords.CategoryAliasActual (list 0 (next (word 1
     × (found_as keywords.DontAudit (list 0 (next (word 1 (codes "dontaudit")) (next (word 11 (codes "a")) (next (word 13 (codes "b")) (next (word 15 (codes "p")) none))))) ≡ fault causes.Unsupported 15 (codes "p") ∷ [])
     × (found_as keywords.NeverAllow (list 0 (next (word 1 (codes "neverallow")) (next (word 12 (codes "a")) (next (word 14 (codes "self")) (next (list 19 (next (word 20 (codes "c")) (next (list 22 (next (word 23 (codes "d")) none)) none))) none))))) ≡ [])
     × (found_as keywords.NeverAllow (list 0 (next (word 1 (codes "neverallow")) (next (word 12 (codes "a")) (next (word 14 (codes "other")) (next (list 20 (next (word 21 (codes "c")) (next (list 23 (next (word 24 (codes "d")) none)) none))) none))))) ≡ fault causes.Unsupported 14 (codes "other") ∷ [])
-    × (found (list 0 (next (word 1 (codes "macro")) (next (word 7 (codes "m")) (next (list 9 (next (list 10 (next (word 11 (codes "typealias")) (next (word 21 (codes "a")) none))) (next (list 23 (next (word 24 (codes "bool")) (next (word 29 (codes "b")) none))) (next (list 31 (next (word 32 (codes "boolean")) (next (word 40 (codes "c")) none))) (next (list 42 (next (word 43 (codes "classmap")) (next (word 52 (codes "d")) none))) (next (list 54 (next (word 55 (codes "classpermission")) (next (word 71 (codes "e")) none))) none)))))) none)))) ≡ fault causes.Unsupported 11 (codes "typealias") ∷ fault causes.Unsupported 24 (codes "bool") ∷ fault causes.Unsupported 32 (codes "boolean") ∷ fault causes.Unsupported 43 (codes "classmap") ∷ fault causes.Unsupported 55 (codes "classpermission") ∷ [])
+    × (found (list 0 (next (word 1 (codes "macro")) (next (word 7 (codes "m")) (next (list 9 (next (list 10 (next (word 11 (codes "typealias")) (next (word 21 (codes "a")) none))) (next (list 23 (next (word 24 (codes "bool")) (next (word 29 (codes "b")) none))) (next (list 31 (next (word 32 (codes "boolean")) (next (word 40 (codes "c")) none))) (next (list 42 (next (word 43 (codes "classmap")) (next (word 52 (codes "d")) none))) (next (list 54 (next (word 55 (codes "classpermission")) (next (word 71 (codes "e")) none))) none)))))) none)))) ≡ fault causes.Unsupported 24 (codes "bool") ∷ fault causes.Unsupported 32 (codes "boolean") ∷ fault causes.Unsupported 43 (codes "classmap") ∷ fault causes.Unsupported 55 (codes "classpermission") ∷ [])
 unfolding verdict_of cells_of cell_of read_row read_word read_string read_list rules containers types classes users entry_of set_aside_words later_words left_out_words heads first_words begins_with
 statements_10 = (refl, refl, refl, refl, refl, refl, refl, refl)
 
@@ -602,7 +602,7 @@ later_1 = (refl, refl, refl, refl, refl, refl, refl, refl)
 -- `(categoryorder)`
 -- `(categoryset)`
 -- `(booleanif)`
--- `(typealias)`
+-- `(roleallow)`
 pub later_2 : (found (list 0 (next (word 1 (codes "mls")) none)) ≡ fault causes.Unsupported 0 (codes "mls") ∷ [])
     × (found (list 0 (next (word 1 (codes "category")) none)) ≡ fault causes.Unsupported 0 (codes "category") ∷ [])
     × (found (list 0 (next (word 1 (codes "categoryalias")) none)) ≡ fault causes.Unsupported 0 (codes "categoryalias") ∷ [])
@@ -610,77 +610,45 @@ pub later_2 : (found (list 0 (next (word 1 (codes "mls")) none)) ≡ fault cause
     × (found (list 0 (next (word 1 (codes "categoryorder")) none)) ≡ fault causes.Unsupported 0 (codes "categoryorder") ∷ [])
     × (found (list 0 (next (word 1 (codes "categoryset")) none)) ≡ fault causes.Unsupported 0 (codes "categoryset") ∷ [])
     × (found (list 0 (next (word 1 (codes "booleanif")) none)) ≡ fault causes.Unsupported 0 (codes "booleanif") ∷ [])
-    × (found (list 0 (next (word 1 (codes "typealias")) none)) ≡ fault causes.Unsupported 0 (codes "typealias") ∷ [])
+    × (found (list 0 (next (word 1 (codes "roleallow")) none)) ≡ fault causes.Unsupported 0 (codes "roleallow") ∷ [])
 unfolding verdict_of cells_of cell_of read_row read_word read_string read_list rules containers types classes users entry_of set_aside_words later_words left_out_words heads first_words begins_with
 later_2 = (refl, refl, refl, refl, refl, refl, refl, refl)
 
--- `(typealiasactual)`
--- `(typeattribute)`
--- `(typeattributeset)`
--- `(expandtypeattribute)`
--- `(roleattribute)`
--- `(roleattributeset)`
--- `(roleallow)`
--- `(roletransition)`
-pub later_3 : (found (list 0 (next (word 1 (codes "typealiasactual")) none)) ≡ fault causes.Unsupported 0 (codes "typealiasactual") ∷ [])
-    × (found (list 0 (next (word 1 (codes "typeattribute")) none)) ≡ fault causes.Unsupported 0 (codes "typeattribute") ∷ [])
-    × (found (list 0 (next (word 1 (codes "typeattributeset")) none)) ≡ fault causes.Unsupported 0 (codes "typeattributeset") ∷ [])
-    × (found (list 0 (next (word 1 (codes "expandtypeattribute")) none)) ≡ fault causes.Unsupported 0 (codes "expandtypeattribute") ∷ [])
-    × (found (list 0 (next (word 1 (codes "roleattribute")) none)) ≡ fault causes.Unsupported 0 (codes "roleattribute") ∷ [])
-    × (found (list 0 (next (word 1 (codes "roleattributeset")) none)) ≡ fault causes.Unsupported 0 (codes "roleattributeset") ∷ [])
-    × (found (list 0 (next (word 1 (codes "roleallow")) none)) ≡ fault causes.Unsupported 0 (codes "roleallow") ∷ [])
-    × (found (list 0 (next (word 1 (codes "roletransition")) none)) ≡ fault causes.Unsupported 0 (codes "roletransition") ∷ [])
-unfolding verdict_of cells_of cell_of read_row read_word read_string read_list rules containers types classes users entry_of set_aside_words later_words left_out_words heads first_words begins_with
-later_3 = (refl, refl, refl, refl, refl, refl, refl, refl)
-
--- `(userattribute)`
--- `(userattributeset)`
 -- `(userlevel)`
 -- `(userrange)`
 -- `(classpermission)`
 -- `(classpermissionset)`
 -- `(classmapping)`
 -- `(classorder)`
-pub later_4 : (found (list 0 (next (word 1 (codes "userattribute")) none)) ≡ fault causes.Unsupported 0 (codes "userattribute") ∷ [])
-    × (found (list 0 (next (word 1 (codes "userattributeset")) none)) ≡ fault causes.Unsupported 0 (codes "userattributeset") ∷ [])
-    × (found (list 0 (next (word 1 (codes "userlevel")) none)) ≡ fault causes.Unsupported 0 (codes "userlevel") ∷ [])
+-- `(boolean)`
+-- `(level)`
+pub later_3 : (found (list 0 (next (word 1 (codes "userlevel")) none)) ≡ fault causes.Unsupported 0 (codes "userlevel") ∷ [])
     × (found (list 0 (next (word 1 (codes "userrange")) none)) ≡ fault causes.Unsupported 0 (codes "userrange") ∷ [])
     × (found (list 0 (next (word 1 (codes "classpermission")) none)) ≡ fault causes.Unsupported 0 (codes "classpermission") ∷ [])
     × (found (list 0 (next (word 1 (codes "classpermissionset")) none)) ≡ fault causes.Unsupported 0 (codes "classpermissionset") ∷ [])
     × (found (list 0 (next (word 1 (codes "classmapping")) none)) ≡ fault causes.Unsupported 0 (codes "classmapping") ∷ [])
     × (found (list 0 (next (word 1 (codes "classorder")) none)) ≡ fault causes.Unsupported 0 (codes "classorder") ∷ [])
+    × (found (list 0 (next (word 1 (codes "boolean")) none)) ≡ fault causes.Unsupported 0 (codes "boolean") ∷ [])
+    × (found (list 0 (next (word 1 (codes "level")) none)) ≡ fault causes.Unsupported 0 (codes "level") ∷ [])
 unfolding verdict_of cells_of cell_of read_row read_word read_string read_list rules containers types classes users entry_of set_aside_words later_words left_out_words heads first_words begins_with
-later_4 = (refl, refl, refl, refl, refl, refl, refl, refl)
+later_3 = (refl, refl, refl, refl, refl, refl, refl, refl)
 
--- `(boolean)`
--- `(level)`
 -- `(levelrange)`
 -- `(rangetransition)`
 -- `(neverallow)`
 -- `(constrain)`
 -- `(mlsconstrain)`
 -- `(auditallow)`
-pub later_5 : (found (list 0 (next (word 1 (codes "boolean")) none)) ≡ fault causes.Unsupported 0 (codes "boolean") ∷ [])
-    × (found (list 0 (next (word 1 (codes "level")) none)) ≡ fault causes.Unsupported 0 (codes "level") ∷ [])
-    × (found (list 0 (next (word 1 (codes "levelrange")) none)) ≡ fault causes.Unsupported 0 (codes "levelrange") ∷ [])
+-- `(dontaudit)`
+pub later_4 : (found (list 0 (next (word 1 (codes "levelrange")) none)) ≡ fault causes.Unsupported 0 (codes "levelrange") ∷ [])
     × (found (list 0 (next (word 1 (codes "rangetransition")) none)) ≡ fault causes.Unsupported 0 (codes "rangetransition") ∷ [])
     × (found (list 0 (next (word 1 (codes "neverallow")) none)) ≡ fault causes.Unsupported 0 (codes "neverallow") ∷ [])
     × (found (list 0 (next (word 1 (codes "constrain")) none)) ≡ fault causes.Unsupported 0 (codes "constrain") ∷ [])
     × (found (list 0 (next (word 1 (codes "mlsconstrain")) none)) ≡ fault causes.Unsupported 0 (codes "mlsconstrain") ∷ [])
     × (found (list 0 (next (word 1 (codes "auditallow")) none)) ≡ fault causes.Unsupported 0 (codes "auditallow") ∷ [])
+    × (found (list 0 (next (word 1 (codes "dontaudit")) none)) ≡ fault causes.Unsupported 0 (codes "dontaudit") ∷ [])
 unfolding verdict_of cells_of cell_of read_row read_word read_string read_list rules containers types classes users entry_of set_aside_words later_words left_out_words heads first_words begins_with
-later_5 = (refl, refl, refl, refl, refl, refl, refl, refl)
-
--- `(dontaudit)`
--- `(typetransition)`
--- `(typechange)`
--- `(typemember)`
-pub later_6 : (found (list 0 (next (word 1 (codes "dontaudit")) none)) ≡ fault causes.Unsupported 0 (codes "dontaudit") ∷ [])
-    × (found (list 0 (next (word 1 (codes "typetransition")) none)) ≡ fault causes.Unsupported 0 (codes "typetransition") ∷ [])
-    × (found (list 0 (next (word 1 (codes "typechange")) none)) ≡ fault causes.Unsupported 0 (codes "typechange") ∷ [])
-    × (found (list 0 (next (word 1 (codes "typemember")) none)) ≡ fault causes.Unsupported 0 (codes "typemember") ∷ [])
-unfolding verdict_of cells_of cell_of read_row read_word read_string read_list rules containers types classes users entry_of set_aside_words later_words left_out_words heads first_words begins_with
-later_6 = (refl, refl, refl, refl)
+later_4 = (refl, refl, refl, refl, refl, refl, refl)
 
 -- `(boolean bo true)`
 -- `(booleanif bo (false (allow b a (file (open)))))`
@@ -712,10 +680,10 @@ rows_1 = (refl, refl, refl, refl, refl, refl, refl, refl)
 pub rows_2 : (found_as keywords.SensitivityCategory (list 0 (next (word 1 (codes "sensitivitycategory")) (next (word 21 (codes "s0")) (next (list 24 (next (word 25 (codes "all")) none)) none)))) ≡ [])
     × (found_as keywords.UserRange (list 0 (next (word 1 (codes "userrange")) (next (word 11 (codes "u")) (next (list 13 (next (list 14 (next (word 15 (codes "s0")) none)) (next (list 19 (next (word 20 (codes "s1")) (next (list 23 (next (word 24 (codes "range")) (next (word 30 (codes "c0")) (next (word 33 (codes "c3")) none)))) none))) none))) none)))) ≡ [])
     × (found_as keywords.MlsConstrain (list 0 (next (word 1 (codes "mlsconstrain")) (next (list 14 (next (word 15 (codes "file")) (next (list 20 (next (word 21 (codes "read")) none)) none))) (next (list 28 (next (word 29 (codes "dom")) (next (word 33 (codes "l1")) (next (word 36 (codes "l2")) none)))) none)))) ≡ [])
-    × (found_as keywords.TypeAttribute (list 0 (next (word 1 (codes "typeattribute")) (next (word 15 (codes "cil_gen_require")) none))) ≡ [])
-    × (found_as keywords.RoleAttribute (list 0 (next (word 1 (codes "roleattribute")) (next (word 15 (codes "cil_gen_require")) none))) ≡ [])
+    × (found (list 0 (next (word 1 (codes "typeattribute")) (next (word 15 (codes "cil_gen_require")) none))) ≡ [])
+    × (found (list 0 (next (word 1 (codes "roleattribute")) (next (word 15 (codes "cil_gen_require")) none))) ≡ [])
     × (found (list 0 (next (word 1 (codes "roletype")) (next (word 10 (codes "system_r")) (next (word 19 (codes "foo_t")) none)))) ≡ [])
-    × (found_as keywords.TypeAttributeSet (list 0 (next (word 1 (codes "typeattributeset")) (next (word 18 (codes "cil_gen_require")) (next (word 34 (codes "foo_t")) none)))) ≡ [])
+    × (found (list 0 (next (word 1 (codes "typeattributeset")) (next (word 18 (codes "cil_gen_require")) (next (word 34 (codes "foo_t")) none)))) ≡ [])
     × (found (list 0 (next (word 1 (codes "optional")) (next (word 10 (codes "foo_optional_2")) (next (list 25 (next (word 26 (codes "typeattributeset")) (next (word 43 (codes "cil_gen_require")) (next (word 59 (codes "bar_t")) none)))) (next (list 66 (next (word 67 (codes "allow")) (next (word 73 (codes "foo_t")) (next (word 79 (codes "bar_t")) (next (list 85 (next (word 86 (codes "file")) (next (list 91 (next (word 92 (codes "read")) none)) none))) none))))) none))))) ≡ [])
 unfolding verdict_of cells_of cell_of read_row read_word read_string read_list rules containers types classes users entry_of set_aside_words later_words left_out_words heads first_words begins_with
 rows_2 = (refl, refl, refl, refl, refl, refl, refl, refl)

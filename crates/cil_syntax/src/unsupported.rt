@@ -7,7 +7,7 @@ ghost use Rattle.cil_syntax.specs.Table.{is_unsupported, later_words, left_out_w
 use crate::spelling;
 
 /// The statements that are to be supported, and are not yet.
-const LATER_WORDS: [&[u8]; 42] = [
+const LATER_WORDS: [&[u8]; 29] = [
     b"classmap",
     b"sensitivity",
     b"sensitivityalias",
@@ -21,17 +21,7 @@ const LATER_WORDS: [&[u8]; 42] = [
     b"categoryorder",
     b"categoryset",
     b"booleanif",
-    b"typealias",
-    b"typealiasactual",
-    b"typeattribute",
-    b"typeattributeset",
-    b"expandtypeattribute",
-    b"roleattribute",
-    b"roleattributeset",
     b"roleallow",
-    b"roletransition",
-    b"userattribute",
-    b"userattributeset",
     b"userlevel",
     b"userrange",
     b"classpermission",
@@ -47,9 +37,6 @@ const LATER_WORDS: [&[u8]; 42] = [
     b"mlsconstrain",
     b"auditallow",
     b"dontaudit",
-    b"typetransition",
-    b"typechange",
-    b"typemember",
 ];
 
 /// The statements that this product does not support.

@@ -13,8 +13,7 @@ use Rattle.cil_syntax.specs.declared.kind.Kind.TheVariants as kinds
 use Rattle.cil_syntax.specs.Terms.{Term, Leaf, Name, Form}
 use Rattle.cil_tables.specs.declared.context.Context.{Context as Numbers}
 use Rattle.cil_classes.specs.declared.row.Class.{Class}
-use Rattle.cil_rules.specs.declared.rule.Target.{Target}
-use Rattle.cil_rules.specs.declared.rule.Target.TheVariants.{Types, Itself}
+use Rattle.cil_rules.specs.Rule.{Target, Types, Itself}
 use Rattle.cil_tables.specs.Agrees.{Agrees, SameContext, SamePermission}
 use Rattle.cil_names.specs.Says.{AreJoined}
 use Rattle.cil_tables.specs.Contexts.{Context, IsValid}
@@ -28,7 +27,8 @@ use Rattle.cil_names.specs.Declarations.{Declared, Symbol, name_of}
 use Rattle.cil_macros.specs.Item.{Item, OptSet}
 use Rattle.cil_syntax.specs.Scopes.{ScopedWord}
 use Rattle.cil_base.proofs.SearchLemmas.{one_number as one_of_key}
-use Rattle.cil_tables.specs.Meaning.{IsContext}
+use Rattle.cil_tables.specs.Aliases.{NamesType}
+use Rattle.cil_tables.specs.Meaning.{IsContext, IsTypeText}
 use Rattle.cil_rules.specs.Covers.{HasCover, Reaches}
 use Rattle.cil_names.specs.Members.{StandsFor}
 use Rattle.cil_classes.specs.Pairs.{HasPair, of_class}
@@ -76,29 +76,45 @@ module _ (xs : List Item) (s : OptSet) (one : HaveOneSymbol xs s) where
         subst (λ z. AreJoined xs s keyword j k z b) (one_numbered holders n j j link.holder a link.joined.has_holder.declared d link.holder_number x)
         (subst (λ z. AreJoined xs s keyword j k link.holder z) (one_numbered helds m k k link.held b link.joined.has_held.declared e link.held_number y) link.joined)
 
+    -- the type that a text names, by its number
+    type_there : (text : List ℕ) (n : ℕ) → IsTypeText t text n → (kind : Symbol) × NamesType xs s text kind × Declared xs s kinds.Type_ kind × IsNumbered t.types kind n
+    type_there text n (inl at) =
+        let kind = named_symbol t.types kinds.Type_ table.types text n at in
+        (kind.symbol, inl kind.named, kind.declared, numbered_there t.types kinds.Type_ text n at kind)
+    type_there text n (inr c) =
+        let r = (table.type_aliases.members _).0 c in
+        (r.target.symbol, inr (record { alias = r.alias; an_alias = r.an_alias; named = r.named; member = r.target.member }), r.target.member.declared, r.target.numbered)
+
+    type_back : (text : List ℕ) (kind : Symbol) (n : ℕ) → IsNumbered t.types kind n → NamesType xs s text kind → IsTypeText t text n
+    type_back text kind n at (inl named) = inl (at ∙ ap Some named)
+    type_back text kind n at (inr a) =
+        inr ((table.type_aliases.members (record { name = text; target = n })).1
+        (record { alias = a.alias; an_alias = a.an_alias; named = a.named; target = record { symbol = kind; member = a.member; numbered = at } }))
+
     reads : (text : List ℕ) (n : Numbers) → IsContext t text n → (c : Context) × IsValid xs s text c × SameContext xs s t n c
     reads text n is =
         let user = named_symbol t.users kinds.User table.users is.user n.user is.a_user in
         let role = named_symbol t.roles kinds.Role table.roles is.role n.role is.a_role in
-        let kind = named_symbol t.types kinds.Type_ table.types is.kind n.kind is.a_type in
+        let kind = type_there is.kind n.kind is.a_type in
         let user_at = numbered_there t.users kinds.User is.user n.user is.a_user user in
-        let role_at = numbered_there t.roles kinds.Role is.role n.role is.a_role role in
-        let kind_at = numbered_there t.types kinds.Type_ is.kind n.kind is.a_type kind in (
-          record { user = user.symbol; role = role.symbol; kind = kind.symbol },
+        let role_at = numbered_there t.roles kinds.Role is.role n.role is.a_role role in (
+          record { user = user.symbol; role = role.symbol; kind = kind.0 },
           record {
-            parts = is.parts ∙ (λ i. sym user.named i ∷ sym role.named i ∷ sym kind.named i ∷ []);
+            written = is.kind;
+            parts = is.parts ∙ (λ i. sym user.named i ∷ sym role.named i ∷ is.kind ∷ []);
+            names_kind = kind.1;
             a_user = user.declared;
             a_role = role.declared;
-            a_type = kind.declared;
+            a_type = kind.2;
             admitted = elim is.admitted [
               | inl e ↦ inl (role.named ∙ e)
               | inr both ↦ inr (
                 joined_from keywords.UserRole kinds.User kinds.Role t.users t.roles _ _ n.user n.role user.declared role.declared user_at role_at ((table.user_roles.members _).0 both.role),
-                joined_from keywords.RoleType kinds.Role kinds.Type_ t.roles t.types _ _ n.role n.kind role.declared kind.declared role_at kind_at ((table.role_types.members _).0 both.kind),
+                joined_from keywords.RoleType kinds.Role kinds.Type_ t.roles t.types _ _ n.role n.kind role.declared kind.2 role_at kind.3 ((table.role_types.members _).0 both.kind),
               )
             ];
           },
-          record { user = user_at; role = role_at; kind = kind_at; a_user = user.declared; a_role = role.declared; a_type = kind.declared },
+          record { user = user_at; role = role_at; kind = kind.3; a_user = user.declared; a_role = role.declared; a_type = kind.2 },
         )
 
     finds : (text : List ℕ) (c : Context) → IsValid xs s text c → (n : Numbers) × IsContext t text n × SameContext xs s t n c
@@ -110,11 +126,11 @@ module _ (xs : List Item) (s : OptSet) (one : HaveOneSymbol xs s) where
           record {
             user = name_of c.user;
             role = name_of c.role;
-            kind = name_of c.kind;
+            kind = is.written;
             parts = is.parts;
             a_user = user.1;
             a_role = role.1;
-            a_type = kind.1;
+            a_type = type_back is.written c.kind kind.0 kind.1 is.names_kind;
             admitted = elim is.admitted [
               | inl e ↦ inl e
               | inr both ↦ inr (record {

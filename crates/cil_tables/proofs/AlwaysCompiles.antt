@@ -16,7 +16,7 @@ use Rattle.cil_macros.specs.ExpandFaults.{ExpandStep}
 use Rattle.cil_macros.specs.Laws.{HaveFlatInstances}
 use Rattle.cil_tables.specs.CompileRefusal.{CompileFails}
 use Rattle.cil_tables.specs.Compiled.{IsTable}
-use Rattle.cil_classes.specs.Faults.{ClassFault}
+use Rattle.cil_tables.specs.SetsStep.{SetsFault}
 use Rattle.cil_names.specs.Faults.{ClashFault, ResolveFault}
 use Rattle.cil_macros.specs.Items.{AreItems, item_of}
 use Rattle.cil_macros.specs.Placed.{Placed}
@@ -28,21 +28,24 @@ use Rattle.cil_optionals.specs.Laws.{FlatIsGreatest}
 use Rattle.cil_tables.proofs.AgreesLemmas.{table_agrees}
 use Rattle.cil_tables.proofs.CompileLemmas.{IsFront, clash_fails, expand_fails, front_of, inherit_fails, nothing_wrong, widths_fail, words_fail}
 use Rattle.cil_tables.proofs.FlatLemmas.{AreFlat, one_flat}
-use Rattle.cil_tables.proofs.FlatPrograms.{flat_keyword, flat_statement, items_flat, without_optionals}
-use Rattle.cil_tables.proofs.FiniteFaults.{finite_clashes, finite_unresolved, finite_class, step_outcome}
+use Rattle.cil_tables.proofs.FlatPrograms.{flat_keyword, flat_statement, items_flat, with_flat_keywords, without_optionals}
+use Rattle.cil_tables.proofs.FiniteFaults.{finite_clashes, finite_unresolved, step_outcome}
+use Rattle.cil_tables.proofs.FiniteSets.{finite_sets}
+use Rattle.cil_tables.proofs.NoGifts.{HaveFlatKeywords}
 use Rattle.cil_tables.proofs.TablesExist.{tables}
 use Rattle.cil_tables.proofs.WideClasses.{few}
 
 -- ---- tables are orderly where no class is too wide
 
-module _ (xs : List Item) (none : (f : Fault) → ClassFault nobody xs f → ⊥) where
+module _ (xs : List Item) (none : (f : Fault) → SetsFault nobody xs f → ⊥) where
   orderly : (t : Table) → IsTable xs nobody t → IsOrderly t
   orderly t is = record {
     users = is.users.rising;
     roles = is.roles.rising;
     types = is.types.rising;
+    type_aliases = is.type_aliases.rising;
     classes = is.classes.rising;
-    each_class = λ row c. let k = is.classes.only row c in record { permissions = k.2.permissions.rising; few = few xs nobody none k.0 row k.1 k.2 };
+    each_class = λ row c. let k = is.classes.only row c in record { permissions = k.2.permissions.rising; few = few xs nobody (λ f c. none f (inl c)) k.0 row k.1 k.2 };
     user_roles = is.user_roles.rising;
     role_types = is.role_types.rising;
   }
@@ -72,6 +75,10 @@ module _ (modules : List (List ℕ)) (program : List Written) (is_program : List
   flat =
       items_flat program (λ w c. flat_statement modules modules_flat w ((is_program.members w).0 c)) standings (λ s c. (are_standings.members s).0 c) placed are_placed
 
+  plain : HaveFlatKeywords items
+  unfolding items
+  plain = with_flat_keywords program standings (λ s c. (are_standings.members s).0 c) (flat_keyword modules modules_flat program is_program) placed are_placed
+
   greatest : IsGreatest items nobody
   unfolding items
   greatest =
@@ -81,9 +88,9 @@ module _ (modules : List (List ℕ)) (program : List Written) (is_program : List
   failed : (fs : List Fault) → CompileFails modules (Faults fs) → Outcome modules
   failed fs h = fails fs h.0 h.1
 
-  without_faults : ((f : Fault) → ClashFault items f → ⊥) → ((f : Fault) → ResolveFault nobody items f → ⊥) → ((f : Fault) → ClassFault nobody items f → ⊥) → Outcome modules
+  without_faults : ((f : Fault) → ClashFault items f → ⊥) → ((f : Fault) → ResolveFault nobody items f → ⊥) → ((f : Fault) → SetsFault nobody items f → ⊥) → Outcome modules
   without_faults apart named narrow =
-      let t = tables items flat in
+      let t = tables items plain flat in
       compiles t.0 (orderly items narrow t.0 t.1) (record {
         items = items;
         enabled = nobody;
@@ -98,7 +105,7 @@ module _ (modules : List (List ℕ)) (program : List Written) (is_program : List
     | inl clash ↦ failed clash.0 (clash_fails modules items are_items front (Faults clash.0) clash.1)
     | inr apart ↦ elim (step_outcome (ResolveFault nobody items) (finite_unresolved items nobody)) [
       | inl lost ↦ failed lost.0 (words_fail modules items are_items front apart nobody greatest (Faults lost.0) lost.1)
-      | inr named ↦ elim (step_outcome (ClassFault nobody items) (finite_class items nobody)) [
+      | inr named ↦ elim (step_outcome (SetsFault nobody items) (finite_sets items plain nobody)) [
         | inl broad ↦ failed broad.0 (widths_fail modules items are_items front apart nobody greatest named (Faults broad.0) broad.1)
         | inr narrow ↦ without_faults apart named narrow
       ]

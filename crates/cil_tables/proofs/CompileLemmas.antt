@@ -25,12 +25,12 @@ use Rattle.cil_macros.specs.Macros.{all_standing}
 use Rattle.cil_macros.specs.Walks.{written_in}
 use Rattle.cil_tables.proofs.AgreesLemmas.{table_agrees}
 use Rattle.cil_tables.proofs.PlainLemmas.{AreBegun, AreNamed, are_named, one_symbol}
+use Rattle.cil_tables.specs.SetsStep.{SetsFault}
 use Rattle.cil_tables.specs.declared.compiler.Compiled.{Compiled}
 use Rattle.cil_tables.specs.CompileAnswer.{IsCompiled, IsCompiledOf, StandsIn}
 use Rattle.cil_tables.specs.CompileRefusal.{AreItemsFaults, CompileFails, ItemsFail, set_steps}
 use Rattle.cil_faults.specs.First.{AreFirst}
 use Rattle.cil_tables.specs.Faults.{ArePolicyFaults, OfItems, OfPolicy, OfProgram, OfStandings, of_items, of_policy, of_program, of_standings}
-use Rattle.cil_classes.specs.Faults.{ClassFault}
 use Rattle.cil_names.specs.Faults.{ClashFault, ResolveFault}
 use Rattle.cil_macros.specs.Item.{Item, OptSet}
 use Rattle.cil_optionals.specs.Greatest.{IsGreatest}
@@ -183,7 +183,7 @@ module _ (modules : List (List ℕ)) (xs : List Item) (are : AreItems modules xs
     its_policy : ArePolicy modules xs s
     its_policy = record { are_items = are; greatest = greatest }
 
-    after_clash : (fs : List Fault) → AreFirst (OfPolicy modules (λ ys r. ResolveFault r ys) ∷ OfPolicy modules (λ ys r. ClassFault r ys) ∷ []) fs → ArePolicyFaults modules fs
+    after_clash : (fs : List Fault) → AreFirst (OfPolicy modules (λ ys r. ResolveFault r ys) ∷ OfPolicy modules (λ ys r. SetsFault r ys) ∷ []) fs → ArePolicyFaults modules fs
     after_clash fs first = inr (front.shape, inr (front.blocks, inr (front.calls, inr (no_step modules xs are ClashFault apart, first))))
 
     pub words_fail : (failure : Failure) → Fails (ResolveFault s xs) failure → CompileFails modules failure
@@ -194,12 +194,12 @@ module _ (modules : List (List ℕ)) (xs : List Item) (are : AreItems modules xs
       no_word : (f : Fault) → OfPolicy modules (λ ys r. ResolveFault r ys) f → ⊥
       no_word = no_policy_step modules xs s its_policy (λ ys r. ResolveFault r ys) named
 
-      pub widths_fail : (failure : Failure) → Fails (ClassFault s xs) failure → CompileFails modules failure
-      widths_fail (Faults fs) a = (after_clash fs (inr (no_word, inl (policy_faults modules xs s its_policy (λ ys r. ClassFault r ys) fs a))), a.some)
+      pub widths_fail : (failure : Failure) → Fails (SetsFault s xs) failure → CompileFails modules failure
+      widths_fail (Faults fs) a = (after_clash fs (inr (no_word, inl (policy_faults modules xs s its_policy (λ ys r. SetsFault r ys) fs a))), a.some)
       widths_fail NoMemory a = tt
 
-      pub nothing_wrong : ((f : Fault) → ClassFault s xs f → ⊥) → ArePolicyFaults modules []
-      nothing_wrong few = after_clash [] (inr (no_word, inr (no_policy_step modules xs s its_policy (λ ys r. ClassFault r ys) few, refl)))
+      pub nothing_wrong : ((f : Fault) → SetsFault s xs f → ⊥) → ArePolicyFaults modules []
+      nothing_wrong few = after_clash [] (inr (no_word, inr (no_policy_step modules xs s its_policy (λ ys r. SetsFault r ys) few, refl)))
 
 -- ---- the steps over items alone
 
@@ -213,7 +213,7 @@ module _ (xs : List Item) where
     words_first (Faults fs) a = (inr (apart, (s, greatest, inl a)), a.some)
     words_first NoMemory a = tt
 
-    pub widths_first : ((f : Fault) → ResolveFault s xs f → ⊥) → (failure : Failure) → Fails (ClassFault s xs) failure → ItemsFail xs failure
+    pub widths_first : ((f : Fault) → ResolveFault s xs f → ⊥) → (failure : Failure) → Fails (SetsFault s xs) failure → ItemsFail xs failure
     widths_first named (Faults fs) a = (inr (apart, (s, greatest, inr (named, inl a))), a.some)
     widths_first named NoMemory a = tt
 

@@ -16,7 +16,6 @@ use Rattle.cil_names.specs.Known.{IsNumbered}
 use Rattle.cil_syntax.specs.Scopes.{asked, ScopedWord}
 use Rattle.cil_syntax.proofs.DecidedEquality.{kind_is, same_namespace}
 use Rattle.cil_names.proofs.DeclareDecided.{same_symbol}
-use Rattle.cil_names.proofs.MemberLemmas.{found_of, named_of, stands_by, wanted_of}
 use Rattle.cil_names.specs.Declarations.{Declaration, declared_by, IsDeclaration, object, by, object_role, Declared, Symbol, name_of}
 use Rattle.cil_macros.specs.Item.{Item, OptSet, is_enabled}
 use Rattle.cil_names.specs.Members.{StandsFor}
@@ -25,6 +24,7 @@ use Rattle.cil_classes.specs.Values.{in_value, in_value_there}
 use Rattle.cil_classes.proofs.ValueLemmas.{value_there}
 use Rattle.cil_names.specs.Resolves.{found_in, has_permission}
 use Rattle.cil_syntax.specs.Kinds.{is_wanted}
+use Rattle.cil_tables.proofs.NoGifts.{HaveFlatKeywords, is_stood, stands_plain}
 use Rattle.cil_tables.proofs.Finite.{Finite, decided_where, finite_all, finite_below, finite_either, finite_given, finite_image, finite_inverse, finite_list, finite_one, finite_same, finite_where, member}
 
 -- ---- options and numbers
@@ -204,16 +204,15 @@ module _ (xs : List Item) (s : OptSet) where
       (λ n h. record { symbol = h.0; declared = h.1; named = h.2 }) (λ n h. (h.symbol, h.declared, h.named))
       (finite_image (Declared xs s kind) name_of (finite_declared kind))
 
-  -- ---- what words stand for
+-- ---- what words stand for
 
+module _ (xs : List Item) (flat : HaveFlatKeywords xs) (s : OptSet) where
   pub finite_stands : (kind : Kind) (w : ScopedWord) → Finite (StandsFor xs s kind w)
   finite_stands kind w =
-      finite_same (λ t. Declared xs s kind t × ((is_wanted w.sign kind ≡ true) × ((found_in xs s w ≡ Some t.space) × (t.name ≡ (asked w.bytes).name)))) (StandsFor xs s kind w)
-      (λ t h. stands_by xs s kind w t h.1.0 h.1.1.0 h.1.1.1 h.0)
-      (λ t st. (st.declared, (wanted_of xs s kind w t st, (found_of xs s kind w t st, named_of xs s kind w t st))))
-      (finite_where (Declared xs s kind) (λ t. (is_wanted w.sign kind ≡ true) × ((found_in xs s w ≡ Some t.space) × (t.name ≡ (asked w.bytes).name))) (finite_declared kind)
-      (λ t d. decided_both (same_bool (is_wanted w.sign kind) true)
-      (decided_both (is_this same_namespace (found_in xs s w) t.space) (same_text t.name (asked w.bytes).name))))
+      finite_same (λ t. Declared xs s kind t × (is_stood xs flat s kind w t ≡ true)) (StandsFor xs s kind w)
+      (λ t h. (stands_plain xs flat s kind w t).1 (h.1, h.0))
+      (λ t st. let h = (stands_plain xs flat s kind w t).0 st in (h.1, h.0))
+      (finite_where (Declared xs s kind) (λ t. is_stood xs flat s kind w t ≡ true) (finite_declared xs s kind) (λ t d. same_bool (is_stood xs flat s kind w t) true))
 
   -- the numbers of the symbols for which a word stands
   pub finite_has_number : (types : List (List ℕ)) (w : ScopedWord) → Finite (HasNumber xs s types w)

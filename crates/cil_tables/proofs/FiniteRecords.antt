@@ -19,9 +19,10 @@ use Rattle.cil_names.specs.Members.{StandsFor}
 use Rattle.cil_classes.specs.Pairs.{HasPair}
 use Rattle.cil_tables.proofs.Finite.{Finite, decided_some, finite_all, finite_given, finite_list, finite_one, finite_same}
 use Rattle.cil_tables.proofs.FiniteFaults.{finite_permissions}
+use Rattle.cil_tables.proofs.NoGifts.{HaveFlatKeywords}
 use Rattle.cil_tables.proofs.FinitePolicy.{Three, finite_classes, finite_numbers, finite_stands, finite_three, finite_two}
 
-module _ (xs : List Item) (s : OptSet) (keyword : Keyword) where
+module _ (xs : List Item) (flat : HaveFlatKeywords xs) (s : OptSet) (keyword : Keyword) where
   -- an enabled statement with this first word
   abbrev IsOn : Item → Type 0
   IsOn x = (is_enabled s x ≡ true) × (x.keyword ≡ keyword)
@@ -48,8 +49,8 @@ module _ (xs : List Item) (s : OptSet) (keyword : Keyword) where
 
     finite_joins : (p : ScopedWord × ScopedWord) → Finite (Joins p)
     finite_joins p =
-        finite_all (λ t l. (u : Symbol) × StandsFor xs s held_kind p.1 u × Numbers t u l) (StandsFor xs s holder_kind p.0) (finite_stands xs s holder_kind p.0)
-        (λ t st. finite_all (λ u l. Numbers t u l) (StandsFor xs s held_kind p.1) (finite_stands xs s held_kind p.1) (λ u su. finite_pair_numbers t u))
+        finite_all (λ t l. (u : Symbol) × StandsFor xs s held_kind p.1 u × Numbers t u l) (StandsFor xs s holder_kind p.0) (finite_stands xs flat s holder_kind p.0)
+        (λ t st. finite_all (λ u l. Numbers t u l) (StandsFor xs s held_kind p.1) (finite_stands xs flat s held_kind p.1) (λ u su. finite_pair_numbers t u))
 
     abbrev Links : Item → Link → Type 0
     Links x l = IsOn x × ((p : ScopedWord × ScopedWord) × (x.args ≡ cons (Leaf p.0) (cons (Leaf p.1) nil)) × Joins p l)
@@ -93,7 +94,7 @@ module _ (xs : List Item) (s : OptSet) (keyword : Keyword) where
   -- ---- cases
 
   decided_target : (t : Term ScopedWord) → Decided (HasTarget xs s t)
-  decided_target (Leaf w) = decided_some (StandsFor xs s kinds.Type_ w) (finite_stands xs s kinds.Type_ w)
+  decided_target (Leaf w) = decided_some (StandsFor xs s kinds.Type_ w) (finite_stands xs flat s kinds.Type_ w)
   decided_target (Name at bytes) = inr (λ h. h)
   decided_target (Form at op parts) = op_is op ops.Itself
 
@@ -114,8 +115,8 @@ module _ (xs : List Item) (s : OptSet) (keyword : Keyword) where
       (finite_all (λ q k. Reaches q × ((c : Symbol) × ((p : List ℕ) × HasPair xs s q.2 c p) × (case_of q c ≡ k)))
       (λ q. x.args ≡ cons (Leaf q.0) (cons q.1 (cons q.2 nil))) (finite_three x.args)
       (λ q e. finite_given (Reaches q) (λ k. (c : Symbol) × ((p : List ℕ) × HasPair xs s q.2 c p) × (case_of q c ≡ k))
-      (decided_both (decided_some (StandsFor xs s kinds.Type_ q.0) (finite_stands xs s kinds.Type_ q.0)) (decided_target q.1))
-      (finite_all (λ c k. case_of q c ≡ k) (λ c. (p : List ℕ) × HasPair xs s q.2 c p) (finite_classes xs s (finite_permissions xs) q.2) (λ c h. finite_one (case_of q c)))))
+      (decided_both (decided_some (StandsFor xs s kinds.Type_ q.0) (finite_stands xs flat s kinds.Type_ q.0)) (decided_target q.1))
+      (finite_all (λ c k. case_of q c ≡ k) (λ c. (p : List ℕ) × HasPair xs s q.2 c p) (finite_classes xs flat s (finite_permissions xs) q.2) (λ c h. finite_one (case_of q c)))))
 
   pub finite_cases : Finite (IsCase xs s keyword)
   unfolding case_of

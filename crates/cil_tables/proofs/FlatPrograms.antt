@@ -19,6 +19,7 @@ use Rattle.cil_macros.specs.Items.{item_of}
 use Rattle.cil_macros.specs.Placed.{Placed}
 use Rattle.cil_tables.specs.Laws.{AreFlatModules, is_flat}
 use Rattle.cil_tables.proofs.FlatLemmas.{AreFlat}
+use Rattle.cil_tables.proofs.NoGifts.{HaveFlatKeywords}
 
 -- ---- where a statement stands
 
@@ -112,11 +113,15 @@ module _ (ws : List Written) where
     placed_among _ (in_optional p b w is body is_it c is_in) = c
     placed_among _ (in_branch p b w is body is_it c is_in) = c
 
+    pub with_flat_keywords : ((w : Written) → Contains ws w → is_flat w.statement.keyword ≡ true) → (placed : List Placed) → Lists placed_cmp (IsPlaced ws ss) placed
+        → HaveFlatKeywords (map (item_of ws ss placed) placed)
+    with_flat_keywords flat placed are x c =
+        let (p, cp, e) = from_map (item_of ws ss placed) placed x c in
+        subst (λ (y : Item). is_flat y.keyword ≡ true) e (flat p.standing.statement (placed_among p ((are.members p).0 cp)))
+
     pub without_optionals : ((w : Written) → Contains ws w → is_flat w.statement.keyword ≡ true) → (placed : List Placed) → Lists placed_cmp (IsPlaced ws ss) placed
         → (x : Item) → Contains (map (item_of ws ss placed) placed) x → is_optional x.keyword ≡ false
-    without_optionals flat placed are x c =
-        let (p, cp, e) = from_map (item_of ws ss placed) placed x c in
-        subst (λ (y : Item). is_optional y.keyword ≡ false) e (flat_optional p.standing.statement.statement.keyword (flat p.standing.statement (placed_among p ((are.members p).0 cp))))
+    without_optionals flat placed are x c = flat_optional x.keyword (with_flat_keywords flat placed are x c)
 
 -- what is written in flat modules is flat
 pub flat_keyword : (modules : List (List ℕ)) → AreFlatModules modules → (ws : List Written) → Lists written_cmp (IsWritten modules) ws → (w : Written) → Contains ws w

@@ -5,7 +5,7 @@ use Rattle.std.specs.List.{AllByRecursion}
 use Rattle.std.specs.List.Sorted.{IsStrictlySortedBy}
 use Rattle.std.specs.declared.cmp.Ordering.{Ordering}
 use Rattle.std.specs.declared.cmp.Ordering.TheVariants.{Less}
-use Rattle.std.proofs.Common.{◌≡◌, ℕ, zero, suc, ◌+◌, ◌<◌, List, [], ◌∷◌, ◌++◌, length, get_or, set, take, refl, sym, ◌∙◌, ap, subst, inl, inr, arith}
+use Rattle.std.proofs.Common.{◌≡◌, ℕ, zero, suc, ◌+◌, ◌<◌, List, [], ◌∷◌, ◌++◌, length, get_or, set, refl, sym, ◌∙◌, ap, subst, inl, inr, arith}
 use Rattle.std.proofs.lemmas.List.Elements.{Contains-append_left, Contains-append_right, Contains-append_cases}
 use Rattle.std.specs.Ordering.{ordering_then}
 use Rattle.std.proofs.lemmas.Bool.{cases_eq}
@@ -14,11 +14,9 @@ use Rattle.std.proofs.lemmas.List.{get_or-set_same, get_or-set_other}
 use Rattle.cil_base.specs.Paths.{its_own, less_from}
 use Rattle.cil_base.specs.Lists.{Lists, all_at, contains_cases, contains_here, contains_later, contains_none}
 use Rattle.cil_base.specs.MadeLists.{contains_map, from_map}
-use Rattle.cil_base.specs.Records.{AreRecordsOf, IsRecordOf}
-use Rattle.cil_base.proofs.RecordLemmas.{record_more}
 use Rattle.cil_tables.specs.declared.tables.Link.{Link}
 use Rattle.cil_tables.specs.Holders.{AreRising, link_to, links_from}
-use Rattle.cil_tables.specs.Table.{link_cmp, same_ends}
+use Rattle.cil_tables.specs.Table.{link_cmp}
 
 -- ---- one pair
 
@@ -88,7 +86,7 @@ row_rises n (t ∷ row) up = (
   row_rises n row up.1,
 )
 
-rises : (n : ℕ) (rows : List (List ℕ)) → AreRising rows → IsStrictlySortedBy link_cmp (links_from n rows)
+pub rises : (n : ℕ) (rows : List (List ℕ)) → AreRising rows → IsStrictlySortedBy link_cmp (links_from n rows)
 unfolding links_from IsStrictlySortedBy
 rises n [] all = tt
 rises n (row ∷ rows) all =
@@ -139,60 +137,87 @@ set_rises (x ∷ xs) (suc h) row up r w c = elim (contains_cases w x (set xs h r
   | inr d ↦ set_rises xs h row (λ v b. up v (contains_later v x xs b)) r w d
 ]
 
--- a set with one member more in the place of one: one link more
-module _ (rows : List (List ℕ)) (link : Link) (row : List ℕ) (within : link.holder < length rows)
-    (is : Lists nat_cmp (λ v. Contains (get_or rows link.holder []) v ⊎ (v ≡ link.held)) row) where
-  abbrev IsOneMore : Link → Type 0
-  IsOneMore l = Contains (links_from 0 rows) l ⊎ (l ≡ link)
+-- a set with members more in the place of one: as many links more
+module _ (rows : List (List ℕ)) (holder : ℕ) (helds row : List ℕ) (within : holder < length rows)
+    (is : Lists nat_cmp (λ v. Contains (get_or rows holder []) v ⊎ Contains helds v) row) where
+  abbrev IsMore : Link → Type 0
+  IsMore l = Contains (links_from 0 rows) l ⊎ ((l.holder ≡ holder) × Contains helds l.held)
 
-  at_holder : (t : ℕ) → Contains (get_or (set rows link.holder row) link.holder []) t ↔ IsOneMore (link_to link.holder t)
-  at_holder t = rw (get_or-set_same rows link.holder row [] within) (
+  at_holder : (t : ℕ) → Contains (get_or (set rows holder row) holder []) t ↔ IsMore (link_to holder t)
+  at_holder t = rw (get_or-set_same rows holder row [] within) (
     λ c. elim ((is.members t).0 c) [
-      | inl d ↦ inl ((pair_there rows link.holder t).1 d)
-      | inr e ↦ inr (same_ends (link_to link.holder t) link refl e)
+      | inl d ↦ inl ((pair_there rows holder t).1 d)
+      | inr d ↦ inr (refl, d)
     ],
-    λ o. (is.members t).1 (elim o [ inl d ↦ inl ((pair_there rows link.holder t).0 d) | inr e ↦ inr (ap (λ (l : Link). l.held) e) ]),
+    λ o. (is.members t).1 (elim o [ inl d ↦ inl ((pair_there rows holder t).0 d) | inr e ↦ inr e.1 ]),
   )
 
-  elsewhere : (h t : ℕ) → (h ≡ link.holder → ⊥) → Contains (get_or (set rows link.holder row) h []) t ↔ IsOneMore (link_to h t)
-  elsewhere h t other = rw (get_or-set_other rows link.holder h row [] other) (
+  elsewhere : (h t : ℕ) → (h ≡ holder → ⊥) → Contains (get_or (set rows holder row) h []) t ↔ IsMore (link_to h t)
+  elsewhere h t other = rw (get_or-set_other rows holder h row [] other) (
     λ c. inl ((pair_there rows h t).1 c),
-    λ o. elim o [ inl d ↦ (pair_there rows h t).0 d | inr e ↦ absurd (other (ap (λ (l : Link). l.holder) e)) ],
+    λ o. elim o [ inl d ↦ (pair_there rows h t).0 d | inr e ↦ absurd (other e.0) ],
   )
 
-  pub one_more : AreRising rows → Lists link_cmp IsOneMore (links_from 0 (set rows link.holder row))
-  one_more up = rows_list IsOneMore (set rows link.holder row) (set_rises rows link.holder row up is.rising) (λ h t.
-      elim (cases_eq h link.holder) [
-        | inl e ↦ subst (λ k. Contains (get_or (set rows link.holder row) k []) t ↔ IsOneMore (link_to k t)) (sym e) (at_holder t)
+  pub links_united : AreRising rows → Lists link_cmp IsMore (links_from 0 (set rows holder row))
+  links_united up = rows_list IsMore (set rows holder row) (set_rises rows holder row up is.rising) (λ h t.
+      elim (cases_eq h holder) [
+        | inl e ↦ subst (λ k. Contains (get_or (set rows holder row) k []) t ↔ IsMore (link_to k t)) (sym e) (at_holder t)
         | inr other ↦ elsewhere h t other
       ])
-
--- ---- the records of statements, as links
 
 pub no_links : IsStrictlySortedBy link_cmp []
 unfolding IsStrictlySortedBy
 no_links = tt
 
--- one statement more, whose link is added
-module _ {X : Type 0} (asked : X → Link → Type 0) (xs : List X) (i : ℕ) (x : X) (taken : take (i + 1) xs ≡ take i xs ++ x ∷ []) (old new : List Link) (link : Link)
-    (so_far : AreRecordsOf asked ◌≡◌ (take i xs) old) (one : IsRecordOf asked ◌≡◌ x (Some link)) (added : Lists link_cmp (λ l. Contains old l ⊎ (l ≡ link)) new) where
-  put_behind : AreRecordsOf asked ◌≡◌ (take (i + 1) xs) (old ++ link ∷ [])
-  put_behind = record_more asked ◌≡◌ xs i x taken old so_far link (old ++ link ∷ []) one refl
+-- ---- one holder after another
 
-  into : (l : Link) → Contains (old ++ link ∷ []) l → Contains new l
-  into l c = (added.members l).1 (elim (Contains-append_cases old (link ∷ []) l c) [
-    | inl d ↦ inl d
-    | inr d ↦ elim (contains_cases l link [] d) [ inl e ↦ inr (sym e) | inr n ↦ absurd (contains_none l n) ]
-  ])
+-- the links that are there, and those of the first of some holders
+abbrev pub AreWith : List Link → (holders helds : List ℕ) → Link → Type 0
+AreWith old holders helds l = Contains old l ⊎ (Contains holders l.holder × Contains helds l.held)
 
-  out_of : (l : Link) → Contains new l → Contains (old ++ link ∷ []) l
-  out_of l c = elim ((added.members l).0 c) [
-    | inl d ↦ Contains-append_left old (link ∷ []) l d
-    | inr e ↦ Contains-append_right old (link ∷ []) l (subst (Contains (link ∷ [])) (sym e) (contains_here link []))
-  ]
+pub no_holders : (old : List Link) (helds : List ℕ) → IsStrictlySortedBy link_cmp old → Lists link_cmp (AreWith old [] helds) old
+no_holders old helds up = record { rising = up; members = λ l. (λ c. inl c, λ h. elim h [ inl c ↦ c | inr e ↦ absurd (contains_none l.holder e.0) ]) }
 
-  pub links_more : AreRecordsOf asked ◌≡◌ (take (i + 1) xs) new
-  links_more = record {
-    each = λ y k c a. let r = put_behind.each y k c a in (r.0, r.1, into r.0 r.2);
-    only = λ l c. put_behind.only l (out_of l c);
-  }
+pub one_holder : (old links new : List Link) (holders helds : List ℕ) (holder : ℕ) → Lists link_cmp (AreWith old holders helds) links
+    → Lists link_cmp (λ l. Contains links l ⊎ ((l.holder ≡ holder) × Contains helds l.held)) new → Lists link_cmp (AreWith old (holders ++ holder ∷ []) helds) new
+one_holder old links new holders helds holder are more = record {
+  rising = more.rising;
+  members = λ l. (
+    λ c. elim ((more.members l).0 c) [
+      | inl d ↦ elim ((are.members l).0 d) [
+        | inl o ↦ inl o
+        | inr e ↦ inr (Contains-append_left holders (holder ∷ []) l.holder e.0, e.1)
+      ]
+      | inr e ↦ inr (subst (Contains (holders ++ holder ∷ [])) (sym e.0) (Contains-append_right holders (holder ∷ []) holder (contains_here holder [])), e.1)
+    ],
+    λ h. (more.members l).1 (elim h [
+      | inl o ↦ inl ((are.members l).1 (inl o))
+      | inr e ↦ elim (Contains-append_cases holders (holder ∷ []) l.holder e.0) [
+        | inl d ↦ inl ((are.members l).1 (inr (d, e.1)))
+        | inr d ↦ elim (contains_cases l.holder holder [] d) [
+          | inl same ↦ inr (sym same, e.1)
+          | inr n ↦ absurd (contains_none l.holder n)
+        ]
+      ]
+    ]),
+  );
+}
+
+-- ---- sets of one number
+
+pub one_member : (numbers : List ℕ) (n : ℕ) → length numbers ≡ 1 → Contains numbers n → numbers ≡ n ∷ []
+one_member [] n e c = absurd (contains_none n c)
+one_member (m ∷ []) n e c = elim (contains_cases n m [] c) [ inl same ↦ ap (λ k. k ∷ []) same | inr d ↦ absurd (contains_none n d) ]
+one_member (m ∷ (k ∷ ks)) n e c = absurd (omega (arith, e))
+
+pub with_one : (old new others : List ℕ) (n : ℕ) → others ≡ n ∷ [] → Lists nat_cmp (λ v. Contains old v ⊎ (v ≡ n)) new → Lists nat_cmp (λ v. Contains old v ⊎ Contains others v) new
+with_one old new others n one added = record {
+  rising = added.rising;
+  members = λ v. (
+    λ c. elim ((added.members v).0 c) [ inl d ↦ inl d | inr e ↦ inr (subst (λ ns. Contains ns v) (sym one) (subst (λ k. Contains (n ∷ []) k) (sym e) (contains_here n []))) ],
+    λ h. (added.members v).1 (elim h [
+      | inl d ↦ inl d
+      | inr c ↦ elim (contains_cases v n [] (subst (λ ns. Contains ns v) one c)) [ inl same ↦ inr (sym same) | inr d ↦ absurd (contains_none v d) ]
+    ]),
+  );
+}

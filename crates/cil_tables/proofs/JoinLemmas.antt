@@ -1,6 +1,5 @@
 -- The table of a policy by its parts.
 use Rattle.std.proofs.Common.{◌≡◌, ℕ, List, sym, subst}
-use Rattle.std.specs.declared.cmp.Ordering.{Ordering}
 use Rattle.cil_base.specs.Gives.{Gives}
 use Rattle.cil_base.specs.Lists.{Lists, text_cmp}
 use Rattle.cil_syntax.specs.declared.kind.Keyword.TheVariants as keywords
@@ -9,55 +8,30 @@ use Rattle.cil_syntax.specs.declared.kind.Kind.TheVariants as kinds
 use Rattle.cil_names.specs.Declarations.{Declared}
 use Rattle.cil_macros.specs.Item.{Item, OptSet}
 use Rattle.cil_classes.specs.declared.row.Class.{Class}
+use Rattle.cil_tables.specs.declared.tables.Alias.{Alias}
 use Rattle.cil_tables.specs.declared.tables.Link.{Link}
-use Rattle.cil_rules.specs.declared.rule.Rule.{Rule}
+use Rattle.cil_rules.specs.Rule.{Rule}
 use Rattle.cil_rules.specs.Records.{IsCase, IsRuleOf}
 use Rattle.cil_tables.specs.Links.{IsLink}
 use Rattle.cil_tables.specs.Compiled.{IsNameOf, IsTable}
 use Rattle.cil_classes.specs.ClassRows.{IsRowOf}
 use Rattle.cil_classes.specs.Row.{class_cmp}
-use Rattle.cil_tables.specs.Table.{link_cmp}
+use Rattle.cil_tables.specs.Aliases.{IsAlias}
+use Rattle.cil_tables.specs.Table.{alias_cmp, link_cmp}
 use Rattle.cil_rules.specs.Order.{rule_cmp}
-use Rattle.cil_rules.specs.declared.rule.Target.{Target}
-use Rattle.cil_rules.specs.declared.rule.Target.TheVariants.{Types, Itself}
-use Rattle.cil_rules.specs.Records.{IsTargetOf}
-use Rattle.cil_index.specs.Sets.{AreRising, IsRisingTarget}
-use Rattle.cil_syntax.specs.Scopes.{ScopedWord}
-use Rattle.cil_syntax.specs.Terms.{Term, Leaf, Name, Form}
-use Rattle.std.specs.Prelude.{Contains}
-
--- a section of rules is what gave them
-pub section_gives : {K X : Type 0} (order : X → X → Ordering) (asked : K → Type 0) (gives : K → X → Type 0) (rules section : List X) → Lists order (Contains rules) section
-    → Gives order asked gives rules → Gives order asked gives section
-section_gives order asked gives rules section l g = record {
-  rising = l.rising;
-  each = λ k a. let r = g.each k a in (r.0, r.1, (l.members r.0).1 r.2);
-  only = λ x c. g.only x ((l.members x).0 c);
-}
-
-rising_target : (xs : List Item) (s : OptSet) (types : List (List ℕ)) (term : Term ScopedWord) (target : Target) → IsTargetOf xs s types term target → IsRisingTarget target
-rising_target xs s types (Leaf w) (Types numbers) is = is.rising
-rising_target xs s types (Leaf w) Itself is = tt
-rising_target xs s types (Name at name) target is = absurd is
-rising_target xs s types (Form at op parts) target is = subst IsRisingTarget (sym is.1) tt
-
--- the sets of rules are lists that rise
-pub rules_rise : (xs : List Item) (s : OptSet) (types : List (List ℕ)) (classes : List Class) (rules : List Rule)
-    → Gives rule_cmp (IsCase xs s keywords.Allow) (IsRuleOf xs s types classes) rules → AreRising rules
-rules_rise xs s types classes rules g r c =
-    let k = g.only r c in record { source = k.2.source.rising; target = rising_target xs s types k.0.target r.target k.2.target }
 
 -- the sections, as a table
-module _ (xs : List Item) (s : OptSet) (names : Kind → List (List ℕ)) (users roles types : List (List ℕ)) (classes : List Class) (user_roles role_types : List Link) (allow : List Rule) where
+module _ (xs : List Item) (s : OptSet) (names : Kind → List (List ℕ)) (users roles types : List (List ℕ)) (aliases : List Alias) (classes : List Class) (user_roles role_types : List Link) (allow : List Rule) where
   pub table_of : users ≡ names kinds.User → roles ≡ names kinds.Role → types ≡ names kinds.Type_
       → Lists text_cmp (IsNameOf xs s kinds.User) (names kinds.User) → Lists text_cmp (IsNameOf xs s kinds.Role) (names kinds.Role) → Lists text_cmp (IsNameOf xs s kinds.Type_) (names kinds.Type_)
+      → Lists alias_cmp (IsAlias xs s (names kinds.Type_)) aliases
       → Gives class_cmp (Declared xs s kinds.Class) (IsRowOf xs) classes
       → Lists link_cmp (IsLink xs s keywords.UserRole kinds.User kinds.Role (names kinds.User) (names kinds.Role)) user_roles
       → Lists link_cmp (IsLink xs s keywords.RoleType kinds.Role kinds.Type_ (names kinds.Role) (names kinds.Type_)) role_types
       → Gives rule_cmp (IsCase xs s keywords.Allow) (IsRuleOf xs s (names kinds.Type_) classes) allow
-      → IsTable xs s (record { users = users; roles = roles; types = types; classes = classes; user_roles = user_roles; role_types = role_types; allow = allow })
-  table_of u r t us rs ts cs urs rts al =
-      subst (λ (z : List (List ℕ)). IsTable xs s (record { users = z; roles = roles; types = types; classes = classes; user_roles = user_roles; role_types = role_types; allow = allow })) (sym u)
-      (subst (λ (z : List (List ℕ)). IsTable xs s (record { users = names kinds.User; roles = z; types = types; classes = classes; user_roles = user_roles; role_types = role_types; allow = allow })) (sym r)
-      (subst (λ (z : List (List ℕ)). IsTable xs s (record { users = names kinds.User; roles = names kinds.Role; types = z; classes = classes; user_roles = user_roles; role_types = role_types; allow = allow })) (sym t)
-      (record { users = us; roles = rs; types = ts; classes = cs; user_roles = urs; role_types = rts; allow = al })))
+      → IsTable xs s (record { users = users; roles = roles; types = types; type_aliases = aliases; classes = classes; user_roles = user_roles; role_types = role_types; allow = allow })
+  table_of u r t us rs ts of_aliases cs urs rts al =
+      subst (λ (z : List (List ℕ)). IsTable xs s (record { users = z; roles = roles; types = types; type_aliases = aliases; classes = classes; user_roles = user_roles; role_types = role_types; allow = allow })) (sym u)
+      (subst (λ (z : List (List ℕ)). IsTable xs s (record { users = names kinds.User; roles = z; types = types; type_aliases = aliases; classes = classes; user_roles = user_roles; role_types = role_types; allow = allow })) (sym r)
+      (subst (λ (z : List (List ℕ)). IsTable xs s (record { users = names kinds.User; roles = names kinds.Role; types = z; type_aliases = aliases; classes = classes; user_roles = user_roles; role_types = role_types; allow = allow })) (sym t)
+      (record { users = us; roles = rs; types = ts; type_aliases = of_aliases; classes = cs; user_roles = urs; role_types = rts; allow = al })))

@@ -1,5 +1,7 @@
 pub mod AgreesLemmas
+pub mod AliasLemmas
 pub mod AlwaysCompiles
+pub mod BothLemmas
 pub mod CompileLemmas
 pub mod FamilyExists
 pub mod Finite
@@ -7,13 +9,16 @@ pub mod FiniteCommons
 pub mod FiniteFaults
 pub mod FinitePolicy
 pub mod FiniteRecords
+pub mod FiniteSets
 pub mod FlatLemmas
 pub mod FlatPrograms
 pub mod HolderLemmas
 pub mod JoinLemmas
 pub mod LinkLemmas
 pub mod NamedLemmas
+pub mod NoGifts
 pub mod OneTable
 pub mod PlainLemmas
+pub mod SpaceLemmas
 pub mod TablesExist
 pub mod WideClasses

@@ -14,9 +14,7 @@ use Rattle.cil_faults.specs.Fails.{AreFaults}
 use Rattle.cil_faults.specs.FaultOrder.{fault_cmp, fault_total}
 use Rattle.cil_syntax.specs.Terms.{Term, Leaf, Name, Form}
 use Rattle.cil_classes.specs.declared.row.Class.{Class}
-use Rattle.cil_rules.specs.declared.rule.Rule.{Rule}
-use Rattle.cil_rules.specs.declared.rule.Target.{Target}
-use Rattle.cil_rules.specs.declared.rule.Target.TheVariants.{Types, Itself}
+use Rattle.cil_rules.specs.Rule.{Rule, Target, Types, Itself}
 use Rattle.cil_tables.specs.Agrees.{Compiles}
 use Rattle.cil_rules.specs.Records.{Case, HasBit, HasNumber, IsRuleOf, IsTargetOf}
 use Rattle.cil_tables.specs.Links.{IsLink}
@@ -29,7 +27,8 @@ use Rattle.cil_tables.specs.Faults.{ArePolicyFaults, steps}
 use Rattle.cil_macros.specs.Item.{Item, OptSet}
 use Rattle.cil_syntax.specs.Scopes.{ScopedWord}
 use Rattle.cil_names.specs.Resolves.{has_permission}
-use Rattle.cil_tables.specs.Table.{Table, link_cmp, link_total}
+use Rattle.cil_tables.specs.Aliases.{IsAlias}
+use Rattle.cil_tables.specs.Table.{Table, alias_cmp, alias_total, link_cmp, link_total}
 use Rattle.cil_classes.specs.Row.{class_cmp}
 use Rattle.cil_rules.specs.Order.{rule_cmp, rule_total, same_rules}
 use Rattle.cil_tables.proofs.AgreesLemmas.{one_class_number}
@@ -72,10 +71,10 @@ same_masks a b same =
 same_row : (a b : Class) → a.name ≡ b.name → a.permissions ≡ b.permissions → a ≡ b
 same_row a b n p = λ i. record { name = n i; permissions = p i }
 
-same_table : (t u : Table) → t.users ≡ u.users → t.roles ≡ u.roles → t.types ≡ u.types → t.classes ≡ u.classes → t.user_roles ≡ u.user_roles
+same_table : (t u : Table) → t.users ≡ u.users → t.roles ≡ u.roles → t.types ≡ u.types → t.type_aliases ≡ u.type_aliases → t.classes ≡ u.classes → t.user_roles ≡ u.user_roles
     → t.role_types ≡ u.role_types → t.allow ≡ u.allow → t ≡ u
-same_table t u a b c d e f g =
-    λ i. record { users = a i; roles = b i; types = c i; classes = d i; user_roles = e i; role_types = f i; allow = g i }
+same_table t u a b c d e f g h =
+    λ i. record { users = a i; roles = b i; types = c i; type_aliases = d i; classes = e i; user_roles = f i; role_types = g i; allow = h i }
 
 module _ (xs : List Item) (s : OptSet) where
   one_row : (c : Symbol) (a b : Class) → IsRowOf xs c a → IsRowOf xs c b → a ≡ b
@@ -130,7 +129,8 @@ module _ (xs : List Item) (s : OptSet) where
         let role_types : Lists link_cmp (IsLink xs s keywords.RoleType kinds.Role kinds.Type_ u.roles u.types) t.role_types =
         subst (λ z. Lists link_cmp (IsLink xs s keywords.RoleType kinds.Role kinds.Type_ u.roles z) t.role_types) types
         (subst (λ z. Lists link_cmp (IsLink xs s keywords.RoleType kinds.Role kinds.Type_ z t.types) t.role_types) roles a.role_types) in
-        same_table t u users roles types one_classes
+        let aliases : Lists alias_cmp (IsAlias xs s u.types) t.type_aliases = subst (λ z. Lists alias_cmp (IsAlias xs s z) t.type_aliases) types a.type_aliases in
+        same_table t u users roles types (one_list alias_cmp alias_total (IsAlias xs s u.types) t.type_aliases u.type_aliases aliases b.type_aliases) one_classes
         (one_list link_cmp link_total (IsLink xs s keywords.UserRole kinds.User kinds.Role u.users u.roles) t.user_roles u.user_roles user_roles b.user_roles)
         (one_list link_cmp link_total (IsLink xs s keywords.RoleType kinds.Role kinds.Type_ u.roles u.types) t.role_types u.role_types role_types b.role_types)
         (same_members rule_cmp rule_total t.allow u.allow a.allow.rising b.allow.rising (rules_within t u a b types one_classes) (rules_within u t b a (sym types) (sym one_classes)))

@@ -9,7 +9,7 @@ use Rattle.std.proofs.lemmas.Map.Lookups.{exact_bytes}
 use Rattle.std.proofs.lemmas.Nat.Bits.{bit_at-pow_same, bit_at-pow_other}
 use Rattle.std.proofs.lemmas.Option.{none-some, same_Some, slice_get_within}
 use Rattle.cil_base.specs.Gives.{Gives}
-use Rattle.cil_base.specs.Lists.{Lists, text_cmp}
+use Rattle.cil_base.specs.Lists.{Lists, contains_none, text_cmp}
 use Rattle.cil_base.specs.MadeLists.{contains_map, from_map}
 use Rattle.cil_base.specs.Places.{get_at}
 use Rattle.cil_base.specs.Decided.{Decided, decided_same, same_number}
@@ -19,9 +19,7 @@ use Rattle.cil_syntax.specs.declared.kind.Keyword.TheVariants as keywords
 use Rattle.cil_syntax.specs.declared.kind.Kind.TheVariants as kinds
 use Rattle.cil_syntax.specs.Terms.{Term, Leaf, Name, Form}
 use Rattle.cil_classes.specs.declared.row.Class.{Class}
-use Rattle.cil_rules.specs.declared.rule.Rule.{Rule}
-use Rattle.cil_rules.specs.declared.rule.Target.{Target}
-use Rattle.cil_rules.specs.declared.rule.Target.TheVariants.{Types, Itself}
+use Rattle.cil_rules.specs.Rule.{Rule, Target, Types, Itself}
 use Rattle.cil_rules.specs.Records.{Case, HasBit, HasNumber, HasTarget, IsCase, IsRuleOf, IsTargetOf}
 use Rattle.cil_tables.specs.Links.{IsLink}
 use Rattle.cil_tables.specs.Compiled.{IsNameOf, IsTable}
@@ -32,7 +30,9 @@ use Rattle.cil_syntax.specs.Scopes.{ScopedWord}
 use Rattle.cil_classes.specs.Pairs.{HasPair}
 use Rattle.cil_tables.proofs.FlatLemmas.{AreFlat, global_symbol, declared_here, global_symbol_of, name_declared, name_of_global}
 use Rattle.cil_names.specs.Resolves.{has_permission}
-use Rattle.cil_tables.specs.Table.{Table, link_cmp, link_total, one_link}
+use Rattle.cil_tables.specs.Aliases.{IsAlias}
+use Rattle.cil_tables.specs.Table.{Table, alias_cmp, link_cmp, link_total, one_link}
+use Rattle.cil_tables.proofs.NoGifts.{HaveFlatKeywords, no_alias}
 use Rattle.cil_classes.specs.Row.{class_cmp}
 use Rattle.cil_rules.specs.Order.{rule_cmp, rule_total, one_rule}
 use Rattle.cil_classes.proofs.BitLemmas.{none_set, set_in_either, set_is_one}
@@ -89,7 +89,7 @@ mask_of (suc n) P decide = elim (decide n) [
   | inr none ↦ no_bit_more n P none (mask_of n P decide)
 ]
 
-module _ (xs : List Item) where
+module _ (xs : List Item) (plain : HaveFlatKeywords xs) where
   names_of : (set : List ℕ → Type 0) → Finite set → Listing text_cmp set
   names_of set f = finite_listing text_cmp nat_list_cmp_total exact_bytes set f
 
@@ -97,7 +97,7 @@ module _ (xs : List Item) where
 
   module _ (types : List (List ℕ)) where
     numbers_of : (w : ScopedWord) → Listing nat_cmp (HasNumber xs nobody types w)
-    numbers_of w = finite_listing nat_cmp nat_cmp_total same_by (HasNumber xs nobody types w) (finite_has_number xs nobody types w)
+    numbers_of w = finite_listing nat_cmp nat_cmp_total same_by (HasNumber xs nobody types w) (finite_has_number xs plain nobody types w)
 
     target_of : (t : Term ScopedWord) → HasTarget xs nobody t → (target : Target) × IsTargetOf xs nobody types t target
     target_of (Leaf w) h = (Types (numbers_of w).list, (numbers_of w).lists)
@@ -110,7 +110,7 @@ module _ (xs : List Item) where
       has_bit k row bit (Some p) e =
           decided_same (λ g. record { permission = p; is_permission = e; gives = g })
           (λ h. subst (HasPair xs nobody k.class_permission k.class_) (same_Some h.permission p (sym h.is_permission ∙ e)) h.gives)
-          (decided_pair xs nobody k.class_permission k.class_ p)
+          (decided_pair xs plain nobody k.class_permission k.class_ p)
 
       -- the bits of a case
       mask_of_case : (k : Case) (row : Class) → (mask : ℕ) × ((bit : ℕ) → IsBitSet mask bit ↔ HasBit xs nobody k row bit)
@@ -123,7 +123,7 @@ module _ (xs : List Item) where
 
       rule_of : (k : Case) → IsCase xs nobody keywords.Allow k → (r : Rule) × IsRuleOf xs nobody types classes k r
       rule_of k is =
-          let row = given.each k.class_ (pair_class xs nobody k.class_permission k.class_ is.permission.0 is.permission.1) in
+          let row = given.each k.class_ (pair_class xs plain nobody k.class_permission k.class_ is.permission.0 is.permission.1) in
           let number = get_at classes row.0 row.2 in
           let target = target_of k.target is.target in
           let mask = mask_of_case k row.0 in (
@@ -140,7 +140,7 @@ module _ (xs : List Item) where
 
       rules : (allow : List Rule) × Gives rule_cmp (IsCase xs nobody keywords.Allow) (IsRuleOf xs nobody types classes) allow
       rules =
-          let cases = finite_cases xs nobody keywords.Allow in
+          let cases = finite_cases xs plain nobody keywords.Allow in
           let raw = chosen (IsRuleOf xs nobody types classes) cases.all (λ k c. rule_of k (cases.only k c)) in
           let l = finite_listing rule_cmp rule_total one_rule (Contains raw.all) (record { all = raw.all; only = λ r c. c; each = λ r c. c }) in (
             l.list,
@@ -191,20 +191,28 @@ module _ (xs : List Item) where
 
     -- ---- tables
 
+    none_rise : IsStrictlySortedBy alias_cmp []
+    unfolding IsStrictlySortedBy
+    none_rise = tt
+
+    no_aliases : (types : List (List ℕ)) → Lists alias_cmp (IsAlias xs nobody types) []
+    no_aliases types = record { rising = none_rise; members = λ r. (λ c. absurd (contains_none r c), λ a. absurd (no_alias xs plain nobody a.alias a.an_alias)) }
+
     pub tables : (t : Table) × IsTable xs nobody t
     tables =
         let users = names_of (IsNameOf xs nobody kinds.User) (finite_names xs nobody kinds.User) in
         let roles = names_of (IsNameOf xs nobody kinds.Role) (finite_names xs nobody kinds.Role) in
         let types = names_of (IsNameOf xs nobody kinds.Type_) (finite_names xs nobody kinds.Type_) in
         let user_roles = finite_listing link_cmp link_total one_link (IsLink xs nobody keywords.UserRole kinds.User kinds.Role users.list roles.list)
-        (finite_links xs nobody keywords.UserRole kinds.User kinds.Role users.list roles.list) in
+        (finite_links xs plain nobody keywords.UserRole kinds.User kinds.Role users.list roles.list) in
         let role_types = finite_listing link_cmp link_total one_link (IsLink xs nobody keywords.RoleType kinds.Role kinds.Type_ roles.list types.list)
-        (finite_links xs nobody keywords.RoleType kinds.Role kinds.Type_ roles.list types.list) in
+        (finite_links xs plain nobody keywords.RoleType kinds.Role kinds.Type_ roles.list types.list) in
         let allow = rules types.list classes.0 classes.1 in (
           record {
             users = users.list;
             roles = roles.list;
             types = types.list;
+            type_aliases = [];
             classes = classes.0;
             user_roles = user_roles.list;
             role_types = role_types.list;
@@ -214,6 +222,7 @@ module _ (xs : List Item) where
             users = users.lists;
             roles = roles.lists;
             types = types.lists;
+            type_aliases = no_aliases types.list;
             classes = classes.1;
             user_roles = user_roles.lists;
             role_types = role_types.lists;

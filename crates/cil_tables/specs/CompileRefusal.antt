@@ -8,8 +8,8 @@ use Rattle.cil_macros.specs.Item.{Item, OptSet}
 use Rattle.cil_names.specs.Faults.{ClashFault, ResolveFault}
 use Rattle.cil_optionals.specs.Greatest.{IsGreatest}
 use Rattle.cil_faults.specs.First.{AreFirst}
+use Rattle.cil_tables.specs.SetsStep.{SetsFault}
 use Rattle.cil_tables.specs.Faults.{ArePolicyFaults}
-use Rattle.cil_classes.specs.Faults.{ClassFault}
 
 -- the faults of the modules, of which there are some; want of memory says nothing of them
 abbrev pub CompileFails : List (List ℕ) → Failure → Type 0
@@ -18,7 +18,7 @@ CompileFails modules NoMemory = Unit {0}
 
 -- the steps over items and the optionals that are in force, in the order in which they are taken
 abbrev pub set_steps : List Item → OptSet → List (Fault → Type 0)
-set_steps xs s = ResolveFault s xs ∷ ClassFault s xs ∷ []
+set_steps xs s = ResolveFault s xs ∷ SetsFault s xs ∷ []
 
 -- the faults of items: of the declarations, or of the first step over the greatest set of optionals
 abbrev pub AreItemsFaults : List Item → List Fault → Type 0

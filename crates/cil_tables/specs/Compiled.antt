@@ -8,7 +8,8 @@ use Rattle.cil_syntax.specs.declared.kind.Kind.TheVariants as kinds
 use Rattle.cil_classes.specs.declared.row.Class.{Class}
 use Rattle.cil_names.specs.Declarations.{Declared, Symbol, name_of}
 use Rattle.cil_macros.specs.Item.{Item, OptSet}
-use Rattle.cil_tables.specs.Table.{Table, link_cmp}
+use Rattle.cil_tables.specs.Aliases.{IsAlias}
+use Rattle.cil_tables.specs.Table.{Table, alias_cmp, link_cmp}
 use Rattle.cil_classes.specs.Row.{class_cmp}
 use Rattle.cil_rules.specs.Order.{rule_cmp}
 use Rattle.cil_classes.specs.ClassRows.{IsRowOf}
@@ -26,6 +27,7 @@ pub record IsTable (xs : List Item) (s : OptSet) (t : Table) : Type 0 where
   pub users : Lists text_cmp (IsNameOf xs s kinds.User) t.users
   pub roles : Lists text_cmp (IsNameOf xs s kinds.Role) t.roles
   pub types : Lists text_cmp (IsNameOf xs s kinds.Type_) t.types
+  pub type_aliases : Lists alias_cmp (IsAlias xs s t.types) t.type_aliases
   pub classes : Gives class_cmp (Declared xs s kinds.Class) (IsRowOf xs) t.classes
   pub user_roles : Lists link_cmp (IsLink xs s keywords.UserRole kinds.User kinds.Role t.users t.roles) t.user_roles
   pub role_types : Lists link_cmp (IsLink xs s keywords.RoleType kinds.Role kinds.Type_ t.roles t.types) t.role_types

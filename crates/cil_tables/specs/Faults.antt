@@ -10,8 +10,8 @@ use Rattle.cil_names.specs.Faults.{ClashFault, ResolveFault}
 use Rattle.cil_macros.specs.Items.{AreItems}
 use Rattle.cil_macros.specs.Item.{Item, OptSet}
 use Rattle.cil_optionals.specs.Policy.{ArePolicy}
-use Rattle.cil_classes.specs.Faults.{ClassFault}
 use Rattle.cil_faults.specs.First.{AreFirst}
+use Rattle.cil_tables.specs.SetsStep.{SetsFault}
 
 -- a step over written statements is a step over modules
 pub data OfProgram (modules : List (List ℕ)) (step : List Written → Fault → Type 0) : Fault → Type 0 where
@@ -34,7 +34,7 @@ pub data OfPolicy (modules : List (List ℕ)) (step : List Item → OptSet → F
 abbrev pub steps : List (List ℕ) → List (Fault → Type 0)
 steps modules =
     ShapeFault modules ∷ OfProgram modules InheritStep ∷ OfStandings modules ExpandStep ∷ OfItems modules ClashFault ∷ OfPolicy modules (λ xs s. ResolveFault s xs)
-    ∷ OfPolicy modules (λ xs s. ClassFault s xs) ∷ []
+    ∷ OfPolicy modules (λ xs s. SetsFault s xs) ∷ []
 
 -- the faults of modules
 abbrev pub ArePolicyFaults : List (List ℕ) → List Fault → Type 0

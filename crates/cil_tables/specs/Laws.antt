@@ -27,7 +27,8 @@ pub data Outcome (modules : List (List ℕ)) : Type 0 where
   compiles : (t : Table) → IsOrderly t → Compiles modules t → Outcome modules
   fails : (faults : List Fault) → ArePolicyFaults modules faults → 0 < length faults → Outcome modules
 
--- what is neither a block, a macro or an optional, nor opens one
+-- what is neither a block, a macro or an optional, nor opens one; nor an alias, nor a statement that gives an alias or an attribute
+-- its members
 abbrev pub is_flat : Keyword → Bool
 is_flat keywords.Block = false
 is_flat keywords.BlockAbstract = false
@@ -36,6 +37,11 @@ is_flat keywords.Macro = false
 is_flat keywords.Call = false
 is_flat keywords.Optional = false
 is_flat keywords.BooleanIf = false
+is_flat keywords.TypeAlias = false
+is_flat keywords.TypeAliasActual = false
+is_flat keywords.TypeAttributeSet = false
+is_flat keywords.RoleAttributeSet = false
+is_flat keywords.UserAttributeSet = false
 is_flat keyword = true
 
 -- all that is written in the modules is such
@@ -43,7 +49,8 @@ abbrev pub AreFlatModules : List (List ℕ) → Type 0
 AreFlatModules modules = (w : Written) → IsWritten modules w → is_flat w.statement.keyword ≡ true
 
 -- readable modules compile to tables, or they have a list of faults. It is said of modules without blocks, macros and optionals:
--- with them it rests on the contents of blocks and what calls bring being finite, or more than 1,000,000
+-- with them it rests on the contents of blocks and what calls bring being finite, or more than 1,000,000. It is said of modules whose
+-- aliases and attributes have no members: with these it rests on a family of their members
 abbrev pub AlwaysCompilesOrFails : Type 0
 AlwaysCompilesOrFails = (modules : List (List ℕ)) → AreReadable modules → AreFlatModules modules → Outcome modules
 

@@ -1,4 +1,7 @@
 pub mod Agrees
+pub mod AliasRows
+pub mod Aliases
+pub mod Both
 pub mod CompileAnswer
 pub mod CompileRefusal
 pub mod Compiled
@@ -8,4 +11,7 @@ pub mod Holders
 pub mod Laws
 pub mod Links
 pub mod Meaning
+pub mod Sections
+pub mod SetsStep
+pub mod Standings
 pub mod Table

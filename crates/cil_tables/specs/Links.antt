@@ -1,5 +1,5 @@
 -- The pairs that statements join, by numbers: users with roles, and roles with types. This project's profile.
-use Rattle.std.specs.Prelude.{ℕ, List, ◌≡◌, true}
+use Rattle.std.specs.Prelude.{ℕ, List, ◌≡◌, ◌↔◌, Contains, true}
 use Rattle.cil_syntax.specs.declared.kind.Keyword.{Keyword}
 use Rattle.cil_syntax.specs.declared.kind.Kind.{Kind}
 use Rattle.cil_tables.specs.declared.tables.Link.{Link}
@@ -32,3 +32,17 @@ pub record LinkBy (xs : List Item) (s : OptSet) (keyword : Keyword) (holder_kind
   pub has_held : StandsFor xs s held_kind held_word held
   pub holder_number : IsNumbered holders holder link.holder
   pub held_number : IsNumbered helds held link.held
+
+-- it joins nothing
+abbrev pub JoinsNothing : List Item → OptSet → Keyword → (holder_kind held_kind : Kind) → (holders helds : List (List ℕ)) → Item → Type 0
+JoinsNothing xs s keyword holder_kind held_kind holders helds x = (l : Link) → LinkBy xs s keyword holder_kind held_kind holders helds x l → ⊥
+
+-- it joins each of these numbers with each of those
+abbrev pub JoinsAll : List Item → OptSet → Keyword → (holder_kind held_kind : Kind) → (holders helds : List (List ℕ)) → Item → (some others : List ℕ) → Type 0
+JoinsAll xs s keyword holder_kind held_kind holders helds x some others =
+    (l : Link) → LinkBy xs s keyword holder_kind held_kind holders helds x l ↔ (Contains some l.holder × Contains others l.held)
+
+-- these are the links of some of the statements
+abbrev pub AreJoinedBy : List Item → OptSet → Keyword → (holder_kind held_kind : Kind) → (holders helds : List (List ℕ)) → List Item → List Link → Type 0
+AreJoinedBy xs s keyword holder_kind held_kind holders helds done links =
+    (l : Link) → Contains links l ↔ ((x : Item) × Contains done x × LinkBy xs s keyword holder_kind held_kind holders helds x l)

@@ -22,6 +22,10 @@ pub record HasBoth (t : Table) (n : Context) : Type 0 where
   pub role : Contains t.user_roles record { holder = n.user; held = n.role }
   pub kind : Contains t.role_types record { holder = n.role; held = n.kind }
 
+-- the text names the type of this number: it is its name, or that of an alias of it
+abbrev pub IsTypeText : Table → List ℕ → ℕ → Type 0
+IsTypeText t text n = (slice_get t.types n ≡ Some text) ⊎ Contains t.type_aliases record { name = text; target = n }
+
 -- the text `user:role:type` is the context of these numbers, and the context is valid
 pub record IsContext (t : Table) (text : List ℕ) (n : Context) : Type 0 where
   pub user : List ℕ
@@ -30,7 +34,7 @@ pub record IsContext (t : Table) (text : List ℕ) (n : Context) : Type 0 where
   pub parts : parts_of text ≡ user ∷ role ∷ kind ∷ []
   pub a_user : slice_get t.users n.user ≡ Some user
   pub a_role : slice_get t.roles n.role ≡ Some role
-  pub a_type : slice_get t.types n.kind ≡ Some kind
+  pub a_type : IsTypeText t kind n.kind
   pub admitted : (role ≡ object_role) ⊎ HasBoth t n
 
 -- ---- classes and permissions

@@ -7,21 +7,39 @@ use Rattle.std.specs.Ordering.{nat_cmp, on, then_cmp}
 use Rattle.std.specs.declared.cmp.Ordering.{Ordering}
 use Rattle.std.specs.declared.cmp.Ordering.TheVariants.{Equal}
 use Rattle.std.specs.List.Sorted.{IsStrictlySortedBy}
-use Rattle.std.proofs.lemmas.Cmp.{then_total, on_total, nat_cmp_total}
+use Rattle.std.proofs.lemmas.Cmp.{then_total, on_total, nat_cmp_total, nat_list_cmp_total}
+use Rattle.std.proofs.lemmas.Map.Lookups.{exact_bytes}
 use Rattle.cil_base.specs.Lists.{text_cmp}
 use Rattle.cil_classes.specs.declared.row.Class.{Class}
+use Rattle.cil_tables.specs.declared.tables.Alias.{Alias}
 use Rattle.cil_tables.specs.declared.tables.Link.{Link}
-use Rattle.cil_rules.specs.declared.rule.Rule.{Rule}
+use Rattle.cil_rules.specs.Rule.{Rule}
 use Rattle.cil_classes.specs.Row.{IsOrderlyClass, class_cmp}
 
 pub record Table : Type 0 where
   pub users : List (List ℕ)
   pub roles : List (List ℕ)
   pub types : List (List ℕ)
+  pub type_aliases : List Alias
   pub classes : List Class
   pub user_roles : List Link
   pub role_types : List Link
   pub allow : List Rule
+
+-- aliases stand in byte order of their names
+abbrev pub alias_cmp : Alias → Alias → Ordering
+alias_cmp = then_cmp (on (λ a. a.name) text_cmp) (on (λ a. a.target) nat_cmp)
+
+-- any two aliases have an order
+pub alias_total : IsTotalOrder alias_cmp
+alias_total = then_total (on_total (λ a. a.name) nat_list_cmp_total) (on_total (λ a. a.target) nat_cmp_total)
+
+pub same_alias : (a b : Alias) → a.name ≡ b.name → a.target ≡ b.target → a ≡ b
+same_alias a b p q = λ i. record { name = p i; target = q i }
+
+-- two aliases that tie are one
+pub one_alias : (a b : Alias) → alias_cmp a b ≡ Equal → a ≡ b
+one_alias a b e = let both = both_equal _ _ e in same_alias a b (exact_bytes _ _ both.0) (same_by _ _ both.1)
 
 -- links stand in the order of their holders, and of what these hold
 abbrev pub link_cmp : Link → Link → Ordering
@@ -43,6 +61,7 @@ pub record IsOrderly (t : Table) : Type 0 where
   pub users : IsStrictlySortedBy text_cmp t.users
   pub roles : IsStrictlySortedBy text_cmp t.roles
   pub types : IsStrictlySortedBy text_cmp t.types
+  pub type_aliases : IsStrictlySortedBy alias_cmp t.type_aliases
   pub classes : IsStrictlySortedBy class_cmp t.classes
   pub each_class : (c : Class) → Contains t.classes c → IsOrderlyClass c
   pub user_roles : IsStrictlySortedBy link_cmp t.user_roles

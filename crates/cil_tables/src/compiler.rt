@@ -7,7 +7,8 @@ ghost use Rattle.cil_blocks.specs.Places.{AreStandings, statements_in};
 ghost use Rattle.cil_macros.specs.Items.{items_in, namespaces_in};
 ghost use Rattle.cil_names.specs.declared.entry.Entry.{Entry as AnEntry};
 ghost use Rattle.cil_names.specs.Entries.{AreEntries, is_in};
-ghost use Rattle.cil_names.specs.Numbers.{ArePlainNames};
+ghost use Rattle.cil_names.specs.Known.{IsKnown, enabled_in, row_in};
+ghost use Rattle.cil_names.specs.Numbers.{AreApart, ArePlainNames, names_of};
 ghost use Rattle.cil_names.specs.PermissionWords.{meanings};
 ghost use Rattle.cil_names.specs.Rows.{IsTableOf};
 ghost use Rattle.cil_names.specs.Shared.{AreShared};
@@ -15,15 +16,18 @@ ghost use Rattle.cil_names.specs.Unresolved.{ArePermissions};
 ghost use Rattle.cil_tables.specs.CompileAnswer.{IsCompiled, IsCompiledOf, StandsIn};
 ghost use Rattle.cil_tables.specs.CompileRefusal.{CompileFails, ItemsFail};
 ghost use Rattle.cil_tables.specs.Compiled.{IsTable};
-ghost use Rattle.cil_classes.specs.Faults.{ClassFault};
+ghost use Rattle.cil_classes.specs.ClassRows.{AreRowsOf};
+ghost use Rattle.cil_tables.specs.SetsStep.{SetsFault};
+ghost use Rattle.cil_tables.specs.Standings.{AllStand};
 
-use crate::links::{Joins, links_of};
+use crate::both::{Both, together};
+use crate::sections::{Given, given_of};
+use crate::standings::{Standings, standings_of};
 use crate::tables::Tables;
 use cil_base::{Bytes, Names, NoMemory};
 use cil_blocks::{Spaces, inherit};
 use cil_classes::{Classes, classes};
 use cil_faults::Failure;
-use cil_index::Section;
 use cil_macros::{Instances, expand};
 use cil_modset::ModuleSet;
 use cil_names::{
@@ -33,8 +37,7 @@ use cil_names::{
 use cil_optionals::{
     Chosen, OptionalLine, Reason, WhyLine, greatest_of, optional_lines, why_lines,
 };
-use cil_rules::rules_of;
-use cil_syntax::{Keyword, Kind, written};
+use cil_syntax::written;
 use cil_words::{asks_of, judged, settled};
 use std::alloc::Global;
 
@@ -56,7 +59,7 @@ pub struct Compiled {
 /// stated order. (CIL Reference Guide.)
 ///
 /// Errors: the faults of the first step that has some (shape, blocks, calls, the limit of instances, clashing declarations,
-/// unresolved words outside optionals, classes that are too wide), or out of memory.
+/// unresolved words outside optionals, aliases, attributes and classes), or out of memory.
 pub fn compile(alloc: Global, modules: &ModuleSet) -> Result<Compiled, Failure>
     ensures compiled { IfOk result (IsCompiled modules.now) }
     ensures faults { IfErr result (CompileFails modules.now) }
@@ -72,7 +75,7 @@ pub fn compile(alloc: Global, modules: &ModuleSet) -> Result<Compiled, Failure>
 /// What all that stands compiles to.
 ///
 /// Errors: the faults of the first step that has some (calls, the limit of instances, clashing declarations, unresolved words
-/// outside optionals, classes that are too wide), or out of memory.
+/// outside optionals, aliases, attributes and classes), or out of memory.
 fn standing_policy(alloc: Global, stands: &Spaces) -> Result<Compiled, Failure>
     requires standings { AreStandings stands.now }
     requires nested { IsNested (statements_in stands.now) }
@@ -133,7 +136,7 @@ fn placed_policy(alloc: Global, instances: &Instances) -> Result<Compiled, Failu
 /// The tables of all that is placed, where its words have these meanings, and these are the classes and commons that statements
 /// join.
 ///
-/// Errors: the faults of classes (too wide, two commons), or out of memory.
+/// Errors: the faults of aliases, attributes and classes together, or out of memory.
 fn tables_of(
     alloc: Global,
     instances: &Instances,
@@ -148,22 +151,29 @@ fn tables_of(
     requires shared { AreShared (namespaces_in instances.now) lookup.now.names.now (items_in instances.now) shared.now }
     requires plain { ArePlainNames lookup.now.namespaces.now lookup.now.names.now }
     requires table { IsTableOf (map (meanings lookup.now.namespaces.now lookup.now.names.now permissions.now (is_in lookup.now.enabled.now)) (items_in instances.now)) words.now }
-    ensures { Answers (IsTable (items_in instances.now) (is_in lookup.now.enabled.now)) (ClassFault (is_in lookup.now.enabled.now) (items_in instances.now)) result }
+    ensures { Answers (IsTable (items_in instances.now) (is_in lookup.now.enabled.now)) (SetsFault (is_in lookup.now.enabled.now) (items_in instances.now)) result }
 {
     // What is known of the numbers of namespaces.
     lookup.namespaces.are_namespaces();
     let numbering = numbered(alloc, lookup)?;
-    let classes = classes(alloc, lookup, &numbering, permissions, shared, instances)?;
     let known = Known {
         lookup: *lookup,
         words,
         numbers: numbering.numbers.as_slice(),
         permissions,
     };
-    let user_roles = links_of(alloc, instances, &known, USER_ROLES)?;
-    let role_types = links_of(alloc, instances, &known, ROLE_TYPES)?;
-    let rules = rules_of(alloc, instances, &known, classes.rows.as_slice())?;
-    let allow = Section::of(alloc, rules.as_slice(), classes.rows.len())?;
+    let judged = judged_sets(alloc, instances, &known, &numbering, shared)?;
+    let Both {
+        first: classes,
+        second: stand,
+    } = judged;
+    let given = given_of(alloc, instances, &known, &stand, classes.rows.as_slice())?;
+    let Given {
+        user_roles,
+        role_types,
+        type_aliases,
+        allow,
+    } = given;
     let Classes { rows } = classes;
     let Numbering {
         sections,
@@ -179,6 +189,7 @@ fn tables_of(
         users: Names::from_vec(users),
         roles: Names::from_vec(roles),
         types: Names::from_vec(types),
+        type_aliases,
         classes: rows,
         user_roles,
         role_types,
@@ -186,16 +197,34 @@ fn tables_of(
     })
 }
 
-/// The statements that give users their roles.
-const USER_ROLES: Joins = Joins {
-    keyword: Keyword::UserRole,
-    holder_kind: Kind::User,
-    held_kind: Kind::Role,
-};
-
-/// The statements that give roles their types.
-const ROLE_TYPES: Joins = Joins {
-    keyword: Keyword::RoleType,
-    holder_kind: Kind::Role,
-    held_kind: Kind::Type_,
-};
+/// The classes of a policy, and what its words stand for.
+///
+/// Errors: the faults of aliases, attributes and classes together, or out of memory.
+fn judged_sets(
+    alloc: Global,
+    instances: &Instances,
+    known: &Known,
+    numbering: &Numbering,
+    shared: &[Shared],
+) -> Result<Both<Classes, Standings>, Failure>
+    requires namespaces { known.now.lookup.namespaces.now ≡ namespaces_in instances.now }
+    requires shared { AreShared (namespaces_in instances.now) known.now.lookup.names.now (items_in instances.now) shared.now }
+    requires table { IsTableOf (map (row_in known.now) (items_in instances.now)) known.now.words.now }
+    requires known { IsKnown known.now (items_in instances.now) (names_of numbering.now.sections) }
+    requires numbers { known.now.numbers.now ≡ numbering.now.numbers.items }
+    requires apart { AreApart known.now.lookup.names.now (enabled_in known.now) known.now.numbers.now }
+    ensures { Answers (λ both. AreRowsOf known.now.lookup.namespaces.now known.now.lookup.names.now (enabled_in known.now) known.now.permissions.now numbering.now.sections.classes.items both.first.rows.items
+        × AllStand known.now (items_in instances.now) (names_of numbering.now.sections) both.second)
+        (SetsFault (enabled_in known.now) (items_in instances.now)) result }
+{
+    let rows = classes(
+        alloc,
+        &known.lookup,
+        numbering,
+        known.permissions,
+        shared,
+        instances,
+    );
+    let standings = standings_of(alloc, known, instances, &numbering.sections);
+    together(rows, standings)
+}

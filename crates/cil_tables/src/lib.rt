@@ -7,14 +7,18 @@
 //! that modules have one answer. Questions to tables are a crate above.
 #![tactic(auto)]
 
+mod aliases;
+mod both;
 mod compiler;
 mod context;
 mod holders;
 pub mod laws;
 mod links;
+mod sections;
+mod standings;
 pub mod tables;
 
 pub use compiler::{Compiled, compile};
 pub use context::Context;
 pub use holders::Links;
-pub use tables::{Link, Tables};
+pub use tables::{Alias, Link, Tables};

@@ -6,7 +6,7 @@
 ghost use Rattle.std.specs.Prelude.{◌≡◌, refl};
 ghost use Rattle.std.specs.Cmp.{eq_by_cmp_equiv, partial_equiv_from_equiv, partial_order_from_total};
 ghost use Rattle.std.specs.Ordering.{as_partial_cmp, eq_by_cmp};
-ghost use Rattle.cil_tables.specs.Table.{link_cmp, link_total};
+ghost use Rattle.cil_tables.specs.Table.{alias_cmp, alias_total, link_cmp, link_total};
 
 use crate::holders::Links;
 use cil_base::{Bytes, Names};
@@ -64,12 +64,63 @@ impl Ord for Link {
     }
 }
 
+/// Another name of a type.
+#[derive(Debug, Drop)]
+pub struct Alias {
+    /// The qualified name.
+    pub name: Bytes,
+    /// The number of the type.
+    pub target: usize,
+}
+
+impl PartialEq for Alias {
+    ghost eq = { eq_by_cmp alias_cmp };
+
+    ghost laws = { partial_equiv_from_equiv (eq_by_cmp_equiv alias_total) };
+
+    fn eq(&self, other: &Alias) -> bool {
+        self.cmp(other) == Ordering::Equal
+    }
+}
+
+impl Eq for Alias {
+    ghost laws = { eq_by_cmp_equiv alias_total };
+}
+
+impl PartialOrd for Alias {
+    ghost partial_cmp = { as_partial_cmp alias_cmp };
+
+    ghost laws = { partial_order_from_total alias_total };
+
+    fn partial_cmp(&self, other: &Alias) -> Option<Ordering> {
+        Some(self.cmp(other))
+    }
+}
+
+impl Ord for Alias {
+    ghost cmp = { alias_cmp };
+
+    ghost total = { alias_total };
+
+    ghost matches_partial_cmp = { λ a b. refl };
+
+    ghost matches_eq = { λ a b. refl };
+
+    fn cmp(&self, other: &Alias) -> Ordering {
+        self.name
+            .as_slice()
+            .cmp(other.name.as_slice())
+            .then(self.target.cmp(&other.target))
+    }
+}
+
 /// The tables of a policy.
 #[derive(Debug, Drop)]
 pub struct Tables {
     pub(crate) users: Names,
     pub(crate) roles: Names,
     pub(crate) types: Names,
+    pub(crate) type_aliases: Vec<Alias>,
     pub(crate) classes: Vec<Class>,
     pub(crate) user_roles: Links,
     pub(crate) role_types: Links,
@@ -85,6 +136,7 @@ impl Model for Tables {
       users = a.users;
       roles = a.roles;
       types = a.types;
+      type_aliases = a.type_aliases.items;
       classes = a.classes.items;
       user_roles = a.user_roles;
       role_types = a.role_types;
@@ -95,6 +147,7 @@ impl Model for Tables {
       users = a.users;
       roles = a.roles;
       types = a.types;
+      type_aliases = a.type_aliases.items;
       classes = a.classes.items;
       user_roles = a.user_roles;
       role_types = a.role_types;
@@ -128,6 +181,14 @@ impl Tables {
         ensures orderly { IsOrderly self.now }
     {
         self.types.as_slice()
+    }
+
+    /// The aliases of the types, in byte order of their names.
+    pub fn type_aliases(&self) -> &[Alias]
+        ensures aliases { result.now ≡ self.now.type_aliases }
+        ensures orderly { IsOrderly self.now }
+    {
+        self.type_aliases.as_slice()
     }
 
     /// The rows of the classes, in byte order of their names.

@@ -1,15 +1,10 @@
 //! What rules cover, by their index and by a plain walk over the rules: for one type, several types and `self` on both sides, and with
 //! each growth refused.
 
-ghost use Rattle.std.specs.Prelude.{IfOk};
-ghost use Rattle.std.specs.List.Sorted.{IsStrictlySortedBy};
-ghost use Rattle.std.specs.Ordering.{nat_cmp};
-ghost use Rattle.cil_index.specs.Sets.{AreRising, IsRisingRule, IsRisingTarget};
-
 use cil_base::NoMemory;
 use cil_index::Section;
-use cil_rules::{Numbers, Rule, Target};
-use cil_sets::{Joining, Numbers as Set};
+use cil_rules::{NamedRule, Reach};
+use cil_sets::{Joining, Numbers};
 use std::alloc::Global;
 use std::test::Fail;
 
@@ -49,53 +44,49 @@ const TYPES: &[usize] = &[0, 1, 2, 3, 4, 5, 6, 69_989, 70_000, 70_009, usize::MA
 const ASKED: &[usize] = &[0, 1, 2, 3, 7, u32::MAX as usize, usize::MAX];
 
 /// The types of a range. Errors: out of memory.
-fn numbers_of(alloc: Global, range: Range) -> Result<Numbers, NoMemory>
-    ensures { IfOk result (IsStrictlySortedBy nat_cmp) }
-{
-    let before = Set::below(alloc, range.0)?;
-    let all = Set::below(alloc, range.1)?;
-    let set = all.joined(alloc, Joining::Without, &before)?;
-    let list = set.to_vec(alloc)?;
-    Numbers::from_slice(alloc, list.as_slice())
+fn numbers_of(alloc: Global, range: Range) -> Result<Numbers, NoMemory> {
+    let before = Numbers::below(alloc, range.0)?;
+    let all = Numbers::below(alloc, range.1)?;
+    all.joined(alloc, Joining::Without, &before)
+}
+
+/// Adds the types of a range, and answers their number. Errors: out of memory.
+fn push_set(alloc: Global, sets: &mut Vec<Numbers>, range: Range) -> Result<u32, NoMemory> {
+    let number = sets.len();
+    if number > u32::MAX as usize {
+        return Err(NoMemory);
+    }
+    sets.push(numbers_of(alloc, range)?)?;
+    Ok(number as u32)
 }
 
 /// What a row reaches. Errors: out of memory.
-fn target_of(alloc: Global, range: Option<Range>) -> Result<Target, NoMemory>
-    ensures { IfOk result IsRisingTarget }
-{
+fn reach_of(
+    alloc: Global,
+    sets: &mut Vec<Numbers>,
+    range: Option<Range>,
+) -> Result<Reach, NoMemory> {
     match range {
-        Some(range) => Ok(Target::Types(numbers_of(alloc, range)?)),
-        None => Ok(Target::Itself),
+        Some(range) => Ok(Reach::Types(push_set(alloc, sets, range)?)),
+        None => Ok(Reach::Itself),
     }
 }
 
-/// The rule of a row. Errors: out of memory.
-fn rule_of(alloc: Global, row: &Row) -> Result<Rule, NoMemory>
-    ensures { IfOk result IsRisingRule }
-{
-    Ok(Rule {
-        source: numbers_of(alloc, row.0)?,
-        target: target_of(alloc, row.1)?,
-        class: row.2,
-        mask: row.3,
-    })
-}
-
-/// The rules of all rows. Errors: out of memory.
-fn rules_of(alloc: Global, rows: &[Row]) -> Result<Vec<Rule>, NoMemory>
-    ensures { IfOk result (λ rules. AreRising rules.items) }
-{
+/// The rules of all rows, with their index: the sets of each row have numbers of their own. Errors: out of memory.
+fn section_of(alloc: Global, rows: &[Row]) -> Result<Section, NoMemory> {
+    let mut sets = Vec::new(alloc);
     let mut rules = Vec::new(alloc);
     for row in rows {
-        rules.push(rule_of(alloc, row)?)?;
+        let source = push_set(alloc, &mut sets, row.0)?;
+        let target = reach_of(alloc, &mut sets, row.1)?;
+        rules.push(NamedRule {
+            source,
+            target,
+            class: row.2,
+            mask: row.3,
+        })?;
     }
-    Ok(rules)
-}
-
-/// The rules of all rows, with their index. Errors: out of memory.
-fn section_of(alloc: Global, rows: &[Row]) -> Result<Section, NoMemory> {
-    let rules = rules_of(alloc, rows)?;
-    Section::of(alloc, rules.as_slice(), CLASSES)
+    Section::of(alloc, rules.as_slice(), sets.as_slice(), CLASSES)
 }
 
 /// Whether a type is in a range.

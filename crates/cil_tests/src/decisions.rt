@@ -6,7 +6,6 @@ use cil_decide::{
     ClassId, Context, class_named, decide, parse_context, permission_at, permission_named,
 };
 use cil_host::{Host, QueryFault};
-use cil_rules::Numbers;
 use cil_syntax::Bytes;
 use cil_tables::{Tables, compile};
 use cil_text_tests::set_of;
@@ -150,7 +149,7 @@ fn decides_as_a_walk_over_the_rules(rt: HostRuntime) -> Result<(), Fail> {
 }
 
 #[test]
-fn names_and_numbers_are_kept(rt: HostRuntime) -> Result<(), Fail> {
+fn names_are_kept(rt: HostRuntime) -> Result<(), Fail> {
     let alloc = rt.alloc();
     let name = Bytes::from_vec(Vec::from_slice(alloc, b"read")?);
     let copy = Bytes::copy_of(alloc, b"read")?;
@@ -158,8 +157,6 @@ fn names_and_numbers_are_kept(rt: HostRuntime) -> Result<(), Fail> {
     let names = Names::from_vec(vec![in alloc; name]?);
     assert_eq!(rt; names.as_slice().len(), 1);
     assert_eq!(rt; names.as_slice()[0].as_slice(), b"read".as_slice());
-    let numbers = Numbers::from_slice(alloc, &[1, 3])?;
-    assert_eq!(rt; numbers.as_slice(), [1, 3].as_slice());
     Ok(())
 }
 

@@ -74,6 +74,18 @@ const POLICIES: &[(&[&str], &str)] = &[
         &["(class c ())(common k (x))(common j (x))(classcommon c k)(classcommon c j)"],
         "56 0 53 . c\n56 0 70 . c\n",
     ),
+    // Aliases and attributes of types, roles and users; an alias without a target, and an attribute in itself.
+    (
+        &[
+            "(class c (p))(role r)(roleattribute ra)(roleattributeset ra (r))(user u)(userattribute ua)(userattributeset ua (u))(userrole ua ra)",
+            "(type a)(type b)(typealias x)(typealiasactual x a)(typeattribute z)(typeattributeset z (and (not (b)) all))(typeattribute y)(typeattributeset y (xor z (b)))(roletype ra y)(allow y z (c (p)))",
+        ],
+        "0 0",
+    ),
+    (
+        &["(typealias x)(typeattribute z)(typeattributeset z (not (z)))"],
+        "51 0 11 . x\n54 0 28 . z\n",
+    ),
     // Lists 100 deep. Constraints and conditions are not supported yet, so their trees are read alone.
     (
         &[

@@ -11,9 +11,12 @@ modules, compiles them into a policy, and then answers which permissions a proce
 context has on an object in another. The answers do not depend on the order of the modules.
 
 The statements that cilhost accepts are type, class, common, classcommon, role, user, roletype,
-userrole and allow, and block, blockabstract, blockinherit, macro, call and optional. Statements
-that label files, ports and the like, such as filecon, and settings, such as policycap, are accepted
-and have no effect. For now it refuses everything else in CIL by name, with fault 22.";
+userrole and allow; block, blockabstract, blockinherit, macro, call and optional; and typealias,
+typealiasactual, typeattribute, typeattributeset, roleattribute, roleattributeset, userattribute and
+userattributeset. Of typetransition, typechange, typemember, roletransition and expandtypeattribute
+the names are checked, and they have no effect. Statements that label files, ports and the like,
+such as filecon, and settings, such as policycap, are accepted and have no effect. For now it
+refuses everything else in CIL by name, with fault 22.";
 
 /// How the program is called.
 pub const EXAMPLE: &str = "Example:
@@ -32,9 +35,12 @@ The FILEs are installed from left to right. Then requests are read from standard
 and each reply is written to standard output, until QUIT or the end of the input.
 
 The statements that a FILE may have are type, class, common, classcommon, role, user, roletype,
-userrole and allow, and block, blockabstract, blockinherit, macro, call and optional. Statements
-that label files, ports and the like, such as filecon, and settings, such as policycap, are accepted
-and have no effect. For now LOAD refuses everything else in CIL by name, with fault 22.";
+userrole and allow; block, blockabstract, blockinherit, macro, call and optional; and typealias,
+typealiasactual, typeattribute, typeattributeset, roleattribute, roleattributeset, userattribute and
+userattributeset. Of typetransition, typechange, typemember, roletransition and expandtypeattribute
+the names are checked, and they have no effect. Statements that label files, ports and the like,
+such as filecon, and settings, such as policycap, are accepted and have no effect. For now LOAD
+refuses everything else in CIL by name, with fault 22.";
 
 /// What a file is.
 pub const FILE: &str = "A module, as text in CIL, of at most 4194304 bytes";
@@ -109,8 +115,9 @@ pub const REQUESTS: &str = "Requests:
                           the policy is the one that was loaded before
   AV source target class  What a process in the context source may do to an object of this class
                           in the context target. A context is user:role:type, where a type t of
-                          block b is b.t. Reply: OK, then the permissions that are allowed, those
-                          audited when allowed, and those audited when denied (- for none), or ERR
+                          block b is b.t, and an alias stands for its type. Reply: OK, then the
+                          permissions that are allowed, those audited when allowed, and those
+                          audited when denied (- for none), or ERR
   OPTIONALS               Which optionals of the policy are in force. Reply: OK with their number;
                           for each its module, place, namespace and label, as of a fault below, and
                           in where it is in force, else out; or ERR
@@ -145,8 +152,13 @@ Faults of a policy, one a line after FAULTS: NUMBER MODULE PLACE NAMESPACE WORD
   38  more than 1000000 statements, with those that are inherited or come by calls. It is reported
       alone, with module 0, place 0 and - as the word
   41  a word outside optionals that names nothing
+  51  an alias without a target
+  52  an alias with two different targets
+  53  an alias that leads to itself, in one or more steps
+  54  an attribute that depends on itself, in one or more steps
   55  a class of more than 32 permissions
   56  a class with two different commons
+  60  more than 65535 types, 4096 roles or 4096 users: WORD says which. It has module 0 and place 0
 
 From MODULE and PLACE to a file and a line: `cilhost locate FILE..` prints both. In a session:
   1. LIST replies OK, and then a line for each module: MODULE 0 is the first of these lines. It

@@ -1,18 +1,16 @@
-use Rattle.cil_index.proofs.GatherLemmas.{rule_there}
-use Rattle.cil_index.proofs.OrderLemmas.{record_all, record_more}
+use Rattle.std.proofs.Common.{map}
+use Rattle.cil_rules.specs.Kept.{rule_named}
+use Rattle.cil_index.proofs.OrderLemmas.{named_all, named_more, no_record}
 use Rattle.cil_index.proofs.record.unsorted.Goals as goal
 
-pub record_of-requires-clause-rising : goal.record_of-requires-clause-rising
-record_of-requires-clause-rising c = c.requires.rising c.rule-item.result (rule_there c.args.rules.now c.loop-rule.rule-index c.rule-item.result c.loop-rule-test.true c.rule-item.is)
-
-pub record_of-requires-clause-sets : goal.record_of-requires-clause-sets
-record_of-requires-clause-sets c = c.requires.sets c.rule-item.result (rule_there c.args.rules.now c.loop-rule.rule-index c.rule-item.result c.loop-rule-test.true c.rule-item.is)
+pub loop-rule-init : goal.loop-rule-init
+loop-rule-init c = λ distinct named are. no_record distinct (map (rule_named named) c.args.rules.now) _ c.in_ok-records.ensures.items
 
 pub loop-rule-preserved : goal.loop-rule-preserved
-loop-rule-preserved c =
-    record_more c.args.sets.now c.args.rules.now c.loop-rule.rule-index c.rule-item.result c.in_ok-record_of.field-0 c.loop-rule.records.items _ c.loop-rule-test.true c.rule-item.is
-    c.in_ok-record_of.ensures.rule c.in_ok-record_of.ensures.within c.in_ok-push.ensures.items c.loop-rule.invariant
+loop-rule-preserved c = λ distinct named are.
+    named_more distinct named c.args.numbers.now are c.args.rules.now c.loop-rule.rule-index _ c.record_of.result c.loop-rule.records.items _ c.loop-rule-test.true
+    (c.record_of.ensures distinct named are) c.in_ok-push.ensures.items (c.loop-rule.invariant distinct named are)
 
-pub returns-clause-rules : goal.returns-clause-rules
-returns-clause-rules c =
-    record_all c.args.sets.now c.args.rules.now c.loop-rule.rule-index c.loop-rule.records.items c.loop-rule-test.false c.loop-rule.invariant.0
+pub returns : goal.returns
+returns c = λ distinct named are.
+    named_all distinct named c.args.numbers.now are c.args.rules.now c.loop-rule.rule-index c.loop-rule.records.items c.loop-rule-test.false (c.loop-rule.invariant distinct named are)

@@ -1,7 +1,10 @@
-use Rattle.std.proofs.Common.{◌≡◌, map, take}
+use Rattle.std.proofs.Common.{◌≡◌, ℕ, List, map, take}
+use Rattle.cil_rules.specs.Kept.{rule_named}
 use Rattle.cil_index.specs.Kept.{rule_of}
 use Rattle.cil_index.specs.Order.{AreWithin}
+use Rattle.cil_index.specs.Sets.{AreNumbered}
 use Rattle.cil_index.proofs.record.unsorted.Given as goal
 
 abbrev pub invariant-loop-rule : goal.invariant-loop-rule
-invariant-loop-rule l = (map (rule_of l.sets) l.records.items ≡ take l.rule-index l.rules) × AreWithin l.sets l.records.items
+invariant-loop-rule l = (distinct named : List (List ℕ)) → AreNumbered distinct named l.numbers
+    → (map (rule_of distinct) l.records.items ≡ take l.rule-index (map (rule_named named) l.rules)) × AreWithin distinct l.records.items

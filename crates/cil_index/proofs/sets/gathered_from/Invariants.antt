@@ -1,8 +1,6 @@
-use Rattle.std.proofs.Common.{take}
+use Rattle.std.proofs.Common.{ℕ, List, take}
 use Rattle.std.specs.Prelude.{Contains}
-use Rattle.cil_rules.specs.declared.rule.Rule.{Rule}
-use Rattle.cil_index.specs.Sets.{HasSets}
 use Rattle.cil_index.proofs.sets.gathered_from.Given as goal
 
-abbrev pub invariant-loop-rule : goal.invariant-loop-rule
-invariant-loop-rule l = (r : Rule) → Contains (take l.rule-index l.rules) r → HasSets l.gathered r
+abbrev pub invariant-loop-set : goal.invariant-loop-set
+invariant-loop-set l = (set : List ℕ) → Contains (take l.set-index l.named) set → Contains l.gathered set

@@ -1,7 +1,7 @@
-use Rattle.std.proofs.Common.{subst, sym}
+use Rattle.std.proofs.Common.{refl, subst, sym}
 use Rattle.std.specs.Prelude.{Contains}
 use Rattle.cil_index.proofs.GatherLemmas.{moved}
-use Rattle.cil_index.proofs.NumberLemmas.{sets_listed, sets_rise}
+use Rattle.cil_index.proofs.NumberLemmas.{empty_number, sets_listed, sets_rise}
 use Rattle.cil_index.proofs.sets.sorted.Goals as goal
 
 pub invariant_of-result : goal.invariant_of-result
@@ -13,6 +13,9 @@ pub returns-clause-rising : goal.returns-clause-rising
 returns-clause-rising c =
     let listed = sets_listed _ _ _ c.sort_unstable.ensures.permutation c.sort_unstable.ensures.sorted c.dedup.ensures.filtered in
     sets_rise c.gathered.inside.ones _ (λ set has. c.gathered.invariant set ((listed.members set).0 has)) listed.rising
+
+pub returns-clause-empty : goal.returns-clause-empty
+returns-clause-empty c = empty_number c.gathered.inside.ones _ _ refl _ refl
 
 pub returns-clause-all : goal.returns-clause-all
 returns-clause-all c = λ set has.

@@ -1,11 +1,11 @@
-use Rattle.std.proofs.Common.{List, refl, subst, sym}
+use Rattle.std.proofs.Common.{List, inl, refl, subst, sym}
 use Rattle.std.specs.Prelude.{Contains}
 use Rattle.std.specs.List.Sorted.{IsStrictlySortedBy}
 use Rattle.cil_base.specs.Lists.{text_cmp}
 use Rattle.cil_syntax.specs.declared.kind.Kind.TheVariants as kinds
 use Rattle.cil_macros.specs.Items.{items_in}
 use Rattle.cil_names.specs.Entries.{is_in}
-use Rattle.cil_names.specs.Numbers.{AreNumbers, names_of}
+use Rattle.cil_names.specs.Numbers.{AreApart, AreNumbers, names_of}
 use Rattle.cil_classes.specs.declared.row.Class.{Class}
 use Rattle.cil_base.specs.Gives.{Gives}
 use Rattle.cil_syntax.specs.declared.kind.Keyword.TheVariants as keywords
@@ -13,32 +13,22 @@ use Rattle.cil_rules.specs.Records.{IsCase, IsRuleOf}
 use Rattle.cil_rules.specs.Order.{rule_cmp}
 use Rattle.cil_classes.specs.ClassRows.{AreClasses}
 use Rattle.cil_names.specs.Known.{AreKnown}
-use Rattle.cil_index.specs.Sets.{AreRising}
-use Rattle.cil_rules.specs.declared.rule.Rule.{Rule}
-use Rattle.cil_tables.proofs.JoinLemmas.{rules_rise, section_gives, table_of}
+use Rattle.cil_tables.proofs.JoinLemmas.{table_of}
 use Rattle.cil_tables.proofs.NamedLemmas.{class_of_row, classes_are, classes_given, classes_rise, names_are, rows_rise}
 use Rattle.cil_tables.proofs.WideClasses.{few}
 use Rattle.cil_tables.proofs.compiler.tables_of.Goals as goal
 
-pub classes-requires-clause-numbers : goal.classes-requires-clause-numbers
-classes-requires-clause-numbers c = c.in_ok-numbering.ensures.numbers
+pub judged_sets-requires-clause-namespaces : goal.judged_sets-requires-clause-namespaces
+judged_sets-requires-clause-namespaces c = c.requires.namespaces
 
-pub classes-requires-clause-apart : goal.classes-requires-clause-apart
-classes-requires-clause-apart c = c.in_ok-numbering.ensures.apart c.requires.plain
+pub judged_sets-requires-clause-shared : goal.judged_sets-requires-clause-shared
+judged_sets-requires-clause-shared c = c.requires.shared
 
-pub rules_of-requires-clause-rising : goal.rules_of-requires-clause-rising
-rules_of-requires-clause-rising c = λ row member.
-    rows_rise c.args.lookup.now.namespaces.now (items_in c.args.instances.now) c.args.lookup.now.names.now c.requires.entries (is_in c.args.lookup.now.enabled.now) c.in_ok-numbering.numbering.sections c.in_ok-numbering.numbering.numbers.items c.in_ok-numbering.ensures.numbers (c.in_ok-numbering.ensures.apart c.requires.plain) c.args.permissions.now c.requires.permissions c.in_ok-classes.classes.rows.items c.in_ok-classes.ensures.0 row
-    (subst (λ (rows : List Class). Contains rows row) c.as_slice-2.ensures.value member)
+pub judged_sets-requires-clause-table : goal.judged_sets-requires-clause-table
+judged_sets-requires-clause-table c = c.requires.table
 
-pub rules_of-requires-clause-few : goal.rules_of-requires-clause-few
-rules_of-requires-clause-few c = λ row member.
-    let k = class_of_row c.args.lookup.now.namespaces.now (items_in c.args.instances.now) c.args.lookup.now.names.now c.requires.entries (is_in c.args.lookup.now.enabled.now) c.in_ok-numbering.numbering.sections c.in_ok-numbering.numbering.numbers.items c.in_ok-numbering.ensures.numbers (c.in_ok-numbering.ensures.apart c.requires.plain) c.args.permissions.now c.requires.permissions c.in_ok-classes.classes.rows.items c.in_ok-classes.ensures.0 row
-    (subst (λ (rows : List Class). Contains rows row) c.as_slice-2.ensures.value member) in
-    few (items_in c.args.instances.now) (is_in c.args.lookup.now.enabled.now) c.in_ok-classes.ensures.1 k.0 row k.1 k.2
-
-pub of-requires : goal.of-requires
-of-requires c =
+pub judged_sets-requires-clause-known : goal.judged_sets-requires-clause-known
+judged_sets-requires-clause-known c =
     let known : AreKnown c.args.lookup.now.namespaces.now (items_in c.args.instances.now) c.args.lookup.now.names.now (is_in c.args.lookup.now.enabled.now) (names_of c.in_ok-numbering.numbering.sections) c.as_slice.result.now c.args.permissions.now =
     record {
       namespaces = c.are_namespaces.ensures;
@@ -46,12 +36,27 @@ of-requires c =
       numbered = subst (AreNumbers c.args.lookup.now.namespaces.now c.args.lookup.now.names.now (is_in c.args.lookup.now.enabled.now) (names_of c.in_ok-numbering.numbering.sections)) (sym c.as_slice.ensures.value) c.in_ok-numbering.ensures.numbers;
       permissions = c.requires.permissions;
     } in
-    let classes : AreClasses (items_in c.args.instances.now) (is_in c.args.lookup.now.enabled.now) c.in_ok-numbering.numbering.sections.classes.items c.as_slice-2.result.now =
-    subst (AreClasses (items_in c.args.instances.now) (is_in c.args.lookup.now.enabled.now) c.in_ok-numbering.numbering.sections.classes.items) (sym c.as_slice-2.ensures.value)
-    (classes_are c.args.lookup.now.namespaces.now (items_in c.args.instances.now) c.args.lookup.now.names.now c.requires.entries (is_in c.args.lookup.now.enabled.now) c.in_ok-numbering.numbering.sections c.in_ok-numbering.numbering.numbers.items c.in_ok-numbering.ensures.numbers (c.in_ok-numbering.ensures.apart c.requires.plain) c.args.permissions.now c.requires.permissions c.in_ok-classes.classes.rows.items c.in_ok-classes.ensures.0) in
-    subst (λ (z : List Rule). AreRising z) (sym c.as_slice-3.ensures.value)
-    (rules_rise (items_in c.args.instances.now) (is_in c.args.lookup.now.enabled.now) (names_of c.in_ok-numbering.numbering.sections kinds.Type_) c.as_slice-2.result.now _
-    (c.in_ok-rules.ensures (names_of c.in_ok-numbering.numbering.sections) known classes))
+    known
+
+pub judged_sets-requires-clause-numbers : goal.judged_sets-requires-clause-numbers
+judged_sets-requires-clause-numbers c = c.as_slice.ensures.value
+
+pub judged_sets-requires-clause-apart : goal.judged_sets-requires-clause-apart
+judged_sets-requires-clause-apart c = subst (AreApart c.args.lookup.now.names.now (is_in c.args.lookup.now.enabled.now)) (sym c.as_slice.ensures.value) (c.in_ok-numbering.ensures.apart c.requires.plain)
+
+pub given_of-requires-clause-ordered : goal.given_of-requires-clause-ordered
+given_of-requires-clause-ordered c = c.requires.entries.ordered
+
+pub given_of-requires-clause-rising : goal.given_of-requires-clause-rising
+given_of-requires-clause-rising c = λ row member.
+    rows_rise c.args.lookup.now.namespaces.now (items_in c.args.instances.now) c.args.lookup.now.names.now c.requires.entries (is_in c.args.lookup.now.enabled.now) c.in_ok-numbering.numbering.sections c.in_ok-numbering.numbering.numbers.items c.in_ok-numbering.ensures.numbers (c.in_ok-numbering.ensures.apart c.requires.plain) c.args.permissions.now c.requires.permissions c.in_ok-judged.judged.first.rows.items c.in_ok-judged.ensures.0.0 row
+    (subst (λ (rows : List Class). Contains rows row) c.as_slice-2.ensures.value member)
+
+pub given_of-requires-clause-few : goal.given_of-requires-clause-few
+given_of-requires-clause-few c = λ row member.
+    let k = class_of_row c.args.lookup.now.namespaces.now (items_in c.args.instances.now) c.args.lookup.now.names.now c.requires.entries (is_in c.args.lookup.now.enabled.now) c.in_ok-numbering.numbering.sections c.in_ok-numbering.numbering.numbers.items c.in_ok-numbering.ensures.numbers (c.in_ok-numbering.ensures.apart c.requires.plain) c.args.permissions.now c.requires.permissions c.in_ok-judged.judged.first.rows.items c.in_ok-judged.ensures.0.0 row
+    (subst (λ (rows : List Class). Contains rows row) c.as_slice-2.ensures.value member) in
+    few (items_in c.args.instances.now) (is_in c.args.lookup.now.enabled.now) (λ f e. c.in_ok-judged.ensures.1 f (inl e)) k.0 row k.1 k.2
 
 pub invariant_of-result : goal.invariant_of-result
 invariant_of-result c =
@@ -62,16 +67,21 @@ invariant_of-result c =
       numbered = subst (AreNumbers c.args.lookup.now.namespaces.now c.args.lookup.now.names.now (is_in c.args.lookup.now.enabled.now) (names_of c.in_ok-numbering.numbering.sections)) (sym c.as_slice.ensures.value) c.in_ok-numbering.ensures.numbers;
       permissions = c.requires.permissions;
     } in
+    let classes : AreClasses (items_in c.args.instances.now) (is_in c.args.lookup.now.enabled.now) c.in_ok-numbering.numbering.sections.classes.items c.as_slice-2.result.now =
+    subst (AreClasses (items_in c.args.instances.now) (is_in c.args.lookup.now.enabled.now) c.in_ok-numbering.numbering.sections.classes.items) (sym c.as_slice-2.ensures.value)
+    (classes_are c.args.lookup.now.namespaces.now (items_in c.args.instances.now) c.args.lookup.now.names.now c.requires.entries (is_in c.args.lookup.now.enabled.now) c.in_ok-numbering.numbering.sections c.in_ok-numbering.numbering.numbers.items c.in_ok-numbering.ensures.numbers (c.in_ok-numbering.ensures.apart c.requires.plain) c.args.permissions.now c.requires.permissions c.in_ok-judged.judged.first.rows.items c.in_ok-judged.ensures.0.0) in
+    let given = c.in_ok-given.ensures (names_of c.in_ok-numbering.numbering.sections) known (c.in_ok-judged.ensures.0.1) classes in
     record {
       users = subst (IsStrictlySortedBy text_cmp) (sym c.from_vec.ensures) (c.in_ok-numbering.ensures.numbers.lists kinds.User refl).rising;
       roles = subst (IsStrictlySortedBy text_cmp) (sym c.from_vec-2.ensures) (c.in_ok-numbering.ensures.numbers.lists kinds.Role refl).rising;
       types = subst (IsStrictlySortedBy text_cmp) (sym c.from_vec-3.ensures) (c.in_ok-numbering.ensures.numbers.lists kinds.Type_ refl).rising;
-      classes = classes_rise c.args.lookup.now.namespaces.now (items_in c.args.instances.now) c.args.lookup.now.names.now c.requires.entries (is_in c.args.lookup.now.enabled.now) c.in_ok-numbering.numbering.sections c.in_ok-numbering.numbering.numbers.items c.in_ok-numbering.ensures.numbers (c.in_ok-numbering.ensures.apart c.requires.plain) c.args.permissions.now c.requires.permissions c.in_ok-classes.classes.rows.items c.in_ok-classes.ensures.0;
-      user_roles = (c.in_ok-user_roles.ensures (names_of c.in_ok-numbering.numbering.sections) known).rising;
-      role_types = (c.in_ok-role_types.ensures (names_of c.in_ok-numbering.numbering.sections) known).rising;
+      classes = classes_rise c.args.lookup.now.namespaces.now (items_in c.args.instances.now) c.args.lookup.now.names.now c.requires.entries (is_in c.args.lookup.now.enabled.now) c.in_ok-numbering.numbering.sections c.in_ok-numbering.numbering.numbers.items c.in_ok-numbering.ensures.numbers (c.in_ok-numbering.ensures.apart c.requires.plain) c.args.permissions.now c.requires.permissions c.in_ok-judged.judged.first.rows.items c.in_ok-judged.ensures.0.0;
+      type_aliases = given.type_aliases.rising;
+      user_roles = given.user_roles.rising;
+      role_types = given.role_types.rising;
       each_class = λ row member.
-          let k = class_of_row c.args.lookup.now.namespaces.now (items_in c.args.instances.now) c.args.lookup.now.names.now c.requires.entries (is_in c.args.lookup.now.enabled.now) c.in_ok-numbering.numbering.sections c.in_ok-numbering.numbering.numbers.items c.in_ok-numbering.ensures.numbers (c.in_ok-numbering.ensures.apart c.requires.plain) c.args.permissions.now c.requires.permissions c.in_ok-classes.classes.rows.items c.in_ok-classes.ensures.0 row member in
-          record { permissions = k.2.permissions.rising; few = few (items_in c.args.instances.now) (is_in c.args.lookup.now.enabled.now) c.in_ok-classes.ensures.1 k.0 row k.1 k.2 };
+          let k = class_of_row c.args.lookup.now.namespaces.now (items_in c.args.instances.now) c.args.lookup.now.names.now c.requires.entries (is_in c.args.lookup.now.enabled.now) c.in_ok-numbering.numbering.sections c.in_ok-numbering.numbering.numbers.items c.in_ok-numbering.ensures.numbers (c.in_ok-numbering.ensures.apart c.requires.plain) c.args.permissions.now c.requires.permissions c.in_ok-judged.judged.first.rows.items c.in_ok-judged.ensures.0.0 row member in
+          record { permissions = k.2.permissions.rising; few = few (items_in c.args.instances.now) (is_in c.args.lookup.now.enabled.now) (λ f e. c.in_ok-judged.ensures.1 f (inl e)) k.0 row k.1 k.2 };
     }
 
 pub returns : goal.returns
@@ -86,16 +96,16 @@ returns c =
     let names = names_are c.args.lookup.now.namespaces.now (items_in c.args.instances.now) c.args.lookup.now.names.now c.requires.entries (is_in c.args.lookup.now.enabled.now) in
     let classes : AreClasses (items_in c.args.instances.now) (is_in c.args.lookup.now.enabled.now) c.in_ok-numbering.numbering.sections.classes.items c.as_slice-2.result.now =
     subst (AreClasses (items_in c.args.instances.now) (is_in c.args.lookup.now.enabled.now) c.in_ok-numbering.numbering.sections.classes.items) (sym c.as_slice-2.ensures.value)
-    (classes_are c.args.lookup.now.namespaces.now (items_in c.args.instances.now) c.args.lookup.now.names.now c.requires.entries (is_in c.args.lookup.now.enabled.now) c.in_ok-numbering.numbering.sections c.in_ok-numbering.numbering.numbers.items c.in_ok-numbering.ensures.numbers (c.in_ok-numbering.ensures.apart c.requires.plain) c.args.permissions.now c.requires.permissions c.in_ok-classes.classes.rows.items c.in_ok-classes.ensures.0) in (
-      table_of (items_in c.args.instances.now) (is_in c.args.lookup.now.enabled.now) (names_of c.in_ok-numbering.numbering.sections) _ _ _ c.in_ok-classes.classes.rows.items _ _ _
+    (classes_are c.args.lookup.now.namespaces.now (items_in c.args.instances.now) c.args.lookup.now.names.now c.requires.entries (is_in c.args.lookup.now.enabled.now) c.in_ok-numbering.numbering.sections c.in_ok-numbering.numbering.numbers.items c.in_ok-numbering.ensures.numbers (c.in_ok-numbering.ensures.apart c.requires.plain) c.args.permissions.now c.requires.permissions c.in_ok-judged.judged.first.rows.items c.in_ok-judged.ensures.0.0) in
+    let given = c.in_ok-given.ensures (names_of c.in_ok-numbering.numbering.sections) known (c.in_ok-judged.ensures.0.1) classes in (
+      table_of (items_in c.args.instances.now) (is_in c.args.lookup.now.enabled.now) (names_of c.in_ok-numbering.numbering.sections) _ _ _ _ c.in_ok-judged.judged.first.rows.items _ _ _
           c.from_vec.ensures c.from_vec-2.ensures c.from_vec-3.ensures
           (names kinds.User _ (c.in_ok-numbering.ensures.numbers.lists kinds.User refl)) (names kinds.Role _ (c.in_ok-numbering.ensures.numbers.lists kinds.Role refl))
           (names kinds.Type_ _ (c.in_ok-numbering.ensures.numbers.lists kinds.Type_ refl))
-          (classes_given c.args.lookup.now.namespaces.now (items_in c.args.instances.now) c.args.lookup.now.names.now c.requires.entries (is_in c.args.lookup.now.enabled.now) c.in_ok-numbering.numbering.sections c.in_ok-numbering.numbering.numbers.items c.in_ok-numbering.ensures.numbers (c.in_ok-numbering.ensures.apart c.requires.plain) c.args.permissions.now c.requires.permissions c.in_ok-classes.classes.rows.items c.in_ok-classes.ensures.0)
-          (c.in_ok-user_roles.ensures (names_of c.in_ok-numbering.numbering.sections) known) (c.in_ok-role_types.ensures (names_of c.in_ok-numbering.numbering.sections) known)
-          (subst (λ (rows : List Class). Gives rule_cmp (IsCase (items_in c.args.instances.now) (is_in c.args.lookup.now.enabled.now) keywords.Allow) (IsRuleOf (items_in c.args.instances.now) (is_in c.args.lookup.now.enabled.now) (names_of c.in_ok-numbering.numbering.sections kinds.Type_) rows) c.in_ok-allow.allow)
-          c.as_slice-2.ensures.value (section_gives _ _ _ c.as_slice-3.result.now _ c.in_ok-allow.ensures
-          (subst (λ (z : List Rule). Gives rule_cmp (IsCase (items_in c.args.instances.now) (is_in c.args.lookup.now.enabled.now) keywords.Allow) (IsRuleOf (items_in c.args.instances.now) (is_in c.args.lookup.now.enabled.now) (names_of c.in_ok-numbering.numbering.sections kinds.Type_) c.as_slice-2.result.now) z)
-          (sym c.as_slice-3.ensures.value) (c.in_ok-rules.ensures (names_of c.in_ok-numbering.numbering.sections) known classes)))),
-      c.in_ok-classes.ensures.1,
+          given.type_aliases
+          (classes_given c.args.lookup.now.namespaces.now (items_in c.args.instances.now) c.args.lookup.now.names.now c.requires.entries (is_in c.args.lookup.now.enabled.now) c.in_ok-numbering.numbering.sections c.in_ok-numbering.numbering.numbers.items c.in_ok-numbering.ensures.numbers (c.in_ok-numbering.ensures.apart c.requires.plain) c.args.permissions.now c.requires.permissions c.in_ok-judged.judged.first.rows.items c.in_ok-judged.ensures.0.0)
+          given.user_roles given.role_types
+          (subst (λ (rows : List Class). Gives rule_cmp (IsCase (items_in c.args.instances.now) (is_in c.args.lookup.now.enabled.now) keywords.Allow) (IsRuleOf (items_in c.args.instances.now) (is_in c.args.lookup.now.enabled.now) (names_of c.in_ok-numbering.numbering.sections kinds.Type_) rows) c.in_ok-given.given.allow)
+          c.as_slice-2.ensures.value given.allow),
+      c.in_ok-judged.ensures.1,
     )

@@ -1,0 +1,6 @@
+use Rattle.std.proofs.Common.{take}
+use Rattle.cil_decide.proofs.ContextParts.{NoneOf}
+use Rattle.cil_decide.proofs.context.by_alias.Given as goal
+
+abbrev pub invariant-loop-alias : goal.invariant-loop-alias
+invariant-loop-alias l = NoneOf l.tables l.parts.role.now l.parts.kind.now l.user l.role (take l.alias-index l.alias-items)

@@ -1,0 +1,6 @@
+use Rattle.cil_index.proofs.OrderLemmas.{kept_is}
+use Rattle.cil_index.proofs.record.record_of.Goals as goal
+
+pub returns : goal.returns
+returns c = λ distinct named are.
+    kept_is distinct named c.args.numbers.now are c.args.rule.now c.number_at.result c.reach_of.result c.number_at.ensures (c.reach_of.ensures distinct named are)

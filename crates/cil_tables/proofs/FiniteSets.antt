@@ -1,0 +1,107 @@
+-- The faults of sets are finite where no set has members.
+use Rattle.std.specs.Prelude.{Contains, Option, Some, None, codes}
+use Rattle.std.specs.Option.{option_map_or}
+use Rattle.std.proofs.Common.{◌≡◌, ◌⊎◌, ◌↔◌, ℕ, ◌<◌, Bool, ◌||◌, true, false, List, length, refl, sym, ◌∙◌, ap, subst, inl, inr, arith}
+use Rattle.std.proofs.lemmas.Bool.{cases_lt, true≢false}
+use Rattle.std.proofs.lemmas.Cmp.{nat_list_cmp_total}
+use Rattle.std.proofs.lemmas.Map.Lookups.{exact_bytes}
+use Rattle.std.proofs.lemmas.Option.{none-some, same_Some}
+use Rattle.cil_base.specs.Decided.{Decided}
+use Rattle.cil_base.specs.Lists.{Lists, one_list, text_cmp}
+use Rattle.cil_base.specs.Listing.{Listing}
+use Rattle.cil_faults.specs.Reported.{global_fault}
+use Rattle.cil_faults.specs.declared.code.FaultCode.TheVariants as causes
+use Rattle.cil_faults.specs.declared.fault.Fault.{Fault}
+use Rattle.cil_syntax.specs.declared.kind.Kind.{Kind}
+use Rattle.cil_syntax.specs.declared.kind.Kind.TheVariants as kinds
+use Rattle.cil_syntax.specs.declared.kind.Keyword.{Keyword}
+use Rattle.cil_syntax.specs.Table.{entry_of}
+use Rattle.cil_macros.specs.Item.{Item, OptSet}
+use Rattle.cil_names.specs.Declarations.{Symbol, name_of, nowhere}
+use Rattle.cil_names.specs.Members.{space_of}
+use Rattle.cil_names.specs.Spaces.{Sets, any_sets}
+use Rattle.cil_names.proofs.MemberLemmas.{item_of}
+use Rattle.cil_attrs.specs.SetFaults.{AliasTwice, CircularSet, IsItemName, OpenAlias, SetFault, TooMany, alias_cycle, alias_open, alias_twice, limit_of, many, set_cycle}
+use Rattle.cil_classes.specs.Faults.{ClassFault}
+use Rattle.cil_tables.specs.Compiled.{IsNameOf}
+use Rattle.cil_tables.specs.SetsStep.{MembersFault, SetsFault}
+use Rattle.cil_tables.proofs.Finite.{Finite, finite_either, finite_if, finite_listing, finite_nothing, finite_same}
+use Rattle.cil_tables.proofs.FiniteFaults.{finite_class}
+use Rattle.cil_tables.proofs.FinitePolicy.{finite_names}
+use Rattle.cil_tables.proofs.NoGifts.{HaveFlatKeywords, declares_no_alias, gives_none, none_depends}
+
+decided_less : (a b : ℕ) → Decided (a < b)
+decided_less a b = elim (cases_lt a b) [ inl less ↦ inl less | inr ge ↦ inr (λ less. absurd (omega (arith, less, ge))) ]
+
+-- only types have aliases
+alias_kind : (kind : Kind) (j : Sets) → (space_of kind).aliases ≡ Some j → j.kind ≡ kinds.TypeAlias
+alias_kind kinds.Type_ j e = ap (λ (i : Sets). i.kind) (sym (same_Some _ j e))
+alias_kind kinds.Role j e = absurd (none-some j e)
+alias_kind kinds.User j e = absurd (none-some j e)
+alias_kind kind j e = absurd (none-some j e)
+
+gives_one : (kind : Kind) (j : Sets) (k : Keyword) → (space_of kind).aliases ≡ Some j → j.giving k ≡ true → any_sets (space_of kind) (λ i. i.giving k) ≡ true
+gives_one kind j k e g = ap (λ o. option_map_or (λ (i : Sets). i.giving k) o false || option_map_or (λ (i : Sets). i.giving k) (space_of kind).attributes false) e ∙ ap (λ b. b || option_map_or (λ (i : Sets). i.giving k) (space_of kind).attributes false) g
+
+module _ (xs : List Item) (flat : HaveFlatKeywords xs) (s : OptSet) (kind : Kind) where
+  no_open : (f : Fault) → OpenAlias xs s (space_of kind) f → ⊥
+  no_open f o =
+      declares_no_alias o.item.keyword (flat o.item o.declares.is_item) (subst (Contains (entry_of o.item.keyword).declares) (alias_kind kind o.sets o.are_aliases) o.declares.of_kind)
+
+  no_twice : (f : Fault) → AliasTwice xs s (space_of kind) f → ⊥
+  no_twice f t =
+      true≢false (sym (gives_one kind t.sets t.item.keyword t.are_aliases t.says_first.giving) ∙ gives_none kind t.item.keyword (flat t.item t.says_first.is_item))
+
+  -- the names of the items
+  its_names : Listing text_cmp (IsNameOf xs s (space_of kind).item)
+  its_names = finite_listing text_cmp nat_list_cmp_total exact_bytes (IsNameOf xs s (space_of kind).item) (finite_names xs s (space_of kind).item)
+
+  names_alike : (name : List ℕ) → IsNameOf xs s (space_of kind).item name ↔ IsItemName xs s (space_of kind).item name
+  names_alike name = (λ n. (n.symbol, n.declared, n.named), λ h. record { symbol = h.0; declared = h.1; named = h.2 })
+
+  module _ (limit : ℕ) (word : List ℕ) (is_limit : limit_of (space_of kind).item ≡ Some (limit, word)) where
+    abbrev IsOver : Fault → Type 0
+    IsOver f = (global_fault causes.TooMany nowhere word ≡ f) × (limit < length its_names.list)
+
+    finite_over : Finite IsOver
+    finite_over = finite_if (limit < length its_names.list) (global_fault causes.TooMany nowhere word) (decided_less limit (length its_names.list))
+
+    over_there : (f : Fault) → IsOver f → SetFault xs s (space_of kind) f
+    over_there f h = many (record {
+      names = its_names.list;
+      are_names = record { rising = its_names.lists.rising; members = λ n. (λ c. (names_alike n).0 ((its_names.lists.members n).0 c), λ i. (its_names.lists.members n).1 ((names_alike n).1 i)) };
+      limit = limit;
+      word = word;
+      is_limit = is_limit;
+      many = h.1;
+      told = sym h.0;
+    })
+
+    over_back : (f : Fault) → SetFault xs s (space_of kind) f → IsOver f
+    over_back f (alias_open o) = absurd (no_open f o)
+    over_back f (alias_twice t) = absurd (no_twice f t)
+    over_back f (alias_cycle c) = absurd (none_depends xs flat s kind _ _ c.depends)
+    over_back f (set_cycle c) = absurd (none_depends xs flat s kind _ _ c.depends)
+    over_back f (many m) =
+        let same = same_Some (limit, word) (m.limit, m.word) (sym is_limit ∙ m.is_limit) in
+        let one : m.names ≡ its_names.list =
+        one_list text_cmp nat_list_cmp_total (IsItemName xs s (space_of kind).item) m.names its_names.list m.are_names
+        (record { rising = its_names.lists.rising; members = λ n. (λ c. (names_alike n).0 ((its_names.lists.members n).0 c), λ i. (its_names.lists.members n).1 ((names_alike n).1 i)) }) in
+        let counted = ap length one in
+        let limits : limit ≡ m.limit = ap (λ (p : ℕ × List ℕ). p.0) same in
+        let over = m.many in
+        (ap (λ (p : ℕ × List ℕ). global_fault causes.TooMany nowhere p.1) same ∙ sym m.told, omega (arith, counted, limits, over))
+
+    finite_set_faults : Finite (SetFault xs s (space_of kind))
+    finite_set_faults = finite_same IsOver (SetFault xs s (space_of kind)) over_there over_back finite_over
+
+module _ (xs : List Item) (flat : HaveFlatKeywords xs) (s : OptSet) where
+  finite_members : Finite (MembersFault s xs)
+  finite_members =
+      finite_either (SetFault xs s (space_of kinds.User)) (λ f. SetFault xs s (space_of kinds.Role) f ⊎ SetFault xs s (space_of kinds.Type_) f)
+      (finite_set_faults xs flat s kinds.User 4096 (codes "users") refl)
+      (finite_either (SetFault xs s (space_of kinds.Role)) (SetFault xs s (space_of kinds.Type_)) (finite_set_faults xs flat s kinds.Role 4096 (codes "roles") refl)
+      (finite_set_faults xs flat s kinds.Type_ 65535 (codes "types") refl))
+
+  pub finite_sets : Finite (SetsFault s xs)
+  finite_sets = finite_either (ClassFault s xs) (MembersFault s xs) (finite_class xs s) finite_members

@@ -1,0 +1,18 @@
+use Rattle.std.proofs.Common.{◌≡◌, ◌⊎◌, Contains, [], set, ◌∙◌, subst}
+use Rattle.std.specs.Ordering.{nat_cmp}
+use Rattle.std.proofs.lemmas.List.{get_or_read}
+use Rattle.cil_base.specs.Lists.{Lists}
+use Rattle.cil_tables.specs.Table.{link_cmp}
+use Rattle.cil_tables.specs.Holders.{links_from}
+use Rattle.cil_tables.proofs.HolderLemmas.{links_united}
+use Rattle.cil_tables.proofs.holders.Links.unite.Goals as goal
+
+pub returns : goal.returns
+returns c =
+    let rows = c.reach.new.rows.items in
+    let row = c.add_all.new.set in
+    let within = c.in_ok-reach.ensures.reached in
+    let value = get_or_read rows c.args.holder c.index_mut.result.now within c.index_mut.ensures.value [] in
+    let added = subst (λ old. Lists nat_cmp (λ v. Contains old v ⊎ Contains c.args.helds.now v) row) value c.in_ok-add_all.ensures.added in
+    subst (λ old. Lists link_cmp (λ l. Contains old l ⊎ ((l.holder ≡ c.args.holder) × Contains c.args.helds.now l.held)) (links_from 0 (set rows c.args.holder row))) (c.in_ok-reach.ensures.links ∙ c.self.view_is)
+    (links_united rows c.args.holder c.args.helds.now row within added (c.in_ok-reach.ensures.rising c.self.invariant))

@@ -1,0 +1,115 @@
+//! The sections of a table that statements give: links, aliases and rules.
+
+ghost use Rattle.std.specs.Prelude.{◌≡◌, ◌≤◌, ℕ, Contains, IfOk, List, length, map};
+ghost use Rattle.std.specs.List.Sorted.{IsStrictlySortedBy};
+ghost use Rattle.cil_base.specs.Gives.{Gives};
+ghost use Rattle.cil_base.specs.Lists.{text_cmp};
+ghost use Rattle.cil_syntax.specs.declared.kind.Keyword.TheVariants as keywords;
+ghost use Rattle.cil_syntax.specs.declared.kind.Kind as kinds;
+ghost use Rattle.cil_syntax.specs.declared.kind.Kind.TheVariants as variants;
+ghost use Rattle.cil_macros.specs.Items.{items_in};
+ghost use Rattle.cil_names.specs.Entries.{AreOrdered};
+ghost use Rattle.cil_names.specs.Known.{AreStanding, IsKnown, enabled_in, row_in};
+ghost use Rattle.cil_names.specs.Rows.{IsTableOf};
+ghost use Rattle.cil_classes.specs.declared.row.Class.{Class as ARow};
+ghost use Rattle.cil_classes.specs.ClassRows.{AreClasses};
+ghost use Rattle.cil_classes.specs.Row.{most_permissions};
+ghost use Rattle.cil_rules.specs.Order.{rule_cmp};
+ghost use Rattle.cil_rules.specs.Records.{IsCase, IsRuleOf};
+ghost use Rattle.cil_tables.specs.Sections.{AreGiven};
+ghost use Rattle.cil_tables.specs.Standings.{AllStand};
+
+use crate::aliases::aliases_of;
+use crate::holders::Links;
+use crate::links::{Joins, links_of};
+use crate::standings::Standings;
+use crate::tables::Alias;
+use cil_base::NoMemory;
+use cil_classes::Class;
+use cil_index::Section;
+use cil_macros::Instances;
+use cil_names::Known;
+use cil_rules::rules_of;
+use cil_sets::Numbers;
+use cil_syntax::{Keyword, Kind};
+use std::alloc::Global;
+
+/// What statements give.
+#[derive(Drop)]
+pub struct Given {
+    /// The users with their roles.
+    pub user_roles: Links,
+    /// The roles with their types.
+    pub role_types: Links,
+    /// The aliases of types.
+    pub type_aliases: Vec<Alias>,
+    /// The allow rules, with their index.
+    pub allow: Section,
+}
+
+/// What the enabled statements give, where words stand for these numbers. Error: out of memory.
+pub(crate) fn given_of(
+    alloc: Global,
+    instances: &Instances,
+    known: &Known,
+    stand: &Standings,
+    classes: &[Class],
+) -> Result<Given, NoMemory>
+    requires table { IsTableOf (map (row_in known.now) (items_in instances.now)) known.now.words.now }
+    requires ordered { AreOrdered known.now.lookup.namespaces.now known.now.lookup.names.now }
+    requires rising { (row : ARow) → Contains classes.now row → IsStrictlySortedBy text_cmp row.permissions }
+    requires few { (row : ARow) → Contains classes.now row → length row.permissions ≤ most_permissions }
+    ensures { IfOk result (λ given. (names : kinds.Kind → List (List ℕ)) → IsKnown known.now (items_in instances.now) names → AllStand known.now (items_in instances.now) names stand.now
+        → AreClasses (items_in instances.now) (enabled_in known.now) (names variants.Class) classes.now
+        → AreGiven (items_in instances.now) (enabled_in known.now) names classes.now given) }
+{
+    let users = stand.users.as_slice();
+    let roles = stand.roles.as_slice();
+    let types = stand.types.as_slice();
+    let user_roles = links_of(alloc, instances, known, USER_ROLES, users, roles)?;
+    let role_types = links_of(alloc, instances, known, ROLE_TYPES, roles, types)?;
+    let type_aliases = aliases_of(alloc, known, types)?;
+    let allow = allow_of(alloc, instances, known, types, classes)?;
+    Ok(Given {
+        user_roles,
+        role_types,
+        type_aliases,
+        allow,
+    })
+}
+
+/// The rules of the enabled allow statements, where words stand for these types. Error: out of memory.
+fn allow_of(
+    alloc: Global,
+    instances: &Instances,
+    known: &Known,
+    types: &[Numbers],
+    classes: &[Class],
+) -> Result<Section, NoMemory>
+    requires table { IsTableOf (map (row_in known.now) (items_in instances.now)) known.now.words.now }
+    requires rising { (row : ARow) → Contains classes.now row → IsStrictlySortedBy text_cmp row.permissions }
+    requires few { (row : ARow) → Contains classes.now row → length row.permissions ≤ most_permissions }
+    ensures { IfOk result (λ allow. (names : kinds.Kind → List (List ℕ)) → IsKnown known.now (items_in instances.now) names
+        → AreStanding known.now (items_in instances.now) names variants.Type_ types.now
+        → AreClasses (items_in instances.now) (enabled_in known.now) (names variants.Class) classes.now
+        → Gives rule_cmp (IsCase (items_in instances.now) (enabled_in known.now) keywords.Allow)
+        (IsRuleOf (items_in instances.now) (enabled_in known.now) (names variants.Type_) classes.now) allow) }
+{
+    let rules = rules_of(alloc, instances, known, types, classes)?;
+    let allow = Section::of(alloc, rules.as_slice(), types, classes.len())?;
+    Ok(allow)
+}
+
+/// The statements that give users their roles.
+const USER_ROLES: Joins = Joins {
+    keyword: Keyword::UserRole,
+    holder_kind: Kind::User,
+    held_kind: Kind::Role,
+};
+
+/// The statements that give roles their types.
+const ROLE_TYPES: Joins = Joins {
+    keyword: Keyword::RoleType,
+    holder_kind: Kind::Role,
+    held_kind: Kind::Type_,
+};
