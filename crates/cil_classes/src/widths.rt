@@ -114,7 +114,7 @@ fn wide_class<'a>(
 }
 
 /// How many permissions are listed for an entry.
-fn listed_count(permissions: &[Vec<Bytes>], d: usize) -> usize
+pub fn listed_count(permissions: &[Vec<Bytes>], d: usize) -> usize
     ensures { result ≡ length (listed_at permissions.now d) }
 {
     match permissions.get(d) {

@@ -1,4 +1,3 @@
-use Rattle.std.proofs.Common.{refl}
 use Rattle.cil_classes.proofs.checked.classes.Goals as goal
 
 pub returns : goal.returns
