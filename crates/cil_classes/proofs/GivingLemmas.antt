@@ -20,15 +20,15 @@ use Rattle.cil_macros.specs.Item.{Item, OptSet, is_enabled, words_in}
 use Rattle.cil_macros.proofs.FormLemmas.{across, all_across, leaf_across, no_rule, no_word, rule_across}
 use Rattle.cil_names.specs.Declarations.{Symbol}
 use Rattle.cil_names.specs.declared.known.Known.{Known}
-use Rattle.cil_names.specs.Known.{IsKnown, StandsForNothing, enabled_in, meant_in, value_in}
+use Rattle.cil_names.specs.Known.{IsKnown, StandsForNothing, enabled_in, meant_in, row_in, value_in}
 use Rattle.cil_names.specs.Members.{StandsFor}
 use Rattle.cil_names.specs.Numbers.{symbol_of}
 use Rattle.cil_names.specs.PermissionWords.{listed_for, number_among}
-use Rattle.cil_names.specs.Resolves.{Permission as APermission, Word as AWord, all_wanted_in, has_permission, wanted_in}
+use Rattle.cil_names.specs.Resolves.{Permission as APermission, Word as AWord, all_wanted_in, has_permission, wanted_in, is_mapping, words_of_mapping}
 use Rattle.cil_names.specs.Unresolved.{listed_at}
 use Rattle.cil_classes.specs.declared.givens.Giving.{Giving}
 use Rattle.cil_classes.specs.Given.{Holder, mapped, named}
-use Rattle.cil_classes.specs.Givings.{Gift, GivesTo, IsGivenBy, IsGivingOf, is_mapping, row_given, words_of_mapping}
+use Rattle.cil_classes.specs.Givings.{Gift, GivesTo, IsGivenBy, IsGivingOf}
 use Rattle.cil_classes.specs.Nodes.{IsEntryOf}
 use Rattle.cil_classes.specs.Parts.{IsEntryFor}
 use Rattle.cil_classes.specs.Tied.{IsThere}
@@ -84,12 +84,12 @@ module _ (k : Known) (xs : List Item) (names : Kind → List (List ℕ)) (known 
       unfolding all_wanted_in wanted_in
       set_wanted = refl
 
-      set_row : (words : List (Option ℕ)) → words ≡ row_given k x → words ≡ meant_in k (f w) ∷ map (value_in k) (wanted_in (across f t) ++ [])
+      set_row : (words : List (Option ℕ)) → words ≡ row_in k x → words ≡ meant_in k (f w) ∷ map (value_in k) (wanted_in (across f t) ++ [])
       set_row words are =
           are
           ∙ ap (map (value_in k)) (ap (λ b. if b then words_of_mapping x.args else all_wanted_in x.args) (ap is_mapping is) ∙ ap all_wanted_in set_args ∙ set_wanted)
 
-      pub set_meant : (words : List (Option ℕ)) → words ≡ row_given k x → get_or words 0 None ≡ meant_in k (f w)
+      pub set_meant : (words : List (Option ℕ)) → words ≡ row_in k x → get_or words 0 None ≡ meant_in k (f w)
       set_meant words are = ap (λ ws. get_or ws 0 None) (set_row words are)
 
       its_set : (g : Gift) → GivesTo xs (enabled_in k) x g → (n : Symbol) × (g.holder ≡ named n) × StandsFor xs (enabled_in k) kinds.ClassPermission (f w) n × (g.term ≡ across f t)
@@ -101,7 +101,7 @@ module _ (k : Known) (xs : List Item) (names : Kind → List (List ℕ)) (known 
       pub no_permission_named : StandsForNothing xs (enabled_in k) kinds.ClassPermission (f w) → (g : Gift) → GivesTo xs (enabled_in k) x g → ⊥
       no_permission_named nothing g gives = let i = its_set g gives in nothing i.0 i.2
 
-      pub set_given : is_enabled (enabled_in k) x ≡ true → (d : ℕ) → IsEntryFor k xs kinds.ClassPermission (f w) d → (words : List (Option ℕ)) → words ≡ row_given k x → (r : Giving) → r.node.entry ≡ d
+      pub set_given : is_enabled (enabled_in k) x ≡ true → (d : ℕ) → IsEntryFor k xs kinds.ClassPermission (f w) d → (words : List (Option ℕ)) → words ≡ row_in k x → (r : Giving) → r.node.entry ≡ d
           → r.node.number ≡ 0 → said_of r.«module» r.term.now ≡ t → r.words.now ≡ drop 1 words → IsGivingOf k xs f x r
       set_given enabled d for words are r entry number term rest = record {
         gift = its_gift;
@@ -155,12 +155,12 @@ module _ (k : Known) (xs : List Item) (names : Kind → List (List ℕ)) (known 
         abbrev numbers : List (List ℕ)
         numbers = listed_for k.lookup.namespaces.now k.lookup.names.now k.permissions.now (f w)
 
-        mapping_row : (words : List (Option ℕ)) → words ≡ row_given k x → words ≡ meant_in k (f w) ∷ number_among numbers (f q).bytes ∷ map (value_in k) (wanted_in (across f t) ++ [])
+        mapping_row : (words : List (Option ℕ)) → words ≡ row_in k x → words ≡ meant_in k (f w) ∷ number_among numbers (f q).bytes ∷ map (value_in k) (wanted_in (across f t) ++ [])
         mapping_row words are =
             are
             ∙ ap (map (value_in k)) (ap (λ b. if b then words_of_mapping x.args else all_wanted_in x.args) (ap is_mapping is) ∙ ap words_of_mapping mapping_args ∙ mapping_wanted)
 
-        pub map_meant : (words : List (Option ℕ)) → words ≡ row_given k x → get_or words 0 None ≡ meant_in k (f w)
+        pub map_meant : (words : List (Option ℕ)) → words ≡ row_in k x → get_or words 0 None ≡ meant_in k (f w)
         map_meant words are = ap (λ ws. get_or ws 0 None) (mapping_row words are)
 
         its_permission : (g : Gift) → GivesTo xs (enabled_in k) x g
@@ -194,25 +194,25 @@ module _ (k : Known) (xs : List Item) (names : Kind → List (List ℕ)) (known 
               let i = its_permission g gives in
               (listed.members (f q).bytes).1 (subst (λ m. has_permission xs m (f q).bytes ≡ true) (for.only_symbol i.0 i.2) i.4)
 
-          pub no_number : (words : List (Option ℕ)) → words ≡ row_given k x → None ≡ get_or words 1 None → (g : Gift) → GivesTo xs (enabled_in k) x g → ⊥
+          pub no_number : (words : List (Option ℕ)) → words ≡ row_in k x → None ≡ get_or words 1 None → (g : Gift) → GivesTo xs (enabled_in k) x g → ⊥
           no_number words are none g gives =
               let there = given_there g gives in
               let (n, below, at) = get_at permissions (f q).bytes there in
               let found = found_here (f q).bytes permissions n at in
               none-some found.0 (none ∙ ap (λ ws. get_or ws 1 None) (mapping_row words are) ∙ ap (λ ps. number_among ps (f q).bytes) (by_map (f q).bytes there) ∙ found.1)
 
-          its_number : (words : List (Option ℕ)) → words ≡ row_given k x → (n : ℕ) → Some n ≡ get_or words 1 None → (p : List ℕ) → Contains permissions p → slice_get permissions n ≡ Some (f q).bytes
+          its_number : (words : List (Option ℕ)) → words ≡ row_in k x → (n : ℕ) → Some n ≡ get_or words 1 None → (p : List ℕ) → Contains permissions p → slice_get permissions n ≡ Some (f q).bytes
           its_number words are n some p there =
               found_at (f q).bytes permissions n (ap (λ ps. number_among ps (f q).bytes) (sym (by_map p there)) ∙ sym (some ∙ ap (λ ws. get_or ws 1 None) (mapping_row words are)))
 
-          pub no_such_number : (words : List (Option ℕ)) → words ≡ row_given k x → (n count : ℕ) → Some n ≡ get_or words 1 None → count ≡ length permissions → count ≤ n → (g : Gift) → GivesTo xs (enabled_in k) x g
+          pub no_such_number : (words : List (Option ℕ)) → words ≡ row_in k x → (n count : ℕ) → Some n ≡ get_or words 1 None → count ≡ length permissions → count ≤ n → (g : Gift) → GivesTo xs (enabled_in k) x g
               → ⊥
           no_such_number words are n count some is_count over g gives =
               let there = given_there g gives in
               let within = in_range permissions n (f q).bytes (its_number words are n some (f q).bytes there) in
               omega (arith, within, is_count, over)
 
-          pub mapping_given : is_enabled (enabled_in k) x ≡ true → (words : List (Option ℕ)) → words ≡ row_given k x → (n count : ℕ) → Some n ≡ get_or words 1 None → count ≡ length permissions → n < count
+          pub mapping_given : is_enabled (enabled_in k) x ≡ true → (words : List (Option ℕ)) → words ≡ row_in k x → (n count : ℕ) → Some n ≡ get_or words 1 None → count ≡ length permissions → n < count
               → (r : Giving) → r.node.entry ≡ d → r.node.number ≡ n → said_of r.«module» r.term.now ≡ t → r.words.now ≡ drop 1 (drop 1 words) → IsGivingOf k xs f x r
           mapping_given enabled words are n count some is_count below r entry number term rest = record {
             gift = its_gift;

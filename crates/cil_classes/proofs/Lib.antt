@@ -10,6 +10,7 @@ pub mod GivingLemmas
 pub mod HeldLemmas
 pub mod LeadLemmas
 pub mod LeastLemmas
+pub mod MapExamples
 pub mod MaskLemmas
 pub mod NodeLemmas
 pub mod OutsideLemmas

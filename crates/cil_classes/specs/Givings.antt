@@ -1,17 +1,15 @@
 -- What each statement gives, to which class permission or permission of a class map. No other crate needs these words.
-use Rattle.std.specs.Prelude.{◌≡◌, ℕ, Bool, true, false, ◌++◌, if◌then◌else◌, List, [], Contains, Option, map}
-use Rattle.cil_syntax.specs.declared.kind.Keyword.{Keyword}
+use Rattle.std.specs.Prelude.{◌≡◌, ℕ, true, List, Contains}
 use Rattle.cil_syntax.specs.declared.kind.Keyword.TheVariants as keywords
 use Rattle.cil_syntax.specs.declared.kind.Kind.TheVariants as kinds
 use Rattle.cil_syntax.specs.declared.term.Word.{Word}
 use Rattle.cil_syntax.specs.Said.{said_of}
 use Rattle.cil_syntax.specs.Scopes.{ScopedWord}
-use Rattle.cil_syntax.specs.Terms.{Term, Leaf, Terms, nil, cons}
+use Rattle.cil_syntax.specs.Terms.{Term, Leaf, nil, cons}
 use Rattle.cil_macros.specs.Item.{Item, OptSet, is_enabled}
 use Rattle.cil_names.specs.declared.known.Known.{Known}
-use Rattle.cil_names.specs.Known.{BeginWith, enabled_in, value_in}
+use Rattle.cil_names.specs.Known.{BeginWith, enabled_in}
 use Rattle.cil_names.specs.Members.{StandsFor}
-use Rattle.cil_names.specs.Resolves.{Wanted, all_wanted_in, wanted_in, words_of_class}
 use Rattle.cil_names.specs.Unresolved.{term_with}
 use Rattle.cil_classes.specs.declared.assigned.Given.{Given}
 use Rattle.cil_classes.specs.declared.givens.Giving.{Giving}
@@ -21,25 +19,6 @@ use Rattle.cil_classes.specs.Given.{Holder, mapped, named}
 use Rattle.cil_classes.specs.Nodes.{IsNodeIn, StandsAs}
 use Rattle.cil_classes.specs.Parts.{IsPartIn}
 use Rattle.cil_classes.specs.Tied.{IsThere}
-
--- ---- the words of a statement. TO MOVE: these are `words_of` of cil_names, once a classmapping has its words there
-
-abbrev pub is_mapping : Keyword → Bool
-is_mapping keywords.ClassMapping = true
-is_mapping keyword = false
-
--- the permission word of a classmapping is one of its class map
-abbrev pub words_of_mapping : Terms ScopedWord → List Wanted
-words_of_mapping nil = []
-words_of_mapping (cons m nil) = wanted_in m
-words_of_mapping (cons m (cons r rest)) = words_of_class (cons m (cons r nil)) ++ all_wanted_in rest
-
-abbrev pub words_given : Item → List Wanted
-words_given x = if is_mapping x.keyword then words_of_mapping x.args else all_wanted_in x.args
-
--- the values of all that an item asks for
-abbrev pub row_given : Known → Item → List (Option ℕ)
-row_given k x = map (value_in k) (words_given x)
 
 -- ---- what statements give
 

@@ -14,11 +14,11 @@ ghost use Rattle.cil_syntax.specs.Terms.{Leaf, cons, nil};
 ghost use Rattle.cil_macros.proofs.FormLemmas.{all_across};
 ghost use Rattle.cil_macros.specs.Item.{Item, is_enabled};
 ghost use Rattle.cil_macros.specs.Items.{item_at, items_in, word_at};
-ghost use Rattle.cil_names.specs.Known.{IsKnown, enabled_in};
+ghost use Rattle.cil_names.specs.Known.{IsKnown, enabled_in, row_in};
 ghost use Rattle.cil_names.specs.Numbers.{AreApart};
 ghost use Rattle.cil_names.specs.Rows.{IsTableOf};
 ghost use Rattle.cil_classes.specs.ClassRows.{AreClasses};
-ghost use Rattle.cil_classes.specs.Givings.{Gift, GivesTo, HaveNodes, IsGivenFor, IsGivingOf, IsNodeFor, row_given};
+ghost use Rattle.cil_classes.specs.Givings.{Gift, GivesTo, HaveNodes, IsGivenFor, IsGivingOf, IsNodeFor};
 ghost use Rattle.cil_classes.specs.NodeOrder.{node_cmp};
 ghost use Rattle.cil_classes.specs.Parts.{AreNodes};
 ghost use Rattle.cil_classes.specs.Row.{AreOrderlyRows};
@@ -50,7 +50,7 @@ pub struct Giving<'t, 'a, 's> {
 /// The nodes of all to which enabled statements give something: rising, each once. A statement costs a few steps; at the end the
 /// nodes are sorted. Error: out of memory.
 pub fn nodes_of(alloc: Global, instances: &Instances, known: &Known) -> Result<Vec<Node>, NoMemory>
-    requires table { IsTableOf (map (row_given known.now) (items_in instances.now)) known.now.words.now }
+    requires table { IsTableOf (map (row_in known.now) (items_in instances.now)) known.now.words.now }
     ensures rising { IfOk result (λ nodes. IsStrictlySortedBy node_cmp nodes.items) }
     ensures nodes { IfOk result (λ nodes. (names : kinds.Kind → List (List ℕ)) → IsKnown known.now (items_in instances.now) names → AreNodes known.now nodes.items) }
     ensures all { IfOk result (λ nodes. (names : kinds.Kind → List (List ℕ)) → IsKnown known.now (items_in instances.now) names → HaveNodes known.now (items_in instances.now) nodes.items) }
@@ -63,7 +63,7 @@ pub fn nodes_of(alloc: Global, instances: &Instances, known: &Known) -> Result<V
 
 /// The same, in the order of the statements.
 fn unsorted(alloc: Global, instances: &Instances, known: &Known) -> Result<Vec<Node>, NoMemory>
-    requires table { IsTableOf (map (row_given known.now) (items_in instances.now)) known.now.words.now }
+    requires table { IsTableOf (map (row_in known.now) (items_in instances.now)) known.now.words.now }
     ensures { IfOk result (λ nodes. (names : kinds.Kind → List (List ℕ)) → IsKnown known.now (items_in instances.now) names
         → AreRecordsOf (GivesTo (items_in instances.now) (enabled_in known.now)) (IsNodeFor known.now) (items_in instances.now) nodes.items) }
 {
@@ -84,7 +84,7 @@ pub fn givens_of(
     classes: &[Class],
     nodes: &[Node],
 ) -> Result<Vec<Given>, NoMemory>
-    requires table { IsTableOf (map (row_given known.now) (items_in instances.now)) known.now.words.now }
+    requires table { IsTableOf (map (row_in known.now) (items_in instances.now)) known.now.words.now }
     requires rows { AreOrderlyRows classes.now }
     requires rising { IsStrictlySortedBy node_cmp nodes.now }
     ensures { IfOk result (λ givens. (names : kinds.Kind → List (List ℕ)) → IsKnown known.now (items_in instances.now) names
@@ -125,7 +125,7 @@ fn given_at(
     ensures { IfOk result (λ given. (xs : List Item) (names : kinds.Kind → List (List ℕ)) → IsKnown known.now xs names
         → AreApart known.now.lookup.names.now (enabled_in known.now) known.now.numbers.now
         → AreClasses xs (enabled_in known.now) (names variants.Class) classes.now → AreNodes known.now nodes.now → HaveNodes known.now xs nodes.now → Contains xs (item_at instances.now at)
-        → words.now ≡ row_given known.now (item_at instances.now at)
+        → words.now ≡ row_in known.now (item_at instances.now at)
         → IsRecordOf (GivesTo xs (enabled_in known.now)) (IsGivenFor known.now xs classes.now nodes.now) (item_at instances.now at) given) }
 {
     let Some(giving) = giving_at(instances, at, words, known) else {
@@ -155,7 +155,7 @@ fn giving_at<'p, 'a, 's>(
     known: &Known,
 ) -> Option<Giving<'p, 'a, 's>>
     requires within { at < length (items_in instances.now) }
-    ensures { (xs : List Item) (names : kinds.Kind → List (List ℕ)) → IsKnown known.now xs names → words.now ≡ row_given known.now (item_at instances.now at)
+    ensures { (xs : List Item) (names : kinds.Kind → List (List ℕ)) → IsKnown known.now xs names → words.now ≡ row_in known.now (item_at instances.now at)
         → MatchOption result ((g : Gift) → GivesTo xs (enabled_in known.now) (item_at instances.now at) g → ⊥)
         (IsGivingOf known.now xs (word_at instances.now at) (item_at instances.now at)) }
 {
@@ -179,7 +179,7 @@ fn set_giving<'p, 'a, 's>(
     words: &'s [Meaning],
 ) -> Option<Giving<'p, 'a, 's>>
     ensures { (xs : List Item) (names : kinds.Kind → List (List ℕ)) (x : Item) (f : AWord → ScopedWord) → IsKnown known.now xs names → is_enabled (enabled_in known.now) x ≡ true
-        → x.keyword ≡ keywords.ClassPermissionSet → x.args ≡ all_across f (args_of statement.now) → words.now ≡ row_given known.now x
+        → x.keyword ≡ keywords.ClassPermissionSet → x.args ≡ all_across f (args_of statement.now) → words.now ≡ row_in known.now x
         → MatchOption result ((g : Gift) → GivesTo xs (enabled_in known.now) x g → ⊥) (IsGivingOf known.now xs f x) }
 {
     let module = statement.at.module;
@@ -200,7 +200,7 @@ fn mapping_giving<'p, 'a, 's>(
     words: &'s [Meaning],
 ) -> Option<Giving<'p, 'a, 's>>
     ensures { (xs : List Item) (names : kinds.Kind → List (List ℕ)) (x : Item) (f : AWord → ScopedWord) → IsKnown known.now xs names → is_enabled (enabled_in known.now) x ≡ true
-        → x.keyword ≡ keywords.ClassMapping → x.args ≡ all_across f (args_of statement.now) → words.now ≡ row_given known.now x
+        → x.keyword ≡ keywords.ClassMapping → x.args ≡ all_across f (args_of statement.now) → words.now ≡ row_in known.now x
         → MatchOption result ((g : Gift) → GivesTo xs (enabled_in known.now) x g → ⊥) (IsGivingOf known.now xs f x) }
 {
     let module = statement.at.module;

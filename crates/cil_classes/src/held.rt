@@ -7,13 +7,12 @@ ghost use Rattle.cil_settle.specs.Settled.{leads_within};
 ghost use Rattle.cil_syntax.specs.declared.kind.Kind as kinds;
 ghost use Rattle.cil_syntax.specs.declared.kind.Kind.TheVariants as variants;
 ghost use Rattle.cil_macros.specs.Items.{items_in};
-ghost use Rattle.cil_names.specs.Known.{IsKnown, enabled_in};
+ghost use Rattle.cil_names.specs.Known.{IsKnown, enabled_in, row_in};
 ghost use Rattle.cil_names.specs.Numbers.{AreApart};
 ghost use Rattle.cil_names.specs.Rows.{IsTableOf};
 ghost use Rattle.cil_classes.specs.declared.assigned.Given.{Given as AGiven};
 ghost use Rattle.cil_classes.specs.Assigned.{IsWithin};
 ghost use Rattle.cil_classes.specs.ClassRows.{AreClasses};
-ghost use Rattle.cil_classes.specs.Givings.{row_given};
 ghost use Rattle.cil_classes.specs.Held.{AreHeld, IsAssigned};
 ghost use Rattle.cil_classes.specs.Row.{AreOrderlyRows};
 
@@ -53,7 +52,7 @@ pub fn given_permissions(
     known: &Known,
     classes: &[Class],
 ) -> Result<GivenPermissions, NoMemory>
-    requires table { IsTableOf (map (row_given known.now) (items_in instances.now)) known.now.words.now }
+    requires table { IsTableOf (map (row_in known.now) (items_in instances.now)) known.now.words.now }
     requires rows { AreOrderlyRows classes.now }
     requires known { (names : kinds.Kind → List (List ℕ)) × IsKnown known.now (items_in instances.now) names × AreClasses (items_in instances.now) (enabled_in known.now) (names variants.Class) classes.now }
     requires apart { AreApart known.now.lookup.names.now (enabled_in known.now) known.now.numbers.now }

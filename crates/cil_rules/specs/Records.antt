@@ -13,7 +13,7 @@ use Rattle.cil_names.specs.Declarations.{Symbol, name_of}
 use Rattle.cil_macros.specs.Item.{Item, OptSet, is_enabled}
 use Rattle.cil_syntax.specs.Scopes.{ScopedWord}
 use Rattle.cil_names.specs.Members.{StandsFor}
-use Rattle.cil_classes.specs.Pairs.{HasPair}
+use Rattle.cil_classes.specs.Given.{HasPair}
 use Rattle.cil_names.specs.Known.{IsNumbered}
 use Rattle.cil_syntax.specs.declared.kind.Keyword.TheVariants as keywords
 

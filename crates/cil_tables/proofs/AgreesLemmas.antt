@@ -31,7 +31,8 @@ use Rattle.cil_tables.specs.Aliases.{NamesType}
 use Rattle.cil_tables.specs.Meaning.{IsContext, IsTypeText}
 use Rattle.cil_rules.specs.Covers.{HasCover, Reaches}
 use Rattle.cil_names.specs.Members.{StandsFor}
-use Rattle.cil_classes.specs.Pairs.{HasPair, of_class}
+use Rattle.cil_classes.specs.Given.{HasPair}
+use Rattle.cil_rules.proofs.RuleLemmas.{pair_declared}
 use Rattle.cil_tables.specs.Table.{Table}
 use Rattle.cil_classes.specs.Row.{class_cmp}
 use Rattle.cil_base.proofs.NameSearches.{number_is}
@@ -42,9 +43,6 @@ one_class_number rows i j r q rising at bt same = one_of_key (λ (c : Class). c.
 
 one_number : (names : List (List ℕ)) (n m : ℕ) (name : List ℕ) → IsStrictlySortedBy text_cmp names → slice_get names n ≡ Some name → slice_get names m ≡ Some name → n ≡ m
 one_number names n m name rising at bt = (number_is names name m bt rising).only n at
-
-pair_declared : (xs : List Item) (s : OptSet) (cp : Term ScopedWord) (c : Symbol) (p : List ℕ) → HasPair xs s cp c p → Declared xs s kinds.Class c
-pair_declared xs s cp c p (of_class at word expression d q stands value) = stands.declared
 
 -- declared symbols whose qualified names are spelled alike are one
 abbrev pub HaveOneSymbol : List Item → OptSet → Type 0

@@ -27,7 +27,7 @@ use Rattle.cil_classes.specs.ClassRows.{IsRowOf}
 use Rattle.cil_names.specs.Declarations.{Declared, Symbol}
 use Rattle.cil_macros.specs.Item.{Item, nobody}
 use Rattle.cil_syntax.specs.Scopes.{ScopedWord}
-use Rattle.cil_classes.specs.Pairs.{HasPair}
+use Rattle.cil_classes.specs.Given.{HasPair}
 use Rattle.cil_tables.proofs.FlatLemmas.{AreFlat, global_symbol, declared_here, global_symbol_of, name_declared, name_of_global}
 use Rattle.cil_names.specs.Resolves.{has_permission}
 use Rattle.cil_tables.specs.Aliases.{IsAlias}

@@ -10,9 +10,12 @@ ghost use Rattle.cil_syntax.specs.declared.kind.Kind.TheVariants as variants;
 ghost use Rattle.cil_macros.specs.Items.{items_in};
 ghost use Rattle.cil_names.specs.Entries.{AreOrdered};
 ghost use Rattle.cil_names.specs.Known.{AreStanding, IsKnown, enabled_in, row_in};
+ghost use Rattle.cil_names.specs.Numbers.{AreApart};
 ghost use Rattle.cil_names.specs.Rows.{IsTableOf};
 ghost use Rattle.cil_classes.specs.declared.row.Class.{Class as ARow};
 ghost use Rattle.cil_classes.specs.ClassRows.{AreClasses};
+ghost use Rattle.cil_classes.specs.Held.{IsAssigned};
+ghost use Rattle.cil_classes.specs.NodeOrder.{node_cmp};
 ghost use Rattle.cil_classes.specs.Row.{most_permissions};
 ghost use Rattle.cil_rules.specs.Order.{rule_cmp};
 ghost use Rattle.cil_rules.specs.Records.{IsCase, IsRuleOf};
@@ -25,7 +28,7 @@ use crate::links::{Joins, links_of};
 use crate::standings::Standings;
 use crate::tables::Alias;
 use cil_base::NoMemory;
-use cil_classes::Class;
+use cil_classes::{Class, GivenPermissions};
 use cil_index::Section;
 use cil_macros::Instances;
 use cil_names::Known;
@@ -47,20 +50,24 @@ pub struct Given {
     pub allow: Section,
 }
 
-/// What the enabled statements give, where words stand for these numbers. Error: out of memory.
+/// What the enabled statements give, where words stand for these numbers, and class permissions give these permissions. Error: out of memory.
 pub(crate) fn given_of(
     alloc: Global,
     instances: &Instances,
     known: &Known,
     stand: &Standings,
     classes: &[Class],
+    permissions: &GivenPermissions,
 ) -> Result<Given, NoMemory>
     requires table { IsTableOf (map (row_in known.now) (items_in instances.now)) known.now.words.now }
     requires ordered { AreOrdered known.now.lookup.namespaces.now known.now.lookup.names.now }
     requires rising { (row : ARow) → Contains classes.now row → IsStrictlySortedBy text_cmp row.permissions }
     requires few { (row : ARow) → Contains classes.now row → length row.permissions ≤ most_permissions }
-    ensures { IfOk result (λ given. (names : kinds.Kind → List (List ℕ)) → IsKnown known.now (items_in instances.now) names → AllStand known.now (items_in instances.now) names stand.now
+    requires nodes { IsStrictlySortedBy node_cmp permissions.now.nodes.items }
+    ensures { IfOk result (λ given. (names : kinds.Kind → List (List ℕ)) → IsKnown known.now (items_in instances.now) names
+        → AreApart known.now.lookup.names.now (enabled_in known.now) known.now.numbers.now → AllStand known.now (items_in instances.now) names stand.now
         → AreClasses (items_in instances.now) (enabled_in known.now) (names variants.Class) classes.now
+        → IsAssigned known.now (items_in instances.now) classes.now permissions.now
         → AreGiven (items_in instances.now) (enabled_in known.now) names classes.now given) }
 {
     let users = stand.users.as_slice();
@@ -69,7 +76,7 @@ pub(crate) fn given_of(
     let user_roles = links_of(alloc, instances, known, USER_ROLES, users, roles)?;
     let role_types = links_of(alloc, instances, known, ROLE_TYPES, roles, types)?;
     let type_aliases = aliases_of(alloc, known, types)?;
-    let allow = allow_of(alloc, instances, known, types, classes)?;
+    let allow = allow_of(alloc, instances, known, types, classes, permissions)?;
     Ok(Given {
         user_roles,
         role_types,
@@ -78,24 +85,28 @@ pub(crate) fn given_of(
     })
 }
 
-/// The rules of the enabled allow statements, where words stand for these types. Error: out of memory.
+/// The rules of the enabled allow statements, where words stand for these types, and class permissions give these permissions. Error: out of memory.
 fn allow_of(
     alloc: Global,
     instances: &Instances,
     known: &Known,
     types: &[Numbers],
     classes: &[Class],
+    permissions: &GivenPermissions,
 ) -> Result<Section, NoMemory>
     requires table { IsTableOf (map (row_in known.now) (items_in instances.now)) known.now.words.now }
     requires rising { (row : ARow) → Contains classes.now row → IsStrictlySortedBy text_cmp row.permissions }
     requires few { (row : ARow) → Contains classes.now row → length row.permissions ≤ most_permissions }
+    requires nodes { IsStrictlySortedBy node_cmp permissions.now.nodes.items }
     ensures { IfOk result (λ allow. (names : kinds.Kind → List (List ℕ)) → IsKnown known.now (items_in instances.now) names
+        → AreApart known.now.lookup.names.now (enabled_in known.now) known.now.numbers.now
         → AreStanding known.now (items_in instances.now) names variants.Type_ types.now
         → AreClasses (items_in instances.now) (enabled_in known.now) (names variants.Class) classes.now
+        → IsAssigned known.now (items_in instances.now) classes.now permissions.now
         → Gives rule_cmp (IsCase (items_in instances.now) (enabled_in known.now) keywords.Allow)
         (IsRuleOf (items_in instances.now) (enabled_in known.now) (names variants.Type_) classes.now) allow) }
 {
-    let rules = rules_of(alloc, instances, known, types, classes)?;
+    let rules = rules_of(alloc, instances, known, types, classes, permissions)?;
     let allow = Section::of(alloc, rules.as_slice(), types, classes.len())?;
     Ok(allow)
 }

@@ -4,8 +4,8 @@ use Rattle.std.proofs.lemmas.Option.{slice_get-map}
 use Rattle.cil_base.specs.Places.{get_contains}
 use Rattle.cil_macros.specs.Items.{item_at, items_in}
 use Rattle.cil_macros.proofs.ItemLemmas.{item_there, items_taken}
+use Rattle.cil_names.specs.Known.{row_in}
 use Rattle.cil_base.proofs.RecordLemmas.{all_records, none_more, record_more}
-use Rattle.cil_classes.specs.Givings.{row_given}
 use Rattle.cil_classes.proofs.givens.givens_of.Goals as goal
 use Rattle.cil_classes.proofs.givens.givens_of.Goals.{in-Some+in_ok-push, in_default}
 
@@ -18,7 +18,7 @@ loop-at-preserved c =
     let x = item_at i at in
     let there = item_there i at within in
     let among = get_contains (items_in i) at x there in
-    let row = c.row.ensures (map (row_given k) (items_in i)) (row_given k x) c.requires.table (slice_get-map (row_given k) (items_in i) at ∙ ap (option_map (row_given k)) there) in
+    let row = c.row.ensures (map (row_in k) (items_in i)) (row_in k x) c.requires.table (slice_get-map (row_in k) (items_in i) at ∙ ap (option_map (row_in k)) there) in
     elim c.match-branch-2.branch [
       | in-Some+in_ok-push w ↦ rw w.givens-is (λ names known apart classes nodes all. record_more _ _ (items_in i) at x (items_taken i at within) _
           (c.loop-at.invariant names known apart classes nodes all) w.in-Some.given _ (rw w.in-Some.is at c.in_ok-given.ensures (items_in i) names known apart classes nodes all among row) w.in_ok-push.ensures.items)

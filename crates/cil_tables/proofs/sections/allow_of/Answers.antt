@@ -8,6 +8,6 @@ use Rattle.cil_rules.proofs.RuleLemmas.{rules_listed}
 use Rattle.cil_tables.proofs.sections.allow_of.Goals as goal
 
 pub returns : goal.returns
-returns c = λ names known stand classes.
-    rules_listed _ _ _ _ _ (c.in_ok-rules.ensures names known stand classes) c.in_ok-allow.allow
+returns c = λ names known apart stand classes given.
+    rules_listed _ _ _ _ _ (c.in_ok-rules.ensures names known apart stand classes given) c.in_ok-allow.allow
     (subst (λ (rs : List NamedRule). Lists rule_cmp (Contains (map (rule_named c.args.types.now) rs)) c.in_ok-allow.allow) c.as_slice.ensures.value c.in_ok-allow.ensures)
