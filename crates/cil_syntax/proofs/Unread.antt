@@ -1,5 +1,5 @@
 -- Nodes that are kept as they are, and lists behind items.
-use Rattle.std.proofs.Common.{◌≡◌, ℕ, Bool, true, false, if◌then◌else◌, ◌&&◌, List, [], ◌∷◌, refl, sym, ◌∙◌, ap, subst, rules}
+use Rattle.std.proofs.Common.{◌≡◌, ℕ, Bool, true, false, if◌then◌else◌, ◌&&◌, List, [], ◌∷◌, refl, sym, ◌∙◌, ap, slice_range, subst, rules}
 use Rattle.std.specs.Prelude.{Some, None, Result}
 use Rattle.std.specs.List.{list_all}
 use Rattle.std.specs.declared.vec.Vec.{Vec}
@@ -18,7 +18,7 @@ use Rattle.cil_syntax.specs.declared.stop.Stop.{Stop}
 use Rattle.cil_syntax.specs.declared.term.Op.TheVariants as ops
 use Rattle.cil_syntax.specs.declared.term.Term as rust
 use Rattle.cil_syntax.specs.Laid.{row_of, shape_of}
-use Rattle.cil_syntax.specs.Words.{reads, read_word, read_string}
+use Rattle.cil_syntax.specs.Words.{kept_string, reads, read_word, read_string}
 use Rattle.cil_syntax.specs.Shapes.{unread, object_name, many, statements, anything, is_list, Cell}
 use Rattle.cil_syntax.specs.Readings.{all_lists, formed, read_list, read_row, cell_of, cells_of}
 use Rattle.cil_syntax.specs.Terms.{nil, spot_of}
@@ -46,6 +46,16 @@ module _ (m : ℕ) (text : List ℕ) (n : nodes.Node) (place : Span) where
   string_kept is =
       subst (λ x. (cell_of m (node_of text x)).read unread ≡ kept_as m signs.Unread (node_of text x)) (sym is)
       (subst (λ v. (cell_of m v).read unread ≡ kept_as m signs.Unread v) (sym (quoted_view text place)) refl)
+
+  -- what a word and a string are kept as, where they are kept as texts
+  pub word_name : n ≡ nodes.Word place → kept_name m (node_of text n) ≡ kept_string (spot_of m place) (slice_range text place.start place.end)
+  word_name is = ap (λ x. kept_name m (node_of text x)) is ∙ ap (kept_name m) (word_view text place)
+
+  pub string_name : n ≡ nodes.Quoted place → kept_name m (node_of text n) ≡ kept_string (spot_of m place) (slice_range text place.start place.end)
+  string_name is = ap (λ x. kept_name m (node_of text x)) is ∙ ap (kept_name m) (quoted_view text place)
+
+  pub string_text : n ≡ nodes.Quoted place → kept_as m signs.Unread (node_of text n) ≡ kept_string (spot_of m place) (slice_range text place.start place.end)
+  string_text is = ap (λ x. kept_as m signs.Unread (node_of text x)) is ∙ ap (kept_as m signs.Unread) (quoted_view text place)
 
   pub list_kept : (items : Vec nodes.Node Global) (inner : List nodes.Node) → n ≡ nodes.List place items → inner ≡ items.items
       → (cell_of m (node_of text n)).read unread ≡ formed (spot_of m place) ops.UnreadList [] (read_row (many unread) (cells_of m (nodes_of text inner)))
