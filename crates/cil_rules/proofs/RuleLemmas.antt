@@ -10,7 +10,7 @@ use Rattle.cil_base.specs.Gives.{Gives}
 use Rattle.cil_base.specs.Lists.{Lists, contains_cases, contains_here, contains_none}
 use Rattle.cil_base.specs.MadeLists.{contains_map, from_map}
 use Rattle.cil_syntax.specs.Forms.{rule_form}
-use Rattle.cil_syntax.specs.declared.kind.Keyword.TheVariants as keywords
+use Rattle.cil_syntax.specs.declared.kind.Keyword.{Keyword}
 use Rattle.cil_syntax.specs.declared.kind.Kind.{Kind}
 use Rattle.cil_syntax.specs.declared.kind.Kind.TheVariants as kinds
 use Rattle.cil_syntax.specs.declared.term.Word.{Word}
@@ -113,11 +113,11 @@ pair_declared xs s cp c p (of_name word inner n d q stands given pair) = pair_de
 same_case : (a b : Case) → a.source ≡ b.source → a.target ≡ b.target → a.class_permission ≡ b.class_permission → a.class_ ≡ b.class_ → a ≡ b
 same_case a b s t p c = λ i. record { source = s i; target = t i; class_permission = p i; class_ = c i }
 
-module _ (xs : List Item) (k : Known) (x : Item) where
+module _ (xs : List Item) (k : Known) (keyword : Keyword) (x : Item) where
   abbrev IsCaseOf : Case → Type 0
-  IsCaseOf = CaseBy xs (enabled_in k) x
+  IsCaseOf = CaseBy xs (enabled_in k) keyword x
 
-  pub other_keyword : (x.keyword ≡ keywords.Allow → ⊥) → (c : Case) → IsCaseOf c → ⊥
+  pub other_keyword : (x.keyword ≡ keyword → ⊥) → (c : Case) → IsCaseOf c → ⊥
   other_keyword differ c by = differ by.is_keyword
 
   pub left_out : is_enabled (enabled_in k) x ≡ false → (c : Case) → IsCaseOf c → ⊥
@@ -187,14 +187,13 @@ module _ (xs : List Item) (k : Known) (x : Item) where
             let mask = masked.each among.mask among.there in
             let row : among.row ≡ mask.row = same_Some among.row mask.row (sym among.is_row ∙ mask.is_row) in
             let one : mask.symbol ≡ c.class_ = one_class k xs names known apart mask.symbol c.class_ (pair_declared xs (enabled_in k) (across f class_permission) mask.symbol mask.some.0 mask.some.1)
-            (pair_declared xs (enabled_in k) (across f class_permission) c.class_ by.permission.0 pair) (sym mask.named ∙ ap (λ (r : Class). r.name) (sym row) ∙ among.named) in
-            (
+            (pair_declared xs (enabled_in k) (across f class_permission) c.class_ by.permission.0 pair) (sym mask.named ∙ ap (λ (r : Class). r.name) (sym row) ∙ among.named) in (
               rule_named sets (with_mask among.mask),
               subst (λ d. IsRuleOf xs (enabled_in k) types classes d (rule_named sets (with_mask among.mask))) (ap case_for one ∙ sym (case_is c by)) (is_record among.mask mask),
               contains_map (rule_named sets) (map with_mask masks) (with_mask among.mask) (contains_map with_mask masks among.mask among.there),
             )
 
-        module _ (is : x.keyword ≡ keywords.Allow) (enabled : is_enabled (enabled_in k) x ≡ true) where
+        module _ (is : x.keyword ≡ keyword) (enabled : is_enabled (enabled_in k) x ≡ true) where
           a_case : (m : ClassId × ℕ) (mask : IsMaskOfClass xs (enabled_in k) classes (across f class_permission) m) → IsCaseOf (case_for mask.symbol)
           a_case m mask = record {
             enabled = enabled;
@@ -207,7 +206,7 @@ module _ (xs : List Item) (k : Known) (x : Item) where
 
           -- each record is that of the class of its mask
           case_of : (y : Rule) → Contains (map (rule_named sets) (map with_mask masks)) y
-              → (z : Item) × (c : Case) × Contains (x ∷ []) z × CaseBy xs (enabled_in k) z c × IsRuleOf xs (enabled_in k) types classes c y
+              → (z : Item) × (c : Case) × Contains (x ∷ []) z × CaseBy xs (enabled_in k) keyword z c × IsRuleOf xs (enabled_in k) types classes c y
           case_of y c =
               let (r, cr, of_rule) = from_map (rule_named sets) (map with_mask masks) y c in
               let (m, cm, of_mask) = from_map with_mask masks r cr in
@@ -216,12 +215,12 @@ module _ (xs : List Item) (k : Known) (x : Item) where
 
           -- a rule for each mask is a record for each case
           pub some_rules : (old new : List NamedRule) → new ≡ old ++ map with_mask masks
-              → AreBehind (CaseBy xs (enabled_in k)) (IsRuleOf xs (enabled_in k) types classes) x (map (rule_named sets) old) (map (rule_named sets) new)
+              → AreBehind (CaseBy xs (enabled_in k) keyword) (IsRuleOf xs (enabled_in k) types classes) x (map (rule_named sets) old) (map (rule_named sets) new)
           some_rules old new push = record {
             records = map (rule_named sets) (map with_mask masks);
             are = record {
               each = λ z c cz by. elim (contains_cases z x [] cz) [
-                | inl e ↦ record_for c (subst (λ w. CaseBy xs (enabled_in k) w c) (sym e) by)
+                | inl e ↦ record_for c (subst (λ w. CaseBy xs (enabled_in k) keyword w c) (sym e) by)
                 | inr n ↦ absurd (contains_none z n)
               ];
               only = case_of;
@@ -231,9 +230,9 @@ module _ (xs : List Item) (k : Known) (x : Item) where
 
 -- ---- the records of all statements
 
-module _ (xs : List Item) (s : OptSet) (types : List (List ℕ)) (classes : List Class) (raw : List Rule)
-    (are : AreRecordsOf (CaseBy xs s) (IsRuleOf xs s types classes) xs raw) where
-  as_case : (x : Item) (k : Case) → Contains xs x → CaseBy xs s x k → IsCase xs s keywords.Allow k
+module _ (xs : List Item) (s : OptSet) (keyword : Keyword) (types : List (List ℕ)) (classes : List Class) (raw : List Rule)
+    (are : AreRecordsOf (CaseBy xs s keyword) (IsRuleOf xs s types classes) xs raw) where
+  as_case : (x : Item) (k : Case) → Contains xs x → CaseBy xs s keyword x k → IsCase xs s keyword k
   as_case x k c by = record {
     rule = record { item = x; is_item = c; enabled = by.enabled; is_keyword = by.is_keyword; says = by.says };
     source = by.source;
@@ -241,7 +240,7 @@ module _ (xs : List Item) (s : OptSet) (types : List (List ℕ)) (classes : List
     permission = by.permission;
   }
 
-  of_case : (k : Case) (is : IsCase xs s keywords.Allow k) → CaseBy xs s is.rule.item k
+  of_case : (k : Case) (is : IsCase xs s keyword k) → CaseBy xs s keyword is.rule.item k
   of_case k is = record {
     enabled = is.rule.enabled;
     is_keyword = is.rule.is_keyword;
@@ -252,7 +251,7 @@ module _ (xs : List Item) (s : OptSet) (types : List (List ℕ)) (classes : List
   }
 
   -- a list of them in their order has the rule of each case
-  pub rules_listed : (zs : List Rule) → Lists rule_cmp (Contains raw) zs → Gives rule_cmp (IsCase xs s keywords.Allow) (IsRuleOf xs s types classes) zs
+  pub rules_listed : (zs : List Rule) → Lists rule_cmp (Contains raw) zs → Gives rule_cmp (IsCase xs s keyword) (IsRuleOf xs s types classes) zs
   rules_listed zs list = record {
     rising = list.rising;
     each = λ k is. let r = are.each is.rule.item k is.rule.is_item (of_case k is) in (r.0, r.1, (list.members r.0).1 r.2);

@@ -2,7 +2,7 @@
 //! the words of its target, and a step for each of its permission words. Where its class permission is a name or a list on a class map, it
 //! costs what the masks of these cost, and a record for each class of which they give permissions.
 
-ghost use Rattle.std.specs.Prelude.{◌≡◌, ◌↔◌, ◌<◌, ◌≤◌, ◌++◌, ◌∷◌, ℕ, [], Contains, IfOk, IsTrue, List, MatchOption, OnOk, get_or, length, map};
+ghost use Rattle.std.specs.Prelude.{◌≡◌, ◌↔◌, ◌<◌, ◌≤◌, ◌++◌, ◌∷◌, ℕ, [], Contains, IfOk, IsTrue, List, true, false, MatchOption, OnOk, get_or, length, map};
 ghost use Rattle.std.specs.List.Sorted.{IsStrictlySortedBy};
 ghost use Rattle.cil_base.specs.Lists.{text_cmp};
 ghost use Rattle.cil_base.specs.Records.{AreRecordsOf};
@@ -13,10 +13,11 @@ ghost use Rattle.cil_syntax.specs.declared.term.Word.{Word as AWord};
 ghost use Rattle.cil_syntax.specs.Said.{said_of};
 ghost use Rattle.cil_syntax.specs.Scopes.{ScopedWord};
 ghost use Rattle.cil_macros.specs.Item.{Item};
-ghost use Rattle.cil_macros.specs.Items.{item_at, items_in};
+ghost use Rattle.cil_macros.specs.Items.{item_at, items_in, says_as_written};
 ghost use Rattle.cil_names.specs.declared.known.Known.{Known as Lookups};
 ghost use Rattle.cil_names.specs.Known.{AreStanding, BeginWith, IsKnown, enabled_in, row_in, set_meant};
 ghost use Rattle.cil_names.specs.Numbers.{AreApart};
+ghost use Rattle.cil_names.specs.Resolves.{is_mapping};
 ghost use Rattle.cil_names.specs.Rows.{IsTableOf};
 ghost use Rattle.cil_names.specs.Unresolved.{term_with};
 ghost use Rattle.cil_classes.specs.declared.row.Class.{Class as ARow};
@@ -38,9 +39,9 @@ use cil_sets::Numbers;
 use cil_syntax::{Keyword, Op, Term};
 use std::alloc::Global;
 
-/// The rules of the enabled allow statements, in the order of these, where the words of each declared name stand for these types: one for
-/// each class of which a statement gives permissions. A rule whose source or target is an attribute without members is left out. Error:
-/// out of memory.
+/// The rules of the enabled statements with this first word, in the order of these, where the words of each declared name stand for these
+/// types: one for each class of which a statement gives permissions. A rule whose source or target is an attribute without members is left
+/// out. Error: out of memory.
 pub fn rules_of(
     alloc: Global,
     instances: &Instances,
@@ -48,17 +49,20 @@ pub fn rules_of(
     types: &[Numbers],
     classes: &[Class],
     given: &GivenPermissions,
+    keyword: Keyword,
 ) -> Result<Vec<NamedRule>, NoMemory>
     requires table { IsTableOf (map (row_in known.now) (items_in instances.now)) known.now.words.now }
     requires rising { (row : ARow) → Contains classes.now row → IsStrictlySortedBy text_cmp row.permissions }
     requires few { (row : ARow) → Contains classes.now row → length row.permissions ≤ most_permissions }
     requires nodes { IsStrictlySortedBy node_cmp given.now.nodes.items }
+    requires written { says_as_written keyword ≡ true }
+    requires plain { is_mapping keyword ≡ false }
     ensures { IfOk result (λ rules. (names : kinds.Kind → List (List ℕ)) → IsKnown known.now (items_in instances.now) names
         → AreApart known.now.lookup.names.now (enabled_in known.now) known.now.numbers.now
         → AreStanding known.now (items_in instances.now) names variants.Type_ types.now
         → AreClasses (items_in instances.now) (enabled_in known.now) (names variants.Class) classes.now
         → IsAssigned known.now (items_in instances.now) classes.now given.now
-        → AreRecordsOf (CaseBy (items_in instances.now) (enabled_in known.now))
+        → AreRecordsOf (CaseBy (items_in instances.now) (enabled_in known.now) keyword)
         (IsRuleOf (items_in instances.now) (enabled_in known.now) (names variants.Type_) classes.now) (items_in instances.now) (map (rule_named types.now) rules.items)) }
 {
     let mut rules = Vec::with_capacity(alloc, instances.len())?;
@@ -67,12 +71,13 @@ pub fn rules_of(
         let words = known.words.row(at);
         push_rules(
             alloc, &mut rules, &mut masks, instances, at, words, known, types, classes, given,
+            keyword,
         )?;
     }
     Ok(rules)
 }
 
-/// Adds the rules of the statement at a place, if it is an enabled allow rule, by what its words mean; none where it covers nothing. The
+/// Adds the rules of the statement at a place, if it is an enabled one with this first word, by what its words mean; none where it covers nothing. The
 /// masks are room for those of the statement, so that no statement takes memory of its own.
 fn push_rules(
     alloc: Global,
@@ -85,19 +90,22 @@ fn push_rules(
     types: &[Numbers],
     classes: &[Class],
     given: &GivenPermissions,
+    keyword: Keyword,
 ) -> Result<(), NoMemory>
     requires within { at < length (items_in instances.now) }
     requires rows { AreOrderlyRows classes.now }
     requires nodes { IsStrictlySortedBy node_cmp given.now.nodes.items }
+    requires written { says_as_written keyword ≡ true }
+    requires plain { is_mapping keyword ≡ false }
     ensures { OnOk result ((xs : List Item) (names : kinds.Kind → List (List ℕ)) → IsKnown known.now xs names
         → AreApart known.now.lookup.names.now (enabled_in known.now) known.now.numbers.now → AreStanding known.now xs names variants.Type_ types.now
         → AreClasses xs (enabled_in known.now) (names variants.Class) classes.now → IsAssigned known.now xs classes.now given.now
         → words.now ≡ row_in known.now (item_at instances.now at)
-        → AreBehind (CaseBy xs (enabled_in known.now)) (IsRuleOf xs (enabled_in known.now) (names variants.Type_) classes.now)
+        → AreBehind (CaseBy xs (enabled_in known.now) keyword) (IsRuleOf xs (enabled_in known.now) (names variants.Type_) classes.now)
         (item_at instances.now at) (map (rule_named types.now) out.old.items) (map (rule_named types.now) out.new.items)) }
 {
     let statement = instances.statement_there(at);
-    if !same_keyword(statement.keyword, Keyword::Allow) {
+    if !same_keyword(statement.keyword, keyword) {
         return Ok(());
     }
     if !known.is_enabled(instances, at) {

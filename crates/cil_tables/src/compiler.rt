@@ -174,7 +174,7 @@ fn tables_of(
         user_roles,
         role_types,
         type_aliases,
-        allow,
+        rules,
     } = given;
     let Classes { rows } = classes;
     let Numbering {
@@ -195,7 +195,7 @@ fn tables_of(
         classes: rows,
         user_roles,
         role_types,
-        allow,
+        rules,
     })
 }
 

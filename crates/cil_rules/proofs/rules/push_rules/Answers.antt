@@ -18,18 +18,18 @@ use Rattle.cil_rules.proofs.rules.push_rules.Goals as goal
 pub returns-then-not-same_keyword : goal.returns-then-not-same_keyword
 returns-then-not-same_keyword c = λ xs names known apart standing classes given are.
     let there = keyword_there c.args.instances.now c.args.at c.statement_there-statement.result.now c.statement_there-statement.ensures.is in
-    none_behind _ _ _ _ (other_keyword xs c.args.known.now (item_at c.args.instances.now c.args.at) (λ e. true≢false (sym (c.same_keyword.ensures.1 (sym there ∙ e)) ∙ c.if-not-same_keyword.true)))
+    none_behind _ _ _ _ (other_keyword xs c.args.known.now c.args.keyword (item_at c.args.instances.now c.args.at) (λ e. true≢false (sym (c.same_keyword.ensures.1 (sym there ∙ e)) ∙ c.if-not-same_keyword.true)))
 
 pub returns-then-not-is_enabled : goal.returns-then-not-is_enabled
 returns-then-not-is_enabled c = λ xs names known apart standing classes given are.
-    none_behind _ _ _ _ (left_out xs c.args.known.now (item_at c.args.instances.now c.args.at) (sym c.is_enabled.ensures ∙ c.if-not-is_enabled.true))
+    none_behind _ _ _ _ (left_out xs c.args.known.now c.args.keyword (item_at c.args.instances.now c.args.at) (sym c.is_enabled.ensures ∙ c.if-not-is_enabled.true))
 
 pub returns-in_default : goal.returns-in_default
 returns-in_default c = λ xs names known apart standing classes given are.
     let i = c.args.instances.now in
     let s = c.statement_there-statement.result.now in
-    let says = said_there i c.args.at s c.statement_there-statement.ensures.is c.statement_there-statement.ensures.words (ap says_as_written (c.same_keyword.ensures.0 c.if-not-same_keyword.false)) in
-    none_behind _ _ _ _ (other_terms xs c.args.known.now (item_at i c.args.at) (word_at i c.args.at) (args_of s) says c.in_default.ensures)
+    let says = said_there i c.args.at s c.statement_there-statement.ensures.is c.statement_there-statement.ensures.words (ap says_as_written (c.same_keyword.ensures.0 c.if-not-same_keyword.false) ∙ c.requires.written) in
+    none_behind _ _ _ _ (other_terms xs c.args.known.now c.args.keyword (item_at i c.args.at) (word_at i c.args.at) (args_of s) says c.in_default.ensures)
 
 pub returns-in_default-some_at : goal.returns-in_default-some_at
 returns-in_default-some_at c =
@@ -40,12 +40,12 @@ returns-in_default-some_at c =
     let m = s.at.«module» in
     let x = item_at i c.args.at in
     let f = word_at i c.args.at in
-    let says = said_there i c.args.at s c.statement_there-statement.ensures.is c.statement_there-statement.ensures.words (ap says_as_written (c.same_keyword.ensures.0 c.if-not-same_keyword.false)) in
-    let are = row ∙ ap (map (value_in k)) (plain_said x.keyword x.args (ap is_mapping (keyword_there i c.args.at s c.statement_there-statement.ensures.is ∙ c.same_keyword.ensures.0 c.if-not-same_keyword.false))) in
+    let says = said_there i c.args.at s c.statement_there-statement.ensures.is c.statement_there-statement.ensures.words (ap says_as_written (c.same_keyword.ensures.0 c.if-not-same_keyword.false) ∙ c.requires.written) in
+    let are = row ∙ ap (map (value_in k)) (plain_said x.keyword x.args (ap is_mapping (keyword_there i c.args.at s c.statement_there-statement.ensures.is ∙ c.same_keyword.ensures.0 c.if-not-same_keyword.false) ∙ c.requires.plain)) in
     let source = c.in-Some.parts.source in
     let target = said_of m c.in-Some.parts.target.now in
     let class_permission = said_of m c.in-Some.parts.class_permission.now in
-    none_behind _ _ _ _ (without_source xs k x f (args_of s) says source target class_permission c.in-Some.ensures
+    none_behind _ _ _ _ (without_source xs k c.args.keyword x f (args_of s) says source target class_permission c.in-Some.ensures
     (source_lost k xs names known c.args.types.now standing x f (args_of s) says source target class_permission c.in-Some.ensures c.args.words.now are c.meaning_at.result c.meaning_at.ensures
     c.in_default-some_at.ensures))
 
@@ -58,12 +58,12 @@ returns-in_default-2 c =
     let m = s.at.«module» in
     let x = item_at i c.args.at in
     let f = word_at i c.args.at in
-    let says = said_there i c.args.at s c.statement_there-statement.ensures.is c.statement_there-statement.ensures.words (ap says_as_written (c.same_keyword.ensures.0 c.if-not-same_keyword.false)) in
-    let are = row ∙ ap (map (value_in k)) (plain_said x.keyword x.args (ap is_mapping (keyword_there i c.args.at s c.statement_there-statement.ensures.is ∙ c.same_keyword.ensures.0 c.if-not-same_keyword.false))) in
+    let says = said_there i c.args.at s c.statement_there-statement.ensures.is c.statement_there-statement.ensures.words (ap says_as_written (c.same_keyword.ensures.0 c.if-not-same_keyword.false) ∙ c.requires.written) in
+    let are = row ∙ ap (map (value_in k)) (plain_said x.keyword x.args (ap is_mapping (keyword_there i c.args.at s c.statement_there-statement.ensures.is ∙ c.same_keyword.ensures.0 c.if-not-same_keyword.false) ∙ c.requires.plain)) in
     let source = c.in-Some.parts.source in
     let target = said_of m c.in-Some.parts.target.now in
     let class_permission = said_of m c.in-Some.parts.class_permission.now in
-    none_behind _ _ _ _ (without_target xs k x f (args_of s) says source target class_permission c.in-Some.ensures
+    none_behind _ _ _ _ (without_target xs k c.args.keyword x f (args_of s) says source target class_permission c.in-Some.ensures
     (rw c.in_default-2.is at c.in_ok-target.ensures k xs names f m known standing
     (target_begins k x f (args_of s) says source target class_permission c.in-Some.ensures c.args.words.now are c.behind_first-of_target.result.now c.behind_first-of_target.ensures)))
 
@@ -77,8 +77,8 @@ returns c =
     let x = item_at i c.args.at in
     let f = word_at i c.args.at in
     let is = c.same_keyword.ensures.0 c.if-not-same_keyword.false in
-    let says = said_there i c.args.at s c.statement_there-statement.ensures.is c.statement_there-statement.ensures.words (ap says_as_written is) in
-    let are = row ∙ ap (map (value_in k)) (plain_said x.keyword x.args (ap is_mapping (keyword_there i c.args.at s c.statement_there-statement.ensures.is ∙ c.same_keyword.ensures.0 c.if-not-same_keyword.false))) in
+    let says = said_there i c.args.at s c.statement_there-statement.ensures.is c.statement_there-statement.ensures.words (ap says_as_written is ∙ c.requires.written) in
+    let are = row ∙ ap (map (value_in k)) (plain_said x.keyword x.args (ap is_mapping (keyword_there i c.args.at s c.statement_there-statement.ensures.is ∙ c.same_keyword.ensures.0 c.if-not-same_keyword.false) ∙ c.requires.plain)) in
     let source = c.in-Some.parts.source in
     let target = said_of m c.in-Some.parts.target.now in
     let class_permission = said_of m c.in-Some.parts.class_permission.now in
@@ -90,7 +90,7 @@ returns c =
     let added = c.in_ok-push_perms.ensures xs names f known apart classes given
     (class_begins k x f (args_of s) says source target class_permission c.in-Some.ensures c.args.words.now are c.behind_first-of_target.result.now c.behind_first-of_target.ensures c.behind-of_class.result.now (c.behind-of_class.ensures f)) in
     let only : c.push_perms.new.out.items ≡ added.masks = added.behind ∙ ap (λ l. l ++ added.masks) c.clear.ensures.items in
-    some_rules xs k x f (args_of s) says source target class_permission c.in-Some.ensures names known apart (names kinds.Type_) types c.args.classes.now c.in_ok-source.source
+    some_rules xs k c.args.keyword x f (args_of s) says source target class_permission c.in-Some.ensures names known apart (names kinds.Type_) types c.args.classes.now c.in_ok-source.source
     source_set (λ e. c.in-Some-some_at.ensures.1 (sym same ∙ e)) c.in-Some-2.target
     (rw c.in-Some-2.is at c.in_ok-target.ensures k xs names f m known standing
     (target_begins k x f (args_of s) says source target class_permission c.in-Some.ensures c.args.words.now are c.behind_first-of_target.result.now c.behind_first-of_target.ensures))

@@ -27,4 +27,4 @@ returns c = λ names known apart standing classes given.
     let k = c.args.known.now in
     let xs = items_in c.args.instances.now in
     let over : length xs ≤ c.loop-at.at = let f = c.loop-at-test.false in let n = c.len-at-end.ensures.items in omega (arith, f, n) in
-    all_records (CaseBy xs (enabled_in k)) (IsRuleOf xs (enabled_in k) (names kinds.Type_) c.args.classes.now) xs c.loop-at.at (map (rule_named c.args.types.now) c.loop-at.rules.items) (c.loop-at.invariant names known apart standing classes given) over
+    all_records (CaseBy xs (enabled_in k) c.args.keyword) (IsRuleOf xs (enabled_in k) (names kinds.Type_) c.args.classes.now) xs c.loop-at.at (map (rule_named c.args.types.now) c.loop-at.rules.items) (c.loop-at.invariant names known apart standing classes given) over

@@ -14,5 +14,5 @@ use Rattle.cil_rules.proofs.rules.rules_of.Given as goal
 abbrev pub invariant-loop-at : goal.invariant-loop-at
 invariant-loop-at l = (names : Kind → List (List ℕ)) → IsKnown l.known (items_in l.instances) names → AreApart l.known.lookup.names.now (enabled_in l.known) l.known.numbers.now
     → AreStanding l.known (items_in l.instances) names kinds.Type_ l.types → AreClasses (items_in l.instances) (enabled_in l.known) (names kinds.Class) l.classes → IsAssigned l.known (items_in l.instances) l.classes l.given
-    → AreRecordsOf (CaseBy (items_in l.instances) (enabled_in l.known)) (IsRuleOf (items_in l.instances) (enabled_in l.known) (names kinds.Type_) l.classes)
+    → AreRecordsOf (CaseBy (items_in l.instances) (enabled_in l.known) l.keyword) (IsRuleOf (items_in l.instances) (enabled_in l.known) (names kinds.Type_) l.classes)
     (take l.at (items_in l.instances)) (map (rule_named l.types) l.rules.items)

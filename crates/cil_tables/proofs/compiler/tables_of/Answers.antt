@@ -7,10 +7,7 @@ use Rattle.cil_macros.specs.Items.{items_in}
 use Rattle.cil_names.specs.Entries.{is_in}
 use Rattle.cil_names.specs.Numbers.{AreApart, AreNumbers, names_of}
 use Rattle.cil_classes.specs.declared.row.Class.{Class}
-use Rattle.cil_base.specs.Gives.{Gives}
-use Rattle.cil_syntax.specs.declared.kind.Keyword.TheVariants as keywords
-use Rattle.cil_rules.specs.Records.{IsCase, IsRuleOf}
-use Rattle.cil_rules.specs.Order.{rule_cmp}
+use Rattle.cil_tables.specs.Compiled.{AreRules}
 use Rattle.cil_classes.specs.ClassRows.{AreClasses}
 use Rattle.cil_names.specs.Known.{AreKnown}
 use Rattle.cil_tables.proofs.JoinLemmas.{table_of}
@@ -133,7 +130,7 @@ returns c =
           given.type_aliases
           (classes_given c.args.lookup.now.namespaces.now (items_in c.args.instances.now) c.args.lookup.now.names.now c.requires.entries (is_in c.args.lookup.now.enabled.now) c.in_ok-numbering.numbering.sections c.in_ok-numbering.numbering.numbers.items c.in_ok-numbering.ensures.numbers (c.in_ok-numbering.ensures.apart c.requires.plain) c.args.permissions.now c.requires.permissions c.in_ok-judged.judged.first.rows.items c.in_ok-judged.ensures.0.0)
           given.user_roles given.role_types
-          (subst (λ (rows : List Class). Gives rule_cmp (IsCase (items_in c.args.instances.now) (is_in c.args.lookup.now.enabled.now) keywords.Allow) (IsRuleOf (items_in c.args.instances.now) (is_in c.args.lookup.now.enabled.now) (names_of c.in_ok-numbering.numbering.sections kinds.Type_) rows) c.in_ok-given.given.allow)
-          c.as_slice-rows.ensures.value given.allow),
+          (subst (λ (rows : List Class). AreRules (items_in c.args.instances.now) (is_in c.args.lookup.now.enabled.now) (names_of c.in_ok-numbering.numbering.sections kinds.Type_) rows c.in_ok-given.given.rules)
+          c.as_slice-rows.ensures.value given.rules),
       c.in_ok-judged.ensures.1,
     )
