@@ -348,6 +348,12 @@ MAPS = [
     ("a nearer map in front of a class", [
         FIRST + b"(block k (classmap file (open))(classmapping file open (.file (read)))(allow .b .a (file (open))))",
     ], accepted((BA, b"OK read - open,read"))),
+    ("classorder", [FIRST + b"(classmap m (x))(classorder (unordered file))(classorder (file m nobody))"], refused(
+        Fault(41, b"m", b"m nobody"), Fault(41, b"nobody"),
+    )),
+]
+
+ARGUMENTS = [
     ("an argument that is a list", [
         FIRST + b"(macro m ((classpermission p)) (allow b a p))(call m ((file (not (read)))))",
     ], accepted((BA, b"OK open - open,read"))),
@@ -395,9 +401,6 @@ MAPS = [
         FIRST + b"(classmap m (x))(macro k ((classmap p)(classpermission q)) (classmapping p x q)(allow b a (p (x))))"
         b"(call k (m (file (open))))",
     ], accepted((BA, b"OK open - open,read"))),
-    ("classorder", [FIRST + b"(classmap m (x))(classorder (unordered file))(classorder (file m nobody))"], refused(
-        Fault(41, b"m", b"m nobody"), Fault(41, b"nobody"),
-    )),
 ]
 
 BOOLEAN = b"(boolean bo false)(booleanif bo (true (allow b a (file (open)))))"
@@ -613,8 +616,8 @@ LATER = [
 ]
 
 STAGES = [
-    (["sets"], SETS), (["maps"], MAPS), (["sets", "maps", "booleans"], BOOLEANS),
-    (["sets", "maps", "transitions"], TRANSITIONS), (None, LATER),
+    (["sets"], SETS), (["maps"], MAPS), (["maps", "arguments"], ARGUMENTS),
+    (["sets", "maps", "arguments", "booleans"], BOOLEANS), (["sets", "maps", "transitions"], TRANSITIONS), (None, LATER),
 ]
 LONG = [
     (["sets"], [

@@ -164,10 +164,8 @@ STAGES = {
         """.split(),
         [b"typealias"],
     ),
-    "maps": (
-        b"classmap classmapping classpermission classpermissionset classorder".split(),
-        b"classmap classpermission".split(),
-    ),
+    "maps": (b"classmap classmapping classpermission classpermissionset classorder".split(), []),
+    "arguments": ([], b"classmap classpermission".split()),
     "booleans": (
         b"boolean booleanif auditallow dontaudit neverallow".split(),
         b"boolean bool".split(),
@@ -176,7 +174,7 @@ STAGES = {
 }
 
 # The stages that the program accepts today. Whoever brings one there enters it here.
-TODAY = "sets", "transitions"
+TODAY = "sets", "transitions", "maps"
 
 
 def accepting(stages):

@@ -11,12 +11,13 @@ modules, compiles them into a policy, and then answers which permissions a proce
 context has on an object in another. The answers do not depend on the order of the modules.
 
 The statements that cilhost accepts are type, class, common, classcommon, role, user, roletype,
-userrole and allow; block, blockabstract, blockinherit, macro, call and optional; and typealias,
+userrole and allow; block, blockabstract, blockinherit, macro, call and optional; typealias,
 typealiasactual, typeattribute, typeattributeset, roleattribute, roleattributeset, userattribute and
-userattributeset. Of typetransition, typechange, typemember, roletransition and expandtypeattribute
-the names are checked, and they have no effect. Statements that label files, ports and the like,
-such as filecon, and settings, such as policycap, are accepted and have no effect. For now it
-refuses everything else in CIL by name, with fault 22.";
+userattributeset; and classmap, classmapping, classpermission and classpermissionset. Of
+typetransition, typechange, typemember, roletransition, expandtypeattribute and classorder the names
+are checked, and they have no effect. Statements that label files, ports and the like, such as
+filecon, and settings, such as policycap, are accepted and have no effect. For now it refuses
+everything else in CIL by name, with fault 22.";
 
 /// How the program is called.
 pub const EXAMPLE: &str = "Example:
@@ -35,12 +36,13 @@ The FILEs are installed from left to right. Then requests are read from standard
 and each reply is written to standard output, until QUIT or the end of the input.
 
 The statements that a FILE may have are type, class, common, classcommon, role, user, roletype,
-userrole and allow; block, blockabstract, blockinherit, macro, call and optional; and typealias,
+userrole and allow; block, blockabstract, blockinherit, macro, call and optional; typealias,
 typealiasactual, typeattribute, typeattributeset, roleattribute, roleattributeset, userattribute and
-userattributeset. Of typetransition, typechange, typemember, roletransition and expandtypeattribute
-the names are checked, and they have no effect. Statements that label files, ports and the like,
-such as filecon, and settings, such as policycap, are accepted and have no effect. For now LOAD
-refuses everything else in CIL by name, with fault 22.";
+userattributeset; and classmap, classmapping, classpermission and classpermissionset. Of
+typetransition, typechange, typemember, roletransition, expandtypeattribute and classorder the names
+are checked, and they have no effect. Statements that label files, ports and the like, such as
+filecon, and settings, such as policycap, are accepted and have no effect. For now LOAD refuses
+everything else in CIL by name, with fault 22.";
 
 /// What a file is.
 pub const FILE: &str = "A module, as text in CIL, of at most 4194304 bytes";
