@@ -209,6 +209,10 @@ fn permissions_are_told_by_their_bits(rt: HostRuntime) -> Result<(), Fail> {
     for &(class, bit, want) in BITS {
         assert_eq!(rt; host.permission(class, bit), want, "{bit}");
     }
+    let mut asked = |permission: &[u8]| host.check(b"u:r:a", b"u:r:b", b"file", permission);
+    assert!(rt; matches!(asked(b"read"), Ok(true)));
+    assert!(rt; matches!(asked(b"open"), Ok(false)));
+    assert!(rt; matches!(asked(b"ioctl"), Err(QueryFault::NoPermission)));
     Ok(())
 }
 
@@ -218,6 +222,10 @@ const QUERIES: &[(QueryFault, &str)] = &[
     (QueryFault::BadSource, "72 the source is no valid context"),
     (QueryFault::BadTarget, "72 the target is no valid context"),
     (QueryFault::NoClass, "73 no class has this name"),
+    (
+        QueryFault::NoPermission,
+        "74 the class has no such permission",
+    ),
 ];
 
 #[test]
