@@ -1,7 +1,7 @@
 -- What a check answers, by the query before it.
 use Rattle.std.specs.Prelude.{◌↔◌, ◌==◌, ◌/◌, ◌^◌, IsBitSet, Result, Ok, Err, bit_and}
 use Rattle.std.proofs.Common.{◌≡◌, ℕ, Bool, true, List, eq-eqb, subst}
-use Rattle.std.proofs.lemmas.Bool.{eqb-eq}
+use Rattle.std.proofs.lemmas.Bool.{eqb-true}
 use Rattle.std.proofs.lemmas.Nat.{bit_set_by_shift}
 use Rattle.cil_decide.specs.declared.decision.Decision.{Decision}
 use Rattle.cil_host.specs.Checks.{Checks, IsChecked, LacksPermission}
@@ -33,7 +33,7 @@ module _ (h : State) (source target class_name permission : List ℕ) where
       decides = subst (Queries h source target class_name) is q;
       a_permission = subst (λ s. OfLoaded s (IsPermissionOf class_name bit permission)) same of;
       allowed = (
-        λ e. (bit_set_by_shift d.allowed bit).0 (eqb-eq _ _ e),
+        λ e. (bit_set_by_shift d.allowed bit).0 (eqb-true _ _ e),
         λ s. eq-eqb _ _ ((bit_set_by_shift d.allowed bit).1 s),
       );
     }
