@@ -136,7 +136,8 @@ def queries(rng, names, odd):
         is_odd = often(rng, odd / 2)
         class_name = rng.choice([b"nobody", b".file", b"\0"] if is_odd else list(names.classes))
         asked = context(rng, names, odd), context(rng, names, odd), class_name
-        made.append(b"CHECK %s %s %s %s\n" % (*asked, permission(rng, names, odd)) if often(rng, 0.3) else av(*asked))
+        is_check = often(rng, 0.3)
+        made.append(b"CHECK %s %s %s %s\n" % (*asked, permission(rng, names, class_name)) if is_check else av(*asked))
     return made
 
 
@@ -144,10 +145,13 @@ def av(source, target, class_name):
     return b"AV %s %s %s\n" % (source, target, class_name)
 
 
-def permission(rng, names, odd):
-    """A permission for a check: of a class or of a common."""
-    listed = [each for listed in (*names.classes.values(), *names.commons.values()) for each in listed]
-    is_odd = not listed or often(rng, odd)
+def permission(rng, names, class_name):
+    """A permission for a check: mostly of the class."""
+    if class_name in names.classes and often(rng, 0.8):
+        listed = names.permissions(class_name)
+    else:
+        listed = [each for listed in (*names.classes.values(), *names.commons.values()) for each in listed]
+    is_odd = not listed or often(rng, 0.1)
     return rng.choice([b"nope", b".read", b"all", b"-", b"\0", b"read\r"] if is_odd else listed)
 
 
