@@ -1,4 +1,4 @@
-"""Random policies with what can be accepted beside today's language: sets, class permissions and maps, booleans."""
+"""Random policies with what can be accepted beside today's language: sets, class maps, audit rules, booleans."""
 import copy
 
 import block_policies
