@@ -1,4 +1,4 @@
-"""Random policies with what can be accepted beside today's language: sets, class permissions and maps, booleans."""
+"""Random policies with what can be accepted beside today's language: sets, class maps, audit rules, booleans."""
 import copy
 
 import block_policies
@@ -326,7 +326,7 @@ class StageDraft(OptionalDraft):
         keywords = [b"allow"] * 6
         if not is_branch:
             keywords += [b"roletype", b"userrole"]
-        keywords += [each for each in (b"auditallow", b"dontaudit") if self.has(each)]
+        keywords += [each for each in (b"auditallow", b"dontaudit") if self.has(each)] * 2
         keyword = self.rng.choice(keywords)
         if keyword in RULES:
             spot.body.append([keyword, *(self.word(spot, kind) for kind in RULES[keyword])])
