@@ -11,6 +11,7 @@ pub mod HeldLemmas
 pub mod LeadLemmas
 pub mod LeastLemmas
 pub mod MapExamples
+pub mod LimitLemmas
 pub mod MaskLemmas
 pub mod NodeLemmas
 pub mod OutsideLemmas
