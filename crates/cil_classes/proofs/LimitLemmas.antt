@@ -2,7 +2,8 @@
 use Rattle.std.specs.Prelude.{◌↔◌, codes}
 use Rattle.std.proofs.Common.{◌≡◌, ℕ, ◌<◌, ◌≤◌, List, length, sym, ◌∙◌, ap, arith}
 use Rattle.std.proofs.lemmas.Cmp.{nat_list_cmp_total}
-use Rattle.cil_base.specs.Lists.{Lists, lists_of, one_list, text_cmp}
+use Rattle.cil_base.specs.Lists.{Lists, one_list, text_cmp}
+use Rattle.cil_base.specs.Sorted.{lists_of}
 use Rattle.cil_base.specs.Places.{get_at, get_contains}
 use Rattle.cil_faults.specs.declared.code.FaultCode.TheVariants as causes
 use Rattle.cil_faults.specs.declared.fault.Fault.{Fault}
@@ -52,5 +53,8 @@ module _ (xs : List Item) (s : OptSet) (names : List (List ℕ)) (are : Lists te
       let big = t.many in
       omega (arith, few, len, big)
 
-  pub are_many : most_classes < length names → (f : Fault) → HasManyClasses s xs f ↔ (f ≡ global_fault causes.TooMany nowhere (codes "classes"))
-  are_many big f = (λ t. t.told, λ told. record { names = names; are_names = are; many = big; told = told })
+  pub are_many : most_classes < length names → (word : List ℕ) → word ≡ codes "classes" → (f : Fault) → HasManyClasses s xs f ↔ (f ≡ global_fault causes.TooMany nowhere word)
+  are_many big word is f = (
+    λ t. t.told ∙ ap (global_fault causes.TooMany nowhere) (sym is),
+    λ told. record { names = names; are_names = are; many = big; told = told ∙ ap (global_fault causes.TooMany nowhere) is },
+  )

@@ -42,7 +42,7 @@ use Rattle.cil_blocks.specs.Namespaces.{space_at}
 use Rattle.cil_names.specs.Unresolved.{ArePermissions, listed_at}
 use Rattle.cil_macros.proofs.ItemsThere.{IsSaid}
 use Rattle.cil_classes.specs.Commons.{IsToldTwice}
-use Rattle.cil_classes.specs.Faults.{ClassFault, HasManyClasses, many, two_commons, wide}
+use Rattle.cil_classes.specs.Faults.{ClassFault, HasManyClasses, too_many, two_commons, wide}
 use Rattle.cil_classes.specs.Row.{most_permissions}
 use Rattle.cil_classes.specs.Widths.{IsWide}
 use Rattle.std.specs.List.Sorted.{IsStrictlySortedBy}
@@ -238,7 +238,7 @@ module _ (xs : List Item) (s : OptSet) where
     ]
 
     pub fault_there : (f : Fault) → Contains faults f → ClassFault s xs f
-    fault_there f c = elim ((last f).0 c) [ inl d ↦ there_before f d | inr m ↦ many f m ]
+    fault_there f c = elim ((last f).0 c) [ inl d ↦ there_before f d | inr m ↦ too_many f m ]
 
     pub fault_back : (f : Fault) → ClassFault s xs f → Contains faults f
     fault_back f (wide x at name rest permissions c on keyword says listed big) =
@@ -248,4 +248,4 @@ module _ (xs : List Item) (s : OptSet) where
           record { at = at; name = name; rest = rest; permissions = permissions; enabled = on; keyword = keyword; says = says; listed = listed; wide = big; told = refl },
         )))))
     fault_back f (two_commons x g c h) = (last f).1 (inl ((more f).1 (inr (x, c, h))))
-    fault_back f (many g m) = (last f).1 (inr m)
+    fault_back f (too_many g m) = (last f).1 (inr m)

@@ -40,4 +40,4 @@ pub data ClassFault (s : OptSet) (xs : List Item) : Fault → Type 0 where
       → Lists text_cmp (λ p. has_permission xs (record { space = x.space; name = name }) p ≡ true) permissions
       → most_permissions < length permissions → ClassFault s xs (fault_at causes.ClassWide at x.space name)
   two_commons : (x : Item) (f : Fault) → Contains xs x → HasTwoCommons xs x f → ClassFault s xs f
-  many : (f : Fault) → HasManyClasses s xs f → ClassFault s xs f
+  too_many : (f : Fault) → HasManyClasses s xs f → ClassFault s xs f

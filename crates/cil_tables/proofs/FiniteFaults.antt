@@ -7,7 +7,8 @@ use Rattle.std.proofs.Common.{◌≡◌, ◌⊎◌, ℕ, ◌<◌, true, false, L
 use Rattle.std.proofs.lemmas.Bool.{and_parts, cases_lt, or_cases, true≢false}
 use Rattle.std.proofs.lemmas.Cmp.{nat_list_cmp_total}
 use Rattle.std.proofs.lemmas.Map.Lookups.{exact_bytes}
-use Rattle.cil_base.specs.Lists.{Lists, lists_of, text_cmp, one_list}
+use Rattle.cil_base.specs.Lists.{Lists, text_cmp, one_list}
+use Rattle.cil_base.specs.Sorted.{lists_of}
 use Rattle.cil_base.specs.MadeLists.{contains_flat}
 use Rattle.cil_base.specs.Searches.{any_true}
 use Rattle.cil_base.specs.Decided.{Decided, decided_both, decided_not, decided_same, same_bool, same_text}
@@ -32,7 +33,7 @@ use Rattle.cil_syntax.proofs.DecidedEquality.{keyword_is, same_namespace}
 use Rattle.cil_names.proofs.DeclareDecided.{same_declaration, same_name_space}
 use Rattle.cil_names.specs.Declarations.{Declaration, declared_by, IsDeclaration, Clash, Symbol, nowhere}
 use Rattle.cil_classes.specs.Commons.{IsToldTwice}
-use Rattle.cil_classes.specs.Faults.{ClassFault, IsClassName, many, most_classes, two_commons, wide}
+use Rattle.cil_classes.specs.Faults.{ClassFault, IsClassName, most_classes, too_many, two_commons, wide}
 use Rattle.cil_names.specs.Faults.{ClashFault, clash, ResolveFault, unresolved}
 use Rattle.cil_macros.specs.Item.{Item, OptSet, everybody, nobody, is_enabled}
 use Rattle.cil_names.specs.Resolves.{fits, found_in, gives_permission, has_permission, is_class_common, is_judged, listed_permissions, lists_named, lists_permission, names_outside, resolves, shares_permission, shares_words, told_word, Wanted, words_of}
@@ -214,12 +215,12 @@ module _ (xs : List Item) where
             let p = h.2.1 in
             subst (ClassFault s xs) p.2.0 (wide h.0 p.0.0 p.0.1 p.0.2 p.2.1.0 h.1 h.2.0.0 h.2.0.1 p.1 p.2.1.1 p.2.1.2)
         there f (inr (inl t)) = two_commons t.0 f t.1 t.2
-        there f (inr (inr o)) = many f (record { names = class_names.list; are_names = class_names_are; many = o.1; told = sym o.0 })
+        there f (inr (inr o)) = too_many f (record { names = class_names.list; are_names = class_names_are; many = o.1; told = sym o.0 })
 
         parts : (f : Fault) → ClassFault s xs f → IsOfClasses f
         parts f (wide x at name rest permissions c on keyword says listed big) = inl (x, c, ((on, keyword), ((at, name, rest), says, (refl, (permissions, listed, big)))))
         parts f (two_commons x g c h) = inr (inl (x, c, h))
-        parts f (many g m) =
+        parts f (too_many g m) =
             let counted = ap length (one_list text_cmp nat_list_cmp_total (IsClassName s xs) m.names class_names.list m.are_names class_names_are) in
             let over = m.many in
             inr (inr (sym m.told, omega (arith, counted, over)))

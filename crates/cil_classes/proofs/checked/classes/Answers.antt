@@ -1,4 +1,4 @@
-use Rattle.std.proofs.Common.{List, subst, sym, ℕ}
+use Rattle.std.proofs.Common.{List, refl, subst, sym, ℕ}
 use Rattle.cil_base.specs.Lists.{Lists, text_cmp}
 use Rattle.cil_macros.specs.Items.{items_in}
 use Rattle.cil_names.specs.Entries.{is_in}
