@@ -159,7 +159,7 @@ fn queried<'a>(word: &[u8], source: &'a [u8], target: &'a [u8], class: &'a [u8])
 
 #[tactic(auto, unfolding(crate::specs::Asked::checked))]
 fn checked<'a>(word: &[u8], query: Query<'a>, permission: &'a [u8]) -> Line<'a>
-    ensures { line_of result ≡ checked word.now query.source.now query.target.now query.class.now permission.now }
+    ensures { line_of result ≡ checked word.now query.entry.source.now query.entry.target.now query.entry.class.now permission.now }
 {
     if word == b"CHECK".as_slice()
         && query.source != b"".as_slice()

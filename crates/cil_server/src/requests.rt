@@ -131,7 +131,7 @@ pub(crate) fn check<S: Drop, W: Sink>(
     permission: &[u8],
 )
     requires { output.old.has_failed ≡ false }
-    ensures { IsAnswered host.old (Checks query.source.now query.target.now query.class.now permission.now) host.new
+    ensures { IsAnswered host.old (Checks query.entry.source.now query.entry.target.now query.entry.class.now permission.now) host.new
         (Tells output.old output.new) }
 {
     match host.check(query.source, query.target, query.class, permission) {
