@@ -678,15 +678,16 @@ def wide_rules(size):
 
 
 def class_masks(size):
-    """Classes, and as many class permissions: each has the permission of one class."""
-    return numbered(size, "(class c{0:x}(e))(classpermission p{0:x})(classpermissionset p{0:x}(c{0:x}(e)))".format)
+    """As many classes as may be, and class permissions: each has the permission of one class."""
+    yield "".join(f"(class c{number:x}(e))" for number in range(MANY_CLASSES))
+    yield from numbered(size, lambda number: "(classpermission p{0:x})(classpermissionset p{0:x}(c{1:x}(e)))".format(number, number % MANY_CLASSES))
 
 
 def class_rules(size):
     """Classes whose permissions one class permission has, and rules that name another one, which has one permission."""
     yield "(type a)(class c(e))(classpermission p)(classpermissionset p(c(e)))(classpermission q)"
-    yield from numbered(size // 2, "(class c{0:x}(e))(classpermissionset q(c{0:x}(e)))".format)
-    yield from filled(size // 2, "", "(allow a a p)", "")
+    yield "".join(f"(class c{number:x}(e))(classpermissionset q(c{number:x}(e)))" for number in range(MANY_CLASSES - 1))
+    yield from filled(size, "", "(allow a a p)", "")
 
 
 # ---- optionals
