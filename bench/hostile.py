@@ -33,6 +33,9 @@ ALL = 64_000_000
 # A policy may have so many types and roles (60), the role object_r among them.
 MOST_TYPES, MOST_ROLES = 65_535, 4_096
 
+# So many classes are to be the most; their number is not limited yet.
+MANY_CLASSES = 1_024
+
 
 # ---- texts
 
@@ -63,6 +66,18 @@ def numbered(size, make):
             number += 1
         yield "".join(text)
         text, length = [], 0
+
+
+def parted(made):
+    """Texts of these pieces, each as long as a module may be."""
+    text, length = [], 0
+    for piece in made:
+        if length + len(piece) > LONGEST:
+            yield "".join(text)
+            text, length = [], 0
+        text.append(piece)
+        length += len(piece)
+    yield "".join(text)
 
 
 def template(name, body):
@@ -599,6 +614,82 @@ def unlike_rules(size):
     return [types() + "(class c(e))", "".join(map(rule, range(size)))]
 
 
+# ---- class maps and class permissions
+
+def on_map(size, rule):
+    """A class map of so many permissions, each mapped to one of a class; and a rule for each, made by its name."""
+    names = list(map("x{:x}".format, range(size)))
+    yield f"(class c(e))(type a)(classmap m({' '.join(names)}))"
+    yield from parted(map("(classmapping m {}(c(e)))".format, names))
+    yield from parted(map(rule.format, names))
+
+
+def map_words(size):
+    """A size is a number of permissions of a class map, all mapped, and of rules: each is on one of them."""
+    return on_map(size, "(allow a a(m({})))")
+
+
+def map_lists(size):
+    """The same, but each rule is on all but one of them."""
+    return on_map(size, "(allow a a(m(not {})))")
+
+
+def bits_on_the_way(size, number):
+    """The sets of a class permission of its own that 32 of so many class permissions have: one permission each, at equal
+    distances."""
+    return [f"(classpermissionset p{number:x}(c(e{bit})))" for bit in range(32) if bit * size // 32 == number]
+
+
+def on_a_circle(size, link):
+    """A circle of so many class permissions. The permissions of a class come into it one by one."""
+    yield "(type a)(allow a a p0)(class c(" + " ".join(map("e{}".format, range(32))) + "))"
+    yield from parted("".join([link(n, (n + 1) % size), *bits_on_the_way(size, n)]) for n in range(size))
+
+
+def permission_ring(size):
+    """A size is a number of class permissions on a circle. Between two of them is a class map of one permission."""
+    def link(n, following):
+        has = f"(classpermission p{n:x})(classpermissionset p{n:x}(m{following:x}(x)))"
+        return f"(classmap m{n:x}(x))(classmapping m{n:x} x p{n:x}){has}"
+    return on_a_circle(size, link)
+
+
+def map_ring(size):
+    """The same, with one class map between all of them."""
+    def link(n, following):
+        return f"(classmapping m x{n:x} p{n:x})(classpermission p{n:x})(classpermissionset p{n:x}(m(x{following:x})))"
+    yield f"(classmap m({' '.join(map('x{:x}'.format, range(size)))}))"
+    yield from on_a_circle(size, link)
+
+
+def wide_permissions(size):
+    """A size is a number of class permissions. Each has a permission of each of 1,024 classes, and no rule names one."""
+    yield "(classpermission q)(classmap m(x))(classmapping m x q)" + "".join(
+        f"(class c{n:x}(e))(classpermissionset q(c{n:x}(e)))" for n in range(MANY_CLASSES)
+    )
+    yield from parted(map("(classpermission p{0:x})(classpermissionset p{0:x}(m(x)))".format, range(size)))
+
+
+def wide_rules(size):
+    """The same, with a rule for each of them, between two types of its own."""
+    yield from wide_permissions(size)
+    yield types()
+    yield from parted(f"(allow a{n % MOST_TYPES:x} a{n // MOST_TYPES:x} p{n:x})" for n in range(size))
+
+
+def class_masks(size):
+    """As many classes as may be, and class permissions: each has the permission of one class."""
+    yield "".join(f"(class c{number:x}(e))" for number in range(MANY_CLASSES))
+    yield from numbered(size, lambda number: "(classpermission p{0:x})(classpermissionset p{0:x}(c{1:x}(e)))".format(number, number % MANY_CLASSES))
+
+
+def class_rules(size):
+    """Classes whose permissions one class permission has, and rules that name another one, which has one permission."""
+    yield "(type a)(class c(e))(classpermission p)(classpermissionset p(c(e)))(classpermission q)"
+    yield "".join(f"(class c{number:x}(e))(classpermissionset q(c{number:x}(e)))" for number in range(MANY_CLASSES - 1))
+    yield from filled(size, "", "(allow a a p)", "")
+
+
 # ---- optionals
 
 def same_optionals(size):
@@ -745,6 +836,10 @@ FORMS = {
     "set-ring": (set_ring, LONGEST, load), "alias-line": (alias_line, LONGEST, load),
     "full-links": (full_links, 100, load), "full-rules": (full_rules, 1_000, load),
     "unlike-rules": (unlike_rules, 1_000, load),
+    "map-words": (map_words, 100_000, load), "map-lists": (map_lists, 100_000, load),
+    "permission-ring": (permission_ring, 100_000, load), "map-ring": (map_ring, 100_000, load),
+    "wide-permissions": (wide_permissions, 100_000, load), "wide-rules": (wide_rules, 100_000, load),
+    "class-masks": (class_masks, LONGEST, load), "class-rules": (class_rules, LONGEST, load),
     "same-optionals": (same_optionals, 11_000_000, lines), "optional-chain": (optional_chain, LONGEST, lines),
     "optional-ring": (optional_ring, LONGEST, lines), "deep-optionals": (deep_optionals, 7_800_000, load),
     "optional-lines": (optional_lines, LONGEST, load),

@@ -293,7 +293,7 @@ def sort_key(line):
 
 
 # The files of rows/ whose rows run over the model too.
-ROWS = ["attributes.session", "transitions.session"]
+ROWS = ["attributes.session", "audit.session", "checks.session", "maps.session", "transitions.session"]
 
 
 def rows():

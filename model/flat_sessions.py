@@ -3,7 +3,7 @@ import itertools
 
 import model
 from pieces import (
-    PERMISSIONS, SMALL, PIECES, NAMES, bundle_of, import_bundle, install, module_of, often, set_of,
+    PERMISSIONS, SMALL, PIECES, NAMES, RULES, bundle_of, import_bundle, install, module_of, often, set_of,
     statements_of_any_kind
 )
 from classes import MOST_PERMISSIONS
@@ -62,7 +62,8 @@ def rule(rng, names):
     for _ in range(rng.randrange(90, 125) if often(rng, 0.01) else 0):
         permissions = [b"not", permissions]
     target = b"self" if often(rng, 0.25) else dotted(rng, rng.choice(names.types))
-    return [b"allow", dotted(rng, rng.choice(names.types)), target, [dotted(rng, name), permissions]]
+    keyword = rng.choice([b"allow", *RULES])
+    return [keyword, dotted(rng, rng.choice(names.types)), target, [dotted(rng, name), permissions]]
 
 
 def pairs(rng, keyword, first, second):
@@ -86,10 +87,11 @@ def fault(rng, names):
     class_name = rng.choice(list(names.classes))
     if names.commons and often(rng, 0.4):
         return fault_of_commons(rng, names, name, class_name)
+    keyword = rng.choice(RULES)
     return rng.choice([
-        [b"allow", name, rng.choice(names.types), [class_name, []]],
-        [b"allow", rng.choice(names.types), name, [class_name, [b"nope", [b"nope", b"read"]]]],
-        [b"allow", rng.choice(names.types), b"self", [name, [b"read"]]],
+        [keyword, name, rng.choice(names.types), [class_name, []]],
+        [keyword, rng.choice(names.types), name, [class_name, [b"nope", [b"nope", b"read"]]]],
+        [keyword, rng.choice(names.types), b"self", [name, [b"read"]]],
         [b"roletype", name, name],
         [b"userrole", name, rng.choice(names.roles)],
         [b"class", class_name, rng.sample(names.classes[class_name], len(names.classes[class_name]))],
@@ -109,7 +111,7 @@ def fault_of_commons(rng, names, name, class_name):
         [b"common", common, [*listed, b"more"]],
         [b"classcommon", name, common],
         [b"classcommon", class_name, name],
-        [b"allow", rng.choice(names.types), b"self", [class_name, set_of(rng, [*listed, b"ioctl", b"nope"])]],
+        [rng.choice(RULES), rng.choice(names.types), b"self", [class_name, set_of(rng, [*listed, b"ioctl", b"nope"])]],
     ])
 
 
@@ -128,13 +130,29 @@ def queries(rng, names, odd):
     if often(rng, 0.2):
         some = [b":".join(parts) for parts in itertools.product(names.users, names.roles, names.types)][:8]
         classes = list(names.classes)
-        return [b"AV %s %s %s\n" % (source, target, rng.choice(classes)) for source in some for target in some]
+        return [av(source, target, rng.choice(classes)) for source in some for target in some]
     made = []
     for _ in range(rng.randrange(1, 10)):
         is_odd = often(rng, odd / 2)
         class_name = rng.choice([b"nobody", b".file", b"\0"] if is_odd else list(names.classes))
-        made.append(b"AV %s %s %s\n" % (context(rng, names, odd), context(rng, names, odd), class_name))
+        asked = context(rng, names, odd), context(rng, names, odd), class_name
+        is_check = often(rng, 0.3)
+        made.append(b"CHECK %s %s %s %s\n" % (*asked, permission(rng, names, class_name)) if is_check else av(*asked))
     return made
+
+
+def av(source, target, class_name):
+    return b"AV %s %s %s\n" % (source, target, class_name)
+
+
+def permission(rng, names, class_name):
+    """A permission for a check: mostly of the class."""
+    if class_name in names.classes and often(rng, 0.8):
+        listed = names.permissions(class_name)
+    else:
+        listed = [each for listed in (*names.classes.values(), *names.commons.values()) for each in listed]
+    is_odd = not listed or often(rng, 0.1)
+    return rng.choice([b"nope", b".read", b"all", b"-", b"\0", b"read\r"] if is_odd else listed)
 
 
 def modules_of(rng, statements):
@@ -235,7 +253,7 @@ def bundles(rng):
 
 REQUESTS = [
     b"LOAD", b"LIST", b"EXPORT", b"QUIT", b"AV u:r:a u:r:b file", b"INSTALL 0", b"IMPORT 0",
-    b"SET b true", b"CHECK a b c d", b"OPTIONALS", b"WHY",
+    b"SET b true", b"CHECK u:r:a u:r:b file read", b"CHECK a b c d", b"OPTIONALS", b"WHY",
 ]
 
 
@@ -248,14 +266,17 @@ def random_line(rng):
         return request + rng.choice([b" ", b"\r", b"\0", b" x", b"  "])
     if form == 2:
         near = [request.lower(), request.replace(b" ", b"  ", 1), request[:-1]]
-        return rng.choice([*near, b"AV  a b", b"AV a b ", b"", b" ", b"\xff"])
+        return rng.choice([*near, b"AV  a b", b"AV a b ", b"CHECK a b  d", b"CHECK a b c", b"", b" ", b"\xff"])
     if form == 3:
         numbers = [b"00", b"01", b"+0", b"-1", b"0x0", b"1e1", b"", b"0 0", b"067108865", b"1_0", b"\xd9\xa0"]
         number = rng.choice(numbers)
         return rng.choice([b"INSTALL ", b"IMPORT "]) + number
     if form == 4:
         size = rng.choice([4094, 4095, 4096])
-        return rng.choice([b"AV a b " + b"c" * (size - 7), b" " * size, b"INSTALL " + b"0" * (size - 8)])
+        return rng.choice([
+            b"AV a b " + b"c" * (size - 7), b"CHECK a b c " + b"d" * (size - 12), b" " * size,
+            b"INSTALL " + b"0" * (size - 8),
+        ])
     return request
 
 

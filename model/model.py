@@ -197,10 +197,10 @@ def run(given, host):
             replies += [host.why(), b"\n"]
         elif len(words) == 4 and words[0] == b"AV" and b"" not in words:
             replies.append(host.query(*words[1:]) + b"\n")
+        elif host.language.has_checks and len(words) == 5 and words[0] == b"CHECK" and b"" not in words:
+            replies.append(host.check(*words[1:]) + b"\n")
         elif host.language.has_settings and is_set(words):
             replies.append(Turned(host.set_boolean(words[1], words[2] == b"true") + b"\n"))
-        elif host.language.has_settings and len(words) == 5 and words[0] == b"CHECK" and b"" not in words:
-            replies.append(host.check(*words[1:]) + b"\n")
         else:
             replies.append(b"ERR 81\n")
     replies.append(b"ERR 85\n")

@@ -6,7 +6,8 @@ BLANK = [b" ", b"\t", b"\n", b"\r"]
 NAMES = [b"a", b"b", b"c", b"_", b"a-b", b"A", b"file", b"process", b"type", b"in", b"object_r"]
 PERMISSIONS = [b"read", b"open", b"write", b"Read", b"_x", b"a-", b"aa"]
 LATER = sorted(table.LEFT_OUT | table.WHOLE.statements - table.ACCEPTED.statements)
-FLAT = [b"allow", b"class", b"classcommon", b"common", b"role", b"roletype", b"type", b"user", b"userrole"]
+RULES = [b"allow", b"auditallow", b"dontaudit"]
+FLAT = [*RULES, b"class", b"classcommon", b"common", b"role", b"roletype", b"type", b"user", b"userrole"]
 UNKNOWN = [b"foo", b"Type", b"types", b"allows", b"typ", b"inn", b"1type", b".type", b"-", b"attribute"]
 ODD = [
     b".a", b"a.b", b"..a", b"a.", b".", b"a..b", b".a.b", b"1a", b"-a", b"-", b"_", b"a'", b"a/b", b"a:b", b"a,b", b"*",
@@ -79,7 +80,7 @@ def any_statement(rng, odd):
     if keyword in (b"class", b"common"):
         count = rng.choice([0, 1, 2, 3, 3, 32, 33])
         return [keyword, word(rng, odd), [word(rng, odd) if count < 4 else b"p%d" % i for i in range(count)]]
-    if keyword != b"allow":
+    if keyword not in RULES:
         return [keyword, word(rng, odd), word(rng, odd)]
     target = rng.choice([b"self", b"notself", b"other", word(rng, odd), word(rng, odd), word(rng, odd)])
     permissions = [word(rng, odd), expression(rng, 3, odd)] if often(rng, 0.9) else word(rng, odd)

@@ -11,6 +11,7 @@ from shapes import written
 from table import ACCEPTED
 
 MOST_BOOLEANS = 4096
+MOST_CLASSES = 1024
 
 
 class Policy:
@@ -31,7 +32,8 @@ class Policy:
         stop_at([
             *types.faults(), *roles.faults(), *users.faults(),
             *(each for instance in self.enabled for each in faults_of_classes(instance, names)),
-            *too_many_booleans(names),
+            *too_many(names, b"class", MOST_CLASSES, b"classes"),
+            *too_many(names, b"boolean", MOST_BOOLEANS, b"booleans"),
         ])
         for each in (types, roles, users):
             each.make()
@@ -109,8 +111,8 @@ class Policy:
         return b"OK yes" if is_allowed else b"OK no"
 
 
-def too_many_booleans(names):
-    return [fault(60, 0, 0, (), b"booleans")] if len(names.declared[b"boolean"]) > MOST_BOOLEANS else []
+def too_many(names, kind, most, word):
+    return [fault(60, 0, 0, (), word)] if len(names.declared[kind]) > most else []
 
 
 def joined(names):

@@ -348,6 +348,12 @@ MAPS = [
     ("a nearer map in front of a class", [
         FIRST + b"(block k (classmap file (open))(classmapping file open (.file (read)))(allow .b .a (file (open))))",
     ], accepted((BA, b"OK read - open,read"))),
+    ("classorder", [FIRST + b"(classmap m (x))(classorder (unordered file))(classorder (file m nobody))"], refused(
+        Fault(41, b"m", b"m nobody"), Fault(41, b"nobody"),
+    )),
+]
+
+ARGUMENTS = [
     ("an argument that is a list", [
         FIRST + b"(macro m ((classpermission p)) (allow b a p))(call m ((file (not (read)))))",
     ], accepted((BA, b"OK open - open,read"))),
@@ -395,8 +401,35 @@ MAPS = [
         FIRST + b"(classmap m (x))(macro k ((classmap p)(classpermission q)) (classmapping p x q)(allow b a (p (x))))"
         b"(call k (m (file (open))))",
     ], accepted((BA, b"OK open - open,read"))),
-    ("classorder", [FIRST + b"(classmap m (x))(classorder (unordered file))(classorder (file m nobody))"], refused(
-        Fault(41, b"m", b"m nobody"), Fault(41, b"nobody"),
+]
+
+AUDIT = [
+    ("audit rules", [FIRST + b"(auditallow a b (file (read)))(dontaudit a b (file (open)))"], accepted(
+        (AB, b"OK read read read"), (BA, NONE),
+    )),
+    ("audit rules allow nothing and take nothing away", [
+        FIRST + b"(dontaudit a b (file (all)))(auditallow b a (file (all)))(auditallow a b (file (open)))",
+    ], accepted((AB, b"OK read open -"), (BA, b"OK - open,read open,read"))),
+    ("audit rules over two classes", [
+        FIRST + b"(class dir (read))(classpermission p)(classpermissionset p (file (all)))(classpermissionset p (dir (all)))"
+        b"(dontaudit a self p)(auditallow b b p)",
+    ], accepted(
+        (AA, b"OK - - -"), (b"AV u:r:a u:r:a dir", b"OK - - -"), (b"AV u:r:b u:r:b dir", b"OK - read read"), (AB, READ),
+    )),
+    ("a request before a load, and lines that are none", [FIRST], [
+        (b"CHECK u:r:a u:r:b file open", b"ERR 71"), (b"CHECK a b c", b"ERR 81"), (b"CHECK a b c d e", b"ERR 81"),
+        (b"CHECK a b  d", b"ERR 81"), (b"check a b c d", b"ERR 81"),
+    ]),
+    ("a first answer", [FIRST], accepted(
+        (AB, READ), (b"CHECK u:r:a u:r:b file open", b"OK no"), (b"CHECK u:r:a u:r:b file write", b"ERR 74"),
+        (b"AV u:r:a u:r:b dir", b"ERR 73"),
+    )),
+    ("checks", [FIRST + b"(common k (ioctl))(classcommon file k)(typeattribute z)(typeattributeset z (a b))"
+                b"(allow z self (file (ioctl)))(auditallow a b (file (open)))"], accepted(
+        (b"CHECK u:r:a u:r:b file open", b"OK no"), (b"CHECK u:r:a u:r:b file read", b"OK yes"),
+        (b"CHECK u:r:b u:r:b file ioctl", b"OK yes"), (b"CHECK u:r:b u:r:a file ioctl", b"OK no"),
+        (b"CHECK u:r:a u:r:b file write", b"ERR 74"), (b"CHECK u:r:a u:r:b dir open", b"ERR 73"),
+        (b"CHECK u:r u:r:b dir open", b"ERR 72 1"), (b"CHECK u:r:a u:r:c dir open", b"ERR 72 2"),
     )),
 ]
 
@@ -420,9 +453,6 @@ BOOLEANS = [
     ("a neverallow and a branch", [
         FIRST + b"(boolean bo true)(booleanif bo (false (allow b a (file (open)))))(neverallow b a (file (open read)))",
     ], refused(Exact(b"65 0 188 . 0:161:b:a:file:open"))),
-    ("audit rules", [FIRST + b"(auditallow a b (file (read)))(dontaudit a b (file (open)))"], accepted(
-        (AB, b"OK read read read"), (BA, NONE),
-    )),
     ("a boolean that is turned", [FIRST + BOOLEAN], accepted(
         (BA, NONE), (b"SET bo true", b"OK"), (BA, OPEN), (AB, READ), (b"SET bo true", b"OK"), (BA, OPEN),
         (b"SET bo false", b"OK"), (BA, NONE), (b"SET no true", b"ERR 75"),
@@ -451,17 +481,6 @@ BOOLEANS = [
     ("a boolean of an optional", [
         FIRST + b"(optional o (boolean bo true))(booleanif bo (true (allow b a (file (open)))))",
     ], accepted((BA, OPEN), (b"SET bo false", b"OK"), (BA, NONE))),
-    ("a first answer", [FIRST], accepted(
-        (AB, READ), (b"CHECK u:r:a u:r:b file open", b"OK no"), (b"CHECK u:r:a u:r:b file write", b"ERR 74"),
-        (b"AV u:r:a u:r:b dir", b"ERR 73"),
-    )),
-    ("checks", [FIRST + b"(common k (ioctl))(classcommon file k)(typeattribute z)(typeattributeset z (a b))"
-                b"(allow z self (file (ioctl)))(auditallow a b (file (open)))"], accepted(
-        (b"CHECK u:r:a u:r:b file open", b"OK no"), (b"CHECK u:r:a u:r:b file read", b"OK yes"),
-        (b"CHECK u:r:b u:r:b file ioctl", b"OK yes"), (b"CHECK u:r:b u:r:a file ioctl", b"OK no"),
-        (b"CHECK u:r:a u:r:b file write", b"ERR 74"), (b"CHECK u:r:a u:r:b dir open", b"ERR 73"),
-        (b"CHECK u:r u:r:b dir open", b"ERR 72 1"), (b"CHECK u:r:a u:r:c dir open", b"ERR 72 2"),
-    )),
     by_setting(b"(and p q)", 0, 0, 0, 1),
     by_setting(b"(or p (q))", 0, 1, 1, 1),
     by_setting(b"(xor p q)", 0, 1, 1, 0),
@@ -613,8 +632,8 @@ LATER = [
 ]
 
 STAGES = [
-    (["sets"], SETS), (["maps"], MAPS), (["sets", "maps", "booleans"], BOOLEANS),
-    (["sets", "maps", "transitions"], TRANSITIONS), (None, LATER),
+    (["sets"], SETS), (["maps"], MAPS), (["maps", "arguments"], ARGUMENTS), (["maps", "audit"], AUDIT),
+    (["sets", "maps", "arguments", "booleans"], BOOLEANS), (["sets", "maps", "transitions"], TRANSITIONS), (None, LATER),
 ]
 LONG = [
     (["sets"], [

@@ -1,4 +1,4 @@
-"""Random policies with what can be accepted beside today's language: sets, class permissions and maps, booleans."""
+"""Random policies with what can be accepted beside today's language: sets, class maps, audit rules, booleans."""
 import copy
 
 import block_policies
@@ -41,9 +41,10 @@ WRONG = {
 }
 
 
-# The statements that these need.
+# What these need: a statement, or a kind of parameters.
 NEEDED = {
-    "sets": b"typealias", "lists": b"classpermission", "branches": b"booleanif", "neverallows": b"neverallow",
+    "sets": ("statements", b"typealias"), "lists": ("kinds", b"classpermission"),
+    "branches": ("statements", b"booleanif"), "neverallows": ("statements", b"neverallow"),
 }
 
 
@@ -62,9 +63,7 @@ class StageDraft(OptionalDraft):
 
     def __init__(self, rng, language):
         super().__init__(rng, language)
-        self.WRONG = {
-            told: codes for told, codes in WRONG.items() if told not in NEEDED or NEEDED[told] in language.statements
-        }
+        self.WRONG = {told: codes for told, codes in WRONG.items() if told not in NEEDED or self.is_there(*NEEDED[told])}
         self.KINDS = [*block_policies.KINDS, *(each for each in sorted(
             {b"typealias", b"classmap", b"classpermission", b"boolean", b"bool"} & language.kinds
         ) for _ in range(2))]
@@ -77,6 +76,9 @@ class StageDraft(OptionalDraft):
 
     def has(self, keyword):
         return keyword in self.language.statements
+
+    def is_there(self, what, word):
+        return word in getattr(self.language, what)
 
     def is_movable(self, body, statement):
         is_accepted = self.has(statement[0]) and statement[0] not in SET_ASIDE and statement[0] not in BLOCK_ROWS
@@ -324,7 +326,7 @@ class StageDraft(OptionalDraft):
         keywords = [b"allow"] * 6
         if not is_branch:
             keywords += [b"roletype", b"userrole"]
-        keywords += [each for each in (b"auditallow", b"dontaudit") if self.has(each)]
+        keywords += [each for each in (b"auditallow", b"dontaudit") if self.has(each)] * 2
         keyword = self.rng.choice(keywords)
         if keyword in RULES:
             spot.body.append([keyword, *(self.word(spot, kind) for kind in RULES[keyword])])
@@ -404,8 +406,9 @@ class StageDraft(OptionalDraft):
             return
         named = []
         if keyword == b"typetransition" and often(self.rng, 0.4):
-            # A word is a name too, but the program still looks it up (rows/later/transitions.session).
-            named = [self.rng.choice([Quoted(b"x y"), Quoted(b"x"), Quoted(b"all")])]
+            named = [self.rng.choice([
+                Quoted(b"x y"), Quoted(b""), Quoted(b"all"), b"all", b"self", b"1x", b".n..x", b"nobody", b"a", b"x",
+            ])]
         target = b"self" if often(self.rng, 0.2) else self.word(spot, b"type")
         last = OptionalDraft.word(self, spot, b"type")
         spot.body.append([keyword, self.word(spot, b"type"), target, class_word, *named, last])
@@ -564,7 +567,7 @@ class StageDraft(OptionalDraft):
             self.add_several(self.add_mapping, int(6 * size))
             if often(rng, 0.3):
                 self.add_permission_circle()
-            if often(rng, 0.4) or self.wrong == "lists":
+            if self.is_there("kinds", b"classpermission") and (often(rng, 0.4) or self.wrong == "lists"):
                 self.add_listed()
             if often(rng, 0.2):
                 self.add_order()

@@ -141,10 +141,10 @@ ARGUMENTS = {
 KINDS = PLAIN_KINDS.union(ARGUMENTS)
 
 # What of it is accepted: statements; kinds of parameters; `all` and operators in sets; names of class permissions; the
-# requests SET and CHECK.
-Language = collections.namedtuple("Language", "statements kinds has_sets has_permission_names has_settings")
+# requests CHECK and SET.
+Language = collections.namedtuple("Language", "statements kinds has_sets has_permission_names has_checks has_settings")
 
-WHOLE = Language(SET_ASIDE.union(ROWS), KINDS, True, True, True)
+WHOLE = Language(SET_ASIDE.union(ROWS), KINDS, True, True, True, True)
 
 # What every stage builds on: statements, and kinds of parameters.
 FIRST = (
@@ -164,19 +164,15 @@ STAGES = {
         """.split(),
         [b"typealias"],
     ),
-    "maps": (
-        b"classmap classmapping classpermission classpermissionset classorder".split(),
-        b"classmap classpermission".split(),
-    ),
-    "booleans": (
-        b"boolean booleanif auditallow dontaudit neverallow".split(),
-        b"boolean bool".split(),
-    ),
+    "maps": (b"classmap classmapping classpermission classpermissionset classorder".split(), []),
+    "arguments": ([], b"classmap classpermission".split()),
+    "audit": (b"auditallow dontaudit".split(), []),
+    "booleans": (b"boolean booleanif neverallow".split(), b"boolean bool".split()),
     "transitions": (b"roletransition typetransition typechange typemember".split(), []),
 }
 
 # The stages that the program accepts today. Whoever brings one there enters it here.
-TODAY = "sets", "transitions"
+TODAY = "sets", "transitions", "maps", "audit"
 
 
 def accepting(stages):
@@ -186,7 +182,7 @@ def accepting(stages):
     for stage in chosen:
         statements.update(STAGES[stage][0])
         kinds.update(STAGES[stage][1])
-    return Language(statements, kinds, True, "maps" in chosen, "booleans" in chosen)
+    return Language(statements, kinds, True, "maps" in chosen, "audit" in chosen, "booleans" in chosen)
 
 
 ACCEPTED = accepting(())

@@ -32,7 +32,7 @@ module _ (k : Known) (i : Kept) (r : Space) (names : List (List ℕ)) (sections 
   alias_within s c = step_within k i which.item sets.0 steps are s c
 
   pub alias_says : (s : Step) → Contains steps s → SaysTwo i s
-  alias_says s c = step_says k i which.item sets.0 steps are (λ keyword t. ap says_as_written ((sets.2.giving keyword).0 t) ∙ alias_written r aliases e) s c
+  alias_says s c = step_says k i which.item sets.0 steps are (λ keyword t. ap says_as_written ((sets.2.giving keyword).0 t) ∙ (alias_written r aliases e).written) s c
 
   pub alias_told : (lasts : List (Option ℕ)) → AreLast steps lasts → length lasts ≡ length k.lookup.names.now → (old middle new : List Fault)
       → ((f : Fault) → Contains middle f

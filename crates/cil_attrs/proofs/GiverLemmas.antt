@@ -25,14 +25,14 @@ use Rattle.cil_names.specs.declared.known.Known.{Known}
 use Rattle.cil_names.specs.Declarations.{Symbol}
 use Rattle.cil_names.specs.Entries.{IsAnswer, IsNamed, is_declared_in}
 use Rattle.cil_names.specs.Family.{Family, gives, in_value, is_giving, no_range}
-use Rattle.cil_names.specs.Known.{IsKnown, enabled_in, meant_by, meant_in, row_in, value_in, wanted_with}
+use Rattle.cil_names.specs.Known.{IsKnown, enabled_in, meant_by, meant_in, value_in, wanted_with}
 use Rattle.cil_names.specs.Laws.{MeansWhatItNames}
 use Rattle.cil_names.specs.Numbers.{symbol_of}
-use Rattle.cil_names.specs.Resolves.{Word as AWord, all_wanted_in, found_in, wanted_in}
+use Rattle.cil_names.specs.Resolves.{Word as AWord, all_wanted_in, found_in, is_mapping, wanted_in}
 use Rattle.cil_names.specs.Spaces.{Sets, SpaceOf, any_sets, is_declared, is_same_symbol, names, names_set, symbol_in}
 use Rattle.cil_attrs.specs.declared.giver.SetKind.{SetKind}
 use Rattle.cil_attrs.specs.declared.giver.SpaceKinds.{SpaceKinds}
-use Rattle.cil_attrs.specs.Givers.{AreGifts, AreSets, AreWritten, GivesNothing, IsGift, IsNamedSet, IsSets, HasKinds, NamesNoSet, is_giving_as, is_written}
+use Rattle.cil_attrs.specs.Givers.{AreGifts, AreSets, AreWritten, GivesNothing, IsGift, IsNamedSet, IsSets, HasKinds, NamesNoSet, SaysItsTerms, is_giving_as, is_written}
 use Rattle.cil_attrs.specs.declared.making.Given.{Given}
 use Rattle.cil_attrs.specs.Holding.{is_kind}
 use Rattle.cil_attrs.proofs.HoldingLemmas.{kind_named}
@@ -131,20 +131,21 @@ pub giving_kind : (r : SetKind) (j : Sets) (keyword : Keyword) (kind : Kind) (b 
 giving_kind r j keyword kind b c is h t e = e ∙ ap (is_kind kind) (sym is.kind) ∙ ap (λ x. x && is_kind kind j.kind) (sym t ∙ giving_same r j keyword b is h)
 
 -- statements that give sets their members say what is written
-pub written_of : (r : SpaceKinds) (which : SpaceOf) → HasKinds r which → AreWritten r → (keyword : Keyword) → any_sets which (λ j. j.giving keyword) ≡ true → says_as_written keyword ≡ true
+pub written_of : (r : SpaceKinds) (which : SpaceOf) → HasKinds r which → AreWritten r → (keyword : Keyword) → any_sets which (λ j. j.giving keyword) ≡ true → SaysItsTerms keyword
 written_of r which is written keyword t = by (either_true (option_map_or (λ j. j.giving keyword) which.aliases false) (option_map_or (λ j. j.giving keyword) which.attributes false) t)
   where
     either_true : (a b : Bool) → (a || b) ≡ true → (a ≡ true) ⊎ (b ≡ true)
     either_true true b e = inl refl
     either_true false b e = inr e
 
-    one : (o : Option SetKind) (u : Option Sets) → AreSets o u → is_written o → option_map_or (λ j. j.giving keyword) u false ≡ true → says_as_written keyword ≡ true
+    one : (o : Option SetKind) (u : Option Sets) → AreSets o u → is_written o → option_map_or (λ j. j.giving keyword) u false ≡ true → SaysItsTerms keyword
     one None None are w e = absurd (let f : false ≡ true = e in cc)
     one None (Some j) are w e = absurd are
     one (Some i) None are w e = absurd are
-    one (Some i) (Some j) are w e = ap says_as_written ((are.giving keyword).0 e) ∙ w
+    one (Some i) (Some j) are w e =
+        let same = (are.giving keyword).0 e in record { written = ap says_as_written same ∙ w.written; plain = ap is_mapping same ∙ w.plain }
 
-    by : (option_map_or (λ j. j.giving keyword) which.aliases false ≡ true) ⊎ (option_map_or (λ j. j.giving keyword) which.attributes false ≡ true) → says_as_written keyword ≡ true
+    by : (option_map_or (λ j. j.giving keyword) which.aliases false ≡ true) ⊎ (option_map_or (λ j. j.giving keyword) which.attributes false ≡ true) → SaysItsTerms keyword
     by (inl e) = one r.aliases which.aliases is.aliases written.0 e
     by (inr e) = one r.attributes which.attributes is.attributes written.1 e
 
@@ -272,7 +273,7 @@ module _ (k : Known) (xs : List Item) (which : SpaceOf) (x : Item) where
           subst (λ z. is_giving_as k xs which x.keyword z a ≡ false) (ap (λ p. p.0) (same_Some (f w, across f e) (v, u) (sym it_says ∙ told))) (none a)
 
       -- the meanings of its words
-      module _ (words : List (Option ℕ)) (are : words ≡ row_in k x) where
+      module _ (words : List (Option ℕ)) (are : words ≡ map (value_in k) (all_wanted_in x.args)) where
         wanted_are : all_wanted_in (cons (Leaf (f w)) (cons (across f e) nil)) ≡ AWord (f w) ∷ wanted_in (across f e) ++ []
         unfolding all_wanted_in wanted_in
         wanted_are = refl

@@ -7,6 +7,7 @@ use Rattle.cil_syntax.specs.declared.kind.Kind.{Kind}
 use Rattle.cil_syntax.specs.declared.kind.Kind.TheVariants as kinds
 use Rattle.cil_syntax.specs.Kinds.{is_wanted}
 use Rattle.cil_macros.specs.Items.{says_as_written}
+use Rattle.cil_names.specs.Resolves.{is_mapping}
 use Rattle.cil_names.specs.Declarations.{Symbol}
 use Rattle.cil_names.specs.Entries.{AreOrdered}
 use Rattle.cil_names.specs.Numbers.{has_section, symbol_of}
@@ -18,7 +19,7 @@ use Rattle.cil_attrs.specs.declared.giver.SetKind.{SetKind}
 use Rattle.cil_attrs.specs.declared.space.Space.{Space}
 use Rattle.cil_attrs.specs.declared.space.Space.TheVariants.{Types, Roles, Users}
 use Rattle.cil_attrs.specs.Begun.{is_sets_kind}
-use Rattle.cil_attrs.specs.Givers.{AreWritten}
+use Rattle.cil_attrs.specs.Givers.{AreWritten, SaysItsTerms}
 use Rattle.cil_attrs.specs.Holding.{is_kind}
 use Rattle.cil_attrs.specs.NameSpaces.{IsSpaceOf, is_kind_in, kinds_in, sign_in}
 use Rattle.cil_attrs.proofs.MembersLemmas.{kinds_of}
@@ -38,9 +39,9 @@ items_apart Roles = refl
 items_apart Users = refl
 
 pub are_written : (r : Space) → AreWritten (kinds_in r)
-are_written Types = (refl, refl)
-are_written Roles = (tt, refl)
-are_written Users = (tt, refl)
+are_written Types = (record { written = refl; plain = refl }, record { written = refl; plain = refl })
+are_written Roles = (tt, record { written = refl; plain = refl })
+are_written Users = (tt, record { written = refl; plain = refl })
 
 pub items_have_section : (r : Space) → has_section (kinds_in r).item ≡ true
 items_have_section Types = refl
@@ -65,8 +66,11 @@ attribute_wanted Types a e = ap (λ (s : SetKind). is_wanted (sign_in Types) s.k
 attribute_wanted Roles a e = ap (λ (s : SetKind). is_wanted (sign_in Roles) s.kind) (sym (same_set _ a e))
 attribute_wanted Users a e = ap (λ (s : SetKind). is_wanted (sign_in Users) s.kind) (sym (same_set _ a e))
 
-pub alias_written : (r : Space) (a : SetKind) → (kinds_in r).aliases ≡ Some a → says_as_written a.giving ≡ true
-alias_written Types a e = ap (λ (s : SetKind). says_as_written s.giving) (sym (same_set _ a e))
+pub alias_written : (r : Space) (a : SetKind) → (kinds_in r).aliases ≡ Some a → SaysItsTerms a.giving
+alias_written Types a e = record {
+  written = ap (λ (s : SetKind). says_as_written s.giving) (sym (same_set _ a e));
+  plain = ap (λ (s : SetKind). is_mapping s.giving) (sym (same_set _ a e));
+}
 alias_written Roles a e = absurd (let f : None ≡ Some a = e in cc)
 alias_written Users a e = absurd (let f : None ≡ Some a = e in cc)
 

@@ -7,6 +7,7 @@ use Rattle.cil_syntax.specs.Scopes.{ScopedWord}
 use Rattle.cil_syntax.specs.Terms.{Term}
 use Rattle.cil_macros.specs.Item.{Item, is_enabled, replaced}
 use Rattle.cil_macros.specs.Items.{Kept, item_at, items_in, says_as_written, word_at}
+use Rattle.cil_names.specs.Resolves.{is_mapping}
 use Rattle.cil_names.specs.declared.entry.Entry.{Entry}
 use Rattle.cil_names.specs.declared.known.Known.{Known}
 use Rattle.cil_names.specs.Declarations.{Symbol}
@@ -39,10 +40,15 @@ pub record HasKinds (r : SpaceKinds) (which : SpaceOf) : Type 0 where
   pub aliases : AreSets r.aliases which.aliases
   pub attributes : AreSets r.attributes which.attributes
 
--- the statements that give members say what is written
+-- statements of this keyword say what is written, and ask for the words of their terms
+pub record SaysItsTerms (keyword : Keyword) : Type 0 where
+  pub written : says_as_written keyword ≡ true
+  pub plain : is_mapping keyword ≡ false
+
+-- so do the statements that give members
 abbrev pub is_written : Option SetKind → Type 0
 is_written None = Unit {0}
-is_written (Some r) = says_as_written r.giving ≡ true
+is_written (Some r) = SaysItsTerms r.giving
 
 abbrev pub AreWritten : SpaceKinds → Type 0
 AreWritten r = is_written r.aliases × is_written r.attributes

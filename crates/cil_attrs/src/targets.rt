@@ -4,12 +4,12 @@
 ghost use Rattle.std.specs.Prelude.{◌≡◌, ◌↔◌, ◌<◌, ◌⊎◌, ◌++◌, ℕ, Contains, IfOk, IsTrue, List, None, OnOk, Option, Some, false, get_or, length, map, not, slice_get, true};
 ghost use Rattle.std.specs.Option.{is_some, option_map_or};
 ghost use Rattle.cil_syntax.specs.declared.kind.Kind as kinds;
-ghost use Rattle.cil_macros.specs.Items.{items_in, says_as_written};
+ghost use Rattle.cil_macros.specs.Items.{items_in};
 ghost use Rattle.cil_names.specs.Known.{IsKnown, row_in};
 ghost use Rattle.cil_names.specs.Rows.{IsTableOf};
 ghost use Rattle.cil_names.specs.Spaces.{Sets};
 ghost use Rattle.cil_attrs.specs.declared.targets.Step.{Step as AStep};
-ghost use Rattle.cil_attrs.specs.Givers.{IsSets};
+ghost use Rattle.cil_attrs.specs.Givers.{IsSets, SaysItsTerms};
 ghost use Rattle.cil_attrs.specs.Made.{said};
 ghost use Rattle.cil_attrs.specs.Targets.{AreLast, AreSteps, HasOther, IsFlagged, IsOther, leaf_meaning, steps_by, steps_in, target_among, target_by, is_target};
 
@@ -41,7 +41,7 @@ pub fn steps_of(
     aliases: SetKind,
 ) -> Result<Vec<Step>, NoMemory>
     requires table { IsTableOf (map (row_in known.now) (items_in instances.now)) known.now.words.now }
-    requires written { says_as_written aliases.giving ≡ true }
+    requires written { SaysItsTerms aliases.giving }
     ensures { IfOk result (λ steps. (sections : kinds.Kind → List (List ℕ)) (j : Sets) → IsKnown known.now (items_in instances.now) sections → IsSets aliases j
         → AreSteps known.now instances.now item j steps.items) }
 {

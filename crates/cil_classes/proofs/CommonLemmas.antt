@@ -1,5 +1,5 @@
 -- Classes that statements join to two different commons, by the numbers of their entries.
-use Rattle.std.specs.Prelude.{◌⊎◌, ◌↔◌, Contains, None, Option, Some, set, slice_get}
+use Rattle.std.specs.Prelude.{◌⊎◌, ◌↔◌, Contains, None, Some, set, slice_get}
 use Rattle.std.specs.List.Sorted.{IsStrictlySortedBy}
 use Rattle.std.specs.Ordering.{nat_cmp, ordering_then}
 use Rattle.std.specs.declared.cmp.Ordering.{Ordering}
@@ -13,7 +13,7 @@ use Rattle.std.proofs.lemmas.Option.{none-some, same_Some}
 use Rattle.cil_base.specs.Lists.{contains_cases, contains_here, contains_none, not_below_itself}
 use Rattle.cil_base.specs.Places.{get_at, get_contains, in_range, some_at}
 use Rattle.cil_base.specs.Rising.{rises_between}
-use Rattle.cil_blocks.specs.Namespaces.{AreNamespaces, space_at}
+use Rattle.cil_blocks.specs.Namespaces.{AreNamespaces}
 use Rattle.cil_blocks.specs.declared.namespaces.Space.{Space}
 use Rattle.cil_faults.specs.Reported.{fault_at}
 use Rattle.cil_faults.specs.declared.code.FaultCode.TheVariants as causes
@@ -21,7 +21,7 @@ use Rattle.cil_faults.specs.declared.fault.Fault.{Fault}
 use Rattle.cil_macros.specs.Item.{Item, all_replaced}
 use Rattle.cil_macros.proofs.FormLemmas.{pair_across}
 use Rattle.cil_names.specs.Declarations.{Symbol}
-use Rattle.cil_names.specs.Entries.{AreEntries, AreOrdered}
+use Rattle.cil_names.specs.Entries.{AreOrdered}
 use Rattle.cil_names.specs.Numbers.{symbol_of}
 use Rattle.cil_names.specs.Resolves.{names_outside}
 use Rattle.cil_names.specs.Shared.{AreShared, IsEntryOf, IsPairOf, IsSharing, Pair, Shares}

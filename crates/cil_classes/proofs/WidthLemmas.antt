@@ -42,7 +42,7 @@ use Rattle.cil_blocks.specs.Namespaces.{space_at}
 use Rattle.cil_names.specs.Unresolved.{ArePermissions, listed_at}
 use Rattle.cil_macros.proofs.ItemsThere.{IsSaid}
 use Rattle.cil_classes.specs.Commons.{IsToldTwice}
-use Rattle.cil_classes.specs.Faults.{ClassFault, two_commons, wide}
+use Rattle.cil_classes.specs.Faults.{ClassFault, HasManyClasses, too_many, two_commons, wide}
 use Rattle.cil_classes.specs.Row.{most_permissions}
 use Rattle.cil_classes.specs.Widths.{IsWide}
 use Rattle.std.specs.List.Sorted.{IsStrictlySortedBy}
@@ -226,20 +226,26 @@ module _ (xs : List Item) (s : OptSet) where
   )
 
   -- with those of commons they are all
-  module _ (k : ℕ) (wides faults : List Fault) (over : length xs ≤ k) (are : AreToldOf (take k xs) wides) (more : (f : Fault) → (Contains faults f → Contains wides f ⊎ IsToldTwice xs f) × (Contains wides f ⊎ IsToldTwice xs f → Contains faults f)) where
-    pub fault_there : (f : Fault) → Contains faults f → ClassFault s xs f
-    fault_there f c = elim ((more f).0 c) [
+  module _ (k : ℕ) (wides before faults : List Fault) (over : length xs ≤ k) (are : AreToldOf (take k xs) wides)
+      (more : (f : Fault) → (Contains before f → Contains wides f ⊎ IsToldTwice xs f) × (Contains wides f ⊎ IsToldTwice xs f → Contains before f))
+      (last : (f : Fault) → (Contains faults f → Contains before f ⊎ HasManyClasses s xs f) × (Contains before f ⊎ HasManyClasses s xs f → Contains faults f)) where
+    there_before : (f : Fault) → Contains before f → ClassFault s xs f
+    there_before f c = elim ((more f).0 c) [
       | inl d ↦
           let (x, cx, w) = (are f).0 d in
           subst (ClassFault s xs) (sym w.told) (wide x w.at w.name w.rest w.permissions (subst (λ z. Contains z x) (take_all k xs over) cx) w.enabled w.keyword w.says w.listed w.wide)
       | inr t ↦ two_commons t.0 f t.1 t.2
     ]
 
+    pub fault_there : (f : Fault) → Contains faults f → ClassFault s xs f
+    fault_there f c = elim ((last f).0 c) [ inl d ↦ there_before f d | inr m ↦ too_many f m ]
+
     pub fault_back : (f : Fault) → ClassFault s xs f → Contains faults f
     fault_back f (wide x at name rest permissions c on keyword says listed big) =
-        (more (fault_at causes.ClassWide at x.space name)).1 (inl ((are (fault_at causes.ClassWide at x.space name)).1 (
+        (last (fault_at causes.ClassWide at x.space name)).1 (inl ((more (fault_at causes.ClassWide at x.space name)).1 (inl ((are (fault_at causes.ClassWide at x.space name)).1 (
           x,
           subst (λ z. Contains z x) (sym (take_all k xs over)) c,
           record { at = at; name = name; rest = rest; permissions = permissions; enabled = on; keyword = keyword; says = says; listed = listed; wide = big; told = refl },
-        )))
-    fault_back f (two_commons x g c h) = (more f).1 (inr (x, c, h))
+        )))))
+    fault_back f (two_commons x g c h) = (last f).1 (inl ((more f).1 (inr (x, c, h))))
+    fault_back f (too_many g m) = (last f).1 (inr m)

@@ -6,7 +6,7 @@ use Rattle.cil_syntax.specs.Scopes.{ScopedWord}
 use Rattle.cil_syntax.specs.Terms.{Term}
 use Rattle.cil_macros.specs.Item.{Item, OptSet}
 use Rattle.cil_names.specs.Declarations.{Symbol, name_of}
-use Rattle.cil_classes.specs.Pairs.{HasPair}
+use Rattle.cil_classes.specs.Given.{HasPair}
 use Rattle.cil_classes.specs.declared.row.Class.{Class}
 use Rattle.cil_classes.specs.declared.row.ClassId.{ClassId}
 

@@ -23,8 +23,8 @@ use std::alloc::Global;
 /// the classes and commons that statements join. A class costs a copy of its name and of its permissions, each class statement
 /// one search by halving, and each statement that joins a common two look-ups of its words.
 ///
-/// Errors: enabled classes with more permissions than a mask has bits, at each of their statements, and classes with two
-/// different commons, at each statement that joins one to them; or out of memory.
+/// Errors: enabled classes with more permissions than a mask has bits, at each of their statements, classes with two
+/// different commons, at each statement that joins one to them, and more classes than a policy may have; or out of memory.
 pub fn classes(
     alloc: Global,
     lookup: &Lookup,
@@ -42,7 +42,8 @@ pub fn classes(
     ensures { Answers (λ classes. AreRowsOf lookup.now.namespaces.now lookup.now.names.now (is_in lookup.now.enabled.now) permissions.now numbering.now.sections.classes.items classes.rows.items)
         (ClassFault (is_in lookup.now.enabled.now) (items_in instances.now)) result }
 {
-    check_classes(alloc, lookup, permissions, shared, instances)?;
+    let names = numbering.sections.classes.as_slice();
+    check_classes(alloc, lookup, permissions, shared, instances, names)?;
     let rows = class_rows(alloc, lookup, numbering, permissions)?;
     Ok(Classes { rows })
 }

@@ -1,4 +1,4 @@
-//! Classes with more permissions than a mask has bits.
+//! Classes with more permissions than a mask has bits, and all that is wrong with classes.
 
 ghost use Rattle.std.specs.Prelude.{◌≡◌, ◌<◌, ◌↔◌, ◌⊎◌, Contains, MatchOption, OnOk, length};
 ghost use Rattle.cil_faults.specs.declared.fault.Fault.{Fault as AFault};
@@ -9,10 +9,12 @@ ghost use Rattle.cil_macros.specs.Items.{item_at, items_in, namespaces_in};
 ghost use Rattle.cil_names.specs.Entries.{AreEntries, is_in};
 ghost use Rattle.cil_names.specs.Shared.{AreShared};
 ghost use Rattle.cil_names.specs.Unresolved.{ArePermissions, listed_at};
-ghost use Rattle.cil_classes.specs.Faults.{ClassFault};
+ghost use Rattle.cil_base.specs.Lists.{Lists, text_cmp};
+ghost use Rattle.cil_classes.specs.Faults.{ClassFault, IsClassName};
 ghost use Rattle.cil_classes.specs.Widths.{IsWide};
 
 use crate::commons::push_commons;
+use crate::limit::push_many;
 use cil_base::NoMemory;
 use cil_blocks::spelled::spelled;
 use cil_macros::Instances;
@@ -23,9 +25,9 @@ use std::alloc::Global;
 /// How many permissions a class may have.
 const MOST_PERMISSIONS: usize = 32;
 
-/// Refuses enabled classes with more permissions than a mask has bits, at each of their statements, and classes with two
-/// different commons, at each statement that joins one to them. A class statement costs one search by halving, one of
-/// commons two look-ups of its words.
+/// Refuses enabled classes with more permissions than a mask has bits, at each of their statements, classes with two
+/// different commons, at each statement that joins one to them, and more classes than a policy may have, where these are the
+/// names of all. A class statement costs one search by halving, one of commons two look-ups of its words.
 ///
 /// Errors: the faults, or out of memory.
 pub fn check_classes(
@@ -34,11 +36,13 @@ pub fn check_classes(
     permissions: &[Vec<Bytes>],
     shared: &[Shared],
     instances: &Instances,
+    names: &[Bytes],
 ) -> Result<(), Failure>
     requires namespaces { lookup.now.namespaces.now ≡ namespaces_in instances.now }
     requires entries { AreEntries lookup.now.namespaces.now (items_in instances.now) lookup.now.names.now }
     requires permissions { ArePermissions lookup.now.namespaces.now lookup.now.names.now (items_in instances.now) permissions.now }
     requires shared { AreShared (namespaces_in instances.now) lookup.now.names.now (items_in instances.now) shared.now }
+    requires names { Lists text_cmp (IsClassName (is_in lookup.now.enabled.now) (items_in instances.now)) names.now }
     ensures { Answers (λ done. Unit {0}) (ClassFault (is_in lookup.now.enabled.now) (items_in instances.now)) result }
 {
     let mut faults = Vec::new(alloc);
@@ -46,6 +50,7 @@ pub fn check_classes(
         push_wide(alloc, &mut faults, lookup, permissions, instances, at)?;
     }
     push_commons(alloc, &mut faults, lookup.names, shared, instances)?;
+    push_many(alloc, &mut faults, names)?;
     refuse(faults)
 }
 
@@ -114,7 +119,7 @@ fn wide_class<'a>(
 }
 
 /// How many permissions are listed for an entry.
-fn listed_count(permissions: &[Vec<Bytes>], d: usize) -> usize
+pub fn listed_count(permissions: &[Vec<Bytes>], d: usize) -> usize
     ensures { result ≡ length (listed_at permissions.now d) }
 {
     match permissions.get(d) {

@@ -1,3 +1,4 @@
 pub mod QueryLemmas
+pub mod CheckLemmas
 pub mod ListLemmas
 pub mod PermissionLemmas

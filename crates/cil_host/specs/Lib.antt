@@ -1,3 +1,4 @@
+pub mod Checks
 pub mod Codes
 pub mod Listed
 pub mod Machine

@@ -18,7 +18,7 @@ use Rattle.cil_host.specs.declared.host.Policy.{Policy}
 use Rattle.cil_host.specs.declared.fault.HostError.{HostError}
 use Rattle.cil_host.specs.declared.fault.HostError.TheVariants as errors
 use Rattle.cil_host.specs.declared.fault.QueryFault.{QueryFault}
-use Rattle.cil_host.specs.declared.fault.QueryFault.TheVariants.{NoPolicy, BadSource, BadTarget, NoClass}
+use Rattle.cil_host.specs.declared.fault.QueryFault.TheVariants.{NoPolicy, BadSource, BadTarget, NoClass, NoPermission}
 
 -- what was accepted: the modules, and the reasons why optionals of theirs are left out
 pub record Accepted : Type 0 where
@@ -96,6 +96,7 @@ Queries h source target class_name (Err NoPolicy) = h.loaded ≡ None
 Queries h source target class_name (Err BadSource) = OfLoaded h (λ modules. HasNoContext modules source)
 Queries h source target class_name (Err BadTarget) = OfLoaded h (LacksTarget source target)
 Queries h source target class_name (Err NoClass) = OfLoaded h (LacksClass source target class_name)
+Queries h source target class_name (Err NoPermission) = ⊥
 
 -- ---- optionals
 

@@ -13,6 +13,8 @@ pub enum QueryFault {
     BadTarget,
     /// There is no class of this name (73).
     NoClass,
+    /// The class has no permission of this name (74).
+    NoPermission,
 }
 
 /// What keeps a host from its answer.
@@ -39,7 +41,7 @@ impl QueryFault {
     ghost use Rattle.std.specs.Prelude.{◌≡◌};
     ghost use Rattle.cil_host.specs.Codes.{number_of};
 
-    /// The code of this fault in the replies of a host, from 71 to 73. A bad source and a bad target have the same code.
+    /// The code of this fault in the replies of a host, from 71 to 74. A bad source and a bad target have the same code.
     pub fn number(self) -> u32
         ensures { result ≡ number_of self }
     {
@@ -48,6 +50,7 @@ impl QueryFault {
             QueryFault::BadSource => 72,
             QueryFault::BadTarget => 72,
             QueryFault::NoClass => 73,
+            QueryFault::NoPermission => 74,
         }
     }
 }
@@ -59,6 +62,7 @@ impl fmt::Display for QueryFault {
             QueryFault::BadSource => write!(f, "the source is no valid context"),
             QueryFault::BadTarget => write!(f, "the target is no valid context"),
             QueryFault::NoClass => write!(f, "no class has this name"),
+            QueryFault::NoPermission => write!(f, "the class has no such permission"),
         }
     }
 }

@@ -1,8 +1,9 @@
 //! A host: its modules, and the policy that is loaded from them.
 
-ghost use Rattle.std.specs.Prelude.{◌≡◌, ℕ, List, [], map, None, IfOk, IfNone, IfSome, ◌≤◌};
+ghost use Rattle.std.specs.Prelude.{◌≡◌, ◌<◌, ℕ, List, [], map, None, IfOk, IfNone, IfSome, ◌≤◌};
 ghost use Rattle.cil_modset.specs.Bundle.{bundle};
 ghost use Rattle.cil_modset.specs.Changes.{IsImported, IsInstalled};
+ghost use Rattle.cil_host.specs.Checks.{Checks};
 ghost use Rattle.cil_host.specs.Machine.{OfLoaded, Queries, State, TellsOptionals, TellsWhy};
 ghost use Rattle.cil_host.specs.Permissions.{IsInOrder, IsPermissionOf};
 ghost use Rattle.cil_host.specs.Listed.{line_of};
@@ -11,7 +12,9 @@ ghost use Rattle.cil_host.specs.Refusal.{Loads};
 use crate::fault::{HostError, QueryFault};
 use crate::lines::{copied_optionals, copied_reasons};
 use cil_base::NoMemory;
-use cil_decide::{Decision, class_named, decide, laws, parse_context, permission_at};
+use cil_decide::{
+    Decision, class_named, decide, laws, parse_context, permission_at, permission_named,
+};
 use cil_faults::Failure;
 use cil_modset::{BundleError, Installed, ModuleSet};
 use cil_optionals::{OptionalLine, WhyLine};
@@ -197,6 +200,43 @@ impl<S: Drop> Host<S> {
             return None;
         };
         permission_at(&policy.compiled.tables, class, bit)
+    }
+
+    /// Whether a permission is allowed, by the decision of `query`. It takes no memory.
+    ///
+    /// Errors: those of `query`, and then that the class has no such permission.
+    pub fn check(
+        &mut self,
+        source: &[u8],
+        target: &[u8],
+        class: &[u8],
+        permission: &[u8],
+    ) -> Result<bool, QueryFault>
+        ensures answer { Checks self.old source.now target.now class.now permission.now result }
+        ensures stays { self.new ≡ self.old }
+    {
+        match self.query(source, target, class) {
+            Ok(decision) => match self.bit_of(class, permission) {
+                Some(bit) => Ok((decision.allowed >> bit) & 1 == 1),
+                None => Err(QueryFault::NoPermission),
+            },
+            Err(fault) => Err(fault),
+        }
+    }
+
+    /// The bit of a permission of a class, if the class has it.
+    fn bit_of(&self, class: &[u8], permission: &[u8]) -> Option<u32>
+        ensures within { IfSome result (λ bit. bit < 32) }
+        ensures found { IfSome result (λ bit. OfLoaded self.now (IsPermissionOf class.now bit permission.now)) }
+        ensures none { IfNone result ((bit : ℕ) → OfLoaded self.now (IsPermissionOf class.now bit permission.now) → ⊥) }
+    {
+        let Some(policy) = &self.policy else {
+            return None;
+        };
+        let Some(class) = class_named(&policy.compiled.tables, class) else {
+            return None;
+        };
+        permission_named(&policy.compiled.tables, class, permission)
     }
 }
 

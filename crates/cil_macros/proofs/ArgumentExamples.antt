@@ -51,7 +51,7 @@ arguments_1 = (refl, refl, refl, refl, refl, refl, refl, refl)
 -- CategoryKind: `c0`
 -- CategoryKind: `(c0)`
 -- CategorySetKind: `c0`
-pub arguments_2 : (is_argument ops.ClassPermissionKind (kept 0 (codes "p")) ≡ false)
+pub arguments_2 : (is_argument ops.ClassPermissionKind (kept 0 (codes "p")) ≡ true)
     × (is_argument ops.ClassPermissionKind (Form (spot 0) ops.UnreadList (cons (kept 1 (codes "c")) (cons (Form (spot 3) ops.UnreadList (cons (kept 4 (codes "p")) (cons (kept 6 (codes "q")) nil))) nil))) ≡ true)
     × (is_argument ops.ClassPermissionKind (Form (spot 0) ops.UnreadList (cons (kept 1 (codes "c")) (cons (Form (spot 3) ops.UnreadList (cons (kept 4 (codes "not")) nil)) nil))) ≡ false)
     × (is_argument ops.ClassPermissionKind (Form (spot 0) ops.UnreadList (cons (kept 1 (codes "c")) nil)) ≡ false)

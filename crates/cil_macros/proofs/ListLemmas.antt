@@ -231,9 +231,9 @@ module _ (w : Word) where
   unfolding cell_in read_word
   set_word sign = all_or_sound (same_bytes w.bytes (codes "all")) _ _ _ ∙ ap (λ b. same_bytes w.bytes (codes "all") || b) (leaf_word sign w)
 
-  pub no_permission_word : is_read_as class_permission (Leaf w) ≡ false
+  pub permission_word : is_read_as class_permission (Leaf w) ≡ is_sound_word signs.ClassPermissions w.bytes
   unfolding cell_in read_word
-  no_permission_word = refl
+  permission_word = leaf_word signs.ClassPermissions w
 
   pub level_word : is_read_as level (Leaf w) ≡ is_sound_word signs.Levels w.bytes
   unfolding cell_in read_word

@@ -31,12 +31,12 @@ pub enum SetHead {
     Union,
 }
 
-/// Whether an argument is a class and a set of its permissions. No name of a class permission is supported yet.
+/// Whether an argument is a class permission: its name, or a class and a set of its permissions.
 pub(crate) fn is_class_permission(argument: &Term) -> bool
     ensures { (n : ℕ) → result ≡ is_read_as class_permission (said_of n argument.now) }
 {
     match argument {
-        Term::Leaf(_) => false,
+        Term::Leaf(word) => is_sound(Sign::ClassPermissions, word.bytes.as_slice()),
         Term::Name(_, _) => false,
         Term::Form(op, _, items) => {
             if is_text_op(*op) {

@@ -1,6 +1,6 @@
 -- What a placed statement says, by what is written; and in which scope its words are looked up.
 use Rattle.std.specs.Prelude.{All, Contains}
-use Rattle.std.proofs.Common.{◌≡◌, ℕ, ◌≤◌, true, false, List, [], ◌∷◌, ◌++◌, map, length, get_or, refl, sym, ◌∙◌, ap, subst, append-nil}
+use Rattle.std.proofs.Common.{◌≡◌, ℕ, ◌≤◌, Bool, true, false, if◌then◌else◌, List, [], ◌∷◌, ◌++◌, drop, map, take, length, get_or, refl, sym, ◌∙◌, ap, subst, append-nil}
 use Rattle.std.proofs.lemmas.List.{map-append}
 use Rattle.std.proofs.lemmas.Simd.{map-map}
 use Rattle.cil_base.specs.Places.{contains_at}
@@ -26,7 +26,8 @@ use Rattle.cil_macros.proofs.ItemLemmas.{abstract_says, inherit_says, said_as_wr
 use Rattle.cil_names.specs.declared.reading.Reading.{Reading}
 use Rattle.cil_names.specs.Entries.{scoped}
 use Rattle.cil_names.specs.Readings.{IsReading, item_read, word_read}
-use Rattle.cil_names.specs.Resolves.{Word as AWord, all_wanted_in, wanted_in}
+use Rattle.cil_names.specs.Resolves.{Word as AWord, all_wanted_in, is_mapping, wanted_in, words_of, words_of_class, words_of_mapping, words_said}
+use Rattle.cil_names.specs.Unresolved.{terms_with}
 
 -- ---- words of terms
 
@@ -114,9 +115,39 @@ module _ (r : Reading) (is : IsReading r) where
   call_meant f ws e =
       sym (ap (λ ts. map f (all_words_in ts)) e ∙ ap (map f) (words_of_leaves (map (scoped_by (all_placed r.instances.now)) ws)) ∙ map-map f (scoped_by (all_placed r.instances.now)) ws)
 
-pub call_wanted : (r : Reading) (ws : List PlacedWord) → (item_read r).args ≡ leaves (map (scoped_by (all_placed r.instances.now)) ws)
-    → all_wanted_in (item_read r).args ≡ map (λ w. AWord (scoped_by (all_placed r.instances.now) w)) ws
-call_wanted r ws e = ap all_wanted_in e ∙ wanted_of_leaves (map (scoped_by (all_placed r.instances.now)) ws) ∙ map-map AWord (scoped_by (all_placed r.instances.now)) ws
+-- ---- the words of a statement
+
+call_no_mapping : (k : Keyword) → is_call k ≡ true → is_mapping k ≡ false
+call_no_mapping keywords.Call e = refl
+call_no_mapping k e = absurd cc
+
+-- the words of a statement that is no classmapping are those of its terms
+pub plain_said : (k : Keyword) (args : Terms ScopedWord) → is_mapping k ≡ false → words_said k args ≡ all_wanted_in args
+plain_said k args e = ap (λ b. if b then words_of_mapping args else all_wanted_in args) e
+
+pub mapping_said : (k : Keyword) (args : Terms ScopedWord) → is_mapping k ≡ true → words_said k args ≡ words_of_mapping args
+mapping_said k args e = ap (λ b. if b then words_of_mapping args else all_wanted_in args) e
+
+-- what says nothing asks for nothing
+pub nothing_said : (k : Keyword) (args : Terms ScopedWord) → args ≡ nil → words_said k args ≡ []
+nothing_said k args e = ap (words_said k) e ∙ none (is_mapping k)
+  where
+    none : (b : Bool) → (if b then words_of_mapping nil else all_wanted_in nil) ≡ []
+    none true = refl
+    none false = none_wanted
+
+pub call_wanted : (r : Reading) → is_call (item_read r).keyword ≡ true → (ws : List PlacedWord) → (item_read r).args ≡ leaves (map (scoped_by (all_placed r.instances.now)) ws)
+    → words_of (item_read r) ≡ map (λ w. AWord (scoped_by (all_placed r.instances.now) w)) ws
+call_wanted r called ws e =
+    plain_said (item_read r).keyword (item_read r).args (call_no_mapping (item_read r).keyword called)
+    ∙ ap all_wanted_in e ∙ wanted_of_leaves (map (scoped_by (all_placed r.instances.now)) ws) ∙ map-map AWord (scoped_by (all_placed r.instances.now)) ws
+
+-- the words of a classmapping, by its first two terms and those behind them
+pub mapping_wanted : (f : Word → ScopedWord) (m : ℕ) (ts : List rust.Term) → words_of_class (terms_with f m (take 2 ts)) ++ all_wanted_in (terms_with f m (drop 2 ts)) ≡ words_of_mapping (terms_with f m ts)
+unfolding all_replaced all_wanted_in
+mapping_wanted f m [] = refl
+mapping_wanted f m (a ∷ []) = append-nil (words_of_class (terms_with f m (a ∷ [])))
+mapping_wanted f m (a ∷ b ∷ ts) = refl
 
 -- ---- scopes
 

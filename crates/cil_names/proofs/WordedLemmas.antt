@@ -5,6 +5,7 @@ use Rattle.std.proofs.Common.{◌≡◌, ℕ, zero, suc, ◌+◌, ◌<◌, ◌�
 use Rattle.std.proofs.lemmas.Bool.{cases_Bool, true≢false}
 use Rattle.std.proofs.lemmas.List.{drop_all, map-append, take_more}
 use Rattle.std.proofs.lemmas.Simd.{map-map}
+use Rattle.cil_syntax.specs.declared.kind.Keyword.{Keyword}
 use Rattle.cil_syntax.specs.declared.program.Statement.{Statement as Kept-statement}
 use Rattle.cil_syntax.specs.declared.term.LookedUp.{LookedUp}
 use Rattle.cil_syntax.specs.declared.term.Op.{Op}
@@ -24,11 +25,11 @@ use Rattle.cil_macros.specs.Macros.{all_standing}
 use Rattle.cil_macros.specs.Placed.{Placed, all_filled, filled}
 use Rattle.cil_macros.specs.Walks.{written_in}
 use Rattle.cil_macros.proofs.ItemLemmas.{said_filled}
-use Rattle.cil_names.specs.Resolves.{all_wanted_in, wanted_in, words_of, words_of_class}
+use Rattle.cil_names.specs.Resolves.{all_wanted_in, is_mapping, wanted_in, words_of, words_of_class, words_of_mapping, words_said}
 use Rattle.cil_names.specs.Declarations.{content_of}
 use Rattle.cil_names.specs.DeclareRows.{SaysWritten, behind, content_at}
 use Rattle.cil_names.specs.Worded.{IsOfStatement, IsWordless, has_some, is_worded}
-use Rattle.cil_names.proofs.ReadingLemmas.{no_words, says_nothing}
+use Rattle.cil_names.proofs.ReadingLemmas.{mapping_said, no_words, plain_said, says_nothing}
 
 -- ---- terms
 
@@ -140,6 +141,22 @@ mutual
       let (first, rest) = none_both (words_in t) (all_words_in ts) e in
       ap (λ l. l ++ all_wanted_in ts) (term_unasked t first) ∙ all_unasked ts rest
 
+-- a classmapping too
+mapping_unasked : (ts : Terms ScopedWord) → all_words_in ts ≡ [] → words_of_mapping ts ≡ []
+unfolding words_in all_words_in
+mapping_unasked nil e = refl
+mapping_unasked (cons m nil) e = class_unasked (cons m nil) e
+mapping_unasked (cons m (cons r rest)) e =
+    let (first, behind) = none_both (words_in m) (all_words_in (cons r rest)) e in
+    let (second, others) = none_both (words_in r) (all_words_in rest) behind in
+    ap (λ l. l ++ all_wanted_in rest) (class_unasked (cons m (cons r nil)) (ap (λ l. l ++ all_words_in (cons r nil)) first ∙ ap (λ l. l ++ []) second)) ∙ all_unasked rest others
+
+unasked_said : (k : Keyword) (ts : Terms ScopedWord) → all_words_in ts ≡ [] → words_said k ts ≡ []
+unasked_said k ts e = elim (cases_Bool (is_mapping k)) [
+  | inl t ↦ mapping_said k ts t ∙ mapping_unasked ts e
+  | inr f ↦ plain_said k ts f ∙ all_unasked ts e
+]
+
 -- terms without words have none where their words are replaced
 module _ {L M : Type 0} (f : L → Term M) where
   mutual
@@ -191,7 +208,7 @@ module _ (i : Kept) (at : ℕ) (unworded : is_worded (placed_at i at).standing.s
 
   -- it asks for nothing
   pub unworded_asks : words_of (item_at i at) ≡ []
-  unworded_asks = all_unasked (item_at i at).args unworded_says
+  unworded_asks = unasked_said (item_at i at).keyword (item_at i at).args unworded_says
 
 -- ---- what has no words says the same at each place
 

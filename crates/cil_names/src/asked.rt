@@ -9,10 +9,10 @@ ghost use Rattle.cil_macros.specs.Items.{all_placed, item_at, items_in, scoped_b
 ghost use Rattle.cil_macros.specs.Placed.{Placed};
 ghost use Rattle.cil_names.specs.Asked.{asked_by, wanted_by};
 ghost use Rattle.cil_names.specs.Readings.{IsReading, item_read, module_of, scoped_there, word_read};
-ghost use Rattle.cil_names.specs.Resolves.{all_wanted_in, told_at, told_word, wanted_in, words_of, words_of_class};
+ghost use Rattle.cil_names.specs.Resolves.{all_wanted_in, told_at, told_word, wanted_in, words_of, words_of_class, words_of_mapping};
 ghost use Rattle.cil_names.specs.Unresolved.{term_with, terms_with};
 
-use crate::reading::{Reading, is_call, says_as_written};
+use crate::reading::{Reading, behind_two, front_two, is_call, is_mapping, says_as_written};
 use cil_base::NoMemory;
 use cil_macros::{Instances, PlacedWord};
 use cil_syntax::{Excerpt, Term, Word, word_and_terms};
@@ -121,8 +121,28 @@ impl<'r, 's, 'p, 'a> Reading<'r, 's, 'p, 'a> {
         if !says_as_written(self.statement.keyword) {
             return Ok(asked);
         }
-        self.ask_terms(alloc, &mut asked, self.statement.args.as_slice())?;
+        let terms = self.statement.args.as_slice();
+        if is_mapping(self.statement.keyword) {
+            self.ask_mapping(alloc, &mut asked, terms)?;
+            return Ok(asked);
+        }
+        self.ask_terms(alloc, &mut asked, terms)?;
         Ok(asked)
+    }
+
+    /// Adds what the terms of a classmapping ask for: its class map, its permission as one of the map, and what is behind them.
+    fn ask_mapping(
+        &self,
+        alloc: Global,
+        asked: &mut Vec<Asked<'a>>,
+        terms: &[Term<'a>],
+    ) -> Result<(), NoMemory>
+        requires { IsReading self.now }
+        ensures { OnOk result (asked_by self.now asked.new.items ≡ asked_by self.now asked.old.items ++ words_of_mapping (terms_with (word_read self.now) (module_of self.now) terms.now)) }
+    {
+        self.ask_class_list(alloc, asked, front_two(terms))?;
+        self.ask_terms(alloc, asked, behind_two(terms))?;
+        Ok(())
     }
 
     /// Adds the words of a call.

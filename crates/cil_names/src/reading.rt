@@ -1,13 +1,14 @@
 //! A placed statement, as its words are looked up: what each says there, and where it is looked up.
 
-ghost use Rattle.std.specs.Prelude.{◌≡◌, ◌↔◌, IfOk, IsTrue, Some, map, true};
+ghost use Rattle.std.specs.Prelude.{◌≡◌, ◌↔◌, IfOk, IsTrue, Some, drop, map, take, true};
 ghost use Rattle.cil_macros.specs.Calls.{is_call};
 ghost use Rattle.cil_macros.specs.Items.{all_placed, leaves, says_as_written, scoped_by};
+ghost use Rattle.cil_names.specs.Resolves.{is_mapping as maps};
 ghost use Rattle.cil_names.specs.Readings.{IsReading, item_read, scoped_there, word_read};
 
 use cil_base::NoMemory;
 use cil_macros::{Instances, PlacedWord};
-use cil_syntax::{Keyword, Statement, Word};
+use cil_syntax::{Keyword, Statement, Term, Word};
 use std::alloc::Global;
 
 /// The statement at a place.
@@ -65,4 +66,25 @@ pub fn says_as_written(keyword: Keyword) -> bool
         keyword,
         Keyword::BlockInherit | Keyword::BlockAbstract | Keyword::Call
     )
+}
+
+/// Whether a statement says what a permission of a class map stands for.
+pub fn is_mapping(keyword: Keyword) -> bool
+    ensures { result ≡ maps keyword }
+{
+    matches!(keyword, Keyword::ClassMapping)
+}
+
+/// The first two of some terms.
+pub fn front_two<'t, 'a>(terms: &'t [Term<'a>]) -> &'t [Term<'a>]
+    ensures { result.now ≡ take 2 terms.now }
+{
+    if terms.len() <= 2 { terms } else { &terms[..2] }
+}
+
+/// The terms behind the first two.
+pub fn behind_two<'t, 'a>(terms: &'t [Term<'a>]) -> &'t [Term<'a>]
+    ensures { result.now ≡ drop 2 terms.now }
+{
+    if terms.len() <= 2 { &[] } else { &terms[2..] }
 }

@@ -1,15 +1,16 @@
 -- The records of allow rules.
-use Rattle.std.specs.Prelude.{Contains, Option, Some, None}
-use Rattle.std.proofs.Common.{◌≡◌, ℕ, ◌++◌, true, false, List, [], ◌∷◌, drop, get_or, length, map, refl, sym, ◌∙◌, ap, subst}
+use Rattle.std.specs.Prelude.{Contains, Option, None}
+use Rattle.std.proofs.Common.{◌≡◌, ℕ, ◌++◌, true, false, List, [], ◌∷◌, drop, get_or, length, map, refl, sym, ◌∙◌, ap, subst, inl, inr}
 use Rattle.std.proofs.Math.Seq.{drop-append_seam}
 use Rattle.std.proofs.lemmas.Bool.{true≢false}
 use Rattle.std.proofs.lemmas.List.{append-nil, length-map, map-append}
 use Rattle.std.proofs.lemmas.Option.{none-some, same_Some}
 use Rattle.std.specs.Ordering.{nat_cmp}
 use Rattle.cil_base.specs.Gives.{Gives}
-use Rattle.cil_base.specs.Lists.{Lists}
+use Rattle.cil_base.specs.Lists.{Lists, contains_cases, contains_here, contains_none}
+use Rattle.cil_base.specs.MadeLists.{contains_map, from_map}
 use Rattle.cil_syntax.specs.Forms.{rule_form}
-use Rattle.cil_syntax.specs.declared.kind.Keyword.TheVariants as keywords
+use Rattle.cil_syntax.specs.declared.kind.Keyword.{Keyword}
 use Rattle.cil_syntax.specs.declared.kind.Kind.{Kind}
 use Rattle.cil_syntax.specs.declared.kind.Kind.TheVariants as kinds
 use Rattle.cil_syntax.specs.declared.term.Word.{Word}
@@ -19,15 +20,21 @@ use Rattle.cil_syntax.specs.Scopes.{ScopedWord}
 use Rattle.cil_names.specs.declared.known.Known.{Known}
 use Rattle.cil_classes.specs.declared.row.Class.{Class}
 use Rattle.cil_rules.specs.declared.rule.NamedRule.{NamedRule}
-use Rattle.cil_rules.specs.Kept.{rule_named}
-use Rattle.cil_rules.specs.Rule.{Rule, Target}
+use Rattle.cil_rules.specs.Kept.{rule_named, set_named, target_named}
+use Rattle.cil_rules.specs.Rule.{Rule}
 use Rattle.cil_rules.specs.Records.{Case, HasNumber, HasTarget, IsCase, IsRuleOf, CaseBy}
-use Rattle.cil_names.specs.Known.{AreStanding, BeginWith, HasNumberFor, IsKnown, StandsForNothing, enabled_in, meant_by, meant_in, row_in, set_meant, value_in, wanted_with}
+use Rattle.cil_names.specs.Known.{AreStanding, BeginWith, HasNumberFor, IsKnown, StandsForNothing, enabled_in, meant_by, meant_in, set_meant, value_in, wanted_with}
 use Rattle.cil_names.specs.Members.{StandsFor}
 use Rattle.cil_names.specs.Resolves.{Wanted, Word as AWord, all_wanted_in, wanted_in}
-use Rattle.cil_classes.specs.Pairs.{HasPair}
-use Rattle.cil_base.specs.Records.{AreRecordsOf, IsRecordOf}
-use Rattle.cil_classes.specs.Masks.{GivesNothing, IsGiven}
+use Rattle.cil_classes.specs.Given.{HasPair, of_class, of_map, of_name}
+use Rattle.cil_base.specs.Records.{AreRecordsOf}
+use Rattle.cil_classes.specs.declared.row.ClassId.{ClassId}
+use Rattle.cil_classes.specs.Perms.{AreMasksOf, IsMaskOfClass}
+use Rattle.cil_classes.proofs.PartLemmas.{one_class}
+use Rattle.cil_names.specs.Declarations.{Declared, Symbol}
+use Rattle.cil_names.specs.Numbers.{AreApart}
+use Rattle.cil_rules.specs.Behind.{AreBehind, rule_with}
+use Rattle.cil_rules.specs.declared.rule.Reach.{Reach}
 use Rattle.cil_rules.specs.Order.{rule_cmp}
 use Rattle.cil_macros.proofs.FormLemmas.{across, all_across, no_rule, rule_across}
 use Rattle.cil_names.proofs.StandingLemmas.{nothing_stands}
@@ -41,7 +48,7 @@ unfolding all_wanted_in wanted_in
 rule_wanted source target class_permission = refl
 
 module _ (k : Known) (x : Item) (f : Word → ScopedWord) (args : Terms Word) (says : x.args ≡ all_across f args) (source : Word) (target class_permission : Term Word)
-    (said : args ≡ cons (Leaf source) (cons target (cons class_permission nil))) (words : List (Option ℕ)) (are : words ≡ row_in k x) where
+    (said : args ≡ cons (Leaf source) (cons target (cons class_permission nil))) (words : List (Option ℕ)) (are : words ≡ map (value_in k) (all_wanted_in x.args)) where
   abbrev by_meaning : Wanted → Option ℕ
   by_meaning = value_in k
 
@@ -66,8 +73,8 @@ module _ (k : Known) (x : Item) (f : Word → ScopedWord) (args : Terms Word) (s
     target_begins = record { more = meant_by k f class_permission; are = target_there }
 
     -- and behind these those of the class permission
-    pub class_begins : (of_class : List (Option ℕ)) → of_class ≡ drop (length (wanted_with f target)) of_target → BeginWith k f class_permission of_class
-    class_begins of_class behind_target = record {
+    pub class_begins : (behind_both : List (Option ℕ)) → behind_both ≡ drop (length (wanted_with f target)) of_target → BeginWith k f class_permission behind_both
+    class_begins behind_both behind_target = record {
       more = [];
       are =
           behind_target
@@ -81,7 +88,7 @@ module _ (k : Known) (x : Item) (f : Word → ScopedWord) (args : Terms Word) (s
 
 module _ (k : Known) (xs : List Item) (names : Kind → List (List ℕ)) (known : IsKnown k xs names) (sets : List (List ℕ)) (standing : AreStanding k xs names kinds.Type_ sets) (x : Item) (f : Word → ScopedWord)
     (args : Terms Word) (says : x.args ≡ all_across f args) (source : Word) (target class_permission : Term Word) (said : args ≡ cons (Leaf source) (cons target (cons class_permission nil)))
-    (words : List (Option ℕ)) (are : words ≡ row_in k x) (r : Option ℕ) (first : r ≡ get_or words 0 None) where
+    (words : List (Option ℕ)) (are : words ≡ map (value_in k) (all_wanted_in x.args)) (r : Option ℕ) (first : r ≡ get_or words 0 None) where
   its_set : Lists nat_cmp (HasNumberFor xs (enabled_in k) kinds.Type_ (names kinds.Type_) (f source)) (set_meant sets r)
   its_set =
       subst (λ q. Lists nat_cmp (HasNumberFor xs (enabled_in k) kinds.Type_ (names kinds.Type_) (f source)) (set_meant sets q))
@@ -95,16 +102,22 @@ module _ (k : Known) (xs : List Item) (names : Kind → List (List ℕ)) (known 
   pub source_lost : set_meant sets r ≡ [] → StandsForNothing xs (enabled_in k) kinds.Type_ (f source)
   source_lost empty = nothing_stands k xs names known kinds.Type_ refl (f source) (set_meant sets r) its_set empty
 
--- ---- the record of one statement
+-- ---- the records of one statement
+
+-- the class of a permission that is given is declared
+pub pair_declared : (xs : List Item) (s : OptSet) (cp : Term ScopedWord) (c : Symbol) (p : List ℕ) → HasPair xs s cp c p → Declared xs s kinds.Class c
+pair_declared xs s cp c p (of_class at word e d q stands value) = stands.declared
+pair_declared xs s cp c p (of_map at word e inner m d r q stands value given pair) = pair_declared xs s inner d q pair
+pair_declared xs s cp c p (of_name word inner n d q stands given pair) = pair_declared xs s inner d q pair
 
 same_case : (a b : Case) → a.source ≡ b.source → a.target ≡ b.target → a.class_permission ≡ b.class_permission → a.class_ ≡ b.class_ → a ≡ b
 same_case a b s t p c = λ i. record { source = s i; target = t i; class_permission = p i; class_ = c i }
 
-module _ (xs : List Item) (k : Known) (x : Item) where
+module _ (xs : List Item) (k : Known) (keyword : Keyword) (x : Item) where
   abbrev IsCaseOf : Case → Type 0
-  IsCaseOf = CaseBy xs (enabled_in k) x
+  IsCaseOf = CaseBy xs (enabled_in k) keyword x
 
-  pub other_keyword : (x.keyword ≡ keywords.Allow → ⊥) → (c : Case) → IsCaseOf c → ⊥
+  pub other_keyword : (x.keyword ≡ keyword → ⊥) → (c : Case) → IsCaseOf c → ⊥
   other_keyword differ c by = differ by.is_keyword
 
   pub left_out : is_enabled (enabled_in k) x ≡ false → (c : Case) → IsCaseOf c → ⊥
@@ -136,59 +149,90 @@ module _ (xs : List Item) (k : Known) (x : Item) where
       pub without_target : (HasTarget xs (enabled_in k) (across f target) → ⊥) → (c : Case) → IsCaseOf c → ⊥
       without_target none c by = none (subst (HasTarget xs (enabled_in k)) (target_of c by) by.target)
 
-      pub without_permission : GivesNothing xs (enabled_in k) (across f class_permission) → (c : Case) → IsCaseOf c → ⊥
-      without_permission none c by =
-          none c.class_ by.permission.0 (subst (λ t. HasPair xs (enabled_in k) t c.class_ by.permission.0) (class_of c by) by.permission.1)
+      module _ (names : Kind → List (List ℕ)) (known : IsKnown k xs names) (apart : AreApart k.lookup.names.now (enabled_in k) k.numbers.now) (types sets : List (List ℕ)) (classes : List Class) (number : ℕ)
+          (listed : Lists nat_cmp (HasNumber xs (enabled_in k) types (f source)) (set_named sets number)) (some : set_named sets number ≡ [] → ⊥) (reach : Reach)
+          (is_reached : IsReached xs (enabled_in k) types (across f target) (target_named sets reach)) (masks : List (ClassId × ℕ))
+          (masked : AreMasksOf xs (enabled_in k) classes (across f class_permission) masks) where
+        abbrev case_for : Symbol → Case
+        case_for c = record { source = f source; target = across f target; class_permission = across f class_permission; class_ = c }
 
-      module _ (types : List (List ℕ)) (classes : List Class) (sources : List ℕ) (listed : Lists nat_cmp (HasNumber xs (enabled_in k) types (f source)) sources) (some : sources ≡ [] → ⊥)
-          (reached : Target) (is_reached : IsReached xs (enabled_in k) types (across f target) reached) (class_ mask : ℕ)
-          (given : IsGiven xs (enabled_in k) classes (across f class_permission) class_ mask) where
-        abbrev its_case : Case
-        its_case = record { source = f source; target = across f target; class_permission = across f class_permission; class_ = given.symbol }
+        abbrev with_mask : ClassId × ℕ → NamedRule
+        with_mask m = rule_with number reach m
 
-        abbrev its_rule : Rule
-        its_rule = record { source = sources; target = reached; class = class_; mask = mask }
+        case_is : (c : Case) → IsCaseOf c → c ≡ case_for c.class_
+        case_is c by = same_case c (case_for c.class_) (source_of c by) (target_of c by) (class_of c by) refl
 
-        one_case : (c : Case) → IsCaseOf c → c ≡ its_case
-        one_case c by =
-            same_case c its_case (source_of c by) (target_of c by) (class_of c by)
-            (given.only_symbol c.class_ by.permission.0 (subst (λ t. HasPair xs (enabled_in k) t c.class_ by.permission.0) (class_of c by) by.permission.1))
+        pair_of : (c : Case) (by : IsCaseOf c) → HasPair xs (enabled_in k) (across f class_permission) c.class_ by.permission.0
+        pair_of c by = subst (λ t. HasPair xs (enabled_in k) t c.class_ by.permission.0) (class_of c by) by.permission.1
 
-        is_record : IsRuleOf xs (enabled_in k) types classes its_case its_rule
-        is_record = record {
+        is_record : (m : ClassId × ℕ) (mask : IsMaskOfClass xs (enabled_in k) classes (across f class_permission) m)
+            → IsRuleOf xs (enabled_in k) types classes (case_for mask.symbol) (rule_named sets (with_mask m))
+        is_record m mask = record {
           source = listed;
           target = is_reached.1;
-          row = given.row;
-          is_row = given.is_row;
-          named = given.named;
+          row = mask.row;
+          is_row = mask.is_row;
+          named = mask.named;
           mask = λ bit. (
-            (λ set. let b = (given.bits bit).0 set in record { permission = b.0; is_permission = b.1; gives = b.2 }),
-            (λ b. (given.bits bit).1 (b.permission, b.is_permission, b.gives)),
+            (λ set. let b = (mask.bits bit).0 set in record { permission = b.0; is_permission = b.1; gives = b.2 }),
+            (λ b. (mask.bits bit).1 (b.permission, b.is_permission, b.gives)),
           );
         }
 
-        pub a_rule : x.keyword ≡ keywords.Allow → is_enabled (enabled_in k) x ≡ true
-            → IsRecordOf (CaseBy xs (enabled_in k)) (IsRuleOf xs (enabled_in k) types classes) x (Some its_rule)
-        a_rule is enabled = (
-          (
-            its_case,
-            record {
-              enabled = enabled;
-              is_keyword = is;
-              says = is_rule;
-              source = some_type xs (enabled_in k) types (f source) sources listed some;
-              target = is_reached.0;
-              permission = given.some;
-            },
-          ),
-          λ c by. subst (λ d. IsRuleOf xs (enabled_in k) types classes d its_rule) (sym (one_case c by)) is_record,
-        )
+        -- each case has the record of the mask of its class
+        record_for : (c : Case) → IsCaseOf c → (y : Rule) × IsRuleOf xs (enabled_in k) types classes c y × Contains (map (rule_named sets) (map with_mask masks)) y
+        record_for c by =
+            let pair = pair_of c by in
+            let among = masked.all c.class_ by.permission.0 pair in
+            let mask = masked.each among.mask among.there in
+            let row : among.row ≡ mask.row = same_Some among.row mask.row (sym among.is_row ∙ mask.is_row) in
+            let one : mask.symbol ≡ c.class_ = one_class k xs names known apart mask.symbol c.class_ (pair_declared xs (enabled_in k) (across f class_permission) mask.symbol mask.some.0 mask.some.1)
+            (pair_declared xs (enabled_in k) (across f class_permission) c.class_ by.permission.0 pair) (sym mask.named ∙ ap (λ (r : Class). r.name) (sym row) ∙ among.named) in (
+              rule_named sets (with_mask among.mask),
+              subst (λ d. IsRuleOf xs (enabled_in k) types classes d (rule_named sets (with_mask among.mask))) (ap case_for one ∙ sym (case_is c by)) (is_record among.mask mask),
+              contains_map (rule_named sets) (map with_mask masks) (with_mask among.mask) (contains_map with_mask masks among.mask among.there),
+            )
+
+        module _ (is : x.keyword ≡ keyword) (enabled : is_enabled (enabled_in k) x ≡ true) where
+          a_case : (m : ClassId × ℕ) (mask : IsMaskOfClass xs (enabled_in k) classes (across f class_permission) m) → IsCaseOf (case_for mask.symbol)
+          a_case m mask = record {
+            enabled = enabled;
+            is_keyword = is;
+            says = is_rule;
+            source = some_type xs (enabled_in k) types (f source) (set_named sets number) listed some;
+            target = is_reached.0;
+            permission = mask.some;
+          }
+
+          -- each record is that of the class of its mask
+          case_of : (y : Rule) → Contains (map (rule_named sets) (map with_mask masks)) y
+              → (z : Item) × (c : Case) × Contains (x ∷ []) z × CaseBy xs (enabled_in k) keyword z c × IsRuleOf xs (enabled_in k) types classes c y
+          case_of y c =
+              let (r, cr, of_rule) = from_map (rule_named sets) (map with_mask masks) y c in
+              let (m, cm, of_mask) = from_map with_mask masks r cr in
+              let mask = masked.each m cm in
+              (x, case_for mask.symbol, contains_here x [], a_case m mask, subst (IsRuleOf xs (enabled_in k) types classes (case_for mask.symbol)) (ap (rule_named sets) of_mask ∙ of_rule) (is_record m mask))
+
+          -- a rule for each mask is a record for each case
+          pub some_rules : (old new : List NamedRule) → new ≡ old ++ map with_mask masks
+              → AreBehind (CaseBy xs (enabled_in k) keyword) (IsRuleOf xs (enabled_in k) types classes) x (map (rule_named sets) old) (map (rule_named sets) new)
+          some_rules old new push = record {
+            records = map (rule_named sets) (map with_mask masks);
+            are = record {
+              each = λ z c cz by. elim (contains_cases z x [] cz) [
+                | inl e ↦ record_for c (subst (λ w. CaseBy xs (enabled_in k) keyword w c) (sym e) by)
+                | inr n ↦ absurd (contains_none z n)
+              ];
+              only = case_of;
+            };
+            behind = ap (map (rule_named sets)) push ∙ map-append (rule_named sets) old (map with_mask masks);
+          }
 
 -- ---- the records of all statements
 
-module _ (xs : List Item) (s : OptSet) (types : List (List ℕ)) (classes : List Class) (raw : List Rule)
-    (are : AreRecordsOf (CaseBy xs s) (IsRuleOf xs s types classes) xs raw) where
-  as_case : (x : Item) (k : Case) → Contains xs x → CaseBy xs s x k → IsCase xs s keywords.Allow k
+module _ (xs : List Item) (s : OptSet) (keyword : Keyword) (types : List (List ℕ)) (classes : List Class) (raw : List Rule)
+    (are : AreRecordsOf (CaseBy xs s keyword) (IsRuleOf xs s types classes) xs raw) where
+  as_case : (x : Item) (k : Case) → Contains xs x → CaseBy xs s keyword x k → IsCase xs s keyword k
   as_case x k c by = record {
     rule = record { item = x; is_item = c; enabled = by.enabled; is_keyword = by.is_keyword; says = by.says };
     source = by.source;
@@ -196,7 +240,7 @@ module _ (xs : List Item) (s : OptSet) (types : List (List ℕ)) (classes : List
     permission = by.permission;
   }
 
-  of_case : (k : Case) (is : IsCase xs s keywords.Allow k) → CaseBy xs s is.rule.item k
+  of_case : (k : Case) (is : IsCase xs s keyword k) → CaseBy xs s keyword is.rule.item k
   of_case k is = record {
     enabled = is.rule.enabled;
     is_keyword = is.rule.is_keyword;
@@ -207,13 +251,9 @@ module _ (xs : List Item) (s : OptSet) (types : List (List ℕ)) (classes : List
   }
 
   -- a list of them in their order has the rule of each case
-  pub rules_listed : (zs : List Rule) → Lists rule_cmp (Contains raw) zs → Gives rule_cmp (IsCase xs s keywords.Allow) (IsRuleOf xs s types classes) zs
+  pub rules_listed : (zs : List Rule) → Lists rule_cmp (Contains raw) zs → Gives rule_cmp (IsCase xs s keyword) (IsRuleOf xs s types classes) zs
   rules_listed zs list = record {
     rising = list.rising;
     each = λ k is. let r = are.each is.rule.item k is.rule.is_item (of_case k is) in (r.0, r.1, (list.members r.0).1 r.2);
     only = λ y c. let o = are.only y ((list.members y).0 c) in (o.1, as_case o.0 o.1 o.2 o.3, o.4);
   }
-
--- one rule more
-pub one_more : (sets : List (List ℕ)) (old new : List NamedRule) (r : NamedRule) → new ≡ old ++ r ∷ [] → map (rule_named sets) new ≡ map (rule_named sets) old ++ rule_named sets r ∷ []
-one_more sets old new r push = ap (map (rule_named sets)) push ∙ map-append (rule_named sets) old (r ∷ [])

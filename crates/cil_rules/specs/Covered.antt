@@ -8,7 +8,7 @@ use Rattle.cil_names.specs.Declarations.{Symbol}
 use Rattle.cil_macros.specs.Item.{Item, OptSet}
 use Rattle.cil_syntax.specs.Scopes.{ScopedWord}
 use Rattle.cil_names.specs.Members.{StandsFor}
-use Rattle.cil_classes.specs.Pairs.{HasPair}
+use Rattle.cil_classes.specs.Given.{HasPair}
 use Rattle.cil_names.specs.Says.{Says}
 
 -- the target of a rule has the type: `self` where it is the source type

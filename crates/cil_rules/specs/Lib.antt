@@ -1,3 +1,4 @@
+pub mod Behind
 pub mod Covered
 pub mod Covers
 pub mod Kept

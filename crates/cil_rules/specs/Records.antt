@@ -13,9 +13,8 @@ use Rattle.cil_names.specs.Declarations.{Symbol, name_of}
 use Rattle.cil_macros.specs.Item.{Item, OptSet, is_enabled}
 use Rattle.cil_syntax.specs.Scopes.{ScopedWord}
 use Rattle.cil_names.specs.Members.{StandsFor}
-use Rattle.cil_classes.specs.Pairs.{HasPair}
+use Rattle.cil_classes.specs.Given.{HasPair}
 use Rattle.cil_names.specs.Known.{IsNumbered}
-use Rattle.cil_syntax.specs.declared.kind.Keyword.TheVariants as keywords
 
 -- what one record is about: the words of one statement, and one class
 pub record Case : Type 0 where
@@ -66,10 +65,10 @@ pub record IsRuleOf (xs : List Item) (s : OptSet) (types : List (List ℕ)) (cla
   pub named : row.name ≡ name_of k.class_
   pub mask : (bit : ℕ) → IsBitSet r.mask bit ↔ HasBit xs s k row bit
 
--- the statement is enabled, and the case is one of it
-pub record CaseBy (xs : List Item) (s : OptSet) (x : Item) (k : Case) : Type 0 where
+-- the statement is an enabled one with this first word, and the case is one of it
+pub record CaseBy (xs : List Item) (s : OptSet) (keyword : Keyword) (x : Item) (k : Case) : Type 0 where
   pub enabled : is_enabled s x ≡ true
-  pub is_keyword : x.keyword ≡ keywords.Allow
+  pub is_keyword : x.keyword ≡ keyword
   pub says : x.args ≡ cons (Leaf k.source) (cons k.target (cons k.class_permission nil))
   pub source : (t : Symbol) × StandsFor xs s kinds.Type_ k.source t
   pub target : HasTarget xs s k.target

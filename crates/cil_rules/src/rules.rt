@@ -1,10 +1,11 @@
 //! The rules of a policy. A rule costs no look-up of a word and no search, but the numbers of its source, target and class, a walk over
-//! the words of its target, and a step for each of its permission words.
+//! the words of its target, and a step for each of its permission words. Where its class permission is a name or a list on a class map, it
+//! costs what the masks of these cost, and a record for each class of which they give permissions.
 
-ghost use Rattle.std.specs.Prelude.{◌≡◌, ◌↔◌, ◌<◌, ◌≤◌, ℕ, [], Contains, IfOk, IsTrue, List, MatchOption, get_or, length, map, option_map};
+ghost use Rattle.std.specs.Prelude.{◌≡◌, ◌↔◌, ◌<◌, ◌≤◌, ◌++◌, ◌∷◌, ℕ, [], Contains, IfOk, IsTrue, List, true, false, MatchOption, OnOk, get_or, length, map};
 ghost use Rattle.std.specs.List.Sorted.{IsStrictlySortedBy};
 ghost use Rattle.cil_base.specs.Lists.{text_cmp};
-ghost use Rattle.cil_base.specs.Records.{AreRecordsOf, IsRecordOf};
+ghost use Rattle.cil_base.specs.Records.{AreRecordsOf};
 ghost use Rattle.cil_syntax.specs.declared.kind.Kind as kinds;
 ghost use Rattle.cil_syntax.specs.declared.kind.Kind.TheVariants as variants;
 ghost use Rattle.cil_syntax.specs.declared.term.Op.TheVariants as ops;
@@ -12,100 +13,164 @@ ghost use Rattle.cil_syntax.specs.declared.term.Word.{Word as AWord};
 ghost use Rattle.cil_syntax.specs.Said.{said_of};
 ghost use Rattle.cil_syntax.specs.Scopes.{ScopedWord};
 ghost use Rattle.cil_macros.specs.Item.{Item};
-ghost use Rattle.cil_macros.specs.Items.{item_at, items_in};
+ghost use Rattle.cil_macros.specs.Items.{item_at, items_in, says_as_written};
 ghost use Rattle.cil_names.specs.declared.known.Known.{Known as Lookups};
 ghost use Rattle.cil_names.specs.Known.{AreStanding, BeginWith, IsKnown, enabled_in, row_in, set_meant};
+ghost use Rattle.cil_names.specs.Numbers.{AreApart};
+ghost use Rattle.cil_names.specs.Resolves.{is_mapping};
 ghost use Rattle.cil_names.specs.Rows.{IsTableOf};
 ghost use Rattle.cil_names.specs.Unresolved.{term_with};
 ghost use Rattle.cil_classes.specs.declared.row.Class.{Class as ARow};
 ghost use Rattle.cil_classes.specs.ClassRows.{AreClasses};
+ghost use Rattle.cil_classes.specs.Held.{IsAssigned};
+ghost use Rattle.cil_classes.specs.NodeOrder.{node_cmp};
 ghost use Rattle.cil_classes.specs.Row.{AreOrderlyRows, most_permissions};
+ghost use Rattle.cil_rules.specs.Behind.{AreBehind, rule_with};
 ghost use Rattle.cil_rules.specs.declared.rule.Reach.TheVariants as reaches;
 ghost use Rattle.cil_rules.specs.Kept.{rule_named, set_named, target_named};
 ghost use Rattle.cil_rules.specs.Records.{CaseBy, HasTarget, IsRuleOf, IsTargetOf};
 
 use crate::rule::{NamedRule, Reach};
 use cil_base::NoMemory;
-use cil_classes::{Class, given_by};
+use cil_classes::{Class, ClassId, GivenPermissions, push_perms};
 use cil_macros::Instances;
 use cil_names::{Known, Meaning, behind, behind_first, meaning_at, same_keyword};
 use cil_sets::Numbers;
 use cil_syntax::{Keyword, Op, Term};
 use std::alloc::Global;
 
-/// The rules of the enabled allow statements, in the order of these, where the words of each declared name stand for these types. A rule
-/// whose source or target is an attribute without members is left out. Error: out of memory.
+/// The rules of the enabled statements with this first word, in the order of these, where the words of each declared name stand for these
+/// types: one for each class of which a statement gives permissions. A rule whose source or target is an attribute without members is left
+/// out. Error: out of memory.
 pub fn rules_of(
     alloc: Global,
     instances: &Instances,
     known: &Known,
     types: &[Numbers],
     classes: &[Class],
+    given: &GivenPermissions,
+    keyword: Keyword,
 ) -> Result<Vec<NamedRule>, NoMemory>
     requires table { IsTableOf (map (row_in known.now) (items_in instances.now)) known.now.words.now }
     requires rising { (row : ARow) → Contains classes.now row → IsStrictlySortedBy text_cmp row.permissions }
     requires few { (row : ARow) → Contains classes.now row → length row.permissions ≤ most_permissions }
+    requires nodes { IsStrictlySortedBy node_cmp given.now.nodes.items }
+    requires written { says_as_written keyword ≡ true }
+    requires plain { is_mapping keyword ≡ false }
     ensures { IfOk result (λ rules. (names : kinds.Kind → List (List ℕ)) → IsKnown known.now (items_in instances.now) names
+        → AreApart known.now.lookup.names.now (enabled_in known.now) known.now.numbers.now
         → AreStanding known.now (items_in instances.now) names variants.Type_ types.now
         → AreClasses (items_in instances.now) (enabled_in known.now) (names variants.Class) classes.now
-        → AreRecordsOf (CaseBy (items_in instances.now) (enabled_in known.now))
+        → IsAssigned known.now (items_in instances.now) classes.now given.now
+        → AreRecordsOf (CaseBy (items_in instances.now) (enabled_in known.now) keyword)
         (IsRuleOf (items_in instances.now) (enabled_in known.now) (names variants.Type_) classes.now) (items_in instances.now) (map (rule_named types.now) rules.items)) }
 {
     let mut rules = Vec::with_capacity(alloc, instances.len())?;
+    let mut masks = Vec::new(alloc);
     for at in 0..instances.len() {
-        if let Some(rule) = rule_of(instances, at, known.words.row(at), known, types, classes)? {
-            rules.push(rule)?;
-        }
+        let words = known.words.row(at);
+        push_rules(
+            alloc, &mut rules, &mut masks, instances, at, words, known, types, classes, given,
+            keyword,
+        )?;
     }
     Ok(rules)
 }
 
-/// The rule of the statement at a place, if it is an enabled allow rule, by what its words mean; none where it covers nothing.
-fn rule_of(
+/// Adds the rules of the statement at a place, if it is an enabled one with this first word, by what its words mean; none where it covers nothing. The
+/// masks are room for those of the statement, so that no statement takes memory of its own.
+fn push_rules(
+    alloc: Global,
+    out: &mut Vec<NamedRule>,
+    masks: &mut Vec<(ClassId, u32)>,
     instances: &Instances,
     at: usize,
     words: &[Meaning],
     known: &Known,
     types: &[Numbers],
     classes: &[Class],
-) -> Result<Option<NamedRule>, NoMemory>
+    given: &GivenPermissions,
+    keyword: Keyword,
+) -> Result<(), NoMemory>
     requires within { at < length (items_in instances.now) }
     requires rows { AreOrderlyRows classes.now }
-    ensures { IfOk result (λ rule. (xs : List Item) (names : kinds.Kind → List (List ℕ)) → IsKnown known.now xs names → AreStanding known.now xs names variants.Type_ types.now
-        → AreClasses xs (enabled_in known.now) (names variants.Class) classes.now → words.now ≡ row_in known.now (item_at instances.now at)
-        → IsRecordOf (CaseBy xs (enabled_in known.now)) (IsRuleOf xs (enabled_in known.now) (names variants.Type_) classes.now)
-        (item_at instances.now at) (option_map (rule_named types.now) rule)) }
+    requires nodes { IsStrictlySortedBy node_cmp given.now.nodes.items }
+    requires written { says_as_written keyword ≡ true }
+    requires plain { is_mapping keyword ≡ false }
+    ensures { OnOk result ((xs : List Item) (names : kinds.Kind → List (List ℕ)) → IsKnown known.now xs names
+        → AreApart known.now.lookup.names.now (enabled_in known.now) known.now.numbers.now → AreStanding known.now xs names variants.Type_ types.now
+        → AreClasses xs (enabled_in known.now) (names variants.Class) classes.now → IsAssigned known.now xs classes.now given.now
+        → words.now ≡ row_in known.now (item_at instances.now at)
+        → AreBehind (CaseBy xs (enabled_in known.now) keyword) (IsRuleOf xs (enabled_in known.now) (names variants.Type_) classes.now)
+        (item_at instances.now at) (map (rule_named types.now) out.old.items) (map (rule_named types.now) out.new.items)) }
 {
     let statement = instances.statement_there(at);
-    if !same_keyword(statement.keyword, Keyword::Allow) {
-        return Ok(None);
+    if !same_keyword(statement.keyword, keyword) {
+        return Ok(());
     }
     if !known.is_enabled(instances, at) {
-        return Ok(None);
+        return Ok(());
     }
     let Some(parts) = statement.rule_parts() else {
-        return Ok(None);
+        return Ok(());
     };
     let module = statement.at.module;
     let Some(source) = some_at(types, meaning_at(words, 0)) else {
-        return Ok(None);
+        return Ok(());
     };
     let of_target = behind_first(words);
     let of_class = behind(of_target, parts.target, module);
-    let Some(given) = given_by(known, classes, parts.class_permission, module, of_class) else {
-        return Ok(None);
-    };
     let Some(target) = target_of(types, parts.target, of_target)? else {
-        return Ok(None);
+        return Ok(());
     };
     let source = short(source)?;
-    let class = short(given.class)?;
-    Ok(Some(NamedRule {
+    masks.clear();
+    push_perms(
+        alloc,
+        masks,
+        known,
+        classes,
+        given,
+        parts.class_permission,
+        module,
+        of_class,
+    )?;
+    push_named(out, masks.as_slice(), source, target)?;
+    Ok(())
+}
+
+/// Adds a rule for each of these masks.
+fn push_named(
+    out: &mut Vec<NamedRule>,
+    masks: &[(ClassId, u32)],
+    source: u32,
+    target: Reach,
+) -> Result<(), NoMemory>
+    ensures { OnOk result (out.new.items ≡ out.old.items ++ map (rule_with source target) masks.now) }
+{
+    for one in masks {
+        push_one(out, one, source, target)?;
+    }
+    Ok(())
+}
+
+/// Adds the rule of one mask.
+fn push_one(
+    out: &mut Vec<NamedRule>,
+    one: &(ClassId, u32),
+    source: u32,
+    target: Reach,
+) -> Result<(), NoMemory>
+    ensures { OnOk result (out.new.items ≡ out.old.items ++ rule_with source target one.now ∷ []) }
+{
+    let class = short(one.0.number)?;
+    out.push(NamedRule {
         source,
         target,
         class,
-        mask: given.mask,
-    }))
+        mask: one.1,
+    })?;
+    Ok(())
 }
 
 /// The declared name that a word means, if its set has members.

@@ -11,12 +11,12 @@ use Rattle.std.proofs.lemmas.List.Splits.{join_with_byte-slice_split, slice_spli
 use Rattle.std.proofs.lemmas.List.Sums.{fold-append}
 use Rattle.cil_base.specs.Lists.{contains_cases, contains_none}
 use Rattle.cil_syntax.specs.Spelling.{same_bytes}
-use Rattle.cil_server.specs.Asked.{Line, alone, announced, asked, bodied, by_words, is_decimal, is_digit, longest_body, queried, value_of, words_of}
-use Rattle.cil_server.specs.Asked.Line.{Export, List_, Load, Optionals, Quit, Why, Ask, Install, Import, TooBig, Unknown}
+use Rattle.cil_server.specs.Asked.{Line, alone, announced, asked, bodied, by_words, checked, is_decimal, is_digit, longest_body, queried, value_of, words_of}
+use Rattle.cil_server.specs.Asked.Line.{Export, List_, Load, Optionals, Quit, Why, Ask, Check, Install, Import, TooBig, Unknown}
 use Rattle.cil_server.specs.Laws.{AskedAsSpelled, ReadAsWritten}
 use Rattle.cil_server.specs.Lines.{IsDecimal, IsWord, IsSpelled}
 use Rattle.cil_server.specs.Lines.IsDecimal.{digit, more}
-use Rattle.cil_server.specs.Lines.IsSpelled.{export, list, load, optionals, quit, why, install, import_, install_too_big, import_too_big, ask}
+use Rattle.cil_server.specs.Lines.IsSpelled.{export, list, load, optionals, quit, why, install, import_, install_too_big, import_too_big, ask, check}
 
 -- ---- numbers
 
@@ -162,6 +162,15 @@ ask_asked s t c p q r =
     ap (λ l. asked (codes "AV " ++ l)) (append_assoc s (32 ∷ t) (32 ∷ c)) ∙ ap (λ ws. by_words (codes "AV" ∷ ws)) (three_words s t c p q r)
     ∙ ap (λ b. cond b (Ask s t c) Unknown) (and_from _ _ (and_from _ _ (not_empty s p) (not_empty t q)) (not_empty c r))
 
+four_words : (s t c p : List ℕ) → IsWord s → IsWord t → IsWord c → IsWord p → words_of (s ++ 32 ∷ (t ++ 32 ∷ (c ++ 32 ∷ p))) ≡ s ∷ t ∷ c ∷ p ∷ []
+four_words s t c p u v w x = slice_split_at (λ b. b == 32) s 32 (t ++ 32 ∷ (c ++ 32 ∷ p)) (plain s u.whole) refl ∙ ap (λ ws. s ∷ ws) (three_words t c p v w x)
+
+check_asked : (s t c p : List ℕ) → IsWord s → IsWord t → IsWord c → IsWord p → asked (codes "CHECK " ++ (s ++ 32 ∷ (t ++ 32 ∷ (c ++ 32 ∷ p)))) ≡ Check s t c p
+unfolding asked checked
+check_asked s t c p u v w x =
+    ap (λ ws. by_words (codes "CHECK" ∷ ws)) (four_words s t c p u v w x)
+    ∙ ap (λ b. cond b (Check s t c p) Unknown) (and_from _ _ (and_from _ _ (and_from _ _ (not_empty s u) (not_empty t v)) (not_empty c w)) (not_empty p x))
+
 pub spelled_asked : (line : List ℕ) (said : Line) → IsSpelled line said → asked line ≡ said
 unfolding asked alone
 spelled_asked line said export = refl
@@ -175,6 +184,7 @@ spelled_asked line said (import_ digits n is h) = import_asked digits n is ∙ b
 spelled_asked line said (install_too_big digits n is h) = install_asked digits n is ∙ body_too_big Install n h
 spelled_asked line said (import_too_big digits n is h) = import_asked digits n is ∙ body_too_big Import n h
 spelled_asked line said (ask s t c p q r) = ask_asked s t c p q r
+spelled_asked line said (check s t c p u v w x) = check_asked s t c p u v w x
 
 -- ---- and back
 
@@ -236,13 +246,27 @@ queried_told word s t c p q r =
     inr (subst₂ (λ w l. IsSpelled (w ++ 32 ∷ l) (Ask s t c)) (sym is) (append_assoc s (32 ∷ t) (32 ∷ c))
     (ask s t c (is_word s second.1 p) (is_word t third.1 q) (is_word c last.1 r)))) (λ e. inl refl)
 
+checked_told : (word s t c p : List ℕ) → HasNoSpace s → HasNoSpace t → HasNoSpace c → HasNoSpace p
+    → IsToldBy (word ++ 32 ∷ (s ++ 32 ∷ (t ++ 32 ∷ (c ++ 32 ∷ p)))) (checked word s t c p)
+unfolding checked
+checked_told word s t c p u v w x =
+    cond_both _ (Check s t c p) Unknown (IsToldBy (word ++ 32 ∷ (s ++ 32 ∷ (t ++ 32 ∷ (c ++ 32 ∷ p))))) (λ e.
+    let last = and_parts _ (not (same_bytes p [])) e in
+    let fourth = and_parts _ (not (same_bytes c [])) last.0 in
+    let third = and_parts _ (not (same_bytes t [])) fourth.0 in
+    let second = and_parts (same_bytes word (codes "CHECK")) (not (same_bytes s [])) third.0 in
+    let is : word ≡ codes "CHECK" = (bytes_decides word (codes "CHECK")).0 second.0 in
+    inr (subst (λ z. IsSpelled (z ++ 32 ∷ (s ++ 32 ∷ (t ++ 32 ∷ (c ++ 32 ∷ p)))) (Check s t c p)) (sym is)
+    (check s t c p (is_word s second.1 u) (is_word t third.1 v) (is_word c fourth.1 w) (is_word p last.1 x)))) (λ e. inl refl)
+
 words_told : (ws : List (List ℕ)) → AreWhole ws → IsToldBy (join_with_byte 32 ws) (by_words ws)
 words_told [] all = inl refl
 words_told (word ∷ []) all = alone_told word
 words_told (word ∷ digits ∷ []) all = announced_told word digits
 words_told (a ∷ b ∷ c ∷ []) all = inl refl
 words_told (word ∷ s ∷ t ∷ c ∷ []) all = queried_told word s t c all.1.0 all.1.1.0 all.1.1.1.0
-words_told (a ∷ b ∷ c ∷ d ∷ e ∷ ws) all = inl refl
+words_told (word ∷ s ∷ t ∷ c ∷ p ∷ []) all = checked_told word s t c p all.1.0 all.1.1.0 all.1.1.1.0 all.1.1.1.1.0
+words_told (a ∷ b ∷ c ∷ d ∷ e ∷ f ∷ ws) all = inl refl
 
 -- a line asks for nothing that is known, or for what it is spelled as
 pub asked_told : (line : List ℕ) → IsToldBy line (asked line)

@@ -1,5 +1,5 @@
 -- The replies of requests, as steps of the model host.
-use Rattle.std.specs.Prelude.{Result, Ok, Err, codes, length, map}
+use Rattle.std.specs.Prelude.{Bool, Result, Ok, Err, codes, length, map}
 use Rattle.std.proofs.Common.{None, ◌≡◌, ℕ, List, ◌++◌, refl, sym, subst}
 use Rattle.cil_modset.specs.Bundle.{bundle}
 use Rattle.cil_faults.specs.declared.failure.Failure.{Failure}
@@ -16,14 +16,15 @@ use Rattle.cil_optionals.specs.declared.lines.OptionalLine.{OptionalLine}
 use Rattle.cil_optionals.specs.declared.lines.WhyLine.{WhyLine}
 use Rattle.cil_host.specs.declared.fault.HostError.{HostError}
 use Rattle.cil_host.specs.declared.fault.HostError.TheVariants as errors
+use Rattle.cil_host.specs.Checks.{Checks as ChecksHost}
 use Rattle.cil_host.specs.Machine.{Queries, State, TellsNothing, TellsOptionals, TellsWhy}
 use Rattle.cil_host.specs.Refusal.{Loads as LoadsHost}
 use Rattle.cil_server.specs.Asked.{Request}
-use Rattle.cil_server.specs.Asked.Request.{Asks, AsksOptionals, AsksWhy, Exports, Lists, Loads}
+use Rattle.cil_server.specs.Asked.Request.{Asks, AsksOptionals, AsksWhy, Checks, Exports, Lists, Loads}
 use Rattle.cil_server.specs.Load.{IsLoaded}
 use Rattle.cil_server.specs.declared.loading.LoadEnd.{LoadEnd}
 use Rattle.cil_server.specs.declared.loading.LoadEnd.TheVariants as ends
-use Rattle.cil_server.specs.Replies.{newline, no_memory, of_decision, of_export, of_host_error, of_list, of_load, of_optionals, of_query_fault, of_why, ok, refused, spaced}
+use Rattle.cil_server.specs.Replies.{newline, no_memory, of_check, of_decision, of_export, of_host_error, of_list, of_load, of_optionals, of_query_fault, of_why, ok, refused, spaced}
 use Rattle.cil_server.specs.Step.{MayLack, NeedsPolicy, Step}
 use Rattle.cil_server.specs.Turns.{IsAnswered, TellsDecision}
 
@@ -106,5 +107,23 @@ module _ (tells : List ℕ → Type 0) where
   declined old new source target class_name fault r e q same told = record {
     reply = of_query_fault fault;
     step = subst (λ h. Step old (Asks source target class_name) (of_query_fault fault) h) (sym same) (Step.decline fault (subst (Queries old source target class_name) e q));
+    told = told;
+  }
+
+  pub checked : (old new : State) (source target class_name permission : List ℕ) (is_allowed : Bool) (r : Result Bool QueryFault) → r ≡ Ok is_allowed
+      → ChecksHost old source target class_name permission r → new ≡ old → tells (of_check is_allowed) → IsAnswered old (Checks source target class_name permission) new tells
+  checked old new source target class_name permission is_allowed r e q same told = record {
+    reply = of_check is_allowed;
+    step = subst (λ h. Step old (Checks source target class_name permission) (of_check is_allowed) h) (sym same)
+        (Step.check is_allowed (subst (ChecksHost old source target class_name permission) e q));
+    told = told;
+  }
+
+  pub unchecked : (old new : State) (source target class_name permission : List ℕ) (fault : QueryFault) (r : Result Bool QueryFault) → r ≡ Err fault
+      → ChecksHost old source target class_name permission r → new ≡ old → tells (of_query_fault fault) → IsAnswered old (Checks source target class_name permission) new tells
+  unchecked old new source target class_name permission fault r e q same told = record {
+    reply = of_query_fault fault;
+    step = subst (λ h. Step old (Checks source target class_name permission) (of_query_fault fault) h) (sym same)
+        (Step.decline_check fault (subst (ChecksHost old source target class_name permission) e q));
     told = told;
   }

@@ -15,6 +15,7 @@ longest_body = 67108864
 pub data Line : Type 0 where
   Export List_ Load Optionals Quit Why : Line
   Ask : List ℕ → List ℕ → List ℕ → Line
+  Check : List ℕ → List ℕ → List ℕ → List ℕ → Line
   Install Import : ℕ → Line
   TooBig : Line
   Unknown : Line
@@ -63,6 +64,12 @@ queried word source target class_name =
     if same_bytes word (codes "AV") && not (same_bytes source []) && not (same_bytes target []) && not (same_bytes class_name [])
     then Ask source target class_name else Unknown
 
+-- a word, and a source, a target, a class and a permission, none of which is empty
+unfoldable pub checked : List ℕ → List ℕ → List ℕ → List ℕ → List ℕ → Line
+checked word source target class_name permission =
+    if same_bytes word (codes "CHECK") && not (same_bytes source []) && not (same_bytes target []) && not (same_bytes class_name []) && not (same_bytes permission [])
+    then Check source target class_name permission else Unknown
+
 -- by the number of the words
 abbrev pub by_words : List (List ℕ) → Line
 by_words (word ∷ []) = alone word
@@ -70,7 +77,8 @@ by_words (word ∷ digits ∷ []) = announced word digits
 by_words (word ∷ source ∷ target ∷ class_name ∷ []) = queried word source target class_name
 by_words [] = Unknown
 by_words (a ∷ b ∷ c ∷ []) = Unknown
-by_words (a ∷ b ∷ c ∷ d ∷ e ∷ words) = Unknown
+by_words (word ∷ source ∷ target ∷ class_name ∷ permission ∷ []) = checked word source target class_name permission
+by_words (a ∷ b ∷ c ∷ d ∷ e ∷ f ∷ words) = Unknown
 
 unfoldable pub asked : List ℕ → Line
 asked line = by_words (words_of line)
@@ -82,6 +90,7 @@ pub data Request : Type 0 where
   Installs Imports : List ℕ → Request
   Exports Lists Loads AsksOptionals AsksWhy Unasked : Request
   Asks : List ℕ → List ℕ → List ℕ → Request
+  Checks : List ℕ → List ℕ → List ℕ → List ℕ → Request
 
 -- how many bytes of body follow
 abbrev pub body_of : Line → ℕ
@@ -94,6 +103,7 @@ body_of Optionals = 0
 body_of Quit = 0
 body_of Why = 0
 body_of (Ask s t c) = 0
+body_of (Check s t c p) = 0
 body_of TooBig = 0
 body_of Unknown = 0
 
@@ -107,6 +117,7 @@ request_of Load body = Some Loads
 request_of Optionals body = Some AsksOptionals
 request_of Why body = Some AsksWhy
 request_of (Ask s t c) body = Some (Asks s t c)
+request_of (Check s t c p) body = Some (Checks s t c p)
 request_of Unknown body = Some Unasked
 request_of Quit body = None
 request_of TooBig body = None

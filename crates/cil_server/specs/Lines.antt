@@ -1,7 +1,7 @@
 -- The lines of a session as they are spelled: words parted by one space, and numbers in decimal. This project's profile.
 use Rattle.std.specs.Prelude.{ℕ, ◌+◌, ◌*◌, ◌<◌, ◌≤◌, List, [], ◌∷◌, ◌++◌, length, Contains, codes}
 use Rattle.cil_server.specs.Asked.{Line, longest_body}
-use Rattle.cil_server.specs.Asked.Line.{Export, List_, Load, Optionals, Quit, Why, Ask, Install, Import, TooBig}
+use Rattle.cil_server.specs.Asked.Line.{Export, List_, Load, Optionals, Quit, Why, Ask, Check, Install, Import, TooBig}
 
 -- the digits are the decimal of the number, without needless zeros: one digit, or the decimal of a number that is not 0
 -- and one digit more. The byte of the digit 0 is 48
@@ -31,3 +31,6 @@ pub data IsSpelled : List ℕ → Line → Type 0 where
   -- a query: a source, a target and a class
   ask : (source target class_name : List ℕ) → IsWord source → IsWord target → IsWord class_name
       → IsSpelled (codes "AV " ++ source ++ 32 ∷ target ++ 32 ∷ class_name) (Ask source target class_name)
+  -- a check: these, and a permission
+  check : (source target class_name permission : List ℕ) → IsWord source → IsWord target → IsWord class_name → IsWord permission
+      → IsSpelled (codes "CHECK " ++ (source ++ 32 ∷ (target ++ 32 ∷ (class_name ++ 32 ∷ permission)))) (Check source target class_name permission)

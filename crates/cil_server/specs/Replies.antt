@@ -131,11 +131,17 @@ joined (name ∷ names) = name ++ listed names
 abbrev pub of_decision : List (List ℕ) → List (List ℕ) → List (List ℕ) → List ℕ
 of_decision allowed auditallow auditdeny = codes "OK " ++ joined allowed ++ codes " " ++ joined auditallow ++ codes " " ++ joined auditdeny ++ newline
 
+-- whether a permission is allowed
+abbrev pub of_check : Bool → List ℕ
+of_check true = codes "OK yes" ++ newline
+of_check false = codes "OK no" ++ newline
+
 abbrev pub of_query_fault : QueryFault → List ℕ
 of_query_fault query.NoPolicy = refused 71
 of_query_fault query.BadSource = refused_at 72 1
 of_query_fault query.BadTarget = refused_at 72 2
 of_query_fault query.NoClass = refused 73
+of_query_fault query.NoPermission = refused 74
 
 abbrev pub of_host_error : HostError → List ℕ
 of_host_error (errors.Query fault) = of_query_fault fault

@@ -1,5 +1,5 @@
 -- One request of the model host: its reply, and the host that it leaves. This project's profile.
-use Rattle.std.specs.Prelude.{◌≡◌, ◌<◌, ℕ, List, map, None, Result, Ok, Err, IsBitSet}
+use Rattle.std.specs.Prelude.{◌≡◌, ◌<◌, ℕ, Bool, List, map, None, Result, Ok, Err, IsBitSet}
 use Rattle.cil_sexpr.specs.declared.fault.ReadError.{ReadError}
 use Rattle.cil_base.specs.Lists.{Lists as ListsOf, text_cmp}
 use Rattle.cil_modset.specs.Bundle.{bundle}
@@ -14,11 +14,12 @@ use Rattle.cil_host.specs.Listed.{line_of}
 use Rattle.cil_optionals.specs.declared.lines.OptionalLine.{OptionalLine}
 use Rattle.cil_optionals.specs.declared.lines.WhyLine.{WhyLine}
 use Rattle.cil_host.specs.Machine.{AreOptionalLines, AreWhyLines, OfAccepted, OfLoaded, Queries, State}
+use Rattle.cil_host.specs.Checks.{Checks as ChecksHost}
 use Rattle.cil_host.specs.Permissions.{IsPermissionOf}
 use Rattle.cil_host.specs.Refusal.{Loads as LoadsHost}
 use Rattle.cil_server.specs.Asked.{Request}
-use Rattle.cil_server.specs.Asked.Request.{Installs, Imports, Exports, Lists, Loads, AsksOptionals, AsksWhy, Unasked, Asks}
-use Rattle.cil_server.specs.Replies.{no_memory, of_decision, of_export, of_import, of_install, of_list, of_load, of_optionals, of_query_fault, of_why, refused}
+use Rattle.cil_server.specs.Asked.Request.{Installs, Imports, Exports, Lists, Loads, AsksOptionals, AsksWhy, Unasked, Asks, Checks}
+use Rattle.cil_server.specs.Replies.{no_memory, of_check, of_decision, of_export, of_import, of_install, of_list, of_load, of_optionals, of_query_fault, of_why, refused}
 
 -- ---- names of masks
 
@@ -71,5 +72,9 @@ pub data Step : State → Request → List ℕ → State → Type 0 where
       → NamesOf h class_name d.auditdeny auditdeny → Step h (Asks source target class_name) (of_decision allowed auditallow auditdeny) h
   decline : {h : State} {source target class_name : List ℕ} (fault : QueryFault) → Queries h source target class_name (Err fault)
       → Step h (Asks source target class_name) (of_query_fault fault) h
+  check : {h : State} {source target class_name permission : List ℕ} (is_allowed : Bool) → ChecksHost h source target class_name permission (Ok is_allowed)
+      → Step h (Checks source target class_name permission) (of_check is_allowed) h
+  decline_check : {h : State} {source target class_name permission : List ℕ} (fault : QueryFault) → ChecksHost h source target class_name permission (Err fault)
+      → Step h (Checks source target class_name permission) (of_query_fault fault) h
   unknown : {h : State} → Step h Unasked (refused 81) h
   lack : {h : State} {request : Request} → MayLack h request → Step h request no_memory h

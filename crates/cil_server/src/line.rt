@@ -2,7 +2,7 @@
 
 ghost use Rattle.std.specs.Prelude.{◌≡◌, ◌≤◌, ℕ, List, [], ◌∷◌, IfSome, IfNone, None, Some, MatchOption};
 ghost use Rattle.std.specs.List.{list_all};
-ghost use Rattle.cil_server.specs.Asked.{asked, is_decimal, is_digit, value_of, longest_body, words_of, alone, announced, queried};
+ghost use Rattle.cil_server.specs.Asked.{asked, is_decimal, is_digit, value_of, longest_body, words_of, alone, announced, checked, queried};
 ghost use Rattle.cil_server.specs.Views.{line_of, IsCapped, IsWords};
 
 /// A line, read.
@@ -15,6 +15,8 @@ pub(crate) enum Line<'a> {
     Quit,
     Why,
     Ask(Query<'a>),
+    /// CHECK: a query, and a permission.
+    Check(Query<'a>, &'a [u8]),
     /// INSTALL, and how many bytes of body follow.
     Install(usize),
     /// IMPORT, and how many bytes of body follow.
@@ -41,6 +43,7 @@ enum Words<'a> {
     One(&'a [u8]),
     Two(&'a [u8], &'a [u8]),
     Four(&'a [u8], Query<'a>),
+    Five(&'a [u8], Query<'a>, &'a [u8]),
     Other,
 }
 
@@ -53,6 +56,7 @@ pub(crate) fn read_line(line: &[u8]) -> Line<'_>
         Words::One(word) => alone(word),
         Words::Two(word, digits) => announced(word, digits),
         Words::Four(word, query) => queried(word, query.source, query.target, query.class),
+        Words::Five(word, query, permission) => checked(word, query, permission),
         Words::Other => Line::Unknown,
     }
 }
@@ -73,15 +77,18 @@ fn words_of(line: &[u8]) -> Words<'_>
     let Some(fourth) = words.next() else {
         return Words::Other;
     };
-    if let Some(_) = words.next() {
-        return Words::Other;
-    }
     let query = Query {
         source: second,
         target: third,
         class: fourth,
     };
-    Words::Four(word, query)
+    let Some(fifth) = words.next() else {
+        return Words::Four(word, query);
+    };
+    if let Some(_) = words.next() {
+        return Words::Other;
+    }
+    Words::Five(word, query, fifth)
 }
 
 #[tactic(auto, unfolding(crate::specs::Asked::alone))]
@@ -145,6 +152,22 @@ fn queried<'a>(word: &[u8], source: &'a [u8], target: &'a [u8], class: &'a [u8])
             target,
             class,
         })
+    } else {
+        Line::Unknown
+    }
+}
+
+#[tactic(auto, unfolding(crate::specs::Asked::checked))]
+fn checked<'a>(word: &[u8], query: Query<'a>, permission: &'a [u8]) -> Line<'a>
+    ensures { line_of result ≡ checked word.now query.entry.source.now query.entry.target.now query.entry.class.now permission.now }
+{
+    if word == b"CHECK".as_slice()
+        && query.source != b"".as_slice()
+        && query.target != b"".as_slice()
+        && query.class != b"".as_slice()
+        && permission != b"".as_slice()
+    {
+        Line::Check(query, permission)
     } else {
         Line::Unknown
     }

@@ -3,7 +3,7 @@
 ghost use Rattle.std.specs.Prelude.{◌≡◌, ◌<◌, ◌++◌, ◌∷◌, ℕ, List, MatchOption, codes, decimal};
 ghost use Rattle.hex.specs.Hex.{encode_lower};
 ghost use Rattle.cil_faults.specs.Printed.{printed_space};
-ghost use Rattle.cil_server.specs.Replies.{newline, of_bundle_fault, of_export, of_host_error, of_import, of_install, of_line, of_list, of_optional, of_optional_line, of_optionals, of_query_fault, of_reason, of_standing, of_why, of_why_line, ok_number, refused, refused_at, spaced};
+ghost use Rattle.cil_server.specs.Replies.{newline, of_bundle_fault, of_check, of_export, of_host_error, of_import, of_install, of_line, of_list, of_optional, of_optional_line, of_optionals, of_query_fault, of_reason, of_standing, of_why, of_why_line, ok_number, refused, refused_at, spaced};
 ghost use Rattle.cil_server.specs.Step.{IsNamed};
 ghost use Rattle.cil_server.specs.Streams.{Tells};
 ghost use Rattle.cil_server.specs.Turns.{IsPlaced, TellsDecision, TellsName, TellsNames};
@@ -256,6 +256,18 @@ pub(crate) fn put_query_fault<W: Sink>(output: &mut Output<'_, W>, fault: QueryF
         QueryFault::BadTarget => put_refused_at(output, fault.number(), 2),
         QueryFault::NoPolicy => put_refused(output, fault.number()),
         QueryFault::NoClass => put_refused(output, fault.number()),
+        QueryFault::NoPermission => put_refused(output, fault.number()),
+    }
+}
+
+/// Whether a permission is allowed.
+pub(crate) fn put_checked<W: Sink>(output: &mut Output<'_, W>, is_allowed: bool)
+    ensures { Tells output.old output.new (of_check is_allowed) }
+{
+    if is_allowed {
+        output.put(b"OK yes\n");
+    } else {
+        output.put(b"OK no\n");
     }
 }
 

@@ -1,17 +1,18 @@
 //! The requests, each asked of the host and answered. None is begun once the writer has failed.
 
 ghost use Rattle.std.specs.Prelude.{◌≡◌, false};
-ghost use Rattle.cil_server.specs.Asked.Request.{Asks, Exports, Imports, Installs, Lists, Loads, AsksOptionals, AsksWhy};
+ghost use Rattle.cil_server.specs.Asked.Request.{Asks, Checks, Exports, Imports, Installs, Lists, Loads, AsksOptionals, AsksWhy};
 ghost use Rattle.cil_server.specs.Load.{IsLoaded};
 ghost use Rattle.cil_server.specs.Streams.{Tells};
 ghost use Rattle.cil_server.specs.Turns.{IsAnswered};
 
 use crate::devices::Sink;
+use crate::line::Query;
 use crate::loading::LoadEnd;
 use crate::output::Output;
 use crate::replies::{
-    put_bundle, put_decision, put_faults, put_host_error, put_imported, put_installed, put_lines,
-    put_optionals, put_query_fault, put_refused, put_why,
+    put_bundle, put_checked, put_decision, put_faults, put_host_error, put_imported, put_installed,
+    put_lines, put_optionals, put_query_fault, put_refused, put_why,
 };
 use cil_base::NoMemory;
 use cil_host::Host;
@@ -119,6 +120,23 @@ pub(crate) fn why<S: Drop, W: Sink>(alloc: Global, host: &Host<S>, output: &mut 
     match host.why(alloc) {
         Ok(lines) => put_why(output, lines.as_slice()),
         Err(error) => put_host_error(output, error),
+    }
+}
+
+/// CHECK: tells whether a permission is allowed, or why there is no answer.
+pub(crate) fn check<S: Drop, W: Sink>(
+    host: &mut Host<S>,
+    output: &mut Output<'_, W>,
+    query: Query<'_>,
+    permission: &[u8],
+)
+    requires { output.old.has_failed ≡ false }
+    ensures { IsAnswered host.old (Checks query.entry.source.now query.entry.target.now query.entry.class.now permission.now) host.new
+        (Tells output.old output.new) }
+{
+    match host.check(query.source, query.target, query.class, permission) {
+        Ok(is_allowed) => put_checked(output, is_allowed),
+        Err(fault) => put_query_fault(output, fault),
     }
 }
 

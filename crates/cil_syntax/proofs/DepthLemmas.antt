@@ -12,7 +12,7 @@ use Rattle.cil_syntax.specs.declared.term.Op.TheVariants as ops
 use Rattle.cil_syntax.specs.declared.term.Word.{Word}
 use Rattle.cil_syntax.specs.declared.program.Statement as rust
 use Rattle.cil_syntax.specs.Depths.{AllNest, AreShallow, Nests, below, most_nested}
-use Rattle.cil_syntax.specs.Grammar.{Fits, name, word, single, every, headed, headless, exact, left, right, bracketed, begun, any_word, any_string, any_list, text_word, text_string, FitsRow, closed, one, no_more, more, as_many, not_as_many, led_by, not_led, body, whatever}
+use Rattle.cil_syntax.specs.Grammar.{Fits, name, word, single, every, headed, headless, exact, left, right, bracketed, begun, any_word, any_string, any_list, text_word, text_string, object_word, object_string, FitsRow, closed, one, no_more, more, as_many, not_as_many, led_by, not_led, body, whatever}
 use Rattle.cil_syntax.specs.Program.{program_of}
 use Rattle.cil_syntax.specs.Heads.{other_op, other_row}
 use Rattle.cil_syntax.specs.Shapes.{Row, Shape, many, unread}
@@ -113,6 +113,8 @@ module _ (m : ℕ) where
     fits_nests (suc k) _ _ _ h (any_list place kids parts fit) = form_nests (spot_of m place) ops.UnreadList k parts (row_nests k (many unread) kids parts h fit)
     fits_nests k _ _ _ h (text_word place bytes) = tt
     fits_nests k _ _ _ h (text_string place bytes) = (tt, tt)
+    fits_nests k _ _ _ h (object_word place bytes) = (tt, tt)
+    fits_nests k _ _ _ h (object_string place bytes) = (tt, tt)
 
     row_nests : (k : ℕ) (row : Row) (ns : Nodes) (ts : Terms Word) → NodesNest k ns → FitsRow m row ns ts → AllNest (Some k) ts
     row_nests k _ _ _ h closed = tt

@@ -129,16 +129,16 @@ pub sets_5 : (found (list 0 (next (word 1 (codes "allow")) (next (word 7 (codes 
     × (found (list 0 (next (word 1 (codes "allow")) (next (word 7 (codes "a")) (next (word 9 (codes "b")) (next (list 11 (next (word 12 (codes "file")) (next (list 17 (next (word 18 (codes "and")) (next (list 22 (next (word 23 (codes "a")) (next (word 25 (codes "b")) none))) (next (list 28 (next (word 29 (codes "not")) (next (word 33 (codes "c")) none))) none)))) none))) none))))) ≡ [])
     × (found (list 0 (next (word 1 (codes "allow")) (next (word 7 (codes "a")) (next (word 9 (codes "b")) (next (list 11 (next (word 12 (codes "file")) (next (list 17 (next (word 18 (codes "a.b")) none)) none))) none))))) ≡ fault causes.BadName 18 (codes "a.b") ∷ [])
     × (found (list 0 (next (word 1 (codes "allow")) (next (word 7 (codes "a")) (next (word 9 (codes "b")) (next (list 11 (next (word 12 (codes "file")) (next (list 17 (next (word 18 (codes "range")) (next (word 24 (codes "a")) (next (word 26 (codes "b")) none)))) none))) none))))) ≡ fault causes.ReservedName 18 (codes "range") ∷ [])
-    × (found (list 0 (next (word 1 (codes "allow")) (next (word 7 (codes "a")) (next (word 9 (codes "b")) (next (word 11 (codes "perm")) none))))) ≡ fault causes.Unsupported 11 (codes "perm") ∷ [])
-    × (found (list 0 (next (word 1 (codes "allow")) (next (word 7 (codes "a")) (next (word 9 (codes "b")) (next (word 11 (codes "1x")) none))))) ≡ fault causes.Unsupported 11 (codes "1x") ∷ [])
-    × (found (list 0 (next (word 1 (codes "allow")) (next (word 7 (codes "a")) (next (word 9 (codes "b")) (next (word 11 (codes "all")) none))))) ≡ fault causes.Unsupported 11 (codes "all") ∷ [])
+    × (found (list 0 (next (word 1 (codes "allow")) (next (word 7 (codes "a")) (next (word 9 (codes "b")) (next (word 11 (codes "perm")) none))))) ≡ [])
+    × (found (list 0 (next (word 1 (codes "allow")) (next (word 7 (codes "a")) (next (word 9 (codes "b")) (next (word 11 (codes "1x")) none))))) ≡ fault causes.BadName 11 (codes "1x") ∷ [])
+    × (found (list 0 (next (word 1 (codes "allow")) (next (word 7 (codes "a")) (next (word 9 (codes "b")) (next (word 11 (codes "all")) none))))) ≡ fault causes.ReservedName 11 (codes "all") ∷ [])
 unfolding verdict_of cells_of cell_of read_row read_word read_string read_list rules containers types classes users entry_of set_aside_words later_words left_out_words heads first_words begins_with
 sets_5 = (refl, refl, refl, refl, refl, refl, refl, refl)
 
 -- `(allow a self p)`
 -- `(allow a notself p)`
-pub sets_6 : (found (list 0 (next (word 1 (codes "allow")) (next (word 7 (codes "a")) (next (word 9 (codes "self")) (next (word 14 (codes "p")) none))))) ≡ fault causes.Unsupported 14 (codes "p") ∷ [])
-    × (found (list 0 (next (word 1 (codes "allow")) (next (word 7 (codes "a")) (next (word 9 (codes "notself")) (next (word 17 (codes "p")) none))))) ≡ fault causes.Unsupported 9 (codes "notself") ∷ fault causes.Unsupported 17 (codes "p") ∷ [])
+pub sets_6 : (found (list 0 (next (word 1 (codes "allow")) (next (word 7 (codes "a")) (next (word 9 (codes "self")) (next (word 14 (codes "p")) none))))) ≡ [])
+    × (found (list 0 (next (word 1 (codes "allow")) (next (word 7 (codes "a")) (next (word 9 (codes "notself")) (next (word 17 (codes "p")) none))))) ≡ fault causes.Unsupported 9 (codes "notself") ∷ [])
 unfolding verdict_of cells_of cell_of read_row read_word read_string read_list rules containers types classes users entry_of set_aside_words later_words left_out_words heads first_words begins_with
 sets_6 = (refl, refl)
 
@@ -371,11 +371,11 @@ constraints_7 = (refl, refl, refl, refl, refl, refl)
 pub statements_1 : (found (list 0 (next (word 1 (codes "common")) (next (word 8 (codes "k")) (next (list 10 (next (word 11 (codes "a")) (next (word 13 (codes "b")) none))) none)))) ≡ [])
     × (found (list 0 (next (word 1 (codes "common")) (next (word 8 (codes "k")) (next (list 10 none) none)))) ≡ fault causes.BadShape 0 (codes "common") ∷ [])
     × (found (list 0 (next (word 1 (codes "class")) (next (word 7 (codes "c")) (next (list 9 none) none)))) ≡ [])
-    × (found_as keywords.ClassMap (list 0 (next (word 1 (codes "classmap")) (next (word 10 (codes "m")) (next (list 12 none) none)))) ≡ fault causes.BadShape 0 (codes "classmap") ∷ [])
-    × (found_as keywords.ClassMap (list 0 (next (word 1 (codes "classmap")) (next (word 10 (codes "m")) (next (list 12 (next (word 13 (codes "a")) none)) none)))) ≡ [])
+    × (found (list 0 (next (word 1 (codes "classmap")) (next (word 10 (codes "m")) (next (list 12 none) none)))) ≡ fault causes.BadShape 0 (codes "classmap") ∷ [])
+    × (found (list 0 (next (word 1 (codes "classmap")) (next (word 10 (codes "m")) (next (list 12 (next (word 13 (codes "a")) none)) none)))) ≡ [])
     × (found (list 0 (next (word 1 (codes "classcommon")) (next (word 13 (codes "c")) (next (word 15 (codes "k")) none)))) ≡ [])
-    × (found_as keywords.ClassMapping (list 0 (next (word 1 (codes "classmapping")) (next (word 14 (codes "m")) (next (word 16 (codes "p")) (next (list 18 (next (word 19 (codes "c")) (next (list 21 (next (word 22 (codes "q")) none)) none))) none))))) ≡ [])
-    × (found_as keywords.ClassMapping (list 0 (next (word 1 (codes "classmapping")) (next (word 14 (codes "m")) (next (word 16 (codes "p")) (next (word 18 (codes "cp")) none))))) ≡ [])
+    × (found (list 0 (next (word 1 (codes "classmapping")) (next (word 14 (codes "m")) (next (word 16 (codes "p")) (next (list 18 (next (word 19 (codes "c")) (next (list 21 (next (word 22 (codes "q")) none)) none))) none))))) ≡ [])
+    × (found (list 0 (next (word 1 (codes "classmapping")) (next (word 14 (codes "m")) (next (word 16 (codes "p")) (next (word 18 (codes "cp")) none))))) ≡ [])
 unfolding verdict_of cells_of cell_of read_row read_word read_string read_list rules containers types classes users entry_of set_aside_words later_words left_out_words heads first_words begins_with
 statements_1 = (refl, refl, refl, refl, refl, refl, refl, refl)
 
@@ -387,14 +387,14 @@ statements_1 = (refl, refl, refl, refl, refl, refl, refl, refl)
 -- `(classorder (a b))`
 -- `(classorder (unordered a b))`
 -- `(classorder (a unordered))`
-pub statements_2 : (found_as keywords.ClassMapping (list 0 (next (word 1 (codes "classmapping")) (next (word 14 (codes "m")) (next (word 16 (codes "a.b")) (next (list 20 (next (word 21 (codes "c")) (next (list 23 (next (word 24 (codes "q")) none)) none))) none))))) ≡ fault causes.BadName 16 (codes "a.b") ∷ [])
-    × (found_as keywords.ClassMapping (list 0 (next (word 1 (codes "classmapping")) (next (word 14 (codes "m")) (next (list 16 (next (word 17 (codes "p")) none)) (next (list 20 (next (word 21 (codes "c")) (next (list 23 (next (word 24 (codes "q")) none)) none))) none))))) ≡ fault causes.BadShape 0 (codes "classmapping") ∷ [])
-    × (found_as keywords.ClassPermission (list 0 (next (word 1 (codes "classpermission")) (next (word 17 (codes "p")) none))) ≡ [])
-    × (found_as keywords.ClassPermissionSet (list 0 (next (word 1 (codes "classpermissionset")) (next (word 20 (codes "p")) (next (list 22 (next (word 23 (codes "c")) (next (list 25 (next (word 26 (codes "a")) none)) none))) none)))) ≡ [])
-    × (found_as keywords.ClassPermissionSet (list 0 (next (word 1 (codes "classpermissionset")) (next (word 20 (codes "p")) (next (word 22 (codes "q")) none)))) ≡ fault causes.BadShape 0 (codes "classpermissionset") ∷ [])
-    × (found_as keywords.ClassOrder (list 0 (next (word 1 (codes "classorder")) (next (list 12 (next (word 13 (codes "a")) (next (word 15 (codes "b")) none))) none))) ≡ [])
-    × (found_as keywords.ClassOrder (list 0 (next (word 1 (codes "classorder")) (next (list 12 (next (word 13 (codes "unordered")) (next (word 23 (codes "a")) (next (word 25 (codes "b")) none)))) none))) ≡ [])
-    × (found_as keywords.ClassOrder (list 0 (next (word 1 (codes "classorder")) (next (list 12 (next (word 13 (codes "a")) (next (word 15 (codes "unordered")) none))) none))) ≡ fault causes.ReservedName 15 (codes "unordered") ∷ [])
+pub statements_2 : (found (list 0 (next (word 1 (codes "classmapping")) (next (word 14 (codes "m")) (next (word 16 (codes "a.b")) (next (list 20 (next (word 21 (codes "c")) (next (list 23 (next (word 24 (codes "q")) none)) none))) none))))) ≡ fault causes.BadName 16 (codes "a.b") ∷ [])
+    × (found (list 0 (next (word 1 (codes "classmapping")) (next (word 14 (codes "m")) (next (list 16 (next (word 17 (codes "p")) none)) (next (list 20 (next (word 21 (codes "c")) (next (list 23 (next (word 24 (codes "q")) none)) none))) none))))) ≡ fault causes.BadShape 0 (codes "classmapping") ∷ [])
+    × (found (list 0 (next (word 1 (codes "classpermission")) (next (word 17 (codes "p")) none))) ≡ [])
+    × (found (list 0 (next (word 1 (codes "classpermissionset")) (next (word 20 (codes "p")) (next (list 22 (next (word 23 (codes "c")) (next (list 25 (next (word 26 (codes "a")) none)) none))) none)))) ≡ [])
+    × (found (list 0 (next (word 1 (codes "classpermissionset")) (next (word 20 (codes "p")) (next (word 22 (codes "q")) none)))) ≡ fault causes.BadShape 0 (codes "classpermissionset") ∷ [])
+    × (found (list 0 (next (word 1 (codes "classorder")) (next (list 12 (next (word 13 (codes "a")) (next (word 15 (codes "b")) none))) none))) ≡ [])
+    × (found (list 0 (next (word 1 (codes "classorder")) (next (list 12 (next (word 13 (codes "unordered")) (next (word 23 (codes "a")) (next (word 25 (codes "b")) none)))) none))) ≡ [])
+    × (found (list 0 (next (word 1 (codes "classorder")) (next (list 12 (next (word 13 (codes "a")) (next (word 15 (codes "unordered")) none))) none))) ≡ fault causes.ReservedName 15 (codes "unordered") ∷ [])
 unfolding verdict_of cells_of cell_of read_row read_word read_string read_list rules containers types classes users entry_of set_aside_words later_words left_out_words heads first_words begins_with
 statements_2 = (refl, refl, refl, refl, refl, refl, refl, refl)
 
@@ -406,10 +406,10 @@ statements_2 = (refl, refl, refl, refl, refl, refl, refl, refl)
 -- `(typealiasactual a b)`
 -- `(typealiasactual a (b))`
 -- `(typeattribute a)`
-pub statements_3 : (found_as keywords.ClassOrder (list 0 (next (word 1 (codes "classorder")) (next (list 12 none) none))) ≡ [])
-    × (found_as keywords.ClassOrder (list 0 (next (word 1 (codes "classorder")) (next (list 12 (next (word 13 (codes "unordered")) none)) none))) ≡ [])
-    × (found_as keywords.ClassOrder (list 0 (next (word 1 (codes "classorder")) (next (list 12 (next (word 13 (codes "unordered")) (next (word 23 (codes "unordered")) none))) none))) ≡ fault causes.ReservedName 23 (codes "unordered") ∷ [])
-    × (found_as keywords.ClassOrder (list 0 (next (word 1 (codes "classorder")) (next (word 12 (codes "a")) none))) ≡ fault causes.BadShape 0 (codes "classorder") ∷ [])
+pub statements_3 : (found (list 0 (next (word 1 (codes "classorder")) (next (list 12 none) none))) ≡ [])
+    × (found (list 0 (next (word 1 (codes "classorder")) (next (list 12 (next (word 13 (codes "unordered")) none)) none))) ≡ [])
+    × (found (list 0 (next (word 1 (codes "classorder")) (next (list 12 (next (word 13 (codes "unordered")) (next (word 23 (codes "unordered")) none))) none))) ≡ fault causes.ReservedName 23 (codes "unordered") ∷ [])
+    × (found (list 0 (next (word 1 (codes "classorder")) (next (word 12 (codes "a")) none))) ≡ fault causes.BadShape 0 (codes "classorder") ∷ [])
     × (found (list 0 (next (word 1 (codes "typealias")) (next (word 11 (codes "a")) none))) ≡ [])
     × (found (list 0 (next (word 1 (codes "typealiasactual")) (next (word 17 (codes "a")) (next (word 19 (codes "b")) none)))) ≡ [])
     × (found (list 0 (next (word 1 (codes "typealiasactual")) (next (word 17 (codes "a")) (next (list 19 (next (word 20 (codes "b")) none)) none)))) ≡ fault causes.BadShape 0 (codes "typealiasactual") ∷ [])
@@ -542,8 +542,8 @@ statements_9 = (refl, refl, refl, refl, refl, refl, refl, refl)
 pub statements_10 : (found_as keywords.CategoryAliasActual (list 0 (next (word 1 (codes "categoryaliasactual")) (next (word 21 (codes "a")) (next (word 23 (codes "c")) none)))) ≡ [])
     × (found_as keywords.CategoryOrder (list 0 (next (word 1 (codes "categoryorder")) (next (list 15 (next (word 16 (codes "a")) none)) none))) ≡ [])
     × (found_as keywords.CategorySet (list 0 (next (word 1 (codes "categoryset")) (next (word 13 (codes "c")) (next (list 15 (next (word 16 (codes "all")) none)) none)))) ≡ [])
-    × (found_as keywords.AuditAllow (list 0 (next (word 1 (codes "auditallow")) (next (word 12 (codes "a")) (next (word 14 (codes "b")) (next (list 16 (next (word 17 (codes "c")) (next (list 19 (next (word 20 (codes "d")) none)) none))) none))))) ≡ [])
-    × (found_as keywords.DontAudit (list 0 (next (word 1 (codes "dontaudit")) (next (word 11 (codes "a")) (next (word 13 (codes "b")) (next (word 15 (codes "p")) none))))) ≡ fault causes.Unsupported 15 (codes "p") ∷ [])
+    × (found (list 0 (next (word 1 (codes "auditallow")) (next (word 12 (codes "a")) (next (word 14 (codes "b")) (next (list 16 (next (word 17 (codes "c")) (next (list 19 (next (word 20 (codes "d")) none)) none))) none))))) ≡ [])
+    × (found (list 0 (next (word 1 (codes "dontaudit")) (next (word 11 (codes "a")) (next (word 13 (codes "b")) (next (word 15 (codes "p")) none))))) ≡ [])
     × (found_as keywords.NeverAllow (list 0 (next (word 1 (codes "neverallow")) (next (word 12 (codes "a")) (next (word 14 (codes "self")) (next (list 19 (next (word 20 (codes "c")) (next (list 22 (next (word 23 (codes "d")) none)) none))) none))))) ≡ [])
     × (found_as keywords.NeverAllow (list 0 (next (word 1 (codes "neverallow")) (next (word 12 (codes "a")) (next (word 14 (codes "other")) (next (list 20 (next (word 21 (codes "c")) (next (list 23 (next (word 24 (codes "d")) none)) none))) none))))) ≡ fault causes.Unsupported 14 (codes "other") ∷ [])
     × (found (list 0 (next (word 1 (codes "macro")) (next (word 7 (codes "m")) (next (list 9 (next (list 10 (next (word 11 (codes "typealias")) (next (word 21 (codes "a")) none))) (next (list 23 (next (word 24 (codes "bool")) (next (word 29 (codes "b")) none))) (next (list 31 (next (word 32 (codes "boolean")) (next (word 40 (codes "c")) none))) (next (list 42 (next (word 43 (codes "classmap")) (next (word 52 (codes "d")) none))) (next (list 54 (next (word 55 (codes "classpermission")) (next (word 71 (codes "e")) none))) none)))))) none)))) ≡ fault causes.Unsupported 24 (codes "bool") ∷ fault causes.Unsupported 32 (codes "boolean") ∷ fault causes.Unsupported 43 (codes "classmap") ∷ fault causes.Unsupported 55 (codes "classpermission") ∷ [])
@@ -567,12 +567,12 @@ statements_11 = (refl, refl, refl, refl)
 -- `(neverallow a b p)`
 -- `(classpermissionset p (c (not a)))`
 -- `(classmapping m p (c all))`
-pub names_1 : (found_as keywords.Constrain (list 0 (next (word 1 (codes "constrain")) (next (word 11 (codes "p")) (next (list 13 (next (word 14 (codes "eq")) (next (word 17 (codes "u1")) (next (word 20 (codes "u2")) none)))) none)))) ≡ fault causes.Unsupported 11 (codes "p") ∷ [])
-    × (found_as keywords.Constrain (list 0 (next (word 1 (codes "constrain")) (next (word 11 (codes "1x")) (next (list 14 (next (word 15 (codes "eq")) (next (word 18 (codes "u1")) (next (word 21 (codes "1x")) none)))) none)))) ≡ fault causes.Unsupported 11 (codes "1x") ∷ fault causes.BadName 21 (codes "1x") ∷ [])
-    × (found_as keywords.MlsConstrain (list 0 (next (word 1 (codes "mlsconstrain")) (next (word 14 (codes "p")) (next (list 16 (next (word 17 (codes "dom")) (next (word 21 (codes "r1")) (next (word 24 (codes "r2")) none)))) none)))) ≡ fault causes.Unsupported 14 (codes "p") ∷ fault causes.Unsupported 17 (codes "dom") ∷ [])
-    × (found_as keywords.NeverAllow (list 0 (next (word 1 (codes "neverallow")) (next (word 12 (codes "a")) (next (word 14 (codes "b")) (next (word 16 (codes "p")) none))))) ≡ fault causes.Unsupported 16 (codes "p") ∷ [])
-    × (found_as keywords.ClassPermissionSet (list 0 (next (word 1 (codes "classpermissionset")) (next (word 20 (codes "p")) (next (list 22 (next (word 23 (codes "c")) (next (list 25 (next (word 26 (codes "not")) (next (word 30 (codes "a")) none))) none))) none)))) ≡ [])
-    × (found_as keywords.ClassMapping (list 0 (next (word 1 (codes "classmapping")) (next (word 14 (codes "m")) (next (word 16 (codes "p")) (next (list 18 (next (word 19 (codes "c")) (next (word 21 (codes "all")) none))) none))))) ≡ [])
+pub names_1 : (found_as keywords.Constrain (list 0 (next (word 1 (codes "constrain")) (next (word 11 (codes "p")) (next (list 13 (next (word 14 (codes "eq")) (next (word 17 (codes "u1")) (next (word 20 (codes "u2")) none)))) none)))) ≡ [])
+    × (found_as keywords.Constrain (list 0 (next (word 1 (codes "constrain")) (next (word 11 (codes "1x")) (next (list 14 (next (word 15 (codes "eq")) (next (word 18 (codes "u1")) (next (word 21 (codes "1x")) none)))) none)))) ≡ fault causes.BadName 11 (codes "1x") ∷ fault causes.BadName 21 (codes "1x") ∷ [])
+    × (found_as keywords.MlsConstrain (list 0 (next (word 1 (codes "mlsconstrain")) (next (word 14 (codes "p")) (next (list 16 (next (word 17 (codes "dom")) (next (word 21 (codes "r1")) (next (word 24 (codes "r2")) none)))) none)))) ≡ fault causes.Unsupported 17 (codes "dom") ∷ [])
+    × (found_as keywords.NeverAllow (list 0 (next (word 1 (codes "neverallow")) (next (word 12 (codes "a")) (next (word 14 (codes "b")) (next (word 16 (codes "p")) none))))) ≡ [])
+    × (found (list 0 (next (word 1 (codes "classpermissionset")) (next (word 20 (codes "p")) (next (list 22 (next (word 23 (codes "c")) (next (list 25 (next (word 26 (codes "not")) (next (word 30 (codes "a")) none))) none))) none)))) ≡ [])
+    × (found (list 0 (next (word 1 (codes "classmapping")) (next (word 14 (codes "m")) (next (word 16 (codes "p")) (next (list 18 (next (word 19 (codes "c")) (next (word 21 (codes "all")) none))) none))))) ≡ [])
 unfolding verdict_of cells_of cell_of read_row read_word read_string read_list rules containers types classes users entry_of set_aside_words later_words left_out_words heads first_words begins_with
 names_1 = (refl, refl, refl, refl, refl, refl)
 
@@ -586,7 +586,7 @@ names_1 = (refl, refl, refl, refl, refl, refl)
 -- `(sensitivitycategory)`
 pub later_1 : (found (list 0 (next (word 1 (codes "common")) none)) ≡ fault causes.BadShape 0 (codes "common") ∷ [])
     × (found (list 0 (next (word 1 (codes "classcommon")) none)) ≡ fault causes.BadShape 0 (codes "classcommon") ∷ [])
-    × (found (list 0 (next (word 1 (codes "classmap")) none)) ≡ fault causes.Unsupported 0 (codes "classmap") ∷ [])
+    × (found (list 0 (next (word 1 (codes "classmap")) none)) ≡ fault causes.BadShape 0 (codes "classmap") ∷ [])
     × (found (list 0 (next (word 1 (codes "sensitivity")) none)) ≡ fault causes.Unsupported 0 (codes "sensitivity") ∷ [])
     × (found (list 0 (next (word 1 (codes "sensitivityalias")) none)) ≡ fault causes.Unsupported 0 (codes "sensitivityalias") ∷ [])
     × (found (list 0 (next (word 1 (codes "sensitivityaliasactual")) none)) ≡ fault causes.Unsupported 0 (codes "sensitivityaliasactual") ∷ [])
@@ -624,10 +624,10 @@ later_2 = (refl, refl, refl, refl, refl, refl, refl, refl)
 -- `(level)`
 pub later_3 : (found (list 0 (next (word 1 (codes "userlevel")) none)) ≡ fault causes.Unsupported 0 (codes "userlevel") ∷ [])
     × (found (list 0 (next (word 1 (codes "userrange")) none)) ≡ fault causes.Unsupported 0 (codes "userrange") ∷ [])
-    × (found (list 0 (next (word 1 (codes "classpermission")) none)) ≡ fault causes.Unsupported 0 (codes "classpermission") ∷ [])
-    × (found (list 0 (next (word 1 (codes "classpermissionset")) none)) ≡ fault causes.Unsupported 0 (codes "classpermissionset") ∷ [])
-    × (found (list 0 (next (word 1 (codes "classmapping")) none)) ≡ fault causes.Unsupported 0 (codes "classmapping") ∷ [])
-    × (found (list 0 (next (word 1 (codes "classorder")) none)) ≡ fault causes.Unsupported 0 (codes "classorder") ∷ [])
+    × (found (list 0 (next (word 1 (codes "classpermission")) none)) ≡ fault causes.BadShape 0 (codes "classpermission") ∷ [])
+    × (found (list 0 (next (word 1 (codes "classpermissionset")) none)) ≡ fault causes.BadShape 0 (codes "classpermissionset") ∷ [])
+    × (found (list 0 (next (word 1 (codes "classmapping")) none)) ≡ fault causes.BadShape 0 (codes "classmapping") ∷ [])
+    × (found (list 0 (next (word 1 (codes "classorder")) none)) ≡ fault causes.BadShape 0 (codes "classorder") ∷ [])
     × (found (list 0 (next (word 1 (codes "boolean")) none)) ≡ fault causes.Unsupported 0 (codes "boolean") ∷ [])
     × (found (list 0 (next (word 1 (codes "level")) none)) ≡ fault causes.Unsupported 0 (codes "level") ∷ [])
 unfolding verdict_of cells_of cell_of read_row read_word read_string read_list rules containers types classes users entry_of set_aside_words later_words left_out_words heads first_words begins_with
@@ -645,8 +645,8 @@ pub later_4 : (found (list 0 (next (word 1 (codes "levelrange")) none)) ≡ faul
     × (found (list 0 (next (word 1 (codes "neverallow")) none)) ≡ fault causes.Unsupported 0 (codes "neverallow") ∷ [])
     × (found (list 0 (next (word 1 (codes "constrain")) none)) ≡ fault causes.Unsupported 0 (codes "constrain") ∷ [])
     × (found (list 0 (next (word 1 (codes "mlsconstrain")) none)) ≡ fault causes.Unsupported 0 (codes "mlsconstrain") ∷ [])
-    × (found (list 0 (next (word 1 (codes "auditallow")) none)) ≡ fault causes.Unsupported 0 (codes "auditallow") ∷ [])
-    × (found (list 0 (next (word 1 (codes "dontaudit")) none)) ≡ fault causes.Unsupported 0 (codes "dontaudit") ∷ [])
+    × (found (list 0 (next (word 1 (codes "auditallow")) none)) ≡ fault causes.BadShape 0 (codes "auditallow") ∷ [])
+    × (found (list 0 (next (word 1 (codes "dontaudit")) none)) ≡ fault causes.BadShape 0 (codes "dontaudit") ∷ [])
 unfolding verdict_of cells_of cell_of read_row read_word read_string read_list rules containers types classes users entry_of set_aside_words later_words left_out_words heads first_words begins_with
 later_4 = (refl, refl, refl, refl, refl, refl, refl)
 
@@ -699,8 +699,8 @@ pub rows_3 : (found (list 0 (next (word 1 (codes "optional")) (next (word 10 (co
     × (found (list 0 (next (word 1 (codes "allow")) (next (word 7 (codes "foo_t")) (next (word 13 (codes "bar_t")) (next (list 19 (next (word 20 (codes "file")) (next (list 25 (next (word 26 (codes "read")) none)) none))) none))))) ≡ [])
     × (found (list 0 (next (word 1 (codes "allow")) (next (word 7 (codes "foo_t")) (next (word 13 (codes "self")) (next (list 18 (next (word 19 (codes "file")) (next (list 24 (next (word 25 (codes "open")) (next (word 30 (codes "read")) none))) none))) none))))) ≡ [])
     × (found (list 0 (next (word 1 (codes "filecon")) (next (Quoted (record { start = 9; end = 23 }) (34 ∷ 47 ∷ 117 ∷ 115 ∷ 114 ∷ 47 ∷ 98 ∷ 105 ∷ 110 ∷ 47 ∷ 102 ∷ 111 ∷ 111 ∷ 34 ∷ [])) (next (word 24 (codes "file")) (next (list 29 (next (word 30 (codes "system_u")) (next (word 39 (codes "object_r")) (next (word 48 (codes "foo_t")) (next (list 54 (next (list 55 (next (word 56 (codes "s0")) none)) (next (list 60 (next (word 61 (codes "s0")) none)) none))) none))))) none))))) ≡ [])
-    × (found_as keywords.ClassMap (list 0 (next (word 1 (codes "classmap")) (next (word 10 (codes "m")) (next (list 12 (next (word 13 (codes "rw")) none)) none)))) ≡ [])
-    × (found_as keywords.ClassMapping (list 0 (next (word 1 (codes "classmapping")) (next (word 14 (codes "m")) (next (word 16 (codes "rw")) (next (list 19 (next (word 20 (codes "file")) (next (list 25 (next (word 26 (codes "all")) none)) none))) none))))) ≡ [])
+    × (found (list 0 (next (word 1 (codes "classmap")) (next (word 10 (codes "m")) (next (list 12 (next (word 13 (codes "rw")) none)) none)))) ≡ [])
+    × (found (list 0 (next (word 1 (codes "classmapping")) (next (word 14 (codes "m")) (next (word 16 (codes "rw")) (next (list 19 (next (word 20 (codes "file")) (next (list 25 (next (word 26 (codes "all")) none)) none))) none))))) ≡ [])
     × (found (list 0 (next (word 1 (codes "allow")) (next (word 7 (codes "b")) (next (word 9 (codes "a")) (next (list 11 (next (word 12 (codes "m")) (next (list 14 (next (word 15 (codes "rw")) none)) none))) none))))) ≡ [])
 unfolding verdict_of cells_of cell_of read_row read_word read_string read_list rules containers types classes users entry_of set_aside_words later_words left_out_words heads first_words begins_with
 rows_3 = (refl, refl, refl, refl, refl, refl, refl)

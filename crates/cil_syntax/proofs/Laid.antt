@@ -3,7 +3,7 @@ use Rattle.std.proofs.Common.{◌≡◌, ℕ, Bool, true, false, if◌then◌els
 use Rattle.cil_sexpr.specs.declared.node.Node as nodes
 use Rattle.cil_sexpr.specs.Tree.{Node, Word, Quoted, Branch}
 use Rattle.cil_sexpr.specs.View.{node_of, nodes_of}
-use Rattle.cil_syntax.specs.Shapes.{Row, Shape, declared_name, looked_up, expression, fixed, left_out, any_left_out, either, list_of, tagged, unread, any_text, many, counted, led, statements, anything, is_meant, Cell}
+use Rattle.cil_syntax.specs.Shapes.{Row, Shape, declared_name, looked_up, expression, fixed, left_out, any_left_out, either, list_of, tagged, unread, object_name, many, counted, led, statements, anything, is_meant, Cell}
 use Rattle.cil_syntax.specs.Readings.{is_led, read_list, read_row, cell_of, cells_of}
 use Rattle.cil_syntax.specs.Words.{read_word, read_string}
 use Rattle.std.specs.Prelude.{Result, Some, None, slice_get}
@@ -109,10 +109,10 @@ anything_view = search (rules, the_lemmas)
 pub unread_view : shape_of shapes.Unread ≡ unread
 unread_view = search (rules, the_lemmas)
 
-pub text_view : shape_of shapes.AnyText ≡ any_text
-text_view = search (rules, the_lemmas)
+pub object_view : shape_of shapes.ObjectName ≡ object_name
+object_view = search (rules, the_lemmas)
 
-pub ruleset the_views = (then_view, led_view, statements_view, expression_view, tagged_view, anything_view, unread_view, text_view, items_view, many_view, one_of_view, name_view, looked_up_view, fixed_view, left_out_view, any_view, either_is, listed_view)
+pub ruleset the_views = (then_view, led_view, statements_view, expression_view, tagged_view, anything_view, unread_view, object_view, items_view, many_view, one_of_view, name_view, looked_up_view, fixed_view, left_out_view, any_view, either_is, listed_view)
 
 -- ---- which of two rows reads some items
 

@@ -14,7 +14,7 @@ use Rattle.cil_syntax.specs.declared.term.Op.{Op}
 use Rattle.cil_syntax.specs.declared.term.Op.TheVariants as ops
 use Rattle.cil_faults.specs.declared.spot.Spot.{Spot}
 use Rattle.cil_syntax.specs.declared.term.Word.{Word}
-use Rattle.cil_syntax.specs.Shapes.{Inner, Reading, Shape, declared_name, looked_up, expression, fixed, left_out, any_left_out, either, list_of, tagged, unread, any_text, Row, close, item, many, counted, led, statements, anything, Face, a_word, a_string, a_list, Cell, is_meant, is_this_word, is_of_sets, word_sign}
+use Rattle.cil_syntax.specs.Shapes.{Inner, Reading, Shape, declared_name, looked_up, expression, fixed, left_out, any_left_out, either, list_of, tagged, unread, any_text, object_name, Row, close, item, many, counted, led, statements, anything, Face, a_word, a_string, a_list, Cell, is_meant, is_this_word, is_of_sets, word_sign}
 use Rattle.cil_syntax.specs.Readings.{all_lists, is_led, joined, formed, head_word, refused_head, read_behind, read_by_head, read_expression, read_tagged, read_list, read_row, cell_of, cells_of}
 use Rattle.cil_syntax.specs.Heads.{Head, heads, has_ranges, begins_with, first_words, head_in, one_operand, other_op, other_row}
 use Rattle.cil_syntax.specs.Words.{read_sole, read_word, read_string}
@@ -39,6 +39,7 @@ abbrev mutual
   IsPlain (tagged word op row) = (op ≢ ops.UnreadText) × IsPlainRow row
   IsPlain unread = Unit {0}
   IsPlain any_text = Unit {0}
+  IsPlain object_name = Unit {0}
 
   pub IsPlainRow : Row → Type 0
   IsPlainRow close = Unit {0}
@@ -95,6 +96,7 @@ abbrev mutual
   is_plain (tagged word op row) = not_text op && is_plain_row row
   is_plain unread = true
   is_plain any_text = true
+  is_plain object_name = true
 
   is_plain_row : Row → Bool
   is_plain_row close = true
@@ -122,6 +124,7 @@ mutual
   plain_so (tagged word op row) h = (text_apart op (both_true (not_text op) (is_plain_row row) h).0, row_so row (both_true (not_text op) (is_plain_row row) h).1)
   plain_so unread h = tt
   plain_so any_text h = tt
+  plain_so object_name h = tt
 
   row_so : (row : Row) → is_plain_row row ≡ true → IsPlainRow row
   row_so close h = tt
@@ -265,6 +268,7 @@ module _ (P : Spot → List ℕ → Type 0) where
   word_has at bytes p (tagged word op row) = tt
   word_has at bytes p unread = p
   word_has at bytes p any_text = p
+  word_has at bytes p object_name = ((λ e. p), (p, tt))
 
   pub string_has : (at : Spot) (bytes : List ℕ) → P at bytes → (shape : Shape) → Has (read_string at bytes shape)
   unfolding read_string
@@ -279,6 +283,7 @@ module _ (P : Spot → List ℕ → Type 0) where
   string_has at bytes p (tagged word op row) = tt
   string_has at bytes p unread = ((λ e. p), (p, tt))
   string_has at bytes p any_text = ((λ e. p), (p, tt))
+  string_has at bytes p object_name = ((λ e. p), (p, tt))
 
   -- ---- lists
 
@@ -336,6 +341,7 @@ module _ (P : Spot → List ℕ → Type 0) where
   list_has at cs e (tagged word op row) p = tagged_has at word op row cs p.0 p.1 e
   list_has at cs e unread p = formed_has at ops.UnreadList [] _ (λ e. cc) (row_has (many unread) cs tt e)
   list_has at cs e any_text p = tt
+  list_has at cs e object_name p = tt
 
   -- ---- nodes
 

@@ -1,5 +1,5 @@
 -- Nodes that are kept as they are, and lists behind items.
-use Rattle.std.proofs.Common.{◌≡◌, ℕ, Bool, true, false, if◌then◌else◌, ◌&&◌, List, [], ◌∷◌, refl, sym, ◌∙◌, ap, subst, rules}
+use Rattle.std.proofs.Common.{◌≡◌, ℕ, Bool, true, false, if◌then◌else◌, ◌&&◌, List, [], ◌∷◌, refl, sym, ◌∙◌, ap, slice_range, subst, rules}
 use Rattle.std.specs.Prelude.{Some, None, Result}
 use Rattle.std.specs.List.{list_all}
 use Rattle.std.specs.declared.vec.Vec.{Vec}
@@ -18,21 +18,21 @@ use Rattle.cil_syntax.specs.declared.stop.Stop.{Stop}
 use Rattle.cil_syntax.specs.declared.term.Op.TheVariants as ops
 use Rattle.cil_syntax.specs.declared.term.Term as rust
 use Rattle.cil_syntax.specs.Laid.{row_of, shape_of}
-use Rattle.cil_syntax.specs.Words.{reads, read_word, read_string}
-use Rattle.cil_syntax.specs.Shapes.{unread, any_text, many, statements, anything, is_list, Cell}
+use Rattle.cil_syntax.specs.Words.{kept_string, reads, read_word, read_string}
+use Rattle.cil_syntax.specs.Shapes.{unread, object_name, many, statements, anything, is_list, Cell}
 use Rattle.cil_syntax.specs.Readings.{all_lists, formed, read_list, read_row, cell_of, cells_of}
 use Rattle.cil_syntax.specs.Terms.{nil, spot_of}
-use Rattle.cil_syntax.specs.Told.{AreTold, Tells, is_branch, kept_as}
+use Rattle.cil_syntax.specs.Told.{AreTold, Tells, is_branch, kept_as, kept_name}
 use Rattle.cil_syntax.proofs.Heads.{word_view, quoted_view, list_read}
 
 -- ---- nodes
 
--- a text is kept
-text_kept : (m : ℕ) (n : Node) → (cell_of m n).read any_text ≡ kept_as m signs.Text n
+-- the name of an object is kept
+name_kept : (m : ℕ) (n : Node) → (cell_of m n).read object_name ≡ kept_name m n
 unfolding cell_of read_word read_string read_list
-text_kept m (TextWord place bytes) = refl
-text_kept m (Quoted place bytes) = refl
-text_kept m (Branch place inner) = refl
+name_kept m (TextWord place bytes) = refl
+name_kept m (Quoted place bytes) = refl
+name_kept m (Branch place inner) = refl
 
 module _ (m : ℕ) (text : List ℕ) (n : nodes.Node) (place : Span) where
   pub word_kept : n ≡ nodes.Word place → (cell_of m (node_of text n)).read unread ≡ kept_as m signs.Unread (node_of text n)
@@ -47,6 +47,16 @@ module _ (m : ℕ) (text : List ℕ) (n : nodes.Node) (place : Span) where
       subst (λ x. (cell_of m (node_of text x)).read unread ≡ kept_as m signs.Unread (node_of text x)) (sym is)
       (subst (λ v. (cell_of m v).read unread ≡ kept_as m signs.Unread v) (sym (quoted_view text place)) refl)
 
+  -- what a word and a string are kept as, where they are kept as texts
+  pub word_name : n ≡ nodes.Word place → kept_name m (node_of text n) ≡ kept_string (spot_of m place) (slice_range text place.start place.end)
+  word_name is = ap (λ x. kept_name m (node_of text x)) is ∙ ap (kept_name m) (word_view text place)
+
+  pub string_name : n ≡ nodes.Quoted place → kept_name m (node_of text n) ≡ kept_string (spot_of m place) (slice_range text place.start place.end)
+  string_name is = ap (λ x. kept_name m (node_of text x)) is ∙ ap (kept_name m) (quoted_view text place)
+
+  pub string_text : n ≡ nodes.Quoted place → kept_as m signs.Unread (node_of text n) ≡ kept_string (spot_of m place) (slice_range text place.start place.end)
+  string_text is = ap (λ x. kept_as m signs.Unread (node_of text x)) is ∙ ap (kept_as m signs.Unread) (quoted_view text place)
+
   pub list_kept : (items : Vec nodes.Node Global) (inner : List nodes.Node) → n ≡ nodes.List place items → inner ≡ items.items
       → (cell_of m (node_of text n)).read unread ≡ formed (spot_of m place) ops.UnreadList [] (read_row (many unread) (cells_of m (nodes_of text inner)))
   unfolding read_list
@@ -58,11 +68,11 @@ module _ (m : ℕ) (space : List ℕ) (n : Node) (s : shapes.Shape) (old new : L
       let view : shape_of shapes.Unread ≡ unread = search (rules, rows.the_lemmas) in
       subst (λ x. Tells m space ((cell_of m n).read x) old new r) (sym (ap shape_of is ∙ view)) told
 
-  pub text_told : s ≡ shapes.AnyText → Tells m space (kept_as m signs.Text n) old new r → Tells m space ((cell_of m n).read (shape_of s)) old new r
-  text_told is told =
-      let view : shape_of shapes.AnyText ≡ any_text = search (rules, rows.the_lemmas) in
+  pub object_told : s ≡ shapes.ObjectName → Tells m space (kept_name m n) old new r → Tells m space ((cell_of m n).read (shape_of s)) old new r
+  object_told is told =
+      let view : shape_of shapes.ObjectName ≡ object_name = search (rules, rows.the_lemmas) in
       subst (λ x. Tells m space ((cell_of m n).read x) old new r) (sym (ap shape_of is ∙ view))
-      (subst (λ w. Tells m space w old new r) (sym (text_kept m n)) told)
+      (subst (λ w. Tells m space w old new r) (sym (name_kept m n)) told)
 
 -- ---- rows
 

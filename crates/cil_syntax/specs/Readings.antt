@@ -10,7 +10,7 @@ use Rattle.cil_syntax.specs.declared.term.Op.TheVariants as ops
 use Rattle.cil_faults.specs.declared.spot.Spot.{Spot}
 use Rattle.cil_syntax.specs.declared.term.Word.{Word}
 use Rattle.cil_syntax.specs.Terms.{Term, Form, Terms, nil, cons, spot_of}
-use Rattle.cil_syntax.specs.Shapes.{Shape, declared_name, looked_up, expression, fixed, left_out, any_left_out, either, list_of, tagged, unread, any_text, Row, close, item, many, counted, led, statements, anything, Inner, Reading, a_word, a_string, a_list, Cell, is_list, is_this_word, word_of, is_meant}
+use Rattle.cil_syntax.specs.Shapes.{Shape, declared_name, looked_up, expression, fixed, left_out, any_left_out, either, list_of, tagged, unread, any_text, object_name, Row, close, item, many, counted, led, statements, anything, Inner, Reading, a_word, a_string, a_list, Cell, is_list, is_this_word, word_of, is_meant}
 use Rattle.cil_syntax.specs.Words.{inner_at, reads, read_word, read_string}
 use Rattle.cil_syntax.specs.Heads.{Head, other_op, other_row, first_words, head_in}
 
@@ -94,6 +94,7 @@ read_list at cells (list_of op row) = formed at op [] (read_row row cells)
 read_list at cells (tagged word op row) = read_tagged at word op row cells
 read_list at cells unread = formed at ops.UnreadList [] (read_row (many unread) cells)
 read_list at cells any_text = None
+read_list at cells object_name = None
 
 -- ---- nodes
 

@@ -12,7 +12,7 @@ use Rattle.cil_faults.specs.declared.spot.Spot.{Spot}
 use Rattle.cil_syntax.specs.declared.term.Word.{Word}
 use Rattle.cil_syntax.specs.Spelling.{same_bytes, is_name, is_path, is_reserved}
 use Rattle.cil_syntax.specs.Terms.{Term, Leaf, Name, Form, nil, cons}
-use Rattle.cil_syntax.specs.Shapes.{Shape, declared_name, looked_up, expression, fixed, left_out, any_left_out, either, list_of, tagged, unread, any_text, Inner, Reading, a_word, a_string, word_sign, is_of_sets, is_meant, sets_are_taken}
+use Rattle.cil_syntax.specs.Shapes.{Shape, declared_name, looked_up, expression, fixed, left_out, any_left_out, either, list_of, tagged, unread, any_text, object_name, Inner, Reading, a_word, a_string, word_sign, is_of_sets, is_meant, sets_are_taken}
 
 -- how the word that a sign stands for is spelled
 abbrev pub is_spelled : Sign → List ℕ → Bool
@@ -79,6 +79,7 @@ read_word at bytes (list_of op row) = None
 read_word at bytes (tagged word op row) = None
 read_word at bytes unread = kept_word at signs.Unread bytes
 read_word at bytes any_text = kept_word at signs.Text bytes
+read_word at bytes object_name = kept_string at bytes
 
 -- a string by a shape
 unfoldable pub read_string : Spot → List ℕ → Shape → Option (Reading (Term Word))
@@ -94,3 +95,4 @@ read_string at bytes (list_of op row) = None
 read_string at bytes (tagged word op row) = None
 read_string at bytes unread = kept_string at bytes
 read_string at bytes any_text = kept_string at bytes
+read_string at bytes object_name = kept_string at bytes

@@ -9,7 +9,6 @@ ghost use Rattle.cil_syntax.specs.Readings.{cell_of, cells_of, is_led, read_row 
 ghost use Rattle.cil_syntax.specs.Shapes.{list_of, many, statements, tagged};
 ghost use Rattle.cil_syntax.specs.Told.{TellAll, Tells};
 
-use crate::kind::Sign;
 use crate::language::is_this_word;
 use crate::reader::Reader;
 use crate::shape::{Row, Shape};
@@ -45,7 +44,7 @@ impl<'r, 'a> Reader<'r, 'a> {
             Shape::ListOf(op, row) => self.read_list(*op, row, node, faults),
             Shape::Tagged(word, op, row) => self.read_tagged(word, *op, row, node, faults),
             Shape::Unread => self.keep(node),
-            Shape::AnyText => self.keep_text(Sign::Text, node),
+            Shape::ObjectName => self.keep_name(node),
         }
     }
 

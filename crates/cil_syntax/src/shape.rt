@@ -35,8 +35,8 @@ pub(crate) enum Shape {
     Tagged(&'static [u8], Op, Row),
     /// Anything, kept as it is.
     Unread,
-    /// Any word or string, which is not looked up.
-    AnyText,
+    /// Any word or string, kept as a text: the name of an object.
+    ObjectName,
 }
 
 /// What a list may have.
@@ -89,7 +89,7 @@ impl Shape {
             Shape::ListOf(_, _) => false,
             Shape::Tagged(_, _, _) => false,
             Shape::Unread => true,
-            Shape::AnyText => true,
+            Shape::ObjectName => true,
         }
     }
 
@@ -110,7 +110,7 @@ impl Shape {
             Shape::ListOf(_, _) => false,
             Shape::Tagged(_, _, _) => false,
             Shape::Unread => true,
-            Shape::AnyText => true,
+            Shape::ObjectName => true,
         }
     }
 
@@ -130,7 +130,7 @@ impl Shape {
             Shape::ListOf(_, _) => true,
             Shape::Tagged(word, _, _) => head == *word,
             Shape::Unread => true,
-            Shape::AnyText => false,
+            Shape::ObjectName => false,
         }
     }
 }

@@ -7,8 +7,7 @@ ghost use Rattle.cil_syntax.specs.Table.{is_unsupported, later_words, left_out_w
 use crate::spelling;
 
 /// The statements that are to be supported, and are not yet.
-const LATER_WORDS: [&[u8]; 29] = [
-    b"classmap",
+const LATER_WORDS: [&[u8]; 22] = [
     b"sensitivity",
     b"sensitivityalias",
     b"sensitivityaliasactual",
@@ -24,10 +23,6 @@ const LATER_WORDS: [&[u8]; 29] = [
     b"roleallow",
     b"userlevel",
     b"userrange",
-    b"classpermission",
-    b"classpermissionset",
-    b"classmapping",
-    b"classorder",
     b"boolean",
     b"level",
     b"levelrange",
@@ -35,8 +30,6 @@ const LATER_WORDS: [&[u8]; 29] = [
     b"neverallow",
     b"constrain",
     b"mlsconstrain",
-    b"auditallow",
-    b"dontaudit",
 ];
 
 /// The statements that this product does not support.

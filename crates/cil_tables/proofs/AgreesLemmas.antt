@@ -13,12 +13,14 @@ use Rattle.cil_syntax.specs.declared.kind.Kind.TheVariants as kinds
 use Rattle.cil_syntax.specs.Terms.{Term, Leaf, Name, Form}
 use Rattle.cil_tables.specs.declared.context.Context.{Context as Numbers}
 use Rattle.cil_classes.specs.declared.row.Class.{Class}
-use Rattle.cil_rules.specs.Rule.{Target, Types, Itself}
-use Rattle.cil_tables.specs.Agrees.{Agrees, SameContext, SamePermission}
+use Rattle.cil_base.specs.Gives.{Gives}
+use Rattle.cil_rules.specs.Order.{rule_cmp}
+use Rattle.cil_rules.specs.Rule.{Rule, Target, Types, Itself}
+use Rattle.cil_tables.specs.Agrees.{Agrees, CoverAs, SameContext, SamePermission}
 use Rattle.cil_names.specs.Says.{AreJoined}
 use Rattle.cil_tables.specs.Contexts.{Context, IsValid}
 use Rattle.cil_rules.specs.Covered.{IsCovered, IsTarget}
-use Rattle.cil_rules.specs.Records.{Case, HasNumber, HasTarget, IsTargetOf}
+use Rattle.cil_rules.specs.Records.{Case, HasNumber, HasTarget, IsCase, IsRuleOf, IsTargetOf}
 use Rattle.cil_tables.specs.Links.{IsLink}
 use Rattle.cil_tables.specs.Compiled.{IsNameOf, IsTable}
 use Rattle.cil_names.specs.Known.{IsNumbered}
@@ -31,7 +33,8 @@ use Rattle.cil_tables.specs.Aliases.{NamesType}
 use Rattle.cil_tables.specs.Meaning.{IsContext, IsTypeText}
 use Rattle.cil_rules.specs.Covers.{HasCover, Reaches}
 use Rattle.cil_names.specs.Members.{StandsFor}
-use Rattle.cil_classes.specs.Pairs.{HasPair, of_class}
+use Rattle.cil_classes.specs.Given.{HasPair}
+use Rattle.cil_rules.proofs.RuleLemmas.{pair_declared}
 use Rattle.cil_tables.specs.Table.{Table}
 use Rattle.cil_classes.specs.Row.{class_cmp}
 use Rattle.cil_base.proofs.NameSearches.{number_is}
@@ -42,9 +45,6 @@ one_class_number rows i j r q rising at bt same = one_of_key (λ (c : Class). c.
 
 one_number : (names : List (List ℕ)) (n m : ℕ) (name : List ℕ) → IsStrictlySortedBy text_cmp names → slice_get names n ≡ Some name → slice_get names m ≡ Some name → n ≡ m
 one_number names n m name rising at bt = (number_is names name m bt rising).only n at
-
-pair_declared : (xs : List Item) (s : OptSet) (cp : Term ScopedWord) (c : Symbol) (p : List ℕ) → HasPair xs s cp c p → Declared xs s kinds.Class c
-pair_declared xs s cp c p (of_class at word expression d q stands value) = stands.declared
 
 -- declared symbols whose qualified names are spelled alike are one
 abbrev pub HaveOneSymbol : List Item → OptSet → Type 0
@@ -174,11 +174,11 @@ module _ (xs : List Item) (s : OptSet) (one : HaveOneSymbol xs s) where
       has_target (Form at op parts) st = st.0
 
     module _ (n m : Numbers) (a b : Context) (number bit : ℕ) (c : Symbol) (p : List ℕ) (sa : SameContext xs s t n a) (sb : SameContext xs s t m b)
-        (sp : SamePermission xs s t number bit c p) where
-      cover_there : HasCover t.allow n.kind m.kind number bit → IsCovered xs s keywords.Allow a.kind b.kind c p
+        (sp : SamePermission xs s t number bit c p) (keyword : Keyword) (rules : List Rule) (given : Gives rule_cmp (IsCase xs s keyword) (IsRuleOf xs s t.types t.classes) rules) where
+      cover_there : HasCover rules n.kind m.kind number bit → IsCovered xs s keyword a.kind b.kind c p
       cover_there is =
           let r = is.rule in
-          let k = table.allow.only r is.is_rule in
+          let k = given.only r is.is_rule in
           let gives = k.2 in
           let asked = k.1 in
           let row : gives.row ≡ sp.row = same_Some _ _ (sym gives.is_row ∙ ap (slice_get t.classes) is.covers.of_class ∙ sp.is_row) in
@@ -197,10 +197,10 @@ module _ (xs : List Item) (s : OptSet) (one : HaveOneSymbol xs s) where
             permits = subst (λ q. HasPair xs s k.0.class_permission c q) permission (subst (λ z. HasPair xs s k.0.class_permission z has.permission) class_ has.gives);
           }
 
-      cover_back : IsCovered xs s keywords.Allow a.kind b.kind c p → HasCover t.allow n.kind m.kind number bit
+      cover_back : IsCovered xs s keyword a.kind b.kind c p → HasCover rules n.kind m.kind number bit
       cover_back is =
           let k : Case = record { source = is.source_word; target = is.target_term; class_permission = is.class_permission; class_ = c } in
-          let found = table.allow.each k (record {
+          let found = given.each k (record {
             rule = is.rule;
             source = (a.kind, is.has_source);
             target = has_target n.kind m.kind a.kind b.kind sa.a_type sb.a_type sa.kind sb.kind is.target_term is.has_target;
@@ -221,9 +221,15 @@ module _ (xs : List Item) (s : OptSet) (one : HaveOneSymbol xs s) where
             };
           }
 
+    cover_as : (keyword : Keyword) (rules : List Rule) → Gives rule_cmp (IsCase xs s keyword) (IsRuleOf xs s t.types t.classes) rules → CoverAs xs s t keyword rules
+    cover_as keyword rules given =
+        λ n m a b number bit c p sa sb sp. (cover_there n m a b number bit c p sa sb sp keyword rules given, cover_back n m a b number bit c p sa sb sp keyword rules given)
+
     pub table_agrees : Agrees xs s t
     table_agrees = record {
       read = reads;
       found = finds;
-      covers = λ n m a b number bit c p sa sb sp. (cover_there n m a b number bit c p sa sb sp, cover_back n m a b number bit c p sa sb sp);
+      allow = cover_as keywords.Allow t.rules.allow table.rules.allow;
+      auditallow = cover_as keywords.AuditAllow t.rules.auditallow table.rules.auditallow;
+      dontaudit = cover_as keywords.DontAudit t.rules.dontaudit table.rules.dontaudit;
     }

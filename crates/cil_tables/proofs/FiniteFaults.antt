@@ -1,5 +1,5 @@
 -- The faults of each step over items are finite, and so are the permissions of a class.
-use Rattle.std.specs.Prelude.{Contains, None, Option, Some, ◌&&◌, ◌||◌}
+use Rattle.std.specs.Prelude.{Contains, None, Option, Some, codes, ◌&&◌, ◌||◌}
 use Rattle.std.specs.Cmp.Lexicographic.{bytes_decides}
 use Rattle.std.specs.List.{list_any, flat_map}
 use Rattle.std.specs.Option.{option_map_or}
@@ -8,12 +8,14 @@ use Rattle.std.proofs.lemmas.Bool.{and_parts, cases_lt, or_cases, true≢false}
 use Rattle.std.proofs.lemmas.Cmp.{nat_list_cmp_total}
 use Rattle.std.proofs.lemmas.Map.Lookups.{exact_bytes}
 use Rattle.cil_base.specs.Lists.{Lists, text_cmp, one_list}
+use Rattle.cil_base.specs.Sorted.{lists_of}
 use Rattle.cil_base.specs.MadeLists.{contains_flat}
 use Rattle.cil_base.specs.Searches.{any_true}
 use Rattle.cil_base.specs.Decided.{Decided, decided_both, decided_not, decided_same, same_bool, same_text}
 use Rattle.cil_faults.specs.declared.code.FaultCode.TheVariants as causes
 use Rattle.cil_faults.specs.declared.fault.Fault.{Fault}
 use Rattle.cil_syntax.specs.declared.kind.Keyword.TheVariants as keywords
+use Rattle.cil_syntax.specs.declared.kind.Kind.TheVariants as kinds
 use Rattle.cil_syntax.specs.declared.kind.Sign.{Sign}
 use Rattle.cil_syntax.specs.declared.kind.Sign.TheVariants as signs
 use Rattle.cil_syntax.specs.Forms.{two_words}
@@ -26,19 +28,23 @@ use Rattle.cil_syntax.specs.declared.name_space.NameSpace.TheVariants as name_sp
 use Rattle.cil_syntax.specs.NameSpaces.{name_space}
 use Rattle.cil_syntax.specs.Spelling.{same_bytes}
 use Rattle.cil_syntax.specs.Terms.{Name, cons}
-use Rattle.cil_faults.specs.Reported.{fault_at}
+use Rattle.cil_faults.specs.Reported.{fault_at, global_fault}
 use Rattle.cil_syntax.proofs.DecidedEquality.{keyword_is, same_namespace}
 use Rattle.cil_names.proofs.DeclareDecided.{same_declaration, same_name_space}
-use Rattle.cil_names.specs.Declarations.{Declaration, declared_by, IsDeclaration, Clash, Symbol}
+use Rattle.cil_names.specs.Declarations.{Declaration, declared_by, IsDeclaration, Clash, Symbol, nowhere}
 use Rattle.cil_classes.specs.Commons.{IsToldTwice}
-use Rattle.cil_classes.specs.Faults.{ClassFault, two_commons, wide}
+use Rattle.cil_classes.specs.Faults.{ClassFault, IsClassName, most_classes, too_many, two_commons, wide}
 use Rattle.cil_names.specs.Faults.{ClashFault, clash, ResolveFault, unresolved}
 use Rattle.cil_macros.specs.Item.{Item, OptSet, everybody, nobody, is_enabled}
 use Rattle.cil_names.specs.Resolves.{fits, found_in, gives_permission, has_permission, is_class_common, is_judged, listed_permissions, lists_named, lists_permission, names_outside, resolves, shares_permission, shares_words, told_word, Wanted, words_of}
 use Rattle.cil_classes.specs.Row.{most_permissions}
 use Rattle.cil_tables.proofs.Finite.{Finite, decided_where, finite_all, finite_either, finite_given, finite_if, finite_list, finite_listing, finite_same, finite_where}
 use Rattle.cil_tables.proofs.FiniteCommons.{finite_twice}
-use Rattle.cil_tables.proofs.FinitePolicy.{Front, finite_declarations, finite_front}
+use Rattle.cil_tables.proofs.FinitePolicy.{Front, finite_declarations, finite_front, finite_names}
+use Rattle.cil_tables.specs.Compiled.{IsNameOf}
+
+pub decided_less : (a b : ℕ) → Decided (a < b)
+decided_less a b = elim (cases_lt a b) [ inl less ↦ inl less | inr ge ↦ inr (λ less. absurd (omega (arith, less, ge))) ]
 
 -- ---- clashes
 
@@ -180,20 +186,44 @@ module _ (xs : List Item) where
         (λ p. x.args ≡ cons (Name p.0 p.1) p.2) (finite_front x.args)
         (λ p e. finite_if (IsWide (record { space = x.space; name = p.1 })) (fault_at causes.ClassWide p.0 x.space p.1) (decided_wide (record { space = x.space; name = p.1 }))))
 
+    -- the names of the classes
+    class_names : Listing text_cmp (IsNameOf xs s kinds.Class)
+    class_names = finite_listing text_cmp nat_list_cmp_total exact_bytes (IsNameOf xs s kinds.Class) (finite_names xs s kinds.Class)
+
+    class_names_are : Lists text_cmp (IsClassName s xs) class_names.list
+    class_names_are =
+        lists_of text_cmp (IsNameOf xs s kinds.Class) (IsClassName s xs) class_names.list (λ n i. record { symbol = i.symbol; declared = i.declared; named = i.named })
+        (λ n i. record { symbol = i.symbol; declared = i.declared; named = i.named }) class_names.lists
+
+    abbrev IsOver : Fault → Type 0
+    IsOver f = (global_fault causes.TooMany nowhere (codes "classes") ≡ f) × (most_classes < length class_names.list)
+
+    finite_over : Finite IsOver
+    finite_over = finite_if (most_classes < length class_names.list) (global_fault causes.TooMany nowhere (codes "classes")) (decided_less most_classes (length class_names.list))
+
+    abbrev IsOfClasses : Fault → Type 0
+    IsOfClasses f = ((x : Item) × Contains xs x × Widens x f) ⊎ (IsToldTwice xs f ⊎ IsOver f)
+
     pub finite_class : Finite (ClassFault s xs)
     finite_class =
-        finite_same (λ f. ((x : Item) × Contains xs x × Widens x f) ⊎ IsToldTwice xs f) (ClassFault s xs) there parts
-        (finite_either (λ f. (x : Item) × Contains xs x × Widens x f) (IsToldTwice xs) (finite_all Widens (Contains xs) (finite_list xs) (λ x c. finite_widens x)) (finite_twice xs))
+        finite_same IsOfClasses (ClassFault s xs) there parts
+        (finite_either (λ f. (x : Item) × Contains xs x × Widens x f) (λ f. IsToldTwice xs f ⊎ IsOver f) (finite_all Widens (Contains xs) (finite_list xs) (λ x c. finite_widens x))
+        (finite_either (IsToldTwice xs) IsOver (finite_twice xs) finite_over))
       where
-        there : (f : Fault) → ((x : Item) × Contains xs x × Widens x f) ⊎ IsToldTwice xs f → ClassFault s xs f
+        there : (f : Fault) → IsOfClasses f → ClassFault s xs f
         there f (inl h) =
             let p = h.2.1 in
             subst (ClassFault s xs) p.2.0 (wide h.0 p.0.0 p.0.1 p.0.2 p.2.1.0 h.1 h.2.0.0 h.2.0.1 p.1 p.2.1.1 p.2.1.2)
-        there f (inr t) = two_commons t.0 f t.1 t.2
+        there f (inr (inl t)) = two_commons t.0 f t.1 t.2
+        there f (inr (inr o)) = too_many f (record { names = class_names.list; are_names = class_names_are; many = o.1; told = sym o.0 })
 
-        parts : (f : Fault) → ClassFault s xs f → ((x : Item) × Contains xs x × Widens x f) ⊎ IsToldTwice xs f
+        parts : (f : Fault) → ClassFault s xs f → IsOfClasses f
         parts f (wide x at name rest permissions c on keyword says listed big) = inl (x, c, ((on, keyword), ((at, name, rest), says, (refl, (permissions, listed, big)))))
-        parts f (two_commons x g c h) = inr (x, c, h)
+        parts f (two_commons x g c h) = inr (inl (x, c, h))
+        parts f (too_many g m) =
+            let counted = ap length (one_list text_cmp nat_list_cmp_total (IsClassName s xs) m.names class_names.list m.are_names class_names_are) in
+            let over = m.many in
+            inr (inr (sym m.told, omega (arith, counted, over)))
 
 -- ---- a step
 

@@ -1,7 +1,7 @@
 -- The sets that the definitions of a policy name are finite: what is declared, what words stand for, numbers, links and cases.
 use Rattle.std.specs.Prelude.{Contains, Option, Some, None, slice_get}
 use Rattle.std.proofs.Common.{◌≡◌, ◌⊎◌, ℕ, ◌<◌, true, List, length, refl, sym, ◌∙◌, ap, subst, inl, inr}
-use Rattle.std.proofs.lemmas.Bool.{and_parts}
+use Rattle.std.proofs.lemmas.Bool.{and_parts, true≢false}
 use Rattle.std.proofs.lemmas.Option.{none-some, same_Some, slice_get_within}
 use Rattle.cil_base.specs.Decided.{Decided, decided_both, decided_same, same_bool, same_text}
 use Rattle.cil_syntax.specs.Forms.{rule_form, two_words}
@@ -19,11 +19,12 @@ use Rattle.cil_names.proofs.DeclareDecided.{same_symbol}
 use Rattle.cil_names.specs.Declarations.{Declaration, declared_by, IsDeclaration, object, by, object_role, Declared, Symbol, name_of}
 use Rattle.cil_macros.specs.Item.{Item, OptSet, is_enabled}
 use Rattle.cil_names.specs.Members.{StandsFor}
-use Rattle.cil_classes.specs.Pairs.{HasPair, of_class}
+use Rattle.cil_classes.specs.Given.{HasPair, Holder, IsGiven, by_mapping, by_set, mapped, named, of_class, of_map, of_name}
 use Rattle.cil_classes.specs.Values.{in_value, in_value_there}
 use Rattle.cil_classes.proofs.ValueLemmas.{value_there}
 use Rattle.cil_names.specs.Resolves.{found_in, has_permission}
 use Rattle.cil_syntax.specs.Kinds.{is_wanted}
+use Rattle.cil_tables.specs.Laws.{is_flat}
 use Rattle.cil_tables.proofs.NoGifts.{HaveFlatKeywords, is_stood, stands_plain}
 use Rattle.cil_tables.proofs.Finite.{Finite, decided_where, finite_all, finite_below, finite_either, finite_given, finite_image, finite_inverse, finite_list, finite_one, finite_same, finite_where, member}
 
@@ -232,9 +233,16 @@ module _ (xs : List Item) (flat : HaveFlatKeywords xs) (s : OptSet) where
     stands : StandsFor xs s kinds.Class word c
     value : in_value (has_permission xs c) expression p ≡ true
 
+  -- no statement gives anything to a class permission or to a permission of a class map
+  nothing_given : (h : Holder) (cp : Term ScopedWord) → IsGiven xs s h cp → ⊥
+  nothing_given h cp (by_set word given n says stands) = true≢false (sym (flat says.item says.is_item) ∙ ap is_flat says.is_keyword)
+  nothing_given h cp (by_mapping word permission given m says stands) = true≢false (sym (flat says.item says.is_item) ∙ ap is_flat says.is_keyword)
+
   pair_parts : (t : Term ScopedWord) (c : Symbol) (p : List ℕ) → HasPair xs s t c p → PairBy t c p
   pair_parts t c p (of_class at word expression d q stands value) =
       record { at = at; word = word; expression = expression; is = refl; stands = stands; value = value }
+  pair_parts t c p (of_map at word expression given m d r q stands value is_given pair) = absurd (nothing_given (mapped m r) given is_given)
+  pair_parts t c p (of_name word given n d q stands is_given pair) = absurd (nothing_given (named n) given is_given)
 
   -- what the value of an expression has, the class has
   has_of : (c : Symbol) (e : Term ScopedWord) (p : List ℕ) → in_value (has_permission xs c) e p ≡ true → has_permission xs c p ≡ true

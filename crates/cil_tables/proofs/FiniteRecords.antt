@@ -16,7 +16,7 @@ use Rattle.cil_names.specs.Declarations.{Symbol, name_of}
 use Rattle.cil_macros.specs.Item.{Item, OptSet, is_enabled}
 use Rattle.cil_syntax.specs.Scopes.{ScopedWord}
 use Rattle.cil_names.specs.Members.{StandsFor}
-use Rattle.cil_classes.specs.Pairs.{HasPair}
+use Rattle.cil_classes.specs.Given.{HasPair}
 use Rattle.cil_tables.proofs.Finite.{Finite, decided_some, finite_all, finite_given, finite_list, finite_one, finite_same}
 use Rattle.cil_tables.proofs.FiniteFaults.{finite_permissions}
 use Rattle.cil_tables.proofs.NoGifts.{HaveFlatKeywords}

@@ -26,12 +26,9 @@ use Rattle.cil_classes.specs.Faults.{ClassFault}
 use Rattle.cil_tables.specs.Compiled.{IsNameOf}
 use Rattle.cil_tables.specs.SetsStep.{MembersFault, SetsFault}
 use Rattle.cil_tables.proofs.Finite.{Finite, finite_either, finite_if, finite_listing, finite_nothing, finite_same}
-use Rattle.cil_tables.proofs.FiniteFaults.{finite_class}
+use Rattle.cil_tables.proofs.FiniteFaults.{decided_less, finite_class}
 use Rattle.cil_tables.proofs.FinitePolicy.{finite_names}
 use Rattle.cil_tables.proofs.NoGifts.{HaveFlatKeywords, declares_no_alias, gives_none, none_depends}
-
-decided_less : (a b : ℕ) → Decided (a < b)
-decided_less a b = elim (cases_lt a b) [ inl less ↦ inl less | inr ge ↦ inr (λ less. absurd (omega (arith, less, ge))) ]
 
 -- only types have aliases
 alias_kind : (kind : Kind) (j : Sets) → (space_of kind).aliases ≡ Some j → j.kind ≡ kinds.TypeAlias

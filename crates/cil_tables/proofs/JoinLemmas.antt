@@ -10,28 +10,26 @@ use Rattle.cil_macros.specs.Item.{Item, OptSet}
 use Rattle.cil_classes.specs.declared.row.Class.{Class}
 use Rattle.cil_tables.specs.declared.tables.Alias.{Alias}
 use Rattle.cil_tables.specs.declared.tables.Link.{Link}
-use Rattle.cil_rules.specs.Rule.{Rule}
-use Rattle.cil_rules.specs.Records.{IsCase, IsRuleOf}
+use Rattle.cil_tables.specs.declared.tables.RuleSections.{RuleSections}
 use Rattle.cil_tables.specs.Links.{IsLink}
-use Rattle.cil_tables.specs.Compiled.{IsNameOf, IsTable}
+use Rattle.cil_tables.specs.Compiled.{AreRules, IsNameOf, IsTable}
 use Rattle.cil_classes.specs.ClassRows.{IsRowOf}
 use Rattle.cil_classes.specs.Row.{class_cmp}
 use Rattle.cil_tables.specs.Aliases.{IsAlias}
 use Rattle.cil_tables.specs.Table.{alias_cmp, link_cmp}
-use Rattle.cil_rules.specs.Order.{rule_cmp}
 
 -- the sections, as a table
-module _ (xs : List Item) (s : OptSet) (names : Kind → List (List ℕ)) (users roles types : List (List ℕ)) (aliases : List Alias) (classes : List Class) (user_roles role_types : List Link) (allow : List Rule) where
+module _ (xs : List Item) (s : OptSet) (names : Kind → List (List ℕ)) (users roles types : List (List ℕ)) (aliases : List Alias) (classes : List Class) (user_roles role_types : List Link) (rules : RuleSections) where
   pub table_of : users ≡ names kinds.User → roles ≡ names kinds.Role → types ≡ names kinds.Type_
       → Lists text_cmp (IsNameOf xs s kinds.User) (names kinds.User) → Lists text_cmp (IsNameOf xs s kinds.Role) (names kinds.Role) → Lists text_cmp (IsNameOf xs s kinds.Type_) (names kinds.Type_)
       → Lists alias_cmp (IsAlias xs s (names kinds.Type_)) aliases
       → Gives class_cmp (Declared xs s kinds.Class) (IsRowOf xs) classes
       → Lists link_cmp (IsLink xs s keywords.UserRole kinds.User kinds.Role (names kinds.User) (names kinds.Role)) user_roles
       → Lists link_cmp (IsLink xs s keywords.RoleType kinds.Role kinds.Type_ (names kinds.Role) (names kinds.Type_)) role_types
-      → Gives rule_cmp (IsCase xs s keywords.Allow) (IsRuleOf xs s (names kinds.Type_) classes) allow
-      → IsTable xs s (record { users = users; roles = roles; types = types; type_aliases = aliases; classes = classes; user_roles = user_roles; role_types = role_types; allow = allow })
-  table_of u r t us rs ts of_aliases cs urs rts al =
-      subst (λ (z : List (List ℕ)). IsTable xs s (record { users = z; roles = roles; types = types; type_aliases = aliases; classes = classes; user_roles = user_roles; role_types = role_types; allow = allow })) (sym u)
-      (subst (λ (z : List (List ℕ)). IsTable xs s (record { users = names kinds.User; roles = z; types = types; type_aliases = aliases; classes = classes; user_roles = user_roles; role_types = role_types; allow = allow })) (sym r)
-      (subst (λ (z : List (List ℕ)). IsTable xs s (record { users = names kinds.User; roles = names kinds.Role; types = z; type_aliases = aliases; classes = classes; user_roles = user_roles; role_types = role_types; allow = allow })) (sym t)
-      (record { users = us; roles = rs; types = ts; type_aliases = of_aliases; classes = cs; user_roles = urs; role_types = rts; allow = al })))
+      → AreRules xs s (names kinds.Type_) classes rules
+      → IsTable xs s (record { users = users; roles = roles; types = types; type_aliases = aliases; classes = classes; user_roles = user_roles; role_types = role_types; rules = rules })
+  table_of u r t us rs ts of_aliases cs urs rts ru =
+      subst (λ (z : List (List ℕ)). IsTable xs s (record { users = z; roles = roles; types = types; type_aliases = aliases; classes = classes; user_roles = user_roles; role_types = role_types; rules = rules })) (sym u)
+      (subst (λ (z : List (List ℕ)). IsTable xs s (record { users = names kinds.User; roles = z; types = types; type_aliases = aliases; classes = classes; user_roles = user_roles; role_types = role_types; rules = rules })) (sym r)
+      (subst (λ (z : List (List ℕ)). IsTable xs s (record { users = names kinds.User; roles = names kinds.Role; types = z; type_aliases = aliases; classes = classes; user_roles = user_roles; role_types = role_types; rules = rules })) (sym t)
+      (record { users = us; roles = rs; types = ts; type_aliases = of_aliases; classes = cs; user_roles = urs; role_types = rts; rules = ru })))

@@ -17,7 +17,7 @@ use Rattle.cil_syntax.specs.Scopes.{ScopedWord}
 use Rattle.cil_names.specs.declared.known.Known.{Known}
 use Rattle.cil_tables.specs.declared.tables.Link.{Link}
 use Rattle.cil_tables.specs.Links.{AreJoinedBy, IsLink, JoinsAll, JoinsNothing, LinkBy}
-use Rattle.cil_names.specs.Known.{HasNumberFor, enabled_in, meant_in, row_in, value_in}
+use Rattle.cil_names.specs.Known.{HasNumberFor, enabled_in, meant_in, value_in}
 use Rattle.cil_names.specs.Members.{StandsFor}
 use Rattle.cil_names.specs.Resolves.{Word as AWord, all_wanted_in, wanted_in}
 use Rattle.cil_tables.specs.Table.{link_cmp}
@@ -47,7 +47,7 @@ module _ (xs : List Item) (k : Known) (keyword : Keyword) (holder_kind held_kind
       is_two : x.args ≡ cons (Leaf (f first)) (cons (Leaf (f second)) nil)
       is_two = says ∙ ap (all_replaced (λ at. at) f) said ∙ pair_across f first second
 
-      module _ (words : List (Option ℕ)) (are : words ≡ row_in k x) where
+      module _ (words : List (Option ℕ)) (are : words ≡ map (value_in k) (all_wanted_in x.args)) where
         both_meant : words ≡ meant_in k (f first) ∷ meant_in k (f second) ∷ []
         both_meant =
             are

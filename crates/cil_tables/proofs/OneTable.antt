@@ -8,7 +8,10 @@ use Rattle.std.proofs.Common.{◌≡◌, ℕ, zero, suc, true, ◌<◌, List, []
 use Rattle.std.proofs.lemmas.Cmp.{nat_cmp_total, nat_list_cmp_total, on_total}
 use Rattle.cil_base.specs.Lists.{Lists, text_cmp, one_list, same_members}
 use Rattle.cil_faults.specs.declared.fault.Fault.{Fault}
+use Rattle.cil_base.specs.Gives.{Gives}
+use Rattle.cil_syntax.specs.declared.kind.Keyword.{Keyword}
 use Rattle.cil_syntax.specs.declared.kind.Keyword.TheVariants as keywords
+use Rattle.cil_tables.specs.declared.tables.RuleSections.{RuleSections}
 use Rattle.cil_syntax.specs.declared.kind.Kind.TheVariants as kinds
 use Rattle.cil_faults.specs.Fails.{AreFaults}
 use Rattle.cil_faults.specs.FaultOrder.{fault_cmp, fault_total}
@@ -16,9 +19,9 @@ use Rattle.cil_syntax.specs.Terms.{Term, Leaf, Name, Form}
 use Rattle.cil_classes.specs.declared.row.Class.{Class}
 use Rattle.cil_rules.specs.Rule.{Rule, Target, Types, Itself}
 use Rattle.cil_tables.specs.Agrees.{Compiles}
-use Rattle.cil_rules.specs.Records.{Case, HasBit, HasNumber, IsRuleOf, IsTargetOf}
+use Rattle.cil_rules.specs.Records.{Case, HasBit, HasNumber, IsCase, IsRuleOf, IsTargetOf}
 use Rattle.cil_tables.specs.Links.{IsLink}
-use Rattle.cil_tables.specs.Compiled.{IsNameOf, IsTable}
+use Rattle.cil_tables.specs.Compiled.{AreRules, IsNameOf, IsTable}
 use Rattle.cil_classes.specs.ClassRows.{IsRowOf}
 use Rattle.std.proofs.lemmas.Option.{same_Some}
 use Rattle.cil_names.specs.Declarations.{Symbol}
@@ -72,9 +75,12 @@ same_row : (a b : Class) → a.name ≡ b.name → a.permissions ≡ b.permissio
 same_row a b n p = λ i. record { name = n i; permissions = p i }
 
 same_table : (t u : Table) → t.users ≡ u.users → t.roles ≡ u.roles → t.types ≡ u.types → t.type_aliases ≡ u.type_aliases → t.classes ≡ u.classes → t.user_roles ≡ u.user_roles
-    → t.role_types ≡ u.role_types → t.allow ≡ u.allow → t ≡ u
+    → t.role_types ≡ u.role_types → t.rules ≡ u.rules → t ≡ u
 same_table t u a b c d e f g h =
-    λ i. record { users = a i; roles = b i; types = c i; type_aliases = d i; classes = e i; user_roles = f i; role_types = g i; allow = h i }
+    λ i. record { users = a i; roles = b i; types = c i; type_aliases = d i; classes = e i; user_roles = f i; role_types = g i; rules = h i }
+
+same_sections : (a b : RuleSections) → a.allow ≡ b.allow → a.auditallow ≡ b.auditallow → a.dontaudit ≡ b.dontaudit → a ≡ b
+same_sections a b p q r = λ i. record { allow = p i; auditallow = q i; dontaudit = r i }
 
 module _ (xs : List Item) (s : OptSet) where
   one_row : (c : Symbol) (a b : Class) → IsRowOf xs c a → IsRowOf xs c b → a ≡ b
@@ -101,6 +107,24 @@ module _ (xs : List Item) (s : OptSet) where
           (λ b. (p.mask bit).1 (subst (λ r. HasBit xs s k r bit) (sym row) ((q.mask bit).0 b))),
         )))
 
+    module _ (rising : IsStrictlySortedBy class_cmp classes) where
+      rules_within : (keyword : Keyword) (a b : List Rule) → Gives rule_cmp (IsCase xs s keyword) (IsRuleOf xs s types classes) a
+          → Gives rule_cmp (IsCase xs s keyword) (IsRuleOf xs s types classes) b → (r : Rule) → Contains a r → Contains b r
+      rules_within keyword a b p q r c =
+          let k = p.only r c in
+          let found = q.each k.0 k.1 in
+          subst (Contains b) (one_record k.0 found.0 r rising found.1 k.2) found.2
+
+      one_section : (keyword : Keyword) (a b : List Rule) → Gives rule_cmp (IsCase xs s keyword) (IsRuleOf xs s types classes) a
+          → Gives rule_cmp (IsCase xs s keyword) (IsRuleOf xs s types classes) b → a ≡ b
+      one_section keyword a b p q = same_members rule_cmp rule_total a b p.rising q.rising (rules_within keyword a b p q) (rules_within keyword b a q p)
+
+      one_rules : (a b : RuleSections) → AreRules xs s types classes a → AreRules xs s types classes b → a ≡ b
+      one_rules a b p q =
+          same_sections a b (one_section keywords.Allow a.allow b.allow p.allow q.allow)
+          (one_section keywords.AuditAllow a.auditallow b.auditallow p.auditallow q.auditallow)
+          (one_section keywords.DontAudit a.dontaudit b.dontaudit p.dontaudit q.dontaudit)
+
   module _ (t u : Table) (a : IsTable xs s t) (b : IsTable xs s u) where
     rows_within : (t u : Table) → IsTable xs s t → IsTable xs s u → (r : Class) → Contains t.classes r → Contains u.classes r
     rows_within t u a b r c =
@@ -110,13 +134,6 @@ module _ (xs : List Item) (s : OptSet) where
 
     one_classes : t.classes ≡ u.classes
     one_classes = same_members class_cmp (on_total (λ c. c.name) nat_list_cmp_total) t.classes u.classes a.classes.rising b.classes.rising (rows_within t u a b) (rows_within u t b a)
-
-    rules_within : (t u : Table) → IsTable xs s t → IsTable xs s u → t.types ≡ u.types → t.classes ≡ u.classes → (r : Rule) → Contains t.allow r → Contains u.allow r
-    rules_within t u a b types classes r c =
-        let k = a.allow.only r c in
-        let q = b.allow.each k.0 k.1 in
-        let here = subst (λ z. IsRuleOf xs s z u.classes k.0 r) types (subst (λ z. IsRuleOf xs s t.types z k.0 r) classes k.2) in
-        subst (Contains u.allow) (one_record u.types u.classes k.0 q.0 r b.classes.rising q.1 here) q.2
 
     pub equal_tables : t ≡ u
     equal_tables =
@@ -130,10 +147,11 @@ module _ (xs : List Item) (s : OptSet) where
         subst (λ z. Lists link_cmp (IsLink xs s keywords.RoleType kinds.Role kinds.Type_ u.roles z) t.role_types) types
         (subst (λ z. Lists link_cmp (IsLink xs s keywords.RoleType kinds.Role kinds.Type_ z t.types) t.role_types) roles a.role_types) in
         let aliases : Lists alias_cmp (IsAlias xs s u.types) t.type_aliases = subst (λ z. Lists alias_cmp (IsAlias xs s z) t.type_aliases) types a.type_aliases in
+        let rules : AreRules xs s u.types u.classes t.rules = subst (λ z. AreRules xs s z u.classes t.rules) types (subst (λ z. AreRules xs s t.types z t.rules) one_classes a.rules) in
         same_table t u users roles types (one_list alias_cmp alias_total (IsAlias xs s u.types) t.type_aliases u.type_aliases aliases b.type_aliases) one_classes
         (one_list link_cmp link_total (IsLink xs s keywords.UserRole kinds.User kinds.Role u.users u.roles) t.user_roles u.user_roles user_roles b.user_roles)
         (one_list link_cmp link_total (IsLink xs s keywords.RoleType kinds.Role kinds.Type_ u.roles u.types) t.role_types u.role_types role_types b.role_types)
-        (same_members rule_cmp rule_total t.allow u.allow a.allow.rising b.allow.rising (rules_within t u a b types one_classes) (rules_within u t b a (sym types) (sym one_classes)))
+        (one_rules u.types u.classes b.classes.rising t.rules u.rules rules b.rules)
 
 pub one_table : (modules : List (List ℕ)) (t u : Table) → Compiles modules t → Compiles modules u → t ≡ u
 one_table modules t u a b =

@@ -15,19 +15,21 @@ use Rattle.cil_base.specs.Places.{get_at}
 use Rattle.cil_base.specs.Decided.{Decided, decided_same, same_number}
 use Rattle.cil_base.specs.Paths.{same_by}
 use Rattle.cil_base.specs.Listing.{Listing}
+use Rattle.cil_syntax.specs.declared.kind.Keyword.{Keyword}
 use Rattle.cil_syntax.specs.declared.kind.Keyword.TheVariants as keywords
+use Rattle.cil_tables.specs.declared.tables.RuleSections.{RuleSections}
 use Rattle.cil_syntax.specs.declared.kind.Kind.TheVariants as kinds
 use Rattle.cil_syntax.specs.Terms.{Term, Leaf, Name, Form}
 use Rattle.cil_classes.specs.declared.row.Class.{Class}
 use Rattle.cil_rules.specs.Rule.{Rule, Target, Types, Itself}
 use Rattle.cil_rules.specs.Records.{Case, HasBit, HasNumber, HasTarget, IsCase, IsRuleOf, IsTargetOf}
 use Rattle.cil_tables.specs.Links.{IsLink}
-use Rattle.cil_tables.specs.Compiled.{IsNameOf, IsTable}
+use Rattle.cil_tables.specs.Compiled.{AreRules, IsNameOf, IsTable}
 use Rattle.cil_classes.specs.ClassRows.{IsRowOf}
 use Rattle.cil_names.specs.Declarations.{Declared, Symbol}
 use Rattle.cil_macros.specs.Item.{Item, nobody}
 use Rattle.cil_syntax.specs.Scopes.{ScopedWord}
-use Rattle.cil_classes.specs.Pairs.{HasPair}
+use Rattle.cil_classes.specs.Given.{HasPair}
 use Rattle.cil_tables.proofs.FlatLemmas.{AreFlat, global_symbol, declared_here, global_symbol_of, name_declared, name_of_global}
 use Rattle.cil_names.specs.Resolves.{has_permission}
 use Rattle.cil_tables.specs.Aliases.{IsAlias}
@@ -121,8 +123,8 @@ module _ (xs : List Item) (plain : HaveFlatKeywords xs) where
           decide : (bit : ℕ) → Decided (HasBit xs nobody k row bit)
           decide bit = has_bit k row bit (slice_get row.permissions bit) refl
 
-      rule_of : (k : Case) → IsCase xs nobody keywords.Allow k → (r : Rule) × IsRuleOf xs nobody types classes k r
-      rule_of k is =
+      rule_of : (keyword : Keyword) (k : Case) → IsCase xs nobody keyword k → (r : Rule) × IsRuleOf xs nobody types classes k r
+      rule_of keyword k is =
           let row = given.each k.class_ (pair_class xs plain nobody k.class_permission k.class_ is.permission.0 is.permission.1) in
           let number = get_at classes row.0 row.2 in
           let target = target_of k.target is.target in
@@ -138,10 +140,10 @@ module _ (xs : List Item) (plain : HaveFlatKeywords xs) where
             },
           )
 
-      rules : (allow : List Rule) × Gives rule_cmp (IsCase xs nobody keywords.Allow) (IsRuleOf xs nobody types classes) allow
-      rules =
-          let cases = finite_cases xs plain nobody keywords.Allow in
-          let raw = chosen (IsRuleOf xs nobody types classes) cases.all (λ k c. rule_of k (cases.only k c)) in
+      rules_by : (keyword : Keyword) → (section : List Rule) × Gives rule_cmp (IsCase xs nobody keyword) (IsRuleOf xs nobody types classes) section
+      rules_by keyword =
+          let cases = finite_cases xs plain nobody keyword in
+          let raw = chosen (IsRuleOf xs nobody types classes) cases.all (λ k c. rule_of keyword k (cases.only k c)) in
           let l = finite_listing rule_cmp rule_total one_rule (Contains raw.all) (record { all = raw.all; only = λ r c. c; each = λ r c. c }) in (
             l.list,
             record {
@@ -149,6 +151,15 @@ module _ (xs : List Item) (plain : HaveFlatKeywords xs) where
               each = λ k is. let r = raw.each k (cases.each k is) in (r.0, r.1, (l.lists.members r.0).1 r.2);
               only = λ r c. let o = raw.only r ((l.lists.members r).0 c) in (o.0, cases.only o.0 o.1, o.2);
             },
+          )
+
+      rules : (r : RuleSections) × AreRules xs nobody types classes r
+      rules =
+          let allow = rules_by keywords.Allow in
+          let auditallow = rules_by keywords.AuditAllow in
+          let dontaudit = rules_by keywords.DontAudit in (
+            record { allow = allow.0; auditallow = auditallow.0; dontaudit = dontaudit.0 },
+            record { allow = allow.1; auditallow = auditallow.1; dontaudit = dontaudit.1 },
           )
 
   -- ---- classes
@@ -207,7 +218,7 @@ module _ (xs : List Item) (plain : HaveFlatKeywords xs) where
         (finite_links xs plain nobody keywords.UserRole kinds.User kinds.Role users.list roles.list) in
         let role_types = finite_listing link_cmp link_total one_link (IsLink xs nobody keywords.RoleType kinds.Role kinds.Type_ roles.list types.list)
         (finite_links xs plain nobody keywords.RoleType kinds.Role kinds.Type_ roles.list types.list) in
-        let allow = rules types.list classes.0 classes.1 in (
+        let given = rules types.list classes.0 classes.1 in (
           record {
             users = users.list;
             roles = roles.list;
@@ -216,7 +227,7 @@ module _ (xs : List Item) (plain : HaveFlatKeywords xs) where
             classes = classes.0;
             user_roles = user_roles.list;
             role_types = role_types.list;
-            allow = allow.0;
+            rules = given.0;
           },
           record {
             users = users.lists;
@@ -226,6 +237,6 @@ module _ (xs : List Item) (plain : HaveFlatKeywords xs) where
             classes = classes.1;
             user_roles = user_roles.lists;
             role_types = role_types.lists;
-            allow = allow.1;
+            rules = given.1;
           },
         )

@@ -1,5 +1,6 @@
 -- What tables say is what the policy says. This project's profile.
 use Rattle.std.specs.Prelude.{◌≡◌, ◌↔◌, ℕ, List, [], slice_get, Some}
+use Rattle.cil_syntax.specs.declared.kind.Keyword.{Keyword}
 use Rattle.cil_syntax.specs.declared.kind.Keyword.TheVariants as keywords
 use Rattle.cil_syntax.specs.declared.kind.Kind.TheVariants as kinds
 use Rattle.cil_tables.specs.declared.context.Context.{Context as Numbers}
@@ -13,6 +14,7 @@ use Rattle.cil_tables.specs.Faults.{ArePolicyFaults}
 use Rattle.cil_macros.specs.Item.{Item, OptSet}
 use Rattle.cil_optionals.specs.Policy.{ArePolicy}
 use Rattle.cil_rules.specs.Covers.{HasCover}
+use Rattle.cil_rules.specs.Rule.{Rule}
 use Rattle.cil_tables.specs.Meaning.{IsContext}
 use Rattle.cil_tables.specs.Table.{Table}
 
@@ -33,13 +35,19 @@ pub record SamePermission (xs : List Item) (s : OptSet) (t : Table) (number bit 
   pub a_class : Declared xs s kinds.Class c
   pub is_permission : slice_get row.permissions bit ≡ Some permission
 
--- the tables admit the contexts that are valid, and their rules cover what an enabled rule of the policy covers
+-- the rules of a section cover what an enabled rule of the policy with this first word covers
+abbrev pub CoverAs : List Item → OptSet → Table → Keyword → List Rule → Type 0
+CoverAs xs s t keyword rules = (n m : Numbers) (a b : Context) (number bit : ℕ) (c : Symbol) (permission : List ℕ) → SameContext xs s t n a → SameContext xs s t m b
+    → SamePermission xs s t number bit c permission
+    → HasCover rules n.kind m.kind number bit ↔ IsCovered xs s keyword a.kind b.kind c permission
+
+-- the tables admit the contexts that are valid, and their rules cover what those of the policy cover
 pub record Agrees (xs : List Item) (s : OptSet) (t : Table) : Type 0 where
   pub read : (text : List ℕ) (n : Numbers) → IsContext t text n → (c : Context) × IsValid xs s text c × SameContext xs s t n c
   pub found : (text : List ℕ) (c : Context) → IsValid xs s text c → (n : Numbers) × IsContext t text n × SameContext xs s t n c
-  pub covers : (n m : Numbers) (a b : Context) (number bit : ℕ) (c : Symbol) (permission : List ℕ) → SameContext xs s t n a → SameContext xs s t m b
-      → SamePermission xs s t number bit c permission
-      → HasCover t.allow n.kind m.kind number bit ↔ IsCovered xs s keywords.Allow a.kind b.kind c permission
+  pub allow : CoverAs xs s t keywords.Allow t.rules.allow
+  pub auditallow : CoverAs xs s t keywords.AuditAllow t.rules.auditallow
+  pub dontaudit : CoverAs xs s t keywords.DontAudit t.rules.dontaudit
 
 -- modules compile to the tables: they have no fault, the tables are those of their policy, and they say what it says
 pub record Compiles (modules : List (List ℕ)) (t : Table) : Type 0 where

@@ -9,6 +9,7 @@ use Rattle.cil_classes.specs.declared.row.Class.{Class}
 use Rattle.cil_names.specs.Declarations.{Declared, Symbol, name_of}
 use Rattle.cil_macros.specs.Item.{Item, OptSet}
 use Rattle.cil_tables.specs.Aliases.{IsAlias}
+use Rattle.cil_tables.specs.declared.tables.RuleSections.{RuleSections}
 use Rattle.cil_tables.specs.Table.{Table, alias_cmp, link_cmp}
 use Rattle.cil_classes.specs.Row.{class_cmp}
 use Rattle.cil_rules.specs.Order.{rule_cmp}
@@ -22,6 +23,12 @@ pub record IsNameOf (xs : List Item) (s : OptSet) (kind : Kind) (name : List ℕ
   pub declared : Declared xs s kind symbol
   pub named : name_of symbol ≡ name
 
+-- the rules of enabled statements, by the sections of types and classes
+pub record AreRules (xs : List Item) (s : OptSet) (types : List (List ℕ)) (classes : List Class) (r : RuleSections) : Type 0 where
+  pub allow : Gives rule_cmp (IsCase xs s keywords.Allow) (IsRuleOf xs s types classes) r.allow
+  pub auditallow : Gives rule_cmp (IsCase xs s keywords.AuditAllow) (IsRuleOf xs s types classes) r.auditallow
+  pub dontaudit : Gives rule_cmp (IsCase xs s keywords.DontAudit) (IsRuleOf xs s types classes) r.dontaudit
+
 -- the tables of items, where these optionals are enabled
 pub record IsTable (xs : List Item) (s : OptSet) (t : Table) : Type 0 where
   pub users : Lists text_cmp (IsNameOf xs s kinds.User) t.users
@@ -31,4 +38,4 @@ pub record IsTable (xs : List Item) (s : OptSet) (t : Table) : Type 0 where
   pub classes : Gives class_cmp (Declared xs s kinds.Class) (IsRowOf xs) t.classes
   pub user_roles : Lists link_cmp (IsLink xs s keywords.UserRole kinds.User kinds.Role t.users t.roles) t.user_roles
   pub role_types : Lists link_cmp (IsLink xs s keywords.RoleType kinds.Role kinds.Type_ t.roles t.types) t.role_types
-  pub allow : Gives rule_cmp (IsCase xs s keywords.Allow) (IsRuleOf xs s t.types t.classes) t.allow
+  pub rules : AreRules xs s t.types t.classes t.rules

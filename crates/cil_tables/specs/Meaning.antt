@@ -55,4 +55,4 @@ pub record IsPermissionAt (t : Table) (class_ bit : ℕ) (name : List ℕ) : Typ
 
 -- the tables permit it between two contexts: some rule of them covers the permission of the bit
 pub record Permits (t : Table) (source target : Context) (class_ bit : ℕ) : Type 0 where
-  pub covered : HasCover t.allow source.kind target.kind class_ bit
+  pub covered : HasCover t.rules.allow source.kind target.kind class_ bit

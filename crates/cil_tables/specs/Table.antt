@@ -13,7 +13,7 @@ use Rattle.cil_base.specs.Lists.{text_cmp}
 use Rattle.cil_classes.specs.declared.row.Class.{Class}
 use Rattle.cil_tables.specs.declared.tables.Alias.{Alias}
 use Rattle.cil_tables.specs.declared.tables.Link.{Link}
-use Rattle.cil_rules.specs.Rule.{Rule}
+use Rattle.cil_tables.specs.declared.tables.RuleSections.{RuleSections}
 use Rattle.cil_classes.specs.Row.{IsOrderlyClass, class_cmp}
 
 pub record Table : Type 0 where
@@ -24,7 +24,7 @@ pub record Table : Type 0 where
   pub classes : List Class
   pub user_roles : List Link
   pub role_types : List Link
-  pub allow : List Rule
+  pub rules : RuleSections
 
 -- aliases stand in byte order of their names
 abbrev pub alias_cmp : Alias → Alias → Ordering

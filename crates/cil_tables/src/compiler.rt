@@ -26,7 +26,7 @@ use crate::standings::{Standings, standings_of};
 use crate::tables::Tables;
 use cil_base::{Bytes, Names, NoMemory};
 use cil_blocks::{Spaces, inherit};
-use cil_classes::{Classes, classes};
+use cil_classes::{Classes, classes, given_permissions};
 use cil_faults::Failure;
 use cil_macros::{Instances, expand};
 use cil_modset::ModuleSet;
@@ -167,12 +167,14 @@ fn tables_of(
         first: classes,
         second: stand,
     } = judged;
-    let given = given_of(alloc, instances, &known, &stand, classes.rows.as_slice())?;
+    let rows = classes.rows.as_slice();
+    let held = given_permissions(alloc, instances, &known, rows)?;
+    let given = given_of(alloc, instances, &known, &stand, rows, &held)?;
     let Given {
         user_roles,
         role_types,
         type_aliases,
-        allow,
+        rules,
     } = given;
     let Classes { rows } = classes;
     let Numbering {
@@ -193,7 +195,7 @@ fn tables_of(
         classes: rows,
         user_roles,
         role_types,
-        allow,
+        rules,
     })
 }
 

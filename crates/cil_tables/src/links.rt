@@ -1,11 +1,12 @@
 //! The pairs that statements join: users with roles, and roles with types. A statement costs no look-up of a word. It joins each of
 //! the one set with each of the other: n statements over two full sets cost n steps for each holder and each block of the other set.
 
-ghost use Rattle.std.specs.Prelude.{◌≡◌, ◌<◌, [], get_or, length, ℕ, IfOk, List, MatchOption, map, true};
+ghost use Rattle.std.specs.Prelude.{◌≡◌, ◌<◌, [], get_or, length, ℕ, IfOk, List, MatchOption, map, true, false};
 ghost use Rattle.cil_base.specs.Lists.{Lists};
 ghost use Rattle.cil_syntax.specs.declared.kind.Kind as kinds;
 ghost use Rattle.cil_macros.specs.Item.{Item};
 ghost use Rattle.cil_macros.specs.Items.{item_at, items_in, says_as_written};
+ghost use Rattle.cil_names.specs.Resolves.{is_mapping};
 ghost use Rattle.cil_names.specs.Rows.{IsTableOf};
 ghost use Rattle.cil_tables.specs.Links.{IsLink, JoinsAll, JoinsNothing};
 ghost use Rattle.cil_names.specs.Known.{AreStanding, IsKnown, enabled_in, row_in, set_meant};
@@ -42,6 +43,7 @@ pub(crate) fn links_of(
 ) -> Result<Links, NoMemory>
     requires table { IsTableOf (map (row_in known.now) (items_in instances.now)) known.now.words.now }
     requires written { says_as_written joins.keyword ≡ true }
+    requires plain { is_mapping joins.keyword ≡ false }
     ensures { IfOk result (λ links. (names : kinds.Kind → List (List ℕ)) → IsKnown known.now (items_in instances.now) names
         → AreStanding known.now (items_in instances.now) names joins.holder_kind holders.now → AreStanding known.now (items_in instances.now) names joins.held_kind helds.now
         → Lists link_cmp (IsLink (items_in instances.now) (enabled_in known.now) joins.keyword joins.holder_kind joins.held_kind (names joins.holder_kind) (names joins.held_kind)) links) }
@@ -82,6 +84,7 @@ fn joined_at<'s>(
 ) -> Option<Joined<'s>>
     requires within { at < length (items_in instances.now) }
     requires written { says_as_written joins.keyword ≡ true }
+    requires plain { is_mapping joins.keyword ≡ false }
     ensures { (xs : List Item) (names : kinds.Kind → List (List ℕ)) → IsKnown known.now xs names → AreStanding known.now xs names joins.holder_kind holders.now
         → AreStanding known.now xs names joins.held_kind helds.now → words.now ≡ row_in known.now (item_at instances.now at)
         → MatchOption result (JoinsNothing xs (enabled_in known.now) joins.keyword joins.holder_kind joins.held_kind (names joins.holder_kind) (names joins.held_kind) (item_at instances.now at))

@@ -1,21 +1,25 @@
 //! The sections of a table that statements give: links, aliases and rules.
 
-ghost use Rattle.std.specs.Prelude.{◌≡◌, ◌≤◌, ℕ, Contains, IfOk, List, length, map};
+ghost use Rattle.std.specs.Prelude.{◌≡◌, ◌≤◌, ℕ, Contains, IfOk, List, length, map, true, false};
 ghost use Rattle.std.specs.List.Sorted.{IsStrictlySortedBy};
 ghost use Rattle.cil_base.specs.Gives.{Gives};
 ghost use Rattle.cil_base.specs.Lists.{text_cmp};
-ghost use Rattle.cil_syntax.specs.declared.kind.Keyword.TheVariants as keywords;
 ghost use Rattle.cil_syntax.specs.declared.kind.Kind as kinds;
 ghost use Rattle.cil_syntax.specs.declared.kind.Kind.TheVariants as variants;
-ghost use Rattle.cil_macros.specs.Items.{items_in};
+ghost use Rattle.cil_macros.specs.Items.{items_in, says_as_written};
 ghost use Rattle.cil_names.specs.Entries.{AreOrdered};
 ghost use Rattle.cil_names.specs.Known.{AreStanding, IsKnown, enabled_in, row_in};
+ghost use Rattle.cil_names.specs.Numbers.{AreApart};
+ghost use Rattle.cil_names.specs.Resolves.{is_mapping};
 ghost use Rattle.cil_names.specs.Rows.{IsTableOf};
 ghost use Rattle.cil_classes.specs.declared.row.Class.{Class as ARow};
 ghost use Rattle.cil_classes.specs.ClassRows.{AreClasses};
+ghost use Rattle.cil_classes.specs.Held.{IsAssigned};
+ghost use Rattle.cil_classes.specs.NodeOrder.{node_cmp};
 ghost use Rattle.cil_classes.specs.Row.{most_permissions};
 ghost use Rattle.cil_rules.specs.Order.{rule_cmp};
 ghost use Rattle.cil_rules.specs.Records.{IsCase, IsRuleOf};
+ghost use Rattle.cil_tables.specs.Compiled.{AreRules};
 ghost use Rattle.cil_tables.specs.Sections.{AreGiven};
 ghost use Rattle.cil_tables.specs.Standings.{AllStand};
 
@@ -23,9 +27,9 @@ use crate::aliases::aliases_of;
 use crate::holders::Links;
 use crate::links::{Joins, links_of};
 use crate::standings::Standings;
-use crate::tables::Alias;
+use crate::tables::{Alias, RuleSections};
 use cil_base::NoMemory;
-use cil_classes::Class;
+use cil_classes::{Class, GivenPermissions};
 use cil_index::Section;
 use cil_macros::Instances;
 use cil_names::Known;
@@ -43,24 +47,28 @@ pub struct Given {
     pub role_types: Links,
     /// The aliases of types.
     pub type_aliases: Vec<Alias>,
-    /// The allow rules, with their index.
-    pub allow: Section,
+    /// The rules, each section with its index.
+    pub rules: RuleSections,
 }
 
-/// What the enabled statements give, where words stand for these numbers. Error: out of memory.
+/// What the enabled statements give, where words stand for these numbers, and class permissions give these permissions. Error: out of memory.
 pub(crate) fn given_of(
     alloc: Global,
     instances: &Instances,
     known: &Known,
     stand: &Standings,
     classes: &[Class],
+    permissions: &GivenPermissions,
 ) -> Result<Given, NoMemory>
     requires table { IsTableOf (map (row_in known.now) (items_in instances.now)) known.now.words.now }
     requires ordered { AreOrdered known.now.lookup.namespaces.now known.now.lookup.names.now }
     requires rising { (row : ARow) → Contains classes.now row → IsStrictlySortedBy text_cmp row.permissions }
     requires few { (row : ARow) → Contains classes.now row → length row.permissions ≤ most_permissions }
-    ensures { IfOk result (λ given. (names : kinds.Kind → List (List ℕ)) → IsKnown known.now (items_in instances.now) names → AllStand known.now (items_in instances.now) names stand.now
+    requires nodes { IsStrictlySortedBy node_cmp permissions.now.nodes.items }
+    ensures { IfOk result (λ given. (names : kinds.Kind → List (List ℕ)) → IsKnown known.now (items_in instances.now) names
+        → AreApart known.now.lookup.names.now (enabled_in known.now) known.now.numbers.now → AllStand known.now (items_in instances.now) names stand.now
         → AreClasses (items_in instances.now) (enabled_in known.now) (names variants.Class) classes.now
+        → IsAssigned known.now (items_in instances.now) classes.now permissions.now
         → AreGiven (items_in instances.now) (enabled_in known.now) names classes.now given) }
 {
     let users = stand.users.as_slice();
@@ -69,35 +77,105 @@ pub(crate) fn given_of(
     let user_roles = links_of(alloc, instances, known, USER_ROLES, users, roles)?;
     let role_types = links_of(alloc, instances, known, ROLE_TYPES, roles, types)?;
     let type_aliases = aliases_of(alloc, known, types)?;
-    let allow = allow_of(alloc, instances, known, types, classes)?;
+    let rules = rules_given(alloc, instances, known, types, classes, permissions)?;
     Ok(Given {
         user_roles,
         role_types,
         type_aliases,
-        allow,
+        rules,
     })
 }
 
-/// The rules of the enabled allow statements, where words stand for these types. Error: out of memory.
-fn allow_of(
+/// The rules of the enabled statements, where words stand for these types, and class permissions give these permissions. Error: out of
+/// memory.
+fn rules_given(
     alloc: Global,
     instances: &Instances,
     known: &Known,
     types: &[Numbers],
     classes: &[Class],
+    permissions: &GivenPermissions,
+) -> Result<RuleSections, NoMemory>
+    requires table { IsTableOf (map (row_in known.now) (items_in instances.now)) known.now.words.now }
+    requires rising { (row : ARow) → Contains classes.now row → IsStrictlySortedBy text_cmp row.permissions }
+    requires few { (row : ARow) → Contains classes.now row → length row.permissions ≤ most_permissions }
+    requires nodes { IsStrictlySortedBy node_cmp permissions.now.nodes.items }
+    ensures { IfOk result (λ rules. (names : kinds.Kind → List (List ℕ)) → IsKnown known.now (items_in instances.now) names
+        → AreApart known.now.lookup.names.now (enabled_in known.now) known.now.numbers.now
+        → AreStanding known.now (items_in instances.now) names variants.Type_ types.now
+        → AreClasses (items_in instances.now) (enabled_in known.now) (names variants.Class) classes.now
+        → IsAssigned known.now (items_in instances.now) classes.now permissions.now
+        → AreRules (items_in instances.now) (enabled_in known.now) (names variants.Type_) classes.now rules) }
+{
+    let allow = section_of(
+        alloc,
+        instances,
+        known,
+        types,
+        classes,
+        permissions,
+        Keyword::Allow,
+    )?;
+    let auditallow = section_of(
+        alloc,
+        instances,
+        known,
+        types,
+        classes,
+        permissions,
+        Keyword::AuditAllow,
+    )?;
+    let dontaudit = section_of(
+        alloc,
+        instances,
+        known,
+        types,
+        classes,
+        permissions,
+        Keyword::DontAudit,
+    )?;
+    Ok(RuleSections {
+        allow,
+        auditallow,
+        dontaudit,
+    })
+}
+
+/// The same of the statements with this first word.
+fn section_of(
+    alloc: Global,
+    instances: &Instances,
+    known: &Known,
+    types: &[Numbers],
+    classes: &[Class],
+    permissions: &GivenPermissions,
+    keyword: Keyword,
 ) -> Result<Section, NoMemory>
     requires table { IsTableOf (map (row_in known.now) (items_in instances.now)) known.now.words.now }
     requires rising { (row : ARow) → Contains classes.now row → IsStrictlySortedBy text_cmp row.permissions }
     requires few { (row : ARow) → Contains classes.now row → length row.permissions ≤ most_permissions }
-    ensures { IfOk result (λ allow. (names : kinds.Kind → List (List ℕ)) → IsKnown known.now (items_in instances.now) names
+    requires nodes { IsStrictlySortedBy node_cmp permissions.now.nodes.items }
+    requires written { says_as_written keyword ≡ true }
+    requires plain { is_mapping keyword ≡ false }
+    ensures { IfOk result (λ section. (names : kinds.Kind → List (List ℕ)) → IsKnown known.now (items_in instances.now) names
+        → AreApart known.now.lookup.names.now (enabled_in known.now) known.now.numbers.now
         → AreStanding known.now (items_in instances.now) names variants.Type_ types.now
         → AreClasses (items_in instances.now) (enabled_in known.now) (names variants.Class) classes.now
-        → Gives rule_cmp (IsCase (items_in instances.now) (enabled_in known.now) keywords.Allow)
-        (IsRuleOf (items_in instances.now) (enabled_in known.now) (names variants.Type_) classes.now) allow) }
+        → IsAssigned known.now (items_in instances.now) classes.now permissions.now
+        → Gives rule_cmp (IsCase (items_in instances.now) (enabled_in known.now) keyword)
+        (IsRuleOf (items_in instances.now) (enabled_in known.now) (names variants.Type_) classes.now) section) }
 {
-    let rules = rules_of(alloc, instances, known, types, classes)?;
-    let allow = Section::of(alloc, rules.as_slice(), types, classes.len())?;
-    Ok(allow)
+    let rules = rules_of(
+        alloc,
+        instances,
+        known,
+        types,
+        classes,
+        permissions,
+        keyword,
+    )?;
+    let section = Section::of(alloc, rules.as_slice(), types, classes.len())?;
+    Ok(section)
 }
 
 /// The statements that give users their roles.

@@ -114,6 +114,17 @@ impl Ord for Alias {
     }
 }
 
+/// The rules of a policy, by what they say of a permission.
+#[derive(Debug, Drop)]
+pub struct RuleSections {
+    /// What is allowed.
+    pub allow: Section,
+    /// Whose use is recorded.
+    pub auditallow: Section,
+    /// Whose denial is not recorded.
+    pub dontaudit: Section,
+}
+
 /// The tables of a policy.
 #[derive(Debug, Drop)]
 pub struct Tables {
@@ -124,7 +135,7 @@ pub struct Tables {
     pub(crate) classes: Vec<Class>,
     pub(crate) user_roles: Links,
     pub(crate) role_types: Links,
-    pub(crate) allow: Section,
+    pub(crate) rules: RuleSections,
 }
 
 impl Model for Tables {
@@ -140,7 +151,7 @@ impl Model for Tables {
       classes = a.classes.items;
       user_roles = a.user_roles;
       role_types = a.role_types;
-      allow = a.allow;
+      rules = a.rules;
     } };
 
     ghost invariant = { λ a. IsOrderly record {
@@ -151,7 +162,7 @@ impl Model for Tables {
       classes = a.classes.items;
       user_roles = a.user_roles;
       role_types = a.role_types;
-      allow = a.allow;
+      rules = a.rules;
     } };
 }
 
@@ -215,10 +226,10 @@ impl Tables {
         &self.role_types
     }
 
-    /// The allow rules, with their index.
-    pub fn allow(&self) -> &Section
-        ensures rules { result.now ≡ self.now.allow }
+    /// The rules, each section with its index.
+    pub fn rules(&self) -> &RuleSections
+        ensures rules { result.now ≡ self.now.rules }
     {
-        &self.allow
+        &self.rules
     }
 }

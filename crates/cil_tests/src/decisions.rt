@@ -6,6 +6,7 @@ use cil_decide::{
     ClassId, Context, class_named, decide, parse_context, permission_at, permission_named,
 };
 use cil_host::{Host, QueryFault};
+use cil_index::Section;
 use cil_syntax::Bytes;
 use cil_tables::{Tables, compile};
 use cil_text_tests::set_of;
@@ -109,11 +110,17 @@ const RULED: &str =
     (type a)(type b)(type c)(type d)(roletype r a)(roletype r b)(roletype r c)(roletype r d)\
     (allow a b (file (read)))(allow a b (file (open)))(allow a b (dir (add)))(allow a self (file (open read)))\
     (allow b a (file (read)))(allow c self (dir (open)))(allow c c (dir (add)))(allow d a (dir (add open)))\
-    (allow d self (file (open)))(allow b a (file (read)))";
+    (allow d self (file (open)))(allow b a (file (read)))\
+    (auditallow a b (file (read)))(auditallow c self (dir (add)))(auditallow b b (file (open read)))\
+    (dontaudit a b (file (open)))(dontaudit d self (dir (add open)))(dontaudit d a (dir (add)))";
 
-/// What is allowed by rules that are asked one by one.
-fn walked(tables: &Tables, source: usize, target: usize, class: usize) -> u32 {
-    let rules = tables.allow();
+/// The permissions of a class of these: two of them have two, and no other has any.
+fn all_of(class: usize) -> u32 {
+    if class < 2 { 0b11 } else { 0 }
+}
+
+/// What rules cover that are asked one by one.
+fn walked(rules: &Section, source: usize, target: usize, class: usize) -> u32 {
     let mut mask = 0;
     for place in 0..rules.len() {
         mask |= rules.covered_at(place, source, target, class);
@@ -123,9 +130,15 @@ fn walked(tables: &Tables, source: usize, target: usize, class: usize) -> u32 {
 
 /// Whether decisions on a source and a class, for each target, are those of a walk over the rules.
 fn decides_alike(tables: &Tables, source: usize, class: usize) -> bool {
+    let rules = tables.rules();
     for target in 0..5usize {
         let got = decide(tables, &context(source), &context(target), class_id(class));
-        if got.allowed != walked(tables, source, target, class) {
+        let want = (
+            walked(&rules.allow, source, target, class),
+            walked(&rules.auditallow, source, target, class),
+            all_of(class) & !walked(&rules.dontaudit, source, target, class),
+        );
+        if (got.allowed, got.auditallow, got.auditdeny) != want {
             return false;
         }
     }
@@ -135,7 +148,15 @@ fn decides_alike(tables: &Tables, source: usize, class: usize) -> bool {
 #[test]
 fn decides_as_a_walk_over_the_rules(rt: HostRuntime) -> Result<(), Fail> {
     let tables = policy(rt.alloc(), &[RULED]).ok_or("no tables")?;
-    assert_eq!(rt; tables.allow().len(), 9);
+    let rules = tables.rules();
+    assert_eq!(rt;
+        (
+            rules.allow.len(),
+            rules.auditallow.len(),
+            rules.dontaudit.len()
+        ),
+        (9, 3, 3)
+    );
     for class in 0..4usize {
         for source in 0..5usize {
             assert!(rt; decides_alike(&tables, source, class), "{source} {class}");
@@ -144,7 +165,15 @@ fn decides_as_a_walk_over_the_rules(rt: HostRuntime) -> Result<(), Fail> {
     // Class 1 is file, 0 dir; type 2 is c.
     let (from, onto) = (context(2), context(2));
     let got = decide(&tables, &from, &onto, class_id(0));
-    assert_eq!(rt; got.allowed, 0b11);
+    assert_eq!(rt;
+        (got.allowed, got.auditallow, got.auditdeny),
+        (0b11, 0b01, 0b11)
+    );
+    let got = decide(&tables, &context(0), &context(1), class_id(1));
+    assert_eq!(rt;
+        (got.allowed, got.auditallow, got.auditdeny),
+        (0b11, 0b10, 0b10)
+    );
     Ok(())
 }
 
@@ -180,6 +209,10 @@ fn permissions_are_told_by_their_bits(rt: HostRuntime) -> Result<(), Fail> {
     for &(class, bit, want) in BITS {
         assert_eq!(rt; host.permission(class, bit), want, "{bit}");
     }
+    let mut asked = |permission: &[u8]| host.check(b"u:r:a", b"u:r:b", b"file", permission);
+    assert!(rt; matches!(asked(b"read"), Ok(true)));
+    assert!(rt; matches!(asked(b"open"), Ok(false)));
+    assert!(rt; matches!(asked(b"ioctl"), Err(QueryFault::NoPermission)));
     Ok(())
 }
 
@@ -189,6 +222,10 @@ const QUERIES: &[(QueryFault, &str)] = &[
     (QueryFault::BadSource, "72 the source is no valid context"),
     (QueryFault::BadTarget, "72 the target is no valid context"),
     (QueryFault::NoClass, "73 no class has this name"),
+    (
+        QueryFault::NoPermission,
+        "74 the class has no such permission",
+    ),
 ];
 
 #[test]

@@ -86,6 +86,13 @@ const POLICIES: &[(&[&str], &str)] = &[
         &["(typealias x)(typeattribute z)(typeattributeset z (not (z)))"],
         "51 0 11 . x\n54 0 28 . z\n",
     ),
+    // Class maps and class permissions, two of them on a circle; audit rules.
+    (
+        &[
+            "(class c (p q))(type a)(classmap m (x y))(classpermission n)(classpermissionset n (m (x)))(classmapping m x n)(classmapping m x (c (p)))(classmapping m y (c (not (p))))(classorder (c))(allow a a n)(auditallow a a (m (all)))(dontaudit a self (m (xor all (y))))",
+        ],
+        "0 0",
+    ),
     // Lists 100 deep. Constraints and conditions are not supported yet, so their trees are read alone.
     (
         &[

@@ -9,7 +9,7 @@ ghost use Rattle.cil_macros.specs.Item.{all_words_in, words_in};
 ghost use Rattle.cil_names.specs.Classes.{IsClassFor, IsClassOf};
 ghost use Rattle.cil_names.specs.Entries.{candidates_of};
 ghost use Rattle.cil_names.specs.Readings.{item_read, module_of, scoped_there, word_read};
-ghost use Rattle.cil_names.specs.Resolves.{Permission as APermission, Word as AWord, all_wanted_in, wanted_in, words_of, words_of_class};
+ghost use Rattle.cil_names.specs.Resolves.{Permission as APermission, Word as AWord, all_wanted_in, wanted_in, words_of, words_of_class, words_of_mapping};
 ghost use Rattle.cil_names.specs.Unresolved.{term_with, terms_with};
 ghost use Rattle.cil_syntax.specs.Scopes.{ScopedWord};
 ghost use Rattle.cil_words.specs.Scopes.{AreScopes, IsLast};
@@ -19,7 +19,9 @@ use crate::cells::Cells;
 use crate::scopes::{LastScope, Scopes};
 use cil_base::NoMemory;
 use cil_macros::PlacedWord;
-use cil_names::reading::{Reading, is_at, is_call, says_as_written};
+use cil_names::reading::{
+    Reading, behind_two, front_two, is_at, is_call, is_mapping, says_as_written,
+};
 use cil_names::{Class, Names, class_at, class_of, permission_of};
 use cil_syntax::{Bytes, Term, word_and_terms};
 use std::alloc::Global;
@@ -53,7 +55,30 @@ impl<'r, 's, 'p, 'a> Walk<'r, 's, 'p, 'a> {
         if !says_as_written(statement.keyword) {
             return Ok(());
         }
-        self.terms(cells, scopes, statement.args.as_slice())?;
+        let terms = statement.args.as_slice();
+        if is_mapping(statement.keyword) {
+            self.mapping(cells, scopes, terms)?;
+            return Ok(());
+        }
+        self.terms(cells, scopes, terms)?;
+        Ok(())
+    }
+
+    /// Adds a list for each thing that the terms of a classmapping ask for: its class map, its permission as one of the map, and what
+    /// is behind them.
+    fn mapping(
+        &self,
+        cells: &mut Cells,
+        scopes: &mut Scopes,
+        terms: &[Term<'a>],
+    ) -> Result<(), NoMemory>
+        requires walk { IsWalk self.now }
+        requires scopes { AreScopes self.now.reading.instances.now scopes.old }
+        ensures asks { OnOk result (AddsFor self.now (words_of_mapping (terms_with (word_read self.now.reading) (module_of self.now.reading) terms.now)) cells.old cells.new) }
+        ensures scopes { OnOk result (AreScopes self.now.reading.instances.now scopes.new) }
+    {
+        self.class_list(cells, scopes, front_two(terms))?;
+        self.terms(cells, scopes, behind_two(terms))?;
         Ok(())
     }
 

@@ -10,13 +10,14 @@ Modules are texts in the Common Intermediate Language (CIL). cilhost acts as one
 modules, compiles them into a policy, and then answers which permissions a process in one security
 context has on an object in another. The answers do not depend on the order of the modules.
 
-The statements that cilhost accepts are type, class, common, classcommon, role, user, roletype,
-userrole and allow; block, blockabstract, blockinherit, macro, call and optional; and typealias,
-typealiasactual, typeattribute, typeattributeset, roleattribute, roleattributeset, userattribute and
-userattributeset. Of typetransition, typechange, typemember, roletransition and expandtypeattribute
-the names are checked, and they have no effect. Statements that label files, ports and the like,
-such as filecon, and settings, such as policycap, are accepted and have no effect. For now it
-refuses everything else in CIL by name, with fault 22.";
+cilhost accepts the statements type, class, common, classcommon, role, user, roletype, userrole,
+allow, auditallow and dontaudit; block, blockabstract, blockinherit, macro, call and optional;
+typealias, typealiasactual, typeattribute, typeattributeset, roleattribute, roleattributeset,
+userattribute and userattributeset; and classmap, classmapping, classpermission and
+classpermissionset. Of typetransition, typechange, typemember, roletransition, expandtypeattribute
+and classorder the names are checked, and they have no effect. Statements that label files, ports
+and the like, such as filecon, and settings, such as policycap, are accepted and have no effect. For
+now it refuses everything else in CIL by name, with fault 22.";
 
 /// How the program is called.
 pub const EXAMPLE: &str = "Example:
@@ -34,13 +35,14 @@ pub const SESSION_LONG: &str = "Installs files, then answers requests from stand
 The FILEs are installed from left to right. Then requests are read from standard input, one a line,
 and each reply is written to standard output, until QUIT or the end of the input.
 
-The statements that a FILE may have are type, class, common, classcommon, role, user, roletype,
-userrole and allow; block, blockabstract, blockinherit, macro, call and optional; and typealias,
-typealiasactual, typeattribute, typeattributeset, roleattribute, roleattributeset, userattribute and
-userattributeset. Of typetransition, typechange, typemember, roletransition and expandtypeattribute
-the names are checked, and they have no effect. Statements that label files, ports and the like,
-such as filecon, and settings, such as policycap, are accepted and have no effect. For now LOAD
-refuses everything else in CIL by name, with fault 22.";
+A FILE may have the statements type, class, common, classcommon, role, user, roletype, userrole,
+allow, auditallow and dontaudit; block, blockabstract, blockinherit, macro, call and optional;
+typealias, typealiasactual, typeattribute, typeattributeset, roleattribute, roleattributeset,
+userattribute and userattributeset; and classmap, classmapping, classpermission and
+classpermissionset. Of typetransition, typechange, typemember, roletransition, expandtypeattribute
+and classorder the names are checked, and they have no effect. Statements that label files, ports
+and the like, such as filecon, and settings, such as policycap, are accepted and have no effect. For
+now LOAD refuses everything else in CIL by name, with fault 22.";
 
 /// What a file is.
 pub const FILE: &str = "A module, as text in CIL, of at most 4194304 bytes";
@@ -118,6 +120,9 @@ pub const REQUESTS: &str = "Requests:
                           block b is b.t, and an alias stands for its type. Reply: OK, then the
                           permissions that are allowed, those audited when allowed, and those
                           audited when denied (- for none), or ERR
+  CHECK source target class permission
+                          Whether AV of the first three lists this permission as allowed. Reply:
+                          OK yes, OK no, or ERR
   OPTIONALS               Which optionals of the policy are in force. Reply: OK with their number;
                           for each its module, place, namespace and label, as of a fault below, and
                           in where it is in force, else out; or ERR
@@ -177,8 +182,9 @@ Other numbers, after ERR:
             does not come after the one before it in byte order. 14: a module cannot be read; its
             number, from 0, and the number and place of its text's fault follow. 15: bytes follow
             its last module
-  71 to 73  A query has no answer. 71: no policy is loaded, for AV, OPTIONALS or WHY. 72 1: the
-            source is not a valid context. 72 2: the target is not. 73: there is no such class
+  71 to 74  A query has no answer. 71: no policy is loaded, for AV, CHECK, OPTIONALS or WHY. 72 1:
+            the source is not a valid context. 72 2: the target is not. 73: there is no such class.
+            74: the class has no such permission, for CHECK
   81        There is no such request; the session goes on
   82 to 85  The session ends. 82: a line has more than 4096 bytes. 83: the input ends in a line, or
             in the bytes after one. 84: more than 67108864 bytes are announced. 85: it has had

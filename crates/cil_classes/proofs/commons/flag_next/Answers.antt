@@ -1,5 +1,4 @@
-use Rattle.std.specs.Prelude.{None, slice_get}
-use Rattle.std.proofs.Common.{◌≡◌, ◌+◌, ◌<◌, arith, get_or, length, refl, rules, subst, suc}
+use Rattle.std.proofs.Common.{◌+◌, ◌<◌, get_or, length, refl, rules}
 use Rattle.cil_names.specs.declared.shared.Shared.{Shared}
 use Rattle.std.proofs.lemmas.List.{length-set}
 use Rattle.cil_base.proofs.AtPlace.{at_place, past_end}

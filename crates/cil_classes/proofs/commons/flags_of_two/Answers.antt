@@ -1,4 +1,4 @@
-use Rattle.std.proofs.Common.{◌<◌, ◌≤◌, ◌∙◌, arith, length, subst, sym}
+use Rattle.std.proofs.Common.{◌<◌, ◌∙◌, arith, subst, sym}
 use Rattle.cil_classes.proofs.CommonLemmas.{all_flagged, more_flagged, none_flagged}
 use Rattle.cil_classes.proofs.commons.flags_of_two.Goals as goal
 

@@ -1,5 +1,5 @@
-use Rattle.cil_classes.proofs.PermLemmas.{all_added}
+use Rattle.cil_classes.proofs.PushLemmas.{all_added}
 use Rattle.cil_classes.proofs.perms.expand_perms.Goals as goal
 
 pub returns : goal.returns
-returns c = λ xs names f known rows begin. all_added _ _ _ _ _ _ c.new-masks.ensures.items (c.in_ok-push_perms.ensures xs names f known rows begin)
+returns c = λ xs names f known apart rows given begin. all_added _ _ _ _ _ _ c.new-masks.ensures.items (c.in_ok-push_perms.ensures xs names f known apart rows given begin)

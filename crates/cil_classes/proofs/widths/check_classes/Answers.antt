@@ -23,8 +23,10 @@ returns c =
     let i = c.args.instances.now in
     let over : length (items_in i) ≤ c.loop-at.at = let t = c.loop-at-test.false in let n = c.len-at-end.ensures.items in omega (arith, t, n) in
     answers_alike _ (ClassFault (is_in c.args.lookup.now.enabled.now) (items_in i)) (λ done. Unit {0})
-    (fault_there (items_in i) (is_in c.args.lookup.now.enabled.now) c.loop-at.at c.loop-at.faults.items _ over c.loop-at.invariant c.in_ok-push_commons.ensures)
-    (fault_back (items_in i) (is_in c.args.lookup.now.enabled.now) c.loop-at.at c.loop-at.faults.items _ over c.loop-at.invariant c.in_ok-push_commons.ensures)
+    (fault_there (items_in i) (is_in c.args.lookup.now.enabled.now) c.loop-at.at c.loop-at.faults.items _ _ over c.loop-at.invariant c.in_ok-push_commons.ensures
+    (c.in_ok-push_many.ensures (items_in i) (is_in c.args.lookup.now.enabled.now) c.requires.names))
+    (fault_back (items_in i) (is_in c.args.lookup.now.enabled.now) c.loop-at.at c.loop-at.faults.items _ _ over c.loop-at.invariant c.in_ok-push_commons.ensures
+    (c.in_ok-push_many.ensures (items_in i) (is_in c.args.lookup.now.enabled.now) c.requires.names))
     _ c.refuse.ensures.told
 
 pub push_commons-requires-clause-entries : goal.push_commons-requires-clause-entries

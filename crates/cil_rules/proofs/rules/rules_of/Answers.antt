@@ -6,13 +6,10 @@ use Rattle.cil_macros.proofs.ItemLemmas.{item_there, items_taken}
 use Rattle.cil_syntax.specs.declared.kind.Kind.TheVariants as kinds
 use Rattle.cil_names.specs.Known.{enabled_in, row_in}
 use Rattle.cil_rules.specs.Records.{CaseBy, IsRuleOf}
-use Rattle.cil_base.proofs.RecordLemmas.{all_records, none_more, record_more}
+use Rattle.cil_base.proofs.RecordLemmas.{all_records}
 use Rattle.cil_rules.specs.Kept.{rule_named}
-use Rattle.cil_rules.proofs.RuleLemmas.{one_more}
+use Rattle.cil_rules.proofs.BehindLemmas.{more_behind}
 use Rattle.cil_rules.proofs.rules.rules_of.Goals as goal
-use Rattle.cil_rules.specs.Kept.{rule_named}
-use Rattle.cil_rules.proofs.RuleLemmas.{one_more}
-use Rattle.cil_rules.proofs.rules.rules_of.Goals.{in-Some+in_ok-push, in_default}
 
 pub loop-at-preserved : goal.loop-at-preserved
 loop-at-preserved c =
@@ -21,17 +18,13 @@ loop-at-preserved c =
     let at = c.loop-at.at in
     let within : at < length (items_in i) = let t = c.loop-at-test.true in let n = c.len-at-end.ensures.items in omega (arith, t, n) in
     let x = item_at i at in
-    let row = c.row.ensures (map (row_in k) (items_in i)) (row_in k x) c.requires.table (slice_get-map (row_in k) (items_in i) at ∙ ap (option_map (row_in k)) (item_there i at within)) in
-    elim c.match-branch-3.branch [
-      | in-Some+in_ok-push w ↦ rw w.rules-is (λ names known standing classes. record_more _ _ (items_in i) at x (items_taken i at within) _
-          (c.loop-at.invariant names known standing classes) (rule_named c.args.types.now w.in-Some.rule) _ (rw w.in-Some.is at c.in_ok-rule.ensures (items_in i) names known standing classes row) (one_more c.args.types.now c.loop-at.rules.items _ w.in-Some.rule w.in_ok-push.ensures.items))
-      | in_default w ↦ rw w.rules-is (λ names known standing classes. none_more _ _ (items_in i) at x (items_taken i at within) _
-          (c.loop-at.invariant names known standing classes) (rw w.in_default.is at c.in_ok-rule.ensures (items_in i) names known standing classes row))
-    ]
+    let row = c.row-words.ensures (map (row_in k) (items_in i)) (row_in k x) c.requires.table (slice_get-map (row_in k) (items_in i) at ∙ ap (option_map (row_in k)) (item_there i at within)) in
+    λ names known apart standing classes given. more_behind _ _ (items_in i) at x (items_taken i at within) _ _ (c.loop-at.invariant names known apart standing classes given)
+    (c.in_ok-push_rules.ensures (items_in i) names known apart standing classes given row)
 
 pub returns : goal.returns
-returns c = λ names known standing classes.
+returns c = λ names known apart standing classes given.
     let k = c.args.known.now in
     let xs = items_in c.args.instances.now in
     let over : length xs ≤ c.loop-at.at = let f = c.loop-at-test.false in let n = c.len-at-end.ensures.items in omega (arith, f, n) in
-    all_records (CaseBy xs (enabled_in k)) (IsRuleOf xs (enabled_in k) (names kinds.Type_) c.args.classes.now) xs c.loop-at.at (map (rule_named c.args.types.now) c.loop-at.rules.items) (c.loop-at.invariant names known standing classes) over
+    all_records (CaseBy xs (enabled_in k) c.args.keyword) (IsRuleOf xs (enabled_in k) (names kinds.Type_) c.args.classes.now) xs c.loop-at.at (map (rule_named c.args.types.now) c.loop-at.rules.items) (c.loop-at.invariant names known apart standing classes given) over

@@ -5,11 +5,14 @@ use Rattle.cil_macros.specs.Items.{items_in}
 use Rattle.cil_rules.specs.Kept.{rule_named}
 use Rattle.cil_rules.specs.Records.{IsRuleOf, CaseBy}
 use Rattle.cil_classes.specs.ClassRows.{AreClasses}
+use Rattle.cil_classes.specs.Held.{IsAssigned}
+use Rattle.cil_names.specs.Numbers.{AreApart}
 use Rattle.cil_names.specs.Known.{AreStanding, IsKnown, enabled_in}
 use Rattle.cil_base.specs.Records.{AreRecordsOf}
 use Rattle.cil_rules.proofs.rules.rules_of.Given as goal
 
 abbrev pub invariant-loop-at : goal.invariant-loop-at
-invariant-loop-at l = (names : Kind → List (List ℕ)) → IsKnown l.known (items_in l.instances) names → AreStanding l.known (items_in l.instances) names kinds.Type_ l.types → AreClasses (items_in l.instances) (enabled_in l.known) (names kinds.Class) l.classes
-    → AreRecordsOf (CaseBy (items_in l.instances) (enabled_in l.known)) (IsRuleOf (items_in l.instances) (enabled_in l.known) (names kinds.Type_) l.classes)
+invariant-loop-at l = (names : Kind → List (List ℕ)) → IsKnown l.known (items_in l.instances) names → AreApart l.known.lookup.names.now (enabled_in l.known) l.known.numbers.now
+    → AreStanding l.known (items_in l.instances) names kinds.Type_ l.types → AreClasses (items_in l.instances) (enabled_in l.known) (names kinds.Class) l.classes → IsAssigned l.known (items_in l.instances) l.classes l.given
+    → AreRecordsOf (CaseBy (items_in l.instances) (enabled_in l.known) l.keyword) (IsRuleOf (items_in l.instances) (enabled_in l.known) (names kinds.Type_) l.classes)
     (take l.at (items_in l.instances)) (map (rule_named l.types) l.rules.items)

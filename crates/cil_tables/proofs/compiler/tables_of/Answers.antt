@@ -7,10 +7,7 @@ use Rattle.cil_macros.specs.Items.{items_in}
 use Rattle.cil_names.specs.Entries.{is_in}
 use Rattle.cil_names.specs.Numbers.{AreApart, AreNumbers, names_of}
 use Rattle.cil_classes.specs.declared.row.Class.{Class}
-use Rattle.cil_base.specs.Gives.{Gives}
-use Rattle.cil_syntax.specs.declared.kind.Keyword.TheVariants as keywords
-use Rattle.cil_rules.specs.Records.{IsCase, IsRuleOf}
-use Rattle.cil_rules.specs.Order.{rule_cmp}
+use Rattle.cil_tables.specs.Compiled.{AreRules}
 use Rattle.cil_classes.specs.ClassRows.{AreClasses}
 use Rattle.cil_names.specs.Known.{AreKnown}
 use Rattle.cil_tables.proofs.JoinLemmas.{table_of}
@@ -44,18 +41,44 @@ judged_sets-requires-clause-numbers c = c.as_slice.ensures.value
 pub judged_sets-requires-clause-apart : goal.judged_sets-requires-clause-apart
 judged_sets-requires-clause-apart c = subst (AreApart c.args.lookup.now.names.now (is_in c.args.lookup.now.enabled.now)) (sym c.as_slice.ensures.value) (c.in_ok-numbering.ensures.apart c.requires.plain)
 
+pub given_permissions-requires-clause-rows : goal.given_permissions-requires-clause-rows
+given_permissions-requires-clause-rows c = λ row member.
+    let k = class_of_row c.args.lookup.now.namespaces.now (items_in c.args.instances.now) c.args.lookup.now.names.now c.requires.entries (is_in c.args.lookup.now.enabled.now) c.in_ok-numbering.numbering.sections c.in_ok-numbering.numbering.numbers.items c.in_ok-numbering.ensures.numbers (c.in_ok-numbering.ensures.apart c.requires.plain) c.args.permissions.now c.requires.permissions c.in_ok-judged.judged.first.rows.items c.in_ok-judged.ensures.0.0 row
+    (subst (λ (rows : List Class). Contains rows row) c.as_slice-rows.ensures.value member) in
+    record { permissions = k.2.permissions.rising; few = few (items_in c.args.instances.now) (is_in c.args.lookup.now.enabled.now) (λ f e. c.in_ok-judged.ensures.1 f (inl e)) k.0 row k.1 k.2 }
+
+pub given_permissions-requires-clause-known : goal.given_permissions-requires-clause-known
+given_permissions-requires-clause-known c =
+    let known : AreKnown c.args.lookup.now.namespaces.now (items_in c.args.instances.now) c.args.lookup.now.names.now (is_in c.args.lookup.now.enabled.now) (names_of c.in_ok-numbering.numbering.sections) c.as_slice.result.now c.args.permissions.now =
+    record {
+      namespaces = c.are_namespaces.ensures;
+      entries = c.requires.entries;
+      numbered = subst (AreNumbers c.args.lookup.now.namespaces.now c.args.lookup.now.names.now (is_in c.args.lookup.now.enabled.now) (names_of c.in_ok-numbering.numbering.sections)) (sym c.as_slice.ensures.value) c.in_ok-numbering.ensures.numbers;
+      permissions = c.requires.permissions;
+    } in
+    let classes : AreClasses (items_in c.args.instances.now) (is_in c.args.lookup.now.enabled.now) c.in_ok-numbering.numbering.sections.classes.items c.as_slice-rows.result.now =
+    subst (AreClasses (items_in c.args.instances.now) (is_in c.args.lookup.now.enabled.now) c.in_ok-numbering.numbering.sections.classes.items) (sym c.as_slice-rows.ensures.value)
+    (classes_are c.args.lookup.now.namespaces.now (items_in c.args.instances.now) c.args.lookup.now.names.now c.requires.entries (is_in c.args.lookup.now.enabled.now) c.in_ok-numbering.numbering.sections c.in_ok-numbering.numbering.numbers.items c.in_ok-numbering.ensures.numbers (c.in_ok-numbering.ensures.apart c.requires.plain) c.args.permissions.now c.requires.permissions c.in_ok-judged.judged.first.rows.items c.in_ok-judged.ensures.0.0) in
+    (names_of c.in_ok-numbering.numbering.sections, known, classes)
+
+pub given_permissions-requires-clause-apart : goal.given_permissions-requires-clause-apart
+given_permissions-requires-clause-apart c = subst (AreApart c.args.lookup.now.names.now (is_in c.args.lookup.now.enabled.now)) (sym c.as_slice.ensures.value) (c.in_ok-numbering.ensures.apart c.requires.plain)
+
 pub given_of-requires-clause-ordered : goal.given_of-requires-clause-ordered
 given_of-requires-clause-ordered c = c.requires.entries.ordered
+
+pub given_of-requires-clause-nodes : goal.given_of-requires-clause-nodes
+given_of-requires-clause-nodes c = c.in_ok-held.ensures.nodes_rise
 
 pub given_of-requires-clause-rising : goal.given_of-requires-clause-rising
 given_of-requires-clause-rising c = λ row member.
     rows_rise c.args.lookup.now.namespaces.now (items_in c.args.instances.now) c.args.lookup.now.names.now c.requires.entries (is_in c.args.lookup.now.enabled.now) c.in_ok-numbering.numbering.sections c.in_ok-numbering.numbering.numbers.items c.in_ok-numbering.ensures.numbers (c.in_ok-numbering.ensures.apart c.requires.plain) c.args.permissions.now c.requires.permissions c.in_ok-judged.judged.first.rows.items c.in_ok-judged.ensures.0.0 row
-    (subst (λ (rows : List Class). Contains rows row) c.as_slice-2.ensures.value member)
+    (subst (λ (rows : List Class). Contains rows row) c.as_slice-rows.ensures.value member)
 
 pub given_of-requires-clause-few : goal.given_of-requires-clause-few
 given_of-requires-clause-few c = λ row member.
     let k = class_of_row c.args.lookup.now.namespaces.now (items_in c.args.instances.now) c.args.lookup.now.names.now c.requires.entries (is_in c.args.lookup.now.enabled.now) c.in_ok-numbering.numbering.sections c.in_ok-numbering.numbering.numbers.items c.in_ok-numbering.ensures.numbers (c.in_ok-numbering.ensures.apart c.requires.plain) c.args.permissions.now c.requires.permissions c.in_ok-judged.judged.first.rows.items c.in_ok-judged.ensures.0.0 row
-    (subst (λ (rows : List Class). Contains rows row) c.as_slice-2.ensures.value member) in
+    (subst (λ (rows : List Class). Contains rows row) c.as_slice-rows.ensures.value member) in
     few (items_in c.args.instances.now) (is_in c.args.lookup.now.enabled.now) (λ f e. c.in_ok-judged.ensures.1 f (inl e)) k.0 row k.1 k.2
 
 pub invariant_of-result : goal.invariant_of-result
@@ -67,10 +90,11 @@ invariant_of-result c =
       numbered = subst (AreNumbers c.args.lookup.now.namespaces.now c.args.lookup.now.names.now (is_in c.args.lookup.now.enabled.now) (names_of c.in_ok-numbering.numbering.sections)) (sym c.as_slice.ensures.value) c.in_ok-numbering.ensures.numbers;
       permissions = c.requires.permissions;
     } in
-    let classes : AreClasses (items_in c.args.instances.now) (is_in c.args.lookup.now.enabled.now) c.in_ok-numbering.numbering.sections.classes.items c.as_slice-2.result.now =
-    subst (AreClasses (items_in c.args.instances.now) (is_in c.args.lookup.now.enabled.now) c.in_ok-numbering.numbering.sections.classes.items) (sym c.as_slice-2.ensures.value)
+    let classes : AreClasses (items_in c.args.instances.now) (is_in c.args.lookup.now.enabled.now) c.in_ok-numbering.numbering.sections.classes.items c.as_slice-rows.result.now =
+    subst (AreClasses (items_in c.args.instances.now) (is_in c.args.lookup.now.enabled.now) c.in_ok-numbering.numbering.sections.classes.items) (sym c.as_slice-rows.ensures.value)
     (classes_are c.args.lookup.now.namespaces.now (items_in c.args.instances.now) c.args.lookup.now.names.now c.requires.entries (is_in c.args.lookup.now.enabled.now) c.in_ok-numbering.numbering.sections c.in_ok-numbering.numbering.numbers.items c.in_ok-numbering.ensures.numbers (c.in_ok-numbering.ensures.apart c.requires.plain) c.args.permissions.now c.requires.permissions c.in_ok-judged.judged.first.rows.items c.in_ok-judged.ensures.0.0) in
-    let given = c.in_ok-given.ensures (names_of c.in_ok-numbering.numbering.sections) known (c.in_ok-judged.ensures.0.1) classes in
+    let apart = subst (AreApart c.args.lookup.now.names.now (is_in c.args.lookup.now.enabled.now)) (sym c.as_slice.ensures.value) (c.in_ok-numbering.ensures.apart c.requires.plain) in
+    let given = c.in_ok-given.ensures (names_of c.in_ok-numbering.numbering.sections) known apart (c.in_ok-judged.ensures.0.1) classes c.in_ok-held.ensures in
     record {
       users = subst (IsStrictlySortedBy text_cmp) (sym c.from_vec.ensures) (c.in_ok-numbering.ensures.numbers.lists kinds.User refl).rising;
       roles = subst (IsStrictlySortedBy text_cmp) (sym c.from_vec-2.ensures) (c.in_ok-numbering.ensures.numbers.lists kinds.Role refl).rising;
@@ -94,10 +118,11 @@ returns c =
       permissions = c.requires.permissions;
     } in
     let names = names_are c.args.lookup.now.namespaces.now (items_in c.args.instances.now) c.args.lookup.now.names.now c.requires.entries (is_in c.args.lookup.now.enabled.now) in
-    let classes : AreClasses (items_in c.args.instances.now) (is_in c.args.lookup.now.enabled.now) c.in_ok-numbering.numbering.sections.classes.items c.as_slice-2.result.now =
-    subst (AreClasses (items_in c.args.instances.now) (is_in c.args.lookup.now.enabled.now) c.in_ok-numbering.numbering.sections.classes.items) (sym c.as_slice-2.ensures.value)
+    let classes : AreClasses (items_in c.args.instances.now) (is_in c.args.lookup.now.enabled.now) c.in_ok-numbering.numbering.sections.classes.items c.as_slice-rows.result.now =
+    subst (AreClasses (items_in c.args.instances.now) (is_in c.args.lookup.now.enabled.now) c.in_ok-numbering.numbering.sections.classes.items) (sym c.as_slice-rows.ensures.value)
     (classes_are c.args.lookup.now.namespaces.now (items_in c.args.instances.now) c.args.lookup.now.names.now c.requires.entries (is_in c.args.lookup.now.enabled.now) c.in_ok-numbering.numbering.sections c.in_ok-numbering.numbering.numbers.items c.in_ok-numbering.ensures.numbers (c.in_ok-numbering.ensures.apart c.requires.plain) c.args.permissions.now c.requires.permissions c.in_ok-judged.judged.first.rows.items c.in_ok-judged.ensures.0.0) in
-    let given = c.in_ok-given.ensures (names_of c.in_ok-numbering.numbering.sections) known (c.in_ok-judged.ensures.0.1) classes in (
+    let apart = subst (AreApart c.args.lookup.now.names.now (is_in c.args.lookup.now.enabled.now)) (sym c.as_slice.ensures.value) (c.in_ok-numbering.ensures.apart c.requires.plain) in
+    let given = c.in_ok-given.ensures (names_of c.in_ok-numbering.numbering.sections) known apart (c.in_ok-judged.ensures.0.1) classes c.in_ok-held.ensures in (
       table_of (items_in c.args.instances.now) (is_in c.args.lookup.now.enabled.now) (names_of c.in_ok-numbering.numbering.sections) _ _ _ _ c.in_ok-judged.judged.first.rows.items _ _ _
           c.from_vec.ensures c.from_vec-2.ensures c.from_vec-3.ensures
           (names kinds.User _ (c.in_ok-numbering.ensures.numbers.lists kinds.User refl)) (names kinds.Role _ (c.in_ok-numbering.ensures.numbers.lists kinds.Role refl))
@@ -105,7 +130,7 @@ returns c =
           given.type_aliases
           (classes_given c.args.lookup.now.namespaces.now (items_in c.args.instances.now) c.args.lookup.now.names.now c.requires.entries (is_in c.args.lookup.now.enabled.now) c.in_ok-numbering.numbering.sections c.in_ok-numbering.numbering.numbers.items c.in_ok-numbering.ensures.numbers (c.in_ok-numbering.ensures.apart c.requires.plain) c.args.permissions.now c.requires.permissions c.in_ok-judged.judged.first.rows.items c.in_ok-judged.ensures.0.0)
           given.user_roles given.role_types
-          (subst (λ (rows : List Class). Gives rule_cmp (IsCase (items_in c.args.instances.now) (is_in c.args.lookup.now.enabled.now) keywords.Allow) (IsRuleOf (items_in c.args.instances.now) (is_in c.args.lookup.now.enabled.now) (names_of c.in_ok-numbering.numbering.sections kinds.Type_) rows) c.in_ok-given.given.allow)
-          c.as_slice-2.ensures.value given.allow),
+          (subst (λ (rows : List Class). AreRules (items_in c.args.instances.now) (is_in c.args.lookup.now.enabled.now) (names_of c.in_ok-numbering.numbering.sections kinds.Type_) rows c.in_ok-given.given.rules)
+          c.as_slice-rows.ensures.value given.rules),
       c.in_ok-judged.ensures.1,
     )

@@ -1,11 +1,13 @@
-use Rattle.std.proofs.Common.{ap, subst, sym, ◌∙◌}
+use Rattle.std.proofs.Common.{ap, map, subst, sym, ◌∙◌}
 use Rattle.std.specs.Ordering.{nat_cmp}
 use Rattle.std.proofs.lemmas.Bool.{true≢false}
 use Rattle.cil_base.specs.Lists.{Lists}
 use Rattle.cil_syntax.specs.Said.{args_of}
 use Rattle.cil_macros.specs.Items.{item_at, says_as_written, word_at}
 use Rattle.cil_macros.proofs.ItemsThere.{keyword_there, said_there}
-use Rattle.cil_names.specs.Known.{HasNumberFor, enabled_in, meant_in, set_meant}
+use Rattle.cil_names.specs.Known.{HasNumberFor, enabled_in, meant_in, set_meant, value_in}
+use Rattle.cil_names.specs.Resolves.{is_mapping}
+use Rattle.cil_names.proofs.ReadingLemmas.{plain_said}
 use Rattle.cil_tables.proofs.LinkLemmas.{first_means, joins_all, left_out, no_held, no_holder, other_keyword, other_terms, second_means}
 use Rattle.cil_tables.proofs.links.joined_at.Goals as goal
 
@@ -30,7 +32,7 @@ returns-in_err-_words c =
 pub returns-in_err-first : goal.returns-in_err-first
 returns-in_err-first c =
     rw c.from_residual-in_err-first.ensures
-    (λ xs names known some others are.
+    (λ xs names known some others row.
     let k = c.args.known.now in
     let i = c.args.instances.now in
     let s = c.statement_there-statement.result.now in
@@ -38,6 +40,7 @@ returns-in_err-first c =
     let f = word_at i c.args.at in
     let j = c.args.joins in
     let says = said_there i c.args.at s c.statement_there-statement.ensures.is c.statement_there-statement.ensures.words (ap says_as_written (c.same_keyword.ensures.0 c.if-not-same_keyword.false) ∙ c.requires.written) in
+    let are = row ∙ ap (map (value_in k)) (plain_said x.keyword x.args (ap is_mapping (keyword_there i c.args.at s c.statement_there-statement.ensures.is ∙ c.same_keyword.ensures.0 c.if-not-same_keyword.false) ∙ c.requires.plain)) in
     let first = c.in_ok-_words._words.first in
     let second = c.in_ok-_words._words.second in
     no_holder xs k j.keyword j.holder_kind j.held_kind (names j.holder_kind) (names j.held_kind) x f (args_of s) says first second c.in_ok-_words.ensures (set_meant c.args.holders.now c.meaning_at.result)
@@ -50,7 +53,7 @@ returns-in_err-first c =
 pub returns-in_err-second : goal.returns-in_err-second
 returns-in_err-second c =
     rw c.from_residual-in_err-second.ensures
-    (λ xs names known some others are.
+    (λ xs names known some others row.
     let k = c.args.known.now in
     let i = c.args.instances.now in
     let s = c.statement_there-statement.result.now in
@@ -58,6 +61,7 @@ returns-in_err-second c =
     let f = word_at i c.args.at in
     let j = c.args.joins in
     let says = said_there i c.args.at s c.statement_there-statement.ensures.is c.statement_there-statement.ensures.words (ap says_as_written (c.same_keyword.ensures.0 c.if-not-same_keyword.false) ∙ c.requires.written) in
+    let are = row ∙ ap (map (value_in k)) (plain_said x.keyword x.args (ap is_mapping (keyword_there i c.args.at s c.statement_there-statement.ensures.is ∙ c.same_keyword.ensures.0 c.if-not-same_keyword.false) ∙ c.requires.plain)) in
     let first = c.in_ok-_words._words.first in
     let second = c.in_ok-_words._words.second in
     no_held xs k j.keyword j.holder_kind j.held_kind (names j.holder_kind) (names j.held_kind) x f (args_of s) says first second c.in_ok-_words.ensures (set_meant c.args.holders.now (meant_in k (f first)))
@@ -69,7 +73,7 @@ returns-in_err-second c =
 
 pub returns : goal.returns
 returns c =
-    λ xs names known some others are.
+    λ xs names known some others row.
     let k = c.args.known.now in
     let i = c.args.instances.now in
     let s = c.statement_there-statement.result.now in
@@ -78,6 +82,7 @@ returns c =
     let j = c.args.joins in
     let is = c.same_keyword.ensures.0 c.if-not-same_keyword.false in
     let says = said_there i c.args.at s c.statement_there-statement.ensures.is c.statement_there-statement.ensures.words (ap says_as_written is ∙ c.requires.written) in
+    let are = row ∙ ap (map (value_in k)) (plain_said x.keyword x.args (ap is_mapping (keyword_there i c.args.at s c.statement_there-statement.ensures.is ∙ c.same_keyword.ensures.0 c.if-not-same_keyword.false) ∙ c.requires.plain)) in
     let first = c.in_ok-_words._words.first in
     let second = c.in_ok-_words._words.second in
     joins_all xs k j.keyword j.holder_kind j.held_kind (names j.holder_kind) (names j.held_kind) x f (args_of s) says first second c.in_ok-_words.ensures c.in_ok-first.first.now c.in_ok-second.second.now

@@ -5,7 +5,7 @@ use Rattle.cil_names.specs.Known.{AreStanding, HaveMembers}
 use Rattle.cil_tables.proofs.sections.given_of.Goals as goal
 
 pub returns : goal.returns
-returns c = λ names known stand classes.
+returns c = λ names known apart stand classes given.
     let k = c.args.known.now in
     let xs = items_in c.args.instances.now in
     let users = subst (AreStanding k xs names kinds.User) (sym c.as_slice-users.ensures.value) stand.users in
@@ -15,5 +15,5 @@ returns c = λ names known stand classes.
       user_roles = c.in_ok-user_roles.ensures names known users roles;
       role_types = c.in_ok-role_types.ensures names known roles types;
       type_aliases = c.in_ok-type_aliases.ensures xs names known (subst (HaveMembers k xs names kinds.Type_) (sym c.as_slice-types.ensures.value) stand.aliases);
-      allow = c.in_ok-allow.ensures names known types classes;
+      rules = c.in_ok-rules.ensures names known apart types classes given;
     }

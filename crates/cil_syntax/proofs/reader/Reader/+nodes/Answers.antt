@@ -11,7 +11,7 @@ use Rattle.cil_syntax.proofs.ItemsRead.{more_read, stop_told, all_read, many_mor
 use Rattle.cil_syntax.proofs.Laid.{first_told, second_told, first_row_told, second_row_told, led_told, not_led_told, statements_told}
 use Rattle.cil_syntax.proofs.Behind.{short_told, first_stops, second_stops, then_told}
 use Rattle.cil_syntax.proofs.Expressed.{untagged_told, tagged_told, tagged_stops}
-use Rattle.cil_syntax.proofs.Unread.{unread_told, text_told, anything_told}
+use Rattle.cil_syntax.proofs.Unread.{unread_told, object_told, anything_told}
 use Rattle.cil_syntax.specs.Around.{space_of}
 use Rattle.cil_syntax.proofs.reader.Reader.+nodes.Goals as goal
 
@@ -77,10 +77,10 @@ read_node-returns-in-Unread t c =
     unread_told c.args.self.now.number (space_of c.args.self.now.place.now) (node_of c.args.self.now.text.now c.args.node.now) c.args.shape.now _ _ c.keep.result c.in-Unread.is
     (c.keep.ensures c.args.faults.now.items)
 
-pub read_node-returns-in-AnyText : goal.read_node-returns-in-AnyText
-read_node-returns-in-AnyText t c =
-    text_told c.args.self.now.number (space_of c.args.self.now.place.now) (node_of c.args.self.now.text.now c.args.node.now) c.args.shape.now _ _ c.keep_text.result c.in-AnyText.is
-    (c.keep_text.ensures c.args.faults.now.items)
+pub read_node-returns-in-ObjectName : goal.read_node-returns-in-ObjectName
+read_node-returns-in-ObjectName t c =
+    object_told c.args.self.now.number (space_of c.args.self.now.place.now) (node_of c.args.self.now.text.now c.args.node.now) c.args.shape.now _ _ c.keep_name.result c.in-ObjectName.is
+    (c.keep_name.ensures c.args.faults.now.items)
 
 pub read_row-returns-in-Anything : goal.read_row-returns-in-Anything
 read_row-returns-in-Anything t c = anything_told c.args.self.now.number (space_of c.args.self.now.place.now) _ c.args.row.now _ c.new.result c.in-Anything.is c.new.ensures.items

@@ -1,0 +1,33 @@
+use Rattle.std.specs.Prelude.{option_map}
+use Rattle.std.proofs.Common.{◌<◌, ◌≤◌, ◌∙◌, ap, length, map, arith}
+use Rattle.std.proofs.lemmas.Option.{slice_get-map}
+use Rattle.cil_base.specs.Places.{get_contains}
+use Rattle.cil_macros.specs.Items.{item_at, items_in}
+use Rattle.cil_macros.proofs.ItemLemmas.{item_there, items_taken}
+use Rattle.cil_names.specs.Known.{row_in}
+use Rattle.cil_base.proofs.RecordLemmas.{all_records, none_more, record_more}
+use Rattle.cil_classes.proofs.givens.givens_of.Goals as goal
+use Rattle.cil_classes.proofs.givens.givens_of.Goals.{in-Some+in_ok-push, in_default}
+
+pub loop-at-preserved : goal.loop-at-preserved
+loop-at-preserved c =
+    let k = c.args.known.now in
+    let i = c.args.instances.now in
+    let at = c.loop-at.at in
+    let within : at < length (items_in i) = let t = c.loop-at-test.true in let n = c.len-at-end.ensures.items in omega (arith, t, n) in
+    let x = item_at i at in
+    let there = item_there i at within in
+    let among = get_contains (items_in i) at x there in
+    let row = c.row.ensures (map (row_in k) (items_in i)) (row_in k x) c.requires.table (slice_get-map (row_in k) (items_in i) at ∙ ap (option_map (row_in k)) there) in
+    elim c.match-branch-2.branch [
+      | in-Some+in_ok-push w ↦ rw w.givens-is (λ names known apart classes nodes all. record_more _ _ (items_in i) at x (items_taken i at within) _
+          (c.loop-at.invariant names known apart classes nodes all) w.in-Some.given _ (rw w.in-Some.is at c.in_ok-given.ensures (items_in i) names known apart classes nodes all among row) w.in_ok-push.ensures.items)
+      | in_default w ↦ rw w.givens-is (λ names known apart classes nodes all. none_more _ _ (items_in i) at x (items_taken i at within) _
+          (c.loop-at.invariant names known apart classes nodes all) (rw w.in_default.is at c.in_ok-given.ensures (items_in i) names known apart classes nodes all among row))
+    ]
+
+pub returns : goal.returns
+returns c = λ names known apart classes nodes all.
+    let i = c.args.instances.now in
+    let over : length (items_in i) ≤ c.loop-at.at = let t = c.loop-at-test.false in let n = c.len-at-end.ensures.items in omega (arith, t, n) in
+    all_records _ _ (items_in i) c.loop-at.at _ (c.loop-at.invariant names known apart classes nodes all) over

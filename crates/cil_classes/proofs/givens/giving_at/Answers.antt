@@ -1,0 +1,36 @@
+use Rattle.std.proofs.Common.{ap, sym, ◌∙◌}
+use Rattle.std.proofs.lemmas.Bool.{true≢false}
+use Rattle.cil_macros.specs.Items.{item_at, says_as_written, word_at}
+use Rattle.cil_macros.proofs.ItemsThere.{keyword_there, said_there}
+use Rattle.cil_names.specs.Known.{enabled_in}
+use Rattle.cil_classes.proofs.GivingLemmas.{not_enabled, other_statement}
+use Rattle.cil_classes.proofs.givens.giving_at.Goals as goal
+
+pub returns-then-not-is_enabled : goal.returns-then-not-is_enabled
+returns-then-not-is_enabled c = λ xs names known are.
+    not_enabled xs (enabled_in c.args.known.now) (item_at c.args.instances.now c.args.at) (sym c.is_enabled.ensures ∙ c.if-not-is_enabled.true)
+
+pub returns-then-same_keyword : goal.returns-then-same_keyword
+returns-then-same_keyword c = λ xs names known are.
+    let i = c.args.instances.now in
+    let s = c.statement_there-statement.result.now in
+    let keyword = keyword_there i c.args.at s c.statement_there-statement.ensures.is in
+    let is = c.same_keyword.ensures.0 c.if-same_keyword.true in
+    let says = said_there i c.args.at s c.statement_there-statement.ensures.is c.statement_there-statement.ensures.words (ap says_as_written is) in
+    c.set_giving.ensures xs names (item_at i c.args.at) (word_at i c.args.at) known (sym c.is_enabled.ensures ∙ c.if-not-is_enabled.false) (keyword ∙ is) says are
+
+pub returns-then-same_keyword-2 : goal.returns-then-same_keyword-2
+returns-then-same_keyword-2 c = λ xs names known are.
+    let i = c.args.instances.now in
+    let s = c.statement_there-statement.result.now in
+    let keyword = keyword_there i c.args.at s c.statement_there-statement.ensures.is in
+    let is = c.same_keyword-2.ensures.0 c.if-same_keyword-2.true in
+    let says = said_there i c.args.at s c.statement_there-statement.ensures.is c.statement_there-statement.ensures.words (ap says_as_written is) in
+    c.mapping_giving.ensures xs names (item_at i c.args.at) (word_at i c.args.at) known (sym c.is_enabled.ensures ∙ c.if-not-is_enabled.false) (keyword ∙ is) says are
+
+pub returns : goal.returns
+returns c = λ xs names known are.
+    let i = c.args.instances.now in
+    let there = keyword_there i c.args.at c.statement_there-statement.result.now c.statement_there-statement.ensures.is in
+    other_statement xs (enabled_in c.args.known.now) (item_at i c.args.at) (λ e. true≢false (sym (c.same_keyword.ensures.1 (sym there ∙ e)) ∙ c.if-same_keyword.false))
+    (λ e. true≢false (sym (c.same_keyword-2.ensures.1 (sym there ∙ e)) ∙ c.if-same_keyword-2.false))

@@ -1,0 +1,249 @@
+//! What the statements of a policy give to class permissions and to permissions of class maps, by numbers.
+
+ghost use Rattle.std.specs.Prelude.{◌≡◌, ◌<◌, ℕ, Contains, IfOk, List, MatchOption, None, Some, length, map, true};
+ghost use Rattle.std.specs.List.Sorted.{IsStrictlySortedBy};
+ghost use Rattle.cil_base.specs.Records.{AreRecordsOf, IsRecordOf};
+ghost use Rattle.cil_syntax.specs.declared.kind.Keyword.TheVariants as keywords;
+ghost use Rattle.cil_syntax.specs.declared.kind.Kind as kinds;
+ghost use Rattle.cil_syntax.specs.declared.kind.Kind.TheVariants as variants;
+ghost use Rattle.cil_syntax.specs.declared.term.Word.{Word as AWord};
+ghost use Rattle.cil_syntax.specs.Forms.{word_and_term};
+ghost use Rattle.cil_syntax.specs.Said.{all_said, args_of, said_of};
+ghost use Rattle.cil_syntax.specs.Scopes.{ScopedWord};
+ghost use Rattle.cil_syntax.specs.Terms.{Leaf, cons, nil};
+ghost use Rattle.cil_macros.proofs.FormLemmas.{all_across};
+ghost use Rattle.cil_macros.specs.Item.{Item, is_enabled};
+ghost use Rattle.cil_macros.specs.Items.{item_at, items_in, word_at};
+ghost use Rattle.cil_names.specs.Known.{IsKnown, enabled_in, row_in};
+ghost use Rattle.cil_names.specs.Numbers.{AreApart};
+ghost use Rattle.cil_names.specs.Rows.{IsTableOf};
+ghost use Rattle.cil_classes.specs.ClassRows.{AreClasses};
+ghost use Rattle.cil_classes.specs.Givings.{Gift, GivesTo, HaveNodes, IsGivenFor, IsGivingOf, IsNodeFor};
+ghost use Rattle.cil_classes.specs.NodeOrder.{node_cmp};
+ghost use Rattle.cil_classes.specs.Parts.{AreNodes};
+ghost use Rattle.cil_classes.specs.Row.{AreOrderlyRows};
+
+use crate::assigned::Given;
+use crate::nodes::{Node, place_of};
+use crate::parts::{entry_of, part_of};
+use crate::row::Class;
+use crate::widths::listed_count;
+use cil_base::NoMemory;
+use cil_macros::Instances;
+use cil_names::{Known, Meaning, behind_first, laws, meaning_at, same_keyword};
+use cil_syntax::{Keyword, Kind, Statement, Term, Word};
+use std::alloc::Global;
+
+/// What a statement gives.
+#[derive(Clone, Copy)]
+pub struct Giving<'t, 'a, 's> {
+    /// To what.
+    pub node: Node,
+    /// The class permission that gives it.
+    pub term: &'t Term<'a>,
+    /// The module of the statement.
+    pub module: u64,
+    /// Meanings that begin with those of the words of the term.
+    pub words: &'s [Meaning],
+}
+
+/// The nodes of all to which enabled statements give something: rising, each once. A statement costs a few steps; at the end the
+/// nodes are sorted. Error: out of memory.
+pub fn nodes_of(alloc: Global, instances: &Instances, known: &Known) -> Result<Vec<Node>, NoMemory>
+    requires table { IsTableOf (map (row_in known.now) (items_in instances.now)) known.now.words.now }
+    ensures rising { IfOk result (λ nodes. IsStrictlySortedBy node_cmp nodes.items) }
+    ensures nodes { IfOk result (λ nodes. (names : kinds.Kind → List (List ℕ)) → IsKnown known.now (items_in instances.now) names → AreNodes known.now nodes.items) }
+    ensures all { IfOk result (λ nodes. (names : kinds.Kind → List (List ℕ)) → IsKnown known.now (items_in instances.now) names → HaveNodes known.now (items_in instances.now) nodes.items) }
+{
+    let mut nodes = unsorted(alloc, instances, known)?;
+    nodes.sort_unstable();
+    nodes.dedup();
+    Ok(nodes)
+}
+
+/// The same, in the order of the statements.
+fn unsorted(alloc: Global, instances: &Instances, known: &Known) -> Result<Vec<Node>, NoMemory>
+    requires table { IsTableOf (map (row_in known.now) (items_in instances.now)) known.now.words.now }
+    ensures { IfOk result (λ nodes. (names : kinds.Kind → List (List ℕ)) → IsKnown known.now (items_in instances.now) names
+        → AreRecordsOf (GivesTo (items_in instances.now) (enabled_in known.now)) (IsNodeFor known.now) (items_in instances.now) nodes.items) }
+{
+    let mut nodes = Vec::new(alloc);
+    for at in 0..instances.len() {
+        if let Some(giving) = giving_at(instances, at, known.words.row(at), known) {
+            nodes.push(giving.node)?;
+        }
+    }
+    Ok(nodes)
+}
+
+/// What enabled statements give, in their order, where each to which they give something has a node. Error: out of memory.
+pub fn givens_of(
+    alloc: Global,
+    instances: &Instances,
+    known: &Known,
+    classes: &[Class],
+    nodes: &[Node],
+) -> Result<Vec<Given>, NoMemory>
+    requires table { IsTableOf (map (row_in known.now) (items_in instances.now)) known.now.words.now }
+    requires rows { AreOrderlyRows classes.now }
+    requires rising { IsStrictlySortedBy node_cmp nodes.now }
+    ensures { IfOk result (λ givens. (names : kinds.Kind → List (List ℕ)) → IsKnown known.now (items_in instances.now) names
+        → AreApart known.now.lookup.names.now (enabled_in known.now) known.now.numbers.now
+        → AreClasses (items_in instances.now) (enabled_in known.now) (names variants.Class) classes.now → AreNodes known.now nodes.now → HaveNodes known.now (items_in instances.now) nodes.now
+        → AreRecordsOf (GivesTo (items_in instances.now) (enabled_in known.now)) (IsGivenFor known.now (items_in instances.now) classes.now nodes.now) (items_in instances.now) givens.items) }
+{
+    let mut givens = Vec::new(alloc);
+    for at in 0..instances.len() {
+        if let Some(given) = given_at(
+            alloc,
+            instances,
+            at,
+            known.words.row(at),
+            known,
+            classes,
+            nodes,
+        )? {
+            givens.push(given)?;
+        }
+    }
+    Ok(givens)
+}
+
+/// What the statement at a place gives, if it is an enabled one that gives something.
+fn given_at(
+    alloc: Global,
+    instances: &Instances,
+    at: usize,
+    words: &[Meaning],
+    known: &Known,
+    classes: &[Class],
+    nodes: &[Node],
+) -> Result<Option<Given>, NoMemory>
+    requires within { at < length (items_in instances.now) }
+    requires rows { AreOrderlyRows classes.now }
+    requires rising { IsStrictlySortedBy node_cmp nodes.now }
+    ensures { IfOk result (λ given. (xs : List Item) (names : kinds.Kind → List (List ℕ)) → IsKnown known.now xs names
+        → AreApart known.now.lookup.names.now (enabled_in known.now) known.now.numbers.now
+        → AreClasses xs (enabled_in known.now) (names variants.Class) classes.now → AreNodes known.now nodes.now → HaveNodes known.now xs nodes.now → Contains xs (item_at instances.now at)
+        → words.now ≡ row_in known.now (item_at instances.now at)
+        → IsRecordOf (GivesTo xs (enabled_in known.now)) (IsGivenFor known.now xs classes.now nodes.now) (item_at instances.now at) given) }
+{
+    let Some(giving) = giving_at(instances, at, words, known) else {
+        return Ok(None);
+    };
+    let Some(to) = place_of(nodes, giving.node) else {
+        return Ok(None);
+    };
+    let part = part_of(
+        alloc,
+        known,
+        classes,
+        nodes,
+        giving.term,
+        giving.module,
+        giving.words,
+    )?;
+    Ok(Some(Given { to, part }))
+}
+
+/// What the statement at a place gives, if it is an enabled one that gives something to a class permission or to a permission that
+/// its class map has. It costs no look-up.
+fn giving_at<'p, 'a, 's>(
+    instances: &Instances<'_, 'p, 'a>,
+    at: usize,
+    words: &'s [Meaning],
+    known: &Known,
+) -> Option<Giving<'p, 'a, 's>>
+    requires within { at < length (items_in instances.now) }
+    ensures { (xs : List Item) (names : kinds.Kind → List (List ℕ)) → IsKnown known.now xs names → words.now ≡ row_in known.now (item_at instances.now at)
+        → MatchOption result ((g : Gift) → GivesTo xs (enabled_in known.now) (item_at instances.now at) g → ⊥)
+        (IsGivingOf known.now xs (word_at instances.now at) (item_at instances.now at)) }
+{
+    let statement = instances.statement_there(at);
+    if !known.is_enabled(instances, at) {
+        return None;
+    }
+    if same_keyword(statement.keyword, Keyword::ClassPermissionSet) {
+        return set_giving(known, statement, words);
+    }
+    if same_keyword(statement.keyword, Keyword::ClassMapping) {
+        return mapping_giving(known, statement, words);
+    }
+    None
+}
+
+/// What a classpermissionset gives.
+fn set_giving<'p, 'a, 's>(
+    known: &Known,
+    statement: &'p Statement<'a>,
+    words: &'s [Meaning],
+) -> Option<Giving<'p, 'a, 's>>
+    ensures { (xs : List Item) (names : kinds.Kind → List (List ℕ)) (x : Item) (f : AWord → ScopedWord) → IsKnown known.now xs names → is_enabled (enabled_in known.now) x ≡ true
+        → x.keyword ≡ keywords.ClassPermissionSet → x.args ≡ all_across f (args_of statement.now) → words.now ≡ row_in known.now x
+        → MatchOption result ((g : Gift) → GivesTo xs (enabled_in known.now) x g → ⊥) (IsGivingOf known.now xs f x) }
+{
+    let module = statement.at.module;
+    let parts = set_parts(statement)?;
+    let entry = entry_of(known, Kind::ClassPermission, meaning_at(words, 0))?;
+    Some(Giving {
+        node: Node { entry, number: 0 },
+        term: parts.term,
+        module,
+        words: behind_first(words),
+    })
+}
+
+/// What a classmapping gives.
+fn mapping_giving<'p, 'a, 's>(
+    known: &Known,
+    statement: &'p Statement<'a>,
+    words: &'s [Meaning],
+) -> Option<Giving<'p, 'a, 's>>
+    ensures { (xs : List Item) (names : kinds.Kind → List (List ℕ)) (x : Item) (f : AWord → ScopedWord) → IsKnown known.now xs names → is_enabled (enabled_in known.now) x ≡ true
+        → x.keyword ≡ keywords.ClassMapping → x.args ≡ all_across f (args_of statement.now) → words.now ≡ row_in known.now x
+        → MatchOption result ((g : Gift) → GivesTo xs (enabled_in known.now) x g → ⊥) (IsGivingOf known.now xs f x) }
+{
+    let module = statement.at.module;
+    let parts = statement.rule_parts()?;
+    let _ = parts.target.word(module)?;
+    let entry = entry_of(known, Kind::ClassMap, meaning_at(words, 0))?;
+    let number = meaning_at(words, 1)?;
+    if number >= listed_count(known.permissions, entry) {
+        return None;
+    }
+    Some(Giving {
+        node: Node { entry, number },
+        term: parts.class_permission,
+        module,
+        words: behind_first(behind_first(words)),
+    })
+}
+
+/// A word and a class permission.
+#[derive(Drop)]
+struct SetParts<'t, 'a> {
+    word: Word<'a>,
+    term: &'t Term<'a>,
+}
+
+/// The word and the class permission of a classpermissionset.
+fn set_parts<'t, 'a>(statement: &'t Statement<'a>) -> Option<SetParts<'t, 'a>>
+    ensures { MatchOption result (word_and_term (args_of statement.now) ≡ None) (λ parts. args_of statement.now ≡ cons (Leaf parts.word) (cons (said_of statement.now.at.«module» parts.term.now) nil)) }
+{
+    two_terms(statement.args.as_slice(), statement.at.module)
+}
+
+/// A word and the one term behind it, in a statement of this module.
+fn two_terms<'t, 'a>(terms: &'t [Term<'a>], module: u64) -> Option<SetParts<'t, 'a>>
+    ensures { MatchOption result (word_and_term (all_said «module» terms.now) ≡ None) (λ parts. all_said «module» terms.now ≡ cons (Leaf parts.word) (cons (said_of «module» parts.term.now) nil)) }
+{
+    match terms {
+        [] => None,
+        [_] => None,
+        [first, term] => Some(SetParts {
+            word: first.word(module)?,
+            term,
+        }),
+        [_, _, _, ..] => None,
+    }
+}

@@ -1,0 +1,15 @@
+use Rattle.std.proofs.Common.{subst, sym}
+use Rattle.cil_syntax.specs.Around.{space_of}
+use Rattle.cil_syntax.specs.Told.{Tells}
+use Rattle.cil_syntax.proofs.Unread.{word_name, string_name}
+use Rattle.cil_syntax.proofs.reader.Reader.keep_name.Goals as goal
+
+pub returns-in-Word : goal.returns-in-Word
+returns-in-Word c faults =
+    let m = c.args.self.now.number in
+    subst (λ w. Tells m (space_of c.args.self.now.place.now) w faults faults c.keep_string.result) (sym (word_name m c.args.self.now.text.now c.args.node.now _ c.in-Word.is)) (c.keep_string.ensures faults)
+
+pub returns-in-Quoted : goal.returns-in-Quoted
+returns-in-Quoted c faults =
+    let m = c.args.self.now.number in
+    subst (λ w. Tells m (space_of c.args.self.now.place.now) w faults faults c.keep_string-in-Quoted.result) (sym (string_name m c.args.self.now.text.now c.args.node.now _ c.in-Quoted.is)) (c.keep_string-in-Quoted.ensures faults)
