@@ -48,8 +48,9 @@ const ARGUMENTS: &[(Op, &str, bool)] = &[
     (Op::ClassPermissionKind, "(call m ((c (p) (q))))", false),
     (Op::ClassPermissionKind, "(call m ((c (a.b))))", false),
     (Op::ClassPermissionKind, "(call m ((c (range p q))))", false),
-    // No name of a class permission is supported yet.
-    (Op::ClassPermissionKind, "(call m (p))", false),
+    // Or its name.
+    (Op::ClassPermissionKind, "(call m (p))", true),
+    (Op::ClassPermissionKind, "(call m (all))", false),
     // A set of categories.
     (Op::CategorySetKind, "(call m (c0))", true),
     (Op::CategorySetKind, "(call m (all))", true),
