@@ -1,6 +1,7 @@
 #!/usr/bin/env bash
-# What a decision costs by the number of rules on its class: instructions of `decide`, as callgrind counts them in sessions of
-# 2,000 AV. Only rules of one type on each side, then also rules of `self`. README.md says how to read the table.
+# What a decision costs by the number of allow rules on its class: instructions of its questions to the three sections of rules
+# (`Section::covered`; `decide` itself is no function of the program), as callgrind counts them in sessions of 2,000 AV. Only
+# rules of one type on each side, then also rules of `self`. README.md says how to read the table.
 . "$(dirname "$0")/session_common.sh"
 command -v valgrind >/dev/null || { echo "this script needs valgrind" >&2; exit 2; }
 
@@ -11,11 +12,11 @@ TYPES=5000
 policy() {
     awk -v rules="$1" -v form="$2" -v types="$TYPES" 'BEGIN {
         print "(class file (open read write))(user u)(role r)(userrole u r)"
-        for (t = 0; t < types; t++) printf "(type t%d)(roletype r t%d)\n", t, t
+        for (t = 0; t < types; t++) printf "(type ty%d)(roletype r ty%d)\n", t, t
         for (i = 0; i < rules; i++) {
-            target = "t" ((i * 7 + int(i / types)) % types)
+            target = "ty" ((i * 7 + int(i / types)) % types)
             if (form == "self" && i % 10 == 0) target = "self"
-            printf "(allow t%d %s (file (%s)))\n", i % types, target, i % 3 ? "read" : "open"
+            printf "(allow ty%d %s (file (%s)))\n", i % types, target, i % 3 ? "read" : "open"
         }
     }'
 }
@@ -27,12 +28,12 @@ questions() {
             rule = int(i * rules / 2000)
             source = rule % types
             target = i % 2 ? (rule * 7 + int(rule / types)) % types : (i * 31) % types
-            printf "AV u:r:t%d u:r:t%d file\n", source, target
+            printf "AV u:r:ty%d u:r:ty%d file\n", source, target
         }
     }'
 }
 
-# How often `decide` is called in the file $1 of callgrind, and the instructions of these calls with all that they call.
+# How many decisions the file $1 of callgrind has, and the instructions of their questions with all that these call.
 calls_of_decide() {
     awk '
         function named(line) {
@@ -46,9 +47,9 @@ calls_of_decide() {
         /^calls=/ {
             split($1, number, "=")
             getline
-            if (callee ~ /decision::decide/) { calls += number[2]; cost += $NF }
+            if (callee ~ /Section::covered/) { calls += number[2]; cost += $NF }
         }
-        END { print calls + 0, cost + 0 }' "$1"
+        END { print int(calls / 3), cost + 0 }' "$1"
 }
 
 printf '%-6s %8s %10s %12s %8s\n' form rules decisions 'one, ins.' growth
@@ -60,7 +61,7 @@ for form in plain self; do
         valgrind --tool=callgrind --callgrind-out-file="$work/calls" "$program" session <"$work/asked" >"$work/replies" 2>"$work/log"
         expect_no_refusal
         read -r calls cost <<<"$(calls_of_decide "$work/calls")"
-        [ "$calls" -gt 0 ] || { echo "no call of decide: it is no function of this program" >&2; exit 1; }
+        [ "$calls" -gt 0 ] || { echo "no call of Section::covered: it is no function of this program" >&2; exit 1; }
         one=$((cost / calls))
         growth=-
         if [ -n "$last" ]; then

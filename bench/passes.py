@@ -112,7 +112,7 @@ def main():
 
     two = Function(costs[placed], calls[placed])
     two.ends_with("declare", "gather::declare")
-    two.ends_with("commons_of", "shared::commons_of")
+    two.ends_with("commons_of", "shared::shared_at")
     two.ends_before("permissions_of", "worded::has_word")
     two.ends_before("asks_of", CHOOSING)
     two.ends_with("choosing", CHOOSING)
@@ -122,8 +122,8 @@ def main():
     two.ends("freeing names", len(two.calls) - 1)
 
     three = Function(costs[choosing], calls[choosing])
-    three.ends_before("guess: graph", "quicksort")
-    three.ends_with("guess: sorting", "quicksort")
+    three.ends_before("guess: graph", "edge::sort_edges")
+    three.ends_with("guess: sorting", "edge::sort_edges")
     three.ends_before("guess: settling", "counts::lookups_of")
     three.ends_with("lookups_of", "counts::lookups_of")
     three.ends("check", len(three.calls) - 1)
