@@ -33,8 +33,8 @@ ALL = 64_000_000
 # A policy may have so many types and roles (60), the role object_r among them.
 MOST_TYPES, MOST_ROLES = 65_535, 4_096
 
-# So many classes are to be the most; their number is not limited yet.
-MANY_CLASSES = 1_024
+# So many classes are the most, and so many booleans.
+MANY_CLASSES, MOST_BOOLEANS = 1_024, 4_096
 
 
 # ---- texts
@@ -211,8 +211,8 @@ def alike_heads(size):
 
 
 def branches(size):
-    """Branches without statements. They are not supported yet (22)."""
-    return filled(size, "", "(booleanif b(true)(false))", "")
+    """Branches without statements."""
+    return filled(size, "(boolean b true)", "(booleanif b(true)(false))", "")
 
 
 def deep_sets(size):
@@ -690,6 +690,96 @@ def class_rules(size):
     yield from filled(size, "", "(allow a a p)", "")
 
 
+# ---- booleans and neverallow
+
+BASE = "(user u)(class c(e f))"
+
+
+def many_booleans(size):
+    """Booleans, more than may be (60)."""
+    return numbered(size, lambda number: f"(boolean a{number:x} true)")
+
+
+def disjunction(size):
+    """A condition of one boolean, with as many words as there is room for; its lists nest some twenty deep."""
+    made = "b"
+    while 2 * len(made) + 6 <= size:
+        made = f"(or {made} {made})"
+    return made
+
+
+def long_condition(size):
+    """One rule in a branch, whose condition has a million words."""
+    return [f"{BASE}(type a0)(boolean b false)(booleanif {disjunction(size)}(false(allow a0 a0(c(e)))))"]
+
+
+def condition_rules(size):
+    """Half of it is one condition, and half the rules in its branch. Each has a set of its own as its source, all of them
+    with the type that is asked for."""
+    count = size // 2 // 95
+    made = [f"(type b{n:x})(typeattribute x{n:x})(typeattributeset x{n:x}(a0 b{n:x}))" for n in range(count)]
+    yield from parted([BASE, "(type a0)(boolean b false)", *made])
+    yield f"(booleanif {disjunction(size // 2)}(false{''.join(f'(allow x{n:x} a0(c(e)))' for n in range(count))}))"
+
+
+def alike_conditions(size):
+    """Conditions of sixty operators that differ in their last word, each with a rule. There are as many booleans as may be."""
+    yield BASE + "(type a)" + "".join(f"(boolean a{number:x} true)" for number in range(MOST_BOOLEANS))
+    def conditional(number):
+        words_ = f"a{number % MOST_BOOLEANS:x} a{number // MOST_BOOLEANS:x}"
+        return f"(booleanif {'(and a0 ' * 60}(or {words_}){')' * 60}(true(allow a a(c(e)))))"
+    yield from numbered(size, conditional)
+
+
+def branch_calls(size):
+    """A branch with the call of a macro that calls the next, and so on; the last one has as many rules as macros have bytes."""
+    links = pieces(size // 2, lambda n: f"(macro m{n + 1:x}()(call m{n:x}))")
+    rules_ = "(allow a a(c(e)))" * (size // 2 // 17)
+    return [f"{BASE}(type a)(boolean b true)(macro m0(){rules_})" + "".join(links) + f"(booleanif b(true(call m{len(links):x})))"]
+
+
+def one_boolean(_size):
+    """One boolean, and one rule in its branch."""
+    return [f"{BASE}(type a0)(boolean b true)(booleanif b(true(allow a0 a0(c(e)))))"]
+
+
+def never_apart(size):
+    """A size is a number of allow statements, of one type a side, all on one class. A tenth as many neverallows are about
+    other pairs of the same types."""
+    yield BASE + "".join(f"(type a{number:x})" for number in range(1_000))
+    yield from parted(f"(allow a{n % 1_000:x} a{n // 1_000:x}(c(e)))" for n in range(min(size, 500_000)))
+    yield from parted(f"(neverallow a{n % 1_000:x} a{n // 1_000 + 500:x}(c(e)))" for n in range(min(size, 500_000) // 10))
+
+
+def never_sets(size):
+    """The same, where each side of each statement is one of 1,000 attributes of two types each."""
+    yield BASE + "".join(
+        f"(type a{n:x})(type b{n:x})(typeattribute x{n:x})(typeattributeset x{n:x}(a{n:x} b{n:x}))" for n in range(1_000)
+    )
+    yield from parted(f"(allow x{n % 1_000:x} x{n // 1_000:x}(c(e)))" for n in range(min(size, 500_000)))
+    yield from parted(f"(neverallow x{n % 1_000:x} x{n // 1_000 + 500:x}(c(e)))" for n in range(min(size, 500_000) // 10))
+
+
+def never_wide(size):
+    """A size is a number of allow statements. Thirty neverallows are over all types, and about a permission that none has."""
+    yield BASE + "(typeattribute z)(typeattributeset z all)" + "".join(f"(type a{number:x})" for number in range(4_000))
+    yield from parted(f"(allow a{n % 4_000:x} a{n // 4_000:x}(c(e)))" for n in range(size))
+    yield "(neverallow z z(c(f)))" * 30
+
+
+def never_late(size):
+    """A size is a number of allow statements, and as many are neverallows, over two large sets that share the last type."""
+    yield f"{BASE}{types()}(typeattribute x)(typeattribute y)"
+    yield f"(typeattributeset x({' '.join(f'a{n:x}' for n in range(0, MOST_TYPES, 2))}))"
+    yield f"(typeattributeset y({' '.join(f'a{n:x}' for n in range(1, MOST_TYPES, 2))} a{MOST_TYPES - 1:x}))"
+    yield "(allow x x(c(e)))" * size + "(neverallow y y(c(e)))" * size
+
+
+def never_all(size):
+    """A size is a number of allow statements, and as many are neverallows: each meets each (65)."""
+    yield BASE + "(type a)" + "(allow a a(c(e)))" * size + "(neverallow a a(c(e)))" * size
+
+
 # ---- optionals
 
 def same_optionals(size):
@@ -775,6 +865,18 @@ def queries(form, size):
     yield "LOAD\n" + "AV u:object_r:a0 u:object_r:a0 c\n" * 1000
 
 
+def query(form, size):
+    """Texts, a LOAD, and one query."""
+    yield from installed(form(size))
+    yield "LOAD\nAV u:object_r:a0 u:object_r:a0 c\n"
+
+
+def settings(form, size):
+    """Texts, a LOAD, and as many requests that turn one boolean."""
+    yield from installed(form(size))
+    yield "LOAD\n" + "SET b false\nSET b true\n" * (size // 2)
+
+
 def lists(form, size):
     """Texts, and a hundred requests LIST and EXPORT."""
     yield from installed(form(size))
@@ -840,6 +942,12 @@ FORMS = {
     "permission-ring": (permission_ring, 100_000, load), "map-ring": (map_ring, 100_000, load),
     "wide-permissions": (wide_permissions, 100_000, load), "wide-rules": (wide_rules, 100_000, load),
     "class-masks": (class_masks, LONGEST, load), "class-rules": (class_rules, LONGEST, load),
+    "many-booleans": (many_booleans, LONGEST, load), "long-condition": (long_condition, LONGEST - 200, queries),
+    "condition-rules": (condition_rules, LONGEST, query), "alike-conditions": (alike_conditions, LONGEST, load),
+    "branch-calls": (branch_calls, LONGEST - 200, load), "settings": (one_boolean, 100_000, settings),
+    "never-apart": (never_apart, 100_000, load), "never-sets": (never_sets, 100_000, load),
+    "never-wide": (never_wide, 116_000, load), "never-late": (never_late, 1_000, load),
+    "never-all": (never_all, 1_000, load),
     "same-optionals": (same_optionals, 11_000_000, lines), "optional-chain": (optional_chain, LONGEST, lines),
     "optional-ring": (optional_ring, LONGEST, lines), "deep-optionals": (deep_optionals, 7_800_000, load),
     "optional-lines": (optional_lines, LONGEST, load),

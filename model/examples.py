@@ -2,9 +2,9 @@
 """Runs the worked examples of the rules on the model. Status: 0 all are answered as the rules say, 1 one is not.
 
 Each example is its modules, and the requests with the replies that the rules give for them. The forms of statements are
-those of scripts/forms.txt, with their faults. The rows of ROWS are sessions of the program, and those of rows/later, where
-that folder is, have statements that it does not accept yet. With --long there are also examples of nearly a million
-instances, which take minutes.
+those of scripts/forms.txt, with their faults. The rows of ROWS are sessions of the program, as the examples of documents
+and of the folder examples are, and those of rows/later, where that folder is, have statements that it does not accept yet.
+With --long there are also examples of nearly a million instances, which take minutes.
 """
 import hashlib
 import pathlib
@@ -293,7 +293,10 @@ def sort_key(line):
 
 
 # The files of rows/ whose rows run over the model too.
-ROWS = ["attributes.session", "audit.session", "checks.session", "maps.session", "transitions.session"]
+ROWS = [
+    "attributes.session", "audit.session", "booleans.session", "checks.session", "maps.session", "neverallow.session",
+    "transitions.session",
+]
 
 
 def rows():
@@ -306,8 +309,30 @@ def rows():
     for path, language in files + [(path, table.accepting(table.STAGES)) for path in later]:
         for row in sessions.rows_of(path):
             for steps in row.sessions:
-                given, replies = (b"".join(each) for each in zip(*((step.given, step.reply) for step in steps)))
-                yield row.name, language, given, replies
+                yield row.name, language, *joined(steps)
+    for shown, steps in documents(folder, sessions):
+        yield shown, table.ACCEPTED, *joined(steps)
+    for path in sorted((folder / "examples").iterdir()):
+        modules = b"".join(install(each.read_bytes()) for each in sorted(path.glob("*.cil")))
+        new = b"OK new\n" * len([*path.glob("*.cil")])
+        yield path.name, table.ACCEPTED, modules + (path / "requests").read_bytes(), new + (path / "output").read_bytes()
+
+
+def joined(steps):
+    """The bytes that some steps send, and those of their replies."""
+    return b"".join(step.given for step in steps), b"".join(step.reply for step in steps)
+
+
+def documents(folder, sessions):
+    """The examples of documents: where they are, and their steps."""
+    first = [(folder / "examples/first" / name).read_bytes() for name in ("base.cil", "app.cil")]
+    for text, reply in sessions.examples_of("docs/FAULTS.md"):
+        is_text = reply.startswith(b"ERR")
+        load = [] if is_text else sessions.steps_of_example(b"LOAD\n" + reply)
+        yield "FAULTS", [sessions.install(text, reply) if is_text else sessions.install(text), *load]
+    for document, modules in (("FROM_SECILC", first), ("TOUR", [])):
+        for text, asked in sessions.examples_of(f"docs/{document}.md"):
+            yield document, [*map(sessions.install, [*modules, text]), *sessions.steps_of_example(asked)]
 
 
 def main():

@@ -69,7 +69,7 @@ class StageDraft(OptionalDraft):
         ) for _ in range(2))]
         self.declaring = [each for each in NAMES if self.has(each) and each not in block_policies.NAMES]
         self.kinds_at, self.values = {}, {}
-        self.branches, self.quiet_macros = [], []
+        self.branches, self.quiet_macros, self.ordered = [], [], []
 
     def wrong_ones(self):
         return [told for told in self.WRONG for _ in range(3 if told in NEEDED else 1)]
@@ -384,6 +384,32 @@ class StageDraft(OptionalDraft):
         for word in words:
             spot.body.append([b"typeattributeset", word, self.rng.sample([b".a", b".b", b"a", b"t", b"c"], 2)])
 
+    def add_meeting(self):
+        """An allow and a neverallow over sets of types and classes, which meet in several ways, or in none."""
+        top, space = self.spot(deepest=0), self.spot()
+        types = [b"." + b".".join(path) for path in self.declared[b"type"]]
+        if not self.ordered:
+            # Their names are in another order with the block in front than without it.
+            self.ordered = [b".z.t", b".z-t", b".zt", b".Z"]
+            top.body += [[b"block", b"z", [b"type", b"t"]], *([b"type", name[1:]] for name in self.ordered[1:])]
+        for name in (b"g", b"h"):
+            self.declare(top, b"typeattribute", name)
+            some = self.rng.choice([types, self.ordered, types + self.ordered])
+            some = self.rng.sample(some, min(len(some), self.rng.choice([2, 3, 4])))
+            top.body.append([b"typeattributeset", name, some])
+        self.declare(top, b"classpermission", b"s")
+        for path in self.rng.sample(sorted(self.permissions), min(len(self.permissions), 2)):
+            given = self.rng.sample(self.permissions[path], min(len(self.permissions[path]), self.rng.choice([1, 2, 3])))
+            top.body.append([b"classpermissionset", b"s", [b"." + b".".join(path), given]])
+        body = top.body
+        if often(self.rng, 0.4):
+            self.declare(top, b"boolean", b"p")
+            body = [self.rng.choice([b"true", b"false"])]
+            top.body.append([b"booleanif", b"p", body])
+        for keyword, at in ((b"allow", body), (b"neverallow", space.body)):
+            target = self.rng.choice([b".g", b".h", b"self"])
+            at.append([keyword, self.rng.choice([b".g", b".h"]), target, b".s"])
+
     def add_neverallow(self):
         """A neverallow. Those that meet an allow are taken out again where that is not to be."""
         spot = self.spot(may_be_macro=often(self.rng, 0.3))
@@ -431,6 +457,29 @@ class StageDraft(OptionalDraft):
         made = [BranchSpot(around, value) for value in values]
         around.body.append([b"booleanif", self.condition(around), *(each.body for each in made)])
         self.branches += made
+
+    def add_switches(self):
+        """Booleans, and booleanifs over them whose conditions have operators; each rule has a permission of its own."""
+        spot = self.spot(may_be_macro=often(self.rng, 0.3))
+        names = self.rng.sample(NAMES[b"boolean"], 2)
+        for name in names:
+            self.declare(spot, b"boolean", name)
+        for _ in range(self.rng.choice([2, 3, 4])):
+            made = [BranchSpot(spot, each) for each in self.rng.sample([b"true", b"false"], self.rng.choice([1, 1, 2]))]
+            for branch in made:
+                self.mark(branch, self.rng.choice([b".a", b".b"]))
+                if self.has(b"auditallow") and often(self.rng, 0.3):
+                    branch.body[-1][0] = self.rng.choice([b"auditallow", b"dontaudit"])
+            spot.body.append([b"booleanif", self.condition_over(names), *(each.body for each in made)])
+            self.branches += made
+
+    def condition_over(self, names, depth=2):
+        """A condition over some booleans, that has an operator."""
+        inner = [
+            self.condition_over(names, depth - 1) if depth and often(self.rng, 0.3) else self.rng.choice(names)
+            for _ in range(2)
+        ]
+        return [b"not", inner[0]] if often(self.rng, 0.2) else [self.rng.choice(CONDITIONS), *inner]
 
     def add_quiet_macro(self):
         """A macro that has rules alone, or calls of such macros, and calls of it in branches."""
@@ -551,6 +600,8 @@ class StageDraft(OptionalDraft):
             self.add_several(self.add_quiet_macro, int(3 * size))
             if often(rng, 0.5 * size):
                 self.add_conditional()
+            if often(rng, 0.4):
+                self.add_switches()
         self.learn()
         if self.has(b"typealias"):
             self.add_several(self.add_members, int(12 * size))
@@ -581,6 +632,8 @@ class StageDraft(OptionalDraft):
             self.add_several(self.add_neverallow, 4)
             if self.wrong == "neverallows":
                 self.add_forbidden()
+                if self.has(b"typeattribute") and self.has(b"classpermission"):
+                    self.add_meeting()
         if self.goes_wrong("calls", 0.4):
             self.add_ring()
         self.wrap()

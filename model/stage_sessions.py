@@ -1,6 +1,8 @@
 """Random sessions over policies with what can be accepted beside today's language, as parts that can be left out."""
 import block_sessions
 from block_sessions import any_context
+from faults import printed
+from instances import words_in
 from optional_sessions import LINES, names_out, pairs_in, pairs_out, rules_out, some
 from pieces import install, often
 from rules import targets_of
@@ -8,9 +10,10 @@ from stage_policies import StageDraft
 
 MOST_ASKED = 14
 MOST_OF_A_RULE = 3
+MOST_CONDITIONS = 4
 FULL_BODY, FULL_SIZE = b"(booleanif p (true (allow a a (file (read))))(false (allow a a (file (read)))))", 3
 ODD_LINES = [
-    b"SET a TRUE\n", b"SET a\n", b"SET a true true\n", b"SET  true\n", b"set a true\n", b"CHECK a b c\n",
+    b"SET a TRUE\n", b"SET a true\r\n", b"SET a\n", b"SET a true true\n", b"SET  true\n", b"set a true\n", b"CHECK a b c\n",
     b"CHECK a b c d e\n", b"CHECK u:r:a u:r:a file \n", b"SET a true \n", b"SET a 1\n",
 ]
 
@@ -42,6 +45,7 @@ def asked(rng, policy):
         name = rng.choice(turned) if turned and often(rng, 0.9) else rng.choice([b"a", b".p", b"k.q", b"k"])
         queries.append(b"SET %s %s\n" % (name, rng.choice([b"true", b"false"])))
         queries += rng.sample(conditional, min(len(conditional), 8))
+    queries += by_conditions(rng, policy)
     for each in rng.sample(queries, min(len(queries), 5)):
         if each.startswith(b"AV "):
             queries.append(check_of(rng, policy, each))
@@ -65,6 +69,21 @@ def of_rules(rng, policy, is_conditional=False):
             if often(rng, 0.15):
                 source = rng.choice(types)
             made.append(av(rng, policy, source, target, rng.choice(classes)))
+    return made
+
+
+def by_conditions(rng, policy):
+    """The booleans of some conditions turned, and after each time what a rule of that branch covers."""
+    made = []
+    rules = [each for each in policy.rules if each.instance.branch and each.sources and each.pairs]
+    for rule in rng.sample(rules, min(len(rules), MOST_CONDITIONS)):
+        words = words_in(rule.instance.branch.condition)
+        names = sorted({printed(policy.all_names.named(word).path) for word in words})
+        source = rng.choice(sorted(rule.sources))
+        targets, (class_name, _) = sorted(targets_of(rule, source)), rng.choice(sorted(rule.pairs))
+        for _ in range(rng.choice([1, 2, 2, 3]) if targets else 0):
+            made += [b"SET %s %s\n" % (name, rng.choice([b"true", b"false"])) for name in names]
+            made.append(av(rng, policy, source, rng.choice(targets), class_name))
     return made
 
 

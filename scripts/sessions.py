@@ -181,7 +181,7 @@ def examples_of(document):
 
 def steps_of_example(lines):
     """The requests of an example, and the replies that stand below them."""
-    parts = re.split(rb"(?m)^(LOAD|OPTIONALS|WHY|(?:AV|CHECK) .*)\n", lines)
+    parts = re.split(rb"(?m)^(LOAD|OPTIONALS|WHY|(?:AV|CHECK|SET) .*)\n", lines)
     return [Step(line.decode(), line + b"\n", reply) for line, reply in zip(parts[1::2], parts[2::2])]
 
 

@@ -2,7 +2,7 @@
 use Rattle.std.specs.Prelude.{◌≡◌, ℕ, ◌==◌, if◌then◌else◌, refl}
 use Rattle.std.proofs.Common.{sym, ◌∙◌, ap}
 use Rattle.cil_faults.specs.declared.code.FaultCode.{FaultCode}
-use Rattle.cil_faults.specs.declared.code.FaultCode.TheVariants.{UnknownStatement, Unsupported, BadShape, BadPlace, BadName, ReservedName, ParameterClash, NameTwice, InheritUnresolved, InheritCycle, CallCycle, CallArguments, Clash, CallPlace, ExpansionLimit, Unresolved, AliasOpen, AliasTwice, AliasCycle, SetCycle, ClassWide, CommonTwice, TooMany}
+use Rattle.cil_faults.specs.declared.code.FaultCode.TheVariants.{UnknownStatement, Unsupported, BadShape, BadPlace, BadName, ReservedName, ParameterClash, NameTwice, InheritUnresolved, InheritCycle, CallCycle, CallArguments, Clash, CallPlace, ExpansionLimit, Unresolved, AliasOpen, AliasTwice, AliasCycle, SetCycle, ClassWide, CommonTwice, TooMany, NeverAllow}
 
 -- the number of a cause
 abbrev pub number_of : FaultCode → ℕ
@@ -29,6 +29,7 @@ number_of SetCycle = 54
 number_of ClassWide = 55
 number_of CommonTwice = 56
 number_of TooMany = 60
+number_of NeverAllow = 65
 
 -- the cause of a number
 numbered : ℕ → FaultCode
@@ -55,7 +56,8 @@ numbered n =
     else (if n == 54 then SetCycle
     else (if n == 55 then ClassWide
     else (if n == 56 then CommonTwice
-    else TooMany)))))))))))))))))))))
+    else (if n == 60 then TooMany
+    else NeverAllow))))))))))))))))))))))
 
 numbered-number_of : (c : FaultCode) → numbered (number_of c) ≡ c
 unfolding numbered
@@ -82,6 +84,7 @@ numbered-number_of SetCycle = refl
 numbered-number_of ClassWide = refl
 numbered-number_of CommonTwice = refl
 numbered-number_of TooMany = refl
+numbered-number_of NeverAllow = refl
 
 -- no two causes have one number
 pub one_cause : (c d : FaultCode) → number_of c ≡ number_of d → c ≡ d

@@ -49,15 +49,17 @@ pub enum FaultCode {
     ClassWide,
     /// A class shares the permissions of two different commons.
     CommonTwice,
-    /// The policy has more types, roles or users than a policy may have.
+    /// The policy has more of one kind than a policy may have.
     TooMany,
+    /// A statement allows what another forbids.
+    NeverAllow,
 }
 
 impl FaultCode {
     ghost use Rattle.std.specs.Prelude.{◌≡◌};
     ghost use Rattle.cil_faults.specs.Codes.{number_of};
 
-    /// The number of this cause in a printed fault: from 21 to 60.
+    /// The number of this cause in a printed fault: from 21 to 65.
     pub fn number(self) -> u32
         ensures { result ≡ number_of self }
     {
@@ -85,6 +87,7 @@ impl FaultCode {
             FaultCode::ClassWide => 55,
             FaultCode::CommonTwice => 56,
             FaultCode::TooMany => 60,
+            FaultCode::NeverAllow => 65,
         }
     }
 }
@@ -115,6 +118,7 @@ impl fmt::Display for FaultCode {
             FaultCode::ClassWide => write!(f, "class with too many permissions"),
             FaultCode::CommonTwice => write!(f, "class with two different commons"),
             FaultCode::TooMany => write!(f, "too many of one kind"),
+            FaultCode::NeverAllow => write!(f, "forbidden and allowed"),
         }
     }
 }

@@ -1,12 +1,12 @@
 -- What a check answers, by the query before it.
-use Rattle.std.specs.Prelude.{◌↔◌, ◌==◌, ◌/◌, ◌^◌, IsBitSet, Result, Ok, Err, bit_and}
-use Rattle.std.proofs.Common.{◌≡◌, ℕ, Bool, true, List, eq-eqb, subst}
+use Rattle.std.specs.Prelude.{◌==◌, ◌/◌, ◌^◌, Result, Ok, Err, bit_and}
+use Rattle.std.proofs.Common.{◌≡◌, ℕ, List, eq-eqb, subst}
 use Rattle.std.proofs.lemmas.Bool.{eqb-true}
 use Rattle.std.proofs.lemmas.Nat.{bit_set_by_shift}
 use Rattle.cil_decide.specs.declared.decision.Decision.{Decision}
 use Rattle.cil_host.specs.Checks.{Checks, IsChecked, LacksPermission}
 use Rattle.cil_host.specs.declared.fault.QueryFault.{QueryFault}
-use Rattle.cil_host.specs.declared.fault.QueryFault.TheVariants.{NoPolicy, BadSource, BadTarget, NoClass, NoPermission}
+use Rattle.cil_host.specs.declared.fault.QueryFault.TheVariants.{NoPolicy, BadSource, BadTarget, NoClass, NoPermission, NoBoolean}
 use Rattle.cil_host.specs.Machine.{OfLoaded, Queries, State}
 use Rattle.cil_host.specs.Permissions.{IsPermissionOf}
 
@@ -17,6 +17,7 @@ module _ (h : State) (source target class_name permission : List ℕ) where
   by_fault BadTarget q = q
   by_fault NoClass q = q
   by_fault NoPermission q = absurd q
+  by_fault NoBoolean q = q
 
   -- the faults of the query are those of the check
   pub query_faults : (r : Result Decision QueryFault) (fault : QueryFault) → r ≡ Err fault → Queries h source target class_name r

@@ -2,3 +2,5 @@ pub mod QueryLemmas
 pub mod CheckLemmas
 pub mod ListLemmas
 pub mod PermissionLemmas
+pub mod SettingLemmas
+pub mod StateLemmas

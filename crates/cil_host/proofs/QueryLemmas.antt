@@ -12,22 +12,22 @@ use Rattle.cil_host.specs.Machine.{Accepted, AreOptionalLines, AreWhyLines, IsKe
 pub kept : (o : Option Policy) (p : Policy) → o ≡ Some p → IsKept o → IsCompiled p.modules p.compiled
 kept o p e k = subst IsKept e k
 
-pub accepted_fact : (h : State) (m : List (List ℕ)) (o : Option Policy) (p : Policy) → h ≡ record { modules = m; loaded = option_map accepted_of o } → o ≡ Some p
-    → (holds : Accepted → Type 0) → holds (accepted_of p) → OfAccepted h holds
-accepted_fact h m o p view is holds fact = record {
-  accepted = accepted_of p;
-  is_loaded = ap (λ s. s.loaded) view ∙ ap (option_map accepted_of) is;
+pub accepted_fact : (h : State) (m : List (List ℕ)) (v : List ℕ) (o : Option Policy) (p : Policy) → h ≡ record { modules = m; loaded = option_map (accepted_of v) o } → o ≡ Some p
+    → (holds : Accepted → Type 0) → holds (accepted_of v p) → OfAccepted h holds
+accepted_fact h m v o p view is holds fact = record {
+  accepted = accepted_of v p;
+  is_loaded = ap (λ s. s.loaded) view ∙ ap (option_map (accepted_of v)) is;
   fact = fact;
 }
 
-pub loaded_fact : (h : State) (m : List (List ℕ)) (o : Option Policy) (p : Policy) → h ≡ record { modules = m; loaded = option_map accepted_of o } → o ≡ Some p
+pub loaded_fact : (h : State) (m : List (List ℕ)) (v : List ℕ) (o : Option Policy) (p : Policy) → h ≡ record { modules = m; loaded = option_map (accepted_of v) o } → o ≡ Some p
     → (holds : List (List ℕ) → Type 0) → holds p.modules → OfLoaded h holds
-loaded_fact h m o p view is holds fact = accepted_fact h m o p view is (λ a. holds a.modules) fact
+loaded_fact h m v o p view is holds fact = accepted_fact h m v o p view is (λ a. holds a.modules) fact
 
-pub fact_loaded : (h : State) (m : List (List ℕ)) (o : Option Policy) (p : Policy) → h ≡ record { modules = m; loaded = option_map accepted_of o } → o ≡ Some p
+pub fact_loaded : (h : State) (m : List (List ℕ)) (v : List ℕ) (o : Option Policy) (p : Policy) → h ≡ record { modules = m; loaded = option_map (accepted_of v) o } → o ≡ Some p
     → (holds : List (List ℕ) → Type 0) → OfLoaded h holds → holds p.modules
-fact_loaded h m o p view is holds of =
-    let one : Some of.accepted ≡ Some (accepted_of p) = sym of.is_loaded ∙ ap (λ s. s.loaded) view ∙ ap (option_map accepted_of) is in
+fact_loaded h m v o p view is holds of =
+    let one : Some of.accepted ≡ Some (accepted_of v p) = sym of.is_loaded ∙ ap (λ s. s.loaded) view ∙ ap (option_map (accepted_of v)) is in
     subst (λ a. holds a.modules) (ap (λ q. unwrap_or q of.accepted) one) of.fact
 
 -- the kept lines are those of the modules
@@ -39,8 +39,8 @@ optional_lines p is lines same = record {
   are_lines = subst (AreOptionalsOf is.items is.enabled) (sym same) is.optionals;
 }
 
-pub why_lines : (p : Policy) → IsCompiled p.modules p.compiled → (lines : List WhyLine) → lines ≡ p.compiled.reasons.items → AreWhyLines lines (accepted_of p)
-why_lines p is lines same = record {
+pub why_lines : (v : List ℕ) (p : Policy) → IsCompiled p.modules p.compiled → (lines : List WhyLine) → lines ≡ p.compiled.reasons.items → AreWhyLines lines (accepted_of v p)
+why_lines v p is lines same = record {
   items = is.items;
   enabled = is.enabled;
   policy = is.policy;

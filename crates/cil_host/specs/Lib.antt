@@ -4,3 +4,5 @@ pub mod Listed
 pub mod Machine
 pub mod Permissions
 pub mod Refusal
+pub mod Sets
+pub mod Settings

@@ -1,5 +1,5 @@
--- The model host: its modules, and those of its last accepted load with the reasons why optionals of theirs are left out. This
--- project's profile.
+-- The model host: its modules, and those of its last accepted load with the reasons why optionals of theirs are left out and the
+-- booleans of theirs that are on. This project's profile.
 use Rattle.std.specs.Prelude.{◌≡◌, ℕ, ◌≤◌, List, Option, Some, None, Result, Ok, Err, OnErr}
 use Rattle.std.specs.Global.{Vec}
 use Rattle.cil_macros.specs.Item.{Item, OptSet}
@@ -13,17 +13,21 @@ use Rattle.cil_tables.specs.Agrees.{Compiles}
 use Rattle.cil_tables.specs.CompileAnswer.{IsCompiled}
 use Rattle.cil_decide.specs.Decides.{HasNoClass, HasNoContext, ModulesDecide}
 use Rattle.cil_optionals.specs.Lines.{AreOptionalsOf, AreReasonsOf}
-use Rattle.cil_tables.specs.Table.{Table}
+use Rattle.cil_conditions.specs.Bits.{is_on}
+use Rattle.cil_tables.specs.Table.{Table, boolean_names}
+use Rattle.cil_host.specs.Settings.{on_in, on_names}
 use Rattle.cil_host.specs.declared.host.Policy.{Policy}
 use Rattle.cil_host.specs.declared.fault.HostError.{HostError}
 use Rattle.cil_host.specs.declared.fault.HostError.TheVariants as errors
 use Rattle.cil_host.specs.declared.fault.QueryFault.{QueryFault}
-use Rattle.cil_host.specs.declared.fault.QueryFault.TheVariants.{NoPolicy, BadSource, BadTarget, NoClass, NoPermission}
+use Rattle.cil_host.specs.declared.fault.QueryFault.TheVariants.{NoPolicy, BadSource, BadTarget, NoClass, NoPermission, NoBoolean}
 
--- what was accepted: the modules, and the reasons why optionals of theirs are left out
+-- what was accepted: the modules, the reasons why optionals of theirs are left out, and the qualified names of the booleans that are on
+-- now, in byte order
 pub record Accepted : Type 0 where
   pub modules : List (List ℕ)
   pub reasons : List Reason
+  pub on : List (List ℕ)
 
 -- a host: the texts that it holds, and what its policy was compiled from
 pub record State : Type 0 where
@@ -53,9 +57,13 @@ abbrev pub IsKept : Option Policy → Type 0
 IsKept None = Unit {0}
 IsKept (Some p) = IsCompiled p.modules p.compiled
 
--- what a load is in the model
-abbrev pub accepted_of : Policy → Accepted
-accepted_of p = record { modules = p.modules; reasons = p.compiled.why.items }
+-- what a load is in the model, with these settings of its booleans
+abbrev pub accepted_of : List ℕ → Policy → Accepted
+accepted_of settings p = record {
+  modules = p.modules;
+  reasons = p.compiled.why.items;
+  on = on_names (is_on settings) (boolean_names p.compiled.tables.booleans);
+}
 
 -- what is true of every host: it keeps what the loaded modules compile to, and its cache may hold from 1 to 65,536 decisions
 pub record IsSound (policy : Option Policy) (capacity : ℕ) : Type 0 where
@@ -89,14 +97,15 @@ pub record LacksTarget (source target : List ℕ) (modules : List (List ℕ)) : 
   pub a_source : HasContext source modules
   pub no_target : HasNoContext modules target
 
--- what a query answers, by the loaded modules: the decision; or the first of the faults
+-- what a query answers, by the loaded modules and the booleans that are on: the decision; or the first of the faults
 abbrev pub Queries : State → List ℕ → List ℕ → List ℕ → Result Decision QueryFault → Type 0
-Queries h source target class_name (Ok d) = OfLoaded h (λ modules. ModulesDecide modules source target class_name d)
+Queries h source target class_name (Ok d) = OfAccepted h (λ a. ModulesDecide a.modules (on_in a.on) source target class_name d)
 Queries h source target class_name (Err NoPolicy) = h.loaded ≡ None
 Queries h source target class_name (Err BadSource) = OfLoaded h (λ modules. HasNoContext modules source)
 Queries h source target class_name (Err BadTarget) = OfLoaded h (LacksTarget source target)
 Queries h source target class_name (Err NoClass) = OfLoaded h (LacksClass source target class_name)
 Queries h source target class_name (Err NoPermission) = ⊥
+Queries h source target class_name (Err NoBoolean) = ⊥
 
 -- ---- optionals
 

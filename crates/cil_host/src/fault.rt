@@ -2,7 +2,7 @@
 
 use std::fmt;
 
-/// Why a query has no answer. The variants are in the order in which they are checked.
+/// Why a query has no answer, or a boolean is not set. The variants are in the order in which they are checked.
 #[derive(Clone, Copy, Debug, PartialEq, Eq)]
 pub enum QueryFault {
     /// No policy is loaded (71).
@@ -15,6 +15,8 @@ pub enum QueryFault {
     NoClass,
     /// The class has no permission of this name (74).
     NoPermission,
+    /// There is no boolean of this name (75).
+    NoBoolean,
 }
 
 /// What keeps a host from its answer.
@@ -41,7 +43,7 @@ impl QueryFault {
     ghost use Rattle.std.specs.Prelude.{◌≡◌};
     ghost use Rattle.cil_host.specs.Codes.{number_of};
 
-    /// The code of this fault in the replies of a host, from 71 to 74. A bad source and a bad target have the same code.
+    /// The code of this fault in the replies of a host, from 71 to 75. A bad source and a bad target have the same code.
     pub fn number(self) -> u32
         ensures { result ≡ number_of self }
     {
@@ -51,6 +53,7 @@ impl QueryFault {
             QueryFault::BadTarget => 72,
             QueryFault::NoClass => 73,
             QueryFault::NoPermission => 74,
+            QueryFault::NoBoolean => 75,
         }
     }
 }
@@ -63,6 +66,7 @@ impl fmt::Display for QueryFault {
             QueryFault::BadTarget => write!(f, "the target is no valid context"),
             QueryFault::NoClass => write!(f, "no class has this name"),
             QueryFault::NoPermission => write!(f, "the class has no such permission"),
+            QueryFault::NoBoolean => write!(f, "no boolean has this name"),
         }
     }
 }

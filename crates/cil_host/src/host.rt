@@ -8,12 +8,14 @@ ghost use Rattle.cil_host.specs.Machine.{OfLoaded, Queries, State, TellsOptional
 ghost use Rattle.cil_host.specs.Permissions.{IsInOrder, IsPermissionOf};
 ghost use Rattle.cil_host.specs.Listed.{line_of};
 ghost use Rattle.cil_host.specs.Refusal.{Loads};
+ghost use Rattle.cil_host.specs.Sets.{Sets};
 
 use crate::fault::{HostError, QueryFault};
 use crate::lines::{copied_optionals, copied_reasons};
 use cil_base::NoMemory;
 use cil_decide::{
-    Decision, class_named, decide, laws, parse_context, permission_at, permission_named,
+    Decision, Settings, boolean_named, class_named, decide, defaults, laws, parse_context,
+    permission_at, permission_named,
 };
 use cil_faults::Failure;
 use cil_modset::{BundleError, Installed, ModuleSet};
@@ -41,11 +43,13 @@ struct Policy {
 }
 
 /// A host. In contracts it is its modules, and the modules of its last accepted load with the reasons why optionals of theirs are
-/// left out.
+/// left out, and the names of the booleans of theirs that are on.
 #[derive(Debug, Drop)]
 pub struct Host<S: Drop> {
     modules: ModuleSet,
     policy: Option<Policy>,
+    // Which booleans of the policy are on.
+    settings: Settings,
     capacity: usize,
     hasher: S,
 }
@@ -56,7 +60,7 @@ impl<S: Drop> Model for Host<S> {
 
     ghost Value = { State };
 
-    ghost view = { λ a. record { modules = a.modules; loaded = option_map accepted_of a.policy } };
+    ghost view = { λ a. record { modules = a.modules; loaded = option_map (accepted_of a.settings) a.policy } };
 
     ghost invariant = { λ a. IsSound a.policy a.capacity };
 }
@@ -72,6 +76,7 @@ impl<S: Drop> Host<S> {
         Host {
             modules: ModuleSet::new(alloc),
             policy: None,
+            settings: Settings::all_off(),
             capacity,
             hasher,
         }
@@ -112,7 +117,8 @@ impl<S: Drop> Host<S> {
         lines_of(alloc, &self.modules)
     }
 
-    /// Compiles the modules and loads their policy, by which queries are answered from then on.
+    /// Compiles the modules and loads their policy, by which queries are answered from then on. Each boolean has its default then. (CIL
+    /// Reference Guide, "boolean".)
     ///
     /// Errors: the faults of the modules (all faults of the first step that has any), or out of memory. If the call fails,
     /// the host is unchanged.
@@ -121,6 +127,7 @@ impl<S: Drop> Host<S> {
     {
         let compiled = compile(alloc, &self.modules)?;
         let modules = self.modules.try_clone(alloc)?;
+        self.settings = defaults(&compiled.tables);
         self.policy = Some(Policy { compiled, modules });
         Ok(Loaded {
             length: 0,
@@ -155,8 +162,26 @@ impl<S: Drop> Host<S> {
         Ok(lines)
     }
 
-    /// What a source may do to a target of a class, by the loaded policy. A context is `user:role:type`, a class is given by its
-    /// name. The call allocates no memory.
+    /// Turns the boolean of a qualified name on or off, until it is set again or modules are loaded. (The SELinux Notebook,
+    /// "Booleans".) The call allocates no memory.
+    ///
+    /// Errors, the first that applies: no policy is loaded, there is no boolean of this name. If the call fails, the host is unchanged.
+    pub fn set_boolean(&mut self, name: &[u8], value: bool) -> Result<(), QueryFault>
+        ensures { Sets self.old self.new name.now value result }
+    {
+        laws::compiled_tables_answer();
+        let Some(policy) = &self.policy else {
+            return Err(QueryFault::NoPolicy);
+        };
+        let Some(number) = boolean_named(&policy.compiled.tables, name) else {
+            return Err(QueryFault::NoBoolean);
+        };
+        self.settings.set(number, value);
+        Ok(())
+    }
+
+    /// What a source may do to a target of a class, by the loaded policy and the settings of its booleans. A context is
+    /// `user:role:type`, a class is given by its name. The call allocates no memory.
     ///
     /// Errors, the first that applies: no policy is loaded, the source is not a valid context, the target is not a valid
     /// context, there is no class of this name. The host is unchanged.
@@ -182,7 +207,8 @@ impl<S: Drop> Host<S> {
         let Some(class) = class_named(&policy.compiled.tables, class) else {
             return Err(QueryFault::NoClass);
         };
-        Ok(decide(&policy.compiled.tables, &from, &onto, class))
+        let settings = &self.settings;
+        Ok(decide(&policy.compiled.tables, settings, &from, &onto, class))
     }
 
     /// The name of a permission of a class of the loaded policy, by its bit in the masks of decisions: its position among the

@@ -1,7 +1,7 @@
-//! One host: its modules, its loaded policy, and the answers to queries.
+//! One host: its modules, its loaded policy with the settings of its booleans, and the answers to queries.
 //!
 //! Start at `host.rt`. Its contracts are about a model host, defined in `specs/Machine.antt`: the modules that it holds, and the
-//! modules of its last accepted load, with the reasons why optionals of theirs are left out.
+//! modules of its last accepted load, with the reasons why optionals of theirs are left out and the names of the booleans that are on.
 #![tactic(auto)]
 
 mod fault;

@@ -1,5 +1,5 @@
 -- The masks of some entries, and the keys by which all rules on a class and a pair of types are found.
-use Rattle.std.specs.Prelude.{◌↔◌, ◌⊎◌, Contains, IsBitSet, Some, None, bit_or, slice_get}
+use Rattle.std.specs.Prelude.{◌↔◌, ◌⊎◌, Bool, Contains, IsBitSet, Some, None, bit_or, slice_get}
 use Rattle.std.proofs.Common.{◌≡◌, ℕ, ◌+◌, ◌<◌, ◌≤◌, List, [], ◌∷◌, ◌++◌, length, take, get_or, sym, ◌∙◌, ap, subst, inl, inr, refl}
 use Rattle.std.proofs.lemmas.List.{take_all, take_more}
 use Rattle.std.proofs.lemmas.List.Elements.{Contains-append_cases}
@@ -13,22 +13,22 @@ use Rattle.cil_index.specs.declared.key.Key.{Key}
 use Rattle.cil_index.specs.Entries.{IsIndex, in_key, key_of_rule, key_of_set, key_of_target, several}
 use Rattle.cil_index.specs.Found.{CoversAt, Matches}
 
-module _ (rules : List Rule) (source target class_ : ℕ) where
+module _ (on : ℕ → Bool) (rules : List Rule) (source target class_ : ℕ) where
   -- the mask has what the rules of these entries cover, and nothing that no rule covers
   pub record IsJoined (entries : List Entry) (mask : ℕ) : Type 0 where
-    pub sound : (bit : ℕ) → IsBitSet mask bit → HasCover rules source target class_ bit
-    pub all : (e : Entry) (bit : ℕ) → Contains entries e → CoversAt rules source target class_ e.place bit → IsBitSet mask bit
+    pub sound : (bit : ℕ) → IsBitSet mask bit → HasCover on rules source target class_ bit
+    pub all : (e : Entry) (bit : ℕ) → Contains entries e → CoversAt on rules source target class_ e.place bit → IsBitSet mask bit
 
-  covered_there : (place bit : ℕ) → CoversAt rules source target class_ place bit → HasCover rules source target class_ bit
+  covered_there : (place bit : ℕ) → CoversAt on rules source target class_ place bit → HasCover on rules source target class_ bit
   covered_there place bit c = record { rule = c.rule; is_rule = get_contains rules place c.rule c.is_there; covers = c.covers }
 
   pub joined_all : (entries : List Entry) (i mask : ℕ) → length entries ≤ i → IsJoined (take i entries) mask → (e : Entry) (bit : ℕ) → Contains entries e
-      → CoversAt rules source target class_ e.place bit → IsBitSet mask bit
+      → CoversAt on rules source target class_ e.place bit → IsBitSet mask bit
   joined_all entries i mask over is e bit has covers = is.all e bit (subst (λ xs. Contains xs e) (sym (take_all i entries over)) has) covers
 
   -- one entry more adds what its rule covers
   pub joined_more : (entries : List Entry) (i : ℕ) (entry : Entry) (mask more : ℕ) → i < length entries → entry ≡ get_or entries i entry
-      → ((bit : ℕ) → IsBitSet more bit ↔ CoversAt rules source target class_ entry.place bit) → IsJoined (take i entries) mask
+      → ((bit : ℕ) → IsBitSet more bit ↔ CoversAt on rules source target class_ entry.place bit) → IsJoined (take i entries) mask
       → IsJoined (take (i + 1) entries) (bit_or mask more)
   joined_more entries i entry mask more within is tells so_far = record {
     sound = λ bit set. elim ((set_in_either mask more bit).0 set) [
@@ -38,7 +38,7 @@ module _ (rules : List Rule) (source target class_ : ℕ) where
     all = λ e bit has covers. (set_in_either mask more bit).1 (elim (Contains-append_cases (take i entries) (entry ∷ []) e (subst (λ xs. Contains xs e) (one_more i entry within is) has)) [
       | inl d ↦ inl (so_far.all e bit d covers)
       | inr d ↦ elim (contains_cases e entry [] d) [
-        | inl same ↦ inr ((tells bit).1 (subst (λ (z : Entry). CoversAt rules source target class_ z.place bit) (sym same) covers))
+        | inl same ↦ inr ((tells bit).1 (subst (λ (z : Entry). CoversAt on rules source target class_ z.place bit) (sym same) covers))
         | inr none ↦ absurd (contains_none e none)
       ]
     ]);
@@ -66,10 +66,10 @@ same_key class_ source target k c s t = λ i. record { class = c i; source = s i
 pub key_is : (k : Key) (a b c x y z : ℕ) → k ≡ record { class = a; source = b; target = c } → a ≡ x → b ≡ y → c ≡ z → k ≡ record { class = x; source = y; target = z }
 key_is k a b c x y z e p q r = e ∙ (λ i. record { class = p i; source = q i; target = r i })
 
-module _ (rules : List Rule) (part : List Entry) (s t c : ℕ) where
+module _ (on : ℕ → Bool) (rules : List Rule) (part : List Entry) (s t c : ℕ) where
   -- what all entries with a key hand over
   abbrev pub Hands : Key → ℕ → Type 0
-  Hands key mask = (e : Entry) (bit : ℕ) → Contains part e → e.key ≡ key → CoversAt rules s t c e.place bit → IsBitSet mask bit
+  Hands key mask = (e : Entry) (bit : ℕ) → Contains part e → e.key ≡ key → CoversAt on rules s t c e.place bit → IsBitSet mask bit
 
   -- a rule that covers has one of four keys
   pub four_keys : (entries : List Entry) (one two three four : Key) (m n o p : ℕ) → IsIndex rules entries
@@ -77,13 +77,13 @@ module _ (rules : List Rule) (part : List Entry) (s t c : ℕ) where
       → one ≡ record { class = in_key c; source = in_key s; target = in_key t } → two ≡ record { class = in_key c; source = in_key s; target = several }
       → three ≡ record { class = in_key c; source = several; target = in_key t } → four ≡ record { class = in_key c; source = several; target = several }
       → Hands one m → Hands two n → Hands three o → Hands four p
-      → (bit : ℕ) → HasCover rules s t c bit → IsBitSet m bit ⊎ (IsBitSet n bit ⊎ (IsBitSet o bit ⊎ IsBitSet p bit))
+      → (bit : ℕ) → HasCover on rules s t c bit → IsBitSet m bit ⊎ (IsBitSet n bit ⊎ (IsBitSet o bit ⊎ IsBitSet p bit))
   four_keys entries one two three four m n o p index all is_one is_two is_three is_four has_m has_n has_o has_p bit covered =
       let r = covered.rule in
       let at = get_at rules r covered.is_rule in
       let of_class : in_key r.class ≡ in_key c = ap in_key covered.covers.of_class in
       let there = all _ (index.each at.0 r at.2) of_class in
-      let covers : CoversAt rules s t c at.0 bit = record { rule = r; is_there = at.2; covers = covered.covers } in
+      let covers : CoversAt on rules s t c at.0 bit = record { rule = r; is_there = at.2; covers = covered.covers } in
       let k = key_of_rule r in
       elim (key_cases r.source s covered.covers.has_source) [
         | inl x ↦ elim (target_cases r.target r.source s t covered.covers.has_source covered.covers.has_target) [
@@ -119,36 +119,36 @@ in_four a b c d bit = (
 
 -- ---- the rule at a place
 
-pub at_rule : (rules : List Rule) (place : ℕ) (r : Rule) (source target class_ : ℕ) → slice_get rules place ≡ Some r → Matches r source target class_ → (bit : ℕ)
-    → IsBitSet r.mask bit ↔ CoversAt rules source target class_ place bit
-at_rule rules place r source target class_ at fits bit = (
+pub at_rule : (on : ℕ → Bool) (rules : List Rule) (place : ℕ) (r : Rule) (source target class_ : ℕ) → slice_get rules place ≡ Some r → Matches on r source target class_ → (bit : ℕ)
+    → IsBitSet r.mask bit ↔ CoversAt on rules source target class_ place bit
+at_rule on rules place r source target class_ at fits bit = (
   λ s. record {
     rule = r;
     is_there = at;
-    covers = record { has_source = fits.has_source; has_target = fits.has_target; of_class = fits.of_class; permits = s };
+    covers = record { active = fits.active; has_source = fits.has_source; has_target = fits.has_target; of_class = fits.of_class; permits = s };
   },
   λ c. subst (λ (z : Rule). IsBitSet z.mask bit) (some_same c.rule r (sym c.is_there ∙ at)) c.covers.permits,
 )
 
-pub at_other : (rules : List Rule) (place : ℕ) (r : Rule) (source target class_ : ℕ) → slice_get rules place ≡ Some r → (Matches r source target class_ → ⊥) → (bit : ℕ)
-    → IsBitSet 0 bit ↔ CoversAt rules source target class_ place bit
-at_other rules place r source target class_ at differs bit = (
+pub at_other : (on : ℕ → Bool) (rules : List Rule) (place : ℕ) (r : Rule) (source target class_ : ℕ) → slice_get rules place ≡ Some r → (Matches on r source target class_ → ⊥) → (bit : ℕ)
+    → IsBitSet 0 bit ↔ CoversAt on rules source target class_ place bit
+at_other on rules place r source target class_ at differs bit = (
   λ s. absurd (none_set bit s),
-  λ c. absurd (differs (subst (λ (z : Rule). Matches z source target class_) (some_same c.rule r (sym c.is_there ∙ at))
-      (record { has_source = c.covers.has_source; has_target = c.covers.has_target; of_class = c.covers.of_class }))),
+  λ c. absurd (differs (subst (λ (z : Rule). Matches on z source target class_) (some_same c.rule r (sym c.is_there ∙ at))
+      (record { active = c.covers.active; has_source = c.covers.has_source; has_target = c.covers.has_target; of_class = c.covers.of_class }))),
 )
 
 -- nor does one whose source set lacks the source
-pub at_lacking : (rules : List Rule) (place source target class_ : ℕ) (set : List ℕ) → ((r : Rule) → slice_get rules place ≡ Some r → set ≡ r.source) → (Contains set source → ⊥)
-    → (bit : ℕ) → IsBitSet 0 bit ↔ CoversAt rules source target class_ place bit
-at_lacking rules place source target class_ set is lacks bit = (
+pub at_lacking : (on : ℕ → Bool) (rules : List Rule) (place source target class_ : ℕ) (set : List ℕ) → ((r : Rule) → slice_get rules place ≡ Some r → set ≡ r.source) → (Contains set source → ⊥)
+    → (bit : ℕ) → IsBitSet 0 bit ↔ CoversAt on rules source target class_ place bit
+at_lacking on rules place source target class_ set is lacks bit = (
   λ b. absurd (none_set bit b),
   λ v. absurd (lacks (subst (λ (z : List ℕ). Contains z source) (sym (is v.rule v.is_there)) v.covers.has_source)),
 )
 
-pub at_none : (rules : List Rule) (place : ℕ) (source target class_ : ℕ) → slice_get rules place ≡ None → (bit : ℕ)
-    → IsBitSet 0 bit ↔ CoversAt rules source target class_ place bit
-at_none rules place source target class_ at bit = (
+pub at_none : (on : ℕ → Bool) (rules : List Rule) (place : ℕ) (source target class_ : ℕ) → slice_get rules place ≡ None → (bit : ℕ)
+    → IsBitSet 0 bit ↔ CoversAt on rules source target class_ place bit
+at_none on rules place source target class_ at bit = (
   λ s. absurd (none_set bit s),
   λ c. absurd (none_some c.rule (sym at ∙ c.is_there)),
 )

@@ -1,5 +1,5 @@
 -- Rules by numbers stand in the order of the rules.
-use Rattle.std.specs.Prelude.{Contains, Some, slice_get}
+use Rattle.std.specs.Prelude.{zero, suc, Contains, None, Some, slice_get}
 use Rattle.std.specs.Cmp.{IsTotalOrder}
 use Rattle.std.specs.Ordering.{eq_by_cmp, nat_cmp, ordering_reverse, ordering_then}
 use Rattle.std.specs.declared.cmp.Ordering.{Ordering}
@@ -18,15 +18,17 @@ use Rattle.cil_base.proofs.SortedLists.{sorted_list}
 use Rattle.cil_base.specs.Lists.{Lists, contains_cases, contains_here, contains_later, contains_none, text_cmp}
 use Rattle.cil_base.specs.MadeLists.{contains_map, from_map}
 use Rattle.cil_base.specs.Paths.{both_equal, equal_from, its_own, less_from, same_by}
-use Rattle.cil_base.specs.Places.{cons_head, cons_tail, get_so, in_range}
-use Rattle.cil_rules.specs.Order.{rule_cmp, same_rules, target_fields}
+use Rattle.cil_base.specs.Places.{cons_head, cons_tail, get_so, in_range, is_there}
+use Rattle.cil_conditions.specs.declared.branch.Branch.{Branch}
+use Rattle.cil_conditions.specs.Order.{branch_cmp, branch_total}
+use Rattle.cil_rules.specs.Order.{in_branch_cmp, in_branch_total, rule_cmp, same_rules, some_branch, target_fields}
 use Rattle.cil_rules.specs.declared.rule.NamedRule.{NamedRule}
 use Rattle.cil_rules.specs.Rule.{Rule, Types}
 use Rattle.cil_sets.specs.Answers.{set_cmp, set_total}
 use Rattle.cil_index.specs.declared.record.Record.{Record}
 use Rattle.cil_rules.specs.declared.rule.Reach.{Reach}
 use Rattle.cil_rules.specs.declared.rule.Reach.TheVariants as reaches
-use Rattle.cil_rules.specs.Kept.{rule_named, target_named}
+use Rattle.cil_rules.specs.Kept.{branch_named, rule_named, target_named}
 use Rattle.cil_index.specs.Kept.{rule_of}
 use Rattle.cil_index.specs.Order.{AreWithin, IsReachWithin, IsWithin, reach_fields, record_cmp, record_total}
 use Rattle.cil_index.specs.Sets.{AreNumbered, set_of}
@@ -57,7 +59,38 @@ then_equal Greater = refl
 to_map : {X Y : Type 0} (f : X → Y) (xs : List X) (x : X) (y : Y) → Contains xs x → f x ≡ y → Contains (map f xs) y
 to_map f xs x y c e = subst (Contains (map f xs)) e (contains_map f xs x c)
 
-module _ (sets : List (List ℕ)) (rise : IsStrictlySortedBy set_cmp sets) where
+suc_cmp : (i j : ℕ) → nat_cmp (suc i) (suc j) ≡ nat_cmp i j
+suc_cmp i j =
+    elim (cases_lt i j) [
+      | inl less ↦ less_from (suc i) (suc j) (omega (arith, less)) ∙ sym (less_from i j less)
+      | inr ge ↦ elim (cases_lt j i) [
+        | inl more ↦ nat_cmp_total.antisymm (suc i) (suc j) ∙ ap ordering_reverse (less_from (suc j) (suc i) (omega (arith, more)) ∙ sym (less_from j i more))
+            ∙ sym (nat_cmp_total.antisymm i j)
+        | inr le ↦ equal_from (suc i) (suc j) (omega (arith, ge, le)) ∙ sym (equal_from i j (omega (arith, ge, le)))
+      ]
+    ]
+
+-- numbers of branches compare as the branches
+module _ (branches : List Branch) (rise : IsStrictlySortedBy branch_cmp branches) where
+  none_first : (j : ℕ) → j < length branches → nat_cmp 0 (suc j) ≡ in_branch_cmp None (slice_get branches j)
+  none_first j within = less_from 0 (suc j) (omega arith) ∙ sym (ap (in_branch_cmp None) (is_there branches j (some_branch None) within))
+
+  some_later : (i : ℕ) → i < length branches → nat_cmp (suc i) 0 ≡ in_branch_cmp (slice_get branches i) None
+  some_later i within = nat_cmp_total.antisymm (suc i) 0 ∙ ap ordering_reverse (less_from 0 (suc i) (omega arith)) ∙ sym (ap (λ b. in_branch_cmp b None) (is_there branches i (some_branch None) within))
+
+  both_there : (i j : ℕ) → i < length branches → j < length branches → nat_cmp (suc i) (suc j) ≡ in_branch_cmp (slice_get branches i) (slice_get branches j)
+  both_there i j li lj =
+      suc_cmp i j
+      ∙ number_cmp branch_cmp branch_total branches rise i j (some_branch None) (some_branch None) li lj
+      ∙ sym (λ k. in_branch_cmp (is_there branches i (some_branch None) li k) (is_there branches j (some_branch None) lj k))
+
+  pub numbers_cmp : (a b : ℕ) → a ≤ length branches → b ≤ length branches → nat_cmp a b ≡ in_branch_cmp (branch_named branches a) (branch_named branches b)
+  numbers_cmp zero zero wa wb = sym (its_own (in_branch_cmp None None) (in_branch_total.antisymm None None))
+  numbers_cmp zero (suc j) wa wb = none_first j (omega (arith, wb))
+  numbers_cmp (suc i) zero wa wb = some_later i (omega (arith, wa))
+  numbers_cmp (suc i) (suc j) wa wb = both_there i j (omega (arith, wa)) (omega (arith, wb))
+
+module _ (branches : List Branch) (branches_rise : IsStrictlySortedBy branch_cmp branches) (sets : List (List ℕ)) (rise : IsStrictlySortedBy set_cmp sets) where
   source_cmp : (i j : ℕ) → i < length sets → j < length sets → nat_cmp i j ≡ set_cmp (set_of sets i) (set_of sets j)
   source_cmp i j li lj = number_cmp set_cmp set_total sets rise i j [] [] li lj
 
@@ -69,13 +102,13 @@ module _ (sets : List (List ℕ)) (rise : IsStrictlySortedBy set_cmp sets) where
   reaches_cmp reaches.Itself reaches.Itself wa wb = refl
 
   -- records compare as their rules
-  pub records_cmp : (a b : Record) → IsWithin sets a → IsWithin sets b → record_cmp a b ≡ rule_cmp (rule_of sets a) (rule_of sets b)
+  pub records_cmp : (a b : Record) → IsWithin branches sets a → IsWithin branches sets b → record_cmp a b ≡ rule_cmp (rule_of branches sets a) (rule_of branches sets b)
   records_cmp a b wa wb = λ i.
-      ordering_then (ordering_then (ordering_then (source_cmp a.source b.source wa.source wb.source i) (reaches_cmp a.target b.target wa.target wb.target i)) (nat_cmp a.class b.class))
+      ordering_then (ordering_then (ordering_then (ordering_then (numbers_cmp branches branches_rise a.branch b.branch wa.branch wb.branch i) (source_cmp a.source b.source wa.source wb.source i)) (reaches_cmp a.target b.target wa.target wb.target i)) (nat_cmp a.class b.class))
       (nat_cmp a.mask b.mask)
 
-  all_below : (r : Record) (rs : List Record) → AreWithin sets (r ∷ rs) → AllByRecursion (λ q. record_cmp r q ≡ Less) rs
-      → AllByRecursion (λ q. rule_cmp (rule_of sets r) q ≡ Less) (map (rule_of sets) rs)
+  all_below : (r : Record) (rs : List Record) → AreWithin branches sets (r ∷ rs) → AllByRecursion (λ q. record_cmp r q ≡ Less) rs
+      → AllByRecursion (λ q. rule_cmp (rule_of branches sets r) q ≡ Less) (map (rule_of branches sets) rs)
   all_below r [] within all = tt
   all_below r (q ∷ rs) within all = (
     sym (records_cmp r q (within r (contains_here r (q ∷ rs))) (within q (contains_later q r (q ∷ rs) (contains_here q rs)))) ∙ all.0,
@@ -86,29 +119,29 @@ module _ (sets : List (List ℕ)) (rise : IsStrictlySortedBy set_cmp sets) where
   )
 
   -- records that rise stand for rules that rise
-  rules_rise : (rs : List Record) → AreWithin sets rs → IsStrictlySortedBy record_cmp rs → IsStrictlySortedBy rule_cmp (map (rule_of sets) rs)
+  rules_rise : (rs : List Record) → AreWithin branches sets rs → IsStrictlySortedBy record_cmp rs → IsStrictlySortedBy rule_cmp (map (rule_of branches sets) rs)
   unfolding IsStrictlySortedBy
   rules_rise [] within rising = tt
   rules_rise (r ∷ rs) within rising = (all_below r rs within rising.0, rules_rise rs (λ x c. within x (contains_later x r rs c)) rising.1)
 
-  rules_listed : (raw rs : List Record) → AreWithin sets raw → Lists record_cmp (Contains raw) rs
-      → Lists rule_cmp (Contains (map (rule_of sets) raw)) (map (rule_of sets) rs)
+  rules_listed : (raw rs : List Record) → AreWithin branches sets raw → Lists record_cmp (Contains raw) rs
+      → Lists rule_cmp (Contains (map (rule_of branches sets) raw)) (map (rule_of branches sets) rs)
   rules_listed raw rs within listed = record {
     rising = rules_rise rs (λ r c. within r ((listed.members r).0 c)) listed.rising;
     members = λ x. (
-      λ c. let r = from_map (rule_of sets) rs x c in to_map (rule_of sets) raw r.0 x ((listed.members r.0).0 r.1) r.2,
-      λ c. let r = from_map (rule_of sets) raw x c in to_map (rule_of sets) rs r.0 x ((listed.members r.0).1 r.1) r.2,
+      λ c. let r = from_map (rule_of branches sets) rs x c in to_map (rule_of branches sets) raw r.0 x ((listed.members r.0).0 r.1) r.2,
+      λ c. let r = from_map (rule_of branches sets) raw x c in to_map (rule_of branches sets) rs r.0 x ((listed.members r.0).1 r.1) r.2,
     );
   }
 
   -- what a sort of records leaves without its repeats is the list of their rules
-  pub records_listed : (rules : List Rule) (raw ys zs : List Record) → map (rule_of sets) raw ≡ rules → AreWithin sets raw → IsPermutation raw ys → IsSorted record_cmp ys
-      → IsFiltered (DiffersFromLast (eq_by_cmp record_cmp)) [] ys zs → Lists rule_cmp (Contains rules) (map (rule_of sets) zs)
+  pub records_listed : (rules : List Rule) (raw ys zs : List Record) → map (rule_of branches sets) raw ≡ rules → AreWithin branches sets raw → IsPermutation raw ys → IsSorted record_cmp ys
+      → IsFiltered (DiffersFromLast (eq_by_cmp record_cmp)) [] ys zs → Lists rule_cmp (Contains rules) (map (rule_of branches sets) zs)
   records_listed rules raw ys zs are within moved sorted kept =
-      subst (λ rs. Lists rule_cmp (Contains rs) (map (rule_of sets) zs)) are (rules_listed raw zs within (sorted_list record_cmp record_total exact_records raw ys zs moved sorted kept))
+      subst (λ rs. Lists rule_cmp (Contains rs) (map (rule_of branches sets) zs)) are (rules_listed raw zs within (sorted_list record_cmp record_total exact_records raw ys zs moved sorted kept))
     where
-      one_record : (a b : Record) → a.source ≡ b.source → a.target ≡ b.target → a.class ≡ b.class → a.mask ≡ b.mask → a ≡ b
-      one_record a b s t c m = λ i. record { source = s i; target = t i; class = c i; mask = m i }
+      one_record : (a b : Record) → a.branch ≡ b.branch → a.source ≡ b.source → a.target ≡ b.target → a.class ≡ b.class → a.mask ≡ b.mask → a ≡ b
+      one_record a b o s t c m = λ i. record { branch = o i; source = s i; target = t i; class = c i; mask = m i }
 
       one_reach : (a b : Reach) → reach_fields a ≡ reach_fields b → a ≡ b
       one_reach (reaches.Types i) (reaches.Types j) e = ap reaches.Types (cons_head _ _ _ _ (cons_tail _ _ _ _ e))
@@ -122,58 +155,60 @@ module _ (sets : List (List ℕ)) (rise : IsStrictlySortedBy set_cmp sets) where
           let mask = both_equal _ _ e in
           let class_ = both_equal _ _ mask.0 in
           let target = both_equal _ _ class_.0 in
-          one_record a b (same_by _ _ target.0) (one_reach a.target b.target (exact_bytes _ _ target.1)) (same_by _ _ class_.1) (same_by _ _ mask.1)
+          let source = both_equal _ _ target.0 in
+          one_record a b (same_by _ _ source.0) (same_by _ _ source.1) (one_reach a.target b.target (exact_bytes _ _ target.1)) (same_by _ _ class_.1) (same_by _ _ mask.1)
 
 -- ---- records, one by one
 
-module _ (sets : List (List ℕ)) where
+module _ (branches : List Branch) (sets : List (List ℕ)) where
   -- the records of the first rules, and one more
-  pub record_more : (rules : List Rule) (i : ℕ) (v : Rule) (r : Record) (old new : List Record) → i < length rules → v ≡ get_or rules i v → rule_of sets r ≡ v
-      → IsWithin sets r → new ≡ old ++ r ∷ [] → (map (rule_of sets) old ≡ take i rules) × AreWithin sets old → (map (rule_of sets) new ≡ take (i + 1) rules) × AreWithin sets new
+  pub record_more : (rules : List Rule) (i : ℕ) (v : Rule) (r : Record) (old new : List Record) → i < length rules → v ≡ get_or rules i v → rule_of branches sets r ≡ v
+      → IsWithin branches sets r → new ≡ old ++ r ∷ [] → (map (rule_of branches sets) old ≡ take i rules) × AreWithin branches sets old → (map (rule_of branches sets) new ≡ take (i + 1) rules) × AreWithin branches sets new
   record_more rules i v r old new less is keeps inside push so_far = (
-    ap (map (rule_of sets)) push ∙ map-append (rule_of sets) old (r ∷ []) ∙ (λ k. so_far.0 k ++ keeps k ∷ [])
+    ap (map (rule_of branches sets)) push ∙ map-append (rule_of branches sets) old (r ∷ []) ∙ (λ k. so_far.0 k ++ keeps k ∷ [])
         ∙ sym (take_more rules i v less ∙ ap (λ (x : Rule). take i rules ++ x ∷ []) (sym is)),
     λ x c. elim (Contains-append_cases old (r ∷ []) x (subst (λ (z : List Record). Contains z x) push c)) [
       | inl d ↦ so_far.1 x d
-      | inr d ↦ elim (contains_cases x r [] d) [ inl e ↦ subst (IsWithin sets) e inside | inr none ↦ absurd (contains_none x none) ]
+      | inr d ↦ elim (contains_cases x r [] d) [ inl e ↦ subst (IsWithin branches sets) e inside | inr none ↦ absurd (contains_none x none) ]
     ],
   )
 
-  pub record_all : (rules : List Rule) (i : ℕ) (records : List Record) → length rules ≤ i → map (rule_of sets) records ≡ take i rules → map (rule_of sets) records ≡ rules
+  pub record_all : (rules : List Rule) (i : ℕ) (records : List Record) → length rules ≤ i → map (rule_of branches sets) records ≡ take i rules → map (rule_of branches sets) records ≡ rules
   record_all rules i records over are = are ∙ take_all i rules over
 
-  pub no_record : (rules : List Rule) (records : List Record) → records ≡ [] → (map (rule_of sets) records ≡ take 0 rules) × AreWithin sets records
-  no_record rules records none = (ap (map (rule_of sets)) none, λ x c. absurd (contains_none x (subst (λ (z : List Record). Contains z x) none c)))
+  pub no_record : (rules : List Rule) (records : List Record) → records ≡ [] → (map (rule_of branches sets) records ≡ take 0 rules) × AreWithin branches sets records
+  no_record rules records none = (ap (map (rule_of branches sets)) none, λ x c. absurd (contains_none x (subst (λ (z : List Record). Contains z x) none c)))
 
 -- a rule by the numbers of sets is the one by declared names
-module _ (distinct named : List (List ℕ)) (numbers : List ℕ) (are : AreNumbered distinct named numbers) where
+module _ (branches : List Branch) (distinct named : List (List ℕ)) (numbers : List ℕ) (are : AreNumbered distinct named numbers) where
   at_number : (n d : ℕ) → n ≡ get_or numbers d 0 → slice_get distinct n ≡ Some (set_of named d)
   at_number n d is = ap (slice_get distinct) is ∙ are d
 
   pub reach_is : (n d : ℕ) → n ≡ get_or numbers d 0 → (target_named distinct (reaches.Types n) ≡ target_named named (reaches.Types d)) × IsReachWithin distinct (reaches.Types n)
   reach_is n d is = (ap Types (get_so distinct n (set_of named d) [] (at_number n d is)), in_range distinct n (set_of named d) (at_number n d is))
 
-  pub kept_is : (r : NamedRule) (n : ℕ) (reach : Reach) → n ≡ get_or numbers r.source 0 → (target_named distinct reach ≡ target_named named r.target) × IsReachWithin distinct reach
-      → (rule_of distinct (record { source = n; target = reach; class = r.class; mask = r.mask }) ≡ rule_named named r)
-      × IsWithin distinct (record { source = n; target = reach; class = r.class; mask = r.mask })
-  kept_is r n reach is reaches = (
-    same_rules _ (rule_named named r) (get_so distinct n (set_of named r.source) [] (at_number n r.source is)) reaches.0 refl refl,
-    record { source = in_range distinct n (set_of named r.source) (at_number n r.source is); target = reaches.1 },
+  pub kept_is : (r : NamedRule) (b n : ℕ) (reach : Reach) → branch_named branches b ≡ branch_named branches r.branch → b ≤ length branches → n ≡ get_or numbers r.source 0
+      → (target_named distinct reach ≡ target_named named r.target) × IsReachWithin distinct reach
+      → (rule_of branches distinct (record { branch = b; source = n; target = reach; class = r.class; mask = r.mask }) ≡ rule_named branches named r)
+      × IsWithin branches distinct (record { branch = b; source = n; target = reach; class = r.class; mask = r.mask })
+  kept_is r b n reach same within is reaches = (
+    same_rules _ (rule_named branches named r) same (get_so distinct n (set_of named r.source) [] (at_number n r.source is)) reaches.0 refl refl,
+    record { branch = within; source = in_range distinct n (set_of named r.source) (at_number n r.source is); target = reaches.1 },
   )
 
   -- the records of the first rules, and one more
   pub named_more : (rules : List NamedRule) (i : ℕ) (d : NamedRule) (r : Record) (old new : List Record) → i < length rules
-      → (rule_of distinct r ≡ rule_named named (get_or rules i d)) × IsWithin distinct r → new ≡ old ++ r ∷ []
-      → (map (rule_of distinct) old ≡ take i (map (rule_named named) rules)) × AreWithin distinct old
-      → (map (rule_of distinct) new ≡ take (i + 1) (map (rule_named named) rules)) × AreWithin distinct new
+      → (rule_of branches distinct r ≡ rule_named branches named (get_or rules i d)) × IsWithin branches distinct r → new ≡ old ++ r ∷ []
+      → (map (rule_of branches distinct) old ≡ take i (map (rule_named branches named) rules)) × AreWithin branches distinct old
+      → (map (rule_of branches distinct) new ≡ take (i + 1) (map (rule_named branches named) rules)) × AreWithin branches distinct new
   named_more rules i d r old new less keeps push so_far =
-      record_more distinct (map (rule_named named) rules) i (rule_named named (get_or rules i d)) r old new (let size = length-map rules (rule_named named) in omega (arith, less, size))
-      (sym (get_or-map (rule_named named) rules i d (rule_named named (get_or rules i d)) less)) keeps.0 keeps.1 push so_far
+      record_more branches distinct (map (rule_named branches named) rules) i (rule_named branches named (get_or rules i d)) r old new (let size = length-map rules (rule_named branches named) in omega (arith, less, size))
+      (sym (get_or-map (rule_named branches named) rules i d (rule_named branches named (get_or rules i d)) less)) keeps.0 keeps.1 push so_far
 
   pub named_all : (rules : List NamedRule) (i : ℕ) (records : List Record) → length rules ≤ i
-      → (map (rule_of distinct) records ≡ take i (map (rule_named named) rules)) × AreWithin distinct records
-      → (map (rule_of distinct) records ≡ map (rule_named named) rules) × AreWithin distinct records
+      → (map (rule_of branches distinct) records ≡ take i (map (rule_named branches named) rules)) × AreWithin branches distinct records
+      → (map (rule_of branches distinct) records ≡ map (rule_named branches named) rules) × AreWithin branches distinct records
   named_all rules i records over so_far = (
-    record_all distinct (map (rule_named named) rules) i records (let size = length-map rules (rule_named named) in omega (arith, over, size)) so_far.0,
+    record_all branches distinct (map (rule_named branches named) rules) i records (let size = length-map rules (rule_named branches named) in omega (arith, over, size)) so_far.0,
     so_far.1,
   )

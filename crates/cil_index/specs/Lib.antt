@@ -3,4 +3,5 @@ pub mod Found
 pub mod Kept
 pub mod Order
 pub mod Searched
+pub mod Sections
 pub mod Sets

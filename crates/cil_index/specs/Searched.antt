@@ -5,4 +5,4 @@ use Rattle.cil_index.specs.declared.cover.Searched.{Searched}
 use Rattle.cil_index.specs.Kept.{rule_of}
 
 abbrev pub rules_in : Searched → List Rule
-rules_in s = map (rule_of s.sets.now) s.records.now
+rules_in s = map (rule_of s.branches.now s.sets.now) s.records.now

@@ -3,6 +3,7 @@
 ghost use Rattle.std.specs.Prelude.{◌≡◌, ◌≤◌, ◌<◌, ℕ, Contains, IfOk, IfSome, List, Some, get_or, length, map, slice_get};
 ghost use Rattle.std.specs.Ordering.{ordering_index};
 ghost use Rattle.std.specs.List.Sorted.{IsPartitionPoint, IsSorted};
+ghost use Rattle.cil_conditions.specs.declared.branch.Branch.{Branch as ABranch};
 ghost use Rattle.cil_rules.specs.Rule.{Rule as ARule};
 ghost use Rattle.cil_index.specs.declared.key.Entry.{Entry as AnEntry};
 ghost use Rattle.cil_index.specs.Entries.{AreBoundsAt, AreStarts, HasEntries, IsIndex, IsPart, entry_cmp, key_cmp, key_of_rule};
@@ -91,7 +92,7 @@ fn part(entries: &[Entry], bounds: Bounds) -> &[Entry]
 
 /// The index of some rules: an entry for each, sorted. Errors: out of memory.
 pub fn index_of(alloc: Global, sets: &Sets, records: &[Record]) -> Result<Vec<Entry>, NoMemory>
-    ensures { IfOk result (λ index. IsIndex (map (rule_of sets.now) records.now) index.items) }
+    ensures { IfOk result (λ index. (branches : List ABranch) → IsIndex (map (rule_of branches sets.now) records.now) index.items) }
 {
     let mut entries = unsorted(alloc, sets, records)?;
     entries.sort_unstable();
@@ -100,7 +101,7 @@ pub fn index_of(alloc: Global, sets: &Sets, records: &[Record]) -> Result<Vec<En
 
 /// An entry for each rule, in the order of the rules.
 fn unsorted(alloc: Global, sets: &Sets, records: &[Record]) -> Result<Vec<Entry>, NoMemory>
-    ensures { IfOk result (λ index. HasEntries (map (rule_of sets.now) records.now) index.items) }
+    ensures { IfOk result (λ index. (branches : List ABranch) → HasEntries (map (rule_of branches sets.now) records.now) index.items) }
 {
     let mut entries = Vec::with_capacity(alloc, records.len())?;
     for place in 0..records.len() {
@@ -112,7 +113,7 @@ fn unsorted(alloc: Global, sets: &Sets, records: &[Record]) -> Result<Vec<Entry>
 /// The entry of the rule at a place. Beyond 4,294,967,296 rules it is out of memory.
 fn entry_at(sets: &Sets, records: &[Record], place: usize) -> Result<Entry, NoMemory>
     requires { place < length records.now }
-    ensures { IfOk result (λ e. (r : ARule) → slice_get (map (rule_of sets.now) records.now) place ≡ Some r
+    ensures { IfOk result (λ e. (branches : List ABranch) (r : ARule) → slice_get (map (rule_of branches sets.now) records.now) place ≡ Some r
         → e ≡ record { key = key_of_rule r; place = place }) }
 {
     if place > u32::MAX as usize {
@@ -126,7 +127,7 @@ fn entry_at(sets: &Sets, records: &[Record], place: usize) -> Result<Entry, NoMe
 
 /// The key of a rule.
 fn key_of(sets: &Sets, kept: &Record) -> Key
-    ensures { result ≡ key_of_rule (rule_of sets.now kept.now) }
+    ensures { (branches : List ABranch) → result ≡ key_of_rule (rule_of branches sets.now kept.now) }
 {
     let source = sets.key(kept.source);
     Key {

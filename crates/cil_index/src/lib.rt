@@ -1,7 +1,7 @@
 //! Rules by numbers, and the index of decisions over them.
 //!
-//! Start at `Section` in `section.rt`: rules in their order, which contracts see as the list of these rules, and `covered`, the
-//! permissions that they cover on a class and a pair of types. A rule is kept as a record of numbers (`record.rt`): its sets of types stand
+//! Start at `Sections` in `section.rt`: the rules of each kind in their order, which contracts see as the lists of these rules, and
+//! `allowed`, the permissions that those that allow cover on a class and a pair of types. A rule is kept as a record of numbers (`record.rt`): its sets of types stand
 //! in `sets.rt`, each once, and a set of one type takes no memory. `specs/Sets.antt` says which set has which number, `specs/Kept.antt`
 //! which rule a record keeps, `specs/Order.antt` that records stand in the order of their rules, and `specs/Entries.antt` by which key a rule
 //! is found.
@@ -14,4 +14,5 @@ mod record;
 mod section;
 mod sets;
 
-pub use section::Section;
+pub use cover::Asked;
+pub use section::{NamedRules, Sections};

@@ -1,11 +1,12 @@
 //! Rules by numbers.
 
-ghost use Rattle.std.specs.Prelude.{◌≡◌, Contains, IfOk, List, get_or, ℕ, map, refl};
+ghost use Rattle.std.specs.Prelude.{◌≡◌, ◌≤◌, Contains, IfOk, List, get_or, length, ℕ, map, refl};
 ghost use Rattle.std.specs.Cmp.{eq_by_cmp_equiv, partial_equiv_from_equiv, partial_order_from_total};
 ghost use Rattle.std.specs.Ordering.{as_partial_cmp, eq_by_cmp};
 ghost use Rattle.std.specs.List.Sorted.{IsStrictlySortedBy};
 ghost use Rattle.cil_base.specs.Lists.{Lists, text_cmp};
-ghost use Rattle.cil_rules.specs.Kept.{rule_named, target_named};
+ghost use Rattle.cil_conditions.specs.Order.{branch_cmp};
+ghost use Rattle.cil_rules.specs.Kept.{branch_named, rule_named, target_named};
 ghost use Rattle.cil_rules.specs.Order.{rule_cmp};
 ghost use Rattle.cil_sets.specs.Answers.{set_cmp};
 ghost use Rattle.cil_index.specs.Kept.{rule_of};
@@ -13,6 +14,7 @@ ghost use Rattle.cil_index.specs.Order.{AreWithin, IsReachWithin, IsWithin, reac
 ghost use Rattle.cil_index.specs.Sets.{AreNumbered};
 
 use cil_base::NoMemory;
+use cil_conditions::Branch;
 use cil_rules::{NamedRule, Reach};
 use std::alloc::Global;
 use std::cmp::Ordering;
@@ -20,6 +22,8 @@ use std::cmp::Ordering;
 /// A rule, its sets by numbers.
 #[derive(Clone, Copy, Debug)]
 pub struct Record {
+    /// The number of its branch, from 1 on; 0 for a rule that counts always.
+    pub branch: u32,
     /// The number of the set of its source types.
     pub source: u32,
     /// What it reaches.
@@ -67,8 +71,9 @@ impl Ord for Record {
     ghost matches_eq = { λ a b. refl };
 
     fn cmp(&self, other: &Record) -> Ordering {
-        self.source
-            .cmp(&other.source)
+        self.branch
+            .cmp(&other.branch)
+            .then(self.source.cmp(&other.source))
             .then(compare_reaches(self.target, other.target))
             .then(self.class.cmp(&other.class))
             .then(self.mask.cmp(&other.mask))
@@ -91,40 +96,60 @@ fn compare_reaches(a: Reach, b: Reach) -> Ordering
 /// costs, by numbers alone. Errors: out of memory.
 pub fn records_of(
     alloc: Global,
+    branches: &[Branch],
     numbers: &[u32],
     rules: &[NamedRule],
 ) -> Result<Vec<Record>, NoMemory>
+    requires { IsStrictlySortedBy branch_cmp branches.now }
     ensures { IfOk result (λ records. (distinct named : List (List ℕ)) → IsStrictlySortedBy set_cmp distinct → AreNumbered distinct named numbers.now
-        → Lists rule_cmp (Contains (map (rule_named named) rules.now)) (map (rule_of distinct) records.items)) }
+        → Lists rule_cmp (Contains (map (rule_named branches.now named) rules.now)) (map (rule_of branches.now distinct) records.items)) }
 {
-    let mut records = unsorted(alloc, numbers, rules)?;
+    let mut records = unsorted(alloc, branches, numbers, rules)?;
     records.sort_unstable();
     records.dedup();
     Ok(records)
 }
 
 /// The records of rules, in the order in which these were handed in. Errors: out of memory.
-fn unsorted(alloc: Global, numbers: &[u32], rules: &[NamedRule]) -> Result<Vec<Record>, NoMemory>
+fn unsorted(
+    alloc: Global,
+    branches: &[Branch],
+    numbers: &[u32],
+    rules: &[NamedRule],
+) -> Result<Vec<Record>, NoMemory>
     ensures { IfOk result (λ records. (distinct named : List (List ℕ)) → AreNumbered distinct named numbers.now
-        → (map (rule_of distinct) records.items ≡ map (rule_named named) rules.now) × AreWithin distinct records.items) }
+        → (map (rule_of branches.now distinct) records.items ≡ map (rule_named branches.now named) rules.now) × AreWithin branches.now distinct records.items) }
 {
     let mut records = Vec::with_capacity(alloc, rules.len())?;
     for rule in rules {
-        records.push(record_of(numbers, rule))?;
+        records.push(record_of(branches, numbers, rule))?;
     }
     Ok(records)
 }
 
 /// The record of a rule.
-fn record_of(numbers: &[u32], rule: &NamedRule) -> Record
-    ensures { (distinct named : List (List ℕ)) → AreNumbered distinct named numbers.now → (rule_of distinct result ≡ rule_named named rule.now) × IsWithin distinct result }
+fn record_of(branches: &[Branch], numbers: &[u32], rule: &NamedRule) -> Record
+    ensures { (distinct named : List (List ℕ)) → AreNumbered distinct named numbers.now
+        → (rule_of branches.now distinct result ≡ rule_named branches.now named rule.now) × IsWithin branches.now distinct result }
 {
     Record {
+        branch: branch_of(branches, rule.branch),
         source: number_at(numbers, rule.source),
         target: reach_of(numbers, rule.target),
         class: rule.class,
         mask: rule.mask,
     }
+}
+
+/// The number of a branch; that of none where there is no branch of this number.
+fn branch_of(branches: &[Branch], number: u32) -> u32
+    ensures same { branch_named branches.now result ≡ branch_named branches.now number }
+    ensures within { result ≤ length branches.now }
+{
+    if number as usize > branches.len() {
+        return 0;
+    }
+    number
 }
 
 /// What a rule reaches, by the number of a set.

@@ -1,11 +1,17 @@
-//! The rules of one kind, with their index.
+//! The rules of a policy, by kind, with their indexes.
 
-ghost use Rattle.std.specs.Prelude.{◌≡◌, ◌↔◌, ℕ, Contains, IfOk, IsBitSet, length, map};
+ghost use Rattle.std.specs.Prelude.{◌≡◌, ◌↔◌, ℕ, Contains, IfOk, IsBitSet, List, length, map};
+ghost use Rattle.std.specs.List.Sorted.{IsStrictlySortedBy};
 ghost use Rattle.cil_base.specs.Lists.{Lists};
+ghost use Rattle.cil_conditions.specs.Bits.{is_on};
+ghost use Rattle.cil_conditions.specs.Order.{branch_cmp};
 ghost use Rattle.cil_rules.specs.Covers.{HasCover};
 ghost use Rattle.cil_rules.specs.Kept.{rule_named};
 ghost use Rattle.cil_rules.specs.Order.{rule_cmp};
+ghost use Rattle.cil_sets.specs.Answers.{set_cmp};
 ghost use Rattle.cil_index.specs.Found.{CoversAt};
+ghost use Rattle.cil_index.specs.Sections.{IsIndexed, rules_of};
+ghost use Rattle.cil_index.specs.Sets.{AreNumbered};
 
 use crate::cover::{Asked, Searched, covered, mask_at};
 use crate::index::{index_of, starts_of};
@@ -13,101 +19,180 @@ use crate::key::Entry;
 use crate::record::{Record, records_of};
 use crate::sets::{Sets, numbers_of};
 use cil_base::NoMemory;
+use cil_conditions::{Branch, Settings};
 use cil_rules::NamedRule;
 use cil_sets::Numbers;
 use std::alloc::Global;
 use std::marker::Model;
 
-/// Rules of one kind. Contracts see them as their list. A rule takes 40 bytes, however many types its sets have; each set of several types
-/// is kept once.
+/// Rules of one kind: their records in their order, an entry for each, and where the entries of each class begin.
 #[derive(Debug, Drop)]
-pub struct Section {
-    sets: Sets,
+struct Indexed {
     records: Vec<Record>,
     entries: Vec<Entry>,
     starts: Vec<u32>,
 }
 
-impl Model for Section {
-    ghost use Rattle.std.specs.Prelude.{List, map};
-    ghost use Rattle.cil_rules.specs.Rule.{Rule};
-    ghost use Rattle.cil_index.specs.Entries.{AreStarts, IsIndex};
-    ghost use Rattle.cil_index.specs.Kept.{rule_of};
-
-    ghost Value = { List Rule };
-
-    ghost view = { λ a. map (rule_of a.sets) a.records.items };
-
-    ghost invariant = { λ a. IsIndex (map (rule_of a.sets) a.records.items) a.entries.items × AreStarts a.entries.items a.starts.items };
+/// The rules of a policy, by kind. Contracts see them as their lists. A rule takes 40 bytes, however many types its sets have and however
+/// long its condition is; each set of several types and each branch is kept once for all kinds.
+#[derive(Debug, Drop)]
+pub struct Sections {
+    branches: Vec<Branch>,
+    sets: Sets,
+    allow: Indexed,
+    auditallow: Indexed,
+    dontaudit: Indexed,
 }
 
-impl Section {
-    /// These rules in their order, each once, where these are the sets of declared names and there are so many classes. It costs a look-up
-    /// of each set, and two sorts of the rules by numbers. Errors: out of memory.
+impl Model for Sections {
+    ghost use Rattle.cil_index.specs.Sections.{IsIndexed, RuleSections, rules_of};
+
+    ghost Value = { RuleSections };
+
+    ghost view = { λ a. record { allow = rules_of a.branches.items a.sets a.allow; auditallow = rules_of a.branches.items a.sets a.auditallow; dontaudit = rules_of a.branches.items a.sets a.dontaudit } };
+
+    ghost invariant = { λ a. IsIndexed a.branches.items a.sets a.allow × IsIndexed a.branches.items a.sets a.auditallow × IsIndexed a.branches.items a.sets a.dontaudit };
+}
+
+/// Rules as they are handed on, by kind.
+#[derive(Debug, Drop)]
+pub struct NamedRules {
+    /// Those that allow.
+    pub allow: Vec<NamedRule>,
+    /// Those by which the use of a permission is recorded.
+    pub auditallow: Vec<NamedRule>,
+    /// Those by which the denial of a permission is not recorded.
+    pub dontaudit: Vec<NamedRule>,
+}
+
+impl Sections {
+    /// These rules in their order, each once, where these are the sets of declared names and the branches of conditions, and there are so
+    /// many classes. It costs a look-up of each set, and two sorts of the rules by numbers. Errors: out of memory.
     pub fn of(
         alloc: Global,
-        rules: &[NamedRule],
+        rules: &NamedRules,
         named: &[Numbers],
+        branches: Vec<Branch>,
         classes: usize,
-    ) -> Result<Section, NoMemory>
-        ensures { IfOk result (Lists rule_cmp (Contains (map (rule_named named.now) rules.now))) }
+    ) -> Result<Sections, NoMemory>
+        requires { IsStrictlySortedBy branch_cmp branches.items }
+        ensures allow { IfOk result (λ s. Lists rule_cmp (Contains (map (rule_named branches.items named.now) rules.now.allow.items)) s.allow) }
+        ensures auditallow { IfOk result (λ s. Lists rule_cmp (Contains (map (rule_named branches.items named.now) rules.now.auditallow.items)) s.auditallow) }
+        ensures dontaudit { IfOk result (λ s. Lists rule_cmp (Contains (map (rule_named branches.items named.now) rules.now.dontaudit.items)) s.dontaudit) }
     {
         let sets = Sets::of(alloc, named)?;
         let numbers = numbers_of(alloc, &sets, named)?;
-        let records = records_of(alloc, numbers.as_slice(), rules)?;
-        let entries = index_of(alloc, &sets, records.as_slice())?;
-        // Where a class ends is where the next begins.
-        let starts = starts_of(alloc, entries.as_slice(), classes.saturating_add(1))?;
-        Ok(Section {
+        let allow = index_rules(alloc, &branches, &sets, &numbers, &rules.allow, classes)?;
+        let auditallow = index_rules(
+            alloc,
+            &branches,
+            &sets,
+            &numbers,
+            &rules.auditallow,
+            classes,
+        )?;
+        let dontaudit = index_rules(alloc, &branches, &sets, &numbers, &rules.dontaudit, classes)?;
+        Ok(Sections {
+            branches,
             sets,
-            records,
-            entries,
-            starts,
+            allow,
+            auditallow,
+            dontaudit,
         })
     }
 
-    /// The permissions that the rules cover on a class and a pair of types. It takes no memory: it costs four searches by halving, and a
-    /// step for each rule on the class whose source is the type or several types, and whose target is.
-    pub fn covered(&self, source: usize, target: usize, class: usize) -> u32
-        ensures { (bit : ℕ) → IsBitSet result bit ↔ HasCover self.now source target class bit }
+    /// The permissions that are allowed on a class and a pair of types, by these settings. It takes no memory: it costs four searches by
+    /// halving, a step for each rule on the class whose source is the type or several types, and whose target is, and one for each part of
+    /// the condition of one that covers.
+    pub fn allowed(&self, settings: &Settings, asked: &Asked) -> u32
+        ensures { (bit : ℕ) → IsBitSet result bit ↔ HasCover (is_on settings.now) self.now.allow asked.now.source asked.now.target asked.now.class bit }
     {
-        let searched = Searched {
-            sets: &self.sets,
-            records: self.records.as_slice(),
-        };
-        let asked = Asked {
-            source,
-            target,
-            class,
-        };
-        covered(
-            &searched,
-            self.entries.as_slice(),
-            self.starts.as_slice(),
-            &asked,
+        covered_in(&self.branches, &self.sets, &self.allow, settings, asked)
+    }
+
+    /// The permissions whose use is recorded. It costs what `allowed` costs.
+    pub fn recorded(&self, settings: &Settings, asked: &Asked) -> u32
+        ensures { (bit : ℕ) → IsBitSet result bit ↔ HasCover (is_on settings.now) self.now.auditallow asked.now.source asked.now.target asked.now.class bit }
+    {
+        covered_in(
+            &self.branches,
+            &self.sets,
+            &self.auditallow,
+            settings,
+            asked,
         )
     }
 
-    /// The permissions that the rule at a place covers on a class and a pair of types. It takes no memory.
-    pub fn covered_at(&self, place: usize, source: usize, target: usize, class: usize) -> u32
-        ensures { (bit : ℕ) → IsBitSet result bit ↔ CoversAt self.now source target class place bit }
+    /// The permissions whose denial is not recorded. It costs what `allowed` costs.
+    pub fn excepted(&self, settings: &Settings, asked: &Asked) -> u32
+        ensures { (bit : ℕ) → IsBitSet result bit ↔ HasCover (is_on settings.now) self.now.dontaudit asked.now.source asked.now.target asked.now.class bit }
     {
-        let searched = Searched {
-            sets: &self.sets,
-            records: self.records.as_slice(),
-        };
-        let asked = Asked {
-            source,
-            target,
-            class,
-        };
-        mask_at(&searched, &asked, place)
+        covered_in(&self.branches, &self.sets, &self.dontaudit, settings, asked)
     }
 
-    /// How many rules there are.
-    pub fn len(&self) -> usize
-        ensures { result ≡ length self.now }
+    /// The permissions that the rule at a place among those that allow covers. It takes no memory.
+    pub fn allowed_at(&self, settings: &Settings, asked: &Asked, place: usize) -> u32
+        ensures { (bit : ℕ) → IsBitSet result bit ↔ CoversAt (is_on settings.now) self.now.allow asked.now.source asked.now.target asked.now.class place bit }
     {
-        self.records.len()
+        let searched = Searched {
+            branches: self.branches.as_slice(),
+            sets: &self.sets,
+            records: self.allow.records.as_slice(),
+        };
+        mask_at(&searched, settings, asked, place)
     }
+
+    /// How many rules allow something.
+    pub fn allow_len(&self) -> usize
+        ensures { result ≡ length self.now.allow }
+    {
+        self.allow.records.len()
+    }
+}
+
+/// What rules of one kind cover.
+fn covered_in(
+    branches: &Vec<Branch>,
+    sets: &Sets,
+    rules: &Indexed,
+    settings: &Settings,
+    asked: &Asked,
+) -> u32
+    requires { IsIndexed branches.now.items sets.now rules.now }
+    ensures { (bit : ℕ) → IsBitSet result bit ↔ HasCover (is_on settings.now) (rules_of branches.now.items sets.now rules.now) asked.now.source asked.now.target asked.now.class bit }
+{
+    let searched = Searched {
+        branches: branches.as_slice(),
+        sets,
+        records: rules.records.as_slice(),
+    };
+    let entries = rules.entries.as_slice();
+    let starts = rules.starts.as_slice();
+    covered(&searched, entries, starts, settings, asked)
+}
+
+/// Rules of one kind with their index. Errors: out of memory.
+fn index_rules(
+    alloc: Global,
+    branches: &Vec<Branch>,
+    sets: &Sets,
+    numbers: &Vec<u32>,
+    rules: &Vec<NamedRule>,
+    classes: usize,
+) -> Result<Indexed, NoMemory>
+    requires { IsStrictlySortedBy branch_cmp branches.now.items }
+    ensures index { IfOk result (IsIndexed branches.now.items sets.now) }
+    ensures rules { IfOk result (λ r. (named : List (List ℕ)) → IsStrictlySortedBy set_cmp sets.now → AreNumbered sets.now named numbers.now.items
+        → Lists rule_cmp (Contains (map (rule_named branches.now.items named) rules.now.items)) (rules_of branches.now.items sets.now r)) }
+{
+    let branches = branches.as_slice();
+    let records = records_of(alloc, branches, numbers.as_slice(), rules.as_slice())?;
+    let entries = index_of(alloc, sets, records.as_slice())?;
+    // Where a class ends is where the next begins.
+    let starts = starts_of(alloc, entries.as_slice(), classes.saturating_add(1))?;
+    Ok(Indexed {
+        records,
+        entries,
+        starts,
+    })
 }

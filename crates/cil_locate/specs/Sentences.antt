@@ -30,6 +30,7 @@ sentence_of causes.SetCycle = codes "set that depends on itself"
 sentence_of causes.ClassWide = codes "class with too many permissions"
 sentence_of causes.CommonTwice = codes "class with two different commons"
 sentence_of causes.TooMany = codes "too many of one kind"
+sentence_of causes.NeverAllow = codes "forbidden and allowed"
 
 -- of a text that cannot be read
 abbrev pub reading_sentence : ReadCode → List ℕ

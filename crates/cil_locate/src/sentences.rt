@@ -34,6 +34,7 @@ pub(crate) fn sentence(code: FaultCode) -> &'static str
         FaultCode::ClassWide => "class with too many permissions",
         FaultCode::CommonTwice => "class with two different commons",
         FaultCode::TooMany => "too many of one kind",
+        FaultCode::NeverAllow => "forbidden and allowed",
     }
 }
 

@@ -127,19 +127,12 @@ module _ (ss : List Space) (es : List Entry) (s : OptSet) (kind : Kind) where
   section_lists names l =
       lists_of text_cmp (Contains (flat_map (name_given ss s kind) es)) (IsNameAmong ss es s kind) names among_there among_back l
 
-pub all_sections : (P : Kind → List (List ℕ) → Type 0) (n : Sections) → P kinds.User n.users.items → P kinds.Role n.roles.items → P kinds.Type_ n.types.items → P kinds.Class n.classes.items
-    → (kind : Kind) → has_section kind ≡ true → P kind (names_of n kind)
-all_sections P n u r t c kinds.User e = u
-all_sections P n u r t c kinds.Role e = r
-all_sections P n u r t c kinds.Type_ e = t
-all_sections P n u r t c kinds.Class e = c
-all_sections P n u r t c kind e = absurd (true≢false (sym e))
-
 pub all_rise : (n : Sections) → ((kind : Kind) → has_section kind ≡ true → IsStrictlySortedBy text_cmp (names_of n kind)) → (kind : Kind) → IsStrictlySortedBy text_cmp (names_of n kind)
 all_rise n rise kinds.User = rise kinds.User refl
 all_rise n rise kinds.Role = rise kinds.Role refl
 all_rise n rise kinds.Type_ = rise kinds.Type_ refl
 all_rise n rise kinds.Class = rise kinds.Class refl
+all_rise n rise kinds.Boolean = rise kinds.Boolean refl
 all_rise n rise kind = rising_nothing text_cmp
 
 -- ---- all numbers

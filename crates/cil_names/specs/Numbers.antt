@@ -42,6 +42,7 @@ has_section kinds.Type_ = true
 has_section kinds.Role = true
 has_section kinds.User = true
 has_section kinds.Class = true
+has_section kinds.Boolean = true
 has_section kind = false
 
 -- the names of the symbols of one kind
@@ -50,6 +51,7 @@ names_of sections kinds.Type_ = sections.types.items
 names_of sections kinds.Role = sections.roles.items
 names_of sections kinds.User = sections.users.items
 names_of sections kinds.Class = sections.classes.items
+names_of sections kinds.Boolean = sections.booleans.items
 names_of sections kind = []
 
 -- the qualified names of the entries of one kind, as they come

@@ -29,6 +29,8 @@ pub struct Sections {
     pub types: Vec<Bytes>,
     /// The classes.
     pub classes: Vec<Bytes>,
+    /// The booleans.
+    pub booleans: Vec<Bytes>,
 }
 
 /// Numbering symbols: the names of each section, and the number of each entry in the section of its kind.
@@ -71,11 +73,13 @@ fn sections_of(
     let roles = section_of(alloc, namespaces, entries, enabled, Kind::Role)?;
     let types = section_of(alloc, namespaces, entries, enabled, Kind::Type_)?;
     let classes = section_of(alloc, namespaces, entries, enabled, Kind::Class)?;
+    let booleans = section_of(alloc, namespaces, entries, enabled, Kind::Boolean)?;
     Ok(Sections {
         users,
         roles,
         types,
         classes,
+        booleans,
     })
 }
 
@@ -201,6 +205,7 @@ impl Sections {
             Kind::Role => self.roles.as_slice(),
             Kind::Type_ => self.types.as_slice(),
             Kind::Class => self.classes.as_slice(),
+            Kind::Boolean => self.booleans.as_slice(),
             _ => &[],
         }
     }

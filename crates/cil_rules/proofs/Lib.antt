@@ -1,3 +1,4 @@
 pub mod BehindLemmas
+pub mod BranchLemmas
 pub mod TargetLemmas
 pub mod RuleLemmas

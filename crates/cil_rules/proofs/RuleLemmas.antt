@@ -20,9 +20,10 @@ use Rattle.cil_syntax.specs.Scopes.{ScopedWord}
 use Rattle.cil_names.specs.declared.known.Known.{Known}
 use Rattle.cil_classes.specs.declared.row.Class.{Class}
 use Rattle.cil_rules.specs.declared.rule.NamedRule.{NamedRule}
-use Rattle.cil_rules.specs.Kept.{rule_named, set_named, target_named}
+use Rattle.cil_rules.specs.Kept.{branch_named, rule_named, set_named, target_named}
 use Rattle.cil_rules.specs.Rule.{Rule}
-use Rattle.cil_rules.specs.Records.{Case, HasNumber, HasTarget, IsCase, IsRuleOf, CaseBy}
+use Rattle.cil_conditions.specs.declared.branch.Branch.{Branch}
+use Rattle.cil_rules.specs.Records.{Branching, Case, CaseBy, HasNumber, HasTarget, IsCase, IsPut, IsRuleOf, IsTaken}
 use Rattle.cil_names.specs.Known.{AreStanding, BeginWith, HasNumberFor, IsKnown, StandsForNothing, enabled_in, meant_by, meant_in, set_meant, value_in, wanted_with}
 use Rattle.cil_names.specs.Members.{StandsFor}
 use Rattle.cil_names.specs.Resolves.{Wanted, Word as AWord, all_wanted_in, wanted_in}
@@ -110,12 +111,15 @@ pair_declared xs s cp c p (of_class at word e d q stands value) = stands.declare
 pair_declared xs s cp c p (of_map at word e inner m d r q stands value given pair) = pair_declared xs s inner d q pair
 pair_declared xs s cp c p (of_name word inner n d q stands given pair) = pair_declared xs s inner d q pair
 
-same_case : (a b : Case) → a.source ≡ b.source → a.target ≡ b.target → a.class_permission ≡ b.class_permission → a.class_ ≡ b.class_ → a ≡ b
-same_case a b s t p c = λ i. record { source = s i; target = t i; class_permission = p i; class_ = c i }
+same_case : (a b : Case) → a.branch ≡ b.branch → a.source ≡ b.source → a.target ≡ b.target → a.class_permission ≡ b.class_permission → a.class_ ≡ b.class_ → a ≡ b
+same_case a b o s t p c = λ i. record { branch = o i; source = s i; target = t i; class_permission = p i; class_ = c i }
 
-module _ (xs : List Item) (k : Known) (keyword : Keyword) (x : Item) where
+module _ (xs : List Item) (k : Known) (keyword : Keyword) (how : Branching) (x : Item) where
   abbrev IsCaseOf : Case → Type 0
-  IsCaseOf = CaseBy xs (enabled_in k) keyword x
+  IsCaseOf = CaseBy xs (enabled_in k) keyword how x
+
+  pub not_taken : (IsTaken xs (enabled_in k) how x.branch → ⊥) → (c : Case) → IsCaseOf c → ⊥
+  not_taken none c by = none (subst (IsTaken xs (enabled_in k) how) by.branch by.taken)
 
   pub other_keyword : (x.keyword ≡ keyword → ⊥) → (c : Case) → IsCaseOf c → ⊥
   other_keyword differ c by = differ by.is_keyword
@@ -149,25 +153,27 @@ module _ (xs : List Item) (k : Known) (keyword : Keyword) (x : Item) where
       pub without_target : (HasTarget xs (enabled_in k) (across f target) → ⊥) → (c : Case) → IsCaseOf c → ⊥
       without_target none c by = none (subst (HasTarget xs (enabled_in k)) (target_of c by) by.target)
 
-      module _ (names : Kind → List (List ℕ)) (known : IsKnown k xs names) (apart : AreApart k.lookup.names.now (enabled_in k) k.numbers.now) (types sets : List (List ℕ)) (classes : List Class) (number : ℕ)
+      module _ (names : Kind → List (List ℕ)) (known : IsKnown k xs names) (apart : AreApart k.lookup.names.now (enabled_in k) k.numbers.now) (branches : List Branch) (branch : ℕ)
+          (taken : IsTaken xs (enabled_in k) how x.branch) (put : IsPut xs (enabled_in k) how x.branch (branch_named branches branch)) (types sets : List (List ℕ)) (classes : List Class) (number : ℕ)
           (listed : Lists nat_cmp (HasNumber xs (enabled_in k) types (f source)) (set_named sets number)) (some : set_named sets number ≡ [] → ⊥) (reach : Reach)
           (is_reached : IsReached xs (enabled_in k) types (across f target) (target_named sets reach)) (masks : List (ClassId × ℕ))
           (masked : AreMasksOf xs (enabled_in k) classes (across f class_permission) masks) where
         abbrev case_for : Symbol → Case
-        case_for c = record { source = f source; target = across f target; class_permission = across f class_permission; class_ = c }
+        case_for c = record { branch = x.branch; source = f source; target = across f target; class_permission = across f class_permission; class_ = c }
 
         abbrev with_mask : ClassId × ℕ → NamedRule
-        with_mask m = rule_with number reach m
+        with_mask m = rule_with branch number reach m
 
         case_is : (c : Case) → IsCaseOf c → c ≡ case_for c.class_
-        case_is c by = same_case c (case_for c.class_) (source_of c by) (target_of c by) (class_of c by) refl
+        case_is c by = same_case c (case_for c.class_) by.branch (source_of c by) (target_of c by) (class_of c by) refl
 
         pair_of : (c : Case) (by : IsCaseOf c) → HasPair xs (enabled_in k) (across f class_permission) c.class_ by.permission.0
         pair_of c by = subst (λ t. HasPair xs (enabled_in k) t c.class_ by.permission.0) (class_of c by) by.permission.1
 
         is_record : (m : ClassId × ℕ) (mask : IsMaskOfClass xs (enabled_in k) classes (across f class_permission) m)
-            → IsRuleOf xs (enabled_in k) types classes (case_for mask.symbol) (rule_named sets (with_mask m))
+            → IsRuleOf xs (enabled_in k) types classes how (case_for mask.symbol) (rule_named branches sets (with_mask m))
         is_record m mask = record {
+          branch = put;
           source = listed;
           target = is_reached.1;
           row = mask.row;
@@ -180,7 +186,7 @@ module _ (xs : List Item) (k : Known) (keyword : Keyword) (x : Item) where
         }
 
         -- each case has the record of the mask of its class
-        record_for : (c : Case) → IsCaseOf c → (y : Rule) × IsRuleOf xs (enabled_in k) types classes c y × Contains (map (rule_named sets) (map with_mask masks)) y
+        record_for : (c : Case) → IsCaseOf c → (y : Rule) × IsRuleOf xs (enabled_in k) types classes how c y × Contains (map (rule_named branches sets) (map with_mask masks)) y
         record_for c by =
             let pair = pair_of c by in
             let among = masked.all c.class_ by.permission.0 pair in
@@ -188,9 +194,9 @@ module _ (xs : List Item) (k : Known) (keyword : Keyword) (x : Item) where
             let row : among.row ≡ mask.row = same_Some among.row mask.row (sym among.is_row ∙ mask.is_row) in
             let one : mask.symbol ≡ c.class_ = one_class k xs names known apart mask.symbol c.class_ (pair_declared xs (enabled_in k) (across f class_permission) mask.symbol mask.some.0 mask.some.1)
             (pair_declared xs (enabled_in k) (across f class_permission) c.class_ by.permission.0 pair) (sym mask.named ∙ ap (λ (r : Class). r.name) (sym row) ∙ among.named) in (
-              rule_named sets (with_mask among.mask),
-              subst (λ d. IsRuleOf xs (enabled_in k) types classes d (rule_named sets (with_mask among.mask))) (ap case_for one ∙ sym (case_is c by)) (is_record among.mask mask),
-              contains_map (rule_named sets) (map with_mask masks) (with_mask among.mask) (contains_map with_mask masks among.mask among.there),
+              rule_named branches sets (with_mask among.mask),
+              subst (λ d. IsRuleOf xs (enabled_in k) types classes how d (rule_named branches sets (with_mask among.mask))) (ap case_for one ∙ sym (case_is c by)) (is_record among.mask mask),
+              contains_map (rule_named branches sets) (map with_mask masks) (with_mask among.mask) (contains_map with_mask masks among.mask among.there),
             )
 
         module _ (is : x.keyword ≡ keyword) (enabled : is_enabled (enabled_in k) x ≡ true) where
@@ -198,6 +204,8 @@ module _ (xs : List Item) (k : Known) (keyword : Keyword) (x : Item) where
           a_case m mask = record {
             enabled = enabled;
             is_keyword = is;
+            branch = refl;
+            taken = taken;
             says = is_rule;
             source = some_type xs (enabled_in k) types (f source) (set_named sets number) listed some;
             target = is_reached.0;
@@ -205,55 +213,37 @@ module _ (xs : List Item) (k : Known) (keyword : Keyword) (x : Item) where
           }
 
           -- each record is that of the class of its mask
-          case_of : (y : Rule) → Contains (map (rule_named sets) (map with_mask masks)) y
-              → (z : Item) × (c : Case) × Contains (x ∷ []) z × CaseBy xs (enabled_in k) keyword z c × IsRuleOf xs (enabled_in k) types classes c y
+          case_of : (y : Rule) → Contains (map (rule_named branches sets) (map with_mask masks)) y
+              → (z : Item) × (c : Case) × Contains (x ∷ []) z × CaseBy xs (enabled_in k) keyword how z c × IsRuleOf xs (enabled_in k) types classes how c y
           case_of y c =
-              let (r, cr, of_rule) = from_map (rule_named sets) (map with_mask masks) y c in
+              let (r, cr, of_rule) = from_map (rule_named branches sets) (map with_mask masks) y c in
               let (m, cm, of_mask) = from_map with_mask masks r cr in
               let mask = masked.each m cm in
-              (x, case_for mask.symbol, contains_here x [], a_case m mask, subst (IsRuleOf xs (enabled_in k) types classes (case_for mask.symbol)) (ap (rule_named sets) of_mask ∙ of_rule) (is_record m mask))
+              (x, case_for mask.symbol, contains_here x [], a_case m mask, subst (IsRuleOf xs (enabled_in k) types classes how (case_for mask.symbol)) (ap (rule_named branches sets) of_mask ∙ of_rule) (is_record m mask))
 
           -- a rule for each mask is a record for each case
           pub some_rules : (old new : List NamedRule) → new ≡ old ++ map with_mask masks
-              → AreBehind (CaseBy xs (enabled_in k) keyword) (IsRuleOf xs (enabled_in k) types classes) x (map (rule_named sets) old) (map (rule_named sets) new)
+              → AreBehind (CaseBy xs (enabled_in k) keyword how) (IsRuleOf xs (enabled_in k) types classes how) x (map (rule_named branches sets) old) (map (rule_named branches sets) new)
           some_rules old new push = record {
-            records = map (rule_named sets) (map with_mask masks);
+            records = map (rule_named branches sets) (map with_mask masks);
             are = record {
               each = λ z c cz by. elim (contains_cases z x [] cz) [
-                | inl e ↦ record_for c (subst (λ w. CaseBy xs (enabled_in k) keyword w c) (sym e) by)
+                | inl e ↦ record_for c (subst (λ w. CaseBy xs (enabled_in k) keyword how w c) (sym e) by)
                 | inr n ↦ absurd (contains_none z n)
               ];
               only = case_of;
             };
-            behind = ap (map (rule_named sets)) push ∙ map-append (rule_named sets) old (map with_mask masks);
+            behind = ap (map (rule_named branches sets)) push ∙ map-append (rule_named branches sets) old (map with_mask masks);
           }
 
 -- ---- the records of all statements
 
-module _ (xs : List Item) (s : OptSet) (keyword : Keyword) (types : List (List ℕ)) (classes : List Class) (raw : List Rule)
-    (are : AreRecordsOf (CaseBy xs s keyword) (IsRuleOf xs s types classes) xs raw) where
-  as_case : (x : Item) (k : Case) → Contains xs x → CaseBy xs s keyword x k → IsCase xs s keyword k
-  as_case x k c by = record {
-    rule = record { item = x; is_item = c; enabled = by.enabled; is_keyword = by.is_keyword; says = by.says };
-    source = by.source;
-    target = by.target;
-    permission = by.permission;
-  }
-
-  of_case : (k : Case) (is : IsCase xs s keyword k) → CaseBy xs s keyword is.rule.item k
-  of_case k is = record {
-    enabled = is.rule.enabled;
-    is_keyword = is.rule.is_keyword;
-    says = is.rule.says;
-    source = is.source;
-    target = is.target;
-    permission = is.permission;
-  }
-
+module _ (xs : List Item) (s : OptSet) (keyword : Keyword) (how : Branching) (types : List (List ℕ)) (classes : List Class) (raw : List Rule)
+    (are : AreRecordsOf (CaseBy xs s keyword how) (IsRuleOf xs s types classes how) xs raw) where
   -- a list of them in their order has the rule of each case
-  pub rules_listed : (zs : List Rule) → Lists rule_cmp (Contains raw) zs → Gives rule_cmp (IsCase xs s keyword) (IsRuleOf xs s types classes) zs
+  pub rules_listed : (zs : List Rule) → Lists rule_cmp (Contains raw) zs → Gives rule_cmp (IsCase xs s keyword how) (IsRuleOf xs s types classes how) zs
   rules_listed zs list = record {
     rising = list.rising;
-    each = λ k is. let r = are.each is.rule.item k is.rule.is_item (of_case k is) in (r.0, r.1, (list.members r.0).1 r.2);
-    only = λ y c. let o = are.only y ((list.members y).0 c) in (o.1, as_case o.0 o.1 o.2 o.3, o.4);
+    each = λ k is. let r = are.each is.item k is.is_item is.by in (r.0, r.1, (list.members r.0).1 r.2);
+    only = λ y c. let o = are.only y ((list.members y).0 c) in (o.1, record { item = o.0; is_item = o.2; by = o.3 }, o.4);
   }

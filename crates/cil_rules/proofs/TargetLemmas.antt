@@ -3,7 +3,7 @@ use Rattle.std.specs.Prelude.{Contains, Option, Some, None, MatchOption}
 use Rattle.std.specs.Ordering.{nat_cmp}
 use Rattle.std.specs.declared.alloc.Global.{Global}
 use Rattle.std.specs.declared.vec.Vec.{Vec}
-use Rattle.std.proofs.Common.{◌≡◌, ℕ, ◌++◌, List, [], ◌∷◌, get_or, map, refl, sym, ◌∙◌, ap, subst, inl, inr}
+use Rattle.std.proofs.Common.{◌≡◌, ℕ, ◌++◌, List, [], ◌∷◌, get_or, map, refl, sym, ◌∙◌, ap, subst}
 use Rattle.cil_base.specs.Lists.{Lists, contains_here}
 use Rattle.cil_base.specs.declared.bytes.Bytes.{Bytes}
 use Rattle.cil_syntax.specs.declared.kind.Kind.{Kind}

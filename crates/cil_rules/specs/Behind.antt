@@ -11,6 +11,6 @@ pub record AreBehind {X K Y : Type 0} (asked : X → K → Type 0) (gives : K �
   pub are : AreRecordsOf asked gives (x ∷ []) records
   pub behind : new ≡ old ++ records
 
--- the rule of a mask, from this source to what is reached
-abbrev pub rule_with : ℕ → Reach → ClassId × ℕ → NamedRule
-rule_with source target m = record { source = source; target = target; class = m.0.number; mask = m.1 }
+-- the rule of a mask, in this branch, from this source to what is reached
+abbrev pub rule_with : (branch source : ℕ) → Reach → ClassId × ℕ → NamedRule
+rule_with branch source target m = record { branch = branch; source = source; target = target; class = m.0.number; mask = m.1 }

@@ -1,28 +1,14 @@
--- Which rules of a policy cover a permission. The SELinux Notebook, "Computing Access Decisions"; CIL Reference Guide, "allow".
-use Rattle.std.specs.Prelude.{◌≡◌, ℕ, List}
+-- Which rules of a policy cover a permission. The SELinux Notebook, "Computing Access Decisions"; CIL Reference Guide, "allow",
+-- "booleanif".
+use Rattle.std.specs.Prelude.{ℕ, List}
 use Rattle.cil_syntax.specs.declared.kind.Keyword.{Keyword}
-use Rattle.cil_syntax.specs.declared.kind.Kind.TheVariants as kinds
-use Rattle.cil_syntax.specs.declared.term.Op.TheVariants as ops
-use Rattle.cil_syntax.specs.Terms.{Term, Leaf, Name, Form, nil, cons}
-use Rattle.cil_names.specs.Declarations.{Symbol}
 use Rattle.cil_macros.specs.Item.{Item, OptSet}
-use Rattle.cil_syntax.specs.Scopes.{ScopedWord}
-use Rattle.cil_names.specs.Members.{StandsFor}
-use Rattle.cil_classes.specs.Given.{HasPair}
-use Rattle.cil_names.specs.Says.{Says}
+use Rattle.cil_names.specs.Declarations.{Symbol}
+use Rattle.cil_conditions.specs.Conditions.{IsChosen, Settings}
+use Rattle.cil_rules.specs.CoveredBy.{IsCoveredBy}
 
--- the target of a rule has the type: `self` where it is the source type
-abbrev pub IsTarget : List Item → OptSet → Symbol → Symbol → Term ScopedWord → Type 0
-IsTarget xs s source target (Leaf w) = StandsFor xs s kinds.Type_ w target
-IsTarget xs s source target (Name at name) = ⊥
-IsTarget xs s source target (Form at op parts) = (op ≡ ops.Itself) × (source ≡ target)
-
--- some enabled rule with this first word covers the permission
-pub record IsCovered (xs : List Item) (s : OptSet) (keyword : Keyword) (source target class_ : Symbol) (permission : List ℕ) : Type 0 where
-  pub source_word : ScopedWord
-  pub target_term : Term ScopedWord
-  pub class_permission : Term ScopedWord
-  pub rule : Says xs s keyword (cons (Leaf source_word) (cons target_term (cons class_permission nil)))
-  pub has_source : StandsFor xs s kinds.Type_ source_word source
-  pub has_target : IsTarget xs s source target target_term
-  pub permits : HasPair xs s class_permission class_ permission
+-- some enabled rule with this first word covers the permission, and counts by these settings
+pub record IsCovered (xs : List Item) (s : OptSet) (v : Settings) (keyword : Keyword) (source target class_ : Symbol) (permission : List ℕ) : Type 0 where
+  pub item : Item
+  pub covers : IsCoveredBy xs s keyword item source target class_ permission
+  pub chosen : IsChosen xs s v item.branch

@@ -1,5 +1,6 @@
 pub mod Behind
 pub mod Covered
+pub mod CoveredBy
 pub mod Covers
 pub mod Kept
 pub mod Order

@@ -10,4 +10,4 @@ mod rule;
 mod rules;
 
 pub use rule::{NamedRule, Reach};
-pub use rules::rules_of;
+pub use rules::{push_rules, rules_of};

@@ -13,6 +13,8 @@ pub enum Reach {
 /// same memory however many types there are.
 #[derive(Clone, Copy, Debug)]
 pub struct NamedRule {
+    /// The number of the branch in which it counts, from 1 on; 0 for a rule that counts always.
+    pub branch: u32,
     /// The number of the declared name of the source.
     pub source: u32,
     /// What the rule reaches, by the number of a declared name.

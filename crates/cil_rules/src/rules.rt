@@ -2,17 +2,21 @@
 //! the words of its target, and a step for each of its permission words. Where its class permission is a name or a list on a class map, it
 //! costs what the masks of these cost, and a record for each class of which they give permissions.
 
-ghost use Rattle.std.specs.Prelude.{◌≡◌, ◌↔◌, ◌<◌, ◌≤◌, ◌++◌, ◌∷◌, ℕ, [], Contains, IfOk, IsTrue, List, true, false, MatchOption, OnOk, get_or, length, map};
+ghost use Rattle.std.specs.Prelude.{◌≡◌, ◌↔◌, ◌<◌, ◌≤◌, ◌++◌, ◌∷◌, ℕ, [], Contains, IfOk, IsTrue, List, true, false, MatchOption, OnOk, get_or, length, map, suc};
 ghost use Rattle.std.specs.List.Sorted.{IsStrictlySortedBy};
 ghost use Rattle.cil_base.specs.Lists.{text_cmp};
 ghost use Rattle.cil_base.specs.Records.{AreRecordsOf};
+ghost use Rattle.cil_conditions.specs.Numbered.{AreBranchesOf};
+ghost use Rattle.cil_conditions.specs.Spelled.{IsBranchOf};
+ghost use Rattle.cil_conditions.specs.Conditions.{IsSaid};
+ghost use Rattle.cil_conditions.specs.declared.branch.Branch.{Branch as ABranch};
 ghost use Rattle.cil_syntax.specs.declared.kind.Kind as kinds;
 ghost use Rattle.cil_syntax.specs.declared.kind.Kind.TheVariants as variants;
 ghost use Rattle.cil_syntax.specs.declared.term.Op.TheVariants as ops;
 ghost use Rattle.cil_syntax.specs.declared.term.Word.{Word as AWord};
 ghost use Rattle.cil_syntax.specs.Said.{said_of};
 ghost use Rattle.cil_syntax.specs.Scopes.{ScopedWord};
-ghost use Rattle.cil_macros.specs.Item.{Item};
+ghost use Rattle.cil_macros.specs.Item.{Item, OptSet};
 ghost use Rattle.cil_macros.specs.Items.{item_at, items_in, says_as_written};
 ghost use Rattle.cil_names.specs.declared.known.Known.{Known as Lookups};
 ghost use Rattle.cil_names.specs.Known.{AreStanding, BeginWith, IsKnown, enabled_in, row_in, set_meant};
@@ -27,12 +31,13 @@ ghost use Rattle.cil_classes.specs.NodeOrder.{node_cmp};
 ghost use Rattle.cil_classes.specs.Row.{AreOrderlyRows, most_permissions};
 ghost use Rattle.cil_rules.specs.Behind.{AreBehind, rule_with};
 ghost use Rattle.cil_rules.specs.declared.rule.Reach.TheVariants as reaches;
-ghost use Rattle.cil_rules.specs.Kept.{rule_named, set_named, target_named};
-ghost use Rattle.cil_rules.specs.Records.{CaseBy, HasTarget, IsRuleOf, IsTargetOf};
+ghost use Rattle.cil_rules.specs.Kept.{branch_named, rule_named, set_named, target_named};
+ghost use Rattle.cil_rules.specs.Records.{Branching, CaseBy, HasTarget, IsPut, IsRuleOf, IsTaken, IsTargetOf, spelled};
 
 use crate::rule::{NamedRule, Reach};
 use cil_base::NoMemory;
 use cil_classes::{Class, ClassId, GivenPermissions, push_perms};
+use cil_conditions::Branches;
 use cil_macros::Instances;
 use cil_names::{Known, Meaning, behind, behind_first, meaning_at, same_keyword};
 use cil_sets::Numbers;
@@ -40,8 +45,8 @@ use cil_syntax::{Keyword, Op, Term};
 use std::alloc::Global;
 
 /// The rules of the enabled statements with this first word, in the order of these, where the words of each declared name stand for these
-/// types: one for each class of which a statement gives permissions. A rule whose source or target is an attribute without members is left
-/// out. Error: out of memory.
+/// types, and the branches of conditions are these: one for each class of which a statement gives permissions. A rule whose source or
+/// target is an attribute without members is left out. Error: out of memory.
 pub fn rules_of(
     alloc: Global,
     instances: &Instances,
@@ -49,6 +54,7 @@ pub fn rules_of(
     types: &[Numbers],
     classes: &[Class],
     given: &GivenPermissions,
+    branches: &Branches,
     keyword: Keyword,
 ) -> Result<Vec<NamedRule>, NoMemory>
     requires table { IsTableOf (map (row_in known.now) (items_in instances.now)) known.now.words.now }
@@ -62,24 +68,26 @@ pub fn rules_of(
         → AreStanding known.now (items_in instances.now) names variants.Type_ types.now
         → AreClasses (items_in instances.now) (enabled_in known.now) (names variants.Class) classes.now
         → IsAssigned known.now (items_in instances.now) classes.now given.now
-        → AreRecordsOf (CaseBy (items_in instances.now) (enabled_in known.now) keyword)
-        (IsRuleOf (items_in instances.now) (enabled_in known.now) (names variants.Type_) classes.now) (items_in instances.now) (map (rule_named types.now) rules.items)) }
+        → AreBranchesOf instances.now (enabled_in known.now) (names variants.Boolean) branches.now
+        → AreRecordsOf (CaseBy (items_in instances.now) (enabled_in known.now) keyword (spelled (names variants.Boolean)))
+        (IsRuleOf (items_in instances.now) (enabled_in known.now) (names variants.Type_) classes.now (spelled (names variants.Boolean)))
+        (items_in instances.now) (map (rule_named branches.now.rows types.now) rules.items)) }
 {
     let mut rules = Vec::with_capacity(alloc, instances.len())?;
     let mut masks = Vec::new(alloc);
     for at in 0..instances.len() {
         let words = known.words.row(at);
-        push_rules(
+        push_in_branch(
             alloc, &mut rules, &mut masks, instances, at, words, known, types, classes, given,
-            keyword,
+            branches, keyword,
         )?;
     }
     Ok(rules)
 }
 
-/// Adds the rules of the statement at a place, if it is an enabled one with this first word, by what its words mean; none where it covers nothing. The
-/// masks are room for those of the statement, so that no statement takes memory of its own.
-fn push_rules(
+/// Adds the rules of the statement at a place, as `push_rules` does, in the branch in which it is; none where a word of its condition
+/// names no boolean.
+fn push_in_branch(
     alloc: Global,
     out: &mut Vec<NamedRule>,
     masks: &mut Vec<(ClassId, u32)>,
@@ -90,6 +98,7 @@ fn push_rules(
     types: &[Numbers],
     classes: &[Class],
     given: &GivenPermissions,
+    branches: &Branches,
     keyword: Keyword,
 ) -> Result<(), NoMemory>
     requires within { at < length (items_in instances.now) }
@@ -97,12 +106,89 @@ fn push_rules(
     requires nodes { IsStrictlySortedBy node_cmp given.now.nodes.items }
     requires written { says_as_written keyword ≡ true }
     requires plain { is_mapping keyword ≡ false }
-    ensures { OnOk result ((xs : List Item) (names : kinds.Kind → List (List ℕ)) → IsKnown known.now xs names
+    ensures { OnOk result ((names : kinds.Kind → List (List ℕ)) → IsKnown known.now (items_in instances.now) names
+        → AreApart known.now.lookup.names.now (enabled_in known.now) known.now.numbers.now → AreStanding known.now (items_in instances.now) names variants.Type_ types.now
+        → AreClasses (items_in instances.now) (enabled_in known.now) (names variants.Class) classes.now → IsAssigned known.now (items_in instances.now) classes.now given.now
+        → AreBranchesOf instances.now (enabled_in known.now) (names variants.Boolean) branches.now
+        → words.now ≡ row_in known.now (item_at instances.now at)
+        → AreBehind (CaseBy (items_in instances.now) (enabled_in known.now) keyword (spelled (names variants.Boolean)))
+        (IsRuleOf (items_in instances.now) (enabled_in known.now) (names variants.Type_) classes.now (spelled (names variants.Boolean)))
+        (item_at instances.now at) (map (rule_named branches.now.rows types.now) out.old.items) (map (rule_named branches.now.rows types.now) out.new.items)) }
+{
+    // Most statements are of other keywords, and are asked for no branch.
+    if !same_keyword(instances.statement_there(at).keyword, keyword) {
+        return Ok(());
+    }
+    let Some(branch) = branch_number(instances, branches, at)? else {
+        return Ok(());
+    };
+    push_rules(
+        alloc, out, masks, instances, at, words, known, types, classes, given, branch, keyword,
+    )?;
+    Ok(())
+}
+
+/// The number of the branch in which the statement at a place is, from 1 on; 0 where it is in none. None where a word of the condition
+/// names no boolean.
+fn branch_number(
+    instances: &Instances,
+    branches: &Branches,
+    at: usize,
+) -> Result<Option<u32>, NoMemory>
+    requires { at < length (items_in instances.now) }
+    ensures { IfOk result (λ n. (s : OptSet) (booleans : List (List ℕ)) → AreBranchesOf instances.now s booleans branches.now
+        → MatchOption n (IsSaid (items_in instances.now) s (item_at instances.now at).branch → ⊥)
+        (λ number. IsBranchOf (items_in instances.now) s booleans (item_at instances.now at).branch (branch_named branches.now.rows number))) }
+{
+    let Some(branch) = instances.branch(at) else {
+        return Ok(Some(0));
+    };
+    let Some(number) = branches.number(branch.at, branch.value) else {
+        return Ok(None);
+    };
+    Ok(Some(counted(number)?))
+}
+
+/// A place as a number from 1 on, in four bytes.
+fn counted(place: usize) -> Result<u32, NoMemory>
+    ensures { IfOk result (λ number. number ≡ suc place) }
+{
+    if place >= u32::MAX as usize {
+        return Err(NoMemory);
+    }
+    Ok(place as u32 + 1)
+}
+
+/// Adds the rules of the statement at a place, if it is an enabled one with this first word, by what its words mean; none where it covers
+/// nothing. They are in the branch of this number, of which nothing is asked here. The masks are room for those of the statement, so that
+/// no statement takes memory of its own.
+pub fn push_rules(
+    alloc: Global,
+    out: &mut Vec<NamedRule>,
+    masks: &mut Vec<(ClassId, u32)>,
+    instances: &Instances,
+    at: usize,
+    words: &[Meaning],
+    known: &Known,
+    types: &[Numbers],
+    classes: &[Class],
+    given: &GivenPermissions,
+    branch: u32,
+    keyword: Keyword,
+) -> Result<(), NoMemory>
+    requires within { at < length (items_in instances.now) }
+    requires rows { AreOrderlyRows classes.now }
+    requires nodes { IsStrictlySortedBy node_cmp given.now.nodes.items }
+    requires written { says_as_written keyword ≡ true }
+    requires plain { is_mapping keyword ≡ false }
+    ensures { OnOk result ((xs : List Item) (names : kinds.Kind → List (List ℕ)) (branches : List ABranch) (how : Branching)
+        → IsTaken xs (enabled_in known.now) how (item_at instances.now at).branch
+        → IsPut xs (enabled_in known.now) how (item_at instances.now at).branch (branch_named branches branch) → IsKnown known.now xs names
         → AreApart known.now.lookup.names.now (enabled_in known.now) known.now.numbers.now → AreStanding known.now xs names variants.Type_ types.now
         → AreClasses xs (enabled_in known.now) (names variants.Class) classes.now → IsAssigned known.now xs classes.now given.now
         → words.now ≡ row_in known.now (item_at instances.now at)
-        → AreBehind (CaseBy xs (enabled_in known.now) keyword) (IsRuleOf xs (enabled_in known.now) (names variants.Type_) classes.now)
-        (item_at instances.now at) (map (rule_named types.now) out.old.items) (map (rule_named types.now) out.new.items)) }
+        → AreBehind (CaseBy xs (enabled_in known.now) keyword how) (IsRuleOf xs (enabled_in known.now) (names variants.Type_) classes.now how)
+        (item_at instances.now at) (map (rule_named branches types.now) out.old.items) (map (rule_named branches types.now) out.new.items)) }
 {
     let statement = instances.statement_there(at);
     if !same_keyword(statement.keyword, keyword) {
@@ -135,7 +221,7 @@ fn push_rules(
         module,
         of_class,
     )?;
-    push_named(out, masks.as_slice(), source, target)?;
+    push_named(out, masks.as_slice(), branch, source, target)?;
     Ok(())
 }
 
@@ -143,13 +229,14 @@ fn push_rules(
 fn push_named(
     out: &mut Vec<NamedRule>,
     masks: &[(ClassId, u32)],
+    branch: u32,
     source: u32,
     target: Reach,
 ) -> Result<(), NoMemory>
-    ensures { OnOk result (out.new.items ≡ out.old.items ++ map (rule_with source target) masks.now) }
+    ensures { OnOk result (out.new.items ≡ out.old.items ++ map (rule_with branch source target) masks.now) }
 {
     for one in masks {
-        push_one(out, one, source, target)?;
+        push_one(out, one, branch, source, target)?;
     }
     Ok(())
 }
@@ -158,13 +245,15 @@ fn push_named(
 fn push_one(
     out: &mut Vec<NamedRule>,
     one: &(ClassId, u32),
+    branch: u32,
     source: u32,
     target: Reach,
 ) -> Result<(), NoMemory>
-    ensures { OnOk result (out.new.items ≡ out.old.items ++ rule_with source target one.now ∷ []) }
+    ensures { OnOk result (out.new.items ≡ out.old.items ++ rule_with branch source target one.now ∷ []) }
 {
     let class = short(one.0.number)?;
     out.push(NamedRule {
+        branch,
         source,
         target,
         class,

@@ -11,12 +11,12 @@ use Rattle.std.proofs.lemmas.List.Splits.{join_with_byte-slice_split, slice_spli
 use Rattle.std.proofs.lemmas.List.Sums.{fold-append}
 use Rattle.cil_base.specs.Lists.{contains_cases, contains_none}
 use Rattle.cil_syntax.specs.Spelling.{same_bytes}
-use Rattle.cil_server.specs.Asked.{Line, alone, announced, asked, bodied, by_words, checked, is_decimal, is_digit, longest_body, queried, value_of, words_of}
-use Rattle.cil_server.specs.Asked.Line.{Export, List_, Load, Optionals, Quit, Why, Ask, Check, Install, Import, TooBig, Unknown}
+use Rattle.cil_server.specs.Asked.{Line, alone, announced, asked, bodied, by_words, checked, is_decimal, is_digit, longest_body, queried, switched, value_of, valued, words_of}
+use Rattle.cil_server.specs.Asked.Line.{Export, List_, Load, Optionals, Quit, Why, Ask, Check, Set, Install, Import, TooBig, Unknown}
 use Rattle.cil_server.specs.Laws.{AskedAsSpelled, ReadAsWritten}
 use Rattle.cil_server.specs.Lines.{IsDecimal, IsWord, IsSpelled}
 use Rattle.cil_server.specs.Lines.IsDecimal.{digit, more}
-use Rattle.cil_server.specs.Lines.IsSpelled.{export, list, load, optionals, quit, why, install, import_, install_too_big, import_too_big, ask, check}
+use Rattle.cil_server.specs.Lines.IsSpelled.{export, list, load, optionals, quit, why, install, import_, install_too_big, import_too_big, ask, check, set_on, set_off}
 
 -- ---- numbers
 
@@ -171,6 +171,40 @@ check_asked s t c p u v w x =
     ap (λ ws. by_words (codes "CHECK" ∷ ws)) (four_words s t c p u v w x)
     ∙ ap (λ b. cond b (Check s t c p) Unknown) (and_from _ _ (and_from _ _ (and_from _ _ (not_empty s u) (not_empty t v)) (not_empty c w)) (not_empty p x))
 
+two_words : (b v : List ℕ) → IsWord b → IsWord v → words_of (b ++ 32 ∷ v) ≡ b ∷ v ∷ []
+two_words b v p q = slice_split_at (λ b. b == 32) b 32 v (plain b p.whole) refl ∙ ap (λ ws. b ∷ ws) (one_word v (plain v q.whole))
+
+no_space : (w : List ℕ) → list_all (λ b. not (b == 32)) w ≡ true → HasNoSpace w
+no_space [] e c = contains_none 32 c
+no_space (b ∷ bs) e c =
+    let parts = and_parts (not (b == 32)) (list_all (λ b. not (b == 32)) bs) e in
+    elim (contains_cases 32 b bs c) [
+      | inl same ↦ true≢false (sym (subst (λ z. not (z == 32) ≡ true) same parts.0))
+      | inr d ↦ no_space bs parts.1 d
+    ]
+
+value_word : (b : ℕ) (bs : List ℕ) → list_all (λ b. not (b == 32)) (b ∷ bs) ≡ true → IsWord (b ∷ bs)
+value_word b bs e = record { some = omega arith; whole = no_space (b ∷ bs) e }
+
+on_word : IsWord (codes "true")
+on_word = value_word 116 (codes "rue") refl
+
+off_word : IsWord (codes "false")
+off_word = value_word 102 (codes "alse") refl
+
+valued_on : (b : List ℕ) → valued b (codes "true") ≡ Set b true
+unfolding valued
+valued_on b = refl
+
+valued_off : (b : List ℕ) → valued b (codes "false") ≡ Set b false
+unfolding valued
+valued_off b = refl
+
+set_asked : (b v : List ℕ) (value : Bool) → IsWord b → IsWord v → valued b v ≡ Set b value → asked (codes "SET " ++ (b ++ 32 ∷ v)) ≡ Set b value
+unfolding asked switched
+set_asked b v value p q is =
+    ap (λ ws. by_words (codes "SET" ∷ ws)) (two_words b v p q) ∙ ap (λ c. cond c (valued b v) Unknown) (not_empty b p) ∙ is
+
 pub spelled_asked : (line : List ℕ) (said : Line) → IsSpelled line said → asked line ≡ said
 unfolding asked alone
 spelled_asked line said export = refl
@@ -185,6 +219,8 @@ spelled_asked line said (install_too_big digits n is h) = install_asked digits n
 spelled_asked line said (import_too_big digits n is h) = import_asked digits n is ∙ body_too_big Import n h
 spelled_asked line said (ask s t c p q r) = ask_asked s t c p q r
 spelled_asked line said (check s t c p u v w x) = check_asked s t c p u v w x
+spelled_asked line said (set_on b p) = set_asked b (codes "true") true p on_word (valued_on b)
+spelled_asked line said (set_off b p) = set_asked b (codes "false") false p off_word (valued_off b)
 
 -- ---- and back
 
@@ -259,11 +295,28 @@ checked_told word s t c p u v w x =
     inr (subst (λ z. IsSpelled (z ++ 32 ∷ (s ++ 32 ∷ (t ++ 32 ∷ (c ++ 32 ∷ p)))) (Check s t c p)) (sym is)
     (check s t c p (is_word s second.1 u) (is_word t third.1 v) (is_word c fourth.1 w) (is_word p last.1 x)))) (λ e. inl refl)
 
+-- one value of a boolean, and what is told of another
+valued_told : (name value : List ℕ) → IsWord name → IsToldBy (codes "SET " ++ (name ++ 32 ∷ value)) (valued name value)
+unfolding valued
+valued_told name value p =
+    choose (codes "SET " ++ (name ++ 32 ∷ value)) value (codes "true") (Set name true) _
+    (λ e. inr (subst (λ v. IsSpelled (codes "SET " ++ (name ++ 32 ∷ v)) (Set name true)) (sym e) (set_on name p)))
+    (choose (codes "SET " ++ (name ++ 32 ∷ value)) value (codes "false") (Set name false) _
+    (λ e. inr (subst (λ v. IsSpelled (codes "SET " ++ (name ++ 32 ∷ v)) (Set name false)) (sym e) (set_off name p))) (inl refl))
+
+switched_told : (word name value : List ℕ) → HasNoSpace name → IsToldBy (word ++ 32 ∷ (name ++ 32 ∷ value)) (switched word name value)
+unfolding switched
+switched_told word name value p =
+    cond_both _ (valued name value) Unknown (IsToldBy (word ++ 32 ∷ (name ++ 32 ∷ value))) (λ e.
+    let both = and_parts (same_bytes word (codes "SET")) (not (same_bytes name [])) e in
+    let is : word ≡ codes "SET" = (bytes_decides word (codes "SET")).0 both.0 in
+    subst (λ z. IsToldBy (z ++ 32 ∷ (name ++ 32 ∷ value)) (valued name value)) (sym is) (valued_told name value (is_word name both.1 p))) (λ e. inl refl)
+
 words_told : (ws : List (List ℕ)) → AreWhole ws → IsToldBy (join_with_byte 32 ws) (by_words ws)
 words_told [] all = inl refl
 words_told (word ∷ []) all = alone_told word
 words_told (word ∷ digits ∷ []) all = announced_told word digits
-words_told (a ∷ b ∷ c ∷ []) all = inl refl
+words_told (word ∷ name ∷ value ∷ []) all = switched_told word name value all.1.0
 words_told (word ∷ s ∷ t ∷ c ∷ []) all = queried_told word s t c all.1.0 all.1.1.0 all.1.1.1.0
 words_told (word ∷ s ∷ t ∷ c ∷ p ∷ []) all = checked_told word s t c p all.1.0 all.1.1.0 all.1.1.1.0 all.1.1.1.1.0
 words_told (a ∷ b ∷ c ∷ d ∷ e ∷ f ∷ ws) all = inl refl

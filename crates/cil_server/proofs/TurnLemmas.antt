@@ -19,12 +19,13 @@ use Rattle.cil_host.specs.declared.fault.HostError.TheVariants as errors
 use Rattle.cil_host.specs.Checks.{Checks as ChecksHost}
 use Rattle.cil_host.specs.Machine.{Queries, State, TellsNothing, TellsOptionals, TellsWhy}
 use Rattle.cil_host.specs.Refusal.{Loads as LoadsHost}
+use Rattle.cil_host.specs.Sets.{Sets as SetsHost}
 use Rattle.cil_server.specs.Asked.{Request}
-use Rattle.cil_server.specs.Asked.Request.{Asks, AsksOptionals, AsksWhy, Checks, Exports, Lists, Loads}
+use Rattle.cil_server.specs.Asked.Request.{Asks, AsksOptionals, AsksWhy, Checks, Exports, Lists, Loads, Sets}
 use Rattle.cil_server.specs.Load.{IsLoaded}
 use Rattle.cil_server.specs.declared.loading.LoadEnd.{LoadEnd}
 use Rattle.cil_server.specs.declared.loading.LoadEnd.TheVariants as ends
-use Rattle.cil_server.specs.Replies.{newline, no_memory, of_check, of_decision, of_export, of_host_error, of_list, of_load, of_optionals, of_query_fault, of_why, ok, refused, spaced}
+use Rattle.cil_server.specs.Replies.{newline, no_memory, of_check, of_decision, of_export, of_host_error, of_list, of_load, of_optionals, of_query_fault, of_set, of_why, ok, refused, spaced}
 use Rattle.cil_server.specs.Step.{MayLack, NeedsPolicy, Step}
 use Rattle.cil_server.specs.Turns.{IsAnswered, TellsDecision}
 
@@ -127,3 +128,7 @@ module _ (tells : List ℕ → Type 0) where
         (Step.decline_check fault (subst (ChecksHost old source target class_name permission) e q));
     told = told;
   }
+
+  pub set_answered : (old new : State) (name : List ℕ) (value : Bool) (r q : Result (Unit {0}) QueryFault) → r ≡ q → SetsHost old new name value r → tells (of_set q)
+      → IsAnswered old (Sets name value) new tells
+  set_answered old new name value r q e sets told = record { reply = of_set q; step = Step.set_ q (subst (SetsHost old new name value) e sets); told = told }

@@ -1,5 +1,5 @@
 -- What a line of a session asks for. This project's profile.
-use Rattle.std.specs.Prelude.{ℕ, ◌+◌, ◌-◌, ◌*◌, Bool, false, ◌&&◌, not, ◌==◌, nat_le, if◌then◌else◌, List, [], ◌∷◌, Option, Some, None, codes}
+use Rattle.std.specs.Prelude.{ℕ, ◌+◌, ◌-◌, ◌*◌, Bool, true, false, ◌&&◌, not, ◌==◌, nat_le, if◌then◌else◌, List, [], ◌∷◌, Option, Some, None, codes}
 use Rattle.std.specs.List.{fold, list_all, slice_split}
 use Rattle.cil_syntax.specs.Spelling.{is_between, same_bytes}
 
@@ -16,6 +16,7 @@ pub data Line : Type 0 where
   Export List_ Load Optionals Quit Why : Line
   Ask : List ℕ → List ℕ → List ℕ → Line
   Check : List ℕ → List ℕ → List ℕ → List ℕ → Line
+  Set : List ℕ → Bool → Line
   Install Import : ℕ → Line
   TooBig : Line
   Unknown : Line
@@ -70,13 +71,21 @@ checked word source target class_name permission =
     if same_bytes word (codes "CHECK") && not (same_bytes source []) && not (same_bytes target []) && not (same_bytes class_name []) && not (same_bytes permission [])
     then Check source target class_name permission else Unknown
 
+-- the value of a boolean
+unfoldable pub valued : List ℕ → List ℕ → Line
+valued name value = if same_bytes value (codes "true") then Set name true else (if same_bytes value (codes "false") then Set name false else Unknown)
+
+-- a word, a boolean, which is not empty, and its value
+unfoldable pub switched : List ℕ → List ℕ → List ℕ → Line
+switched word name value = if same_bytes word (codes "SET") && not (same_bytes name []) then valued name value else Unknown
+
 -- by the number of the words
 abbrev pub by_words : List (List ℕ) → Line
 by_words (word ∷ []) = alone word
 by_words (word ∷ digits ∷ []) = announced word digits
 by_words (word ∷ source ∷ target ∷ class_name ∷ []) = queried word source target class_name
 by_words [] = Unknown
-by_words (a ∷ b ∷ c ∷ []) = Unknown
+by_words (word ∷ name ∷ value ∷ []) = switched word name value
 by_words (word ∷ source ∷ target ∷ class_name ∷ permission ∷ []) = checked word source target class_name permission
 by_words (a ∷ b ∷ c ∷ d ∷ e ∷ f ∷ words) = Unknown
 
@@ -91,6 +100,7 @@ pub data Request : Type 0 where
   Exports Lists Loads AsksOptionals AsksWhy Unasked : Request
   Asks : List ℕ → List ℕ → List ℕ → Request
   Checks : List ℕ → List ℕ → List ℕ → List ℕ → Request
+  Sets : List ℕ → Bool → Request
 
 -- how many bytes of body follow
 abbrev pub body_of : Line → ℕ
@@ -104,6 +114,7 @@ body_of Quit = 0
 body_of Why = 0
 body_of (Ask s t c) = 0
 body_of (Check s t c p) = 0
+body_of (Set b v) = 0
 body_of TooBig = 0
 body_of Unknown = 0
 
@@ -118,6 +129,7 @@ request_of Optionals body = Some AsksOptionals
 request_of Why body = Some AsksWhy
 request_of (Ask s t c) body = Some (Asks s t c)
 request_of (Check s t c p) body = Some (Checks s t c p)
+request_of (Set b v) body = Some (Sets b v)
 request_of Unknown body = Some Unasked
 request_of Quit body = None
 request_of TooBig body = None

@@ -1,7 +1,7 @@
 -- The lines of a session as they are spelled: words parted by one space, and numbers in decimal. This project's profile.
-use Rattle.std.specs.Prelude.{ℕ, ◌+◌, ◌*◌, ◌<◌, ◌≤◌, List, [], ◌∷◌, ◌++◌, length, Contains, codes}
+use Rattle.std.specs.Prelude.{ℕ, ◌+◌, ◌*◌, ◌<◌, ◌≤◌, true, false, List, [], ◌∷◌, ◌++◌, length, Contains, codes}
 use Rattle.cil_server.specs.Asked.{Line, longest_body}
-use Rattle.cil_server.specs.Asked.Line.{Export, List_, Load, Optionals, Quit, Why, Ask, Check, Install, Import, TooBig}
+use Rattle.cil_server.specs.Asked.Line.{Export, List_, Load, Optionals, Quit, Why, Ask, Check, Set, Install, Import, TooBig}
 
 -- the digits are the decimal of the number, without needless zeros: one digit, or the decimal of a number that is not 0
 -- and one digit more. The byte of the digit 0 is 48
@@ -9,7 +9,7 @@ pub data IsDecimal : List ℕ → ℕ → Type 0 where
   digit : (d : ℕ) → d ≤ 9 → IsDecimal ((48 + d) ∷ []) d
   more : (digits : List ℕ) (n d : ℕ) → IsDecimal digits n → 0 < n → d ≤ 9 → IsDecimal (digits ++ (48 + d) ∷ []) (n * 10 + d)
 
--- a word of a query: one byte or more, none of which is a space. That none is a newline is known of every line
+-- a word of a query or the name of a boolean: one byte or more, none of which is a space. That none is a newline is known of every line
 pub record IsWord (bytes : List ℕ) : Type 0 where
   pub some : 0 < length bytes
   pub whole : Contains bytes 32 → ⊥
@@ -34,3 +34,6 @@ pub data IsSpelled : List ℕ → Line → Type 0 where
   -- a check: these, and a permission
   check : (source target class_name permission : List ℕ) → IsWord source → IsWord target → IsWord class_name → IsWord permission
       → IsSpelled (codes "CHECK " ++ (source ++ 32 ∷ (target ++ 32 ∷ (class_name ++ 32 ∷ permission)))) (Check source target class_name permission)
+  -- a boolean, and what it is from now on
+  set_on : (name : List ℕ) → IsWord name → IsSpelled (codes "SET " ++ (name ++ 32 ∷ codes "true")) (Set name true)
+  set_off : (name : List ℕ) → IsWord name → IsSpelled (codes "SET " ++ (name ++ 32 ∷ codes "false")) (Set name false)

@@ -142,6 +142,12 @@ of_query_fault query.BadSource = refused_at 72 1
 of_query_fault query.BadTarget = refused_at 72 2
 of_query_fault query.NoClass = refused 73
 of_query_fault query.NoPermission = refused 74
+of_query_fault query.NoBoolean = refused 75
+
+-- whether a boolean is set
+abbrev pub of_set : Result (Unit {0}) QueryFault → List ℕ
+of_set (Ok u) = ok
+of_set (Err fault) = of_query_fault fault
 
 abbrev pub of_host_error : HostError → List ℕ
 of_host_error (errors.Query fault) = of_query_fault fault

@@ -17,9 +17,10 @@ use Rattle.cil_host.specs.Machine.{AreOptionalLines, AreWhyLines, OfAccepted, Of
 use Rattle.cil_host.specs.Checks.{Checks as ChecksHost}
 use Rattle.cil_host.specs.Permissions.{IsPermissionOf}
 use Rattle.cil_host.specs.Refusal.{Loads as LoadsHost}
+use Rattle.cil_host.specs.Sets.{Sets as SetsHost}
 use Rattle.cil_server.specs.Asked.{Request}
-use Rattle.cil_server.specs.Asked.Request.{Installs, Imports, Exports, Lists, Loads, AsksOptionals, AsksWhy, Unasked, Asks, Checks}
-use Rattle.cil_server.specs.Replies.{no_memory, of_check, of_decision, of_export, of_import, of_install, of_list, of_load, of_optionals, of_query_fault, of_why, refused}
+use Rattle.cil_server.specs.Asked.Request.{Installs, Imports, Exports, Lists, Loads, AsksOptionals, AsksWhy, Unasked, Asks, Checks, Sets}
+use Rattle.cil_server.specs.Replies.{no_memory, of_check, of_decision, of_export, of_import, of_install, of_list, of_load, of_optionals, of_query_fault, of_set, of_why, refused}
 
 -- ---- names of masks
 
@@ -76,5 +77,7 @@ pub data Step : State → Request → List ℕ → State → Type 0 where
       → Step h (Checks source target class_name permission) (of_check is_allowed) h
   decline_check : {h : State} {source target class_name permission : List ℕ} (fault : QueryFault) → ChecksHost h source target class_name permission (Err fault)
       → Step h (Checks source target class_name permission) (of_query_fault fault) h
+  set_ : {old new : State} {name : List ℕ} {value : Bool} (result : Result (Unit {0}) QueryFault) → SetsHost old new name value result
+      → Step old (Sets name value) (of_set result) new
   unknown : {h : State} → Step h Unasked (refused 81) h
   lack : {h : State} {request : Request} → MayLack h request → Step h request no_memory h

@@ -3,7 +3,7 @@ use Rattle.std.specs.Prelude.{◌≡◌, ℕ, suc, ◌<◌, ◌≤◌, List, [],
 use Rattle.cil_server.specs.Asked.{Line, by_words, longest_body, longest_line}
 use Rattle.cil_server.specs.Streams.{buffer_size}
 use Rattle.cil_server.specs.declared.session.Buffers.{Buffers}
-use Rattle.cil_server.specs.Asked.Line.{Export, List_, Load, Optionals, Quit, Why, Ask, Check, Install, Import, TooBig, Unknown}
+use Rattle.cil_server.specs.Asked.Line.{Export, List_, Load, Optionals, Quit, Why, Ask, Check, Set, Install, Import, TooBig, Unknown}
 use Rattle.cil_server.specs.declared.line.Line.{Line as Read}
 use Rattle.cil_server.specs.declared.line.Line.TheVariants as read
 use Rattle.cil_server.specs.declared.line.Words.{Words}
@@ -18,6 +18,7 @@ line_of read.Quit = Quit
 line_of read.Why = Why
 line_of (read.Ask q) = Ask q.source.now q.target.now q.class.now
 line_of (read.Check q p) = Check q.source.now q.target.now q.class.now p.now
+line_of (read.Set b v) = Set b.now v
 line_of (read.Install n) = Install n
 line_of (read.Import n) = Import n
 line_of read.TooBig = TooBig
@@ -27,6 +28,7 @@ line_of read.Unknown = Unknown
 abbrev pub IsWords : List (List ℕ) → Words → Type 0
 IsWords ws (words.One w) = ws ≡ w.now ∷ []
 IsWords ws (words.Two w d) = ws ≡ w.now ∷ d.now ∷ []
+IsWords ws (words.Three w b v) = ws ≡ w.now ∷ b.now ∷ v.now ∷ []
 IsWords ws (words.Four w q) = ws ≡ w.now ∷ q.source.now ∷ q.target.now ∷ q.class.now ∷ []
 IsWords ws (words.Five w q p) = ws ≡ w.now ∷ q.source.now ∷ q.target.now ∷ q.class.now ∷ p.now ∷ []
 IsWords ws words.Other = by_words ws ≡ Unknown

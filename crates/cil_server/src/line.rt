@@ -2,7 +2,7 @@
 
 ghost use Rattle.std.specs.Prelude.{◌≡◌, ◌≤◌, ℕ, List, [], ◌∷◌, IfSome, IfNone, None, Some, MatchOption};
 ghost use Rattle.std.specs.List.{list_all};
-ghost use Rattle.cil_server.specs.Asked.{asked, is_decimal, is_digit, value_of, longest_body, words_of, alone, announced, checked, queried};
+ghost use Rattle.cil_server.specs.Asked.{asked, is_decimal, is_digit, value_of, longest_body, words_of, alone, announced, checked, queried, switched, valued};
 ghost use Rattle.cil_server.specs.Views.{line_of, IsCapped, IsWords};
 
 /// A line, read.
@@ -17,6 +17,8 @@ pub(crate) enum Line<'a> {
     Ask(Query<'a>),
     /// CHECK: a query, and a permission.
     Check(Query<'a>, &'a [u8]),
+    /// SET: the name of a boolean, and whether it is turned on.
+    Set(&'a [u8], bool),
     /// INSTALL, and how many bytes of body follow.
     Install(usize),
     /// IMPORT, and how many bytes of body follow.
@@ -42,6 +44,7 @@ const LONGEST_BODY: usize = 67_108_864;
 enum Words<'a> {
     One(&'a [u8]),
     Two(&'a [u8], &'a [u8]),
+    Three(&'a [u8], &'a [u8], &'a [u8]),
     Four(&'a [u8], Query<'a>),
     Five(&'a [u8], Query<'a>, &'a [u8]),
     Other,
@@ -55,6 +58,7 @@ pub(crate) fn read_line(line: &[u8]) -> Line<'_>
     match words_of(line) {
         Words::One(word) => alone(word),
         Words::Two(word, digits) => announced(word, digits),
+        Words::Three(word, name, value) => switched(word, name, value),
         Words::Four(word, query) => queried(word, query.source, query.target, query.class),
         Words::Five(word, query, permission) => checked(word, query, permission),
         Words::Other => Line::Unknown,
@@ -75,7 +79,7 @@ fn words_of(line: &[u8]) -> Words<'_>
         return Words::Two(word, second);
     };
     let Some(fourth) = words.next() else {
-        return Words::Other;
+        return Words::Three(word, second, third);
     };
     let query = Query {
         source: second,
@@ -171,6 +175,30 @@ fn checked<'a>(word: &[u8], query: Query<'a>, permission: &'a [u8]) -> Line<'a>
     } else {
         Line::Unknown
     }
+}
+
+#[tactic(auto, unfolding(crate::specs::Asked::switched))]
+fn switched<'a>(word: &[u8], name: &'a [u8], value: &[u8]) -> Line<'a>
+    ensures { line_of result ≡ switched word.now name.now value.now }
+{
+    if word == b"SET".as_slice() && name != b"".as_slice() {
+        valued(name, value)
+    } else {
+        Line::Unknown
+    }
+}
+
+#[tactic(auto, unfolding(crate::specs::Asked::valued))]
+fn valued<'a>(name: &'a [u8], value: &[u8]) -> Line<'a>
+    ensures { line_of result ≡ valued name.now value.now }
+{
+    if value == b"true".as_slice() {
+        return Line::Set(name, true);
+    }
+    if value == b"false".as_slice() {
+        return Line::Set(name, false);
+    }
+    Line::Unknown
 }
 
 /// Whether a word is a decimal without needless zeros.

@@ -257,6 +257,7 @@ pub(crate) fn put_query_fault<W: Sink>(output: &mut Output<'_, W>, fault: QueryF
         QueryFault::NoPolicy => put_refused(output, fault.number()),
         QueryFault::NoClass => put_refused(output, fault.number()),
         QueryFault::NoPermission => put_refused(output, fault.number()),
+        QueryFault::NoBoolean => put_refused(output, fault.number()),
     }
 }
 

@@ -1,7 +1,7 @@
 //! The requests, each asked of the host and answered. None is begun once the writer has failed.
 
 ghost use Rattle.std.specs.Prelude.{◌≡◌, false};
-ghost use Rattle.cil_server.specs.Asked.Request.{Asks, Checks, Exports, Imports, Installs, Lists, Loads, AsksOptionals, AsksWhy};
+ghost use Rattle.cil_server.specs.Asked.Request.{Asks, Checks, Exports, Imports, Installs, Lists, Loads, AsksOptionals, AsksWhy, Sets};
 ghost use Rattle.cil_server.specs.Load.{IsLoaded};
 ghost use Rattle.cil_server.specs.Streams.{Tells};
 ghost use Rattle.cil_server.specs.Turns.{IsAnswered};
@@ -136,6 +136,22 @@ pub(crate) fn check<S: Drop, W: Sink>(
 {
     match host.check(query.source, query.target, query.class, permission) {
         Ok(is_allowed) => put_checked(output, is_allowed),
+        Err(fault) => put_query_fault(output, fault),
+    }
+}
+
+/// SET: turns a boolean on or off, or tells why it cannot.
+pub(crate) fn set<S: Drop, W: Sink>(
+    host: &mut Host<S>,
+    output: &mut Output<'_, W>,
+    name: &[u8],
+    value: bool,
+)
+    requires { output.old.has_failed ≡ false }
+    ensures { IsAnswered host.old (Sets name.now value) host.new (Tells output.old output.new) }
+{
+    match host.set_boolean(name, value) {
+        Ok(()) => output.put(b"OK\n"),
         Err(fault) => put_query_fault(output, fault),
     }
 }

@@ -15,7 +15,7 @@ ghost use Rattle.cil_server.specs.declared.turn.Turn.{Turn};
 use crate::devices::{Sink, Source};
 use crate::line::{Line, Query};
 use crate::replies::put_refused;
-use crate::requests::{ask, check, export, import, install, list, load, optionals, why};
+use crate::requests::{ask, check, export, import, install, list, load, optionals, set, why};
 use crate::served::Served;
 use crate::streams::{Body, Streams};
 use cil_host::Host;
@@ -67,6 +67,7 @@ impl<'r, 'w, R: Source, W: Sink> Streams<'r, 'w, R, W> {
                 },
             ) => { ask(host, &mut self.output, source, target, class) }
             Line::Check(query, permission) => check(host, &mut self.output, query, permission),
+            Line::Set(name, value) => set(host, &mut self.output, name, value),
             Line::Unknown => put_refused(&mut self.output, 81),
             Line::TooBig => return self.refuse(84),
             Line::Quit => {

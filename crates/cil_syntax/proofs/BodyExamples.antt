@@ -74,12 +74,12 @@ macro parameters = next (word 7 (codes "m")) (next (list 9 parameters) (next (li
 abbrev parameter : ℕ → List ℕ → List ℕ → Node
 parameter at kind name = list at (next (word (at + 1) kind) (next (word (at + 8) name) none))
 
--- `()`, `((type x))`, `((boolean x))`, `((type x.y))`, `((type))`, `(type x)`; and a macro without parameters at all
+-- `()`, `((type x))`, `((classmap x))`, `((type x.y))`, `((type))`, `(type x)`; and a macro without parameters at all
 macros : (read keywords.Macro (macro none) ≡ reads (cons (Name (spot 7) (codes "m")) (cons (Form (spot 9) ops.Parameters nil) nil)) [])
     × (read keywords.Macro (macro (next (parameter 10 (codes "type") (codes "x")) none))
     ≡ reads (cons (Name (spot 7) (codes "m")) (cons (Form (spot 9) ops.Parameters
     (cons (Form (spot 10) ops.Parameter (cons (Form (spot 11) ops.TypeKind nil) (cons (Name (spot 18) (codes "x")) nil))) nil)) nil)) [])
-    × (faults_of (read keywords.Macro (macro (next (parameter 10 (codes "boolean") (codes "x")) none))) ≡ fault causes.Unsupported 11 (codes "boolean") ∷ [])
+    × (faults_of (read keywords.Macro (macro (next (parameter 10 (codes "classmap") (codes "x")) none))) ≡ fault causes.Unsupported 11 (codes "classmap") ∷ [])
     × (faults_of (read keywords.Macro (macro (next (parameter 10 (codes "type") (codes "x.y")) none))) ≡ fault causes.BadName 18 (codes "x.y") ∷ [])
     × (read keywords.Macro (macro (next (list 10 (next (word 11 (codes "type")) none)) none)) ≡ None)
     × (read keywords.Macro (macro (next (word 10 (codes "type")) (next (word 15 (codes "x")) none))) ≡ None)
@@ -178,15 +178,17 @@ declared_in_macro = (refl, refl, refl)
 abbrev of_word : List ℕ → Node
 of_word first = list 0 (next (word 1 first) (next (string 30) none))
 
--- `(filecon "a")` on top and in a macro, `(block "a")` on top, `(macro "a")` in a macro, `(optional "a")` in a macro, and `(booleanif "a")`, which is not taken yet
+-- `(filecon "a")` on top and in a macro, `(block "a")` on top, `(macro "a")` in a macro, `(optional "a")` in a macro, `(booleanif "a")`, and
+-- `(constrain "a")`, which is not taken yet
 by_first_word : (verdict_of 7 at_top (of_word (codes "filecon")) ≡ Shaped (record { keyword = keywords.SetAside; at = spot 0; args = nil }) [])
     × (verdict_of 7 in_macro (of_word (codes "filecon")) ≡ Refused (fault causes.BadPlace 0 (codes "filecon")))
     × (verdict_of 7 at_top (of_word (codes "block")) ≡ Refused (fault causes.BadShape 0 (codes "block")))
     × (verdict_of 7 in_macro (of_word (codes "macro")) ≡ Refused (fault causes.BadPlace 0 (codes "macro")))
     × (verdict_of 7 in_macro (of_word (codes "optional")) ≡ Refused (fault causes.BadShape 0 (codes "optional")))
-    × (verdict_of 7 at_top (of_word (codes "booleanif")) ≡ Refused (fault causes.Unsupported 0 (codes "booleanif")))
+    × (verdict_of 7 at_top (of_word (codes "booleanif")) ≡ Refused (fault causes.BadShape 0 (codes "booleanif")))
+    × (verdict_of 7 at_top (of_word (codes "constrain")) ≡ Refused (fault causes.Unsupported 0 (codes "constrain")))
 unfolding verdict_of cells_of cell_of read_row read_word read_string read_list heads first_words begins_with rules containers types classes users entry_of set_aside_words later_words left_out_words
-by_first_word = (refl, refl, refl, refl, refl, refl)
+by_first_word = (refl, refl, refl, refl, refl, refl, refl)
 
 -- ---- branches
 

@@ -150,14 +150,14 @@ sets_6 = (refl, refl)
 -- `(booleanif (not b) (true))`
 -- `(booleanif (and a (xor b (c))) (true))`
 -- `(booleanif (eq a b) (true))`
-pub conditions_1 : (found_as keywords.BooleanIf (list 0 (next (word 1 (codes "booleanif")) (next (word 11 (codes "b")) (next (list 13 (next (word 14 (codes "true")) none)) none)))) ≡ [])
-    × (found_as keywords.BooleanIf (list 0 (next (word 1 (codes "booleanif")) (next (word 11 (codes "b")) (next (list 13 (next (word 14 (codes "false")) (next (list 20 (next (word 21 (codes "allow")) (next (word 27 (codes "a")) (next (word 29 (codes "b")) (next (list 31 (next (word 32 (codes "c")) (next (list 34 (next (word 35 (codes "d")) none)) none))) none))))) none))) none)))) ≡ [])
-    × (found_as keywords.BooleanIf (list 0 (next (word 1 (codes "booleanif")) (next (word 11 (codes "b")) (next (list 13 (next (word 14 (codes "true")) (next (list 19 (next (word 20 (codes "allow")) (next (word 26 (codes "a")) (next (word 28 (codes "b")) (next (list 30 (next (word 31 (codes "c")) (next (list 33 (next (word 34 (codes "d")) none)) none))) none))))) none))) (next (list 40 (next (word 41 (codes "false")) (next (list 47 (next (word 48 (codes "call")) (next (word 53 (codes "m")) none))) none))) none))))) ≡ [])
-    × (found_as keywords.BooleanIf (list 0 (next (word 1 (codes "booleanif")) (next (word 11 (codes "b")) (next (list 13 (next (word 14 (codes "false")) none)) (next (list 21 (next (word 22 (codes "true")) none)) none))))) ≡ [])
-    × (found_as keywords.BooleanIf (list 0 (next (word 1 (codes "booleanif")) (next (list 11 (next (word 12 (codes "b")) none)) (next (list 15 (next (word 16 (codes "true")) none)) none)))) ≡ [])
-    × (found_as keywords.BooleanIf (list 0 (next (word 1 (codes "booleanif")) (next (list 11 (next (word 12 (codes "not")) (next (word 16 (codes "b")) none))) (next (list 19 (next (word 20 (codes "true")) none)) none)))) ≡ [])
-    × (found_as keywords.BooleanIf (list 0 (next (word 1 (codes "booleanif")) (next (list 11 (next (word 12 (codes "and")) (next (word 16 (codes "a")) (next (list 18 (next (word 19 (codes "xor")) (next (word 23 (codes "b")) (next (list 25 (next (word 26 (codes "c")) none)) none)))) none)))) (next (list 31 (next (word 32 (codes "true")) none)) none)))) ≡ [])
-    × (found_as keywords.BooleanIf (list 0 (next (word 1 (codes "booleanif")) (next (list 11 (next (word 12 (codes "eq")) (next (word 15 (codes "a")) (next (word 17 (codes "b")) none)))) (next (list 20 (next (word 21 (codes "true")) none)) none)))) ≡ [])
+pub conditions_1 : (found (list 0 (next (word 1 (codes "booleanif")) (next (word 11 (codes "b")) (next (list 13 (next (word 14 (codes "true")) none)) none)))) ≡ [])
+    × (found (list 0 (next (word 1 (codes "booleanif")) (next (word 11 (codes "b")) (next (list 13 (next (word 14 (codes "false")) (next (list 20 (next (word 21 (codes "allow")) (next (word 27 (codes "a")) (next (word 29 (codes "b")) (next (list 31 (next (word 32 (codes "c")) (next (list 34 (next (word 35 (codes "d")) none)) none))) none))))) none))) none)))) ≡ [])
+    × (found (list 0 (next (word 1 (codes "booleanif")) (next (word 11 (codes "b")) (next (list 13 (next (word 14 (codes "true")) (next (list 19 (next (word 20 (codes "allow")) (next (word 26 (codes "a")) (next (word 28 (codes "b")) (next (list 30 (next (word 31 (codes "c")) (next (list 33 (next (word 34 (codes "d")) none)) none))) none))))) none))) (next (list 40 (next (word 41 (codes "false")) (next (list 47 (next (word 48 (codes "call")) (next (word 53 (codes "m")) none))) none))) none))))) ≡ [])
+    × (found (list 0 (next (word 1 (codes "booleanif")) (next (word 11 (codes "b")) (next (list 13 (next (word 14 (codes "false")) none)) (next (list 21 (next (word 22 (codes "true")) none)) none))))) ≡ [])
+    × (found (list 0 (next (word 1 (codes "booleanif")) (next (list 11 (next (word 12 (codes "b")) none)) (next (list 15 (next (word 16 (codes "true")) none)) none)))) ≡ [])
+    × (found (list 0 (next (word 1 (codes "booleanif")) (next (list 11 (next (word 12 (codes "not")) (next (word 16 (codes "b")) none))) (next (list 19 (next (word 20 (codes "true")) none)) none)))) ≡ [])
+    × (found (list 0 (next (word 1 (codes "booleanif")) (next (list 11 (next (word 12 (codes "and")) (next (word 16 (codes "a")) (next (list 18 (next (word 19 (codes "xor")) (next (word 23 (codes "b")) (next (list 25 (next (word 26 (codes "c")) none)) none)))) none)))) (next (list 31 (next (word 32 (codes "true")) none)) none)))) ≡ [])
+    × (found (list 0 (next (word 1 (codes "booleanif")) (next (list 11 (next (word 12 (codes "eq")) (next (word 15 (codes "a")) (next (word 17 (codes "b")) none)))) (next (list 20 (next (word 21 (codes "true")) none)) none)))) ≡ [])
 unfolding verdict_of cells_of cell_of read_row read_word read_string read_list rules containers types classes users entry_of set_aside_words later_words left_out_words heads first_words begins_with
 conditions_1 = (refl, refl, refl, refl, refl, refl, refl, refl)
 
@@ -169,14 +169,14 @@ conditions_1 = (refl, refl, refl, refl, refl, refl, refl, refl)
 -- `(booleanif (a b) (true))`
 -- `(booleanif () (true))`
 -- `(booleanif (true) (true))`
-pub conditions_2 : (found_as keywords.BooleanIf (list 0 (next (word 1 (codes "booleanif")) (next (list 11 (next (word 12 (codes "neq")) (next (list 16 (next (word 17 (codes "not")) (next (word 21 (codes "a")) none))) (next (word 24 (codes "b")) none)))) (next (list 27 (next (word 28 (codes "true")) none)) none)))) ≡ [])
-    × (found_as keywords.BooleanIf (list 0 (next (word 1 (codes "booleanif")) (next (list 11 (next (word 12 (codes "not")) none)) (next (list 17 (next (word 18 (codes "true")) none)) none)))) ≡ fault causes.BadShape 0 (codes "booleanif") ∷ [])
-    × (found_as keywords.BooleanIf (list 0 (next (word 1 (codes "booleanif")) (next (list 11 (next (word 12 (codes "and")) none)) (next (list 17 (next (word 18 (codes "true")) none)) none)))) ≡ fault causes.BadShape 0 (codes "booleanif") ∷ [])
-    × (found_as keywords.BooleanIf (list 0 (next (word 1 (codes "booleanif")) (next (list 11 (next (word 12 (codes "and")) (next (word 16 (codes "a")) none))) (next (list 19 (next (word 20 (codes "true")) none)) none)))) ≡ fault causes.BadShape 0 (codes "booleanif") ∷ [])
-    × (found_as keywords.BooleanIf (list 0 (next (word 1 (codes "booleanif")) (next (list 11 (next (word 12 (codes "not")) (next (word 16 (codes "a")) (next (word 18 (codes "b")) none)))) (next (list 21 (next (word 22 (codes "true")) none)) none)))) ≡ fault causes.BadShape 0 (codes "booleanif") ∷ [])
-    × (found_as keywords.BooleanIf (list 0 (next (word 1 (codes "booleanif")) (next (list 11 (next (word 12 (codes "a")) (next (word 14 (codes "b")) none))) (next (list 17 (next (word 18 (codes "true")) none)) none)))) ≡ fault causes.BadShape 0 (codes "booleanif") ∷ [])
-    × (found_as keywords.BooleanIf (list 0 (next (word 1 (codes "booleanif")) (next (list 11 none) (next (list 14 (next (word 15 (codes "true")) none)) none)))) ≡ fault causes.BadShape 0 (codes "booleanif") ∷ [])
-    × (found_as keywords.BooleanIf (list 0 (next (word 1 (codes "booleanif")) (next (list 11 (next (word 12 (codes "true")) none)) (next (list 18 (next (word 19 (codes "true")) none)) none)))) ≡ fault causes.ReservedName 12 (codes "true") ∷ [])
+pub conditions_2 : (found (list 0 (next (word 1 (codes "booleanif")) (next (list 11 (next (word 12 (codes "neq")) (next (list 16 (next (word 17 (codes "not")) (next (word 21 (codes "a")) none))) (next (word 24 (codes "b")) none)))) (next (list 27 (next (word 28 (codes "true")) none)) none)))) ≡ [])
+    × (found (list 0 (next (word 1 (codes "booleanif")) (next (list 11 (next (word 12 (codes "not")) none)) (next (list 17 (next (word 18 (codes "true")) none)) none)))) ≡ fault causes.BadShape 0 (codes "booleanif") ∷ [])
+    × (found (list 0 (next (word 1 (codes "booleanif")) (next (list 11 (next (word 12 (codes "and")) none)) (next (list 17 (next (word 18 (codes "true")) none)) none)))) ≡ fault causes.BadShape 0 (codes "booleanif") ∷ [])
+    × (found (list 0 (next (word 1 (codes "booleanif")) (next (list 11 (next (word 12 (codes "and")) (next (word 16 (codes "a")) none))) (next (list 19 (next (word 20 (codes "true")) none)) none)))) ≡ fault causes.BadShape 0 (codes "booleanif") ∷ [])
+    × (found (list 0 (next (word 1 (codes "booleanif")) (next (list 11 (next (word 12 (codes "not")) (next (word 16 (codes "a")) (next (word 18 (codes "b")) none)))) (next (list 21 (next (word 22 (codes "true")) none)) none)))) ≡ fault causes.BadShape 0 (codes "booleanif") ∷ [])
+    × (found (list 0 (next (word 1 (codes "booleanif")) (next (list 11 (next (word 12 (codes "a")) (next (word 14 (codes "b")) none))) (next (list 17 (next (word 18 (codes "true")) none)) none)))) ≡ fault causes.BadShape 0 (codes "booleanif") ∷ [])
+    × (found (list 0 (next (word 1 (codes "booleanif")) (next (list 11 none) (next (list 14 (next (word 15 (codes "true")) none)) none)))) ≡ fault causes.BadShape 0 (codes "booleanif") ∷ [])
+    × (found (list 0 (next (word 1 (codes "booleanif")) (next (list 11 (next (word 12 (codes "true")) none)) (next (list 18 (next (word 19 (codes "true")) none)) none)))) ≡ fault causes.ReservedName 12 (codes "true") ∷ [])
 unfolding verdict_of cells_of cell_of read_row read_word read_string read_list rules containers types classes users entry_of set_aside_words later_words left_out_words heads first_words begins_with
 conditions_2 = (refl, refl, refl, refl, refl, refl, refl, refl)
 
@@ -188,14 +188,14 @@ conditions_2 = (refl, refl, refl, refl, refl, refl, refl, refl)
 -- `(booleanif b (false) (false))`
 -- `(booleanif b (true) (false) (true))`
 -- `(booleanif b (maybe))`
-pub conditions_3 : (found_as keywords.BooleanIf (list 0 (next (word 1 (codes "booleanif")) (next (list 11 (next (word 12 (codes "self")) none)) (next (list 18 (next (word 19 (codes "true")) none)) none)))) ≡ fault causes.ReservedName 12 (codes "self") ∷ [])
-    × (found_as keywords.BooleanIf (list 0 (next (word 1 (codes "booleanif")) (next (word 11 (codes "not")) (next (list 15 (next (word 16 (codes "true")) none)) none)))) ≡ fault causes.ReservedName 11 (codes "not") ∷ [])
-    × (found_as keywords.BooleanIf (list 0 (next (word 1 (codes "booleanif")) (next (Quoted (record { start = 11; end = 14 }) (34 ∷ 98 ∷ 34 ∷ [])) (next (list 15 (next (word 16 (codes "true")) none)) none)))) ≡ fault causes.BadShape 0 (codes "booleanif") ∷ [])
-    × (found_as keywords.BooleanIf (list 0 (next (word 1 (codes "booleanif")) (next (word 11 (codes "b")) none))) ≡ fault causes.BadShape 0 (codes "booleanif") ∷ [])
-    × (found_as keywords.BooleanIf (list 0 (next (word 1 (codes "booleanif")) (next (word 11 (codes "b")) (next (list 13 (next (word 14 (codes "true")) none)) (next (list 20 (next (word 21 (codes "true")) none)) none))))) ≡ fault causes.BadShape 0 (codes "booleanif") ∷ [])
-    × (found_as keywords.BooleanIf (list 0 (next (word 1 (codes "booleanif")) (next (word 11 (codes "b")) (next (list 13 (next (word 14 (codes "false")) none)) (next (list 21 (next (word 22 (codes "false")) none)) none))))) ≡ fault causes.BadShape 0 (codes "booleanif") ∷ [])
-    × (found_as keywords.BooleanIf (list 0 (next (word 1 (codes "booleanif")) (next (word 11 (codes "b")) (next (list 13 (next (word 14 (codes "true")) none)) (next (list 20 (next (word 21 (codes "false")) none)) (next (list 28 (next (word 29 (codes "true")) none)) none)))))) ≡ fault causes.BadShape 0 (codes "booleanif") ∷ [])
-    × (found_as keywords.BooleanIf (list 0 (next (word 1 (codes "booleanif")) (next (word 11 (codes "b")) (next (list 13 (next (word 14 (codes "maybe")) none)) none)))) ≡ fault causes.BadShape 0 (codes "booleanif") ∷ [])
+pub conditions_3 : (found (list 0 (next (word 1 (codes "booleanif")) (next (list 11 (next (word 12 (codes "self")) none)) (next (list 18 (next (word 19 (codes "true")) none)) none)))) ≡ fault causes.ReservedName 12 (codes "self") ∷ [])
+    × (found (list 0 (next (word 1 (codes "booleanif")) (next (word 11 (codes "not")) (next (list 15 (next (word 16 (codes "true")) none)) none)))) ≡ fault causes.ReservedName 11 (codes "not") ∷ [])
+    × (found (list 0 (next (word 1 (codes "booleanif")) (next (Quoted (record { start = 11; end = 14 }) (34 ∷ 98 ∷ 34 ∷ [])) (next (list 15 (next (word 16 (codes "true")) none)) none)))) ≡ fault causes.BadShape 0 (codes "booleanif") ∷ [])
+    × (found (list 0 (next (word 1 (codes "booleanif")) (next (word 11 (codes "b")) none))) ≡ fault causes.BadShape 0 (codes "booleanif") ∷ [])
+    × (found (list 0 (next (word 1 (codes "booleanif")) (next (word 11 (codes "b")) (next (list 13 (next (word 14 (codes "true")) none)) (next (list 20 (next (word 21 (codes "true")) none)) none))))) ≡ fault causes.BadShape 0 (codes "booleanif") ∷ [])
+    × (found (list 0 (next (word 1 (codes "booleanif")) (next (word 11 (codes "b")) (next (list 13 (next (word 14 (codes "false")) none)) (next (list 21 (next (word 22 (codes "false")) none)) none))))) ≡ fault causes.BadShape 0 (codes "booleanif") ∷ [])
+    × (found (list 0 (next (word 1 (codes "booleanif")) (next (word 11 (codes "b")) (next (list 13 (next (word 14 (codes "true")) none)) (next (list 20 (next (word 21 (codes "false")) none)) (next (list 28 (next (word 29 (codes "true")) none)) none)))))) ≡ fault causes.BadShape 0 (codes "booleanif") ∷ [])
+    × (found (list 0 (next (word 1 (codes "booleanif")) (next (word 11 (codes "b")) (next (list 13 (next (word 14 (codes "maybe")) none)) none)))) ≡ fault causes.BadShape 0 (codes "booleanif") ∷ [])
 unfolding verdict_of cells_of cell_of read_row read_word read_string read_list rules containers types classes users entry_of set_aside_words later_words left_out_words heads first_words begins_with
 conditions_3 = (refl, refl, refl, refl, refl, refl, refl, refl)
 
@@ -207,14 +207,14 @@ conditions_3 = (refl, refl, refl, refl, refl, refl, refl, refl)
 -- `(booleanif (dom a b) (true))`
 -- `(boolean b true)`
 -- `(boolean b false)`
-pub conditions_4 : (found_as keywords.BooleanIf (list 0 (next (word 1 (codes "booleanif")) (next (word 11 (codes "b")) (next (list 13 none) none)))) ≡ fault causes.BadShape 0 (codes "booleanif") ∷ [])
-    × (found_as keywords.BooleanIf (list 0 (next (word 1 (codes "booleanif")) (next (word 11 (codes "b")) (next (word 13 (codes "true")) none)))) ≡ fault causes.BadShape 0 (codes "booleanif") ∷ [])
-    × (found_as keywords.BooleanIf (list 0 (next (word 1 (codes "booleanif")) (next (word 11 (codes "b")) (next (list 13 (next (word 14 (codes "true")) (next (word 19 (codes "x")) none))) none)))) ≡ fault causes.BadShape 0 (codes "booleanif") ∷ [])
-    × (found_as keywords.BooleanIf (list 0 (next (word 1 (codes "booleanif")) (next (word 11 (codes "b")) (next (list 13 (next (word 14 (codes "true")) (next (Quoted (record { start = 19; end = 22 }) (34 ∷ 120 ∷ 34 ∷ [])) none))) none)))) ≡ fault causes.BadShape 0 (codes "booleanif") ∷ [])
-    × (found_as keywords.BooleanIf (list 0 (next (word 1 (codes "booleanif")) (next (word 11 (codes "b")) (next (list 13 (next (word 14 (codes "true")) none)) (next (list 20 (next (word 21 (codes "maybe")) none)) none))))) ≡ fault causes.BadShape 0 (codes "booleanif") ∷ [])
-    × (found_as keywords.BooleanIf (list 0 (next (word 1 (codes "booleanif")) (next (list 11 (next (word 12 (codes "dom")) (next (word 16 (codes "a")) (next (word 18 (codes "b")) none)))) (next (list 21 (next (word 22 (codes "true")) none)) none)))) ≡ fault causes.BadShape 0 (codes "booleanif") ∷ [])
-    × (found_as keywords.Boolean (list 0 (next (word 1 (codes "boolean")) (next (word 9 (codes "b")) (next (word 11 (codes "true")) none)))) ≡ [])
-    × (found_as keywords.Boolean (list 0 (next (word 1 (codes "boolean")) (next (word 9 (codes "b")) (next (word 11 (codes "false")) none)))) ≡ [])
+pub conditions_4 : (found (list 0 (next (word 1 (codes "booleanif")) (next (word 11 (codes "b")) (next (list 13 none) none)))) ≡ fault causes.BadShape 0 (codes "booleanif") ∷ [])
+    × (found (list 0 (next (word 1 (codes "booleanif")) (next (word 11 (codes "b")) (next (word 13 (codes "true")) none)))) ≡ fault causes.BadShape 0 (codes "booleanif") ∷ [])
+    × (found (list 0 (next (word 1 (codes "booleanif")) (next (word 11 (codes "b")) (next (list 13 (next (word 14 (codes "true")) (next (word 19 (codes "x")) none))) none)))) ≡ fault causes.BadShape 0 (codes "booleanif") ∷ [])
+    × (found (list 0 (next (word 1 (codes "booleanif")) (next (word 11 (codes "b")) (next (list 13 (next (word 14 (codes "true")) (next (Quoted (record { start = 19; end = 22 }) (34 ∷ 120 ∷ 34 ∷ [])) none))) none)))) ≡ fault causes.BadShape 0 (codes "booleanif") ∷ [])
+    × (found (list 0 (next (word 1 (codes "booleanif")) (next (word 11 (codes "b")) (next (list 13 (next (word 14 (codes "true")) none)) (next (list 20 (next (word 21 (codes "maybe")) none)) none))))) ≡ fault causes.BadShape 0 (codes "booleanif") ∷ [])
+    × (found (list 0 (next (word 1 (codes "booleanif")) (next (list 11 (next (word 12 (codes "dom")) (next (word 16 (codes "a")) (next (word 18 (codes "b")) none)))) (next (list 21 (next (word 22 (codes "true")) none)) none)))) ≡ fault causes.BadShape 0 (codes "booleanif") ∷ [])
+    × (found (list 0 (next (word 1 (codes "boolean")) (next (word 9 (codes "b")) (next (word 11 (codes "true")) none)))) ≡ [])
+    × (found (list 0 (next (word 1 (codes "boolean")) (next (word 9 (codes "b")) (next (word 11 (codes "false")) none)))) ≡ [])
 unfolding verdict_of cells_of cell_of read_row read_word read_string read_list rules containers types classes users entry_of set_aside_words later_words left_out_words heads first_words begins_with
 conditions_4 = (refl, refl, refl, refl, refl, refl, refl, refl)
 
@@ -223,9 +223,9 @@ conditions_4 = (refl, refl, refl, refl, refl, refl, refl, refl)
 -- `(boolean true false)`
 -- `(mls true)`
 -- `(mls maybe)`
-pub conditions_5 : (found_as keywords.Boolean (list 0 (next (word 1 (codes "boolean")) (next (word 9 (codes "b")) (next (word 11 (codes "yes")) none)))) ≡ fault causes.BadShape 0 (codes "boolean") ∷ [])
-    × (found_as keywords.Boolean (list 0 (next (word 1 (codes "boolean")) (next (word 9 (codes "b")) none))) ≡ fault causes.BadShape 0 (codes "boolean") ∷ [])
-    × (found_as keywords.Boolean (list 0 (next (word 1 (codes "boolean")) (next (word 9 (codes "true")) (next (word 14 (codes "false")) none)))) ≡ fault causes.ReservedName 9 (codes "true") ∷ [])
+pub conditions_5 : (found (list 0 (next (word 1 (codes "boolean")) (next (word 9 (codes "b")) (next (word 11 (codes "yes")) none)))) ≡ fault causes.BadShape 0 (codes "boolean") ∷ [])
+    × (found (list 0 (next (word 1 (codes "boolean")) (next (word 9 (codes "b")) none))) ≡ fault causes.BadShape 0 (codes "boolean") ∷ [])
+    × (found (list 0 (next (word 1 (codes "boolean")) (next (word 9 (codes "true")) (next (word 14 (codes "false")) none)))) ≡ fault causes.ReservedName 9 (codes "true") ∷ [])
     × (found_as keywords.Mls (list 0 (next (word 1 (codes "mls")) (next (word 5 (codes "true")) none))) ≡ [])
     × (found_as keywords.Mls (list 0 (next (word 1 (codes "mls")) (next (word 5 (codes "maybe")) none))) ≡ fault causes.BadShape 0 (codes "mls") ∷ [])
 unfolding verdict_of cells_of cell_of read_row read_word read_string read_list rules containers types classes users entry_of set_aside_words later_words left_out_words heads first_words begins_with
@@ -544,9 +544,9 @@ pub statements_10 : (found_as keywords.CategoryAliasActual (list 0 (next (word 1
     × (found_as keywords.CategorySet (list 0 (next (word 1 (codes "categoryset")) (next (word 13 (codes "c")) (next (list 15 (next (word 16 (codes "all")) none)) none)))) ≡ [])
     × (found (list 0 (next (word 1 (codes "auditallow")) (next (word 12 (codes "a")) (next (word 14 (codes "b")) (next (list 16 (next (word 17 (codes "c")) (next (list 19 (next (word 20 (codes "d")) none)) none))) none))))) ≡ [])
     × (found (list 0 (next (word 1 (codes "dontaudit")) (next (word 11 (codes "a")) (next (word 13 (codes "b")) (next (word 15 (codes "p")) none))))) ≡ [])
-    × (found_as keywords.NeverAllow (list 0 (next (word 1 (codes "neverallow")) (next (word 12 (codes "a")) (next (word 14 (codes "self")) (next (list 19 (next (word 20 (codes "c")) (next (list 22 (next (word 23 (codes "d")) none)) none))) none))))) ≡ [])
-    × (found_as keywords.NeverAllow (list 0 (next (word 1 (codes "neverallow")) (next (word 12 (codes "a")) (next (word 14 (codes "other")) (next (list 20 (next (word 21 (codes "c")) (next (list 23 (next (word 24 (codes "d")) none)) none))) none))))) ≡ fault causes.Unsupported 14 (codes "other") ∷ [])
-    × (found (list 0 (next (word 1 (codes "macro")) (next (word 7 (codes "m")) (next (list 9 (next (list 10 (next (word 11 (codes "typealias")) (next (word 21 (codes "a")) none))) (next (list 23 (next (word 24 (codes "bool")) (next (word 29 (codes "b")) none))) (next (list 31 (next (word 32 (codes "boolean")) (next (word 40 (codes "c")) none))) (next (list 42 (next (word 43 (codes "classmap")) (next (word 52 (codes "d")) none))) (next (list 54 (next (word 55 (codes "classpermission")) (next (word 71 (codes "e")) none))) none)))))) none)))) ≡ fault causes.Unsupported 24 (codes "bool") ∷ fault causes.Unsupported 32 (codes "boolean") ∷ fault causes.Unsupported 43 (codes "classmap") ∷ fault causes.Unsupported 55 (codes "classpermission") ∷ [])
+    × (found (list 0 (next (word 1 (codes "neverallow")) (next (word 12 (codes "a")) (next (word 14 (codes "self")) (next (list 19 (next (word 20 (codes "c")) (next (list 22 (next (word 23 (codes "d")) none)) none))) none))))) ≡ [])
+    × (found (list 0 (next (word 1 (codes "neverallow")) (next (word 12 (codes "a")) (next (word 14 (codes "other")) (next (list 20 (next (word 21 (codes "c")) (next (list 23 (next (word 24 (codes "d")) none)) none))) none))))) ≡ fault causes.Unsupported 14 (codes "other") ∷ [])
+    × (found (list 0 (next (word 1 (codes "macro")) (next (word 7 (codes "m")) (next (list 9 (next (list 10 (next (word 11 (codes "typealias")) (next (word 21 (codes "a")) none))) (next (list 23 (next (word 24 (codes "bool")) (next (word 29 (codes "b")) none))) (next (list 31 (next (word 32 (codes "boolean")) (next (word 40 (codes "c")) none))) (next (list 42 (next (word 43 (codes "classmap")) (next (word 52 (codes "d")) none))) (next (list 54 (next (word 55 (codes "classpermission")) (next (word 71 (codes "e")) none))) none)))))) none)))) ≡ fault causes.Unsupported 43 (codes "classmap") ∷ fault causes.Unsupported 55 (codes "classpermission") ∷ [])
 unfolding verdict_of cells_of cell_of read_row read_word read_string read_list rules containers types classes users entry_of set_aside_words later_words left_out_words heads first_words begins_with
 statements_10 = (refl, refl, refl, refl, refl, refl, refl, refl)
 
@@ -570,7 +570,7 @@ statements_11 = (refl, refl, refl, refl)
 pub names_1 : (found_as keywords.Constrain (list 0 (next (word 1 (codes "constrain")) (next (word 11 (codes "p")) (next (list 13 (next (word 14 (codes "eq")) (next (word 17 (codes "u1")) (next (word 20 (codes "u2")) none)))) none)))) ≡ [])
     × (found_as keywords.Constrain (list 0 (next (word 1 (codes "constrain")) (next (word 11 (codes "1x")) (next (list 14 (next (word 15 (codes "eq")) (next (word 18 (codes "u1")) (next (word 21 (codes "1x")) none)))) none)))) ≡ fault causes.BadName 11 (codes "1x") ∷ fault causes.BadName 21 (codes "1x") ∷ [])
     × (found_as keywords.MlsConstrain (list 0 (next (word 1 (codes "mlsconstrain")) (next (word 14 (codes "p")) (next (list 16 (next (word 17 (codes "dom")) (next (word 21 (codes "r1")) (next (word 24 (codes "r2")) none)))) none)))) ≡ fault causes.Unsupported 17 (codes "dom") ∷ [])
-    × (found_as keywords.NeverAllow (list 0 (next (word 1 (codes "neverallow")) (next (word 12 (codes "a")) (next (word 14 (codes "b")) (next (word 16 (codes "p")) none))))) ≡ [])
+    × (found (list 0 (next (word 1 (codes "neverallow")) (next (word 12 (codes "a")) (next (word 14 (codes "b")) (next (word 16 (codes "p")) none))))) ≡ [])
     × (found (list 0 (next (word 1 (codes "classpermissionset")) (next (word 20 (codes "p")) (next (list 22 (next (word 23 (codes "c")) (next (list 25 (next (word 26 (codes "not")) (next (word 30 (codes "a")) none))) none))) none)))) ≡ [])
     × (found (list 0 (next (word 1 (codes "classmapping")) (next (word 14 (codes "m")) (next (word 16 (codes "p")) (next (list 18 (next (word 19 (codes "c")) (next (word 21 (codes "all")) none))) none))))) ≡ [])
 unfolding verdict_of cells_of cell_of read_row read_word read_string read_list rules containers types classes users entry_of set_aside_words later_words left_out_words heads first_words begins_with
@@ -609,7 +609,7 @@ pub later_2 : (found (list 0 (next (word 1 (codes "mls")) none)) ≡ fault cause
     × (found (list 0 (next (word 1 (codes "categoryaliasactual")) none)) ≡ fault causes.Unsupported 0 (codes "categoryaliasactual") ∷ [])
     × (found (list 0 (next (word 1 (codes "categoryorder")) none)) ≡ fault causes.Unsupported 0 (codes "categoryorder") ∷ [])
     × (found (list 0 (next (word 1 (codes "categoryset")) none)) ≡ fault causes.Unsupported 0 (codes "categoryset") ∷ [])
-    × (found (list 0 (next (word 1 (codes "booleanif")) none)) ≡ fault causes.Unsupported 0 (codes "booleanif") ∷ [])
+    × (found (list 0 (next (word 1 (codes "booleanif")) none)) ≡ fault causes.BadShape 0 (codes "booleanif") ∷ [])
     × (found (list 0 (next (word 1 (codes "roleallow")) none)) ≡ fault causes.Unsupported 0 (codes "roleallow") ∷ [])
 unfolding verdict_of cells_of cell_of read_row read_word read_string read_list rules containers types classes users entry_of set_aside_words later_words left_out_words heads first_words begins_with
 later_2 = (refl, refl, refl, refl, refl, refl, refl, refl)
@@ -628,7 +628,7 @@ pub later_3 : (found (list 0 (next (word 1 (codes "userlevel")) none)) ≡ fault
     × (found (list 0 (next (word 1 (codes "classpermissionset")) none)) ≡ fault causes.BadShape 0 (codes "classpermissionset") ∷ [])
     × (found (list 0 (next (word 1 (codes "classmapping")) none)) ≡ fault causes.BadShape 0 (codes "classmapping") ∷ [])
     × (found (list 0 (next (word 1 (codes "classorder")) none)) ≡ fault causes.BadShape 0 (codes "classorder") ∷ [])
-    × (found (list 0 (next (word 1 (codes "boolean")) none)) ≡ fault causes.Unsupported 0 (codes "boolean") ∷ [])
+    × (found (list 0 (next (word 1 (codes "boolean")) none)) ≡ fault causes.BadShape 0 (codes "boolean") ∷ [])
     × (found (list 0 (next (word 1 (codes "level")) none)) ≡ fault causes.Unsupported 0 (codes "level") ∷ [])
 unfolding verdict_of cells_of cell_of read_row read_word read_string read_list rules containers types classes users entry_of set_aside_words later_words left_out_words heads first_words begins_with
 later_3 = (refl, refl, refl, refl, refl, refl, refl, refl)
@@ -642,7 +642,7 @@ later_3 = (refl, refl, refl, refl, refl, refl, refl, refl)
 -- `(dontaudit)`
 pub later_4 : (found (list 0 (next (word 1 (codes "levelrange")) none)) ≡ fault causes.Unsupported 0 (codes "levelrange") ∷ [])
     × (found (list 0 (next (word 1 (codes "rangetransition")) none)) ≡ fault causes.Unsupported 0 (codes "rangetransition") ∷ [])
-    × (found (list 0 (next (word 1 (codes "neverallow")) none)) ≡ fault causes.Unsupported 0 (codes "neverallow") ∷ [])
+    × (found (list 0 (next (word 1 (codes "neverallow")) none)) ≡ fault causes.BadShape 0 (codes "neverallow") ∷ [])
     × (found (list 0 (next (word 1 (codes "constrain")) none)) ≡ fault causes.Unsupported 0 (codes "constrain") ∷ [])
     × (found (list 0 (next (word 1 (codes "mlsconstrain")) none)) ≡ fault causes.Unsupported 0 (codes "mlsconstrain") ∷ [])
     × (found (list 0 (next (word 1 (codes "auditallow")) none)) ≡ fault causes.BadShape 0 (codes "auditallow") ∷ [])
@@ -658,9 +658,9 @@ later_4 = (refl, refl, refl, refl, refl, refl, refl)
 -- `(category c0)`
 -- `(sensitivityorder (s0 s1))`
 -- `(categoryorder (c0 c1 c2 c3))`
-pub rows_1 : (found_as keywords.Boolean (list 0 (next (word 1 (codes "boolean")) (next (word 9 (codes "bo")) (next (word 12 (codes "true")) none)))) ≡ [])
-    × (found_as keywords.BooleanIf (list 0 (next (word 1 (codes "booleanif")) (next (word 11 (codes "bo")) (next (list 14 (next (word 15 (codes "false")) (next (list 21 (next (word 22 (codes "allow")) (next (word 28 (codes "b")) (next (word 30 (codes "a")) (next (list 32 (next (word 33 (codes "file")) (next (list 38 (next (word 39 (codes "open")) none)) none))) none))))) none))) none)))) ≡ [])
-    × (found_as keywords.NeverAllow (list 0 (next (word 1 (codes "neverallow")) (next (word 12 (codes "b")) (next (word 14 (codes "a")) (next (list 16 (next (word 17 (codes "file")) (next (list 22 (next (word 23 (codes "open")) (next (word 28 (codes "read")) none))) none))) none))))) ≡ [])
+pub rows_1 : (found (list 0 (next (word 1 (codes "boolean")) (next (word 9 (codes "bo")) (next (word 12 (codes "true")) none)))) ≡ [])
+    × (found (list 0 (next (word 1 (codes "booleanif")) (next (word 11 (codes "bo")) (next (list 14 (next (word 15 (codes "false")) (next (list 21 (next (word 22 (codes "allow")) (next (word 28 (codes "b")) (next (word 30 (codes "a")) (next (list 32 (next (word 33 (codes "file")) (next (list 38 (next (word 39 (codes "open")) none)) none))) none))))) none))) none)))) ≡ [])
+    × (found (list 0 (next (word 1 (codes "neverallow")) (next (word 12 (codes "b")) (next (word 14 (codes "a")) (next (list 16 (next (word 17 (codes "file")) (next (list 22 (next (word 23 (codes "open")) (next (word 28 (codes "read")) none))) none))) none))))) ≡ [])
     × (found_as keywords.Mls (list 0 (next (word 1 (codes "mls")) (next (word 5 (codes "true")) none))) ≡ [])
     × (found_as keywords.Sensitivity (list 0 (next (word 1 (codes "sensitivity")) (next (word 13 (codes "s0")) none))) ≡ [])
     × (found_as keywords.Category (list 0 (next (word 1 (codes "category")) (next (word 10 (codes "c0")) none))) ≡ [])

@@ -34,6 +34,9 @@ pub struct Statement<'a> {
     pub args: Vec<Term<'a>>,
 }
 
+// Policies have millions of statements.
+const _: () = prove!(size_of::<Statement>() <= 64);
+
 /// The statements of modules, by module and place.
 #[derive(Debug, Drop)]
 pub struct Program<'a> {

@@ -7,7 +7,7 @@ ghost use Rattle.cil_syntax.specs.Table.{is_unsupported, later_words, left_out_w
 use crate::spelling;
 
 /// The statements that are to be supported, and are not yet.
-const LATER_WORDS: [&[u8]; 22] = [
+const LATER_WORDS: [&[u8]; 19] = [
     b"sensitivity",
     b"sensitivityalias",
     b"sensitivityaliasactual",
@@ -19,15 +19,12 @@ const LATER_WORDS: [&[u8]; 22] = [
     b"categoryaliasactual",
     b"categoryorder",
     b"categoryset",
-    b"booleanif",
     b"roleallow",
     b"userlevel",
     b"userrange",
-    b"boolean",
     b"level",
     b"levelrange",
     b"rangetransition",
-    b"neverallow",
     b"constrain",
     b"mlsconstrain",
 ];

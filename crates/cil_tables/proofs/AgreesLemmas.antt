@@ -1,7 +1,7 @@
 -- What the tables of items say is what the items say.
 use Rattle.std.specs.Prelude.{Some, slice_get}
 use Rattle.std.specs.List.Sorted.{IsStrictlySortedBy}
-use Rattle.std.proofs.Common.{◌≡◌, ℕ, List, [], ◌∷◌, refl, sym, ◌∙◌, ap, subst, inl, inr}
+use Rattle.std.proofs.Common.{◌≡◌, ℕ, Bool, List, [], ◌∷◌, refl, sym, ◌∙◌, ap, subst, inl, inr}
 use Rattle.std.proofs.lemmas.Cmp.{nat_list_cmp_total}
 use Rattle.std.proofs.lemmas.Map.Lookups.{exact_bytes}
 use Rattle.cil_base.specs.Lists.{Lists, text_cmp}
@@ -13,16 +13,19 @@ use Rattle.cil_syntax.specs.declared.kind.Kind.TheVariants as kinds
 use Rattle.cil_syntax.specs.Terms.{Term, Leaf, Name, Form}
 use Rattle.cil_tables.specs.declared.context.Context.{Context as Numbers}
 use Rattle.cil_classes.specs.declared.row.Class.{Class}
-use Rattle.cil_base.specs.Gives.{Gives}
-use Rattle.cil_rules.specs.Order.{rule_cmp}
 use Rattle.cil_rules.specs.Rule.{Rule, Target, Types, Itself}
 use Rattle.cil_tables.specs.Agrees.{Agrees, CoverAs, SameContext, SamePermission}
 use Rattle.cil_names.specs.Says.{AreJoined}
 use Rattle.cil_tables.specs.Contexts.{Context, IsValid}
-use Rattle.cil_rules.specs.Covered.{IsCovered, IsTarget}
-use Rattle.cil_rules.specs.Records.{Case, HasNumber, HasTarget, IsCase, IsRuleOf, IsTargetOf}
+use Rattle.cil_conditions.proofs.ConditionLemmas.{branches_agree, chosen_is_said}
+use Rattle.cil_conditions.specs.Conditions.{IsChosen, Settings}
+use Rattle.cil_conditions.specs.Spelled.{AreSameSettings}
+use Rattle.cil_rules.specs.Covered.{IsCovered}
+use Rattle.cil_rules.specs.CoveredBy.{IsTarget}
+use Rattle.cil_rules.specs.Records.{Case, HasNumber, HasTarget, IsTargetOf}
 use Rattle.cil_tables.specs.Links.{IsLink}
-use Rattle.cil_tables.specs.Compiled.{IsNameOf, IsTable}
+use Rattle.cil_tables.specs.Compiled.{AreRulesOf, IsTable}
+use Rattle.cil_tables.specs.Named.{IsNameOf}
 use Rattle.cil_names.specs.Known.{IsNumbered}
 use Rattle.std.proofs.lemmas.Option.{same_Some}
 use Rattle.cil_names.specs.Declarations.{Declared, Symbol, name_of}
@@ -35,7 +38,7 @@ use Rattle.cil_rules.specs.Covers.{HasCover, Reaches}
 use Rattle.cil_names.specs.Members.{StandsFor}
 use Rattle.cil_classes.specs.Given.{HasPair}
 use Rattle.cil_rules.proofs.RuleLemmas.{pair_declared}
-use Rattle.cil_tables.specs.Table.{Table}
+use Rattle.cil_tables.specs.Table.{Table, boolean_names}
 use Rattle.cil_classes.specs.Row.{class_cmp}
 use Rattle.cil_base.proofs.NameSearches.{number_is}
 
@@ -43,7 +46,7 @@ use Rattle.cil_base.proofs.NameSearches.{number_is}
 pub one_class_number : (rows : List Class) (i j : ℕ) (r q : Class) → IsStrictlySortedBy class_cmp rows → slice_get rows i ≡ Some r → slice_get rows j ≡ Some q → r.name ≡ q.name → i ≡ j
 one_class_number rows i j r q rising at bt same = one_of_key (λ (c : Class). c.name) text_cmp nat_list_cmp_total exact_bytes rows i j r q rising at bt same
 
-one_number : (names : List (List ℕ)) (n m : ℕ) (name : List ℕ) → IsStrictlySortedBy text_cmp names → slice_get names n ≡ Some name → slice_get names m ≡ Some name → n ≡ m
+pub one_number : (names : List (List ℕ)) (n m : ℕ) (name : List ℕ) → IsStrictlySortedBy text_cmp names → slice_get names n ≡ Some name → slice_get names m ≡ Some name → n ≡ m
 one_number names n m name rising at bt = (number_is names name m bt rising).only n at
 
 -- declared symbols whose qualified names are spelled alike are one
@@ -174,37 +177,55 @@ module _ (xs : List Item) (s : OptSet) (one : HaveOneSymbol xs s) where
       has_target (Form at op parts) st = st.0
 
     module _ (n m : Numbers) (a b : Context) (number bit : ℕ) (c : Symbol) (p : List ℕ) (sa : SameContext xs s t n a) (sb : SameContext xs s t m b)
-        (sp : SamePermission xs s t number bit c p) (keyword : Keyword) (rules : List Rule) (given : Gives rule_cmp (IsCase xs s keyword) (IsRuleOf xs s t.types t.classes) rules) where
-      cover_there : HasCover rules n.kind m.kind number bit → IsCovered xs s keyword a.kind b.kind c p
+        (sp : SamePermission xs s t number bit c p) (on : ℕ → Bool) (v : Settings) (same : AreSameSettings (boolean_names t.booleans) on v) (keyword : Keyword) (rules : List Rule)
+        (given : AreRulesOf xs s t.types t.classes (boolean_names t.booleans) keyword rules) where
+      cover_there : HasCover on rules n.kind m.kind number bit → IsCovered xs s v keyword a.kind b.kind c p
       cover_there is =
           let r = is.rule in
           let k = given.only r is.is_rule in
           let gives = k.2 in
           let asked = k.1 in
           let row : gives.row ≡ sp.row = same_Some _ _ (sym gives.is_row ∙ ap (slice_get t.classes) is.covers.of_class ∙ sp.is_row) in
+          let by = asked.by in
           let class_ : k.0.class_ ≡ c =
-          one kinds.Class kinds.Class k.0.class_ c (pair_declared xs s k.0.class_permission k.0.class_ asked.permission.0 asked.permission.1) sp.a_class
+          one kinds.Class kinds.Class k.0.class_ c (pair_declared xs s k.0.class_permission k.0.class_ by.permission.0 by.permission.1) sp.a_class
           (sym gives.named ∙ ap (λ z. z.name) row ∙ sp.named) in
           let has = (gives.mask bit).0 is.covers.permits in
           let permission : has.permission ≡ p = same_Some _ _ (sym has.is_permission ∙ ap (λ z. slice_get z.permissions bit) row ∙ sp.is_permission) in
           record {
-            source_word = k.0.source;
-            target_term = k.0.target;
-            class_permission = k.0.class_permission;
-            rule = asked.rule;
-            has_source = stands_there k.0.source n.kind a.kind sa.a_type sa.kind ((gives.source.members n.kind).0 is.covers.has_source);
-            has_target = target_there n.kind m.kind a.kind b.kind sa.a_type sb.a_type sa.kind sb.kind k.0.target r.target gives.target is.covers.has_target;
-            permits = subst (λ q. HasPair xs s k.0.class_permission c q) permission (subst (λ z. HasPair xs s k.0.class_permission z has.permission) class_ has.gives);
+            item = asked.item;
+            chosen = subst (IsChosen xs s v) by.branch ((branches_agree xs s v (boolean_names t.booleans) on same k.0.branch r.branch gives.branch).0 is.covers.active);
+            covers = record {
+              is_item = asked.is_item;
+              enabled = by.enabled;
+              is_keyword = by.is_keyword;
+              source_word = k.0.source;
+              target_term = k.0.target;
+              class_permission = k.0.class_permission;
+              says = by.says;
+              has_source = stands_there k.0.source n.kind a.kind sa.a_type sa.kind ((gives.source.members n.kind).0 is.covers.has_source);
+              has_target = target_there n.kind m.kind a.kind b.kind sa.a_type sb.a_type sa.kind sb.kind k.0.target r.target gives.target is.covers.has_target;
+              permits = subst (λ q. HasPair xs s k.0.class_permission c q) permission (subst (λ z. HasPair xs s k.0.class_permission z has.permission) class_ has.gives);
+            };
           }
 
-      cover_back : IsCovered xs s keyword a.kind b.kind c p → HasCover rules n.kind m.kind number bit
-      cover_back is =
-          let k : Case = record { source = is.source_word; target = is.target_term; class_permission = is.class_permission; class_ = c } in
+      cover_back : IsCovered xs s v keyword a.kind b.kind c p → HasCover on rules n.kind m.kind number bit
+      cover_back covered =
+          let is = covered.covers in
+          let k : Case = record { branch = covered.item.branch; source = is.source_word; target = is.target_term; class_permission = is.class_permission; class_ = c } in
           let found = given.each k (record {
-            rule = is.rule;
-            source = (a.kind, is.has_source);
-            target = has_target n.kind m.kind a.kind b.kind sa.a_type sb.a_type sa.kind sb.kind is.target_term is.has_target;
-            permission = (p, is.permits);
+            item = covered.item;
+            is_item = is.is_item;
+            by = record {
+              enabled = is.enabled;
+              is_keyword = is.is_keyword;
+              branch = refl;
+              taken = chosen_is_said xs s v covered.item.branch covered.chosen;
+              says = is.says;
+              source = (a.kind, is.has_source);
+              target = has_target n.kind m.kind a.kind b.kind sa.a_type sb.a_type sa.kind sb.kind is.target_term is.has_target;
+              permission = (p, is.permits);
+            };
           }) in
           let r = found.0 in
           let gives = found.1 in
@@ -214,6 +235,7 @@ module _ (xs : List Item) (s : OptSet) (one : HaveOneSymbol xs s) where
             rule = r;
             is_rule = found.2;
             covers = record {
+              active = (branches_agree xs s v (boolean_names t.booleans) on same covered.item.branch r.branch gives.branch).1 covered.chosen;
               has_source = (gives.source.members n.kind).1 (record { kind = a.kind; stands = is.has_source; numbered = sa.kind });
               has_target = target_back n.kind m.kind a.kind b.kind sa.a_type sb.a_type sa.kind sb.kind is.target_term r.target gives.target is.has_target;
               of_class = class_number;
@@ -221,9 +243,10 @@ module _ (xs : List Item) (s : OptSet) (one : HaveOneSymbol xs s) where
             };
           }
 
-    cover_as : (keyword : Keyword) (rules : List Rule) → Gives rule_cmp (IsCase xs s keyword) (IsRuleOf xs s t.types t.classes) rules → CoverAs xs s t keyword rules
+    cover_as : (keyword : Keyword) (rules : List Rule) → AreRulesOf xs s t.types t.classes (boolean_names t.booleans) keyword rules → CoverAs xs s t keyword rules
     cover_as keyword rules given =
-        λ n m a b number bit c p sa sb sp. (cover_there n m a b number bit c p sa sb sp keyword rules given, cover_back n m a b number bit c p sa sb sp keyword rules given)
+        λ on v same n m a b number bit c p sa sb sp.
+        (cover_there n m a b number bit c p sa sb sp on v same keyword rules given, cover_back n m a b number bit c p sa sb sp on v same keyword rules given)
 
     pub table_agrees : Agrees xs s t
     table_agrees = record {

@@ -3,13 +3,13 @@ use Rattle.std.specs.Prelude.{Contains, None, Some, map, nat_eq, slice_get}
 use Rattle.std.specs.List.Retain.{DiffersFromLast, IsFiltered}
 use Rattle.std.specs.List.Sorted.{IsPermutation, IsSorted}
 use Rattle.std.specs.Ordering.{eq_by_cmp, nat_cmp}
-use Rattle.std.proofs.Common.{◌≡◌, ◌⊎◌, ◌↔◌, ℕ, ◌+◌, ◌<◌, ◌≤◌, Bool, true, false, ◌&&◌, ◌||◌, List, [], ◌∷◌, ◌++◌, get_or, length, refl, sym, ◌∙◌, ap, subst, inl, inr, arith}
+use Rattle.std.proofs.Common.{◌≡◌, ◌⊎◌, ◌↔◌, ℕ, ◌+◌, ◌<◌, Bool, true, false, ◌&&◌, ◌||◌, List, [], ◌++◌, get_or, length, refl, sym, ◌∙◌, ap, subst, inl, inr, arith}
 use Rattle.std.proofs.lemmas.Bool.{and_parts, true≢false}
 use Rattle.std.proofs.lemmas.List.Elements.{Contains-append_cases, Contains-append_left, Contains-append_right}
 use Rattle.std.proofs.lemmas.Option.{none-some, same_Some}
 use Rattle.cil_base.specs.Lists.{Lists, contains_none}
 use Rattle.cil_base.specs.MadeLists.{contains_map, from_map}
-use Rattle.cil_base.specs.Places.{get_so, in_range}
+use Rattle.cil_base.specs.Places.{in_range}
 use Rattle.cil_base.proofs.SortedLists.{sorted_list}
 use Rattle.cil_syntax.specs.Kinds.{kind_number}
 use Rattle.cil_syntax.specs.declared.kind.Kind.{Kind}
@@ -18,7 +18,7 @@ use Rattle.cil_syntax.proofs.KindLemmas.{one_kind, same_kind}
 use Rattle.cil_macros.specs.Item.{Item}
 use Rattle.cil_names.specs.declared.entry.Entry.{Entry}
 use Rattle.cil_names.specs.declared.known.Known.{Known}
-use Rattle.cil_names.specs.Declarations.{Symbol, name_of}
+use Rattle.cil_names.specs.Declarations.{name_of}
 use Rattle.cil_names.specs.Entries.{is_declared_in}
 use Rattle.cil_names.specs.Known.{HaveMembers, IsKnown, IsMemberNumber, enabled_in}
 use Rattle.cil_names.specs.Numbers.{is_of, spelled_of, symbol_of}

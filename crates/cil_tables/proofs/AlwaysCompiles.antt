@@ -1,5 +1,12 @@
 -- Readable modules compile to tables or have a list of faults: step after step, as the compiler takes them.
-use Rattle.std.proofs.Common.{◌≡◌, ℕ, false, List, map, refl, inl, inr}
+use Rattle.std.specs.Prelude.{codes}
+use Rattle.std.proofs.Common.{◌≡◌, ◌≤◌, ℕ, false, List, length, map, refl, sym, ◌∙◌, ap, inl, inr, arith}
+use Rattle.std.proofs.lemmas.Bool.{cases_lt, true≢false}
+use Rattle.std.proofs.lemmas.List.{length-map}
+use Rattle.cil_faults.specs.Reported.{global_fault}
+use Rattle.cil_faults.specs.declared.code.FaultCode.TheVariants as causes
+use Rattle.cil_names.specs.Declarations.{nowhere}
+use Rattle.cil_tables.specs.declared.tables.Boolean.{Boolean}
 use Rattle.cil_base.specs.Lists.{Lists}
 use Rattle.cil_faults.specs.declared.failure.Failure.TheVariants.{Faults}
 use Rattle.cil_faults.specs.declared.fault.Fault.{Fault}
@@ -21,8 +28,9 @@ use Rattle.cil_names.specs.Faults.{ClashFault, ResolveFault}
 use Rattle.cil_macros.specs.Items.{AreItems, item_of}
 use Rattle.cil_macros.specs.Placed.{Placed}
 use Rattle.cil_macros.specs.Item.{Item, nobody}
-use Rattle.cil_tables.specs.Laws.{AlwaysCompilesOrFails, AreFlatModules, Outcome, compiles, fails}
-use Rattle.cil_tables.specs.Table.{Table, IsOrderly}
+use Rattle.cil_neverallow.specs.NeverFaults.{NeverFault, violated}
+use Rattle.cil_tables.specs.Laws.{AlwaysCompilesOrFails, AreFlatModules, Outcome, compiles, fails, is_flat}
+use Rattle.cil_tables.specs.Table.{Table, IsOrderly, boolean_names, most_booleans}
 use Rattle.cil_optionals.specs.Greatest.{IsGreatest}
 use Rattle.cil_optionals.specs.Laws.{FlatIsGreatest}
 use Rattle.cil_tables.proofs.AgreesLemmas.{table_agrees}
@@ -38,6 +46,14 @@ use Rattle.cil_tables.proofs.WideClasses.{few}
 -- ---- tables are orderly where no class is too wide
 
 module _ (xs : List Item) (none : (f : Fault) → SetsFault nobody xs f → ⊥) where
+  few_booleans : (t : Table) → IsTable xs nobody t → length t.booleans ≤ most_booleans
+  few_booleans t is = elim (cases_lt most_booleans (length t.booleans)) [
+    | inl big ↦ let len = length-map t.booleans (λ (b : Boolean). b.name) in
+        absurd (none (global_fault causes.TooMany nowhere (codes "booleans"))
+        (inr (inr (record { names = boolean_names t.booleans; are_names = is.booleans.names; many = omega (arith, big, len); told = refl }))))
+    | inr some ↦ some
+  ]
+
   orderly : (t : Table) → IsTable xs nobody t → IsOrderly t
   orderly t is = record {
     users = is.users.rising;
@@ -45,6 +61,8 @@ module _ (xs : List Item) (none : (f : Fault) → SetsFault nobody xs f → ⊥)
     types = is.types.rising;
     type_aliases = is.type_aliases.rising;
     classes = is.classes.rising;
+    booleans = is.booleans.names.rising;
+    few_booleans = few_booleans t is;
     each_class = λ row c. let k = is.classes.only row c in record { permissions = k.2.permissions.rising; few = few xs nobody (λ f c. none f (inl c)) k.0 row k.1 k.2 };
     user_roles = is.user_roles.rising;
     role_types = is.role_types.rising;
@@ -88,6 +106,11 @@ module _ (modules : List (List ℕ)) (program : List Written) (is_program : List
   failed : (fs : List Fault) → CompileFails modules (Faults fs) → Outcome modules
   failed fs h = fails fs h.0 h.1
 
+  -- no statement forbids anything
+  nothing_forbidden : (f : Fault) → NeverFault items nobody f → ⊥
+  nothing_forbidden f (violated n a q is) =
+      let by = is.both.forbidden in true≢false (sym (plain n by.is_item) ∙ ap is_flat by.is_keyword)
+
   without_faults : ((f : Fault) → ClashFault items f → ⊥) → ((f : Fault) → ResolveFault nobody items f → ⊥) → ((f : Fault) → SetsFault nobody items f → ⊥) → Outcome modules
   without_faults apart named narrow =
       let t = tables items plain flat in
@@ -95,7 +118,7 @@ module _ (modules : List (List ℕ)) (program : List Written) (is_program : List
         items = items;
         enabled = nobody;
         policy = record { are_items = are_items; greatest = greatest };
-        no_faults = nothing_wrong modules items are_items front apart nobody greatest named narrow;
+        no_faults = nothing_wrong modules items are_items front apart nobody greatest named narrow nothing_forbidden;
         table = t.1;
         agrees = table_agrees items nobody (one_flat items flat) t.0 t.1;
       })

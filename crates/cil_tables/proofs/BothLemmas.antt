@@ -1,9 +1,6 @@
 -- What is wrong with two answers together.
-use Rattle.std.specs.Prelude.{Contains, Result, Ok, Err}
-use Rattle.std.proofs.Common.{◌≡◌, ◌⊎◌, refl, sym, subst, inl, inr}
-use Rattle.cil_base.specs.Lists.{Lists}
-use Rattle.cil_faults.specs.Fails.{AreFaults}
-use Rattle.cil_faults.specs.FaultOrder.{fault_cmp}
+use Rattle.std.specs.Prelude.{Result, Ok, Err}
+use Rattle.std.proofs.Common.{◌⊎◌, sym, subst, inl, inr}
 use Rattle.cil_faults.specs.Refusal.{Answers, Fails}
 use Rattle.cil_faults.specs.declared.failure.Failure.{Failure}
 use Rattle.cil_faults.specs.declared.failure.Failure.TheVariants.{Faults, NoMemory}

@@ -25,10 +25,11 @@ use Rattle.cil_macros.specs.Macros.{all_standing}
 use Rattle.cil_macros.specs.Walks.{written_in}
 use Rattle.cil_tables.proofs.AgreesLemmas.{table_agrees}
 use Rattle.cil_tables.proofs.PlainLemmas.{AreBegun, AreNamed, are_named, one_symbol}
+use Rattle.cil_neverallow.specs.NeverFaults.{NeverFault}
 use Rattle.cil_tables.specs.SetsStep.{SetsFault}
 use Rattle.cil_tables.specs.declared.compiler.Compiled.{Compiled}
 use Rattle.cil_tables.specs.CompileAnswer.{IsCompiled, IsCompiledOf, StandsIn}
-use Rattle.cil_tables.specs.CompileRefusal.{AreItemsFaults, CompileFails, ItemsFail, set_steps}
+use Rattle.cil_tables.specs.CompileRefusal.{AreItemsFaults, CompileFails, ItemsFail, LaterFail, set_steps}
 use Rattle.cil_faults.specs.First.{AreFirst}
 use Rattle.cil_tables.specs.Faults.{ArePolicyFaults, OfItems, OfPolicy, OfProgram, OfStandings, of_items, of_policy, of_program, of_standings}
 use Rattle.cil_names.specs.Faults.{ClashFault, ResolveFault}
@@ -183,7 +184,7 @@ module _ (modules : List (List ℕ)) (xs : List Item) (are : AreItems modules xs
     its_policy : ArePolicy modules xs s
     its_policy = record { are_items = are; greatest = greatest }
 
-    after_clash : (fs : List Fault) → AreFirst (OfPolicy modules (λ ys r. ResolveFault r ys) ∷ OfPolicy modules (λ ys r. SetsFault r ys) ∷ []) fs → ArePolicyFaults modules fs
+    after_clash : (fs : List Fault) → AreFirst (OfPolicy modules (λ ys r. ResolveFault r ys) ∷ OfPolicy modules (λ ys r. SetsFault r ys) ∷ OfPolicy modules NeverFault ∷ []) fs → ArePolicyFaults modules fs
     after_clash fs first = inr (front.shape, inr (front.blocks, inr (front.calls, inr (no_step modules xs are ClashFault apart, first))))
 
     pub words_fail : (failure : Failure) → Fails (ResolveFault s xs) failure → CompileFails modules failure
@@ -198,8 +199,16 @@ module _ (modules : List (List ℕ)) (xs : List Item) (are : AreItems modules xs
       widths_fail (Faults fs) a = (after_clash fs (inr (no_word, inl (policy_faults modules xs s its_policy (λ ys r. SetsFault r ys) fs a))), a.some)
       widths_fail NoMemory a = tt
 
-      pub nothing_wrong : ((f : Fault) → SetsFault s xs f → ⊥) → ArePolicyFaults modules []
-      nothing_wrong few = after_clash [] (inr (no_word, inr (no_policy_step modules xs s its_policy (λ ys r. SetsFault r ys) few, refl)))
+      module _ (few : (f : Fault) → SetsFault s xs f → ⊥) where
+        no_set : (f : Fault) → OfPolicy modules (λ ys r. SetsFault r ys) f → ⊥
+        no_set = no_policy_step modules xs s its_policy (λ ys r. SetsFault r ys) few
+
+        never_fail : (failure : Failure) → Fails (NeverFault xs s) failure → CompileFails modules failure
+        never_fail (Faults fs) a = (after_clash fs (inr (no_word, inr (no_set, inl (policy_faults modules xs s its_policy NeverFault fs a)))), a.some)
+        never_fail NoMemory a = tt
+
+        pub nothing_wrong : ((f : Fault) → NeverFault xs s f → ⊥) → ArePolicyFaults modules []
+        nothing_wrong kept = after_clash [] (inr (no_word, inr (no_set, inr (no_policy_step modules xs s its_policy NeverFault kept, refl))))
 
 -- ---- the steps over items alone
 
@@ -213,15 +222,25 @@ module _ (xs : List Item) where
     words_first (Faults fs) a = (inr (apart, (s, greatest, inl a)), a.some)
     words_first NoMemory a = tt
 
-    pub widths_first : ((f : Fault) → ResolveFault s xs f → ⊥) → (failure : Failure) → Fails (SetsFault s xs) failure → ItemsFail xs failure
-    widths_first named (Faults fs) a = (inr (apart, (s, greatest, inr (named, inl a))), a.some)
-    widths_first named NoMemory a = tt
+    pub later_first : ((f : Fault) → ResolveFault s xs f → ⊥) → (failure : Failure) → LaterFail xs s failure → ItemsFail xs failure
+    later_first named (Faults fs) a = (inr (apart, (s, greatest, inr (named, a.0))), a.1)
+    later_first named NoMemory a = tt
+
+  module _ (s : OptSet) where
+    pub sets_fail : (failure : Failure) → Fails (SetsFault s xs) failure → LaterFail xs s failure
+    sets_fail (Faults fs) a = (inl a, a.some)
+    sets_fail NoMemory a = tt
+
+    pub forbidden_fail : ((f : Fault) → SetsFault s xs f → ⊥) → (failure : Failure) → Fails (NeverFault xs s) failure → LaterFail xs s failure
+    forbidden_fail few (Faults fs) a = (inr (few, inl a), a.some)
+    forbidden_fail few NoMemory a = tt
 
 module _ (modules : List (List ℕ)) (xs : List Item) (are : AreItems modules xs) (front : IsFront modules) where
   of_set : ((f : Fault) → ClashFault xs f → ⊥) → (s : OptSet) → IsGreatest xs s → (fs : List Fault) → AreFirst (set_steps xs s) fs → ArePolicyFaults modules fs
   of_set apart s greatest fs (inl lost) = (words_fail modules xs are front apart s greatest (Faults fs) lost).0
   of_set apart s greatest fs (inr (named, inl broad)) = (widths_fail modules xs are front apart s greatest named (Faults fs) broad).0
-  of_set apart s greatest fs (inr (named, inr (few, e))) = subst (ArePolicyFaults modules) (sym e) (nothing_wrong modules xs are front apart s greatest named few)
+  of_set apart s greatest fs (inr (named, inr (few, inl met))) = (never_fail modules xs are front apart s greatest named few (Faults fs) met).0
+  of_set apart s greatest fs (inr (named, inr (few, inr (kept, e)))) = subst (ArePolicyFaults modules) (sym e) (nothing_wrong modules xs are front apart s greatest named few kept)
 
   first_of_all : (fs : List Fault) → AreItemsFaults xs fs → ArePolicyFaults modules fs
   first_of_all fs (inl clash) = (clash_fails modules xs are front (Faults fs) clash).0

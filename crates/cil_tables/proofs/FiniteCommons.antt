@@ -3,7 +3,7 @@ use Rattle.std.specs.Prelude.{Contains, ◌&&◌, None, Option, Some}
 use Rattle.std.specs.Cmp.Lexicographic.{bytes_decides}
 use Rattle.std.specs.Option.{option_map_or}
 use Rattle.std.proofs.Common.{◌≡◌, true, false, List, refl, sym, ◌∙◌, ap, subst, inl, inr}
-use Rattle.std.proofs.lemmas.Bool.{and_parts, true≢false}
+use Rattle.std.proofs.lemmas.Bool.{and_parts}
 use Rattle.std.proofs.lemmas.Option.{none-some, same_Some}
 use Rattle.cil_base.specs.Decided.{Decided, decided_both, decided_not, decided_same, same_bool}
 use Rattle.cil_faults.specs.Namespaces.{Namespace}
@@ -18,7 +18,7 @@ use Rattle.cil_syntax.specs.declared.kind.Sign.{Sign}
 use Rattle.cil_syntax.specs.declared.kind.Sign.TheVariants as signs
 use Rattle.cil_macros.specs.Item.{Item, is_enabled, nobody}
 use Rattle.cil_names.proofs.DeclareDecided.{same_symbol, symbol_by}
-use Rattle.cil_names.proofs.SharedLemmas.{named_none, named_one}
+use Rattle.cil_names.proofs.SharedLemmas.{named_none}
 use Rattle.cil_names.specs.Declarations.{Symbol}
 use Rattle.cil_names.specs.Resolves.{found_in, has, is_class_common, names_outside}
 use Rattle.cil_names.specs.Shared.{IsSharing, Pair, Shares}

@@ -1,5 +1,5 @@
 -- The faults of each step over items are finite, and so are the permissions of a class.
-use Rattle.std.specs.Prelude.{Contains, None, Option, Some, codes, ◌&&◌, ◌||◌}
+use Rattle.std.specs.Prelude.{Contains, None, Option, Some, codes, ◌&&◌}
 use Rattle.std.specs.Cmp.Lexicographic.{bytes_decides}
 use Rattle.std.specs.List.{list_any, flat_map}
 use Rattle.std.specs.Option.{option_map_or}
@@ -41,7 +41,7 @@ use Rattle.cil_classes.specs.Row.{most_permissions}
 use Rattle.cil_tables.proofs.Finite.{Finite, decided_where, finite_all, finite_either, finite_given, finite_if, finite_list, finite_listing, finite_same, finite_where}
 use Rattle.cil_tables.proofs.FiniteCommons.{finite_twice}
 use Rattle.cil_tables.proofs.FinitePolicy.{Front, finite_declarations, finite_front, finite_names}
-use Rattle.cil_tables.specs.Compiled.{IsNameOf}
+use Rattle.cil_tables.specs.Named.{IsNameOf}
 
 pub decided_less : (a b : ℕ) → Decided (a < b)
 decided_less a b = elim (cases_lt a b) [ inl less ↦ inl less | inr ge ↦ inr (λ less. absurd (omega (arith, less, ge))) ]

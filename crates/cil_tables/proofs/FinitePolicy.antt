@@ -11,9 +11,9 @@ use Rattle.cil_syntax.specs.declared.term.Op.TheVariants as ops
 use Rattle.cil_faults.specs.declared.spot.Spot.{Spot}
 use Rattle.cil_syntax.specs.Terms.{Term, Leaf, Name, Form, Terms, nil, cons}
 use Rattle.cil_rules.specs.Records.{HasNumber}
-use Rattle.cil_tables.specs.Compiled.{IsNameOf}
+use Rattle.cil_tables.specs.Named.{IsNameOf}
 use Rattle.cil_names.specs.Known.{IsNumbered}
-use Rattle.cil_syntax.specs.Scopes.{asked, ScopedWord}
+use Rattle.cil_syntax.specs.Scopes.{ScopedWord}
 use Rattle.cil_syntax.proofs.DecidedEquality.{kind_is, same_namespace}
 use Rattle.cil_names.proofs.DeclareDecided.{same_symbol}
 use Rattle.cil_names.specs.Declarations.{Declaration, declared_by, IsDeclaration, object, by, object_role, Declared, Symbol, name_of}
@@ -22,8 +22,7 @@ use Rattle.cil_names.specs.Members.{StandsFor}
 use Rattle.cil_classes.specs.Given.{HasPair, Holder, IsGiven, by_mapping, by_set, mapped, named, of_class, of_map, of_name}
 use Rattle.cil_classes.specs.Values.{in_value, in_value_there}
 use Rattle.cil_classes.proofs.ValueLemmas.{value_there}
-use Rattle.cil_names.specs.Resolves.{found_in, has_permission}
-use Rattle.cil_syntax.specs.Kinds.{is_wanted}
+use Rattle.cil_names.specs.Resolves.{has_permission}
 use Rattle.cil_tables.specs.Laws.{is_flat}
 use Rattle.cil_tables.proofs.NoGifts.{HaveFlatKeywords, is_stood, stands_plain}
 use Rattle.cil_tables.proofs.Finite.{Finite, decided_where, finite_all, finite_below, finite_either, finite_given, finite_image, finite_inverse, finite_list, finite_one, finite_same, finite_where, member}

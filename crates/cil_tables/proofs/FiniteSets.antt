@@ -1,13 +1,12 @@
 -- The faults of sets are finite where no set has members.
-use Rattle.std.specs.Prelude.{Contains, Option, Some, None, codes}
+use Rattle.std.specs.Prelude.{Contains, Some, codes}
 use Rattle.std.specs.Option.{option_map_or}
-use Rattle.std.proofs.Common.{◌≡◌, ◌⊎◌, ◌↔◌, ℕ, ◌<◌, Bool, ◌||◌, true, false, List, length, refl, sym, ◌∙◌, ap, subst, inl, inr, arith}
-use Rattle.std.proofs.lemmas.Bool.{cases_lt, true≢false}
+use Rattle.std.proofs.Common.{◌≡◌, ◌⊎◌, ◌↔◌, ℕ, ◌<◌, ◌||◌, true, false, List, length, refl, sym, ◌∙◌, ap, subst, arith}
+use Rattle.std.proofs.lemmas.Bool.{true≢false}
 use Rattle.std.proofs.lemmas.Cmp.{nat_list_cmp_total}
 use Rattle.std.proofs.lemmas.Map.Lookups.{exact_bytes}
 use Rattle.std.proofs.lemmas.Option.{none-some, same_Some}
-use Rattle.cil_base.specs.Decided.{Decided}
-use Rattle.cil_base.specs.Lists.{Lists, one_list, text_cmp}
+use Rattle.cil_base.specs.Lists.{one_list, text_cmp}
 use Rattle.cil_base.specs.Listing.{Listing}
 use Rattle.cil_faults.specs.Reported.{global_fault}
 use Rattle.cil_faults.specs.declared.code.FaultCode.TheVariants as causes
@@ -17,15 +16,16 @@ use Rattle.cil_syntax.specs.declared.kind.Kind.TheVariants as kinds
 use Rattle.cil_syntax.specs.declared.kind.Keyword.{Keyword}
 use Rattle.cil_syntax.specs.Table.{entry_of}
 use Rattle.cil_macros.specs.Item.{Item, OptSet}
-use Rattle.cil_names.specs.Declarations.{Symbol, name_of, nowhere}
+use Rattle.cil_names.specs.Declarations.{nowhere}
 use Rattle.cil_names.specs.Members.{space_of}
 use Rattle.cil_names.specs.Spaces.{Sets, any_sets}
-use Rattle.cil_names.proofs.MemberLemmas.{item_of}
-use Rattle.cil_attrs.specs.SetFaults.{AliasTwice, CircularSet, IsItemName, OpenAlias, SetFault, TooMany, alias_cycle, alias_open, alias_twice, limit_of, many, set_cycle}
+use Rattle.cil_attrs.specs.SetFaults.{AliasTwice, IsItemName, OpenAlias, SetFault, alias_cycle, alias_open, alias_twice, limit_of, many, set_cycle}
 use Rattle.cil_classes.specs.Faults.{ClassFault}
-use Rattle.cil_tables.specs.Compiled.{IsNameOf}
+use Rattle.cil_tables.specs.Named.{IsNameOf}
+use Rattle.cil_tables.specs.Booleans.{HasManyBooleans}
+use Rattle.cil_tables.specs.Table.{most_booleans}
 use Rattle.cil_tables.specs.SetsStep.{MembersFault, SetsFault}
-use Rattle.cil_tables.proofs.Finite.{Finite, finite_either, finite_if, finite_listing, finite_nothing, finite_same}
+use Rattle.cil_tables.proofs.Finite.{Finite, finite_either, finite_if, finite_listing, finite_same}
 use Rattle.cil_tables.proofs.FiniteFaults.{decided_less, finite_class}
 use Rattle.cil_tables.proofs.FinitePolicy.{finite_names}
 use Rattle.cil_tables.proofs.NoGifts.{HaveFlatKeywords, declares_no_alias, gives_none, none_depends}
@@ -92,6 +92,23 @@ module _ (xs : List Item) (flat : HaveFlatKeywords xs) (s : OptSet) (kind : Kind
     finite_set_faults : Finite (SetFault xs s (space_of kind))
     finite_set_faults = finite_same IsOver (SetFault xs s (space_of kind)) over_there over_back finite_over
 
+-- ---- booleans
+
+module _ (xs : List Item) (s : OptSet) where
+  boolean_list : Listing text_cmp (IsNameOf xs s kinds.Boolean)
+  boolean_list = finite_listing text_cmp nat_list_cmp_total exact_bytes (IsNameOf xs s kinds.Boolean) (finite_names xs s kinds.Boolean)
+
+  abbrev AreOver : Fault → Type 0
+  AreOver f = (global_fault causes.TooMany nowhere (codes "booleans") ≡ f) × (most_booleans < length boolean_list.list)
+
+  finite_booleans : Finite (HasManyBooleans s xs)
+  finite_booleans =
+      finite_same AreOver (HasManyBooleans s xs)
+      (λ f o. record { names = boolean_list.list; are_names = boolean_list.lists; many = o.1; told = sym o.0 })
+      (λ f m. let counted = ap length (one_list text_cmp nat_list_cmp_total (IsNameOf xs s kinds.Boolean) m.names boolean_list.list m.are_names boolean_list.lists) in
+      let over = m.many in (sym m.told, omega (arith, counted, over)))
+      (finite_if (most_booleans < length boolean_list.list) (global_fault causes.TooMany nowhere (codes "booleans")) (decided_less most_booleans (length boolean_list.list)))
+
 module _ (xs : List Item) (flat : HaveFlatKeywords xs) (s : OptSet) where
   finite_members : Finite (MembersFault s xs)
   finite_members =
@@ -101,4 +118,6 @@ module _ (xs : List Item) (flat : HaveFlatKeywords xs) (s : OptSet) where
       (finite_set_faults xs flat s kinds.Type_ 65535 (codes "types") refl))
 
   pub finite_sets : Finite (SetsFault s xs)
-  finite_sets = finite_either (ClassFault s xs) (MembersFault s xs) (finite_class xs s) finite_members
+  finite_sets =
+      finite_either (ClassFault s xs) (λ f. MembersFault s xs f ⊎ HasManyBooleans s xs f) (finite_class xs s)
+      (finite_either (MembersFault s xs) (HasManyBooleans s xs) finite_members (finite_booleans xs s))

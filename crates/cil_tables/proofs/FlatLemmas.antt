@@ -7,7 +7,7 @@ use Rattle.cil_faults.specs.Namespaces.{qualified}
 use Rattle.cil_names.proofs.DeclareDecided.{symbol_by}
 use Rattle.cil_names.specs.Declarations.{Declaration, IsDeclaration, object, by, Declared, Symbol, name_of}
 use Rattle.cil_macros.specs.Item.{Item, nobody}
-use Rattle.cil_tables.specs.Compiled.{IsNameOf}
+use Rattle.cil_tables.specs.Named.{IsNameOf}
 use Rattle.cil_tables.proofs.WideClasses.{in_front}
 
 -- no item stands in a namespace

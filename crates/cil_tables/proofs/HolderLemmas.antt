@@ -1,5 +1,5 @@
 -- The pairs of rows, one pair at a time, and in their order.
-use Rattle.std.specs.Prelude.{◌⊎◌, ◌↔◌, Bool, IsTrue, Contains, Some, map}
+use Rattle.std.specs.Prelude.{◌⊎◌, ◌↔◌, Bool, IsTrue, Contains, map}
 use Rattle.std.specs.Ordering.{nat_cmp}
 use Rattle.std.specs.List.{AllByRecursion}
 use Rattle.std.specs.List.Sorted.{IsStrictlySortedBy}

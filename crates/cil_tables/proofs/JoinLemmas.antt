@@ -1,4 +1,5 @@
 -- The table of a policy by its parts.
+use Rattle.std.specs.Prelude.{Contains}
 use Rattle.std.proofs.Common.{◌≡◌, ℕ, List, sym, subst}
 use Rattle.cil_base.specs.Gives.{Gives}
 use Rattle.cil_base.specs.Lists.{Lists, text_cmp}
@@ -9,27 +10,42 @@ use Rattle.cil_names.specs.Declarations.{Declared}
 use Rattle.cil_macros.specs.Item.{Item, OptSet}
 use Rattle.cil_classes.specs.declared.row.Class.{Class}
 use Rattle.cil_tables.specs.declared.tables.Alias.{Alias}
+use Rattle.cil_tables.specs.declared.tables.Boolean.{Boolean}
 use Rattle.cil_tables.specs.declared.tables.Link.{Link}
-use Rattle.cil_tables.specs.declared.tables.RuleSections.{RuleSections}
+use Rattle.cil_tables.specs.Booleans.{is_default_on}
+use Rattle.cil_index.specs.Sections.{RuleSections}
 use Rattle.cil_tables.specs.Links.{IsLink}
-use Rattle.cil_tables.specs.Compiled.{AreRules, IsNameOf, IsTable}
+use Rattle.cil_tables.specs.Compiled.{AreRules, IsTable}
+use Rattle.cil_tables.specs.Named.{IsNameOf}
 use Rattle.cil_classes.specs.ClassRows.{IsRowOf}
 use Rattle.cil_classes.specs.Row.{class_cmp}
 use Rattle.cil_tables.specs.Aliases.{IsAlias}
-use Rattle.cil_tables.specs.Table.{alias_cmp, link_cmp}
+use Rattle.cil_tables.specs.Table.{alias_cmp, boolean_names, link_cmp}
 
 -- the sections, as a table
-module _ (xs : List Item) (s : OptSet) (names : Kind → List (List ℕ)) (users roles types : List (List ℕ)) (aliases : List Alias) (classes : List Class) (user_roles role_types : List Link) (rules : RuleSections) where
+module _ (xs : List Item) (s : OptSet) (names : Kind → List (List ℕ)) (users roles types : List (List ℕ)) (aliases : List Alias) (classes : List Class) (booleans : List Boolean) (user_roles role_types : List Link) (rules : RuleSections) where
   pub table_of : users ≡ names kinds.User → roles ≡ names kinds.Role → types ≡ names kinds.Type_
       → Lists text_cmp (IsNameOf xs s kinds.User) (names kinds.User) → Lists text_cmp (IsNameOf xs s kinds.Role) (names kinds.Role) → Lists text_cmp (IsNameOf xs s kinds.Type_) (names kinds.Type_)
+      → Lists text_cmp (IsNameOf xs s kinds.Boolean) (names kinds.Boolean) → boolean_names booleans ≡ names kinds.Boolean
+      → ((b : Boolean) → Contains booleans b → b.default ≡ is_default_on xs s b.name)
       → Lists alias_cmp (IsAlias xs s (names kinds.Type_)) aliases
       → Gives class_cmp (Declared xs s kinds.Class) (IsRowOf xs) classes
       → Lists link_cmp (IsLink xs s keywords.UserRole kinds.User kinds.Role (names kinds.User) (names kinds.Role)) user_roles
       → Lists link_cmp (IsLink xs s keywords.RoleType kinds.Role kinds.Type_ (names kinds.Role) (names kinds.Type_)) role_types
-      → AreRules xs s (names kinds.Type_) classes rules
-      → IsTable xs s (record { users = users; roles = roles; types = types; type_aliases = aliases; classes = classes; user_roles = user_roles; role_types = role_types; rules = rules })
-  table_of u r t us rs ts of_aliases cs urs rts ru =
-      subst (λ (z : List (List ℕ)). IsTable xs s (record { users = z; roles = roles; types = types; type_aliases = aliases; classes = classes; user_roles = user_roles; role_types = role_types; rules = rules })) (sym u)
-      (subst (λ (z : List (List ℕ)). IsTable xs s (record { users = names kinds.User; roles = z; types = types; type_aliases = aliases; classes = classes; user_roles = user_roles; role_types = role_types; rules = rules })) (sym r)
-      (subst (λ (z : List (List ℕ)). IsTable xs s (record { users = names kinds.User; roles = names kinds.Role; types = z; type_aliases = aliases; classes = classes; user_roles = user_roles; role_types = role_types; rules = rules })) (sym t)
-      (record { users = us; roles = rs; types = ts; type_aliases = of_aliases; classes = cs; user_roles = urs; role_types = rts; rules = ru })))
+      → AreRules xs s (names kinds.Type_) classes (names kinds.Boolean) rules
+      → IsTable xs s (record { users = users; roles = roles; types = types; type_aliases = aliases; classes = classes; booleans = booleans; user_roles = user_roles; role_types = role_types; rules = rules })
+  table_of u r t us rs ts bs b ds of_aliases cs urs rts ru =
+      subst (λ (z : List (List ℕ)). IsTable xs s (record { users = z; roles = roles; types = types; type_aliases = aliases; classes = classes; booleans = booleans; user_roles = user_roles; role_types = role_types; rules = rules })) (sym u)
+      (subst (λ (z : List (List ℕ)). IsTable xs s (record { users = names kinds.User; roles = z; types = types; type_aliases = aliases; classes = classes; booleans = booleans; user_roles = user_roles; role_types = role_types; rules = rules })) (sym r)
+      (subst (λ (z : List (List ℕ)). IsTable xs s (record { users = names kinds.User; roles = names kinds.Role; types = z; type_aliases = aliases; classes = classes; booleans = booleans; user_roles = user_roles; role_types = role_types; rules = rules })) (sym t)
+      (record {
+        users = us;
+        roles = rs;
+        types = ts;
+        type_aliases = of_aliases;
+        classes = cs;
+        booleans = record { names = subst (Lists text_cmp (IsNameOf xs s kinds.Boolean)) (sym b) bs; defaults = ds };
+        user_roles = urs;
+        role_types = rts;
+        rules = subst (λ (z : List (List ℕ)). AreRules xs s (names kinds.Type_) classes z rules) (sym b) ru;
+      })))

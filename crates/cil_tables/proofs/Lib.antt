@@ -22,3 +22,4 @@ pub mod PlainLemmas
 pub mod SpaceLemmas
 pub mod TablesExist
 pub mod WideClasses
+pub mod BooleanLemmas

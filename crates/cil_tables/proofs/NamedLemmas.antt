@@ -25,7 +25,7 @@ use Rattle.cil_names.specs.Resolves.{has_permission}
 use Rattle.cil_syntax.specs.Kinds.{is_wanted}
 use Rattle.cil_names.specs.Unresolved.{ArePermissions, listed_at}
 use Rattle.cil_classes.specs.ClassRows.{AreRowsOf, IsRowOf, AreClasses}
-use Rattle.cil_tables.specs.Compiled.{IsNameOf}
+use Rattle.cil_tables.specs.Named.{IsNameOf}
 use Rattle.cil_classes.specs.declared.row.Class.{Class}
 use Rattle.cil_classes.specs.Row.{class_cmp}
 use Rattle.cil_classes.proofs.ClassRowLemmas.{class_from, class_named, class_parts}

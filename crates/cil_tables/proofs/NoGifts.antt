@@ -2,7 +2,7 @@
 use Rattle.std.specs.Prelude.{Contains, Option, Some, None}
 use Rattle.std.specs.List.{list_any}
 use Rattle.std.specs.Option.{option_map_or}
-use Rattle.std.proofs.Common.{◌≡◌, ◌↔◌, ℕ, Bool, true, false, ◌&&◌, ◌||◌, List, refl, sym, ◌∙◌, ap, subst}
+use Rattle.std.proofs.Common.{◌≡◌, ◌↔◌, Bool, true, false, ◌&&◌, ◌||◌, List, refl, sym, ◌∙◌, ap, subst}
 use Rattle.std.proofs.lemmas.Bool.{true≢false}
 use Rattle.cil_base.specs.Searches.{any_from, any_true, same_truth}
 use Rattle.cil_syntax.specs.declared.kind.Keyword.{Keyword}
@@ -17,7 +17,7 @@ use Rattle.cil_macros.specs.Item.{Item, OptSet, is_enabled}
 use Rattle.cil_names.specs.Declarations.{Declaration, Declared, IsDeclaration, Symbol, by, object}
 use Rattle.cil_names.specs.Family.{DependsOn, Family, IsRanked, Solves, Uses, at_once, further, gives, holds, in_value, is_given, is_giving, no_range}
 use Rattle.cil_names.specs.Members.{StandsFor, gives_role_attributes, gives_type_aliases, gives_type_attributes, gives_user_attributes, space_of}
-use Rattle.cil_names.specs.Spaces.{Sets, SpaceOf, any_sets, names}
+use Rattle.cil_names.specs.Spaces.{Sets, any_sets, names}
 use Rattle.cil_names.proofs.FamilyLemmas.{stands_is}
 use Rattle.cil_tables.specs.Laws.{is_flat}
 use Rattle.cil_tables.proofs.WideClasses.{of_own_kind}

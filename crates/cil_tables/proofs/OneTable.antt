@@ -4,14 +4,15 @@ use Rattle.std.specs.Ordering.{nat_cmp}
 use Rattle.std.specs.Int.{bit_at}
 use Rattle.std.specs.List.Sorted.{IsStrictlySortedBy}
 use Rattle.std.proofs.lemmas.Nat.Bits.{bit_at-lt, same_from_bits}
-use Rattle.std.proofs.Common.{◌≡◌, ℕ, zero, suc, true, ◌<◌, List, [], ◌∷◌, refl, sym, ◌∙◌, ap, subst, inl, inr, arith}
+use Rattle.std.proofs.Common.{◌≡◌, ℕ, Bool, zero, suc, true, ◌<◌, List, [], ◌∷◌, length, refl, sym, ◌∙◌, ap, subst, inl, inr, arith}
 use Rattle.std.proofs.lemmas.Cmp.{nat_cmp_total, nat_list_cmp_total, on_total}
 use Rattle.cil_base.specs.Lists.{Lists, text_cmp, one_list, same_members}
 use Rattle.cil_faults.specs.declared.fault.Fault.{Fault}
-use Rattle.cil_base.specs.Gives.{Gives}
+use Rattle.cil_base.specs.Lists.{contains_here, contains_later}
+use Rattle.cil_base.specs.Places.{cons_head, cons_tail}
 use Rattle.cil_syntax.specs.declared.kind.Keyword.{Keyword}
 use Rattle.cil_syntax.specs.declared.kind.Keyword.TheVariants as keywords
-use Rattle.cil_tables.specs.declared.tables.RuleSections.{RuleSections}
+use Rattle.cil_index.specs.Sections.{RuleSections}
 use Rattle.cil_syntax.specs.declared.kind.Kind.TheVariants as kinds
 use Rattle.cil_faults.specs.Fails.{AreFaults}
 use Rattle.cil_faults.specs.FaultOrder.{fault_cmp, fault_total}
@@ -19,9 +20,10 @@ use Rattle.cil_syntax.specs.Terms.{Term, Leaf, Name, Form}
 use Rattle.cil_classes.specs.declared.row.Class.{Class}
 use Rattle.cil_rules.specs.Rule.{Rule, Target, Types, Itself}
 use Rattle.cil_tables.specs.Agrees.{Compiles}
-use Rattle.cil_rules.specs.Records.{Case, HasBit, HasNumber, IsCase, IsRuleOf, IsTargetOf}
+use Rattle.cil_rules.specs.Records.{Case, HasBit, HasNumber, IsRuleOf, IsTargetOf, spelled}
 use Rattle.cil_tables.specs.Links.{IsLink}
-use Rattle.cil_tables.specs.Compiled.{AreRules, IsNameOf, IsTable}
+use Rattle.cil_tables.specs.Compiled.{AreRules, AreRulesOf, IsTable}
+use Rattle.cil_tables.specs.Named.{IsNameOf}
 use Rattle.cil_classes.specs.ClassRows.{IsRowOf}
 use Rattle.std.proofs.lemmas.Option.{same_Some}
 use Rattle.cil_names.specs.Declarations.{Symbol}
@@ -31,10 +33,14 @@ use Rattle.cil_macros.specs.Item.{Item, OptSet}
 use Rattle.cil_syntax.specs.Scopes.{ScopedWord}
 use Rattle.cil_names.specs.Resolves.{has_permission}
 use Rattle.cil_tables.specs.Aliases.{IsAlias}
-use Rattle.cil_tables.specs.Table.{Table, alias_cmp, alias_total, link_cmp, link_total}
+use Rattle.cil_tables.specs.Booleans.{is_default_on}
+use Rattle.cil_tables.specs.declared.tables.Boolean.{Boolean}
+use Rattle.cil_conditions.proofs.ConditionLemmas.{has_one_spelling}
+use Rattle.cil_conditions.specs.Spelled.{HasOneNumber}
+use Rattle.cil_tables.specs.Table.{Table, alias_cmp, alias_total, boolean_names, link_cmp, link_total}
 use Rattle.cil_classes.specs.Row.{class_cmp}
 use Rattle.cil_rules.specs.Order.{rule_cmp, rule_total, same_rules}
-use Rattle.cil_tables.proofs.AgreesLemmas.{one_class_number}
+use Rattle.cil_tables.proofs.AgreesLemmas.{one_class_number, one_number}
 use Rattle.cil_classes.proofs.BitLemmas.{set_is_one}
 use Rattle.cil_tables.proofs.CompileLemmas.{policy_moved}
 
@@ -75,9 +81,24 @@ same_row : (a b : Class) → a.name ≡ b.name → a.permissions ≡ b.permissio
 same_row a b n p = λ i. record { name = n i; permissions = p i }
 
 same_table : (t u : Table) → t.users ≡ u.users → t.roles ≡ u.roles → t.types ≡ u.types → t.type_aliases ≡ u.type_aliases → t.classes ≡ u.classes → t.user_roles ≡ u.user_roles
-    → t.role_types ≡ u.role_types → t.rules ≡ u.rules → t ≡ u
-same_table t u a b c d e f g h =
-    λ i. record { users = a i; roles = b i; types = c i; type_aliases = d i; classes = e i; user_roles = f i; role_types = g i; rules = h i }
+    → t.role_types ≡ u.role_types → t.rules ≡ u.rules → t.booleans ≡ u.booleans → t ≡ u
+same_table t u a b c d e f g h k =
+    λ i. record { users = a i; roles = b i; types = c i; type_aliases = d i; classes = e i; booleans = k i; user_roles = f i; role_types = g i; rules = h i }
+
+-- booleans with the same names and the same defaults are one list
+same_boolean : (a b : Boolean) → a.name ≡ b.name → a.default ≡ b.default → a ≡ b
+same_boolean a b n d = λ i. record { name = n i; default = d i }
+
+one_booleans : (f : List ℕ → Bool) (ms bs : List Boolean) → ((a : Boolean) → Contains ms a → a.default ≡ f a.name) → ((b : Boolean) → Contains bs b → b.default ≡ f b.name)
+    → boolean_names ms ≡ boolean_names bs → ms ≡ bs
+one_booleans f [] [] da db same = refl
+one_booleans f [] (b ∷ bs) da db same = absurd (let e = ap length same in omega (arith, e))
+one_booleans f (a ∷ ms) [] da db same = absurd (let e = ap length same in omega (arith, e))
+one_booleans f (a ∷ ms) (b ∷ bs) da db same =
+    let name : a.name ≡ b.name = cons_head _ _ _ _ same in
+    let one : a ≡ b = same_boolean a b name (da a (contains_here a ms) ∙ ap f name ∙ sym (db b (contains_here b bs))) in
+    let rest : ms ≡ bs = one_booleans f ms bs (λ x c. da x (contains_later x a ms c)) (λ x c. db x (contains_later x b bs c)) (cons_tail _ _ _ _ same) in
+    λ i. one i ∷ rest i
 
 same_sections : (a b : RuleSections) → a.allow ≡ b.allow → a.auditallow ≡ b.auditallow → a.dontaudit ≡ b.dontaudit → a ≡ b
 same_sections a b p q r = λ i. record { allow = p i; auditallow = q i; dontaudit = r i }
@@ -88,7 +109,7 @@ module _ (xs : List Item) (s : OptSet) where
       same_row a b (p.named ∙ sym q.named)
       (one_list text_cmp nat_list_cmp_total (λ z. has_permission xs c z ≡ true) a.permissions b.permissions p.permissions q.permissions)
 
-  module _ (types : List (List ℕ)) (classes : List Class) where
+  module _ (types : List (List ℕ)) (classes : List Class) (booleans : List (List ℕ)) (one_number : HasOneNumber booleans) where
     one_target : (term : Term ScopedWord) (a b : Target) → IsTargetOf xs s types term a → IsTargetOf xs s types term b → a ≡ b
     one_target (Leaf w) (Types m) (Types n) p q = ap Types (one_list nat_cmp nat_cmp_total (HasNumber xs s types w) m n p q)
     one_target (Leaf w) (Types m) Itself p q = absurd q
@@ -96,11 +117,11 @@ module _ (xs : List Item) (s : OptSet) where
     one_target (Name at name) a b p q = absurd p
     one_target (Form at op parts) a b p q = p.1 ∙ sym q.1
 
-    one_record : (k : Case) (a b : Rule) → IsStrictlySortedBy class_cmp classes → IsRuleOf xs s types classes k a → IsRuleOf xs s types classes k b → a ≡ b
+    one_record : (k : Case) (a b : Rule) → IsStrictlySortedBy class_cmp classes → IsRuleOf xs s types classes (spelled booleans) k a → IsRuleOf xs s types classes (spelled booleans) k b → a ≡ b
     one_record k a b rising p q =
         let number = one_class_number classes a.class b.class p.row q.row rising p.is_row q.is_row (p.named ∙ sym q.named) in
         let row : p.row ≡ q.row = same_Some _ _ (sym p.is_row ∙ ap (slice_get classes) number ∙ q.is_row) in
-        same_rules a b (one_list nat_cmp nat_cmp_total (HasNumber xs s types k.source) a.source b.source p.source q.source)
+        same_rules a b (has_one_spelling xs s booleans one_number k.branch a.branch b.branch p.branch q.branch) (one_list nat_cmp nat_cmp_total (HasNumber xs s types k.source) a.source b.source p.source q.source)
         (one_target k.target a.target b.target p.target q.target) number
         (same_masks a.mask b.mask (λ bit. (
           (λ b. (q.mask bit).1 (subst (λ r. HasBit xs s k r bit) row ((p.mask bit).0 b))),
@@ -108,18 +129,17 @@ module _ (xs : List Item) (s : OptSet) where
         )))
 
     module _ (rising : IsStrictlySortedBy class_cmp classes) where
-      rules_within : (keyword : Keyword) (a b : List Rule) → Gives rule_cmp (IsCase xs s keyword) (IsRuleOf xs s types classes) a
-          → Gives rule_cmp (IsCase xs s keyword) (IsRuleOf xs s types classes) b → (r : Rule) → Contains a r → Contains b r
+      rules_within : (keyword : Keyword) (a b : List Rule) → AreRulesOf xs s types classes booleans keyword a
+          → AreRulesOf xs s types classes booleans keyword b → (r : Rule) → Contains a r → Contains b r
       rules_within keyword a b p q r c =
           let k = p.only r c in
           let found = q.each k.0 k.1 in
           subst (Contains b) (one_record k.0 found.0 r rising found.1 k.2) found.2
 
-      one_section : (keyword : Keyword) (a b : List Rule) → Gives rule_cmp (IsCase xs s keyword) (IsRuleOf xs s types classes) a
-          → Gives rule_cmp (IsCase xs s keyword) (IsRuleOf xs s types classes) b → a ≡ b
+      one_section : (keyword : Keyword) (a b : List Rule) → AreRulesOf xs s types classes booleans keyword a → AreRulesOf xs s types classes booleans keyword b → a ≡ b
       one_section keyword a b p q = same_members rule_cmp rule_total a b p.rising q.rising (rules_within keyword a b p q) (rules_within keyword b a q p)
 
-      one_rules : (a b : RuleSections) → AreRules xs s types classes a → AreRules xs s types classes b → a ≡ b
+      one_rules : (a b : RuleSections) → AreRules xs s types classes booleans a → AreRules xs s types classes booleans b → a ≡ b
       one_rules a b p q =
           same_sections a b (one_section keywords.Allow a.allow b.allow p.allow q.allow)
           (one_section keywords.AuditAllow a.auditallow b.auditallow p.auditallow q.auditallow)
@@ -147,11 +167,16 @@ module _ (xs : List Item) (s : OptSet) where
         subst (λ z. Lists link_cmp (IsLink xs s keywords.RoleType kinds.Role kinds.Type_ u.roles z) t.role_types) types
         (subst (λ z. Lists link_cmp (IsLink xs s keywords.RoleType kinds.Role kinds.Type_ z t.types) t.role_types) roles a.role_types) in
         let aliases : Lists alias_cmp (IsAlias xs s u.types) t.type_aliases = subst (λ z. Lists alias_cmp (IsAlias xs s z) t.type_aliases) types a.type_aliases in
-        let rules : AreRules xs s u.types u.classes t.rules = subst (λ z. AreRules xs s z u.classes t.rules) types (subst (λ z. AreRules xs s t.types z t.rules) one_classes a.rules) in
+        let booleans : boolean_names t.booleans ≡ boolean_names u.booleans =
+        one_list text_cmp nat_list_cmp_total (IsNameOf xs s kinds.Boolean) (boolean_names t.booleans) (boolean_names u.booleans) a.booleans.names b.booleans.names in
+        let rules : AreRules xs s u.types u.classes (boolean_names u.booleans) t.rules =
+        subst (λ z. AreRules xs s z u.classes (boolean_names u.booleans) t.rules) types
+        (subst (λ z. AreRules xs s t.types z (boolean_names u.booleans) t.rules) one_classes (subst (λ z. AreRules xs s t.types t.classes z t.rules) booleans a.rules)) in
         same_table t u users roles types (one_list alias_cmp alias_total (IsAlias xs s u.types) t.type_aliases u.type_aliases aliases b.type_aliases) one_classes
         (one_list link_cmp link_total (IsLink xs s keywords.UserRole kinds.User kinds.Role u.users u.roles) t.user_roles u.user_roles user_roles b.user_roles)
         (one_list link_cmp link_total (IsLink xs s keywords.RoleType kinds.Role kinds.Type_ u.roles u.types) t.role_types u.role_types role_types b.role_types)
-        (one_rules u.types u.classes b.classes.rising t.rules u.rules rules b.rules)
+        (one_rules u.types u.classes (boolean_names u.booleans) (λ n m name at bt. one_number (boolean_names u.booleans) n m name b.booleans.names.rising at bt) b.classes.rising t.rules u.rules rules b.rules)
+        (one_booleans (is_default_on xs s) t.booleans u.booleans a.booleans.defaults b.booleans.defaults booleans)
 
 pub one_table : (modules : List (List ℕ)) (t u : Table) → Compiles modules t → Compiles modules u → t ≡ u
 one_table modules t u a b =

@@ -1,5 +1,5 @@
 -- The name spaces of types, roles and users are those for which members are made.
-use Rattle.std.proofs.Common.{◌≡◌, ◌↔◌, true, false, refl, ap}
+use Rattle.std.proofs.Common.{◌≡◌, true, false, refl, ap}
 use Rattle.cil_syntax.specs.declared.kind.Keyword.{Keyword}
 use Rattle.cil_syntax.specs.declared.kind.Keyword.TheVariants as keywords
 use Rattle.cil_syntax.specs.declared.kind.Kind.TheVariants as kinds

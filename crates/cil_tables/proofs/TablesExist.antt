@@ -17,23 +17,31 @@ use Rattle.cil_base.specs.Paths.{same_by}
 use Rattle.cil_base.specs.Listing.{Listing}
 use Rattle.cil_syntax.specs.declared.kind.Keyword.{Keyword}
 use Rattle.cil_syntax.specs.declared.kind.Keyword.TheVariants as keywords
-use Rattle.cil_tables.specs.declared.tables.RuleSections.{RuleSections}
+use Rattle.cil_index.specs.Sections.{RuleSections}
 use Rattle.cil_syntax.specs.declared.kind.Kind.TheVariants as kinds
 use Rattle.cil_syntax.specs.Terms.{Term, Leaf, Name, Form}
 use Rattle.cil_classes.specs.declared.row.Class.{Class}
 use Rattle.cil_rules.specs.Rule.{Rule, Target, Types, Itself}
-use Rattle.cil_rules.specs.Records.{Case, HasBit, HasNumber, HasTarget, IsCase, IsRuleOf, IsTargetOf}
+use Rattle.cil_blocks.specs.Contents.{Branch as Said}
+use Rattle.cil_conditions.specs.declared.branch.Branch.{Branch}
+use Rattle.cil_conditions.specs.Conditions.{IsSaid}
+use Rattle.cil_conditions.proofs.ConditionLemmas.{said_is_spelled}
+use Rattle.cil_conditions.specs.Spelled.{AreAllNumbered, IsBranchOf}
+use Rattle.cil_rules.specs.Records.{Case, HasBit, HasNumber, HasTarget, IsCase, IsRuleOf, IsTargetOf, spelled}
 use Rattle.cil_tables.specs.Links.{IsLink}
-use Rattle.cil_tables.specs.Compiled.{AreRules, IsNameOf, IsTable}
+use Rattle.cil_tables.specs.Booleans.{AreBooleans, is_default_on}
+use Rattle.cil_tables.specs.declared.tables.Boolean.{Boolean}
+use Rattle.cil_tables.specs.Compiled.{AreRules, AreRulesOf, IsTable}
+use Rattle.cil_tables.specs.Named.{IsNameOf}
 use Rattle.cil_classes.specs.ClassRows.{IsRowOf}
-use Rattle.cil_names.specs.Declarations.{Declared, Symbol}
+use Rattle.cil_names.specs.Declarations.{Declared, Symbol, name_of}
 use Rattle.cil_macros.specs.Item.{Item, nobody}
 use Rattle.cil_syntax.specs.Scopes.{ScopedWord}
 use Rattle.cil_classes.specs.Given.{HasPair}
 use Rattle.cil_tables.proofs.FlatLemmas.{AreFlat, global_symbol, declared_here, global_symbol_of, name_declared, name_of_global}
 use Rattle.cil_names.specs.Resolves.{has_permission}
 use Rattle.cil_tables.specs.Aliases.{IsAlias}
-use Rattle.cil_tables.specs.Table.{Table, alias_cmp, link_cmp, link_total, one_link}
+use Rattle.cil_tables.specs.Table.{Table, alias_cmp, boolean_names, link_cmp, link_total, one_link}
 use Rattle.cil_tables.proofs.NoGifts.{HaveFlatKeywords, no_alias}
 use Rattle.cil_classes.specs.Row.{class_cmp}
 use Rattle.cil_rules.specs.Order.{rule_cmp, rule_total, one_rule}
@@ -97,7 +105,16 @@ module _ (xs : List Item) (plain : HaveFlatKeywords xs) where
 
   -- ---- rules
 
-  module _ (types : List (List ℕ)) where
+  branch_of : (booleans : List (List ℕ)) → Lists text_cmp (IsNameOf xs nobody kinds.Boolean) booleans → (b : Option Said) → IsSaid xs nobody b
+      → (r : Option Branch) × IsBranchOf xs nobody booleans b r
+  branch_of booleans listed None said = (None, tt)
+  branch_of booleans listed (Some b) said =
+      let s = said_is_spelled xs nobody booleans all_numbered b.0 said in (Some (record { condition = s.0; value = b.1 }), (s.1, refl))
+    where
+      all_numbered : AreAllNumbered xs nobody booleans
+      all_numbered t d = let at = get_at booleans (name_of t) ((listed.members (name_of t)).1 (record { symbol = t; declared = d; named = refl })) in (at.0, at.2)
+
+  module _ (booleans : List (List ℕ)) (listed : Lists text_cmp (IsNameOf xs nobody kinds.Boolean) booleans) (types : List (List ℕ)) where
     numbers_of : (w : ScopedWord) → Listing nat_cmp (HasNumber xs nobody types w)
     numbers_of w = finite_listing nat_cmp nat_cmp_total same_by (HasNumber xs nobody types w) (finite_has_number xs plain nobody types w)
 
@@ -123,14 +140,17 @@ module _ (xs : List Item) (plain : HaveFlatKeywords xs) where
           decide : (bit : ℕ) → Decided (HasBit xs nobody k row bit)
           decide bit = has_bit k row bit (slice_get row.permissions bit) refl
 
-      rule_of : (keyword : Keyword) (k : Case) → IsCase xs nobody keyword k → (r : Rule) × IsRuleOf xs nobody types classes k r
+      rule_of : (keyword : Keyword) (k : Case) → IsCase xs nobody keyword (spelled booleans) k → (r : Rule) × IsRuleOf xs nobody types classes (spelled booleans) k r
       rule_of keyword k is =
-          let row = given.each k.class_ (pair_class xs plain nobody k.class_permission k.class_ is.permission.0 is.permission.1) in
+          let by = is.by in
+          let row = given.each k.class_ (pair_class xs plain nobody k.class_permission k.class_ by.permission.0 by.permission.1) in
           let number = get_at classes row.0 row.2 in
-          let target = target_of k.target is.target in
+          let branch = branch_of booleans listed k.branch by.taken in
+          let target = target_of k.target by.target in
           let mask = mask_of_case k row.0 in (
-            record { source = (numbers_of k.source).list; target = target.0; class = number.0; mask = mask.0 },
+            record { branch = branch.0; source = (numbers_of k.source).list; target = target.0; class = number.0; mask = mask.0 },
             record {
+              branch = branch.1;
               source = (numbers_of k.source).lists;
               target = target.1;
               row = row.0;
@@ -140,10 +160,10 @@ module _ (xs : List Item) (plain : HaveFlatKeywords xs) where
             },
           )
 
-      rules_by : (keyword : Keyword) → (section : List Rule) × Gives rule_cmp (IsCase xs nobody keyword) (IsRuleOf xs nobody types classes) section
+      rules_by : (keyword : Keyword) → (section : List Rule) × AreRulesOf xs nobody types classes booleans keyword section
       rules_by keyword =
-          let cases = finite_cases xs plain nobody keyword in
-          let raw = chosen (IsRuleOf xs nobody types classes) cases.all (λ k c. rule_of keyword k (cases.only k c)) in
+          let cases = finite_cases xs plain nobody keyword booleans in
+          let raw = chosen (IsRuleOf xs nobody types classes (spelled booleans)) cases.all (λ k c. rule_of keyword k (cases.only k c)) in
           let l = finite_listing rule_cmp rule_total one_rule (Contains raw.all) (record { all = raw.all; only = λ r c. c; each = λ r c. c }) in (
             l.list,
             record {
@@ -153,7 +173,7 @@ module _ (xs : List Item) (plain : HaveFlatKeywords xs) where
             },
           )
 
-      rules : (r : RuleSections) × AreRules xs nobody types classes r
+      rules : (r : RuleSections) × AreRules xs nobody types classes booleans r
       rules =
           let allow = rules_by keywords.Allow in
           let auditallow = rules_by keywords.AuditAllow in
@@ -200,6 +220,23 @@ module _ (xs : List Item) (plain : HaveFlatKeywords xs) where
       },
     )
 
+    -- ---- booleans
+
+    boolean_of : List ℕ → Boolean
+    boolean_of name = record { name = name; default = is_default_on xs nobody name }
+
+    same_names : (names : List (List ℕ)) → boolean_names (map boolean_of names) ≡ names
+    unfolding boolean_of
+    same_names [] = refl
+    same_names (n ∷ ns) = ap (λ ms. n ∷ ms) (same_names ns)
+
+    booleans_of : (names : List (List ℕ)) → Lists text_cmp (IsNameOf xs nobody kinds.Boolean) names → AreBooleans xs nobody (map boolean_of names)
+    unfolding boolean_of
+    booleans_of names listed = record {
+      names = subst (Lists text_cmp (IsNameOf xs nobody kinds.Boolean)) (sym (same_names names)) listed;
+      defaults = λ b c. let n = from_map boolean_of names b c in subst (λ (z : Boolean). z.default ≡ is_default_on xs nobody z.name) n.2 refl;
+    }
+
     -- ---- tables
 
     none_rise : IsStrictlySortedBy alias_cmp []
@@ -218,13 +255,15 @@ module _ (xs : List Item) (plain : HaveFlatKeywords xs) where
         (finite_links xs plain nobody keywords.UserRole kinds.User kinds.Role users.list roles.list) in
         let role_types = finite_listing link_cmp link_total one_link (IsLink xs nobody keywords.RoleType kinds.Role kinds.Type_ roles.list types.list)
         (finite_links xs plain nobody keywords.RoleType kinds.Role kinds.Type_ roles.list types.list) in
-        let given = rules types.list classes.0 classes.1 in (
+        let booleans = names_of (IsNameOf xs nobody kinds.Boolean) (finite_names xs nobody kinds.Boolean) in
+        let given = rules booleans.list booleans.lists types.list classes.0 classes.1 in (
           record {
             users = users.list;
             roles = roles.list;
             types = types.list;
             type_aliases = [];
             classes = classes.0;
+            booleans = map boolean_of booleans.list;
             user_roles = user_roles.list;
             role_types = role_types.list;
             rules = given.0;
@@ -235,8 +274,9 @@ module _ (xs : List Item) (plain : HaveFlatKeywords xs) where
             types = types.lists;
             type_aliases = no_aliases types.list;
             classes = classes.1;
+            booleans = booleans_of booleans.list booleans.lists;
             user_roles = user_roles.lists;
             role_types = role_types.lists;
-            rules = given.1;
+            rules = subst (λ (z : List (List ℕ)). AreRules xs nobody types.list classes.0 z given.0) (sym (same_names booleans.list)) given.1;
           },
         )

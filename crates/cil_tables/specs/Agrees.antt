@@ -1,5 +1,5 @@
 -- What tables say is what the policy says. This project's profile.
-use Rattle.std.specs.Prelude.{◌≡◌, ◌↔◌, ℕ, List, [], slice_get, Some}
+use Rattle.std.specs.Prelude.{◌≡◌, ◌↔◌, ℕ, Bool, List, [], slice_get, Some}
 use Rattle.cil_syntax.specs.declared.kind.Keyword.{Keyword}
 use Rattle.cil_syntax.specs.declared.kind.Keyword.TheVariants as keywords
 use Rattle.cil_syntax.specs.declared.kind.Kind.TheVariants as kinds
@@ -16,7 +16,9 @@ use Rattle.cil_optionals.specs.Policy.{ArePolicy}
 use Rattle.cil_rules.specs.Covers.{HasCover}
 use Rattle.cil_rules.specs.Rule.{Rule}
 use Rattle.cil_tables.specs.Meaning.{IsContext}
-use Rattle.cil_tables.specs.Table.{Table}
+use Rattle.cil_conditions.specs.Conditions.{Settings}
+use Rattle.cil_conditions.specs.Spelled.{AreSameSettings}
+use Rattle.cil_tables.specs.Table.{Table, boolean_names}
 
 -- the numbers of a context are those of three declared symbols
 pub record SameContext (xs : List Item) (s : OptSet) (t : Table) (n : Numbers) (c : Context) : Type 0 where
@@ -35,11 +37,11 @@ pub record SamePermission (xs : List Item) (s : OptSet) (t : Table) (number bit 
   pub a_class : Declared xs s kinds.Class c
   pub is_permission : slice_get row.permissions bit ≡ Some permission
 
--- the rules of a section cover what an enabled rule of the policy with this first word covers
+-- by the same settings the rules of a section cover what an enabled rule of the policy with this first word covers
 abbrev pub CoverAs : List Item → OptSet → Table → Keyword → List Rule → Type 0
-CoverAs xs s t keyword rules = (n m : Numbers) (a b : Context) (number bit : ℕ) (c : Symbol) (permission : List ℕ) → SameContext xs s t n a → SameContext xs s t m b
+CoverAs xs s t keyword rules = (on : ℕ → Bool) (v : Settings) → AreSameSettings (boolean_names t.booleans) on v → (n m : Numbers) (a b : Context) (number bit : ℕ) (c : Symbol) (permission : List ℕ) → SameContext xs s t n a → SameContext xs s t m b
     → SamePermission xs s t number bit c permission
-    → HasCover rules n.kind m.kind number bit ↔ IsCovered xs s keyword a.kind b.kind c permission
+    → HasCover on rules n.kind m.kind number bit ↔ IsCovered xs s v keyword a.kind b.kind c permission
 
 -- the tables admit the contexts that are valid, and their rules cover what those of the policy cover
 pub record Agrees (xs : List Item) (s : OptSet) (t : Table) : Type 0 where

@@ -8,6 +8,7 @@ use Rattle.cil_macros.specs.Item.{Item, OptSet}
 use Rattle.cil_names.specs.Faults.{ClashFault, ResolveFault}
 use Rattle.cil_optionals.specs.Greatest.{IsGreatest}
 use Rattle.cil_faults.specs.First.{AreFirst}
+use Rattle.cil_neverallow.specs.NeverFaults.{NeverFault}
 use Rattle.cil_tables.specs.SetsStep.{SetsFault}
 use Rattle.cil_tables.specs.Faults.{ArePolicyFaults}
 
@@ -16,9 +17,18 @@ abbrev pub CompileFails : List (List ℕ) → Failure → Type 0
 CompileFails modules (Faults faults) = ArePolicyFaults modules faults × (0 < length faults)
 CompileFails modules NoMemory = Unit {0}
 
+-- the steps over items whose words resolve, in the order in which they are taken
+abbrev pub later_steps : List Item → OptSet → List (Fault → Type 0)
+later_steps xs s = SetsFault s xs ∷ NeverFault xs s ∷ []
+
+-- the faults of the first of them that has some
+abbrev pub LaterFail : List Item → OptSet → Failure → Type 0
+LaterFail xs s (Faults faults) = AreFirst (later_steps xs s) faults × (0 < length faults)
+LaterFail xs s NoMemory = Unit {0}
+
 -- the steps over items and the optionals that are in force, in the order in which they are taken
 abbrev pub set_steps : List Item → OptSet → List (Fault → Type 0)
-set_steps xs s = ResolveFault s xs ∷ SetsFault s xs ∷ []
+set_steps xs s = ResolveFault s xs ∷ later_steps xs s
 
 -- the faults of items: of the declarations, or of the first step over the greatest set of optionals
 abbrev pub AreItemsFaults : List Item → List Fault → Type 0

@@ -1,33 +1,35 @@
 -- The tables of a policy: each section is the list of a set of records, in its order. This project's profile.
-use Rattle.std.specs.Prelude.{◌≡◌, ℕ, List}
+use Rattle.std.specs.Prelude.{ℕ, List}
 use Rattle.cil_base.specs.Gives.{Gives}
 use Rattle.cil_base.specs.Lists.{Lists, text_cmp}
 use Rattle.cil_syntax.specs.declared.kind.Keyword.TheVariants as keywords
-use Rattle.cil_syntax.specs.declared.kind.Kind.{Kind}
+use Rattle.cil_syntax.specs.declared.kind.Keyword.{Keyword}
 use Rattle.cil_syntax.specs.declared.kind.Kind.TheVariants as kinds
 use Rattle.cil_classes.specs.declared.row.Class.{Class}
-use Rattle.cil_names.specs.Declarations.{Declared, Symbol, name_of}
+use Rattle.cil_names.specs.Declarations.{Declared}
 use Rattle.cil_macros.specs.Item.{Item, OptSet}
 use Rattle.cil_tables.specs.Aliases.{IsAlias}
-use Rattle.cil_tables.specs.declared.tables.RuleSections.{RuleSections}
-use Rattle.cil_tables.specs.Table.{Table, alias_cmp, link_cmp}
+use Rattle.cil_tables.specs.Booleans.{AreBooleans}
+use Rattle.cil_tables.specs.Named.{IsNameOf}
+use Rattle.cil_index.specs.Sections.{RuleSections}
+use Rattle.cil_tables.specs.Table.{Table, alias_cmp, boolean_names, link_cmp}
 use Rattle.cil_classes.specs.Row.{class_cmp}
 use Rattle.cil_rules.specs.Order.{rule_cmp}
+use Rattle.cil_rules.specs.Rule.{Rule}
 use Rattle.cil_classes.specs.ClassRows.{IsRowOf}
 use Rattle.cil_tables.specs.Links.{IsLink}
-use Rattle.cil_rules.specs.Records.{IsCase, IsRuleOf}
+use Rattle.cil_rules.specs.Records.{IsCase, IsRuleOf, spelled}
 
--- the qualified name of a declared symbol of this kind
-pub record IsNameOf (xs : List Item) (s : OptSet) (kind : Kind) (name : List ℕ) : Type 0 where
-  pub symbol : Symbol
-  pub declared : Declared xs s kind symbol
-  pub named : name_of symbol ≡ name
+-- the rules of enabled statements with this first word, by the sections of types, classes and booleans
+abbrev pub AreRulesOf : List Item → OptSet → List (List ℕ) → List Class → List (List ℕ) → Keyword → List Rule → Type 0
+AreRulesOf xs s types classes booleans keyword rules =
+    Gives rule_cmp (IsCase xs s keyword (spelled booleans)) (IsRuleOf xs s types classes (spelled booleans)) rules
 
--- the rules of enabled statements, by the sections of types and classes
-pub record AreRules (xs : List Item) (s : OptSet) (types : List (List ℕ)) (classes : List Class) (r : RuleSections) : Type 0 where
-  pub allow : Gives rule_cmp (IsCase xs s keywords.Allow) (IsRuleOf xs s types classes) r.allow
-  pub auditallow : Gives rule_cmp (IsCase xs s keywords.AuditAllow) (IsRuleOf xs s types classes) r.auditallow
-  pub dontaudit : Gives rule_cmp (IsCase xs s keywords.DontAudit) (IsRuleOf xs s types classes) r.dontaudit
+-- and those of each kind
+pub record AreRules (xs : List Item) (s : OptSet) (types : List (List ℕ)) (classes : List Class) (booleans : List (List ℕ)) (r : RuleSections) : Type 0 where
+  pub allow : AreRulesOf xs s types classes booleans keywords.Allow r.allow
+  pub auditallow : AreRulesOf xs s types classes booleans keywords.AuditAllow r.auditallow
+  pub dontaudit : AreRulesOf xs s types classes booleans keywords.DontAudit r.dontaudit
 
 -- the tables of items, where these optionals are enabled
 pub record IsTable (xs : List Item) (s : OptSet) (t : Table) : Type 0 where
@@ -36,6 +38,7 @@ pub record IsTable (xs : List Item) (s : OptSet) (t : Table) : Type 0 where
   pub types : Lists text_cmp (IsNameOf xs s kinds.Type_) t.types
   pub type_aliases : Lists alias_cmp (IsAlias xs s t.types) t.type_aliases
   pub classes : Gives class_cmp (Declared xs s kinds.Class) (IsRowOf xs) t.classes
+  pub booleans : AreBooleans xs s t.booleans
   pub user_roles : Lists link_cmp (IsLink xs s keywords.UserRole kinds.User kinds.Role t.users t.roles) t.user_roles
   pub role_types : Lists link_cmp (IsLink xs s keywords.RoleType kinds.Role kinds.Type_ t.roles t.types) t.role_types
-  pub rules : AreRules xs s t.types t.classes t.rules
+  pub rules : AreRules xs s t.types t.classes (boolean_names t.booleans) t.rules

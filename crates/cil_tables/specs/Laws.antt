@@ -28,7 +28,7 @@ pub data Outcome (modules : List (List ℕ)) : Type 0 where
   fails : (faults : List Fault) → ArePolicyFaults modules faults → 0 < length faults → Outcome modules
 
 -- what is neither a block, a macro or an optional, nor opens one; nor an alias, nor a statement that gives an alias or an attribute
--- its members, or a class permission or a permission of a class map what it stands for
+-- its members, or a class permission or a permission of a class map what it stands for; nor a statement that forbids rules
 abbrev pub is_flat : Keyword → Bool
 is_flat keywords.Block = false
 is_flat keywords.BlockAbstract = false
@@ -44,6 +44,7 @@ is_flat keywords.RoleAttributeSet = false
 is_flat keywords.UserAttributeSet = false
 is_flat keywords.ClassMapping = false
 is_flat keywords.ClassPermissionSet = false
+is_flat keywords.NeverAllow = false
 is_flat keyword = true
 
 -- all that is written in the modules is such
@@ -53,7 +54,8 @@ AreFlatModules modules = (w : Written) → IsWritten modules w → is_flat w.sta
 -- readable modules compile to tables, or they have a list of faults. It is said of modules without blocks, macros and optionals:
 -- with them it rests on the contents of blocks and what calls bring being finite, or more than 1,000,000. It is said of modules whose
 -- aliases and attributes have no members: with these it rests on a family of their members. And it is said of modules whose class
--- permissions and class maps give nothing: with these it rests on the least assignment
+-- permissions and class maps give nothing: with these it rests on the least assignment. Nor do they forbid anything: with that it
+-- rests on what two statements cover together being finite
 abbrev pub AlwaysCompilesOrFails : Type 0
 AlwaysCompilesOrFails = (modules : List (List ℕ)) → AreReadable modules → AreFlatModules modules → Outcome modules
 

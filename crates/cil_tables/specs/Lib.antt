@@ -1,6 +1,7 @@
 pub mod Agrees
 pub mod AliasRows
 pub mod Aliases
+pub mod Booleans
 pub mod Both
 pub mod CompileAnswer
 pub mod CompileRefusal
@@ -11,6 +12,7 @@ pub mod Holders
 pub mod Laws
 pub mod Links
 pub mod Meaning
+pub mod Named
 pub mod Sections
 pub mod SetsStep
 pub mod Standings

@@ -1,6 +1,6 @@
 -- How the tables are read: which contexts they admit, and what they answer. The SELinux Notebook, "Security Context" and
 -- "Computing Access Decisions"; CIL Reference Guide, "Role Statements" on object_r.
-use Rattle.std.specs.Prelude.{◌≡◌, ◌⊎◌, ℕ, ◌==◌, List, [], ◌∷◌, codes, Contains, slice_get, Some}
+use Rattle.std.specs.Prelude.{◌≡◌, ◌⊎◌, ℕ, ◌==◌, Bool, List, [], ◌∷◌, codes, Contains, slice_get, Some}
 use Rattle.std.specs.List.{slice_split}
 use Rattle.cil_tables.specs.declared.context.Context.{Context}
 use Rattle.cil_classes.specs.declared.row.Class.{Class}
@@ -53,6 +53,6 @@ pub record IsPermissionAt (t : Table) (class_ bit : ℕ) (name : List ℕ) : Typ
 
 -- ---- decisions
 
--- the tables permit it between two contexts: some rule of them covers the permission of the bit
-pub record Permits (t : Table) (source target : Context) (class_ bit : ℕ) : Type 0 where
-  pub covered : HasCover t.rules.allow source.kind target.kind class_ bit
+-- the tables permit it between two contexts, where these booleans are on: some rule of them covers the permission of the bit
+pub record Permits (t : Table) (on : ℕ → Bool) (source target : Context) (class_ bit : ℕ) : Type 0 where
+  pub covered : HasCover on t.rules.allow source.kind target.kind class_ bit

@@ -1,11 +1,18 @@
 -- The sections of a table that statements give. No other crate needs these words.
-use Rattle.std.specs.Prelude.{ℕ, List}
+use Rattle.std.specs.Prelude.{ℕ, List, map}
 use Rattle.cil_base.specs.Lists.{Lists}
 use Rattle.cil_syntax.specs.declared.kind.Keyword.TheVariants as keywords
 use Rattle.cil_syntax.specs.declared.kind.Kind.{Kind}
 use Rattle.cil_syntax.specs.declared.kind.Kind.TheVariants as kinds
 use Rattle.cil_macros.specs.Item.{Item, OptSet}
 use Rattle.cil_classes.specs.declared.row.Class.{Class}
+use Rattle.cil_base.specs.Records.{AreRecordsOf}
+use Rattle.cil_syntax.specs.declared.kind.Keyword.{Keyword}
+use Rattle.cil_conditions.specs.declared.branch.Branch.{Branch}
+use Rattle.cil_rules.specs.declared.rule.NamedRule.{NamedRule}
+use Rattle.cil_rules.specs.Kept.{rule_named}
+use Rattle.cil_rules.specs.Records.{CaseBy, IsRuleOf, spelled}
+use Rattle.cil_index.specs.declared.section.NamedRules.{NamedRules}
 use Rattle.cil_tables.specs.declared.sections.Given.{Given}
 use Rattle.cil_tables.specs.Compiled.{AreRules}
 use Rattle.cil_tables.specs.Links.{IsLink}
@@ -17,4 +24,15 @@ pub record AreGiven (xs : List Item) (s : OptSet) (names : Kind → List (List �
   pub user_roles : Lists link_cmp (IsLink xs s keywords.UserRole kinds.User kinds.Role (names kinds.User) (names kinds.Role)) g.user_roles
   pub role_types : Lists link_cmp (IsLink xs s keywords.RoleType kinds.Role kinds.Type_ (names kinds.Role) (names kinds.Type_)) g.role_types
   pub type_aliases : Lists alias_cmp (IsAlias xs s (names kinds.Type_)) g.type_aliases.items
-  pub rules : AreRules xs s (names kinds.Type_) classes g.rules
+  pub rules : AreRules xs s (names kinds.Type_) classes (names kinds.Boolean) g.rules
+
+-- the rules of enabled statements with this first word, as they are handed on
+abbrev pub AreNamedRulesOf : List Item → OptSet → List (List ℕ) → List Class → List (List ℕ) → List Branch → List (List ℕ) → Keyword → List NamedRule → Type 0
+AreNamedRulesOf xs s types classes booleans branches sets keyword rules =
+    AreRecordsOf (CaseBy xs s keyword (spelled booleans)) (IsRuleOf xs s types classes (spelled booleans)) xs (map (rule_named branches sets) rules)
+
+-- and those of each kind
+pub record AreNamedRules (xs : List Item) (s : OptSet) (types : List (List ℕ)) (classes : List Class) (booleans : List (List ℕ)) (branches : List Branch) (sets : List (List ℕ)) (r : NamedRules) : Type 0 where
+  pub allow : AreNamedRulesOf xs s types classes booleans branches sets keywords.Allow r.allow.items
+  pub auditallow : AreNamedRulesOf xs s types classes booleans branches sets keywords.AuditAllow r.auditallow.items
+  pub dontaudit : AreNamedRulesOf xs s types classes booleans branches sets keywords.DontAudit r.dontaudit.items

@@ -1,7 +1,7 @@
 -- The value of a policy's tables. This project's profile; what the sections hold is what The SELinux Notebook asks for in
 -- "Security Context" and "Computing Access Decisions".
 use Rattle.cil_base.specs.Paths.{both_equal, same_by}
-use Rattle.std.specs.Prelude.{◌≡◌, ℕ, List, Contains}
+use Rattle.std.specs.Prelude.{◌≡◌, ℕ, ◌≤◌, List, Contains, length, map}
 use Rattle.std.specs.Cmp.{IsTotalOrder}
 use Rattle.std.specs.Ordering.{nat_cmp, on, then_cmp}
 use Rattle.std.specs.declared.cmp.Ordering.{Ordering}
@@ -13,7 +13,8 @@ use Rattle.cil_base.specs.Lists.{text_cmp}
 use Rattle.cil_classes.specs.declared.row.Class.{Class}
 use Rattle.cil_tables.specs.declared.tables.Alias.{Alias}
 use Rattle.cil_tables.specs.declared.tables.Link.{Link}
-use Rattle.cil_tables.specs.declared.tables.RuleSections.{RuleSections}
+use Rattle.cil_tables.specs.declared.tables.Boolean.{Boolean}
+use Rattle.cil_index.specs.Sections.{RuleSections}
 use Rattle.cil_classes.specs.Row.{IsOrderlyClass, class_cmp}
 
 pub record Table : Type 0 where
@@ -22,6 +23,7 @@ pub record Table : Type 0 where
   pub types : List (List ℕ)
   pub type_aliases : List Alias
   pub classes : List Class
+  pub booleans : List Boolean
   pub user_roles : List Link
   pub role_types : List Link
   pub rules : RuleSections
@@ -40,6 +42,14 @@ same_alias a b p q = λ i. record { name = p i; target = q i }
 -- two aliases that tie are one
 pub one_alias : (a b : Alias) → alias_cmp a b ≡ Equal → a ≡ b
 one_alias a b e = let both = both_equal _ _ e in same_alias a b (exact_bytes _ _ both.0) (same_by _ _ both.1)
+
+-- the names of booleans
+abbrev pub boolean_names : List Boolean → List (List ℕ)
+boolean_names = map (λ b. b.name)
+
+-- how many booleans a policy may have
+abbrev pub most_booleans : ℕ
+most_booleans = 4096
 
 -- links stand in the order of their holders, and of what these hold
 abbrev pub link_cmp : Link → Link → Ordering
@@ -63,6 +73,8 @@ pub record IsOrderly (t : Table) : Type 0 where
   pub types : IsStrictlySortedBy text_cmp t.types
   pub type_aliases : IsStrictlySortedBy alias_cmp t.type_aliases
   pub classes : IsStrictlySortedBy class_cmp t.classes
+  pub booleans : IsStrictlySortedBy text_cmp (boolean_names t.booleans)
+  pub few_booleans : length t.booleans ≤ most_booleans
   pub each_class : (c : Class) → Contains t.classes c → IsOrderlyClass c
   pub user_roles : IsStrictlySortedBy link_cmp t.user_roles
   pub role_types : IsStrictlySortedBy link_cmp t.role_types

@@ -1,6 +1,6 @@
 //! The compiler: from modules to the tables of their policy, or exactly its faults.
 
-ghost use Rattle.std.specs.Prelude.{◌≡◌, ℕ, IfOk, IfErr, List, map};
+ghost use Rattle.std.specs.Prelude.{◌≡◌, ◌≤◌, ℕ, [], IfOk, IfErr, List, length, map};
 ghost use Rattle.cil_faults.specs.Refusal.{Answers};
 ghost use Rattle.cil_syntax.specs.Program.{IsNested};
 ghost use Rattle.cil_blocks.specs.Places.{AreStandings, statements_in};
@@ -14,13 +14,18 @@ ghost use Rattle.cil_names.specs.Rows.{IsTableOf};
 ghost use Rattle.cil_names.specs.Shared.{AreShared};
 ghost use Rattle.cil_names.specs.Unresolved.{ArePermissions};
 ghost use Rattle.cil_tables.specs.CompileAnswer.{IsCompiled, IsCompiledOf, StandsIn};
-ghost use Rattle.cil_tables.specs.CompileRefusal.{CompileFails, ItemsFail};
+ghost use Rattle.cil_faults.specs.First.{AreFirst};
+ghost use Rattle.cil_tables.specs.CompileRefusal.{CompileFails, ItemsFail, LaterFail, later_steps};
 ghost use Rattle.cil_tables.specs.Compiled.{IsTable};
 ghost use Rattle.cil_classes.specs.ClassRows.{AreRowsOf};
 ghost use Rattle.cil_tables.specs.SetsStep.{SetsFault};
 ghost use Rattle.cil_tables.specs.Standings.{AllStand};
+ghost use Rattle.cil_tables.specs.Table.{most_booleans};
 
+use crate::booleans::booleans_of;
 use crate::both::{Both, together};
+use crate::forbidden::check_forbidden;
+use crate::limit::check_booleans;
 use crate::sections::{Given, given_of};
 use crate::standings::{Standings, standings_of};
 use crate::tables::Tables;
@@ -59,7 +64,7 @@ pub struct Compiled {
 /// stated order. (CIL Reference Guide.)
 ///
 /// Errors: the faults of the first step that has some (shape, blocks, calls, the limit of instances, clashing declarations,
-/// unresolved words outside optionals, aliases, attributes and classes), or out of memory.
+/// unresolved words outside optionals, aliases, attributes, classes and booleans, rules that the policy forbids itself), or out of memory.
 pub fn compile(alloc: Global, modules: &ModuleSet) -> Result<Compiled, Failure>
     ensures compiled { IfOk result (IsCompiled modules.now) }
     ensures faults { IfErr result (CompileFails modules.now) }
@@ -136,7 +141,8 @@ fn placed_policy(alloc: Global, instances: &Instances) -> Result<Compiled, Failu
 /// The tables of all that is placed, where its words have these meanings, and these are the classes and commons that statements
 /// join.
 ///
-/// Errors: the faults of aliases, attributes and classes together, or out of memory.
+/// Errors: the faults of aliases, attributes, classes and booleans together, or those of rules that the policy forbids itself; or out of
+/// memory.
 fn tables_of(
     alloc: Global,
     instances: &Instances,
@@ -151,7 +157,8 @@ fn tables_of(
     requires shared { AreShared (namespaces_in instances.now) lookup.now.names.now (items_in instances.now) shared.now }
     requires plain { ArePlainNames lookup.now.namespaces.now lookup.now.names.now }
     requires table { IsTableOf (map (meanings lookup.now.namespaces.now lookup.now.names.now permissions.now (is_in lookup.now.enabled.now)) (items_in instances.now)) words.now }
-    ensures { Answers (IsTable (items_in instances.now) (is_in lookup.now.enabled.now)) (SetsFault (is_in lookup.now.enabled.now) (items_in instances.now)) result }
+    ensures tables { IfOk result (λ tables. IsTable (items_in instances.now) (is_in lookup.now.enabled.now) tables × AreFirst (later_steps (items_in instances.now) (is_in lookup.now.enabled.now)) []) }
+    ensures faults { IfErr result (LaterFail (items_in instances.now) (is_in lookup.now.enabled.now)) }
 {
     // What is known of the numbers of namespaces.
     lookup.namespaces.are_namespaces();
@@ -165,11 +172,23 @@ fn tables_of(
     let judged = judged_sets(alloc, instances, &known, &numbering, shared)?;
     let Both {
         first: classes,
-        second: stand,
+        second: others,
     } = judged;
+    let Both {
+        first: stand,
+        second: _,
+    } = others;
     let rows = classes.rows.as_slice();
     let held = given_permissions(alloc, instances, &known, rows)?;
+    let types = numbering.sections.types.as_slice();
+    check_forbidden(alloc, instances, &known, types, &stand, rows, &held)?;
     let given = given_of(alloc, instances, &known, &stand, rows, &held)?;
+    let booleans = booleans_of(
+        alloc,
+        instances,
+        &known,
+        numbering.sections.booleans.as_slice(),
+    )?;
     let Given {
         user_roles,
         role_types,
@@ -186,6 +205,7 @@ fn tables_of(
         roles,
         types,
         classes: _,
+        booleans: _,
     } = sections;
     Ok(Tables {
         users: Names::from_vec(users),
@@ -193,6 +213,7 @@ fn tables_of(
         types: Names::from_vec(types),
         type_aliases,
         classes: rows,
+        booleans,
         user_roles,
         role_types,
         rules,
@@ -201,14 +222,14 @@ fn tables_of(
 
 /// The classes of a policy, and what its words stand for.
 ///
-/// Errors: the faults of aliases, attributes and classes together, or out of memory.
+/// Errors: the faults of aliases, attributes, classes and booleans together, or out of memory.
 fn judged_sets(
     alloc: Global,
     instances: &Instances,
     known: &Known,
     numbering: &Numbering,
     shared: &[Shared],
-) -> Result<Both<Classes, Standings>, Failure>
+) -> Result<Both<Classes, Both<Standings, ()>>, Failure>
     requires namespaces { known.now.lookup.namespaces.now ≡ namespaces_in instances.now }
     requires shared { AreShared (namespaces_in instances.now) known.now.lookup.names.now (items_in instances.now) shared.now }
     requires table { IsTableOf (map (row_in known.now) (items_in instances.now)) known.now.words.now }
@@ -216,7 +237,7 @@ fn judged_sets(
     requires numbers { known.now.numbers.now ≡ numbering.now.numbers.items }
     requires apart { AreApart known.now.lookup.names.now (enabled_in known.now) known.now.numbers.now }
     ensures { Answers (λ both. AreRowsOf known.now.lookup.namespaces.now known.now.lookup.names.now (enabled_in known.now) known.now.permissions.now numbering.now.sections.classes.items both.first.rows.items
-        × AllStand known.now (items_in instances.now) (names_of numbering.now.sections) both.second)
+        × (AllStand known.now (items_in instances.now) (names_of numbering.now.sections) both.second.first × (length numbering.now.sections.booleans.items ≤ most_booleans)))
         (SetsFault (enabled_in known.now) (items_in instances.now)) result }
 {
     let rows = classes(
@@ -228,5 +249,7 @@ fn judged_sets(
         instances,
     );
     let standings = standings_of(alloc, known, instances, &numbering.sections);
-    together(rows, standings)
+    let few = check_booleans(alloc, numbering.sections.booleans.as_slice());
+    let others = together(standings, few);
+    together(rows, others)
 }

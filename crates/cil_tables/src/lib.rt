@@ -8,11 +8,14 @@
 #![tactic(auto)]
 
 mod aliases;
+mod booleans;
 mod both;
 mod compiler;
 mod context;
+mod forbidden;
 mod holders;
 pub mod laws;
+mod limit;
 mod links;
 mod sections;
 mod standings;

@@ -1,8 +1,7 @@
 //! The sections of a table that statements give: links, aliases and rules.
 
-ghost use Rattle.std.specs.Prelude.{◌≡◌, ◌≤◌, ℕ, Contains, IfOk, List, length, map, true, false};
+ghost use Rattle.std.specs.Prelude.{◌≡◌, ◌≤◌, ℕ, Contains, IfOk, List, length, map};
 ghost use Rattle.std.specs.List.Sorted.{IsStrictlySortedBy};
-ghost use Rattle.cil_base.specs.Gives.{Gives};
 ghost use Rattle.cil_base.specs.Lists.{text_cmp};
 ghost use Rattle.cil_syntax.specs.declared.kind.Kind as kinds;
 ghost use Rattle.cil_syntax.specs.declared.kind.Kind.TheVariants as variants;
@@ -17,20 +16,20 @@ ghost use Rattle.cil_classes.specs.ClassRows.{AreClasses};
 ghost use Rattle.cil_classes.specs.Held.{IsAssigned};
 ghost use Rattle.cil_classes.specs.NodeOrder.{node_cmp};
 ghost use Rattle.cil_classes.specs.Row.{most_permissions};
-ghost use Rattle.cil_rules.specs.Order.{rule_cmp};
-ghost use Rattle.cil_rules.specs.Records.{IsCase, IsRuleOf};
+ghost use Rattle.cil_conditions.specs.Numbered.{AreBranchesOf};
 ghost use Rattle.cil_tables.specs.Compiled.{AreRules};
-ghost use Rattle.cil_tables.specs.Sections.{AreGiven};
+ghost use Rattle.cil_tables.specs.Sections.{AreGiven, AreNamedRules};
 ghost use Rattle.cil_tables.specs.Standings.{AllStand};
 
 use crate::aliases::aliases_of;
 use crate::holders::Links;
 use crate::links::{Joins, links_of};
 use crate::standings::Standings;
-use crate::tables::{Alias, RuleSections};
+use crate::tables::Alias;
 use cil_base::NoMemory;
 use cil_classes::{Class, GivenPermissions};
-use cil_index::Section;
+use cil_conditions::{Branches, branches_of};
+use cil_index::{NamedRules, Sections};
 use cil_macros::Instances;
 use cil_names::Known;
 use cil_rules::rules_of;
@@ -48,7 +47,7 @@ pub struct Given {
     /// The aliases of types.
     pub type_aliases: Vec<Alias>,
     /// The rules, each section with its index.
-    pub rules: RuleSections,
+    pub rules: Sections,
 }
 
 /// What the enabled statements give, where words stand for these numbers, and class permissions give these permissions. Error: out of memory.
@@ -95,7 +94,7 @@ fn rules_given(
     types: &[Numbers],
     classes: &[Class],
     permissions: &GivenPermissions,
-) -> Result<RuleSections, NoMemory>
+) -> Result<Sections, NoMemory>
     requires table { IsTableOf (map (row_in known.now) (items_in instances.now)) known.now.words.now }
     requires rising { (row : ARow) → Contains classes.now row → IsStrictlySortedBy text_cmp row.permissions }
     requires few { (row : ARow) → Contains classes.now row → length row.permissions ≤ most_permissions }
@@ -105,77 +104,80 @@ fn rules_given(
         → AreStanding known.now (items_in instances.now) names variants.Type_ types.now
         → AreClasses (items_in instances.now) (enabled_in known.now) (names variants.Class) classes.now
         → IsAssigned known.now (items_in instances.now) classes.now permissions.now
-        → AreRules (items_in instances.now) (enabled_in known.now) (names variants.Type_) classes.now rules) }
+        → AreRules (items_in instances.now) (enabled_in known.now) (names variants.Type_) classes.now (names variants.Boolean) rules) }
 {
-    let allow = section_of(
+    let branches = branches_of(alloc, instances, known)?;
+    let rules = named_rules(
         alloc,
         instances,
         known,
         types,
         classes,
         permissions,
-        Keyword::Allow,
+        &branches,
     )?;
-    let auditallow = section_of(
-        alloc,
-        instances,
-        known,
-        types,
-        classes,
-        permissions,
-        Keyword::AuditAllow,
-    )?;
-    let dontaudit = section_of(
-        alloc,
-        instances,
-        known,
-        types,
-        classes,
-        permissions,
-        Keyword::DontAudit,
-    )?;
-    Ok(RuleSections {
-        allow,
-        auditallow,
-        dontaudit,
-    })
+    let rows = branches.into_rows();
+    let sections = Sections::of(alloc, &rules, types, rows, classes.len())?;
+    Ok(sections)
 }
 
-/// The same of the statements with this first word.
-fn section_of(
+/// The same as they are handed on, where conditions have these branches. Error: out of memory.
+fn named_rules(
     alloc: Global,
     instances: &Instances,
     known: &Known,
     types: &[Numbers],
     classes: &[Class],
     permissions: &GivenPermissions,
-    keyword: Keyword,
-) -> Result<Section, NoMemory>
+    branches: &Branches,
+) -> Result<NamedRules, NoMemory>
     requires table { IsTableOf (map (row_in known.now) (items_in instances.now)) known.now.words.now }
     requires rising { (row : ARow) → Contains classes.now row → IsStrictlySortedBy text_cmp row.permissions }
     requires few { (row : ARow) → Contains classes.now row → length row.permissions ≤ most_permissions }
     requires nodes { IsStrictlySortedBy node_cmp permissions.now.nodes.items }
-    requires written { says_as_written keyword ≡ true }
-    requires plain { is_mapping keyword ≡ false }
-    ensures { IfOk result (λ section. (names : kinds.Kind → List (List ℕ)) → IsKnown known.now (items_in instances.now) names
+    ensures { IfOk result (λ rules. (names : kinds.Kind → List (List ℕ)) → IsKnown known.now (items_in instances.now) names
         → AreApart known.now.lookup.names.now (enabled_in known.now) known.now.numbers.now
         → AreStanding known.now (items_in instances.now) names variants.Type_ types.now
         → AreClasses (items_in instances.now) (enabled_in known.now) (names variants.Class) classes.now
         → IsAssigned known.now (items_in instances.now) classes.now permissions.now
-        → Gives rule_cmp (IsCase (items_in instances.now) (enabled_in known.now) keyword)
-        (IsRuleOf (items_in instances.now) (enabled_in known.now) (names variants.Type_) classes.now) section) }
+        → AreBranchesOf instances.now (enabled_in known.now) (names variants.Boolean) branches.now
+        → AreNamedRules (items_in instances.now) (enabled_in known.now) (names variants.Type_) classes.now (names variants.Boolean) branches.now.rows types.now rules) }
 {
-    let rules = rules_of(
+    let allow = rules_of(
         alloc,
         instances,
         known,
         types,
         classes,
         permissions,
-        keyword,
+        branches,
+        Keyword::Allow,
     )?;
-    let section = Section::of(alloc, rules.as_slice(), types, classes.len())?;
-    Ok(section)
+    let auditallow = rules_of(
+        alloc,
+        instances,
+        known,
+        types,
+        classes,
+        permissions,
+        branches,
+        Keyword::AuditAllow,
+    )?;
+    let dontaudit = rules_of(
+        alloc,
+        instances,
+        known,
+        types,
+        classes,
+        permissions,
+        branches,
+        Keyword::DontAudit,
+    )?;
+    Ok(NamedRules {
+        allow,
+        auditallow,
+        dontaudit,
+    })
 }
 
 /// The statements that give users their roles.

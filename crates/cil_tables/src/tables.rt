@@ -11,7 +11,7 @@ ghost use Rattle.cil_tables.specs.Table.{alias_cmp, alias_total, link_cmp, link_
 use crate::holders::Links;
 use cil_base::{Bytes, Names};
 use cil_classes::Class;
-use cil_index::Section;
+use cil_index::Sections;
 use std::cmp::Ordering;
 use std::marker::Model;
 
@@ -114,15 +114,13 @@ impl Ord for Alias {
     }
 }
 
-/// The rules of a policy, by what they say of a permission.
+/// A boolean, and what it is at first.
 #[derive(Debug, Drop)]
-pub struct RuleSections {
-    /// What is allowed.
-    pub allow: Section,
-    /// Whose use is recorded.
-    pub auditallow: Section,
-    /// Whose denial is not recorded.
-    pub dontaudit: Section,
+pub struct Boolean {
+    /// The qualified name.
+    pub name: Bytes,
+    /// Whether it is on at first.
+    pub default: bool,
 }
 
 /// The tables of a policy.
@@ -133,9 +131,10 @@ pub struct Tables {
     pub(crate) types: Names,
     pub(crate) type_aliases: Vec<Alias>,
     pub(crate) classes: Vec<Class>,
+    pub(crate) booleans: Vec<Boolean>,
     pub(crate) user_roles: Links,
     pub(crate) role_types: Links,
-    pub(crate) rules: RuleSections,
+    pub(crate) rules: Sections,
 }
 
 impl Model for Tables {
@@ -149,6 +148,7 @@ impl Model for Tables {
       types = a.types;
       type_aliases = a.type_aliases.items;
       classes = a.classes.items;
+      booleans = a.booleans.items;
       user_roles = a.user_roles;
       role_types = a.role_types;
       rules = a.rules;
@@ -160,6 +160,7 @@ impl Model for Tables {
       types = a.types;
       type_aliases = a.type_aliases.items;
       classes = a.classes.items;
+      booleans = a.booleans.items;
       user_roles = a.user_roles;
       role_types = a.role_types;
       rules = a.rules;
@@ -210,6 +211,14 @@ impl Tables {
         self.classes.as_slice()
     }
 
+    /// The booleans, in byte order of their names.
+    pub fn booleans(&self) -> &[Boolean]
+        ensures booleans { result.now ≡ self.now.booleans }
+        ensures orderly { IsOrderly self.now }
+    {
+        self.booleans.as_slice()
+    }
+
     /// The users with their roles.
     pub fn user_roles(&self) -> &Links
         ensures links { result.now ≡ self.now.user_roles }
@@ -227,7 +236,7 @@ impl Tables {
     }
 
     /// The rules, each section with its index.
-    pub fn rules(&self) -> &RuleSections
+    pub fn rules(&self) -> &Sections
         ensures rules { result.now ≡ self.now.rules }
     {
         &self.rules

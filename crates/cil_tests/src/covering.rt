@@ -2,7 +2,8 @@
 //! each growth refused.
 
 use cil_base::NoMemory;
-use cil_index::Section;
+use cil_conditions::Settings;
+use cil_index::{Asked, NamedRules, Sections};
 use cil_rules::{NamedRule, Reach};
 use cil_sets::{Joining, Numbers};
 use std::alloc::Global;
@@ -72,21 +73,28 @@ fn reach_of(
     }
 }
 
-/// The rules of all rows, with their index: the sets of each row have numbers of their own. Errors: out of memory.
-fn section_of(alloc: Global, rows: &[Row]) -> Result<Section, NoMemory> {
+/// The rules of all rows as rules that allow, with their index: the sets of each row have numbers of their own. All count always, since
+/// what conditions do a session shows. Errors: out of memory.
+fn sections_of(alloc: Global, rows: &[Row]) -> Result<Sections, NoMemory> {
     let mut sets = Vec::new(alloc);
-    let mut rules = Vec::new(alloc);
+    let mut allow = Vec::new(alloc);
     for row in rows {
         let source = push_set(alloc, &mut sets, row.0)?;
         let target = reach_of(alloc, &mut sets, row.1)?;
-        rules.push(NamedRule {
+        allow.push(NamedRule {
+            branch: 0,
             source,
             target,
             class: row.2,
             mask: row.3,
         })?;
     }
-    Section::of(alloc, rules.as_slice(), sets.as_slice(), CLASSES)
+    let rules = NamedRules {
+        allow,
+        auditallow: Vec::new(alloc),
+        dontaudit: Vec::new(alloc),
+    };
+    Sections::of(alloc, &rules, sets.as_slice(), Vec::new(alloc), CLASSES)
 }
 
 /// Whether a type is in a range.
@@ -114,21 +122,36 @@ fn walked(source: usize, target: usize, class: usize) -> u32 {
     mask
 }
 
-/// The same by the rules of a section, one by one.
-fn walked_in(section: &Section, source: usize, target: usize, class: usize) -> u32 {
+/// The permissions that the rules cover, by their index.
+fn covered(sections: &Sections, source: usize, target: usize, class: usize) -> u32 {
+    let asked = Asked {
+        source,
+        target,
+        class,
+    };
+    sections.allowed(&Settings::all_off(), &asked)
+}
+
+/// The same by the rules one by one.
+fn walked_in(sections: &Sections, source: usize, target: usize, class: usize) -> u32 {
+    let asked = Asked {
+        source,
+        target,
+        class,
+    };
     let mut mask = 0;
-    for place in 0..section.len() {
-        mask |= section.covered_at(place, source, target, class);
+    for place in 0..sections.allow_len() {
+        mask |= sections.allowed_at(&Settings::all_off(), &asked, place);
     }
     mask
 }
 
-/// Whether a section covers on each pair of types with this source what the rows do.
-fn covers_alike(section: &Section, source: usize, class: usize) -> bool {
+/// Whether the rules cover on each pair of types with this source what the rows do.
+fn covers_alike(sections: &Sections, source: usize, class: usize) -> bool {
     for &target in TYPES {
         let want = walked(source, target, class);
-        if section.covered(source, target, class) != want
-            || walked_in(section, source, target, class) != want
+        if covered(sections, source, target, class) != want
+            || walked_in(sections, source, target, class) != want
         {
             return false;
         }
@@ -137,10 +160,10 @@ fn covers_alike(section: &Section, source: usize, class: usize) -> bool {
 }
 
 /// The same on each class and each pair of types.
-fn all_alike(section: &Section) -> bool {
+fn all_alike(sections: &Sections) -> bool {
     for &class in ASKED {
         for &source in TYPES {
-            if !covers_alike(section, source, class) {
+            if !covers_alike(sections, source, class) {
                 return false;
             }
         }
@@ -150,22 +173,21 @@ fn all_alike(section: &Section) -> bool {
 
 #[test]
 fn rules_cover_what_a_walk_over_them_does(rt: HostRuntime) -> Result<(), Fail> {
-    let section = section_of(rt.alloc(), ROWS)?;
-    assert_eq!(rt; section.len(), ROWS.len() - 1);
-    assert!(rt; all_alike(&section));
+    let sections = sections_of(rt.alloc(), ROWS)?;
+    assert_eq!(rt; sections.allow_len(), ROWS.len() - 1);
+    assert!(rt; all_alike(&sections));
     assert_eq!(rt; walked(2, 3, 1), 0x4f);
-    assert_eq!(rt; section.covered(2, 3, 1), 0x4f);
-    assert_eq!(rt; section.covered(3, 3, 1), 0x2c);
-    assert_eq!(rt; section.covered_at(section.len(), 2, 3, 1), 0);
-    let none = section_of(rt.alloc(), &[])?;
-    assert_eq!(rt; (none.len(), none.covered(0, 0, 0)), (0, 0));
+    assert_eq!(rt; covered(&sections, 2, 3, 1), 0x4f);
+    assert_eq!(rt; covered(&sections, 3, 3, 1), 0x2c);
+    let none = sections_of(rt.alloc(), &[])?;
+    assert_eq!(rt; (none.allow_len(), covered(&none, 0, 0, 0)), (0, 0));
     Ok(())
 }
 
 #[test]
 fn a_refused_growth_leaves_no_rule_out(rt: HostRuntime) -> Result<(), Fail> {
     let alloc = rt.alloc();
-    let section = section_of(alloc, ROWS).or_else(|_| section_of(alloc, ROWS))?;
-    assert!(rt; all_alike(&section));
+    let sections = sections_of(alloc, ROWS).or_else(|_| sections_of(alloc, ROWS))?;
+    assert!(rt; all_alike(&sections));
     Ok(())
 }

@@ -3,10 +3,11 @@
 use crate::answers::FIRST;
 use cil_base::Names;
 use cil_decide::{
-    ClassId, Context, class_named, decide, parse_context, permission_at, permission_named,
+    ClassId, Context, Settings, boolean_named, class_named, decide, defaults, parse_context,
+    permission_at, permission_named,
 };
 use cil_host::{Host, QueryFault};
-use cil_index::Section;
+use cil_index::{Asked, Sections};
 use cil_syntax::Bytes;
 use cil_tables::{Tables, compile};
 use cil_text_tests::set_of;
@@ -95,9 +96,10 @@ const DECISIONS: &[(usize, usize, usize, u32, u32)] = &[
 #[test]
 fn decides_by_the_rules(rt: HostRuntime) -> Result<(), Fail> {
     let tables = wide_policy(rt.alloc()).ok_or("no tables")?;
+    let settings = defaults(&tables);
     for &(source, target, number, allowed, auditdeny) in DECISIONS {
         let (source, target, class) = (context(source), context(target), class_id(number));
-        let found = decide(&tables, &source, &target, class);
+        let found = decide(&tables, &settings, &source, &target, class);
         let got = (found.allowed, found.auditallow, found.auditdeny);
         assert_eq!(rt; got, (allowed, 0, auditdeny), "{source:?} {number}");
     }
@@ -119,24 +121,53 @@ fn all_of(class: usize) -> u32 {
     if class < 2 { 0b11 } else { 0 }
 }
 
-/// What rules cover that are asked one by one.
-fn walked(rules: &Section, source: usize, target: usize, class: usize) -> u32 {
+/// What the rules allow that are asked one by one.
+fn walked(rules: &Sections, settings: &Settings, asked: &Asked) -> u32 {
     let mut mask = 0;
-    for place in 0..rules.len() {
-        mask |= rules.covered_at(place, source, target, class);
+    for place in 0..rules.allow_len() {
+        mask |= rules.allowed_at(settings, asked, place);
     }
     mask
 }
 
+/// The source, the target and the class of the rules on records, and what they name: class 1 is file, 0 dir.
+const RECORDED: &[(usize, usize, usize, u32)] = &[
+    (0, 1, 1, 0b10),
+    (2, 2, 0, 0b01),
+    (1, 1, 1, 0b11),
+];
+
+const EXCEPTED: &[(usize, usize, usize, u32)] = &[
+    (0, 1, 1, 0b01),
+    (3, 3, 0, 0b11),
+    (3, 0, 0, 0b01),
+];
+
+/// The permissions in the row of a source, a target and a class.
+fn named(rows: &[(usize, usize, usize, u32)], asked: &Asked) -> u32 {
+    for &(source, target, class, mask) in rows {
+        if (source, target, class) == (asked.source, asked.target, asked.class) {
+            return mask;
+        }
+    }
+    0
+}
+
 /// Whether decisions on a source and a class, for each target, are those of a walk over the rules.
-fn decides_alike(tables: &Tables, source: usize, class: usize) -> bool {
+fn decides_alike(tables: &Tables, settings: &Settings, source: usize, class: usize) -> bool {
     let rules = tables.rules();
     for target in 0..5usize {
-        let got = decide(tables, &context(source), &context(target), class_id(class));
+        let asked = Asked {
+            source,
+            target,
+            class,
+        };
+        let (from, onto) = (context(source), context(target));
+        let got = decide(tables, settings, &from, &onto, class_id(class));
         let want = (
-            walked(&rules.allow, source, target, class),
-            walked(&rules.auditallow, source, target, class),
-            all_of(class) & !walked(&rules.dontaudit, source, target, class),
+            walked(rules, settings, &asked),
+            named(RECORDED, &asked),
+            all_of(class) & !named(EXCEPTED, &asked),
         );
         if (got.allowed, got.auditallow, got.auditdeny) != want {
             return false;
@@ -148,32 +179,82 @@ fn decides_alike(tables: &Tables, source: usize, class: usize) -> bool {
 #[test]
 fn decides_as_a_walk_over_the_rules(rt: HostRuntime) -> Result<(), Fail> {
     let tables = policy(rt.alloc(), &[RULED]).ok_or("no tables")?;
-    let rules = tables.rules();
-    assert_eq!(rt;
-        (
-            rules.allow.len(),
-            rules.auditallow.len(),
-            rules.dontaudit.len()
-        ),
-        (9, 3, 3)
-    );
+    let settings = defaults(&tables);
+    assert_eq!(rt; tables.rules().allow_len(), 9);
     for class in 0..4usize {
         for source in 0..5usize {
-            assert!(rt; decides_alike(&tables, source, class), "{source} {class}");
+            assert!(rt;
+                decides_alike(&tables, &settings, source, class),
+                "{source} {class}"
+            );
         }
     }
     // Class 1 is file, 0 dir; type 2 is c.
     let (from, onto) = (context(2), context(2));
-    let got = decide(&tables, &from, &onto, class_id(0));
+    let got = decide(&tables, &settings, &from, &onto, class_id(0));
     assert_eq!(rt;
         (got.allowed, got.auditallow, got.auditdeny),
         (0b11, 0b01, 0b11)
     );
-    let got = decide(&tables, &context(0), &context(1), class_id(1));
+    let got = decide(&tables, &settings, &context(0), &context(1), class_id(1));
     assert_eq!(rt;
         (got.allowed, got.auditallow, got.auditdeny),
         (0b11, 0b10, 0b10)
     );
+    Ok(())
+}
+
+/// Two booleans, one of them in a block, and a rule in each branch of a condition over both.
+const SWITCHED: &str = "(boolean late true)(block net (boolean open false))\
+    (booleanif (and late net.open) (true (allow a b (file (open)))) (false (auditallow b a (file (read)))))";
+
+/// What is allowed to the first type on the second, and recorded of the second on the first.
+fn switched(tables: &Tables, settings: &Settings) -> (u32, u32) {
+    let there = decide(tables, settings, &context(0), &context(1), class_id(0));
+    let back = decide(tables, settings, &context(1), &context(0), class_id(0));
+    (there.allowed, back.auditallow)
+}
+
+#[test]
+fn booleans_are_found_and_turned(rt: HostRuntime) -> Result<(), Fail> {
+    let tables = policy(rt.alloc(), &[FIRST, SWITCHED]).ok_or("no tables")?;
+    assert_eq!(rt; boolean_named(&tables, b"late"), Some(0));
+    assert_eq!(rt; boolean_named(&tables, b"net.open"), Some(1));
+    assert_eq!(rt; boolean_named(&tables, b"open"), None);
+    assert_eq!(rt; boolean_named(&tables, b""), None);
+    let mut settings = defaults(&tables);
+    assert_eq!(rt;
+        (settings.get(0), settings.get(1), settings.get(2)),
+        (true, false, false)
+    );
+    assert_eq!(rt; switched(&tables, &settings), (0b10, 0b10));
+    settings.set(1, true);
+    assert_eq!(rt; switched(&tables, &settings), (0b11, 0));
+    Ok(())
+}
+
+/// What becomes of a boolean of the loaded policy, and whether the first type may open the second then.
+fn turned(host: &mut Host<u8>, name: &[u8], value: bool) -> (Result<(), QueryFault>, bool) {
+    let set = host.set_boolean(name, value);
+    let is_open = host.check(b"u:r:a", b"u:r:b", b"file", b"open");
+    (set, is_open == Ok(true))
+}
+
+#[test]
+fn a_host_turns_booleans(rt: HostRuntime) -> Result<(), Fail> {
+    let alloc = rt.alloc();
+    let mut host: Host<u8> = Host::new(alloc, 512, 0);
+    assert!(rt; turned(&mut host, b"late", true) == (Err(QueryFault::NoPolicy), false));
+    host.install(alloc, FIRST.as_bytes())?;
+    host.install(alloc, SWITCHED.as_bytes())?;
+    assert!(rt; host.load(alloc).is_ok());
+    assert!(rt; turned(&mut host, b"net.open", true) == (Ok(()), true));
+    assert!(rt; turned(&mut host, b"net", true) == (Err(QueryFault::NoBoolean), true));
+    assert!(rt; turned(&mut host, b"late", false) == (Ok(()), false));
+    assert!(rt; turned(&mut host, b"late", true) == (Ok(()), true));
+    // A load gives each boolean its default.
+    assert!(rt; host.load(alloc).is_ok());
+    assert!(rt; turned(&mut host, b"late", true) == (Ok(()), false));
     Ok(())
 }
 
@@ -226,6 +307,7 @@ const QUERIES: &[(QueryFault, &str)] = &[
         QueryFault::NoPermission,
         "74 the class has no such permission",
     ),
+    (QueryFault::NoBoolean, "75 no boolean has this name"),
 ];
 
 #[test]

@@ -93,7 +93,7 @@ const POLICIES: &[(&[&str], &str)] = &[
         ],
         "0 0",
     ),
-    // Lists 100 deep. Constraints and conditions are not supported yet, so their trees are read alone.
+    // Lists 100 deep, and a branch. Constraints are not supported yet, so their trees are read alone.
     (
         &[
             "(class c (p))(type a)(allow a self (c ((((((((((((((((((((((((((((((((((((((((((((((((((((((((((((((((((((((((((((((((((((((((((((((((((((p))))))))))))))))))))))))))))))))))))))))))))))))))))))))))))))))))))))))))))))))))))))))))))))))))))))",
@@ -104,7 +104,7 @@ const POLICIES: &[(&[&str], &str)] = &[
         &[
             "(constrain (c (p)) (not (not (not (not (not (not (not (not (not (not (not (not (not (not (not (not (not (not (not (not (not (not (not (not (not (not (not (not (not (not (not (not (not (not (not (not (not (not (not (not (not (not (not (not (not (not (not (not (not (not (not (not (not (not (not (not (not (not (not (not (not (not (not (not (not (not (not (not (not (not (not (not (not (not (not (not (not (not (not (not (not (not (not (not (not (not (not (not (not (not (not (not (not (not (not (not (not (not (not (eq u1 u2)))))))))))))))))))))))))))))))))))))))))))))))))))))))))))))))))))))))))))))))))))))))))))))))))))))(booleanif b (true (allow a b (c (d)))) (false (call m)))",
         ],
-        "22 0 0 . constrain\n22 0 624 . booleanif\n",
+        "22 0 0 . constrain\n",
     ),
 ];
 

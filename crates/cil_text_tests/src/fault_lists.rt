@@ -119,6 +119,7 @@ fn of_policies(alloc: Global) -> Result<String, Fail> {
         FaultCode::ClassWide,
         FaultCode::CommonTwice,
         FaultCode::TooMany,
+        FaultCode::NeverAllow,
     ] {
         write!(out, "{} {code}\n", code.number())?;
     }
@@ -142,7 +143,7 @@ fn faults_have_their_numbers_and_sentences(rt: HostRuntime) -> Result<(), Fail> 
         "21 unknown statement\n22 not supported\n23 wrong shape\n25 no name\n26 reserved word\n36 two different declarations\n\
         41 unresolved name\n51 alias without a target\n52 alias with two targets\n53 alias that leads to itself\n\
         54 set that depends on itself\n55 class with too many permissions\n56 class with two different commons\n\
-        60 too many of one kind\nno memory, no memory, no memory, NoMemory\n"
+        60 too many of one kind\n65 forbidden and allowed\nno memory, no memory, no memory, NoMemory\n"
     );
     Ok(())
 }

@@ -79,6 +79,7 @@ const HELP: &[(&[&str], &str)] = &[
         &["session", "--help"],
         "22  a statement or form that cilhost does not support",
     ),
+    (&["session", "--help"], "SET boolean value"),
     (&["session", "--help"], "`head -c PLACE FILE | wc -l`"),
     (&["help", "session"], "AV source target class"),
     (&["-h"], "check"),

@@ -11,13 +11,13 @@ modules, compiles them into a policy, and then answers which permissions a proce
 context has on an object in another. The answers do not depend on the order of the modules.
 
 cilhost accepts the statements type, class, common, classcommon, role, user, roletype, userrole,
-allow, auditallow and dontaudit; block, blockabstract, blockinherit, macro, call and optional;
-typealias, typealiasactual, typeattribute, typeattributeset, roleattribute, roleattributeset,
-userattribute and userattributeset; and classmap, classmapping, classpermission and
-classpermissionset. Of typetransition, typechange, typemember, roletransition, expandtypeattribute
-and classorder the names are checked, and they have no effect. Statements that label files, ports
-and the like, such as filecon, and settings, such as policycap, are accepted and have no effect. For
-now it refuses everything else in CIL by name, with fault 22.";
+allow, auditallow, dontaudit, neverallow, boolean and booleanif; block, blockabstract, blockinherit,
+macro, call and optional; typealias, typealiasactual, typeattribute, typeattributeset,
+roleattribute, roleattributeset, userattribute and userattributeset; and classmap, classmapping,
+classpermission and classpermissionset. Of typetransition, typechange, typemember, roletransition,
+expandtypeattribute and classorder the names are checked, and they have no effect. Statements that
+label files, ports and the like, such as filecon, and settings, such as policycap, are accepted and
+have no effect. For now it refuses everything else in CIL by name, with fault 22.";
 
 /// How the program is called.
 pub const EXAMPLE: &str = "Example:
@@ -36,13 +36,13 @@ The FILEs are installed from left to right. Then requests are read from standard
 and each reply is written to standard output, until QUIT or the end of the input.
 
 A FILE may have the statements type, class, common, classcommon, role, user, roletype, userrole,
-allow, auditallow and dontaudit; block, blockabstract, blockinherit, macro, call and optional;
-typealias, typealiasactual, typeattribute, typeattributeset, roleattribute, roleattributeset,
-userattribute and userattributeset; and classmap, classmapping, classpermission and
-classpermissionset. Of typetransition, typechange, typemember, roletransition, expandtypeattribute
-and classorder the names are checked, and they have no effect. Statements that label files, ports
-and the like, such as filecon, and settings, such as policycap, are accepted and have no effect. For
-now LOAD refuses everything else in CIL by name, with fault 22.";
+allow, auditallow, dontaudit, neverallow, boolean and booleanif; block, blockabstract, blockinherit,
+macro, call and optional; typealias, typealiasactual, typeattribute, typeattributeset,
+roleattribute, roleattributeset, userattribute and userattributeset; and classmap, classmapping,
+classpermission and classpermissionset. Of typetransition, typechange, typemember, roletransition,
+expandtypeattribute and classorder the names are checked, and they have no effect. Statements that
+label files, ports and the like, such as filecon, and settings, such as policycap, are accepted and
+have no effect. For now LOAD refuses everything else in CIL by name, with fault 22.";
 
 /// What a file is.
 pub const FILE: &str = "A module, as text in CIL, of at most 4194304 bytes";
@@ -123,6 +123,9 @@ pub const REQUESTS: &str = "Requests:
   CHECK source target class permission
                           Whether AV of the first three lists this permission as allowed. Reply:
                           OK yes, OK no, or ERR
+  SET boolean value       Turn a boolean of the policy on (true) or off (false): rules in branches
+                          of a booleanif count by that from now on. A boolean b of block c is c.b.
+                          An accepted LOAD gives each boolean its default. Reply: OK, or ERR
   OPTIONALS               Which optionals of the policy are in force. Reply: OK with their number;
                           for each its module, place, namespace and label, as of a fault below, and
                           in where it is in force, else out; or ERR
@@ -144,7 +147,8 @@ Faults of a policy, one a line after FAULTS: NUMBER MODULE PLACE NAMESPACE WORD
   21  an unknown statement
   22  a statement or form that cilhost does not support
   23  a statement of another shape
-  24  a statement in a wrong place, such as a class in a macro or in an optional
+  24  a statement in a wrong place, such as a class in a macro or in an optional, or a type in a
+      branch of a booleanif
   25  a word that is not a name
   26  a reserved word in place of a name
   27  a parameter of a macro whose name is used again, by another one or by a declaration
@@ -154,6 +158,7 @@ Faults of a policy, one a line after FAULTS: NUMBER MODULE PLACE NAMESPACE WORD
   34  a macro that calls itself, in one or more steps
   35  a call with too few or too many arguments, or with one of a wrong form
   36  a name with two different declarations
+  37  a call in a branch of a booleanif that brings what may not be in one
   38  more than 1000000 statements, with those that are inherited or come by calls. It is reported
       alone, with module 0, place 0 and - as the word
   41  a word outside optionals that names nothing
@@ -163,7 +168,11 @@ Faults of a policy, one a line after FAULTS: NUMBER MODULE PLACE NAMESPACE WORD
   54  an attribute that depends on itself, in one or more steps
   55  a class of more than 32 permissions
   56  a class with two different commons
-  60  more than 65535 types, 4096 roles or 4096 users: WORD says which. It has module 0 and place 0
+  60  more than 65535 types, 1024 classes, or 4096 roles, users or booleans: WORD says which. It has
+      module 0 and place 0
+  65  a neverallow and an allow that cover the same, in whatever branches, at the neverallow. WORD
+      is the module and place of the allow, and a source, target, class and permission that both
+      cover, joined by colons
 
 From MODULE and PLACE to a file and a line: `cilhost locate FILE..` prints both. In a session:
   1. LIST replies OK, and then a line for each module: MODULE 0 is the first of these lines. It
@@ -182,9 +191,10 @@ Other numbers, after ERR:
             does not come after the one before it in byte order. 14: a module cannot be read; its
             number, from 0, and the number and place of its text's fault follow. 15: bytes follow
             its last module
-  71 to 74  A query has no answer. 71: no policy is loaded, for AV, CHECK, OPTIONALS or WHY. 72 1:
-            the source is not a valid context. 72 2: the target is not. 73: there is no such class.
-            74: the class has no such permission, for CHECK
+  71 to 75  A query has no answer, or no boolean is set. 71: no policy is loaded, for AV, CHECK,
+            SET, OPTIONALS or WHY. 72 1: the source is not a valid context. 72 2: the target is not.
+            73: there is no such class. 74: the class has no such permission, for CHECK. 75: there
+            is no such boolean, for SET
   81        There is no such request; the session goes on
   82 to 85  The session ends. 82: a line has more than 4096 bytes. 83: the input ends in a line, or
             in the bytes after one. 84: more than 67108864 bytes are announced. 85: it has had

@@ -4,7 +4,7 @@
 #![tactic(auto)]
 
 use cil_base::NoMemory;
-use cil_decide::{class_named, decide, parse_context, permission_at};
+use cil_decide::{class_named, decide, defaults, parse_context, permission_at};
 use cil_faults::{Failure, render};
 use cil_modset::ModuleSet;
 use cil_sexpr::ReadError;
@@ -53,7 +53,8 @@ fn print_decision<W: Write>(out: &mut W, tables: &Tables) -> Result<(), ExampleE
     let source = parse_context(tables, b"u:r:app_t").ok_or(ExampleError::Undeclared)?;
     let target = parse_context(tables, b"u:r:log_t").ok_or(ExampleError::Undeclared)?;
     let class = class_named(tables, b"file").ok_or(ExampleError::Undeclared)?;
-    let decision = decide(tables, &source, &target, class);
+    let settings = defaults(tables);
+    let decision = decide(tables, &settings, &source, &target, class);
     for bit in 0..32 {
         if let Some(permission) = permission_at(tables, class, bit) {
             let is_allowed = decision.allowed & (1 << bit) != 0;

@@ -1,4 +1,5 @@
 use Rattle.std.proofs.Common.{inl, inr, refl, sym, ◌∙◌}
+use Rattle.cil_conditions.specs.Bits.{is_on}
 use Rattle.cil_index.specs.Searched.{rules_in}
 use Rattle.cil_index.proofs.CoverLemmas.{four_keys, in_four, key_is}
 use Rattle.cil_index.proofs.cover.covered.Goals as goal
@@ -13,7 +14,7 @@ returns c = λ bit. (
     ]
   ],
   λ is. (in_four c.found.result c.found-2.result c.found-3.result c.found-4.result bit).1
-      (four_keys (rules_in c.args.searched.now) c.class_part-part.result.now c.args.asked.now.source c.args.asked.now.target c.args.asked.now.class c.args.entries.now
+      (four_keys (is_on c.args.settings.now) (rules_in c.args.searched.now) c.class_part-part.result.now c.args.asked.now.source c.args.asked.now.target c.args.asked.now.class c.args.entries.now
       c.key.result c.key-2.result c.key-3.result c.key-4.result c.found.result c.found-2.result c.found-3.result c.found-4.result c.requires.index
       (λ e has same. c.class_part-part.ensures.all e has (same ∙ sym c.key_of_type-class.ensures))
       (key_is _ _ _ _ _ _ _ c.key.ensures c.key_of_type-class.ensures c.key_of_type-source.ensures c.key_of_type-target.ensures)

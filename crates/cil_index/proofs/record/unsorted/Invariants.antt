@@ -7,4 +7,4 @@ use Rattle.cil_index.proofs.record.unsorted.Given as goal
 
 abbrev pub invariant-loop-rule : goal.invariant-loop-rule
 invariant-loop-rule l = (distinct named : List (List ℕ)) → AreNumbered distinct named l.numbers
-    → (map (rule_of distinct) l.records.items ≡ take l.rule-index (map (rule_named named) l.rules)) × AreWithin distinct l.records.items
+    → (map (rule_of l.branches distinct) l.records.items ≡ take l.rule-index (map (rule_named l.branches named) l.rules)) × AreWithin l.branches distinct l.records.items

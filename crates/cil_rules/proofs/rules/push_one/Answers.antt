@@ -6,4 +6,4 @@ pub returns : goal.returns
 returns c = c.in_ok-push.ensures.items ∙ ap (λ (n : ℕ). c.args.out.now.items ++ numbered n ∷ []) c.in_ok-class.ensures
   where
     numbered : ℕ → NamedRule
-    numbered n = record { source = c.args.source; target = c.args.target; class = n; mask = c.args.one.now.1 }
+    numbered n = record { branch = c.args.branch; source = c.args.source; target = c.args.target; class = n; mask = c.args.one.now.1 }

@@ -16,24 +16,24 @@ use Rattle.cil_rules.specs.Kept.{set_named}
 use Rattle.cil_rules.proofs.rules.push_rules.Goals as goal
 
 pub returns-then-not-same_keyword : goal.returns-then-not-same_keyword
-returns-then-not-same_keyword c = λ xs names known apart standing classes given are.
+returns-then-not-same_keyword c = λ xs names branches how taken put known apart standing classes given are.
     let there = keyword_there c.args.instances.now c.args.at c.statement_there-statement.result.now c.statement_there-statement.ensures.is in
-    none_behind _ _ _ _ (other_keyword xs c.args.known.now c.args.keyword (item_at c.args.instances.now c.args.at) (λ e. true≢false (sym (c.same_keyword.ensures.1 (sym there ∙ e)) ∙ c.if-not-same_keyword.true)))
+    none_behind _ _ _ _ (other_keyword xs c.args.known.now c.args.keyword how (item_at c.args.instances.now c.args.at) (λ e. true≢false (sym (c.same_keyword.ensures.1 (sym there ∙ e)) ∙ c.if-not-same_keyword.true)))
 
 pub returns-then-not-is_enabled : goal.returns-then-not-is_enabled
-returns-then-not-is_enabled c = λ xs names known apart standing classes given are.
-    none_behind _ _ _ _ (left_out xs c.args.known.now c.args.keyword (item_at c.args.instances.now c.args.at) (sym c.is_enabled.ensures ∙ c.if-not-is_enabled.true))
+returns-then-not-is_enabled c = λ xs names branches how taken put known apart standing classes given are.
+    none_behind _ _ _ _ (left_out xs c.args.known.now c.args.keyword how (item_at c.args.instances.now c.args.at) (sym c.is_enabled.ensures ∙ c.if-not-is_enabled.true))
 
 pub returns-in_default : goal.returns-in_default
-returns-in_default c = λ xs names known apart standing classes given are.
+returns-in_default c = λ xs names branches how taken put known apart standing classes given are.
     let i = c.args.instances.now in
     let s = c.statement_there-statement.result.now in
     let says = said_there i c.args.at s c.statement_there-statement.ensures.is c.statement_there-statement.ensures.words (ap says_as_written (c.same_keyword.ensures.0 c.if-not-same_keyword.false) ∙ c.requires.written) in
-    none_behind _ _ _ _ (other_terms xs c.args.known.now c.args.keyword (item_at i c.args.at) (word_at i c.args.at) (args_of s) says c.in_default.ensures)
+    none_behind _ _ _ _ (other_terms xs c.args.known.now c.args.keyword how (item_at i c.args.at) (word_at i c.args.at) (args_of s) says c.in_default.ensures)
 
 pub returns-in_default-some_at : goal.returns-in_default-some_at
 returns-in_default-some_at c =
-    λ xs names known apart standing classes given row.
+    λ xs names branches how taken put known apart standing classes given row.
     let k = c.args.known.now in
     let i = c.args.instances.now in
     let s = c.statement_there-statement.result.now in
@@ -45,13 +45,13 @@ returns-in_default-some_at c =
     let source = c.in-Some.parts.source in
     let target = said_of m c.in-Some.parts.target.now in
     let class_permission = said_of m c.in-Some.parts.class_permission.now in
-    none_behind _ _ _ _ (without_source xs k c.args.keyword x f (args_of s) says source target class_permission c.in-Some.ensures
+    none_behind _ _ _ _ (without_source xs k c.args.keyword how x f (args_of s) says source target class_permission c.in-Some.ensures
     (source_lost k xs names known c.args.types.now standing x f (args_of s) says source target class_permission c.in-Some.ensures c.args.words.now are c.meaning_at.result c.meaning_at.ensures
     c.in_default-some_at.ensures))
 
 pub returns-in_default-2 : goal.returns-in_default-2
 returns-in_default-2 c =
-    λ xs names known apart standing classes given row.
+    λ xs names branches how taken put known apart standing classes given row.
     let k = c.args.known.now in
     let i = c.args.instances.now in
     let s = c.statement_there-statement.result.now in
@@ -63,13 +63,13 @@ returns-in_default-2 c =
     let source = c.in-Some.parts.source in
     let target = said_of m c.in-Some.parts.target.now in
     let class_permission = said_of m c.in-Some.parts.class_permission.now in
-    none_behind _ _ _ _ (without_target xs k c.args.keyword x f (args_of s) says source target class_permission c.in-Some.ensures
+    none_behind _ _ _ _ (without_target xs k c.args.keyword how x f (args_of s) says source target class_permission c.in-Some.ensures
     (rw c.in_default-2.is at c.in_ok-target.ensures k xs names f m known standing
     (target_begins k x f (args_of s) says source target class_permission c.in-Some.ensures c.args.words.now are c.behind_first-of_target.result.now c.behind_first-of_target.ensures)))
 
 pub returns : goal.returns
 returns c =
-    λ xs names known apart standing classes given row.
+    λ xs names branches how taken put known apart standing classes given row.
     let k = c.args.known.now in
     let i = c.args.instances.now in
     let s = c.statement_there-statement.result.now in
@@ -90,11 +90,11 @@ returns c =
     let added = c.in_ok-push_perms.ensures xs names f known apart classes given
     (class_begins k x f (args_of s) says source target class_permission c.in-Some.ensures c.args.words.now are c.behind_first-of_target.result.now c.behind_first-of_target.ensures c.behind-of_class.result.now (c.behind-of_class.ensures f)) in
     let only : c.push_perms.new.out.items ≡ added.masks = added.behind ∙ ap (λ l. l ++ added.masks) c.clear.ensures.items in
-    some_rules xs k c.args.keyword x f (args_of s) says source target class_permission c.in-Some.ensures names known apart (names kinds.Type_) types c.args.classes.now c.in_ok-source.source
+    some_rules xs k c.args.keyword how x f (args_of s) says source target class_permission c.in-Some.ensures names known apart branches c.args.branch taken put (names kinds.Type_) types c.args.classes.now c.in_ok-source.source
     source_set (λ e. c.in-Some-some_at.ensures.1 (sym same ∙ e)) c.in-Some-2.target
     (rw c.in-Some-2.is at c.in_ok-target.ensures k xs names f m known standing
     (target_begins k x f (args_of s) says source target class_permission c.in-Some.ensures c.args.words.now are c.behind_first-of_target.result.now c.behind_first-of_target.ensures))
     c.push_perms.new.out.items (subst (AreMasksOf xs (enabled_in k) c.args.classes.now (term_with f m c.in-Some.parts.class_permission.now)) (sym only) added.are)
     (keyword_there i c.args.at s c.statement_there-statement.ensures.is ∙ is) (sym c.is_enabled.ensures ∙ c.if-not-is_enabled.false)
     c.args.out.now.items c.push_named.new.out.items
-    (subst (λ ms. c.push_named.new.out.items ≡ c.args.out.now.items ++ map (rule_with c.in_ok-source.source c.in-Some-2.target) ms) c.as_slice.ensures.value c.in_ok-push_named.ensures)
+    (subst (λ ms. c.push_named.new.out.items ≡ c.args.out.now.items ++ map (rule_with c.args.branch c.in_ok-source.source c.in-Some-2.target) ms) c.as_slice.ensures.value c.in_ok-push_named.ensures)

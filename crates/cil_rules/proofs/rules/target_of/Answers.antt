@@ -1,4 +1,3 @@
-use Rattle.cil_syntax.specs.declared.kind.Kind.TheVariants as kinds
 use Rattle.cil_rules.proofs.TargetLemmas.{form_reached, name_lost, word_lost, word_reached}
 use Rattle.cil_rules.proofs.rules.target_of.Goals as goal
 

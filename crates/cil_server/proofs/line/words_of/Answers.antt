@@ -1,5 +1,5 @@
 use Rattle.std.specs.Prelude.{◌==◌}
-use Rattle.std.proofs.Common.{◌≡◌, [], ◌∷◌, ap, rules}
+use Rattle.std.proofs.Common.{◌≡◌, ◌∷◌, ap, rules}
 use Rattle.std.proofs.lemmas.Fn.{always_returns_same}
 use Rattle.cil_base.specs.Parts.{all_left, left, none_left, part_read}
 use Rattle.cil_server.specs.Asked.{by_words, words_of}
@@ -27,8 +27,7 @@ returns-in_default-next-3 c =
     let second = part_read (λ b. b == 32) _ c.next.new.self c.next-2.new.self c.in-Some-next.second (always_returns_same _ _ _ (λ a r f' k. search rules)) c.in-Some-next.ensures.steps in
     let third = part_read (λ b. b == 32) _ c.next-2.new.self c.next-3.new.self c.in-Some-next-2.third (always_returns_same _ _ _ (λ a r f' k. search rules)) c.in-Some-next-2.ensures.steps in
     let fourth = none_left (λ b. b == 32) c.next-3.new.self c.in_default-next-3.ensures.steps.0 in
-    let words : words_of c.args.line.now ≡ c.in-Some.word.now ∷ c.in-Some-next.second.now ∷ c.in-Some-next-2.third.now ∷ [] = cc in
-    ap by_words words
+    cc
 
 pub returns-in_default-next-4 : goal.returns-in_default-next-4
 returns-in_default-next-4 c =

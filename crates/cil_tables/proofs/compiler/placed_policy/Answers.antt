@@ -1,4 +1,4 @@
-use Rattle.std.proofs.Common.{List, inr, map, refl, subst, sym}
+use Rattle.std.proofs.Common.{List, inr, map, subst, sym}
 use Rattle.cil_blocks.specs.declared.namespaces.Space.{Space}
 use Rattle.cil_macros.specs.Items.{items_in, namespaces_in}
 use Rattle.cil_names.specs.Entries.{AreEntries, is_in}
@@ -11,7 +11,7 @@ use Rattle.cil_optionals.specs.declared.reason.Reason.{Reason}
 use Rattle.cil_faults.specs.declared.failure.Failure.TheVariants.{NoMemory}
 use Rattle.cil_tables.specs.CompileRefusal.{ItemsFail}
 use Rattle.cil_optionals.specs.Lines.{AreReasonsOf}
-use Rattle.cil_tables.proofs.CompileLemmas.{clash_first, handed_on, widths_first, words_first}
+use Rattle.cil_tables.proofs.CompileLemmas.{clash_first, handed_on, later_first, words_first}
 use Rattle.cil_tables.proofs.compiler.placed_policy.Goals as goal
 
 pub commons_of-requires : goal.commons_of-requires
@@ -61,8 +61,8 @@ returns-in_err-judged-clause-faults c =
 pub returns-in_err-tables-clause-faults : goal.returns-in_err-tables-clause-faults
 returns-in_err-tables-clause-faults c =
     handed_on (ItemsFail (items_in c.args.instances.now)) _ _ c.from_residual-in_err-tables.ensures.1
-    (widths_first (items_in c.args.instances.now) c.in_ok-names.ensures.1 (is_in c.in_ok-chosen.chosen.enabled) c.in_ok-chosen.ensures.greatest c.in_ok-judged.ensures.1 _
-    c.in_err-tables.ensures)
+    (later_first (items_in c.args.instances.now) c.in_ok-names.ensures.1 (is_in c.in_ok-chosen.chosen.enabled) c.in_ok-chosen.ensures.greatest c.in_ok-judged.ensures.1 _
+    c.in_err-tables.ensures.faults)
 
 pub returns-in_err-optionals-clause-faults : goal.returns-in_err-optionals-clause-faults
 returns-in_err-optionals-clause-faults c = handed_on (ItemsFail (items_in c.args.instances.now)) _ NoMemory c.from_residual-in_err-optionals.ensures.1 tt
@@ -75,8 +75,8 @@ returns-clause-compiled c = record {
   enabled = is_in c.in_ok-chosen.chosen.enabled;
   greatest = c.in_ok-chosen.ensures.greatest;
   apart = c.in_ok-names.ensures.1;
-  no_faults = inr (c.in_ok-judged.ensures.1, inr (c.in_ok-tables.ensures.1, refl));
-  table = c.in_ok-tables.ensures.0;
+  no_faults = inr (c.in_ok-judged.ensures.1, c.in_ok-tables.ensures.tables.1);
+  table = c.in_ok-tables.ensures.tables.0;
   optionals = c.in_ok-optionals.ensures;
   right = c.in_ok-chosen.ensures.right;
   reasons = subst (λ (rs : List Reason). AreReasonsOf (items_in c.args.instances.now) rs c.in_ok-reasons.reasons.items) c.as_slice-3.ensures.value c.in_ok-reasons.ensures;

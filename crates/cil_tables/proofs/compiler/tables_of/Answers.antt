@@ -1,4 +1,5 @@
-use Rattle.std.proofs.Common.{List, inl, refl, subst, sym}
+use Rattle.std.proofs.Common.{◌≡◌, List, ap, arith, inl, inr, length, refl, subst, sym, ◌∙◌}
+use Rattle.std.proofs.lemmas.List.{length-map}
 use Rattle.std.specs.Prelude.{Contains}
 use Rattle.std.specs.List.Sorted.{IsStrictlySortedBy}
 use Rattle.cil_base.specs.Lists.{text_cmp}
@@ -8,8 +9,12 @@ use Rattle.cil_names.specs.Entries.{is_in}
 use Rattle.cil_names.specs.Numbers.{AreApart, AreNumbers, names_of}
 use Rattle.cil_classes.specs.declared.row.Class.{Class}
 use Rattle.cil_tables.specs.Compiled.{AreRules}
+use Rattle.cil_tables.specs.declared.tables.Boolean.{Boolean}
+use Rattle.cil_tables.specs.Table.{boolean_names}
 use Rattle.cil_classes.specs.ClassRows.{AreClasses}
 use Rattle.cil_names.specs.Known.{AreKnown}
+use Rattle.cil_tables.specs.CompileRefusal.{LaterFail}
+use Rattle.cil_tables.proofs.CompileLemmas.{forbidden_fail, handed_on}
 use Rattle.cil_tables.proofs.JoinLemmas.{table_of}
 use Rattle.cil_tables.proofs.NamedLemmas.{class_of_row, classes_are, classes_given, classes_rise, names_are, rows_rise}
 use Rattle.cil_tables.proofs.WideClasses.{few}
@@ -64,6 +69,20 @@ given_permissions-requires-clause-known c =
 pub given_permissions-requires-clause-apart : goal.given_permissions-requires-clause-apart
 given_permissions-requires-clause-apart c = subst (AreApart c.args.lookup.now.names.now (is_in c.args.lookup.now.enabled.now)) (sym c.as_slice.ensures.value) (c.in_ok-numbering.ensures.apart c.requires.plain)
 
+pub check_forbidden-requires-clause-nodes : goal.check_forbidden-requires-clause-nodes
+check_forbidden-requires-clause-nodes c = c.in_ok-held.ensures.nodes_rise
+
+pub check_forbidden-requires-clause-rising : goal.check_forbidden-requires-clause-rising
+check_forbidden-requires-clause-rising c = λ row member.
+    rows_rise c.args.lookup.now.namespaces.now (items_in c.args.instances.now) c.args.lookup.now.names.now c.requires.entries (is_in c.args.lookup.now.enabled.now) c.in_ok-numbering.numbering.sections c.in_ok-numbering.numbering.numbers.items c.in_ok-numbering.ensures.numbers (c.in_ok-numbering.ensures.apart c.requires.plain) c.args.permissions.now c.requires.permissions c.in_ok-judged.judged.first.rows.items c.in_ok-judged.ensures.0.0 row
+    (subst (λ (rows : List Class). Contains rows row) c.as_slice-rows.ensures.value member)
+
+pub check_forbidden-requires-clause-few : goal.check_forbidden-requires-clause-few
+check_forbidden-requires-clause-few c = λ row member.
+    let k = class_of_row c.args.lookup.now.namespaces.now (items_in c.args.instances.now) c.args.lookup.now.names.now c.requires.entries (is_in c.args.lookup.now.enabled.now) c.in_ok-numbering.numbering.sections c.in_ok-numbering.numbering.numbers.items c.in_ok-numbering.ensures.numbers (c.in_ok-numbering.ensures.apart c.requires.plain) c.args.permissions.now c.requires.permissions c.in_ok-judged.judged.first.rows.items c.in_ok-judged.ensures.0.0 row
+    (subst (λ (rows : List Class). Contains rows row) c.as_slice-rows.ensures.value member) in
+    few (items_in c.args.instances.now) (is_in c.args.lookup.now.enabled.now) (λ f e. c.in_ok-judged.ensures.1 f (inl e)) k.0 row k.1 k.2
+
 pub given_of-requires-clause-ordered : goal.given_of-requires-clause-ordered
 given_of-requires-clause-ordered c = c.requires.entries.ordered
 
@@ -83,6 +102,7 @@ given_of-requires-clause-few c = λ row member.
 
 pub invariant_of-result : goal.invariant_of-result
 invariant_of-result c =
+    let same_booleans : boolean_names c.in_ok-booleans.booleans.items ≡ c.in_ok-numbering.numbering.sections.booleans.items = c.in_ok-booleans.ensures.names ∙ c.as_slice-2.ensures.value in
     let known : AreKnown c.args.lookup.now.namespaces.now (items_in c.args.instances.now) c.args.lookup.now.names.now (is_in c.args.lookup.now.enabled.now) (names_of c.in_ok-numbering.numbering.sections) c.as_slice.result.now c.args.permissions.now =
     record {
       namespaces = c.are_namespaces.ensures;
@@ -94,11 +114,17 @@ invariant_of-result c =
     subst (AreClasses (items_in c.args.instances.now) (is_in c.args.lookup.now.enabled.now) c.in_ok-numbering.numbering.sections.classes.items) (sym c.as_slice-rows.ensures.value)
     (classes_are c.args.lookup.now.namespaces.now (items_in c.args.instances.now) c.args.lookup.now.names.now c.requires.entries (is_in c.args.lookup.now.enabled.now) c.in_ok-numbering.numbering.sections c.in_ok-numbering.numbering.numbers.items c.in_ok-numbering.ensures.numbers (c.in_ok-numbering.ensures.apart c.requires.plain) c.args.permissions.now c.requires.permissions c.in_ok-judged.judged.first.rows.items c.in_ok-judged.ensures.0.0) in
     let apart = subst (AreApart c.args.lookup.now.names.now (is_in c.args.lookup.now.enabled.now)) (sym c.as_slice.ensures.value) (c.in_ok-numbering.ensures.apart c.requires.plain) in
-    let given = c.in_ok-given.ensures (names_of c.in_ok-numbering.numbering.sections) known apart (c.in_ok-judged.ensures.0.1) classes c.in_ok-held.ensures in
+    let given = c.in_ok-given.ensures (names_of c.in_ok-numbering.numbering.sections) known apart (c.in_ok-judged.ensures.0.1.0) classes c.in_ok-held.ensures in
     record {
       users = subst (IsStrictlySortedBy text_cmp) (sym c.from_vec.ensures) (c.in_ok-numbering.ensures.numbers.lists kinds.User refl).rising;
       roles = subst (IsStrictlySortedBy text_cmp) (sym c.from_vec-2.ensures) (c.in_ok-numbering.ensures.numbers.lists kinds.Role refl).rising;
       types = subst (IsStrictlySortedBy text_cmp) (sym c.from_vec-3.ensures) (c.in_ok-numbering.ensures.numbers.lists kinds.Type_ refl).rising;
+      booleans = subst (IsStrictlySortedBy text_cmp) (sym same_booleans) (c.in_ok-numbering.ensures.numbers.lists kinds.Boolean refl).rising;
+      few_booleans =
+          let few = c.in_ok-judged.ensures.0.1.1 in
+          let len = length-map c.in_ok-booleans.booleans.items (λ (b : Boolean). b.name) in
+          let same = ap length same_booleans in
+          omega (arith, few, len, same);
       classes = classes_rise c.args.lookup.now.namespaces.now (items_in c.args.instances.now) c.args.lookup.now.names.now c.requires.entries (is_in c.args.lookup.now.enabled.now) c.in_ok-numbering.numbering.sections c.in_ok-numbering.numbering.numbers.items c.in_ok-numbering.ensures.numbers (c.in_ok-numbering.ensures.apart c.requires.plain) c.args.permissions.now c.requires.permissions c.in_ok-judged.judged.first.rows.items c.in_ok-judged.ensures.0.0;
       type_aliases = given.type_aliases.rising;
       user_roles = given.user_roles.rising;
@@ -108,8 +134,26 @@ invariant_of-result c =
           record { permissions = k.2.permissions.rising; few = few (items_in c.args.instances.now) (is_in c.args.lookup.now.enabled.now) (λ f e. c.in_ok-judged.ensures.1 f (inl e)) k.0 row k.1 k.2 };
     }
 
-pub returns : goal.returns
-returns c =
+pub returns-in_err-check_forbidden-clause-faults : goal.returns-in_err-check_forbidden-clause-faults
+returns-in_err-check_forbidden-clause-faults c =
+    let known : AreKnown c.args.lookup.now.namespaces.now (items_in c.args.instances.now) c.args.lookup.now.names.now (is_in c.args.lookup.now.enabled.now) (names_of c.in_ok-numbering.numbering.sections) c.as_slice.result.now c.args.permissions.now =
+    record {
+      namespaces = c.are_namespaces.ensures;
+      entries = c.requires.entries;
+      numbered = subst (AreNumbers c.args.lookup.now.namespaces.now c.args.lookup.now.names.now (is_in c.args.lookup.now.enabled.now) (names_of c.in_ok-numbering.numbering.sections)) (sym c.as_slice.ensures.value) c.in_ok-numbering.ensures.numbers;
+      permissions = c.requires.permissions;
+    } in
+    let classes : AreClasses (items_in c.args.instances.now) (is_in c.args.lookup.now.enabled.now) c.in_ok-numbering.numbering.sections.classes.items c.as_slice-rows.result.now =
+    subst (AreClasses (items_in c.args.instances.now) (is_in c.args.lookup.now.enabled.now) c.in_ok-numbering.numbering.sections.classes.items) (sym c.as_slice-rows.ensures.value)
+    (classes_are c.args.lookup.now.namespaces.now (items_in c.args.instances.now) c.args.lookup.now.names.now c.requires.entries (is_in c.args.lookup.now.enabled.now) c.in_ok-numbering.numbering.sections c.in_ok-numbering.numbering.numbers.items c.in_ok-numbering.ensures.numbers (c.in_ok-numbering.ensures.apart c.requires.plain) c.args.permissions.now c.requires.permissions c.in_ok-judged.judged.first.rows.items c.in_ok-judged.ensures.0.0) in
+    let apart = subst (AreApart c.args.lookup.now.names.now (is_in c.args.lookup.now.enabled.now)) (sym c.as_slice.ensures.value) (c.in_ok-numbering.ensures.apart c.requires.plain) in
+    handed_on (LaterFail (items_in c.args.instances.now) (is_in c.args.lookup.now.enabled.now)) _ _ c.from_residual-in_err-check_forbidden.ensures.1
+    (forbidden_fail (items_in c.args.instances.now) (is_in c.args.lookup.now.enabled.now) c.in_ok-judged.ensures.1 _
+    (c.in_err-check_forbidden.ensures (names_of c.in_ok-numbering.numbering.sections) (sym c.as_slice-types.ensures.value) known apart (c.in_ok-judged.ensures.0.1.0) classes c.in_ok-held.ensures))
+
+pub returns-clause-tables : goal.returns-clause-tables
+returns-clause-tables c =
+    let same_booleans : boolean_names c.in_ok-booleans.booleans.items ≡ c.in_ok-numbering.numbering.sections.booleans.items = c.in_ok-booleans.ensures.names ∙ c.as_slice-2.ensures.value in
     let known : AreKnown c.args.lookup.now.namespaces.now (items_in c.args.instances.now) c.args.lookup.now.names.now (is_in c.args.lookup.now.enabled.now) (names_of c.in_ok-numbering.numbering.sections) c.as_slice.result.now c.args.permissions.now =
     record {
       namespaces = c.are_namespaces.ensures;
@@ -122,15 +166,15 @@ returns c =
     subst (AreClasses (items_in c.args.instances.now) (is_in c.args.lookup.now.enabled.now) c.in_ok-numbering.numbering.sections.classes.items) (sym c.as_slice-rows.ensures.value)
     (classes_are c.args.lookup.now.namespaces.now (items_in c.args.instances.now) c.args.lookup.now.names.now c.requires.entries (is_in c.args.lookup.now.enabled.now) c.in_ok-numbering.numbering.sections c.in_ok-numbering.numbering.numbers.items c.in_ok-numbering.ensures.numbers (c.in_ok-numbering.ensures.apart c.requires.plain) c.args.permissions.now c.requires.permissions c.in_ok-judged.judged.first.rows.items c.in_ok-judged.ensures.0.0) in
     let apart = subst (AreApart c.args.lookup.now.names.now (is_in c.args.lookup.now.enabled.now)) (sym c.as_slice.ensures.value) (c.in_ok-numbering.ensures.apart c.requires.plain) in
-    let given = c.in_ok-given.ensures (names_of c.in_ok-numbering.numbering.sections) known apart (c.in_ok-judged.ensures.0.1) classes c.in_ok-held.ensures in (
-      table_of (items_in c.args.instances.now) (is_in c.args.lookup.now.enabled.now) (names_of c.in_ok-numbering.numbering.sections) _ _ _ _ c.in_ok-judged.judged.first.rows.items _ _ _
+    let given = c.in_ok-given.ensures (names_of c.in_ok-numbering.numbering.sections) known apart (c.in_ok-judged.ensures.0.1.0) classes c.in_ok-held.ensures in (
+      table_of (items_in c.args.instances.now) (is_in c.args.lookup.now.enabled.now) (names_of c.in_ok-numbering.numbering.sections) _ _ _ _ c.in_ok-judged.judged.first.rows.items c.in_ok-booleans.booleans.items _ _ _
           c.from_vec.ensures c.from_vec-2.ensures c.from_vec-3.ensures
           (names kinds.User _ (c.in_ok-numbering.ensures.numbers.lists kinds.User refl)) (names kinds.Role _ (c.in_ok-numbering.ensures.numbers.lists kinds.Role refl))
           (names kinds.Type_ _ (c.in_ok-numbering.ensures.numbers.lists kinds.Type_ refl))
-          given.type_aliases
+          (names kinds.Boolean _ (c.in_ok-numbering.ensures.numbers.lists kinds.Boolean refl)) same_booleans c.in_ok-booleans.ensures.defaults given.type_aliases
           (classes_given c.args.lookup.now.namespaces.now (items_in c.args.instances.now) c.args.lookup.now.names.now c.requires.entries (is_in c.args.lookup.now.enabled.now) c.in_ok-numbering.numbering.sections c.in_ok-numbering.numbering.numbers.items c.in_ok-numbering.ensures.numbers (c.in_ok-numbering.ensures.apart c.requires.plain) c.args.permissions.now c.requires.permissions c.in_ok-judged.judged.first.rows.items c.in_ok-judged.ensures.0.0)
           given.user_roles given.role_types
-          (subst (λ (rows : List Class). AreRules (items_in c.args.instances.now) (is_in c.args.lookup.now.enabled.now) (names_of c.in_ok-numbering.numbering.sections kinds.Type_) rows c.in_ok-given.given.rules)
+          (subst (λ (rows : List Class). AreRules (items_in c.args.instances.now) (is_in c.args.lookup.now.enabled.now) (names_of c.in_ok-numbering.numbering.sections kinds.Type_) rows (names_of c.in_ok-numbering.numbering.sections kinds.Boolean) c.in_ok-given.given.rules)
           c.as_slice-rows.ensures.value given.rules),
-      c.in_ok-judged.ensures.1,
+      inr (c.in_ok-judged.ensures.1, inr ((c.in_ok-check_forbidden.ensures (names_of c.in_ok-numbering.numbering.sections) (sym c.as_slice-types.ensures.value) known apart (c.in_ok-judged.ensures.0.1.0) classes c.in_ok-held.ensures).1, refl)),
     )

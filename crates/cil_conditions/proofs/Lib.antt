@@ -1,0 +1,11 @@
+pub mod BitLemmas
+pub mod BooleanNumbers
+pub mod ConditionLemmas
+mod Examples
+pub mod FindLemmas
+pub mod FoundLemmas
+pub mod OrderLemmas
+pub mod PlaceLemmas
+pub mod SettingLemmas
+pub mod ValueLemmas
+pub mod WalkLemmas

@@ -1,0 +1,10 @@
+pub mod Active
+pub mod Bits
+pub mod Conditions
+pub mod Gathered
+pub mod Laws
+pub mod Numbered
+pub mod Order
+pub mod Spelled
+pub mod Truth
+pub mod Walk

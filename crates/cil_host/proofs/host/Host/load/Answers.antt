@@ -1,0 +1,7 @@
+use Rattle.std.proofs.Common.{sym}
+use Rattle.cil_host.proofs.StateLemmas.{loads}
+use Rattle.cil_host.proofs.host.Host.load.Goals as goal
+
+pub returns : goal.returns
+returns g c =
+    loads _ _ _ c.defaults-self-inside.result _ (sym c.self.view_is) _ c.in_ok-compiled.compiled c.in_ok-modules.ensures c.in_ok-compiled.ensures.compiled c.defaults-self-inside.ensures

@@ -1,0 +1,32 @@
+use Rattle.std.proofs.Common.{List, map, subst, sym}
+use Rattle.std.specs.Prelude.{Contains}
+use Rattle.std.specs.List.Sorted.{IsSorted}
+use Rattle.cil_base.specs.Lists.{Lists}
+use Rattle.cil_conditions.specs.declared.branch.Branch.{Branch}
+use Rattle.cil_rules.specs.declared.rule.NamedRule.{NamedRule}
+use Rattle.cil_rules.specs.Kept.{rule_named}
+use Rattle.cil_rules.specs.Order.{rule_cmp}
+use Rattle.cil_index.specs.declared.key.Entry.{Entry}
+use Rattle.cil_index.specs.declared.record.Record.{Record}
+use Rattle.cil_index.specs.Entries.{AreStarts, IsIndex, entry_cmp}
+use Rattle.cil_index.specs.Kept.{rule_of}
+use Rattle.cil_index.specs.Sets.{AreNumbered}
+use Rattle.cil_index.proofs.section.index_rules.Goals as goal
+
+pub starts_of-requires : goal.starts_of-requires
+starts_of-requires c = subst (IsSorted entry_cmp) (sym c.as_slice-4.ensures.value) (c.in_ok-entries.ensures c.args.branches.now.items).sorted
+
+pub returns-clause-index : goal.returns-clause-index
+returns-clause-index c = (
+  subst (λ (rs : List Record). IsIndex (map (rule_of c.args.branches.now.items c.args.sets.now) rs) c.in_ok-entries.entries.items) c.as_slice-3.ensures.value
+      (c.in_ok-entries.ensures c.args.branches.now.items),
+  subst (λ (es : List Entry). AreStarts es c.in_ok-starts.starts.items) c.as_slice-4.ensures.value c.in_ok-starts.ensures,
+)
+
+pub returns-clause-rules : goal.returns-clause-rules
+returns-clause-rules c = λ named rising are.
+    let sets = c.args.sets.now in
+    let records = c.in_ok-records.records.items in
+    subst (λ (bs : List Branch). Lists rule_cmp (Contains (map (rule_named bs named) c.args.rules.now.items)) (map (rule_of bs sets) records)) c.as_slice-branches.ensures.value
+    (subst (λ (rs : List NamedRule). Lists rule_cmp (Contains (map (rule_named c.as_slice-branches.result.now named) rs)) (map (rule_of c.as_slice-branches.result.now sets) records)) c.as_slice-2.ensures.value
+    (c.in_ok-records.ensures sets named rising (subst (AreNumbered sets named) (sym c.as_slice.ensures.value) are)))

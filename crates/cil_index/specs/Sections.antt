@@ -1,0 +1,22 @@
+-- The rules of a policy, by kind.
+use Rattle.std.specs.Prelude.{List, map}
+use Rattle.cil_conditions.specs.declared.branch.Branch.{Branch}
+use Rattle.cil_rules.specs.Rule.{Rule}
+use Rattle.cil_index.specs.declared.section.Indexed.{Indexed}
+use Rattle.cil_index.specs.Entries.{AreStarts, IsIndex}
+use Rattle.cil_index.specs.Kept.{rule_of}
+use Rattle.std.specs.Prelude.{ℕ}
+
+-- the rules that allow, those by which the use of a permission is recorded, and those by which its denial is not
+pub record RuleSections : Type 0 where
+  pub allow : List Rule
+  pub auditallow : List Rule
+  pub dontaudit : List Rule
+
+-- the rules of one kind, by their records
+abbrev pub rules_of : List Branch → List (List ℕ) → Indexed → List Rule
+rules_of branches sets r = map (rule_of branches sets) r.records.items
+
+-- their entries find them
+abbrev pub IsIndexed : List Branch → List (List ℕ) → Indexed → Type 0
+IsIndexed branches sets r = IsIndex (rules_of branches sets r) r.entries.items × AreStarts r.entries.items r.starts.items

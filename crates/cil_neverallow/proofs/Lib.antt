@@ -1,0 +1,9 @@
+pub mod EndLemmas
+pub mod LeastLemmas
+pub mod MeetLemmas
+pub mod NeverLemmas
+pub mod OrderLemmas
+pub mod SectionLemmas
+pub mod StatementLemmas
+pub mod TieLemmas
+pub mod ViolationLemmas

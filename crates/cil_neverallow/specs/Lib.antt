@@ -1,0 +1,6 @@
+pub mod Ends
+pub mod NeverFaults
+pub mod Numbered
+pub mod Overlaps
+pub mod Stated
+pub mod Violations

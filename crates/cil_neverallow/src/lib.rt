@@ -1,0 +1,13 @@
+//! Rules that a policy forbids itself: neverallow statements, and the allow statements that meet them.
+//!
+//! Start at `violations` in `forbidden.rt`. `specs/NeverFaults.antt` says which faults a policy has for its neverallow statements, by names.
+//! `specs/Overlaps.antt` says what the rules of two statements cover together and which of it is the least, and `specs/Violations.antt` which
+//! faults that gives, both by numbers. `statements.rt` keeps statements with their rules (`specs/Stated.antt`), `overlap.rt` compares two of
+//! them. No branch of a booleanif is asked of a statement: both count. What a rule says is read a crate below.
+#![tactic(auto)]
+
+mod forbidden;
+mod overlap;
+mod statements;
+
+pub use forbidden::{View, violations};

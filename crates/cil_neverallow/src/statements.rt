@@ -1,0 +1,211 @@
+//! Statements with the rules that they give. The rules of all are in one list, so a statement takes no memory of its own.
+
+ghost use Rattle.std.specs.Prelude.{◌≡◌, ◌<◌, ◌≤◌, ◌++◌, ◌∷◌, ℕ, [], Contains, IfOk, List, OnOk, false, length, map, true};
+ghost use Rattle.std.specs.List.Sorted.{IsStrictlySortedBy};
+ghost use Rattle.cil_base.specs.Lists.{text_cmp};
+ghost use Rattle.cil_syntax.specs.declared.kind.Kind as kinds;
+ghost use Rattle.cil_syntax.specs.declared.kind.Kind.TheVariants as variants;
+ghost use Rattle.cil_macros.specs.Items.{item_at, items_in, says_as_written};
+ghost use Rattle.cil_names.specs.Known.{AreStanding, IsKnown, enabled_in, row_in};
+ghost use Rattle.cil_names.specs.Numbers.{AreApart};
+ghost use Rattle.cil_names.specs.Resolves.{is_mapping};
+ghost use Rattle.cil_names.specs.Rows.{IsTableOf};
+ghost use Rattle.cil_classes.specs.declared.row.Class.{Class as ARow};
+ghost use Rattle.cil_classes.specs.ClassRows.{AreClasses};
+ghost use Rattle.cil_classes.specs.Held.{IsAssigned};
+ghost use Rattle.cil_classes.specs.NodeOrder.{node_cmp};
+ghost use Rattle.cil_classes.specs.Row.{most_permissions};
+ghost use Rattle.cil_rules.specs.declared.rule.NamedRule.{NamedRule as ARule};
+ghost use Rattle.cil_rules.specs.Records.{CaseBy, IsRuleOf, ignored};
+ghost use Rattle.cil_neverallow.specs.Stated.{AreHereOr, AreStatements, IsAdded, IsRunIn, Stated, stated_at, stated_in, stated_of};
+
+use cil_base::NoMemory;
+use cil_classes::{Class, ClassId, GivenPermissions};
+use cil_macros::Instances;
+use cil_names::Known;
+use cil_rules::{NamedRule, push_rules};
+use cil_sets::Numbers;
+use cil_syntax::Keyword;
+use std::alloc::Global;
+use std::marker::Model;
+
+/// Where the rules of a statement begin and end.
+#[derive(Clone, Copy, Debug)]
+pub struct Run {
+    pub place: usize,
+    pub from: usize,
+    pub to: usize,
+}
+
+/// A statement by its place among the instances, and its rules.
+#[derive(Clone, Copy)]
+pub struct Part<'s> {
+    pub place: usize,
+    pub rules: &'s [NamedRule],
+}
+
+/// Statements with their rules. Contracts see them as their list.
+#[derive(Debug, Drop)]
+pub struct Statements {
+    rules: Vec<NamedRule>,
+    runs: Vec<Run>,
+}
+
+impl Model for Statements {
+    ghost use Rattle.std.specs.Prelude.{List, map};
+    ghost use Rattle.cil_neverallow.specs.Stated.{AreRunsIn, Stated, stated_in};
+
+    ghost Value = { List Stated };
+
+    ghost view = { λ a. map (stated_in a.rules.items) a.runs.items };
+
+    ghost invariant = { λ a. AreRunsIn a.rules.items a.runs.items };
+}
+
+impl Statements {
+    /// No statements.
+    pub fn new(alloc: Global) -> Statements
+        ensures { result ≡ [] }
+    {
+        Statements {
+            rules: Vec::new(alloc),
+            runs: Vec::new(alloc),
+        }
+    }
+
+    /// How many statements there are.
+    pub fn len(&self) -> usize
+        ensures { result ≡ length self.now }
+    {
+        self.runs.len()
+    }
+
+    /// The statement of this number, counted from 0.
+    pub fn get(&self, number: usize) -> Part<'_>
+        requires { number < length self.now }
+        ensures { stated_of result ≡ stated_at self.now number }
+    {
+        let run = self.runs[number];
+        Part {
+            place: run.place,
+            rules: rules_in(self.rules.as_slice(), run),
+        }
+    }
+
+    /// All rules.
+    pub fn all_rules(&self) -> &[NamedRule]
+        ensures { (st : Stated) (r : ARule) → Contains self.now st → Contains st.rules r → Contains result.now r }
+    {
+        let _ = &self.runs;
+        self.rules.as_slice()
+    }
+
+    /// Adds a statement behind the others. Error: out of memory.
+    pub fn push(&mut self, place: usize, rules: &[NamedRule]) -> Result<(), NoMemory>
+        ensures { OnOk result (self.new ≡ self.old ++ record { place = place; rules = rules.now } ∷ []) }
+    {
+        let from = self.rules.len();
+        self.rules.extend_from_slice(rules)?;
+        let to = self.rules.len();
+        self.runs.push(Run { place, from, to })?;
+        Ok(())
+    }
+}
+
+/// A part of the rules.
+fn rules_in(rules: &[NamedRule], run: Run) -> &[NamedRule]
+    requires { IsRunIn rules.now run }
+    ensures { result.now ≡ (stated_in rules.now run).rules }
+{
+    &rules[run.from..run.to]
+}
+
+/// The enabled statements with this first word that cover something, whatever branch of a booleanif they are in, each with its rules, where
+/// the words of each declared name stand for these types. Error: out of memory.
+pub fn statements_of(
+    alloc: Global,
+    instances: &Instances,
+    known: &Known,
+    types: &[Numbers],
+    classes: &[Class],
+    given: &GivenPermissions,
+    keyword: Keyword,
+) -> Result<Statements, NoMemory>
+    requires table { IsTableOf (map (row_in known.now) (items_in instances.now)) known.now.words.now }
+    requires rising { (row : ARow) → Contains classes.now row → IsStrictlySortedBy text_cmp row.permissions }
+    requires few { (row : ARow) → Contains classes.now row → length row.permissions ≤ most_permissions }
+    requires nodes { IsStrictlySortedBy node_cmp given.now.nodes.items }
+    requires written { says_as_written keyword ≡ true }
+    requires plain { is_mapping keyword ≡ false }
+    ensures within { IfOk result (λ sts. (st : Stated) → Contains sts st → st.place < length (items_in instances.now)) }
+    ensures statements { IfOk result (λ sts. (names : kinds.Kind → List (List ℕ)) → IsKnown known.now (items_in instances.now) names
+        → AreApart known.now.lookup.names.now (enabled_in known.now) known.now.numbers.now
+        → AreStanding known.now (items_in instances.now) names variants.Type_ types.now
+        → AreClasses (items_in instances.now) (enabled_in known.now) (names variants.Class) classes.now
+        → IsAssigned known.now (items_in instances.now) classes.now given.now
+        → AreStatements (CaseBy (items_in instances.now) (enabled_in known.now) keyword ignored)
+        (IsRuleOf (items_in instances.now) (enabled_in known.now) (names variants.Type_) classes.now ignored) types.now (item_at instances.now) (length (items_in instances.now)) sts) }
+{
+    let mut statements = Statements::new(alloc);
+    let mut rules = Vec::new(alloc);
+    let mut masks = Vec::new(alloc);
+    for at in 0..instances.len() {
+        add_at(
+            alloc,
+            &mut statements,
+            &mut rules,
+            &mut masks,
+            instances,
+            at,
+            known,
+            types,
+            classes,
+            given,
+            keyword,
+        )?;
+    }
+    Ok(statements)
+}
+
+/// Adds the statement at a place, if it is an enabled one with this first word that covers something. The lists are room for its rules and
+/// its masks.
+fn add_at(
+    alloc: Global,
+    statements: &mut Statements,
+    rules: &mut Vec<NamedRule>,
+    masks: &mut Vec<(ClassId, u32)>,
+    instances: &Instances,
+    at: usize,
+    known: &Known,
+    types: &[Numbers],
+    classes: &[Class],
+    given: &GivenPermissions,
+    keyword: Keyword,
+) -> Result<(), NoMemory>
+    requires within { at < length (items_in instances.now) }
+    requires table { IsTableOf (map (row_in known.now) (items_in instances.now)) known.now.words.now }
+    requires rising { (row : ARow) → Contains classes.now row → IsStrictlySortedBy text_cmp row.permissions }
+    requires few { (row : ARow) → Contains classes.now row → length row.permissions ≤ most_permissions }
+    requires nodes { IsStrictlySortedBy node_cmp given.now.nodes.items }
+    requires written { says_as_written keyword ≡ true }
+    requires plain { is_mapping keyword ≡ false }
+    ensures places { OnOk result (AreHereOr statements.old at statements.new) }
+    ensures added { OnOk result ((names : kinds.Kind → List (List ℕ)) → IsKnown known.now (items_in instances.now) names
+        → AreApart known.now.lookup.names.now (enabled_in known.now) known.now.numbers.now
+        → AreStanding known.now (items_in instances.now) names variants.Type_ types.now
+        → AreClasses (items_in instances.now) (enabled_in known.now) (names variants.Class) classes.now
+        → IsAssigned known.now (items_in instances.now) classes.now given.now
+        → IsAdded (CaseBy (items_in instances.now) (enabled_in known.now) keyword ignored)
+        (IsRuleOf (items_in instances.now) (enabled_in known.now) (names variants.Type_) classes.now ignored) types.now (item_at instances.now at) at statements.old statements.new) }
+{
+    rules.clear();
+    let words = known.words.row(at);
+    push_rules(
+        alloc, rules, masks, instances, at, words, known, types, classes, given, 0, keyword,
+    )?;
+    if rules.len() == 0 {
+        return Ok(());
+    }
+    statements.push(at, rules.as_slice())?;
+    Ok(())
+}
