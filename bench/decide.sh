@@ -1,6 +1,6 @@
 #!/usr/bin/env bash
 # What a decision costs by the number of allow rules on its class: instructions of its questions to the three sections of rules
-# (`Section::covered`; `decide` itself is no function of the program), as callgrind counts them in sessions of 2,000 AV. Only
+# (`covered_in` of `cil_index`; `decide` itself is no function of the program), as callgrind counts them in sessions of 2,000 AV. Only
 # rules of one type on each side, then also rules of `self`. README.md says how to read the table.
 . "$(dirname "$0")/session_common.sh"
 command -v valgrind >/dev/null || { echo "this script needs valgrind" >&2; exit 2; }
@@ -47,7 +47,7 @@ calls_of_decide() {
         /^calls=/ {
             split($1, number, "=")
             getline
-            if (callee ~ /Section::covered/) { calls += number[2]; cost += $NF }
+            if (callee ~ /section::covered_in/) { calls += number[2]; cost += $NF }
         }
         END { print int(calls / 3), cost + 0 }' "$1"
 }
@@ -61,7 +61,7 @@ for form in plain self; do
         valgrind --tool=callgrind --callgrind-out-file="$work/calls" "$program" session <"$work/asked" >"$work/replies" 2>"$work/log"
         expect_no_refusal
         read -r calls cost <<<"$(calls_of_decide "$work/calls")"
-        [ "$calls" -gt 0 ] || { echo "no call of Section::covered: it is no function of this program" >&2; exit 1; }
+        [ "$calls" -gt 0 ] || { echo "no call of covered_in: it is no function of this program" >&2; exit 1; }
         one=$((cost / calls))
         growth=-
         if [ -n "$last" ]; then
