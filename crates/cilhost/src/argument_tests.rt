@@ -62,7 +62,7 @@ const HELP: &[(&[&str], &str)] = &[
     ),
     (
         &["--help"],
-        "block, blockabstract, blockinherit, macro, call and optional",
+        "neverallow, boolean and booleanif; block, blockabstract, blockinherit,",
     ),
     (&["help"], "Example:"),
     (&["session", "-h"], "Usage: cilhost session [FILE]..."),
