@@ -1,7 +1,8 @@
 #!/usr/bin/env python3
 """Writes the modules of a policy that is as large as the flat part of a distribution's policy, or as a whole one.
 
-usage: distribution.py [--blocks | --optionals [--scale N] | --attributes [--scale N] | --booleans [--scale N]] FOLDER
+usage: distribution.py [--blocks | --optionals [--scale N] | --attributes [--scale N] | --booleans [--scale N] |
+                        --whole [--scale N]] FOLDER
 
 The folder gets 187 files NAME.cil, the same on every run: 134 classes, 4,100 types, 5,300 roletype and 154,000 allow
 statements, about 11 MB in all. Names, classes and permissions are of the kind that distributions have; which type may
@@ -25,6 +26,12 @@ It takes --scale too, and the files queries and answers say what must follow.
 With --booleans it is that policy with 312 booleans: 20,000 of the rules are in branches of 1,429 booleanifs, and there
 are 30 neverallows over nearly all types, which nothing violates. It takes --scale too. Among the queries are requests
 SET, with the answer OK.
+
+With --whole it is a policy of the whole shape of a distribution's, but for levels and constraints: what --booleans has,
+most of it in 10,122 optionals, up to ten deep, of which 1,522 are out; 21,861 dontaudits and 330 auditallows beside the
+175,718 allow statements, 134 classes with 7 commons, and statements without effect on decisions. It takes --scale too,
+and the files are those of --optionals; counts has the number of all statements, and of those of each kind. Among the
+queries are requests SET and CHECK.
 """
 import os
 import sys
@@ -33,6 +40,7 @@ from distribution_attributes import Policy as Attributes
 from distribution_booleans import Policy as Booleans
 from distribution_library import Library
 from distribution_optionals import Policy
+from distribution_whole import Policy as Whole
 from distribution_words import DOMAINS, NAMES, OBJECTS, ROLES, USED, Numbers, allow, base, classes
 
 MODULES, TYPES, ROLETYPES, RULES = 187, 4100, 5300, 154_000
@@ -168,9 +176,20 @@ def with_sets(policy):
     }
 
 
+def with_all(scale):
+    """The files of the policy that has all of it, by their names."""
+    policy = Whole(scale)
+    counts = policy.counted()
+    return {
+        **with_sets(policy),
+        "optionals": sorted(policy.told),
+        "counts": [f"statements {sum(counts.values())}", *(f"{what} {count}" for what, count in sorted(counts.items()))],
+    }
+
+
 def main():
     arguments = sys.argv[1:]
-    forms = "--blocks", "--optionals", "--attributes", "--booleans"
+    forms = "--blocks", "--optionals", "--attributes", "--booleans", "--whole"
     form = arguments.pop(0) if arguments and arguments[0] in forms else None
     scale = 1
     if form in forms[1:] and len(arguments) == 3 and arguments[0] == "--scale" and arguments[1].isdecimal():
@@ -181,7 +200,7 @@ def main():
         return 0 if sys.argv[1:] == ["--help"] else 2
     scaled = {
         "--optionals": with_optionals, "--attributes": lambda scale: with_sets(Attributes(scale)),
-        "--booleans": lambda scale: with_sets(Booleans(scale)),
+        "--booleans": lambda scale: with_sets(Booleans(scale)), "--whole": with_all,
     }
     files = scaled[form](scale) if form in scaled else flat_or_in_blocks(form == "--blocks")
     os.makedirs(arguments[0], exist_ok=True)

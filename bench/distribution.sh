@@ -2,19 +2,21 @@
 # Times a session of the program cilhost that loads a policy as large as the flat part of a distribution's policy, which
 # distribution.py writes. With --blocks it also times one that loads the same policy in blocks, with inheritance and
 # calls of macros, and compares the answers of both. With --optionals it times sessions that load a policy of the shape
-# of a whole distribution's, with 10,000 optionals, and half of it. README.md says how to read the tables.
-# usage: bench/distribution.sh [--blocks | --optionals]
+# of a whole distribution's, with 10,000 optionals, and half of it. With --whole that policy has attributes, booleans and
+# audit rules too. README.md says how to read the tables.
+# usage: bench/distribution.sh [--blocks | --optionals | --whole]
 case "$#,$*" in
-    0, | 1,--blocks | 1,--optionals) ;;
-    *) echo "usage: bench/distribution.sh [--blocks | --optionals]" >&2; exit 2 ;;
+    0, | 1,--blocks | 1,--optionals | 1,--whole) ;;
+    *) echo "usage: bench/distribution.sh [--blocks | --optionals | --whole]" >&2; exit 2 ;;
 esac
 . "$(dirname "$0")/session_common.sh"
 
-# A row for the $1-th part of the policy with optionals. LOAD alone goes to $work/load_us, the number of queries to
-# $work/queries. Each optional has to be in or out, and each reply to a query has to be, as distribution.py says.
+# A row for the $2-th part of the policy with optionals that distribution.py writes with $1. LOAD alone goes to
+# $work/load_us, the number of queries to $work/queries. Each optional has to be in or out, and each reply to a query has
+# to be, as distribution.py says.
 row_with_optionals() {
-    local policy=$work/optionals$1 installed loaded peak out
-    "$here/distribution.py" --optionals --scale "$1" "$policy"
+    local policy=$work/policy$2 installed loaded peak out
+    "$here/distribution.py" "$1" --scale "$2" "$policy"
     for module in "$policy"/*.cil; do install_request "$module"; done >"$work/installed"
     { cat "$work/installed"; echo LOAD; } >"$work/loaded"
     { cat "$work/loaded"; printf 'OPTIONALS\nWHY\n'; cat "$policy/queries"; } >"$work/asked"
@@ -42,11 +44,11 @@ row_with_optionals() {
     }'
 }
 
-if [ "$*" = --optionals ]; then
+if [ "$*" = --optionals ] || [ "$*" = --whole ]; then
     printf '%10s %9s %5s %9s %8s %8s %12s\n' statements optionals out bytes 'LOAD ms' 'peak MB' 'peak / bytes'
-    row_with_optionals 2
+    row_with_optionals "$1" 2
     half=$(cat "$work/load_us")
-    row_with_optionals 1
+    row_with_optionals "$1" 1
     echo "which optionals are in, and $(cat "$work/queries") answers of each policy, are as they should be"
     awk -v half="$half" -v whole="$(cat "$work/load_us")" 'BEGIN {
         growth = whole / half

@@ -24,18 +24,22 @@ class Policy:
         self.numbers, self.scale, self.lists = Numbers(3), scale, classes()
         self.used = [(name, list_) for weight, name, lists in USED for list_ in lists
                      for _ in range(weight * 6 // len(lists))]
-        self.modules, self.types = self.some_types(max(len(NAMES) // scale, 8), TYPES // scale)
-        self.lines = {"base": base(self.lists), **{module: [] for module in self.modules}}
-        for module, own in self.modules.items():
-            self.lines[module] += [f"(type {type_})" for type_ in own]
+        self.start()
         # The members of each attribute. Those that operators make are made last, of others that are whole by then.
         self.members = {NEEDED: set()}
-        self.add_attributes(max(ATTRIBUTES // scale, len(WIDE) + 40))
+        self.add_attributes(max(self.so_many("typeattribute", ATTRIBUTES), len(WIDE) + 40))
         self.targets = {}
-        self.add_aliases(ALIASES // scale)
+        self.add_aliases(self.so_many("typealias", ALIASES))
         self.add_roles()
         self.allowed = {}
         self.add_rules(RULES // scale)
+
+    def start(self):
+        """Makes the modules, with their types."""
+        self.modules, self.types = self.some_types(max(len(NAMES) // self.scale, 8), TYPES // self.scale)
+        self.lines = {"base": base(self.lists), **{module: [] for module in self.modules}}
+        for module, own in self.modules.items():
+            self.lines[module] += [f"(type {type_})" for type_ in own]
 
     def some_types(self, modules, count):
         """The types of each module, its domains first, and all types."""
@@ -46,9 +50,18 @@ class Policy:
             types[name] += [f"{name}_file{extra}_t" for extra in range(own - len(suffixes))]
         return types, [type_ for own in types.values() for type_ in own]
 
-    def write(self, text):
-        """Adds a statement to some module."""
-        self.lines[self.numbers.one_of(list(self.modules))].append(text)
+    def write(self, *lines, module=None):
+        """Adds a statement to a module, else to some module. Returns whether it is in force."""
+        self.lines[module or self.numbers.one_of(list(self.modules))] += lines
+        return True
+
+    def declare(self, text):
+        """Adds a statement that has to be in force to some module."""
+        self.write(text)
+
+    def so_many(self, what, total):
+        """How many statements of a kind are still to be made, of so many in the whole policy."""
+        return total // self.scale
 
     # ---- sets
 
@@ -60,26 +73,26 @@ class Policy:
         for name in [NEEDED] + WIDE + narrow:
             self.lines["base"].append(f"(typeattribute {name})")
             self.members[name] = set()
-        for _ in range(SINGLE // self.scale):
+        for _ in range(self.so_many("single", SINGLE)):
             kind = self.numbers.below(10)
             attribute = NEEDED if kind < 8 else self.numbers.one_of(WIDE if kind == 8 else plain)
             type_ = self.numbers.one_of(self.types)
-            self.members[attribute].add(type_)
-            self.write(f"(typeattributeset {attribute} {'(' * (kind % 2)}{type_}{')' * (kind % 2)})")
-        for number in range(LISTS // self.scale):
+            if self.write(f"(typeattributeset {attribute} {'(' * (kind % 2)}{type_}{')' * (kind % 2)})"):
+                self.members[attribute].add(type_)
+        for number in range(self.so_many("list", LISTS)):
             attribute = NEEDED if number % 2 else self.numbers.one_of(plain)
             length = LONGEST if number == 0 else 2 + self.numbers.below(14)
             types = [self.numbers.one_of(self.types) for _ in range(length)]
-            self.members[attribute].update(types)
-            self.write(f"(typeattributeset {attribute} ({' '.join(types)}))")
+            if self.write(f"(typeattributeset {attribute} ({' '.join(types)}))"):
+                self.members[attribute].update(types)
         for number, attribute in enumerate(derived):
             first, second = self.numbers.one_of(WIDE), self.numbers.one_of(plain)
             both = [("and {0} (not ({1}))", self.members[first] - self.members[second]),
                     ("and ({0}) ({1})", self.members[first] & self.members[second]),
                     ("xor ({0}) {1}", self.members[first] ^ self.members[second]),
                     ("not ({0})", set(self.types) - self.members[first])][number % 4]
-            self.members[attribute] = set(both[1])
-            self.write(f"(typeattributeset {attribute} ({both[0].format(first, second)}))")
+            if self.write(f"(typeattributeset {attribute} ({both[0].format(first, second)}))"):
+                self.members[attribute] = set(both[1])
         self.attributes = WIDE + narrow
 
     def add_aliases(self, count):
@@ -91,28 +104,30 @@ class Policy:
                 target = self.numbers.one_of(list(self.targets))
                 type_ = self.targets[target]
             self.targets[alias] = type_
-            self.write(f"(typealias {alias})")
-            self.write(f"(typealiasactual {alias} {target})")
+            self.declare(f"(typealias {alias})")
+            self.declare(f"(typealiasactual {alias} {target})")
 
     def add_roles(self):
         """Gives each role its types, one by one and by attributes."""
         self.lines["base"] += [f"(roleattribute {NEEDED})", "(roleattribute plain_roles)"]
         self.lines["base"].append(f"(roleattributeset plain_roles ({' '.join(ROLES[1:4])}))")
-        for _ in range(NEEDED_ROLES // self.scale):
+        for _ in range(self.so_many("roleattributeset", NEEDED_ROLES)):
             self.write(f"(roleattributeset {NEEDED} {self.numbers.one_of(ROLES)})")
         self.lines["base"].append("(roletype system_r domain)")
         self.has_type = set(self.members["domain"])
         domains = [own[number] for own in self.modules.values() for number in range(len(DOMAINS))]
-        for number in range(ROLETYPES // self.scale - 1):
+        for number in range(self.so_many("roletype", ROLETYPES) - 1):
             role = "plain_roles" if number % 5 == 0 else ROLES[number // len(domains) % len(ROLES)]
             type_ = domains[number % len(domains)]
-            self.write(f"(roletype {role} {type_})")
-            if role == "system_r":
+            if self.write(f"(roletype {role} {type_})") and role == "system_r":
                 self.has_type.add(type_)
 
     # ---- rules
 
     def add_rules(self, count):
+        self.add_some(count)
+
+    def add_some(self, count):
         """Adds rules: of seven sources one is an attribute, and of five targets one, or an alias, or the source itself."""
         while count:
             module = self.numbers.one_of(list(self.modules))
@@ -128,10 +143,14 @@ class Policy:
             else:
                 target = self.numbers.one_of(own if kind < 30 else self.types)
             name, list_ = self.numbers.one_of(self.used)
-            self.lines[module].append(allow(source, target, name, list_))
+            self.add_rule(module, source, target, name, list_)
+            count -= 1
+
+    def add_rule(self, module, source, target, name, list_):
+        """Adds a rule to a module, and keeps what it allows."""
+        if self.write(allow(source, target, name, list_), module=module):
             key = source, self.targets.get(target, target), name
             self.allowed.setdefault(key, set()).update(list_.split())
-            count -= 1
 
     # ---- what there is to write
 

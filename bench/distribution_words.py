@@ -18,6 +18,13 @@ PROCESS = ("dyntransition execheap execmem execstack fork getattr getcap getpgid
            "share sigchld siginh sigkill signal signull sigstop transition")
 NETLINK = " nlmsg_read nlmsg_write"
 
+# What classes have in common: a class with all permissions of one of these has it.
+COMMONS = {
+    "file": FILE, "socket": SOCKET, "ipc": IPC, "cap": CAPABILITY, "cap2": CAPABILITY2,
+    "database": "create drop getattr relabelfrom relabelto setattr",
+    "x_device": "create destroy getattr list_property read setattr write",
+}
+
 # Classes with a list of permissions of their own.
 OWN = {
     "file": FILE + " entrypoint execute_no_trans", "dir": FILE + " add_name remove_name reparent rmdir search",
@@ -128,6 +135,19 @@ def base(lists):
     for user, roles in USERS.items():
         lines += [f"(user {user})"] + [f"(userrole {user} {role})" for role in roles]
     return lines
+
+
+def base_with_commons(lists):
+    """The same with commons."""
+    lines = [f"(common {name} ({list_}))" for name, list_ in COMMONS.items()]
+    for name, list_ in lists.items():
+        own = set(list_.split())
+        common = next((common for common, shared in COMMONS.items() if set(shared.split()) <= own), None)
+        if common:
+            own -= set(COMMONS[common].split())
+            lines.append(f"(classcommon {name} {common})")
+        lines.append(f"(class {name} ({' '.join(sorted(own))}))")
+    return lines + base({})
 
 
 def allow(source, target, name, list_):

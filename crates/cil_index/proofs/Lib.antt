@@ -1,5 +1,6 @@
 mod CoverLemmas
 mod GatherLemmas
+mod MembershipLemmas
 mod IndexLemmas
 mod KeyLemmas
 mod NumberLemmas

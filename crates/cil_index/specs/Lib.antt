@@ -1,5 +1,6 @@
 pub mod Entries
 pub mod Found
+pub mod Memberships
 pub mod Kept
 pub mod Order
 pub mod Searched

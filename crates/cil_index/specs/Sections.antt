@@ -18,5 +18,5 @@ abbrev pub rules_of : List Branch → List (List ℕ) → Indexed → List Rule
 rules_of branches sets r = map (rule_of branches sets) r.records.items
 
 -- their entries find them
-abbrev pub IsIndexed : List Branch → List (List ℕ) → Indexed → Type 0
-IsIndexed branches sets r = IsIndex (rules_of branches sets r) r.entries.items × AreStarts r.entries.items r.starts.items
+abbrev pub IsIndexed : List (List ℕ) → Indexed → Type 0
+IsIndexed sets r = IsIndex sets r.records.items r.entries.items × AreStarts r.entries.items r.starts.items

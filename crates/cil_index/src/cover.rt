@@ -1,31 +1,34 @@
 //! What rules cover, by the index.
 
-ghost use Rattle.std.specs.Prelude.{◌≡◌, ◌↔◌, ℕ, IfSome, IsBitSet, IsTrue, Contains, Some, slice_get};
+ghost use Rattle.std.specs.Prelude.{◌≡◌, ◌↔◌, ℕ, [], get_or, IsBitSet, IsTrue, Contains, Some};
 ghost use Rattle.std.specs.List.Sorted.{IsSorted};
 ghost use Rattle.cil_rules.specs.Covers.{HasCover, Reaches};
 ghost use Rattle.cil_rules.specs.Rule.{Rule as ARule};
 ghost use Rattle.cil_index.specs.declared.key.Entry.{Entry as AnEntry};
-ghost use Rattle.cil_index.specs.Entries.{AreStarts, IsIndex, entry_cmp};
+ghost use Rattle.cil_index.specs.Entries.{AreStarts, IsIndex, IsOf, entry_cmp, in_key};
+ghost use Rattle.cil_index.specs.Memberships.{AreMemberships};
 ghost use Rattle.cil_conditions.specs.Active.{is_active};
 ghost use Rattle.cil_conditions.specs.Bits.{is_on};
 ghost use Rattle.cil_rules.specs.Kept.{branch_named, target_named};
 ghost use Rattle.cil_index.specs.Kept.{rule_of};
-ghost use Rattle.cil_index.specs.Found.{CoversAt, Matches};
+ghost use Rattle.cil_index.specs.Found.{CoversAt, HandOver, Matches};
 ghost use Rattle.cil_index.specs.Searched.{rules_in};
-ghost use Rattle.cil_index.specs.Sets.{set_of};
 
-use crate::index::{class_part, with_key};
-use crate::key::{Entry, Key, SEVERAL, key_of_type};
+use crate::index::{class_part, of_source, with_key};
+use crate::key::{Entry, Key, SEVERAL, next_key, number_key};
+use crate::memberships::Memberships;
 use crate::record::Record;
 use crate::sets::Sets;
 use cil_conditions::{Branch, Settings};
 use cil_rules::Reach;
+use cil_sets::Numbers;
 
 /// The rules that are searched, by their records.
 #[derive(Clone, Copy)]
 pub struct Searched<'s> {
     pub branches: &'s [Branch],
     pub sets: &'s Sets,
+    pub memberships: &'s Memberships,
     pub records: &'s [Record],
 }
 
@@ -37,7 +40,9 @@ pub struct Asked {
     pub class: usize,
 }
 
-/// The permissions that the rules cover, by their index. It takes no memory: at most four searches by halving.
+/// The permissions that the rules cover, by their index. It takes no memory: for each set that has the source it costs a search by halving
+/// among the entries of the class, two more among those that are left if the class has rules from this set, and a test of each that may reach
+/// the target.
 pub fn covered(
     searched: &Searched,
     entries: &[Entry],
@@ -45,24 +50,78 @@ pub fn covered(
     settings: &Settings,
     asked: &Asked,
 ) -> u32
-    requires index { IsIndex (rules_in searched.now) entries.now }
+    requires index { IsIndex searched.now.sets.now searched.now.records.now entries.now }
     requires starts { AreStarts entries.now starts.now }
+    requires memberships { AreMemberships searched.now.sets.now searched.now.memberships.now }
     ensures { (bit : ℕ) → IsBitSet result bit ↔ HasCover (is_on settings.now) (rules_in searched.now) asked.now.source asked.now.target asked.now.class bit }
 {
-    let class = key_of_type(asked.class);
-    let source = key_of_type(asked.source);
-    let target = key_of_type(asked.target);
-    let part = class_part(entries, starts, class);
-    found(searched, part, settings, asked, key(class, source, target))
-        | found(searched, part, settings, asked, key(class, source, SEVERAL))
-        | found(searched, part, settings, asked, key(class, SEVERAL, target))
-        | found(
-            searched,
-            part,
-            settings,
-            asked,
-            key(class, SEVERAL, SEVERAL),
-        )
+    let part = class_part(entries, starts, number_key(asked.class));
+    if part.len() == 0 {
+        return 0;
+    }
+    let large = &searched.memberships.large;
+    by_source(searched, part, settings, asked, next_key(asked.source))
+        | by_sources(searched, part, settings, asked, large)
+        | by_own(searched, part, settings, asked)
+}
+
+/// The permissions of the rules whose sources are a set that is noted for the source, and that cover what is asked.
+fn by_own(searched: &Searched, part: &[Entry], settings: &Settings, asked: &Asked) -> u32
+    requires { IsSorted entry_cmp part.now }
+    ensures sound { (bit : ℕ) → IsBitSet result bit → HasCover (is_on settings.now) (rules_in searched.now) asked.now.source asked.now.target asked.now.class bit }
+    ensures all { HandOver (is_on settings.now) (rules_in searched.now) asked.now part.now (λ n. Contains (get_or searched.now.memberships.now.lists.items asked.now.source []) n) result }
+{
+    match searched.memberships.of_type(asked.source) {
+        Some(numbers) => by_sources(searched, part, settings, asked, numbers),
+        None => 0,
+    }
+}
+
+/// The permissions of the rules whose sources are one of these sets, and that cover what is asked.
+fn by_sources(
+    searched: &Searched,
+    part: &[Entry],
+    settings: &Settings,
+    asked: &Asked,
+    numbers: &Numbers,
+) -> u32
+    requires { IsSorted entry_cmp part.now }
+    ensures sound { (bit : ℕ) → IsBitSet result bit → HasCover (is_on settings.now) (rules_in searched.now) asked.now.source asked.now.target asked.now.class bit }
+    ensures all { HandOver (is_on settings.now) (rules_in searched.now) asked.now part.now (λ n. Contains numbers.now n) result }
+{
+    let mut mask = 0;
+    let mut start = 0;
+    while let Some(number) = numbers.next_from(start) {
+        mask |= by_source(searched, part, settings, asked, number_key(number));
+        if number >= SEVERAL as usize {
+            return mask;
+        }
+        start = number + 1;
+    }
+    mask
+}
+
+/// The permissions of the rules with the class and a source that cover what is asked: those that reach the target alone, or several types.
+fn by_source(
+    searched: &Searched,
+    part: &[Entry],
+    settings: &Settings,
+    asked: &Asked,
+    source: u32,
+) -> u32
+    requires { IsSorted entry_cmp part.now }
+    ensures sound { (bit : ℕ) → IsBitSet result bit → HasCover (is_on settings.now) (rules_in searched.now) asked.now.source asked.now.target asked.now.class bit }
+    ensures all { (e : AnEntry) (bit : ℕ) → Contains part.now e → IsOf (in_key asked.now.class) source (in_key asked.now.target) e.key → CoversAt (is_on settings.now) (rules_in searched.now) asked.now.source asked.now.target asked.now.class e.place bit → IsBitSet result bit }
+{
+    let class = number_key(asked.class);
+    let target = number_key(asked.target);
+    let rest = of_source(part, class, source);
+    // Of most sets the class has no rule.
+    if rest.len() == 0 {
+        return 0;
+    }
+    found(searched, rest, settings, asked, key(class, source, target))
+        | found(searched, rest, settings, asked, key(class, source, SEVERAL))
 }
 
 /// A key of these parts.
@@ -85,74 +144,16 @@ fn found(searched: &Searched, part: &[Entry], settings: &Settings, asked: &Asked
     joined(searched, settings, asked, with_key(part, &key))
 }
 
-/// The permissions of the rules of some entries that cover what is asked. Rules whose sources are one set stand behind one another, so a
-/// set that lacks the source is asked once.
+/// The permissions of the rules of some entries that cover what is asked.
 fn joined(searched: &Searched, settings: &Settings, asked: &Asked, entries: &[Entry]) -> u32
     ensures sound { (bit : ℕ) → IsBitSet result bit → HasCover (is_on settings.now) (rules_in searched.now) asked.now.source asked.now.target asked.now.class bit }
     ensures all { (e : AnEntry) (bit : ℕ) → Contains entries.now e → CoversAt (is_on settings.now) (rules_in searched.now) asked.now.source asked.now.target asked.now.class e.place bit → IsBitSet result bit }
 {
     let mut mask = 0;
-    let mut lacking = None;
     for entry in entries {
-        let tested = test_at(searched, settings, asked, entry.place as usize, lacking);
-        mask |= tested.mask;
-        lacking = tested.lacking;
+        mask |= mask_at(searched, settings, asked, entry.place as usize);
     }
     mask
-}
-
-/// What the rule at a place adds, and the number of a set that lacks the source, if one was met.
-#[derive(Clone, Copy)]
-struct Tested {
-    mask: u32,
-    lacking: Option<u32>,
-}
-
-/// Tests the rule at a place, where the set of this number lacks the source.
-fn test_at(
-    searched: &Searched,
-    settings: &Settings,
-    asked: &Asked,
-    place: usize,
-    lacking: Option<u32>,
-) -> Tested
-    requires { IfSome lacking (λ set. Contains (set_of searched.now.sets.now set) asked.now.source → ⊥) }
-    ensures mask { (bit : ℕ) → IsBitSet result.mask bit ↔ CoversAt (is_on settings.now) (rules_in searched.now) asked.now.source asked.now.target asked.now.class place bit }
-    ensures lacking { IfSome result.lacking (λ set. Contains (set_of searched.now.sets.now set) asked.now.source → ⊥) }
-{
-    let source = source_at(searched, place);
-    if is_that(lacking, source) {
-        return Tested { mask: 0, lacking };
-    }
-    if !searched.sets.has(source, asked.source) {
-        return Tested {
-            mask: 0,
-            lacking: Some(source),
-        };
-    }
-    Tested {
-        mask: mask_at(searched, settings, asked, place),
-        lacking,
-    }
-}
-
-fn is_that(known: Option<u32>, number: u32) -> bool
-    ensures { IsTrue result → known ≡ Some number }
-{
-    match known {
-        Some(known) => known == number,
-        None => false,
-    }
-}
-
-/// The number of the source set of the rule at a place.
-fn source_at(searched: &Searched, place: usize) -> u32
-    ensures { (r : ARule) → slice_get (rules_in searched.now) place ≡ Some r → set_of searched.now.sets.now result ≡ r.source }
-{
-    match searched.records.get(place) {
-        Some(kept) => kept.source,
-        None => 0,
-    }
 }
 
 /// The permissions of the rule at a place, where it is on what is asked.

@@ -1,15 +1,13 @@
 //! The index of rules: sorted entries, searched by halving.
 
-ghost use Rattle.std.specs.Prelude.{◌≡◌, ◌≤◌, ◌<◌, ℕ, Contains, IfOk, IfSome, List, Some, get_or, length, map, slice_get};
+ghost use Rattle.std.specs.Prelude.{◌≡◌, ◌≤◌, ◌<◌, Contains, IfOk, IfSome, IsFalse, Some, get_or, length, slice_get};
 ghost use Rattle.std.specs.Ordering.{ordering_index};
 ghost use Rattle.std.specs.List.Sorted.{IsPartitionPoint, IsSorted};
-ghost use Rattle.cil_conditions.specs.declared.branch.Branch.{Branch as ABranch};
-ghost use Rattle.cil_rules.specs.Rule.{Rule as ARule};
 ghost use Rattle.cil_index.specs.declared.key.Entry.{Entry as AnEntry};
-ghost use Rattle.cil_index.specs.Entries.{AreBoundsAt, AreStarts, HasEntries, IsIndex, IsPart, entry_cmp, key_cmp, key_of_rule};
-ghost use Rattle.cil_index.specs.Kept.{rule_of};
+ghost use Rattle.cil_index.specs.Entries.{AreBoundsAt, AreStarts, HasEntries, IsIndex, IsPart, entry_cmp, key_cmp, key_of_record, several};
+ghost use Rattle.cil_index.specs.declared.record.Record.{Record as ARecord};
 
-use crate::key::{Entry, Key, key_of_type, rank};
+use crate::key::{Entry, Key, number_key, rank};
 use crate::record::Record;
 use crate::sets::Sets;
 use cil_base::NoMemory;
@@ -90,18 +88,47 @@ fn part(entries: &[Entry], bounds: Bounds) -> &[Entry]
     &entries[from..to]
 }
 
-/// The index of some rules: an entry for each, sorted. Errors: out of memory.
+/// Entries among which are all of a class and a set of sources. It costs a search by halving.
+pub fn of_source(entries: &[Entry], class: u32, source: u32) -> &[Entry]
+    requires { IsSorted entry_cmp entries.now }
+    ensures all { (e : AnEntry) → Contains entries.now e → e.key.class ≡ class → e.key.source ≡ source → e.key.target ≤ several → Contains result.now e }
+    ensures sorted { IsSorted entry_cmp result.now }
+{
+    let least = Key {
+        class,
+        source,
+        target: 0,
+    };
+    let rest = &entries[start_of(entries, &least)..];
+    if begins_with(rest, class, source) {
+        rest
+    } else {
+        &rest[..0]
+    }
+}
+
+/// Whether the first entry is of a class and a set of sources.
+fn begins_with(entries: &[Entry], class: u32, source: u32) -> bool
+    ensures { IsFalse result → (d : AnEntry) → 0 < length entries.now → (get_or entries.now 0 d).key.class ≡ class → (get_or entries.now 0 d).key.source ≡ source → ⊥ }
+{
+    match entries.get(0) {
+        Some(first) => first.key.class == class && first.key.source == source,
+        None => false,
+    }
+}
+
+/// The index of some records: an entry for each, sorted. Errors: out of memory.
 pub fn index_of(alloc: Global, sets: &Sets, records: &[Record]) -> Result<Vec<Entry>, NoMemory>
-    ensures { IfOk result (λ index. (branches : List ABranch) → IsIndex (map (rule_of branches sets.now) records.now) index.items) }
+    ensures { IfOk result (λ index. IsIndex sets.now records.now index.items) }
 {
     let mut entries = unsorted(alloc, sets, records)?;
     entries.sort_unstable();
     Ok(entries)
 }
 
-/// An entry for each rule, in the order of the rules.
+/// An entry for each record, in their order.
 fn unsorted(alloc: Global, sets: &Sets, records: &[Record]) -> Result<Vec<Entry>, NoMemory>
-    ensures { IfOk result (λ index. (branches : List ABranch) → HasEntries (map (rule_of branches sets.now) records.now) index.items) }
+    ensures { IfOk result (λ index. HasEntries sets.now records.now index.items) }
 {
     let mut entries = Vec::with_capacity(alloc, records.len())?;
     for place in 0..records.len() {
@@ -110,11 +137,10 @@ fn unsorted(alloc: Global, sets: &Sets, records: &[Record]) -> Result<Vec<Entry>
     Ok(entries)
 }
 
-/// The entry of the rule at a place. Beyond 4,294,967,296 rules it is out of memory.
+/// The entry of the record at a place. Beyond 4,294,967,296 records it is out of memory.
 fn entry_at(sets: &Sets, records: &[Record], place: usize) -> Result<Entry, NoMemory>
     requires { place < length records.now }
-    ensures { IfOk result (λ e. (branches : List ABranch) (r : ARule) → slice_get (map (rule_of branches sets.now) records.now) place ≡ Some r
-        → e ≡ record { key = key_of_rule r; place = place }) }
+    ensures { IfOk result (λ e. (k : ARecord) → slice_get records.now place ≡ Some k → e ≡ record { key = key_of_record sets.now k; place = place }) }
 {
     if place > u32::MAX as usize {
         return Err(NoMemory);
@@ -125,17 +151,16 @@ fn entry_at(sets: &Sets, records: &[Record], place: usize) -> Result<Entry, NoMe
     })
 }
 
-/// The key of a rule.
+/// The key of a record.
 fn key_of(sets: &Sets, kept: &Record) -> Key
-    ensures { (branches : List ABranch) → result ≡ key_of_rule (rule_of branches sets.now kept.now) }
+    ensures { result ≡ key_of_record sets.now kept.now }
 {
-    let source = sets.key(kept.source);
     Key {
-        class: key_of_type(kept.class as usize),
-        source,
+        class: number_key(kept.class as usize),
+        source: number_key(kept.source as usize),
         target: match kept.target {
             Reach::Types(set) => sets.key(set),
-            Reach::Itself => source,
+            Reach::Itself => sets.key(kept.source),
         },
     }
 }

@@ -1,20 +1,22 @@
-//! By what a rule is found: its class, and its source and its target where these are one type.
+//! By what a rule is found: its class, the number of the set of its sources, and its target where that is one type.
 
-ghost use Rattle.std.specs.Prelude.{◌≡◌, ℕ, refl};
+ghost use Rattle.std.specs.Prelude.{◌≡◌, ℕ, refl, suc};
 ghost use Rattle.std.specs.Cmp.{eq_by_cmp_equiv, partial_equiv_from_equiv, partial_order_from_total};
 ghost use Rattle.std.specs.Ordering.{as_partial_cmp, eq_by_cmp, ordering_index};
 ghost use Rattle.cil_index.specs.Entries.{entry_cmp, entry_total, in_key, key_cmp};
 
 use std::cmp::Ordering;
 
-/// What stands in a key for all but one type.
+/// What stands in a key for all but one type, and for a number for which a key has no room.
 pub const SEVERAL: u32 = u32::MAX;
 
-/// A class, a source and a target, by their numbers.
+/// A class, a set of sources and a target, by their numbers.
 #[derive(Clone, Copy, Debug)]
 pub struct Key {
     pub class: u32,
+    /// The number of the set.
     pub source: u32,
+    /// The number of the type, if it is one alone.
     pub target: u32,
 }
 
@@ -29,12 +31,23 @@ pub struct Entry {
 // Policies have hundreds of thousands of rules.
 const _: () = prove!(size_of::<Entry>() <= 16);
 
-/// What stands in a key for a type or a class: its number, where there is room for it.
-pub fn key_of_type(number: usize) -> u32
+/// What stands in a key for a type, a set or a class: its number, where there is room for it.
+pub fn number_key(number: usize) -> u32
     ensures { result ≡ in_key number }
 {
     if number < SEVERAL as usize {
         number as u32
+    } else {
+        SEVERAL
+    }
+}
+
+/// What stands in a key for the number behind another.
+pub fn next_key(number: usize) -> u32
+    ensures { result ≡ in_key (suc number) }
+{
+    if number < SEVERAL as usize - 1 {
+        number as u32 + 1
     } else {
         SEVERAL
     }

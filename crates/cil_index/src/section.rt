@@ -10,12 +10,14 @@ ghost use Rattle.cil_rules.specs.Kept.{rule_named};
 ghost use Rattle.cil_rules.specs.Order.{rule_cmp};
 ghost use Rattle.cil_sets.specs.Answers.{set_cmp};
 ghost use Rattle.cil_index.specs.Found.{CoversAt};
+ghost use Rattle.cil_index.specs.Memberships.{AreMemberships};
 ghost use Rattle.cil_index.specs.Sections.{IsIndexed, rules_of};
 ghost use Rattle.cil_index.specs.Sets.{AreNumbered};
 
 use crate::cover::{Asked, Searched, covered, mask_at};
 use crate::index::{index_of, starts_of};
 use crate::key::Entry;
+use crate::memberships::Memberships;
 use crate::record::{Record, records_of};
 use crate::sets::{Sets, numbers_of};
 use cil_base::NoMemory;
@@ -34,24 +36,26 @@ struct Indexed {
 }
 
 /// The rules of a policy, by kind. Contracts see them as their lists. A rule takes 40 bytes, however many types its sets have and however
-/// long its condition is; each set of several types and each branch is kept once for all kinds.
+/// long its condition is; each set of several types, the numbers of those that have a type, and each branch are kept once for all kinds.
 #[derive(Debug, Drop)]
 pub struct Sections {
     branches: Vec<Branch>,
     sets: Sets,
+    memberships: Memberships,
     allow: Indexed,
     auditallow: Indexed,
     dontaudit: Indexed,
 }
 
 impl Model for Sections {
+    ghost use Rattle.cil_index.specs.Memberships.{AreMemberships};
     ghost use Rattle.cil_index.specs.Sections.{IsIndexed, RuleSections, rules_of};
 
     ghost Value = { RuleSections };
 
     ghost view = { λ a. record { allow = rules_of a.branches.items a.sets a.allow; auditallow = rules_of a.branches.items a.sets a.auditallow; dontaudit = rules_of a.branches.items a.sets a.dontaudit } };
 
-    ghost invariant = { λ a. IsIndexed a.branches.items a.sets a.allow × IsIndexed a.branches.items a.sets a.auditallow × IsIndexed a.branches.items a.sets a.dontaudit };
+    ghost invariant = { λ a. AreMemberships a.sets a.memberships × IsIndexed a.sets a.allow × IsIndexed a.sets a.auditallow × IsIndexed a.sets a.dontaudit };
 }
 
 /// Rules as they are handed on, by kind.
@@ -81,6 +85,7 @@ impl Sections {
         ensures dontaudit { IfOk result (λ s. Lists rule_cmp (Contains (map (rule_named branches.items named.now) rules.now.dontaudit.items)) s.dontaudit) }
     {
         let sets = Sets::of(alloc, named)?;
+        let memberships = Memberships::of(alloc, &sets)?;
         let numbers = numbers_of(alloc, &sets, named)?;
         let allow = index_rules(alloc, &branches, &sets, &numbers, &rules.allow, classes)?;
         let auditallow = index_rules(
@@ -95,19 +100,27 @@ impl Sections {
         Ok(Sections {
             branches,
             sets,
+            memberships,
             allow,
             auditallow,
             dontaudit,
         })
     }
 
-    /// The permissions that are allowed on a class and a pair of types, by these settings. It takes no memory: it costs four searches by
-    /// halving, a step for each rule on the class whose source is the type or several types, and whose target is, and one for each part of
-    /// the condition of one that covers.
+    /// The permissions that are allowed on a class and a pair of types, by these settings. It takes no memory: it costs three searches by
+    /// halving for each set that has the source, a test of each of their rules on the class that reaches several types, and a step for each
+    /// part of the condition of one that covers.
     pub fn allowed(&self, settings: &Settings, asked: &Asked) -> u32
         ensures { (bit : ℕ) → IsBitSet result bit ↔ HasCover (is_on settings.now) self.now.allow asked.now.source asked.now.target asked.now.class bit }
     {
-        covered_in(&self.branches, &self.sets, &self.allow, settings, asked)
+        covered_in(
+            &self.branches,
+            &self.sets,
+            &self.memberships,
+            &self.allow,
+            settings,
+            asked,
+        )
     }
 
     /// The permissions whose use is recorded. It costs what `allowed` costs.
@@ -117,6 +130,7 @@ impl Sections {
         covered_in(
             &self.branches,
             &self.sets,
+            &self.memberships,
             &self.auditallow,
             settings,
             asked,
@@ -127,7 +141,14 @@ impl Sections {
     pub fn excepted(&self, settings: &Settings, asked: &Asked) -> u32
         ensures { (bit : ℕ) → IsBitSet result bit ↔ HasCover (is_on settings.now) self.now.dontaudit asked.now.source asked.now.target asked.now.class bit }
     {
-        covered_in(&self.branches, &self.sets, &self.dontaudit, settings, asked)
+        covered_in(
+            &self.branches,
+            &self.sets,
+            &self.memberships,
+            &self.dontaudit,
+            settings,
+            asked,
+        )
     }
 
     /// The permissions that the rule at a place among those that allow covers. It takes no memory.
@@ -137,6 +158,7 @@ impl Sections {
         let searched = Searched {
             branches: self.branches.as_slice(),
             sets: &self.sets,
+            memberships: &self.memberships,
             records: self.allow.records.as_slice(),
         };
         mask_at(&searched, settings, asked, place)
@@ -154,16 +176,19 @@ impl Sections {
 fn covered_in(
     branches: &Vec<Branch>,
     sets: &Sets,
+    memberships: &Memberships,
     rules: &Indexed,
     settings: &Settings,
     asked: &Asked,
 ) -> u32
-    requires { IsIndexed branches.now.items sets.now rules.now }
+    requires memberships { AreMemberships sets.now memberships.now }
+    requires index { IsIndexed sets.now rules.now }
     ensures { (bit : ℕ) → IsBitSet result bit ↔ HasCover (is_on settings.now) (rules_of branches.now.items sets.now rules.now) asked.now.source asked.now.target asked.now.class bit }
 {
     let searched = Searched {
         branches: branches.as_slice(),
         sets,
+        memberships,
         records: rules.records.as_slice(),
     };
     let entries = rules.entries.as_slice();
@@ -181,7 +206,7 @@ fn index_rules(
     classes: usize,
 ) -> Result<Indexed, NoMemory>
     requires { IsStrictlySortedBy branch_cmp branches.now.items }
-    ensures index { IfOk result (IsIndexed branches.now.items sets.now) }
+    ensures index { IfOk result (IsIndexed sets.now) }
     ensures rules { IfOk result (λ r. (named : List (List ℕ)) → IsStrictlySortedBy set_cmp sets.now → AreNumbered sets.now named numbers.now.items
         → Lists rule_cmp (Contains (map (rule_named branches.now.items named) rules.now.items)) (rules_of branches.now.items sets.now r)) }
 {

@@ -4,9 +4,9 @@ ghost use Rattle.std.specs.Prelude.{◌≡◌, ◌↔◌, ◌<◌, ℕ, suc, [],
 ghost use Rattle.std.specs.List.Sorted.{IsStrictlySortedBy};
 ghost use Rattle.cil_sets.specs.Answers.{set_cmp};
 ghost use Rattle.cil_index.specs.Entries.{key_of_set};
-ghost use Rattle.cil_index.specs.Sets.{AreNumbered, IsSmallNumber, set_of};
+ghost use Rattle.cil_index.specs.Sets.{AreNumbered, IsSmallNumber, all_sets, set_of};
 
-use crate::key::{SEVERAL, key_of_type};
+use crate::key::{SEVERAL, number_key};
 use cil_base::NoMemory;
 use cil_sets::Numbers;
 use std::alloc::Global;
@@ -93,6 +93,13 @@ impl Model for Sets {
     ghost invariant = { λ a. AreSeveral a.several.items × IsStrictlySortedBy set_cmp a.several.items };
 }
 
+/// The sets of several types, and how many of one type alone stand in front of them.
+#[derive(Clone, Copy)]
+pub struct Parts<'s> {
+    pub ones: u32,
+    pub several: &'s [Numbers],
+}
+
 impl Sets {
     /// Some sets, each once. It costs a step for each of their blocks, and a sort of the sets of several types. Errors: out of memory.
     pub fn of(alloc: Global, named: &[Numbers]) -> Result<Sets, NoMemory>
@@ -121,7 +128,17 @@ impl Sets {
         }
     }
 
-    /// By what a set is found: by its type, where it has just one.
+    /// Those of several types, and how many sets of one type alone stand in front of them.
+    pub fn parts(&self) -> Parts<'_>
+        ensures { all_sets result.ones result.several.now ≡ self.now }
+    {
+        Parts {
+            ones: self.ones,
+            several: self.several.as_slice(),
+        }
+    }
+
+    /// By what a set is found as a target: by its type, where it has just one.
     pub fn key(&self, set: u32) -> u32
         ensures { result ≡ key_of_set (set_of self.now set) }
     {
@@ -132,7 +149,7 @@ impl Sets {
         if set > ones {
             return SEVERAL;
         }
-        key_of_type((set - 1) as usize)
+        number_key((set - 1) as usize)
     }
 
     /// The number of a set that is among them. Errors: out of memory, which is the answer if there are more than 4,294,967,295.

@@ -3,6 +3,7 @@ pub mod LeastLemmas
 pub mod MeetLemmas
 pub mod NeverLemmas
 pub mod OrderLemmas
+pub mod PermissionLemmas
 pub mod SectionLemmas
 pub mod StatementLemmas
 pub mod TieLemmas

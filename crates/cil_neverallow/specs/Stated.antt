@@ -5,6 +5,7 @@ use Rattle.cil_macros.specs.Item.{Item}
 use Rattle.cil_rules.specs.Kept.{rule_named}
 use Rattle.cil_rules.specs.Rule.{Rule}
 use Rattle.cil_rules.specs.declared.rule.NamedRule.{NamedRule}
+use Rattle.cil_neverallow.specs.Permissions.{AreApart}
 use Rattle.cil_neverallow.specs.declared.statements.Part.{Part}
 use Rattle.cil_neverallow.specs.declared.statements.Run.{Run}
 
@@ -26,6 +27,10 @@ pub record AreStatements {K : Type 0} (asked : Item → K → Type 0) (gives : K
   pub all : (place : ℕ) (k : K) → place < n → asked (at place) k → (st : Stated) × Contains sts st × (st.place ≡ place)
 
 -- ---- private words
+
+-- a statement that was not kept has no rule with one of these permissions
+abbrev pub AreLeftOut : List ℕ → List Stated → List Stated → Type 0
+AreLeftOut masks sts kept = (st : Stated) → Contains sts st → Contains kept st ⊎ AreApart masks st.rules
 
 -- the statement at a place was put behind others, if it has a case
 abbrev pub IsAdded : {K : Type 0} → (Item → K → Type 0) → (K → Rule → Type 0) → List (List ℕ) → Item → ℕ → List Stated → List Stated → Type 0

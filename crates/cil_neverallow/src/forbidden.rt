@@ -1,42 +1,31 @@
 //! The faults of forbidden rules: one for each neverallow statement and allow statement that cover something together.
 
-ghost use Rattle.std.specs.Prelude.{◌≡◌, ◌↔◌, ◌⊎◌, ◌++◌, ◌∷◌, ◌<◌, ◌≤◌, ℕ, [], Contains, IfOk, IfSome, IsFalse, List, OnOk, get_or, length, map, slice_get, true, false};
+ghost use Rattle.std.specs.Prelude.{◌≡◌, ◌↔◌, ◌⊎◌, ◌<◌, Contains, OnOk, length, map};
 ghost use Rattle.std.specs.List.Sorted.{IsStrictlySortedBy};
-ghost use Rattle.cil_base.specs.Lists.{text_cmp};
-ghost use Rattle.cil_faults.specs.declared.code.FaultCode.TheVariants as causes;
 ghost use Rattle.cil_faults.specs.declared.fault.Fault.{Fault as AFault};
-ghost use Rattle.cil_faults.specs.Reported.{fault_at};
 ghost use Rattle.cil_faults.specs.Refusal.{Answers};
-ghost use Rattle.cil_syntax.specs.declared.kind.Kind as kinds;
 ghost use Rattle.cil_syntax.specs.declared.kind.Kind.TheVariants as variants;
 ghost use Rattle.cil_macros.specs.Items.{item_at, items_in};
-ghost use Rattle.cil_names.specs.Known.{AreStanding, IsKnown, enabled_in, row_in};
-ghost use Rattle.cil_names.specs.Numbers.{AreApart};
+ghost use Rattle.cil_names.specs.Known.{enabled_in, row_in};
 ghost use Rattle.cil_names.specs.Rows.{IsTableOf};
-ghost use Rattle.cil_classes.specs.declared.row.Class.{Class as ARow};
-ghost use Rattle.cil_classes.specs.ClassRows.{AreClasses};
-ghost use Rattle.cil_classes.specs.Held.{IsAssigned};
 ghost use Rattle.cil_classes.specs.NodeOrder.{node_cmp};
-ghost use Rattle.cil_classes.specs.Row.{most_permissions};
-ghost use Rattle.cil_rules.specs.Covers.{Reaches};
-ghost use Rattle.cil_rules.specs.Kept.{rule_named, set_named, target_named};
-ghost use Rattle.cil_neverallow.specs.declared.overlap.Overlap.{Overlap as AnOverlap};
+ghost use Rattle.cil_classes.specs.Row.{AreOrderlyRows};
+ghost use Rattle.cil_rules.specs.ForNames.{ForNames};
 ghost use Rattle.cil_neverallow.specs.NeverFaults.{NeverFault};
-ghost use Rattle.cil_neverallow.specs.Overlaps.{IsMet, IsOverlap};
-ghost use Rattle.cil_neverallow.specs.Stated.{Stated, stated_at, stated_of};
-ghost use Rattle.cil_neverallow.specs.Violations.{AreAlways, AreAmong, IsOne, IsPair, IsViolation, name_of_row, permission_of_row, rules_by, told_by};
+ghost use Rattle.cil_neverallow.specs.Stated.{Stated, stated_of};
+ghost use Rattle.cil_neverallow.specs.Violations.{AreAlways, AreAmong, IsOne, IsPair, IsViolation};
 
-use crate::overlap::{Overlap, least, set_at};
-use crate::statements::{Part, Statements, statements_of};
+use crate::index::{index_of, may_meet};
+use crate::overlap::least;
+use crate::permissions::permissions_of;
+use crate::statements::{Part, Statements, statements_of, with_permissions};
+use crate::told::push_told;
 use cil_base::{Bytes, NoMemory};
-use cil_blocks::spelled::spelled;
 use cil_classes::{Class, GivenPermissions};
-use cil_conditions::Settings;
-use cil_faults::{Failure, Fault, FaultCode, Spot, push_fault_in, refuse};
-use cil_index::{Asked, NamedRules, Sections};
+use cil_faults::{Failure, Fault, refuse};
+use cil_index::Sections;
 use cil_macros::Instances;
 use cil_names::Known;
-use cil_rules::{NamedRule, Reach};
 use cil_sets::Numbers;
 use cil_syntax::Keyword;
 use std::alloc::Global;
@@ -56,9 +45,10 @@ pub struct View<'s> {
 /// which it covers too, whatever branches of booleanifs they are in. Each two of them are one fault, which names the least of what both cover,
 /// by source, then target, then class, then permission. (CIL Reference Guide, "neverallow".)
 ///
-/// The cost: with no neverallow statement, a step for each instance. Else the allow rules are sorted once. A neverallow statement of one type
-/// a side then costs four searches by halving for each of its classes, if no allow statement meets it; any other costs a comparison with
-/// each allow statement, and so do 10,000 of them with 100,000 allow statements 1,000,000,000.
+/// The cost: with no neverallow statement, a step for each instance. Else the allow rules are made once more, and those of statements that
+/// allow something which is forbidden of their class are sorted. A neverallow statement of one type a side then costs a question to their
+/// index for each of its classes, if none of them meets it; any other costs a comparison with each of them, and so do 10,000 of them with
+/// 100,000 such statements 1,000,000,000.
 ///
 /// Errors: the faults, 65 each; or out of memory.
 pub fn violations(
@@ -69,15 +59,10 @@ pub fn violations(
     given: &GivenPermissions,
 ) -> Result<(), Failure>
     requires table { IsTableOf (map (row_in known.now) (items_in instances.now)) known.now.words.now }
-    requires rising { (row : ARow) → Contains view.now.classes.now row → IsStrictlySortedBy text_cmp row.permissions }
-    requires few { (row : ARow) → Contains view.now.classes.now row → length row.permissions ≤ most_permissions }
+    requires rows { AreOrderlyRows view.now.classes.now }
     requires nodes { IsStrictlySortedBy node_cmp given.now.nodes.items }
-    ensures { (names : kinds.Kind → List (List ℕ)) → names variants.Type_ ≡ view.now.types.now → IsKnown known.now (items_in instances.now) names
-        → AreApart known.now.lookup.names.now (enabled_in known.now) known.now.numbers.now
-        → AreStanding known.now (items_in instances.now) names variants.Type_ view.now.sets.now
-        → AreClasses (items_in instances.now) (enabled_in known.now) (names variants.Class) view.now.classes.now
-        → IsAssigned known.now (items_in instances.now) view.now.classes.now given.now
-        → Answers (λ done. Unit {0}) (NeverFault (items_in instances.now) (enabled_in known.now)) result }
+    ensures { ForNames known.now (items_in instances.now) view.now.sets.now view.now.classes.now given.now (λ names.
+        names variants.Type_ ≡ view.now.types.now → Answers (λ done. Unit {0}) (NeverFault (items_in instances.now) (enabled_in known.now)) result) }
 {
     let (sets, classes) = (view.sets, view.classes);
     let forbidden = statements_of(
@@ -104,8 +89,26 @@ pub fn violations(
     check(alloc, instances, view, &forbidden, &allowed)
 }
 
-/// Refuses what statements forbid and others allow.
+/// Refuses what statements forbid and others allow. Those that allow nothing which any of the others forbids are left out first: in most
+/// policies nearly all.
 fn check(
+    alloc: Global,
+    instances: &Instances,
+    view: &View,
+    forbidden: &Statements,
+    allowed: &Statements,
+) -> Result<(), Failure>
+    requires forbidden { (st : Stated) → Contains forbidden.now st → st.place < length (items_in instances.now) }
+    requires allowed { (st : Stated) → Contains allowed.now st → st.place < length (items_in instances.now) }
+    ensures { Answers (λ done. Unit {0}) (IsViolation (item_at instances.now) view.now forbidden.now allowed.now) result }
+{
+    let masks = permissions_of(alloc, forbidden.all_rules(), view.classes.len())?;
+    let near = with_permissions(alloc, masks.as_slice(), allowed)?;
+    compare(alloc, instances, view, forbidden, &near)
+}
+
+/// Refuses what statements forbid and others allow: each is compared with each.
+fn compare(
     alloc: Global,
     instances: &Instances,
     view: &View,
@@ -131,26 +134,6 @@ fn check(
         )?;
     }
     refuse(faults)
-}
-
-/// The rules of all allow statements, whatever branches they are in, with their index. Error: out of memory.
-fn index_of(alloc: Global, view: &View, allowed: &Statements) -> Result<Sections, NoMemory>
-    ensures among { IfOk result (λ index. AreAmong view.now allowed.now index.allow) }
-    ensures always { IfOk result (λ index. AreAlways index.allow) }
-{
-    let rules = NamedRules {
-        allow: Vec::from_slice(alloc, allowed.all_rules())?,
-        auditallow: Vec::new(alloc),
-        dontaudit: Vec::new(alloc),
-    };
-    let index = Sections::of(
-        alloc,
-        &rules,
-        view.sets,
-        Vec::new(alloc),
-        view.classes.len(),
-    )?;
-    Ok(index)
 }
 
 /// Reports the faults of one neverallow statement, where these are the rules of all allow statements.
@@ -225,149 +208,4 @@ fn push_pair(
         &overlap,
     )?;
     Ok(())
-}
-
-/// Reports the neverallow statement at a place and the allow statement at another, which cover this together.
-fn push_told(
-    alloc: Global,
-    faults: &mut Vec<Fault>,
-    instances: &Instances,
-    view: &View,
-    place: usize,
-    other: usize,
-    overlap: &Overlap,
-) -> Result<(), NoMemory>
-    requires place { place < length (items_in instances.now) }
-    requires other { other < length (items_in instances.now) }
-    ensures { OnOk result (faults.new.items ≡ faults.old.items ++ fault_at causes.NeverAllow (item_at instances.now place).at (item_at instances.now place).space
-        (told_by view.now (item_at instances.now other).at overlap.now) ∷ []) }
-{
-    let allowed_at = instances.statement_there(other).at;
-    let word = word_of(alloc, view, allowed_at, overlap)?;
-    let space = spelled(alloc, instances.namespaces(), instances.space(place))?;
-    let at = instances.statement_there(place).at;
-    push_fault_in(
-        alloc,
-        faults,
-        FaultCode::NeverAllow,
-        at,
-        space,
-        word.as_slice(),
-    )?;
-    Ok(())
-}
-
-// ---- words of faults
-
-/// The word of a fault: module and place of the allow statement, then the names of the overlap. Error: out of memory.
-fn word_of(alloc: Global, view: &View, at: Spot, o: &Overlap) -> Result<Vec<u8>, NoMemory>
-    ensures { IfOk result (λ word. word.items ≡ told_by view.now at o.now) }
-{
-    let (module, place) = (at.module, at.at);
-    let front = format!(in alloc; "{module}:{place}")?;
-    let mut word = Vec::new(alloc);
-    word.extend_from_slice(front.as_bytes())?;
-    push_part(&mut word, name_at(view.types, o.source))?;
-    push_part(&mut word, name_at(view.types, o.target))?;
-    push_part(&mut word, class_name(view.classes, o.class))?;
-    push_part(&mut word, permission_name(view.classes, o.class, o.bit))?;
-    Ok(word)
-}
-
-/// A colon, and a name.
-fn push_part(word: &mut Vec<u8>, name: &[u8]) -> Result<(), NoMemory>
-    ensures { OnOk result (word.new.items ≡ word.old.items ++ (58 ∷ name.now)) }
-{
-    word.push(b':')?;
-    word.extend_from_slice(name)?;
-    Ok(())
-}
-
-/// The name of a number; empty where there is none.
-fn name_at(names: &[Bytes], number: usize) -> &[u8]
-    ensures { result.now ≡ get_or names.now number [] }
-{
-    match names.get(number) {
-        Some(name) => name.as_slice(),
-        None => &[],
-    }
-}
-
-/// The name of a class.
-fn class_name(classes: &[Class], class: u32) -> &[u8]
-    ensures { result.now ≡ name_of_row (slice_get classes.now class) }
-{
-    match classes.get(class as usize) {
-        Some(row) => row.name.as_slice(),
-        None => &[],
-    }
-}
-
-/// The name of a permission of a class.
-fn permission_name(classes: &[Class], class: u32, bit: u32) -> &[u8]
-    ensures { result.now ≡ permission_of_row (slice_get classes.now class) bit }
-{
-    match classes.get(class as usize) {
-        Some(row) => name_at(row.permissions.as_slice(), bit as usize),
-        None => &[],
-    }
-}
-
-// ---- statements that meet none
-
-/// Whether a rule of a statement may cover something that one of these rules covers. It says no only if none does.
-fn may_meet(sets: &[Numbers], index: &Sections, rules: &[NamedRule]) -> bool
-    requires { AreAlways index.now.allow }
-    ensures { IsFalse result → (o : AnOverlap) → IsOverlap (map (rule_named [] sets.now) rules.now) index.now.allow o → ⊥ }
-{
-    for rule in rules {
-        if rule_may_meet(sets, index, rule) {
-            return true;
-        }
-    }
-    false
-}
-
-/// Whether a rule may cover something that one of these rules covers: four searches by halving, if it is of one type a side.
-fn rule_may_meet(sets: &[Numbers], index: &Sections, rule: &NamedRule) -> bool
-    requires { AreAlways index.now.allow }
-    ensures { IsFalse result → (o : AnOverlap) → IsMet (rule_named [] sets.now rule.now) index.now.allow o → ⊥ }
-{
-    let Some(source) = only_type(sets, rule.source) else {
-        return true;
-    };
-    let Some(target) = only_target(sets, rule.target, source) else {
-        return true;
-    };
-    let asked = Asked {
-        source,
-        target,
-        class: rule.class as usize,
-    };
-    let covered = index.allowed(&Settings::all_off(), &asked);
-    if covered & rule.mask == 0 {
-        return false;
-    }
-    true
-}
-
-/// The type for which a declared name stands, if it is one alone.
-fn only_type(sets: &[Numbers], number: u32) -> Option<usize>
-    ensures { IfSome result (λ t. (u : ℕ) → Contains (set_named sets.now number) u → u ≡ t) }
-{
-    let set = set_at(sets, number)?;
-    if set.len() != 1 {
-        return None;
-    }
-    set.next_from(0)
-}
-
-/// The type that a target reaches from a source, if it is one alone.
-fn only_target(sets: &[Numbers], target: Reach, source: usize) -> Option<usize>
-    ensures { IfSome result (λ t. (u : ℕ) → Reaches (target_named sets.now target) source u → u ≡ t) }
-{
-    match target {
-        Reach::Types(number) => only_type(sets, number),
-        Reach::Itself => Some(source),
-    }
 }

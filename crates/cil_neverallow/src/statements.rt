@@ -1,24 +1,20 @@
 //! Statements with the rules that they give. The rules of all are in one list, so a statement takes no memory of its own.
 
-ghost use Rattle.std.specs.Prelude.{◌≡◌, ◌<◌, ◌≤◌, ◌++◌, ◌∷◌, ℕ, [], Contains, IfOk, List, OnOk, false, length, map, true};
+ghost use Rattle.std.specs.Prelude.{◌≡◌, ◌<◌, ◌++◌, ◌∷◌, [], Contains, IfOk, List, OnOk, false, length, map, true};
 ghost use Rattle.std.specs.List.Sorted.{IsStrictlySortedBy};
-ghost use Rattle.cil_base.specs.Lists.{text_cmp};
-ghost use Rattle.cil_syntax.specs.declared.kind.Kind as kinds;
 ghost use Rattle.cil_syntax.specs.declared.kind.Kind.TheVariants as variants;
 ghost use Rattle.cil_macros.specs.Items.{item_at, items_in, says_as_written};
-ghost use Rattle.cil_names.specs.Known.{AreStanding, IsKnown, enabled_in, row_in};
-ghost use Rattle.cil_names.specs.Numbers.{AreApart};
+ghost use Rattle.cil_names.specs.Known.{enabled_in, row_in};
 ghost use Rattle.cil_names.specs.Resolves.{is_mapping};
 ghost use Rattle.cil_names.specs.Rows.{IsTableOf};
-ghost use Rattle.cil_classes.specs.declared.row.Class.{Class as ARow};
-ghost use Rattle.cil_classes.specs.ClassRows.{AreClasses};
-ghost use Rattle.cil_classes.specs.Held.{IsAssigned};
 ghost use Rattle.cil_classes.specs.NodeOrder.{node_cmp};
-ghost use Rattle.cil_classes.specs.Row.{most_permissions};
+ghost use Rattle.cil_classes.specs.Row.{AreOrderlyRows};
 ghost use Rattle.cil_rules.specs.declared.rule.NamedRule.{NamedRule as ARule};
+ghost use Rattle.cil_rules.specs.ForNames.{ForNames};
 ghost use Rattle.cil_rules.specs.Records.{CaseBy, IsRuleOf, ignored};
-ghost use Rattle.cil_neverallow.specs.Stated.{AreHereOr, AreStatements, IsAdded, IsRunIn, Stated, stated_at, stated_in, stated_of};
+ghost use Rattle.cil_neverallow.specs.Stated.{AreHereOr, AreLeftOut, AreStatements, IsAdded, IsRunIn, Stated, stated_at, stated_in, stated_of};
 
+use crate::permissions::name_some;
 use cil_base::NoMemory;
 use cil_classes::{Class, ClassId, GivenPermissions};
 use cil_macros::Instances;
@@ -112,6 +108,25 @@ impl Statements {
     }
 }
 
+/// Those of the statements that have a rule with one of these permissions, or on none of these classes. Error: out of memory.
+pub fn with_permissions(
+    alloc: Global,
+    masks: &[u32],
+    statements: &Statements,
+) -> Result<Statements, NoMemory>
+    ensures among { IfOk result (λ kept. (st : Stated) → Contains kept st → Contains statements.now st) }
+    ensures rest { IfOk result (λ kept. AreLeftOut masks.now statements.now kept) }
+{
+    let mut kept = Statements::new(alloc);
+    for number in 0..statements.len() {
+        let statement = statements.get(number);
+        if name_some(masks, statement.rules) {
+            kept.push(statement.place, statement.rules)?;
+        }
+    }
+    Ok(kept)
+}
+
 /// A part of the rules.
 fn rules_in(rules: &[NamedRule], run: Run) -> &[NamedRule]
     requires { IsRunIn rules.now run }
@@ -132,19 +147,14 @@ pub fn statements_of(
     keyword: Keyword,
 ) -> Result<Statements, NoMemory>
     requires table { IsTableOf (map (row_in known.now) (items_in instances.now)) known.now.words.now }
-    requires rising { (row : ARow) → Contains classes.now row → IsStrictlySortedBy text_cmp row.permissions }
-    requires few { (row : ARow) → Contains classes.now row → length row.permissions ≤ most_permissions }
+    requires rows { AreOrderlyRows classes.now }
     requires nodes { IsStrictlySortedBy node_cmp given.now.nodes.items }
     requires written { says_as_written keyword ≡ true }
     requires plain { is_mapping keyword ≡ false }
     ensures within { IfOk result (λ sts. (st : Stated) → Contains sts st → st.place < length (items_in instances.now)) }
-    ensures statements { IfOk result (λ sts. (names : kinds.Kind → List (List ℕ)) → IsKnown known.now (items_in instances.now) names
-        → AreApart known.now.lookup.names.now (enabled_in known.now) known.now.numbers.now
-        → AreStanding known.now (items_in instances.now) names variants.Type_ types.now
-        → AreClasses (items_in instances.now) (enabled_in known.now) (names variants.Class) classes.now
-        → IsAssigned known.now (items_in instances.now) classes.now given.now
-        → AreStatements (CaseBy (items_in instances.now) (enabled_in known.now) keyword ignored)
-        (IsRuleOf (items_in instances.now) (enabled_in known.now) (names variants.Type_) classes.now ignored) types.now (item_at instances.now) (length (items_in instances.now)) sts) }
+    ensures statements { IfOk result (λ sts. ForNames known.now (items_in instances.now) types.now classes.now given.now (λ names.
+        AreStatements (CaseBy (items_in instances.now) (enabled_in known.now) keyword ignored)
+        (IsRuleOf (items_in instances.now) (enabled_in known.now) (names variants.Type_) classes.now ignored) types.now (item_at instances.now) (length (items_in instances.now)) sts)) }
 {
     let mut statements = Statements::new(alloc);
     let mut rules = Vec::new(alloc);
@@ -184,19 +194,14 @@ fn add_at(
 ) -> Result<(), NoMemory>
     requires within { at < length (items_in instances.now) }
     requires table { IsTableOf (map (row_in known.now) (items_in instances.now)) known.now.words.now }
-    requires rising { (row : ARow) → Contains classes.now row → IsStrictlySortedBy text_cmp row.permissions }
-    requires few { (row : ARow) → Contains classes.now row → length row.permissions ≤ most_permissions }
+    requires rows { AreOrderlyRows classes.now }
     requires nodes { IsStrictlySortedBy node_cmp given.now.nodes.items }
     requires written { says_as_written keyword ≡ true }
     requires plain { is_mapping keyword ≡ false }
     ensures places { OnOk result (AreHereOr statements.old at statements.new) }
-    ensures added { OnOk result ((names : kinds.Kind → List (List ℕ)) → IsKnown known.now (items_in instances.now) names
-        → AreApart known.now.lookup.names.now (enabled_in known.now) known.now.numbers.now
-        → AreStanding known.now (items_in instances.now) names variants.Type_ types.now
-        → AreClasses (items_in instances.now) (enabled_in known.now) (names variants.Class) classes.now
-        → IsAssigned known.now (items_in instances.now) classes.now given.now
-        → IsAdded (CaseBy (items_in instances.now) (enabled_in known.now) keyword ignored)
-        (IsRuleOf (items_in instances.now) (enabled_in known.now) (names variants.Type_) classes.now ignored) types.now (item_at instances.now at) at statements.old statements.new) }
+    ensures added { OnOk result (ForNames known.now (items_in instances.now) types.now classes.now given.now (λ names.
+        IsAdded (CaseBy (items_in instances.now) (enabled_in known.now) keyword ignored)
+        (IsRuleOf (items_in instances.now) (enabled_in known.now) (names variants.Type_) classes.now ignored) types.now (item_at instances.now at) at statements.old statements.new)) }
 {
     rules.clear();
     let words = known.words.row(at);

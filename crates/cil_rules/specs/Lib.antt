@@ -2,6 +2,7 @@ pub mod Behind
 pub mod Covered
 pub mod CoveredBy
 pub mod Covers
+pub mod ForNames
 pub mod Kept
 pub mod Order
 pub mod Records

@@ -2,9 +2,8 @@
 //! the words of its target, and a step for each of its permission words. Where its class permission is a name or a list on a class map, it
 //! costs what the masks of these cost, and a record for each class of which they give permissions.
 
-ghost use Rattle.std.specs.Prelude.{◌≡◌, ◌↔◌, ◌<◌, ◌≤◌, ◌++◌, ◌∷◌, ℕ, [], Contains, IfOk, IsTrue, List, true, false, MatchOption, OnOk, get_or, length, map, suc};
+ghost use Rattle.std.specs.Prelude.{◌≡◌, ◌↔◌, ◌<◌, ◌++◌, ◌∷◌, ℕ, [], IfOk, IsTrue, List, true, false, MatchOption, OnOk, length, map, suc};
 ghost use Rattle.std.specs.List.Sorted.{IsStrictlySortedBy};
-ghost use Rattle.cil_base.specs.Lists.{text_cmp};
 ghost use Rattle.cil_base.specs.Records.{AreRecordsOf};
 ghost use Rattle.cil_conditions.specs.Numbered.{AreBranchesOf};
 ghost use Rattle.cil_conditions.specs.Spelled.{IsBranchOf};
@@ -20,17 +19,14 @@ ghost use Rattle.cil_macros.specs.Item.{Item, OptSet};
 ghost use Rattle.cil_macros.specs.Items.{item_at, items_in, says_as_written};
 ghost use Rattle.cil_names.specs.declared.known.Known.{Known as Lookups};
 ghost use Rattle.cil_names.specs.Known.{AreStanding, BeginWith, IsKnown, enabled_in, row_in, set_meant};
-ghost use Rattle.cil_names.specs.Numbers.{AreApart};
 ghost use Rattle.cil_names.specs.Resolves.{is_mapping};
 ghost use Rattle.cil_names.specs.Rows.{IsTableOf};
 ghost use Rattle.cil_names.specs.Unresolved.{term_with};
-ghost use Rattle.cil_classes.specs.declared.row.Class.{Class as ARow};
-ghost use Rattle.cil_classes.specs.ClassRows.{AreClasses};
-ghost use Rattle.cil_classes.specs.Held.{IsAssigned};
 ghost use Rattle.cil_classes.specs.NodeOrder.{node_cmp};
-ghost use Rattle.cil_classes.specs.Row.{AreOrderlyRows, most_permissions};
+ghost use Rattle.cil_classes.specs.Row.{AreOrderlyRows};
 ghost use Rattle.cil_rules.specs.Behind.{AreBehind, rule_with};
 ghost use Rattle.cil_rules.specs.declared.rule.Reach.TheVariants as reaches;
+ghost use Rattle.cil_rules.specs.ForNames.{ForNames};
 ghost use Rattle.cil_rules.specs.Kept.{branch_named, rule_named, set_named, target_named};
 ghost use Rattle.cil_rules.specs.Records.{Branching, CaseBy, HasTarget, IsPut, IsRuleOf, IsTaken, IsTargetOf, spelled};
 
@@ -58,20 +54,15 @@ pub fn rules_of(
     keyword: Keyword,
 ) -> Result<Vec<NamedRule>, NoMemory>
     requires table { IsTableOf (map (row_in known.now) (items_in instances.now)) known.now.words.now }
-    requires rising { (row : ARow) → Contains classes.now row → IsStrictlySortedBy text_cmp row.permissions }
-    requires few { (row : ARow) → Contains classes.now row → length row.permissions ≤ most_permissions }
+    requires rows { AreOrderlyRows classes.now }
     requires nodes { IsStrictlySortedBy node_cmp given.now.nodes.items }
     requires written { says_as_written keyword ≡ true }
     requires plain { is_mapping keyword ≡ false }
-    ensures { IfOk result (λ rules. (names : kinds.Kind → List (List ℕ)) → IsKnown known.now (items_in instances.now) names
-        → AreApart known.now.lookup.names.now (enabled_in known.now) known.now.numbers.now
-        → AreStanding known.now (items_in instances.now) names variants.Type_ types.now
-        → AreClasses (items_in instances.now) (enabled_in known.now) (names variants.Class) classes.now
-        → IsAssigned known.now (items_in instances.now) classes.now given.now
-        → AreBranchesOf instances.now (enabled_in known.now) (names variants.Boolean) branches.now
+    ensures { IfOk result (λ rules. ForNames known.now (items_in instances.now) types.now classes.now given.now (λ names.
+        AreBranchesOf instances.now (enabled_in known.now) (names variants.Boolean) branches.now
         → AreRecordsOf (CaseBy (items_in instances.now) (enabled_in known.now) keyword (spelled (names variants.Boolean)))
         (IsRuleOf (items_in instances.now) (enabled_in known.now) (names variants.Type_) classes.now (spelled (names variants.Boolean)))
-        (items_in instances.now) (map (rule_named branches.now.rows types.now) rules.items)) }
+        (items_in instances.now) (map (rule_named branches.now.rows types.now) rules.items))) }
 {
     let mut rules = Vec::with_capacity(alloc, instances.len())?;
     let mut masks = Vec::new(alloc);
@@ -106,14 +97,12 @@ fn push_in_branch(
     requires nodes { IsStrictlySortedBy node_cmp given.now.nodes.items }
     requires written { says_as_written keyword ≡ true }
     requires plain { is_mapping keyword ≡ false }
-    ensures { OnOk result ((names : kinds.Kind → List (List ℕ)) → IsKnown known.now (items_in instances.now) names
-        → AreApart known.now.lookup.names.now (enabled_in known.now) known.now.numbers.now → AreStanding known.now (items_in instances.now) names variants.Type_ types.now
-        → AreClasses (items_in instances.now) (enabled_in known.now) (names variants.Class) classes.now → IsAssigned known.now (items_in instances.now) classes.now given.now
-        → AreBranchesOf instances.now (enabled_in known.now) (names variants.Boolean) branches.now
+    ensures { OnOk result (ForNames known.now (items_in instances.now) types.now classes.now given.now (λ names.
+        AreBranchesOf instances.now (enabled_in known.now) (names variants.Boolean) branches.now
         → words.now ≡ row_in known.now (item_at instances.now at)
         → AreBehind (CaseBy (items_in instances.now) (enabled_in known.now) keyword (spelled (names variants.Boolean)))
         (IsRuleOf (items_in instances.now) (enabled_in known.now) (names variants.Type_) classes.now (spelled (names variants.Boolean)))
-        (item_at instances.now at) (map (rule_named branches.now.rows types.now) out.old.items) (map (rule_named branches.now.rows types.now) out.new.items)) }
+        (item_at instances.now at) (map (rule_named branches.now.rows types.now) out.old.items) (map (rule_named branches.now.rows types.now) out.new.items))) }
 {
     // Most statements are of other keywords, and are asked for no branch.
     if !same_keyword(instances.statement_there(at).keyword, keyword) {
@@ -181,14 +170,12 @@ pub fn push_rules(
     requires nodes { IsStrictlySortedBy node_cmp given.now.nodes.items }
     requires written { says_as_written keyword ≡ true }
     requires plain { is_mapping keyword ≡ false }
-    ensures { OnOk result ((xs : List Item) (names : kinds.Kind → List (List ℕ)) (branches : List ABranch) (how : Branching)
-        → IsTaken xs (enabled_in known.now) how (item_at instances.now at).branch
-        → IsPut xs (enabled_in known.now) how (item_at instances.now at).branch (branch_named branches branch) → IsKnown known.now xs names
-        → AreApart known.now.lookup.names.now (enabled_in known.now) known.now.numbers.now → AreStanding known.now xs names variants.Type_ types.now
-        → AreClasses xs (enabled_in known.now) (names variants.Class) classes.now → IsAssigned known.now xs classes.now given.now
-        → words.now ≡ row_in known.now (item_at instances.now at)
+    ensures { OnOk result ((xs : List Item) (branches : List ABranch) (how : Branching) → IsTaken xs (enabled_in known.now) how (item_at instances.now at).branch
+        → IsPut xs (enabled_in known.now) how (item_at instances.now at).branch (branch_named branches branch)
+        → ForNames known.now xs types.now classes.now given.now (λ names.
+        words.now ≡ row_in known.now (item_at instances.now at)
         → AreBehind (CaseBy xs (enabled_in known.now) keyword how) (IsRuleOf xs (enabled_in known.now) (names variants.Type_) classes.now how)
-        (item_at instances.now at) (map (rule_named branches types.now) out.old.items) (map (rule_named branches types.now) out.new.items)) }
+        (item_at instances.now at) (map (rule_named branches types.now) out.old.items) (map (rule_named branches types.now) out.new.items))) }
 {
     let statement = instances.statement_there(at);
     if !same_keyword(statement.keyword, keyword) {

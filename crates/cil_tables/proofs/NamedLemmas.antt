@@ -27,7 +27,10 @@ use Rattle.cil_names.specs.Unresolved.{ArePermissions, listed_at}
 use Rattle.cil_classes.specs.ClassRows.{AreRowsOf, IsRowOf, AreClasses}
 use Rattle.cil_tables.specs.Named.{IsNameOf}
 use Rattle.cil_classes.specs.declared.row.Class.{Class}
-use Rattle.cil_classes.specs.Row.{class_cmp}
+use Rattle.cil_classes.specs.Row.{AreOrderlyRows, class_cmp}
+use Rattle.cil_classes.specs.Faults.{ClassFault}
+use Rattle.cil_faults.specs.declared.fault.Fault.{Fault}
+use Rattle.cil_tables.proofs.WideClasses.{few}
 use Rattle.cil_classes.proofs.ClassRowLemmas.{class_from, class_named, class_parts}
 use Rattle.cil_tables.proofs.CompileLemmas.{rising_by}
 use Rattle.cil_base.proofs.NameSearches.{number_is}
@@ -121,5 +124,6 @@ module _ (ss : List Space) (xs : List Item) (es : List Entry) (entries : AreEntr
     pub classes_given : Gives class_cmp (Declared xs s kinds.Class) (IsRowOf xs) rows
     classes_given = record { rising = classes_rise; each = row_of_class; only = class_of_row }
 
-    pub rows_rise : (row : Class) → Contains rows row → IsStrictlySortedBy text_cmp row.permissions
-    rows_rise row member = (class_of_row row member).2.permissions.rising
+    -- and where no class is too wide, each has few permissions
+    pub rows_orderly : ((f : Fault) → ClassFault s xs f → ⊥) → AreOrderlyRows rows
+    rows_orderly none row member = let k = class_of_row row member in record { permissions = k.2.permissions.rising; few = few xs s none k.0 row k.1 k.2 }

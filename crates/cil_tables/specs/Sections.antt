@@ -13,11 +13,13 @@ use Rattle.cil_rules.specs.declared.rule.NamedRule.{NamedRule}
 use Rattle.cil_rules.specs.Kept.{rule_named}
 use Rattle.cil_rules.specs.Records.{CaseBy, IsRuleOf, spelled}
 use Rattle.cil_index.specs.declared.section.NamedRules.{NamedRules}
+use Rattle.cil_names.specs.declared.numbers.Sections.{Sections}
 use Rattle.cil_tables.specs.declared.sections.Given.{Given}
+use Rattle.cil_tables.specs.declared.tables.Boolean.{Boolean}
 use Rattle.cil_tables.specs.Compiled.{AreRules}
 use Rattle.cil_tables.specs.Links.{IsLink}
 use Rattle.cil_tables.specs.Aliases.{IsAlias}
-use Rattle.cil_tables.specs.Table.{alias_cmp, link_cmp}
+use Rattle.cil_tables.specs.Table.{Table, alias_cmp, link_cmp}
 
 -- the links, aliases and rules of enabled statements, by the sections of names and classes
 pub record AreGiven (xs : List Item) (s : OptSet) (names : Kind → List (List ℕ)) (classes : List Class) (g : Given) : Type 0 where
@@ -36,3 +38,17 @@ pub record AreNamedRules (xs : List Item) (s : OptSet) (types : List (List ℕ))
   pub allow : AreNamedRulesOf xs s types classes booleans branches sets keywords.Allow r.allow.items
   pub auditallow : AreNamedRulesOf xs s types classes booleans branches sets keywords.AuditAllow r.auditallow.items
   pub dontaudit : AreNamedRulesOf xs s types classes booleans branches sets keywords.DontAudit r.dontaudit.items
+
+-- the sections, as a table
+abbrev pub table_from : Sections → List Class → List Boolean → Given → Table
+table_from names classes booleans given = record {
+  users = names.users.items;
+  roles = names.roles.items;
+  types = names.types.items;
+  type_aliases = given.type_aliases.items;
+  classes = classes;
+  booleans = booleans;
+  user_roles = given.user_roles;
+  role_types = given.role_types;
+  rules = given.rules;
+}

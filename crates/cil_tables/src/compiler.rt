@@ -20,7 +20,8 @@ ghost use Rattle.cil_tables.specs.Compiled.{IsTable};
 ghost use Rattle.cil_classes.specs.ClassRows.{AreRowsOf};
 ghost use Rattle.cil_tables.specs.SetsStep.{SetsFault};
 ghost use Rattle.cil_tables.specs.Standings.{AllStand};
-ghost use Rattle.cil_tables.specs.Table.{most_booleans};
+ghost use Rattle.cil_tables.specs.Sections.{table_from};
+ghost use Rattle.cil_tables.specs.Table.{IsOrderly, most_booleans};
 
 use crate::booleans::booleans_of;
 use crate::both::{Both, together};
@@ -28,7 +29,7 @@ use crate::forbidden::check_forbidden;
 use crate::limit::check_booleans;
 use crate::sections::{Given, given_of};
 use crate::standings::{Standings, standings_of};
-use crate::tables::Tables;
+use crate::tables::{Boolean, Tables};
 use cil_base::{Bytes, Names, NoMemory};
 use cil_blocks::{Spaces, inherit};
 use cil_classes::{Classes, classes, given_permissions};
@@ -189,13 +190,19 @@ fn tables_of(
         &known,
         numbering.sections.booleans.as_slice(),
     )?;
-    let Given {
-        user_roles,
-        role_types,
-        type_aliases,
-        rules,
-    } = given;
-    let Classes { rows } = classes;
+    Ok(tables_from(numbering, classes, booleans, given))
+}
+
+/// The tables of these sections.
+fn tables_from(
+    numbering: Numbering,
+    classes: Classes,
+    booleans: Vec<Boolean>,
+    given: Given,
+) -> Tables
+    requires { IsOrderly (table_from numbering.sections classes.rows.items booleans.items given) }
+    ensures { result ≡ table_from numbering.sections classes.rows.items booleans.items given }
+{
     let Numbering {
         sections,
         numbers: _,
@@ -207,7 +214,14 @@ fn tables_of(
         classes: _,
         booleans: _,
     } = sections;
-    Ok(Tables {
+    let Classes { rows } = classes;
+    let Given {
+        user_roles,
+        role_types,
+        type_aliases,
+        rules,
+    } = given;
+    Tables {
         users: Names::from_vec(users),
         roles: Names::from_vec(roles),
         types: Names::from_vec(types),
@@ -217,7 +231,7 @@ fn tables_of(
         user_roles,
         role_types,
         rules,
-    })
+    }
 }
 
 /// The classes of a policy, and what its words stand for.

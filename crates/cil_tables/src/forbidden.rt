@@ -1,8 +1,7 @@
 //! Rules that the policy forbids itself.
 
-ghost use Rattle.std.specs.Prelude.{◌≡◌, ◌≤◌, ℕ, Contains, List, length, map};
+ghost use Rattle.std.specs.Prelude.{◌≡◌, ℕ, List, map};
 ghost use Rattle.std.specs.List.Sorted.{IsStrictlySortedBy};
-ghost use Rattle.cil_base.specs.Lists.{text_cmp};
 ghost use Rattle.cil_faults.specs.Refusal.{Answers};
 ghost use Rattle.cil_syntax.specs.declared.kind.Kind as kinds;
 ghost use Rattle.cil_syntax.specs.declared.kind.Kind.TheVariants as variants;
@@ -10,11 +9,10 @@ ghost use Rattle.cil_macros.specs.Items.{items_in};
 ghost use Rattle.cil_names.specs.Known.{IsKnown, enabled_in, row_in};
 ghost use Rattle.cil_names.specs.Numbers.{AreApart};
 ghost use Rattle.cil_names.specs.Rows.{IsTableOf};
-ghost use Rattle.cil_classes.specs.declared.row.Class.{Class as ARow};
 ghost use Rattle.cil_classes.specs.ClassRows.{AreClasses};
 ghost use Rattle.cil_classes.specs.Held.{IsAssigned};
 ghost use Rattle.cil_classes.specs.NodeOrder.{node_cmp};
-ghost use Rattle.cil_classes.specs.Row.{most_permissions};
+ghost use Rattle.cil_classes.specs.Row.{AreOrderlyRows};
 ghost use Rattle.cil_neverallow.specs.NeverFaults.{NeverFault};
 ghost use Rattle.cil_tables.specs.Standings.{AllStand};
 
@@ -38,8 +36,7 @@ pub(crate) fn check_forbidden<'s>(
     permissions: &GivenPermissions,
 ) -> Result<(), Failure>
     requires table { IsTableOf (map (row_in known.now) (items_in instances.now)) known.now.words.now }
-    requires rising { (row : ARow) → Contains classes.now row → IsStrictlySortedBy text_cmp row.permissions }
-    requires few { (row : ARow) → Contains classes.now row → length row.permissions ≤ most_permissions }
+    requires rows { AreOrderlyRows classes.now }
     requires nodes { IsStrictlySortedBy node_cmp permissions.now.nodes.items }
     ensures { (names : kinds.Kind → List (List ℕ)) → names variants.Type_ ≡ types.now → IsKnown known.now (items_in instances.now) names
         → AreApart known.now.lookup.names.now (enabled_in known.now) known.now.numbers.now → AllStand known.now (items_in instances.now) names stand.now

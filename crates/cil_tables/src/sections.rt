@@ -1,21 +1,19 @@
 //! The sections of a table that statements give: links, aliases and rules.
 
-ghost use Rattle.std.specs.Prelude.{◌≡◌, ◌≤◌, ℕ, Contains, IfOk, List, length, map};
+ghost use Rattle.std.specs.Prelude.{ℕ, IfOk, List, map};
 ghost use Rattle.std.specs.List.Sorted.{IsStrictlySortedBy};
-ghost use Rattle.cil_base.specs.Lists.{text_cmp};
 ghost use Rattle.cil_syntax.specs.declared.kind.Kind as kinds;
 ghost use Rattle.cil_syntax.specs.declared.kind.Kind.TheVariants as variants;
-ghost use Rattle.cil_macros.specs.Items.{items_in, says_as_written};
+ghost use Rattle.cil_macros.specs.Items.{items_in};
 ghost use Rattle.cil_names.specs.Entries.{AreOrdered};
-ghost use Rattle.cil_names.specs.Known.{AreStanding, IsKnown, enabled_in, row_in};
+ghost use Rattle.cil_names.specs.Known.{IsKnown, enabled_in, row_in};
 ghost use Rattle.cil_names.specs.Numbers.{AreApart};
-ghost use Rattle.cil_names.specs.Resolves.{is_mapping};
 ghost use Rattle.cil_names.specs.Rows.{IsTableOf};
-ghost use Rattle.cil_classes.specs.declared.row.Class.{Class as ARow};
 ghost use Rattle.cil_classes.specs.ClassRows.{AreClasses};
 ghost use Rattle.cil_classes.specs.Held.{IsAssigned};
 ghost use Rattle.cil_classes.specs.NodeOrder.{node_cmp};
-ghost use Rattle.cil_classes.specs.Row.{most_permissions};
+ghost use Rattle.cil_rules.specs.ForNames.{ForNames};
+ghost use Rattle.cil_classes.specs.Row.{AreOrderlyRows};
 ghost use Rattle.cil_conditions.specs.Numbered.{AreBranchesOf};
 ghost use Rattle.cil_tables.specs.Compiled.{AreRules};
 ghost use Rattle.cil_tables.specs.Sections.{AreGiven, AreNamedRules};
@@ -61,8 +59,7 @@ pub(crate) fn given_of(
 ) -> Result<Given, NoMemory>
     requires table { IsTableOf (map (row_in known.now) (items_in instances.now)) known.now.words.now }
     requires ordered { AreOrdered known.now.lookup.namespaces.now known.now.lookup.names.now }
-    requires rising { (row : ARow) → Contains classes.now row → IsStrictlySortedBy text_cmp row.permissions }
-    requires few { (row : ARow) → Contains classes.now row → length row.permissions ≤ most_permissions }
+    requires rows { AreOrderlyRows classes.now }
     requires nodes { IsStrictlySortedBy node_cmp permissions.now.nodes.items }
     ensures { IfOk result (λ given. (names : kinds.Kind → List (List ℕ)) → IsKnown known.now (items_in instances.now) names
         → AreApart known.now.lookup.names.now (enabled_in known.now) known.now.numbers.now → AllStand known.now (items_in instances.now) names stand.now
@@ -96,15 +93,10 @@ fn rules_given(
     permissions: &GivenPermissions,
 ) -> Result<Sections, NoMemory>
     requires table { IsTableOf (map (row_in known.now) (items_in instances.now)) known.now.words.now }
-    requires rising { (row : ARow) → Contains classes.now row → IsStrictlySortedBy text_cmp row.permissions }
-    requires few { (row : ARow) → Contains classes.now row → length row.permissions ≤ most_permissions }
+    requires rows { AreOrderlyRows classes.now }
     requires nodes { IsStrictlySortedBy node_cmp permissions.now.nodes.items }
-    ensures { IfOk result (λ rules. (names : kinds.Kind → List (List ℕ)) → IsKnown known.now (items_in instances.now) names
-        → AreApart known.now.lookup.names.now (enabled_in known.now) known.now.numbers.now
-        → AreStanding known.now (items_in instances.now) names variants.Type_ types.now
-        → AreClasses (items_in instances.now) (enabled_in known.now) (names variants.Class) classes.now
-        → IsAssigned known.now (items_in instances.now) classes.now permissions.now
-        → AreRules (items_in instances.now) (enabled_in known.now) (names variants.Type_) classes.now (names variants.Boolean) rules) }
+    ensures { IfOk result (λ rules. ForNames known.now (items_in instances.now) types.now classes.now permissions.now (λ names.
+        AreRules (items_in instances.now) (enabled_in known.now) (names variants.Type_) classes.now (names variants.Boolean) rules)) }
 {
     let branches = branches_of(alloc, instances, known)?;
     let rules = named_rules(
@@ -132,16 +124,11 @@ fn named_rules(
     branches: &Branches,
 ) -> Result<NamedRules, NoMemory>
     requires table { IsTableOf (map (row_in known.now) (items_in instances.now)) known.now.words.now }
-    requires rising { (row : ARow) → Contains classes.now row → IsStrictlySortedBy text_cmp row.permissions }
-    requires few { (row : ARow) → Contains classes.now row → length row.permissions ≤ most_permissions }
+    requires rows { AreOrderlyRows classes.now }
     requires nodes { IsStrictlySortedBy node_cmp permissions.now.nodes.items }
-    ensures { IfOk result (λ rules. (names : kinds.Kind → List (List ℕ)) → IsKnown known.now (items_in instances.now) names
-        → AreApart known.now.lookup.names.now (enabled_in known.now) known.now.numbers.now
-        → AreStanding known.now (items_in instances.now) names variants.Type_ types.now
-        → AreClasses (items_in instances.now) (enabled_in known.now) (names variants.Class) classes.now
-        → IsAssigned known.now (items_in instances.now) classes.now permissions.now
-        → AreBranchesOf instances.now (enabled_in known.now) (names variants.Boolean) branches.now
-        → AreNamedRules (items_in instances.now) (enabled_in known.now) (names variants.Type_) classes.now (names variants.Boolean) branches.now.rows types.now rules) }
+    ensures { IfOk result (λ rules. ForNames known.now (items_in instances.now) types.now classes.now permissions.now (λ names.
+        AreBranchesOf instances.now (enabled_in known.now) (names variants.Boolean) branches.now
+        → AreNamedRules (items_in instances.now) (enabled_in known.now) (names variants.Type_) classes.now (names variants.Boolean) branches.now.rows types.now rules)) }
 {
     let allow = rules_of(
         alloc,

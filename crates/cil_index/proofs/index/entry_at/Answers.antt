@@ -2,4 +2,4 @@ use Rattle.cil_index.proofs.IndexLemmas.{entry_made}
 use Rattle.cil_index.proofs.index.entry_at.Goals as goal
 
 pub returns : goal.returns
-returns c = λ branches r at. entry_made _ c.args.records.now c.args.place _ c.key_of.result r c.requires (c.key_of.ensures branches) at
+returns c = λ k at. entry_made c.args.sets.now c.args.records.now c.args.place _ c.key_of.result k c.requires c.key_of.ensures at

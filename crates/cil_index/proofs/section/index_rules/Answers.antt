@@ -14,12 +14,11 @@ use Rattle.cil_index.specs.Sets.{AreNumbered}
 use Rattle.cil_index.proofs.section.index_rules.Goals as goal
 
 pub starts_of-requires : goal.starts_of-requires
-starts_of-requires c = subst (IsSorted entry_cmp) (sym c.as_slice-4.ensures.value) (c.in_ok-entries.ensures c.args.branches.now.items).sorted
+starts_of-requires c = subst (IsSorted entry_cmp) (sym c.as_slice-4.ensures.value) c.in_ok-entries.ensures.sorted
 
 pub returns-clause-index : goal.returns-clause-index
 returns-clause-index c = (
-  subst (λ (rs : List Record). IsIndex (map (rule_of c.args.branches.now.items c.args.sets.now) rs) c.in_ok-entries.entries.items) c.as_slice-3.ensures.value
-      (c.in_ok-entries.ensures c.args.branches.now.items),
+  subst (λ (rs : List Record). IsIndex c.args.sets.now rs c.in_ok-entries.entries.items) c.as_slice-3.ensures.value c.in_ok-entries.ensures,
   subst (λ (es : List Entry). AreStarts es c.in_ok-starts.starts.items) c.as_slice-4.ensures.value c.in_ok-starts.ensures,
 )
 

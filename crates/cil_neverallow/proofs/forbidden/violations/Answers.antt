@@ -10,7 +10,7 @@ use Rattle.cil_neverallow.proofs.TieLemmas.{fault_back, fault_there, none_forbid
 use Rattle.cil_neverallow.proofs.forbidden.violations.Goals as goal
 
 pub returns-then-len-eq0 : goal.returns-then-len-eq0
-returns-then-len-eq0 c = λ names same known apart standing classes given.
+returns-then-len-eq0 c = λ names known apart standing classes given same.
     let i = c.args.instances.now in
     let k = c.args.known.now in
     let none : c.in_ok-forbidden.forbidden ≡ [] = no_items c.in_ok-forbidden.forbidden (sym c.len.ensures ∙ c.if-len-eq0.true) in (
@@ -20,7 +20,7 @@ returns-then-len-eq0 c = λ names same known apart standing classes given.
     )
 
 pub returns : goal.returns
-returns c = λ names same known apart standing classes given.
+returns c = λ names known apart standing classes given same.
     let i = c.args.instances.now in
     let k = c.args.known.now in
     let first = c.in_ok-forbidden.ensures in

@@ -15,7 +15,7 @@ returns-then-len-eq0-clause-added c = λ names known apart standing classes give
     let x = item_at i c.args.at in
     let row = c.row-words.ensures (map (row_in k) (items_in i)) (row_in k x) c.requires.table
     (slice_get-map (row_in k) (items_in i) c.args.at ∙ ap (option_map (row_in k)) (item_there i c.args.at c.requires.within)) in
-    no_rules _ _ c.args.types.now x _ c.args.statements.now c.args.at (no_items c.push_rules.new.out.items (sym c.push_rules.new.out.ok.0 ∙ sym c.len.ensures ∙ c.if-len-eq0.true)) (of_room _ _ c.args.types.now x _ _ c.clear.ensures.items (c.in_ok-push_rules.ensures (items_in i) names [] ignored tt tt known apart standing classes given row))
+    no_rules _ _ c.args.types.now x _ c.args.statements.now c.args.at (no_items c.push_rules.new.out.items (sym c.push_rules.new.out.ok.0 ∙ sym c.len.ensures ∙ c.if-len-eq0.true)) (of_room _ _ c.args.types.now x _ _ c.clear.ensures.items (c.in_ok-push_rules.ensures (items_in i) [] ignored tt tt names known apart standing classes given row))
 
 pub returns-clause-added : goal.returns-clause-added
 returns-clause-added c = λ names known apart standing classes given.
@@ -26,4 +26,4 @@ returns-clause-added c = λ names known apart standing classes given.
     (slice_get-map (row_in k) (items_in i) c.args.at ∙ ap (option_map (row_in k)) (item_there i c.args.at c.requires.within)) in
     some_rules _ _ c.args.types.now x _ c.args.statements.now c.push.new.self c.args.at
     (c.in_ok-push.ensures ∙ ap (λ l. c.args.statements.now ++ record { place = c.args.at; rules = l } ∷ []) c.as_slice.ensures.value) (of_room _ _ c.args.types.now x _ _ c.clear.ensures.items
-    (c.in_ok-push_rules.ensures (items_in i) names [] ignored tt tt known apart standing classes given row))
+    (c.in_ok-push_rules.ensures (items_in i) [] ignored tt tt names known apart standing classes given row))

@@ -28,5 +28,5 @@ returns c = λ names known apart standing classes given branches row.
     let i = c.args.instances.now in
     let s = enabled_in c.args.known.now in
     let put = rw c.in-Some.is at c.in_ok-branch.ensures s (names kinds.Boolean) branches in
-    c.in_ok-push_rules.ensures (items_in i) names c.args.branches.now.rows (spelled (names kinds.Boolean))
-    (put_is_said (items_in i) s (names kinds.Boolean) (item_at i c.args.at).branch _ put) put known apart standing classes given row
+    c.in_ok-push_rules.ensures (items_in i) c.args.branches.now.rows (spelled (names kinds.Boolean))
+    (put_is_said (items_in i) s (names kinds.Boolean) (item_at i c.args.at).branch _ put) put names known apart standing classes given row

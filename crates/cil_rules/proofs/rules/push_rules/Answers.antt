@@ -16,16 +16,16 @@ use Rattle.cil_rules.specs.Kept.{set_named}
 use Rattle.cil_rules.proofs.rules.push_rules.Goals as goal
 
 pub returns-then-not-same_keyword : goal.returns-then-not-same_keyword
-returns-then-not-same_keyword c = λ xs names branches how taken put known apart standing classes given are.
+returns-then-not-same_keyword c = λ xs branches how taken put names known apart standing classes given are.
     let there = keyword_there c.args.instances.now c.args.at c.statement_there-statement.result.now c.statement_there-statement.ensures.is in
     none_behind _ _ _ _ (other_keyword xs c.args.known.now c.args.keyword how (item_at c.args.instances.now c.args.at) (λ e. true≢false (sym (c.same_keyword.ensures.1 (sym there ∙ e)) ∙ c.if-not-same_keyword.true)))
 
 pub returns-then-not-is_enabled : goal.returns-then-not-is_enabled
-returns-then-not-is_enabled c = λ xs names branches how taken put known apart standing classes given are.
+returns-then-not-is_enabled c = λ xs branches how taken put names known apart standing classes given are.
     none_behind _ _ _ _ (left_out xs c.args.known.now c.args.keyword how (item_at c.args.instances.now c.args.at) (sym c.is_enabled.ensures ∙ c.if-not-is_enabled.true))
 
 pub returns-in_default : goal.returns-in_default
-returns-in_default c = λ xs names branches how taken put known apart standing classes given are.
+returns-in_default c = λ xs branches how taken put names known apart standing classes given are.
     let i = c.args.instances.now in
     let s = c.statement_there-statement.result.now in
     let says = said_there i c.args.at s c.statement_there-statement.ensures.is c.statement_there-statement.ensures.words (ap says_as_written (c.same_keyword.ensures.0 c.if-not-same_keyword.false) ∙ c.requires.written) in
@@ -33,7 +33,7 @@ returns-in_default c = λ xs names branches how taken put known apart standing c
 
 pub returns-in_default-some_at : goal.returns-in_default-some_at
 returns-in_default-some_at c =
-    λ xs names branches how taken put known apart standing classes given row.
+    λ xs branches how taken put names known apart standing classes given row.
     let k = c.args.known.now in
     let i = c.args.instances.now in
     let s = c.statement_there-statement.result.now in
@@ -51,7 +51,7 @@ returns-in_default-some_at c =
 
 pub returns-in_default-2 : goal.returns-in_default-2
 returns-in_default-2 c =
-    λ xs names branches how taken put known apart standing classes given row.
+    λ xs branches how taken put names known apart standing classes given row.
     let k = c.args.known.now in
     let i = c.args.instances.now in
     let s = c.statement_there-statement.result.now in
@@ -69,7 +69,7 @@ returns-in_default-2 c =
 
 pub returns : goal.returns
 returns c =
-    λ xs names branches how taken put known apart standing classes given row.
+    λ xs branches how taken put names known apart standing classes given row.
     let k = c.args.known.now in
     let i = c.args.instances.now in
     let s = c.statement_there-statement.result.now in

@@ -1,6 +1,5 @@
 use Rattle.std.proofs.Common.{◌≡◌, List, ap, arith, inl, inr, length, refl, subst, sym, ◌∙◌}
 use Rattle.std.proofs.lemmas.List.{length-map}
-use Rattle.std.specs.Prelude.{Contains}
 use Rattle.std.specs.List.Sorted.{IsStrictlySortedBy}
 use Rattle.cil_base.specs.Lists.{text_cmp}
 use Rattle.cil_syntax.specs.declared.kind.Kind.TheVariants as kinds
@@ -8,16 +7,16 @@ use Rattle.cil_macros.specs.Items.{items_in}
 use Rattle.cil_names.specs.Entries.{is_in}
 use Rattle.cil_names.specs.Numbers.{AreApart, AreNumbers, names_of}
 use Rattle.cil_classes.specs.declared.row.Class.{Class}
-use Rattle.cil_tables.specs.Compiled.{AreRules}
+use Rattle.cil_tables.specs.Compiled.{AreRules, IsTable}
 use Rattle.cil_tables.specs.declared.tables.Boolean.{Boolean}
 use Rattle.cil_tables.specs.Table.{boolean_names}
 use Rattle.cil_classes.specs.ClassRows.{AreClasses}
+use Rattle.cil_classes.specs.Row.{AreOrderlyRows}
 use Rattle.cil_names.specs.Known.{AreKnown}
 use Rattle.cil_tables.specs.CompileRefusal.{LaterFail}
 use Rattle.cil_tables.proofs.CompileLemmas.{forbidden_fail, handed_on}
 use Rattle.cil_tables.proofs.JoinLemmas.{table_of}
-use Rattle.cil_tables.proofs.NamedLemmas.{class_of_row, classes_are, classes_given, classes_rise, names_are, rows_rise}
-use Rattle.cil_tables.proofs.WideClasses.{few}
+use Rattle.cil_tables.proofs.NamedLemmas.{classes_are, classes_given, classes_rise, names_are, rows_orderly}
 use Rattle.cil_tables.proofs.compiler.tables_of.Goals as goal
 
 pub judged_sets-requires-clause-namespaces : goal.judged_sets-requires-clause-namespaces
@@ -47,10 +46,8 @@ pub judged_sets-requires-clause-apart : goal.judged_sets-requires-clause-apart
 judged_sets-requires-clause-apart c = subst (AreApart c.args.lookup.now.names.now (is_in c.args.lookup.now.enabled.now)) (sym c.as_slice.ensures.value) (c.in_ok-numbering.ensures.apart c.requires.plain)
 
 pub given_permissions-requires-clause-rows : goal.given_permissions-requires-clause-rows
-given_permissions-requires-clause-rows c = λ row member.
-    let k = class_of_row c.args.lookup.now.namespaces.now (items_in c.args.instances.now) c.args.lookup.now.names.now c.requires.entries (is_in c.args.lookup.now.enabled.now) c.in_ok-numbering.numbering.sections c.in_ok-numbering.numbering.numbers.items c.in_ok-numbering.ensures.numbers (c.in_ok-numbering.ensures.apart c.requires.plain) c.args.permissions.now c.requires.permissions c.in_ok-judged.judged.first.rows.items c.in_ok-judged.ensures.0.0 row
-    (subst (λ (rows : List Class). Contains rows row) c.as_slice-rows.ensures.value member) in
-    record { permissions = k.2.permissions.rising; few = few (items_in c.args.instances.now) (is_in c.args.lookup.now.enabled.now) (λ f e. c.in_ok-judged.ensures.1 f (inl e)) k.0 row k.1 k.2 }
+given_permissions-requires-clause-rows c = subst AreOrderlyRows (sym c.as_slice-rows.ensures.value)
+    (rows_orderly c.args.lookup.now.namespaces.now (items_in c.args.instances.now) c.args.lookup.now.names.now c.requires.entries (is_in c.args.lookup.now.enabled.now) c.in_ok-numbering.numbering.sections c.in_ok-numbering.numbering.numbers.items c.in_ok-numbering.ensures.numbers (c.in_ok-numbering.ensures.apart c.requires.plain) c.args.permissions.now c.requires.permissions c.in_ok-judged.judged.first.rows.items c.in_ok-judged.ensures.0.0 (λ f e. c.in_ok-judged.ensures.1 f (inl e)))
 
 pub given_permissions-requires-clause-known : goal.given_permissions-requires-clause-known
 given_permissions-requires-clause-known c =
@@ -72,16 +69,9 @@ given_permissions-requires-clause-apart c = subst (AreApart c.args.lookup.now.na
 pub check_forbidden-requires-clause-nodes : goal.check_forbidden-requires-clause-nodes
 check_forbidden-requires-clause-nodes c = c.in_ok-held.ensures.nodes_rise
 
-pub check_forbidden-requires-clause-rising : goal.check_forbidden-requires-clause-rising
-check_forbidden-requires-clause-rising c = λ row member.
-    rows_rise c.args.lookup.now.namespaces.now (items_in c.args.instances.now) c.args.lookup.now.names.now c.requires.entries (is_in c.args.lookup.now.enabled.now) c.in_ok-numbering.numbering.sections c.in_ok-numbering.numbering.numbers.items c.in_ok-numbering.ensures.numbers (c.in_ok-numbering.ensures.apart c.requires.plain) c.args.permissions.now c.requires.permissions c.in_ok-judged.judged.first.rows.items c.in_ok-judged.ensures.0.0 row
-    (subst (λ (rows : List Class). Contains rows row) c.as_slice-rows.ensures.value member)
-
-pub check_forbidden-requires-clause-few : goal.check_forbidden-requires-clause-few
-check_forbidden-requires-clause-few c = λ row member.
-    let k = class_of_row c.args.lookup.now.namespaces.now (items_in c.args.instances.now) c.args.lookup.now.names.now c.requires.entries (is_in c.args.lookup.now.enabled.now) c.in_ok-numbering.numbering.sections c.in_ok-numbering.numbering.numbers.items c.in_ok-numbering.ensures.numbers (c.in_ok-numbering.ensures.apart c.requires.plain) c.args.permissions.now c.requires.permissions c.in_ok-judged.judged.first.rows.items c.in_ok-judged.ensures.0.0 row
-    (subst (λ (rows : List Class). Contains rows row) c.as_slice-rows.ensures.value member) in
-    few (items_in c.args.instances.now) (is_in c.args.lookup.now.enabled.now) (λ f e. c.in_ok-judged.ensures.1 f (inl e)) k.0 row k.1 k.2
+pub check_forbidden-requires-clause-rows : goal.check_forbidden-requires-clause-rows
+check_forbidden-requires-clause-rows c = subst AreOrderlyRows (sym c.as_slice-rows.ensures.value)
+    (rows_orderly c.args.lookup.now.namespaces.now (items_in c.args.instances.now) c.args.lookup.now.names.now c.requires.entries (is_in c.args.lookup.now.enabled.now) c.in_ok-numbering.numbering.sections c.in_ok-numbering.numbering.numbers.items c.in_ok-numbering.ensures.numbers (c.in_ok-numbering.ensures.apart c.requires.plain) c.args.permissions.now c.requires.permissions c.in_ok-judged.judged.first.rows.items c.in_ok-judged.ensures.0.0 (λ f e. c.in_ok-judged.ensures.1 f (inl e)))
 
 pub given_of-requires-clause-ordered : goal.given_of-requires-clause-ordered
 given_of-requires-clause-ordered c = c.requires.entries.ordered
@@ -89,19 +79,12 @@ given_of-requires-clause-ordered c = c.requires.entries.ordered
 pub given_of-requires-clause-nodes : goal.given_of-requires-clause-nodes
 given_of-requires-clause-nodes c = c.in_ok-held.ensures.nodes_rise
 
-pub given_of-requires-clause-rising : goal.given_of-requires-clause-rising
-given_of-requires-clause-rising c = λ row member.
-    rows_rise c.args.lookup.now.namespaces.now (items_in c.args.instances.now) c.args.lookup.now.names.now c.requires.entries (is_in c.args.lookup.now.enabled.now) c.in_ok-numbering.numbering.sections c.in_ok-numbering.numbering.numbers.items c.in_ok-numbering.ensures.numbers (c.in_ok-numbering.ensures.apart c.requires.plain) c.args.permissions.now c.requires.permissions c.in_ok-judged.judged.first.rows.items c.in_ok-judged.ensures.0.0 row
-    (subst (λ (rows : List Class). Contains rows row) c.as_slice-rows.ensures.value member)
+pub given_of-requires-clause-rows : goal.given_of-requires-clause-rows
+given_of-requires-clause-rows c = subst AreOrderlyRows (sym c.as_slice-rows.ensures.value)
+    (rows_orderly c.args.lookup.now.namespaces.now (items_in c.args.instances.now) c.args.lookup.now.names.now c.requires.entries (is_in c.args.lookup.now.enabled.now) c.in_ok-numbering.numbering.sections c.in_ok-numbering.numbering.numbers.items c.in_ok-numbering.ensures.numbers (c.in_ok-numbering.ensures.apart c.requires.plain) c.args.permissions.now c.requires.permissions c.in_ok-judged.judged.first.rows.items c.in_ok-judged.ensures.0.0 (λ f e. c.in_ok-judged.ensures.1 f (inl e)))
 
-pub given_of-requires-clause-few : goal.given_of-requires-clause-few
-given_of-requires-clause-few c = λ row member.
-    let k = class_of_row c.args.lookup.now.namespaces.now (items_in c.args.instances.now) c.args.lookup.now.names.now c.requires.entries (is_in c.args.lookup.now.enabled.now) c.in_ok-numbering.numbering.sections c.in_ok-numbering.numbering.numbers.items c.in_ok-numbering.ensures.numbers (c.in_ok-numbering.ensures.apart c.requires.plain) c.args.permissions.now c.requires.permissions c.in_ok-judged.judged.first.rows.items c.in_ok-judged.ensures.0.0 row
-    (subst (λ (rows : List Class). Contains rows row) c.as_slice-rows.ensures.value member) in
-    few (items_in c.args.instances.now) (is_in c.args.lookup.now.enabled.now) (λ f e. c.in_ok-judged.ensures.1 f (inl e)) k.0 row k.1 k.2
-
-pub invariant_of-result : goal.invariant_of-result
-invariant_of-result c =
+pub tables_from-requires : goal.tables_from-requires
+tables_from-requires c =
     let same_booleans : boolean_names c.in_ok-booleans.booleans.items ≡ c.in_ok-numbering.numbering.sections.booleans.items = c.in_ok-booleans.ensures.names ∙ c.as_slice-2.ensures.value in
     let known : AreKnown c.args.lookup.now.namespaces.now (items_in c.args.instances.now) c.args.lookup.now.names.now (is_in c.args.lookup.now.enabled.now) (names_of c.in_ok-numbering.numbering.sections) c.as_slice.result.now c.args.permissions.now =
     record {
@@ -116,9 +99,9 @@ invariant_of-result c =
     let apart = subst (AreApart c.args.lookup.now.names.now (is_in c.args.lookup.now.enabled.now)) (sym c.as_slice.ensures.value) (c.in_ok-numbering.ensures.apart c.requires.plain) in
     let given = c.in_ok-given.ensures (names_of c.in_ok-numbering.numbering.sections) known apart (c.in_ok-judged.ensures.0.1.0) classes c.in_ok-held.ensures in
     record {
-      users = subst (IsStrictlySortedBy text_cmp) (sym c.from_vec.ensures) (c.in_ok-numbering.ensures.numbers.lists kinds.User refl).rising;
-      roles = subst (IsStrictlySortedBy text_cmp) (sym c.from_vec-2.ensures) (c.in_ok-numbering.ensures.numbers.lists kinds.Role refl).rising;
-      types = subst (IsStrictlySortedBy text_cmp) (sym c.from_vec-3.ensures) (c.in_ok-numbering.ensures.numbers.lists kinds.Type_ refl).rising;
+      users = (c.in_ok-numbering.ensures.numbers.lists kinds.User refl).rising;
+      roles = (c.in_ok-numbering.ensures.numbers.lists kinds.Role refl).rising;
+      types = (c.in_ok-numbering.ensures.numbers.lists kinds.Type_ refl).rising;
       booleans = subst (IsStrictlySortedBy text_cmp) (sym same_booleans) (c.in_ok-numbering.ensures.numbers.lists kinds.Boolean refl).rising;
       few_booleans =
           let few = c.in_ok-judged.ensures.0.1.1 in
@@ -129,9 +112,7 @@ invariant_of-result c =
       type_aliases = given.type_aliases.rising;
       user_roles = given.user_roles.rising;
       role_types = given.role_types.rising;
-      each_class = λ row member.
-          let k = class_of_row c.args.lookup.now.namespaces.now (items_in c.args.instances.now) c.args.lookup.now.names.now c.requires.entries (is_in c.args.lookup.now.enabled.now) c.in_ok-numbering.numbering.sections c.in_ok-numbering.numbering.numbers.items c.in_ok-numbering.ensures.numbers (c.in_ok-numbering.ensures.apart c.requires.plain) c.args.permissions.now c.requires.permissions c.in_ok-judged.judged.first.rows.items c.in_ok-judged.ensures.0.0 row member in
-          record { permissions = k.2.permissions.rising; few = few (items_in c.args.instances.now) (is_in c.args.lookup.now.enabled.now) (λ f e. c.in_ok-judged.ensures.1 f (inl e)) k.0 row k.1 k.2 };
+      each_class = rows_orderly c.args.lookup.now.namespaces.now (items_in c.args.instances.now) c.args.lookup.now.names.now c.requires.entries (is_in c.args.lookup.now.enabled.now) c.in_ok-numbering.numbering.sections c.in_ok-numbering.numbering.numbers.items c.in_ok-numbering.ensures.numbers (c.in_ok-numbering.ensures.apart c.requires.plain) c.args.permissions.now c.requires.permissions c.in_ok-judged.judged.first.rows.items c.in_ok-judged.ensures.0.0 (λ f e. c.in_ok-judged.ensures.1 f (inl e));
     }
 
 pub returns-in_err-check_forbidden-clause-faults : goal.returns-in_err-check_forbidden-clause-faults
@@ -167,14 +148,15 @@ returns-clause-tables c =
     (classes_are c.args.lookup.now.namespaces.now (items_in c.args.instances.now) c.args.lookup.now.names.now c.requires.entries (is_in c.args.lookup.now.enabled.now) c.in_ok-numbering.numbering.sections c.in_ok-numbering.numbering.numbers.items c.in_ok-numbering.ensures.numbers (c.in_ok-numbering.ensures.apart c.requires.plain) c.args.permissions.now c.requires.permissions c.in_ok-judged.judged.first.rows.items c.in_ok-judged.ensures.0.0) in
     let apart = subst (AreApart c.args.lookup.now.names.now (is_in c.args.lookup.now.enabled.now)) (sym c.as_slice.ensures.value) (c.in_ok-numbering.ensures.apart c.requires.plain) in
     let given = c.in_ok-given.ensures (names_of c.in_ok-numbering.numbering.sections) known apart (c.in_ok-judged.ensures.0.1.0) classes c.in_ok-held.ensures in (
-      table_of (items_in c.args.instances.now) (is_in c.args.lookup.now.enabled.now) (names_of c.in_ok-numbering.numbering.sections) _ _ _ _ c.in_ok-judged.judged.first.rows.items c.in_ok-booleans.booleans.items _ _ _
-          c.from_vec.ensures c.from_vec-2.ensures c.from_vec-3.ensures
+      subst (IsTable (items_in c.args.instances.now) (is_in c.args.lookup.now.enabled.now)) (sym c.tables_from.ensures)
+          (table_of (items_in c.args.instances.now) (is_in c.args.lookup.now.enabled.now) (names_of c.in_ok-numbering.numbering.sections) _ _ _ _ c.in_ok-judged.judged.first.rows.items c.in_ok-booleans.booleans.items _ _ _
+          refl refl refl
           (names kinds.User _ (c.in_ok-numbering.ensures.numbers.lists kinds.User refl)) (names kinds.Role _ (c.in_ok-numbering.ensures.numbers.lists kinds.Role refl))
           (names kinds.Type_ _ (c.in_ok-numbering.ensures.numbers.lists kinds.Type_ refl))
           (names kinds.Boolean _ (c.in_ok-numbering.ensures.numbers.lists kinds.Boolean refl)) same_booleans c.in_ok-booleans.ensures.defaults given.type_aliases
           (classes_given c.args.lookup.now.namespaces.now (items_in c.args.instances.now) c.args.lookup.now.names.now c.requires.entries (is_in c.args.lookup.now.enabled.now) c.in_ok-numbering.numbering.sections c.in_ok-numbering.numbering.numbers.items c.in_ok-numbering.ensures.numbers (c.in_ok-numbering.ensures.apart c.requires.plain) c.args.permissions.now c.requires.permissions c.in_ok-judged.judged.first.rows.items c.in_ok-judged.ensures.0.0)
           given.user_roles given.role_types
           (subst (λ (rows : List Class). AreRules (items_in c.args.instances.now) (is_in c.args.lookup.now.enabled.now) (names_of c.in_ok-numbering.numbering.sections kinds.Type_) rows (names_of c.in_ok-numbering.numbering.sections kinds.Boolean) c.in_ok-given.given.rules)
-          c.as_slice-rows.ensures.value given.rules),
+          c.as_slice-rows.ensures.value given.rules)),
       inr (c.in_ok-judged.ensures.1, inr ((c.in_ok-check_forbidden.ensures (names_of c.in_ok-numbering.numbering.sections) (sym c.as_slice-types.ensures.value) known apart (c.in_ok-judged.ensures.0.1.0) classes c.in_ok-held.ensures).1, refl)),
     )

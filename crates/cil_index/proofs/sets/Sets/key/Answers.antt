@@ -9,4 +9,4 @@ pub returns-then-set-ones : goal.returns-then-set-ones
 returns-then-set-ones c = key_several _ _ _ c.self.view_is c.args.set c.if-set-ones.true c.self.invariant.0
 
 pub returns : goal.returns
-returns c = c.key_of_type.ensures ∙ key_one _ _ _ c.self.view_is c.args.set c.if-set-eq0.false c.if-set-ones.false
+returns c = c.number_key.ensures ∙ key_one _ _ _ c.self.view_is c.args.set c.if-set-eq0.false c.if-set-ones.false
