@@ -24,7 +24,7 @@ use Rattle.cil_index.specs.Found.{CoversAt, HandOver, Matches}
 use Rattle.cil_index.specs.Memberships.{AreMemberships}
 use Rattle.cil_index.specs.Kept.{rule_of}
 use Rattle.cil_index.specs.Sets.{set_of}
-use Rattle.cil_index.proofs.KeyLemmas.{in_key_most, in_key_past}
+use Rattle.cil_index.proofs.KeyLemmas.{in_key_past}
 
 module _ (on : ℕ → Bool) (rules : List Rule) (source target class_ : ℕ) where
   -- the mask has what the rules of these entries cover, and nothing that no rule covers
@@ -79,10 +79,6 @@ same_key class_ source target k c s t = λ i. record { class = c i; source = s i
 pub key_is : (k : Key) (a b c x y z : ℕ) → k ≡ record { class = a; source = b; target = c } → a ≡ x → b ≡ y → c ≡ z → k ≡ record { class = x; source = y; target = z }
 key_is k a b c x y z e p q r = e ∙ (λ i. record { class = p i; source = q i; target = r i })
 
--- a target in a key is at most the greatest
-pub target_most : (class_ source t : ℕ) (k : Key) → IsOf class_ source (in_key t) k → k.target ≤ several
-target_most class_ source t k is = let most = in_key_most t in elim is.target_is [ inl e ↦ omega (arith, e, most) | inr e ↦ omega (arith, e) ]
-
 module _ (on : ℕ → Bool) (rules : List Rule) (s t c : ℕ) where
   -- what all entries with a key hand over
   abbrev pub Hands : List Entry → Key → ℕ → Type 0
@@ -122,15 +118,6 @@ found_by on branches sets records entries index s t c bit covered =
       has_source = covers.has_source;
       covers = record { rule = rule_of branches sets k; is_there = slice_get-map (rule_of branches sets) records at.0 ∙ ap (option_map (rule_of branches sets)) at.2; covers = covers };
     }
-
--- where the class has no entries nothing is covered
-pub none_covered : (on : ℕ → Bool) (branches : List Branch) (sets : List (List ℕ)) (records : List Record) (entries part : List Entry) → IsIndex sets records entries → (s t c : ℕ)
-    → ((e : Entry) → Contains entries e → e.key.class ≡ in_key c → Contains part e) → length part ≡ 0 → (bit : ℕ) → IsBitSet 0 bit ↔ HasCover on (map (rule_of branches sets) records) s t c bit
-none_covered on branches sets records entries part index s t c there none bit = (
-  λ set. absurd (none_set bit set),
-  λ covered. let f = found_by on branches sets records entries index s t c bit covered in
-      let (i, within, is) = there f.entry f.is_entry f.is_of.class_is in absurd (omega (arith, within, none)),
-)
 
 -- ---- sources, one after another
 
@@ -172,23 +159,22 @@ module _ (on : ℕ → Bool) (rules : List Rule) (asked : Asked) (part : List En
   all_sources start mask so_far none n has e bit there of covers = elim (cases_lt n start) [ inl below ↦ so_far.all n (has, below) e bit there of covers | inr ge ↦ absurd (none n has ge) ]
 
 -- what is covered is found by the set of the source alone, by a large set or by one that is noted for the source
-module _ (on : ℕ → Bool) (branches : List Branch) (sets : List (List ℕ)) (records : List Record) (entries part : List Entry) (index : IsIndex sets records entries) (asked : Asked)
-    (there : (e : Entry) → Contains entries e → e.key.class ≡ in_key asked.class → Contains part e) (m : Memberships) (hold : AreMemberships sets m) (source : ℕ) (is_source : source ≡ in_key (suc asked.source))
+module _ (on : ℕ → Bool) (branches : List Branch) (sets : List (List ℕ)) (records : List Record) (entries : List Entry) (index : IsIndex sets records entries) (asked : Asked)
+    (m : Memberships) (hold : AreMemberships sets m) (source : ℕ) (is_source : source ≡ in_key (suc asked.source))
     (alone large own : ℕ)
-    (by_alone : (e : Entry) (bit : ℕ) → Contains part e → IsOf (in_key asked.class) source (in_key asked.target) e.key
+    (by_alone : (e : Entry) (bit : ℕ) → Contains entries e → IsOf (in_key asked.class) source (in_key asked.target) e.key
     → CoversAt on (map (rule_of branches sets) records) asked.source asked.target asked.class e.place bit → IsBitSet alone bit)
-    (by_large : HandOver on (map (rule_of branches sets) records) asked part (λ n. Contains m.large n) large)
-    (by_own : HandOver on (map (rule_of branches sets) records) asked part (λ n. Contains (get_or m.lists.items asked.source []) n) own) where
+    (by_large : HandOver on (map (rule_of branches sets) records) asked entries (λ n. Contains m.large n) large)
+    (by_own : HandOver on (map (rule_of branches sets) records) asked entries (λ n. Contains (get_or m.lists.items asked.source []) n) own) where
   pub in_one_of : (bit : ℕ) → HasCover on (map (rule_of branches sets) records) asked.source asked.target asked.class bit → IsBitSet (bit_or (bit_or alone large) own) bit
   in_one_of bit covered =
       let f = found_by on branches sets records entries index asked.source asked.target asked.class bit covered in
-      let here = there f.entry f.is_entry f.is_of.class_is in
       (set_in_either (bit_or alone large) own bit).1 (elim (hold f.kept.source asked.source f.has_source) [
-        | inl same ↦ inl ((set_in_either alone large bit).1 (inl (by_alone f.entry bit here
+        | inl same ↦ inl ((set_in_either alone large bit).1 (inl (by_alone f.entry bit f.is_entry
             (record { class_is = f.is_of.class_is; source_is = f.is_of.source_is ∙ ap in_key same ∙ sym is_source; target_is = f.is_of.target_is }) f.covers)))
         | inr known ↦ elim known [
-          | inl member ↦ inl ((set_in_either alone large bit).1 (inr (by_large f.kept.source member f.entry bit here f.is_of f.covers)))
-          | inr member ↦ inr (by_own f.kept.source member f.entry bit here f.is_of f.covers)
+          | inl member ↦ inl ((set_in_either alone large bit).1 (inr (by_large f.kept.source member f.entry bit f.is_entry f.is_of f.covers)))
+          | inr member ↦ inr (by_own f.kept.source member f.entry bit f.is_entry f.is_of f.covers)
         ]
       ])
 

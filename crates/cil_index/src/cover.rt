@@ -14,7 +14,7 @@ ghost use Rattle.cil_index.specs.Kept.{rule_of};
 ghost use Rattle.cil_index.specs.Found.{CoversAt, HandOver, Matches};
 ghost use Rattle.cil_index.specs.Searched.{rules_in};
 
-use crate::index::{class_part, of_source, with_key};
+use crate::index::{source_part, with_key};
 use crate::key::{Entry, Key, SEVERAL, next_key, number_key};
 use crate::memberships::Memberships;
 use crate::record::Record;
@@ -40,39 +40,36 @@ pub struct Asked {
     pub class: usize,
 }
 
-/// The permissions that the rules cover, by their index. It takes no memory: for each set that has the source it costs a search by halving
-/// among the entries of the class, two more among those that are left if the class has rules from this set, and a test of each that may reach
-/// the target.
-pub fn covered(
-    searched: &Searched,
-    entries: &[Entry],
-    starts: &[u32],
-    settings: &Settings,
-    asked: &Asked,
-) -> u32
-    requires index { IsIndex searched.now.sets.now searched.now.records.now entries.now }
-    requires starts { AreStarts entries.now starts.now }
+/// Entries of rules, in their order, and where those of each set of sources begin.
+#[derive(Clone, Copy)]
+pub struct Index<'s> {
+    pub entries: &'s [Entry],
+    pub starts: &'s [u32],
+}
+
+/// The permissions that the rules cover, by their index. It takes no memory: for each set that has the source, and for each large one, it costs
+/// two searches by halving among the entries of this set, and a test of each that may reach the target.
+pub fn covered(searched: &Searched, index: &Index, settings: &Settings, asked: &Asked) -> u32
+    requires index { IsIndex searched.now.sets.now searched.now.records.now index.now.entries.now }
+    requires starts { AreStarts index.now.entries.now index.now.starts.now }
     requires memberships { AreMemberships searched.now.sets.now searched.now.memberships.now }
     ensures { (bit : ℕ) → IsBitSet result bit ↔ HasCover (is_on settings.now) (rules_in searched.now) asked.now.source asked.now.target asked.now.class bit }
 {
-    let part = class_part(entries, starts, number_key(asked.class));
-    if part.len() == 0 {
-        return 0;
-    }
     let large = &searched.memberships.large;
-    by_source(searched, part, settings, asked, next_key(asked.source))
-        | by_sources(searched, part, settings, asked, large)
-        | by_own(searched, part, settings, asked)
+    by_source(searched, index, settings, asked, next_key(asked.source))
+        | by_sources(searched, index, settings, asked, large)
+        | by_own(searched, index, settings, asked)
 }
 
 /// The permissions of the rules whose sources are a set that is noted for the source, and that cover what is asked.
-fn by_own(searched: &Searched, part: &[Entry], settings: &Settings, asked: &Asked) -> u32
-    requires { IsSorted entry_cmp part.now }
+fn by_own(searched: &Searched, index: &Index, settings: &Settings, asked: &Asked) -> u32
+    requires sorted { IsSorted entry_cmp index.now.entries.now }
+    requires starts { AreStarts index.now.entries.now index.now.starts.now }
     ensures sound { (bit : ℕ) → IsBitSet result bit → HasCover (is_on settings.now) (rules_in searched.now) asked.now.source asked.now.target asked.now.class bit }
-    ensures all { HandOver (is_on settings.now) (rules_in searched.now) asked.now part.now (λ n. Contains (get_or searched.now.memberships.now.lists.items asked.now.source []) n) result }
+    ensures all { HandOver (is_on settings.now) (rules_in searched.now) asked.now index.now.entries.now (λ n. Contains (get_or searched.now.memberships.now.lists.items asked.now.source []) n) result }
 {
     match searched.memberships.of_type(asked.source) {
-        Some(numbers) => by_sources(searched, part, settings, asked, numbers),
+        Some(numbers) => by_sources(searched, index, settings, asked, numbers),
         None => 0,
     }
 }
@@ -80,19 +77,20 @@ fn by_own(searched: &Searched, part: &[Entry], settings: &Settings, asked: &Aske
 /// The permissions of the rules whose sources are one of these sets, and that cover what is asked.
 fn by_sources(
     searched: &Searched,
-    part: &[Entry],
+    index: &Index,
     settings: &Settings,
     asked: &Asked,
     numbers: &Numbers,
 ) -> u32
-    requires { IsSorted entry_cmp part.now }
+    requires sorted { IsSorted entry_cmp index.now.entries.now }
+    requires starts { AreStarts index.now.entries.now index.now.starts.now }
     ensures sound { (bit : ℕ) → IsBitSet result bit → HasCover (is_on settings.now) (rules_in searched.now) asked.now.source asked.now.target asked.now.class bit }
-    ensures all { HandOver (is_on settings.now) (rules_in searched.now) asked.now part.now (λ n. Contains numbers.now n) result }
+    ensures all { HandOver (is_on settings.now) (rules_in searched.now) asked.now index.now.entries.now (λ n. Contains numbers.now n) result }
 {
     let mut mask = 0;
     let mut start = 0;
     while let Some(number) = numbers.next_from(start) {
-        mask |= by_source(searched, part, settings, asked, number_key(number));
+        mask |= by_source(searched, index, settings, asked, number_key(number));
         if number >= SEVERAL as usize {
             return mask;
         }
@@ -104,24 +102,21 @@ fn by_sources(
 /// The permissions of the rules with the class and a source that cover what is asked: those that reach the target alone, or several types.
 fn by_source(
     searched: &Searched,
-    part: &[Entry],
+    index: &Index,
     settings: &Settings,
     asked: &Asked,
     source: u32,
 ) -> u32
-    requires { IsSorted entry_cmp part.now }
+    requires sorted { IsSorted entry_cmp index.now.entries.now }
+    requires starts { AreStarts index.now.entries.now index.now.starts.now }
     ensures sound { (bit : ℕ) → IsBitSet result bit → HasCover (is_on settings.now) (rules_in searched.now) asked.now.source asked.now.target asked.now.class bit }
-    ensures all { (e : AnEntry) (bit : ℕ) → Contains part.now e → IsOf (in_key asked.now.class) source (in_key asked.now.target) e.key → CoversAt (is_on settings.now) (rules_in searched.now) asked.now.source asked.now.target asked.now.class e.place bit → IsBitSet result bit }
+    ensures all { (e : AnEntry) (bit : ℕ) → Contains index.now.entries.now e → IsOf (in_key asked.now.class) source (in_key asked.now.target) e.key → CoversAt (is_on settings.now) (rules_in searched.now) asked.now.source asked.now.target asked.now.class e.place bit → IsBitSet result bit }
 {
+    let part = source_part(index.entries, index.starts, source);
     let class = number_key(asked.class);
     let target = number_key(asked.target);
-    let rest = of_source(part, class, source);
-    // Of most sets the class has no rule.
-    if rest.len() == 0 {
-        return 0;
-    }
-    found(searched, rest, settings, asked, key(class, source, target))
-        | found(searched, rest, settings, asked, key(class, source, SEVERAL))
+    found(searched, part, settings, asked, key(class, source, target))
+        | found(searched, part, settings, asked, key(class, source, SEVERAL))
 }
 
 /// A key of these parts.
@@ -129,9 +124,9 @@ fn key(class: u32, source: u32, target: u32) -> Key
     ensures { result ≡ record { class = class; source = source; target = target } }
 {
     Key {
+        target,
         class,
         source,
-        target,
     }
 }
 

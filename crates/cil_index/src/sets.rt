@@ -128,6 +128,13 @@ impl Sets {
         }
     }
 
+    /// How many there are.
+    pub fn count(&self) -> usize {
+        (self.ones as usize)
+            .saturating_add(self.several.len())
+            .saturating_add(1)
+    }
+
     /// Those of several types, and how many sets of one type alone stand in front of them.
     pub fn parts(&self) -> Parts<'_>
         ensures { all_sets result.ones result.several.now ≡ self.now }
