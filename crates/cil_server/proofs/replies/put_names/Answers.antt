@@ -1,12 +1,13 @@
 use Rattle.std.proofs.Common.{◌≡◌, arith}
 use Rattle.cil_server.specs.Streams.{Tells}
-use Rattle.cil_server.proofs.NameLemmas.{bit_of, told_all, told_bit, told_hyphen}
+use Rattle.cil_server.proofs.NameLemmas.{bit_of, placed_by, told_all, told_bit, told_hyphen}
 use Rattle.cil_server.proofs.replies.put_names.Goals as goal
 
 pub loop-bit-preserved : goal.loop-bit-preserved
 loop-bit-preserved g c =
     told_bit _ _ _ c.args.output.now c.loop-bit.output c.put_name-is_first.new.output _ _ _ c.loop-bit.invariant
-    (bit_of _ _ _ _ _ _ c.named-name.result (Tells c.loop-bit.output c.put_name-is_first.new.output) c.named-name.ensures c.put_name-is_first.ensures)
+    (bit_of _ _ _ _ _ _ c.named-name.result (Tells c.loop-bit.output c.put_name-is_first.new.output)
+    (placed_by _ _ _ _ c.permissions-names.result.now c.named-name.result c.permissions-names.ensures.all c.permissions-names.ensures.order c.named-name.ensures) c.put_name-is_first.ensures)
 
 pub returns-then-is_first : goal.returns-then-is_first
 returns-then-is_first g c =
