@@ -20,7 +20,7 @@ use Rattle.cil_macros.specs.Macros.{all_standing}
 use Rattle.cil_macros.specs.Openings.{AreOpenings, IsOpening}
 use Rattle.cil_macros.specs.Parameters.{call_arguments, macro_parameters}
 use Rattle.cil_macros.specs.Placed.{Bound, Placed}
-use Rattle.cil_macros.specs.Scene.{IsKnown, IsScene, placed_of_scene}
+use Rattle.cil_macros.specs.Scene.{IsKnown, IsOpened, IsScene, placed_of_scene}
 use Rattle.cil_macros.specs.Walks.{written_in}
 use Rattle.cil_macros.proofs.CallLemmas.{call_there, macro_there}
 use Rattle.cil_macros.proofs.CalledMacros.{unfolded_of}
@@ -136,4 +136,13 @@ all_known s os at are meant within = record {
       let h = in_range s.brought.now.bodies.items c.body x.body x.is_body in
       let many = meant.many in
       omega (arith, h, many);
+}
+
+-- and each call that is unfolded has its body
+pub all_opened : (s : Scene) (os : List Opening) → AreInstances s.spaces.now s.brought.now → AreMeant s.spaces.now s.brought.now s.declared.now os → IsOpened s os
+all_opened s os are meant = record {
+  scene = record { standings = are.standings; brought = are.brought; declared = meant.declared };
+  in_turn = are.in_turn;
+  opened = meant.openings;
+  many = meant.many;
 }

@@ -25,6 +25,9 @@ use Rattle.cil_blocks.specs.Places.{entries_in, statements_in}
 use Rattle.cil_blocks.proofs.EntryLemmas.{standings_length}
 use Rattle.cil_blocks.proofs.NameLemmas.{args_some, at_none}
 use Rattle.cil_macros.specs.declared.entry.Body.{Body}
+use Rattle.cil_macros.specs.declared.listed.Listed.{Listed}
+use Rattle.cil_macros.specs.declared.meant.Argument.{Argument}
+use Rattle.cil_macros.specs.declared.meant.Argument.TheVariants as arguments
 use Rattle.cil_macros.specs.declared.meant.Meant.{Meant}
 use Rattle.cil_macros.specs.declared.openings.Opening.{Opening}
 use Rattle.cil_macros.specs.declared.placed_word.PlacedWord.{PlacedWord}
@@ -33,7 +36,7 @@ use Rattle.cil_macros.specs.Calls.{IsPlaced, Unfolded, is_call, unfolded}
 use Rattle.cil_macros.specs.Instances.{AreInstances, AreMeant}
 use Rattle.cil_macros.specs.Items.{Kept, all_placed, argument_words, call_says, call_words, is_text, item_at, items_in, leaves, listed_unless, macro_words, placed_at, says, scoped_by, unfolded_words, with_macro, word_in_argument}
 use Rattle.cil_macros.specs.Macros.{all_standing}
-use Rattle.cil_macros.specs.Meant.{bounds_by, kind_sign, meant_in, meant_term, scope_there}
+use Rattle.cil_macros.specs.Meant.{bounds_by, kind_sign, meant_in, meant_term, scope_there, value_there}
 use Rattle.cil_macros.specs.Parameters.{Parameter, macro_parameters, parameters_in}
 use Rattle.cil_macros.specs.Placed.{Placed}
 use Rattle.cil_macros.specs.Scene.{IsOpened, placed_of_scene}
@@ -113,7 +116,20 @@ no_bounds : (ps : List Placed) (xs : List Parameter) → bounds_by ps xs [] ≡ 
 no_bounds ps [] = refl
 no_bounds ps (x ∷ xs) = refl
 
-module _ (m : ℕ) (terms : List rust.Term) (arguments : List Meant) (old : List PlacedWord) where
+-- what an argument of a kind adds
+abbrev pub AddsValue : Op → Argument → List PlacedWord → List PlacedWord → Type 0
+AddsValue kind a old new = (ps : List Placed) → map (scoped_by ps) new ≡ map (scoped_by ps) old ++ word_in_argument (value_there ps kind a)
+
+module _ (kind : Op) (a : Argument) (old : List PlacedWord) where
+  -- a word or a string adds what it means
+  pub adds_plain : (m : Meant) → a ≡ arguments.Plain m → (new : List PlacedWord) → AddsArgument kind m old new → AddsValue kind a old new
+  adds_plain m e new adds ps = adds ps ∙ ap (λ x. map (scoped_by ps) old ++ word_in_argument (value_there ps kind x)) (sym e)
+
+  -- a list is no word
+  pub adds_no_list : (l : Listed) → a ≡ arguments.List l → AddsValue kind a old old
+  adds_no_list l e ps = sym (append-nil (map (scoped_by ps) old)) ∙ ap (λ x. map (scoped_by ps) old ++ word_in_argument (value_there ps kind x)) (sym e)
+
+module _ (m : ℕ) (terms : List rust.Term) (arguments : List Argument) (old : List PlacedWord) where
   abbrev left : ℕ → List Parameter
   left i = parameters_in (all_said m (drop i terms))
 
@@ -153,8 +169,8 @@ module _ (m : ℕ) (terms : List rust.Term) (arguments : List Meant) (old : List
             ∙ so.so ps;
       }
 
-      pub one_added : (kind : Op) (name : Named) → parameter_form (said_of m t) ≡ Some (kind, name) → (a : Meant) → taken < length arguments → a ≡ get_or arguments taken a
-          → (new : List PlacedWord) → AddsArgument kind a words new → AreAdded (i + 1) (taken + 1) new
+      pub one_added : (kind : Op) (name : Named) → parameter_form (said_of m t) ≡ Some (kind, name) → (a : Argument) → taken < length arguments → a ≡ get_or arguments taken a
+          → (new : List PlacedWord) → AddsValue kind a words new → AreAdded (i + 1) (taken + 1) new
       one_added kind name e a there at new adds = record { so = λ ps. by ps }
         where
           its : Parameter
@@ -163,7 +179,7 @@ module _ (m : ℕ) (terms : List rust.Term) (arguments : List Meant) (old : List
           by : (ps : List Placed) → map (scoped_by ps) new ++ argument_words (bounds_by ps (left (i + 1)) (drop (taken + 1) arguments))
               ≡ map (scoped_by ps) old ++ argument_words (bounds_by ps (parameters_in (all_said m terms)) arguments)
           by ps =
-              let word = word_in_argument (meant_term ps (kind_sign kind) a) in
+              let word = word_in_argument (value_there ps kind a) in
               let rest = argument_words (bounds_by ps (left (i + 1)) (drop (taken + 1) arguments)) in
               ap (λ xs. xs ++ rest) (adds ps)
               ∙ append_assoc (map (scoped_by ps) words) word rest

@@ -1,5 +1,6 @@
 mod ArgumentExamples
 pub mod ArgumentLemmas
+pub mod ArgumentValues
 pub mod AskedLemmas
 pub mod BodyLemmas
 pub mod BodyMeaning
@@ -34,8 +35,11 @@ pub mod NearestLemmas
 pub mod NestingLemmas
 pub mod OneInstance
 pub mod OpeningLemmas
+pub mod PartLemmas
 pub mod PlacedLemmas
 pub mod PlacedWalk
+pub mod PutLemmas
+pub mod ReadLemmas
 pub mod RoundLemmas
 pub mod SameParameters
 pub mod ScopeEndLemmas

@@ -313,7 +313,7 @@ pub coded_union : (n t r : Bool) → n ≡ false → t ≡ false → r ≡ false
 coded_union n t r e f g = λ i. head_code (sym e i) (sym f i) (sym g i)
 
 module _ (sign : Sign) where
-  abbrev operator : List ℕ → Op → Row → Head
+  abbrev pub operator : List ℕ → Op → Row → Head
   operator word op row = record { words = word ∷ []; op = op; taken = true; row = row }
 
   abbrev one : Row
@@ -322,7 +322,7 @@ module _ (sign : Sign) where
   abbrev two : Row
   two = two_operands (languages.Sets sign)
 
-  abbrev range_head : Head
+  abbrev pub range_head : Head
   range_head = head_of (codes "range" ∷ []) ops.Range two_categories
 
   no_range_head : (b : Bool) → find (λ (h : Head). begins_with h.words []) (if b then range_head ∷ [] else []) ≡ None
@@ -336,7 +336,7 @@ module _ (sign : Sign) where
   no_head = no_range_head (has_ranges sign)
 
   module _ (w : List ℕ) (ws : List (List ℕ)) where
-    abbrev decided : (n a o x b r : Bool) → Option Head
+    abbrev pub decided : (n a o x b r : Bool) → Option Head
     decided n a o x b r =
         cond (n && true) (Some (operator (codes "not") ops.Not one))
         (cond (a && true) (Some (operator (codes "and") ops.And two))
@@ -348,7 +348,7 @@ module _ (sign : Sign) where
     ranged true = refl
     ranged false = refl
 
-    found : head_in (languages.Sets sign) (w ∷ ws)
+    pub found : head_in (languages.Sets sign) (w ∷ ws)
         ≡ decided (same_bytes w (codes "not")) (same_bytes w (codes "and")) (same_bytes w (codes "or")) (same_bytes w (codes "xor")) (has_ranges sign) (same_bytes w (codes "range"))
     unfolding heads begins_with
     found =
@@ -500,14 +500,14 @@ module _ (n : ℕ) (ts : List rust.Term) (t : rust.Term) (some : 1 ≤ length ts
 
 -- ---- two items
 
-two_kept : (n : ℕ) (a b : rust.Term) (xs : List rust.Term) → length xs ≡ 2 → a ≡ get_or xs 0 a → b ≡ get_or xs 1 b → kept_cells n xs ≡ cell_in (said_of n a) ∷ cell_in (said_of n b) ∷ []
+pub two_kept : (n : ℕ) (a b : rust.Term) (xs : List rust.Term) → length xs ≡ 2 → a ≡ get_or xs 0 a → b ≡ get_or xs 1 b → kept_cells n xs ≡ cell_in (said_of n a) ∷ cell_in (said_of n b) ∷ []
 unfolding cells_in
 two_kept n a b [] h p q = absurd (omega (arith, h))
 two_kept n a b (x ∷ []) h p q = absurd (omega (arith, h))
 two_kept n a b (x ∷ y ∷ []) h p q = λ i. cell_in (said_of n (sym p i)) ∷ cell_in (said_of n (sym q i)) ∷ []
 two_kept n a b (x ∷ y ∷ z ∷ xs) h p q = absurd (omega (arith, h))
 
-sole_kept : (n : ℕ) (a : rust.Term) (xs : List rust.Term) → length xs ≡ 1 → a ≡ get_or xs 0 a → kept_cells n xs ≡ cell_in (said_of n a) ∷ []
+pub sole_kept : (n : ℕ) (a : rust.Term) (xs : List rust.Term) → length xs ≡ 1 → a ≡ get_or xs 0 a → kept_cells n xs ≡ cell_in (said_of n a) ∷ []
 unfolding cells_in
 sole_kept n a [] h p = absurd (omega (arith, h))
 sole_kept n a (x ∷ []) h p = ap (λ y. cell_in (said_of n y) ∷ []) (sym p)
@@ -550,11 +550,11 @@ module _ (n : ℕ) (s t : Shape) (items : List rust.Term) where
 -- ---- levels
 
 module _ (cells : List Cell) (first second : Row) (k : ℕ) where
-  as_many : length cells ≡ k → read_row (counted k first second) cells ≡ read_row first cells
+  pub as_many : length cells ≡ k → read_row (counted k first second) cells ≡ read_row first cells
   unfolding read_row
   as_many e = ap (λ b. if b then read_row first cells else read_row second cells) (eq-eqb (length cells) k e)
 
-  not_as_many : (length cells ≡ k → ⊥) → read_row (counted k first second) cells ≡ read_row second cells
+  pub not_as_many : (length cells ≡ k → ⊥) → read_row (counted k first second) cells ≡ read_row second cells
   unfolding read_row
   not_as_many h = ap (λ b. if b then read_row first cells else read_row second cells) (ne_eqb (length cells) k h)
 

@@ -1,7 +1,8 @@
 -- No argument is a list: each word of a placed statement says a word there. Kinds whose arguments may be lists are not
 -- supported yet.
-use Rattle.std.specs.Prelude.{◌≡◌, Bool, true, false, ◌&&◌, not, if◌then◌else◌, cond, List, [], ◌∷◌, ◌++◌, Option, Some, None, find, refl}
-use Rattle.std.proofs.Common.{sym, ◌∙◌, ap, subst}
+use Rattle.std.specs.Prelude.{◌≡◌, Bool, true, false, ◌&&◌, not, if◌then◌else◌, cond, List, [], ◌∷◌, ◌++◌, Option, Some, None, find, refl, IsTrue}
+use Rattle.std.proofs.Common.{ℕ, sym, ◌∙◌, ap, subst}
+use Rattle.std.specs.List.{list_any}
 use Rattle.cil_syntax.specs.declared.kind.Sign.{Sign}
 use Rattle.cil_syntax.specs.declared.kind.Sign.TheVariants as signs
 use Rattle.cil_syntax.specs.declared.term.Op.{Op}
@@ -14,9 +15,16 @@ use Rattle.cil_blocks.specs.Contents.{Standing}
 use Rattle.cil_macros.specs.Calls.{Unfolded, IsPlaced, stands, called, in_branch, in_optional, bound, bound_more, bounds_of_call, called_macro, filled_by, is_repeated, unfolded, unfolded_by, unfolded_with}
 use Rattle.cil_macros.specs.ExpandFaults.{HasMisplaced, IsOfCall, directly, in_its_branch, in_its_optional}
 use Rattle.cil_macros.specs.Items.{argument_words, as_word, is_text as is_text_sign, is_text_value, joined_as, leaves, listed_unless, put_unless, said_as, said_by, unfolded_values, unfolded_words, values_of, word_in_argument, word_of}
+use Rattle.cil_macros.specs.declared.meant.Argument.{Argument}
+use Rattle.cil_macros.specs.declared.meant.Argument.TheVariants as arguments
+use Rattle.cil_macros.specs.Meant.{bounds_by, is_list, kind_sign, meant_in}
 use Rattle.cil_macros.specs.Parameters.{Parameter, argument_of, call_arguments, is_text, macro_parameters}
 use Rattle.cil_macros.specs.Placed.{Bound, Placed, filled, is_misplaced, is_served, meaning, meant_by, put, put_list, takes_lists}
 use Rattle.cil_macros.proofs.ValueLemmas.{leaf_value, name_value, form_value}
+
+pub not_true : (b : Bool) → IsTrue (not b) → b ≡ false
+not_true true h = cc
+not_true false h = refl
 
 -- ---- what is no list
 
@@ -62,6 +70,18 @@ put_so sign (Name at name) h = tt
 put_so sign (Form at op parts) h = listed_put sign at op parts h
 
 -- ---- arguments
+
+module _ (ps : List Placed) where
+  plain_meant : (sign : Sign) (at : Spot) (bytes : List ℕ) (o : Option ℕ) → IsNoList (meant_in ps sign at bytes o)
+  plain_meant sign at bytes None = refl
+  plain_meant sign at bytes (Some k) = tt
+
+  -- arguments of which none is a list
+  pub plain_bounds : (xs : List Parameter) (ms : List Argument) → list_any is_list ms ≡ false → AreNoLists (bounds_by ps xs ms)
+  plain_bounds [] ms e = tt
+  plain_bounds (x ∷ xs) [] e = tt
+  plain_bounds (x ∷ xs) (arguments.Plain m ∷ ms) e = (plain_meant (kind_sign x.kind) m.at m.bytes m.scope, plain_bounds xs ms e)
+  plain_bounds (x ∷ xs) (arguments.List l ∷ ms) e = let f : true ≡ false = e in cc
 
 -- what is read as an argument is none
 no_list_read : (x : Parameter) (t : Term Word) (value : Term Word) → argument_of x t ≡ Some value → IsNoList value

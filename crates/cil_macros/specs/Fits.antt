@@ -15,13 +15,20 @@ use Rattle.cil_macros.specs.Calls.{bound, bound_more, filled_by}
 use Rattle.cil_macros.specs.Parameters.{Parameter, argument_kind, argument_of, cell_in, cells_in, kind_of_argument, read_argument, sound}
 use Rattle.cil_macros.specs.Placed.{Bound, Placed}
 
--- a term that was kept reads by a shape without a fault
-abbrev pub is_read_as : Shape → Term Word → Bool
-is_read_as shape t = is_some (sound ((cell_in t).read shape))
+-- a term that was kept, read by a shape without a fault
+abbrev pub read_as : Shape → Term Word → Option (Term Word)
+read_as shape t = sound ((cell_in t).read shape)
 
--- items that were kept read by a row without a fault
+-- items that were kept, read by a row without a fault
+abbrev pub all_read_as : Row → Terms Word → Option (Terms Word)
+all_read_as row ts = sound (read_row row (cells_in ts))
+
+-- they read so
+abbrev pub is_read_as : Shape → Term Word → Bool
+is_read_as shape t = is_some (read_as shape t)
+
 abbrev pub are_read_as : Row → Terms Word → Bool
-are_read_as row ts = is_some (sound (read_row row (cells_in ts)))
+are_read_as row ts = is_some (all_read_as row ts)
 
 -- an argument has the form of a kind, supported or not
 abbrev pub is_of_kind : Op → Term Word → Bool

@@ -15,6 +15,7 @@ pub mod Item
 pub mod Items
 pub mod Laws
 pub mod ListForms
+pub mod Listed
 pub mod Macros
 pub mod Meant
 pub mod Nearest
@@ -23,6 +24,7 @@ pub mod Openings
 pub mod Opens
 pub mod Parameters
 pub mod Placed
+pub mod Puts
 pub mod Rounds
 pub mod Scene
 pub mod Walks

@@ -73,7 +73,7 @@ fn has_form(kind: Op, argument: &Term) -> bool
 }
 
 /// Whether arguments of a kind may be lists: such kinds are not supported yet.
-fn may_be_list(kind: Op) -> bool
+pub(crate) fn may_be_list(kind: Op) -> bool
     ensures { result ≡ may_be_list kind }
 {
     matches!(
@@ -172,6 +172,10 @@ pub(crate) fn sign_of(kind: Op) -> Sign
         Op::ClassMapKind => Sign::ClassMaps,
         Op::SensitivityKind => Sign::Sensitivities,
         Op::CategoryKind => Sign::Categories,
+        Op::ClassPermissionKind => Sign::ClassPermissions,
+        Op::CategorySetKind => Sign::CategorySets,
+        Op::LevelKind => Sign::Levels,
+        Op::LevelRangeKind => Sign::LevelRanges,
         _ => Sign::Text,
     }
 }

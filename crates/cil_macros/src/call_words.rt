@@ -8,7 +8,7 @@ ghost use Rattle.cil_blocks.specs.Places.{entries_in};
 ghost use Rattle.cil_macros.specs.Calls.{unfolded};
 ghost use Rattle.cil_macros.specs.Items.{argument_words, call_words, is_text, macro_words, scoped_by, unfolded_words, word_in_argument};
 ghost use Rattle.cil_macros.specs.Macros.{all_standing};
-ghost use Rattle.cil_macros.specs.Meant.{bounds_by, kind_sign, meant_term};
+ghost use Rattle.cil_macros.specs.Meant.{bounds_by, kind_sign, meant_term, value_there};
 ghost use Rattle.cil_macros.specs.Parameters.{macro_parameters};
 ghost use Rattle.cil_macros.specs.Placed.{Placed};
 ghost use Rattle.cil_macros.specs.Scene.{IsOpened, IsScene, placed_of_scene};
@@ -17,7 +17,7 @@ ghost use Rattle.cil_macros.specs.Walks.{AreCallsRising, HasNoBody, IsBodyOf, wr
 use crate::arguments::{listed, sign_of};
 use crate::chain::{standing_statement, statement_at};
 use crate::entry::Body;
-use crate::meant::Meant;
+use crate::meant::{Argument, Meant};
 use crate::openings::Opening;
 use crate::placed_word::PlacedWord;
 use crate::scene::Scene;
@@ -112,7 +112,7 @@ fn body_of(bodies: &[Body], at: usize) -> Option<usize>
 /// Adds those of the arguments of a macro that are looked up.
 fn add_looked_up<'a>(
     called: &Statement<'a>,
-    arguments: &[Meant<'a>],
+    arguments: &[Argument<'a>],
     words: &mut Vec<PlacedWord<'a>>,
 ) -> Result<(), NoMemory>
     ensures { OnOk result ((ps : List Placed) → map (scoped_by ps) words.new.items
@@ -131,26 +131,42 @@ fn add_looked_up<'a>(
     Ok(())
 }
 
-/// Adds an argument of a kind, if it is looked up: a word that is no text.
+/// Adds an argument of a kind, if it is a word that is looked up.
 fn add_argument<'a>(
     kind: Op,
-    argument: &Meant<'a>,
+    argument: &Argument<'a>,
     words: &mut Vec<PlacedWord<'a>>,
 ) -> Result<(), NoMemory>
     ensures { OnOk result ((ps : List Placed) → map (scoped_by ps) words.new.items
-        ≡ map (scoped_by ps) words.old.items ++ word_in_argument (meant_term ps (kind_sign kind) argument.now)) }
+        ≡ map (scoped_by ps) words.old.items ++ word_in_argument (value_there ps kind argument.now)) }
+{
+    match argument {
+        Argument::Plain(meant) => add_word(kind, meant, words)?,
+        Argument::List(_) => {}
+    }
+    Ok(())
+}
+
+/// Adds what an argument of a kind means, if it is a word that is looked up: no text.
+fn add_word<'a>(
+    kind: Op,
+    meant: &Meant<'a>,
+    words: &mut Vec<PlacedWord<'a>>,
+) -> Result<(), NoMemory>
+    ensures { OnOk result ((ps : List Placed) → map (scoped_by ps) words.new.items
+        ≡ map (scoped_by ps) words.old.items ++ word_in_argument (meant_term ps (kind_sign kind) meant.now)) }
 {
     let sign = sign_of(kind);
     if is_text(sign) {
         return Ok(());
     }
-    let Some(place) = argument.scope else {
+    let Some(place) = meant.scope else {
         return Ok(());
     };
     words.push(PlacedWord {
         word: Word {
-            at: argument.at,
-            bytes: Excerpt::of(argument.bytes.as_slice()),
+            at: meant.at,
+            bytes: Excerpt::of(meant.bytes.as_slice()),
             sign,
         },
         scope: Some(place),

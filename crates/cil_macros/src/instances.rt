@@ -8,11 +8,11 @@ use crate::calls::{have_one_scope, scope_at, space_at};
 use crate::chain::{Brought, statement_at};
 use crate::declared_names::Declared;
 use crate::entry::Called;
-use crate::meaning::meaning_at;
-use crate::meant::Meant;
+use crate::meaning::{meaning_at, says_words_at};
+use crate::meant::Meaning;
 use crate::nesting::innermost_at;
 use crate::openings::Opening;
-use crate::placed_word::{PlacedWord, placed_word};
+use crate::placed_word::{PlacedWord, Said, said_of_meaning, word_meant};
 use crate::scene::Scene;
 use cil_base::NoMemory;
 use cil_blocks::numbers::Numbers;
@@ -58,14 +58,14 @@ impl<'s, 'p, 'a> Instances<'s, 'p, 'a> {
     ghost use Rattle.cil_blocks.specs.Contents.{is_conditional};
     ghost use Rattle.cil_blocks.specs.Entries.{statement_at};
     ghost use Rattle.cil_blocks.specs.Namespaces.{AreNamespaces, IsNumber};
-    ghost use Rattle.cil_macros.specs.Items.{SaysWords, all_placed, condition_at, item_at, items_in, leaves, namespaces_in, placed_at, scope_by, scoped_by, word_at};
+    ghost use Rattle.cil_macros.specs.Items.{IsWholeSaid, SaysWords, all_placed, condition_at, item_at, items_in, leaves, namespaces_in, placed_at, said_by, said_there, scope_by, scoped_by, word_at};
     ghost use Rattle.cil_blocks.specs.InheritFaults.{most_instances};
     ghost use Rattle.cil_blocks.specs.Places.{entries_in};
     ghost use Rattle.cil_macros.specs.Calls.{IsPlaced, is_call, placed_cmp};
     ghost use Rattle.cil_macros.specs.Depths.{ArePlacedShallow, AreShallowItems};
     ghost use Rattle.cil_macros.specs.Macros.{all_standing};
     ghost use Rattle.cil_macros.specs.Item.{innermost};
-    ghost use Rattle.cil_macros.specs.Meant.{meant_term};
+    ghost use Rattle.cil_macros.specs.Meant.{IsWholeMeaning, meaning_there};
     ghost use Rattle.cil_macros.specs.Rounds.{AreNested};
     ghost use Rattle.cil_macros.specs.Placed.{Placed, meaning};
     ghost use Rattle.cil_macros.specs.Walks.{IsScope, placed_in, written_in};
@@ -230,7 +230,29 @@ impl<'s, 'p, 'a> Instances<'s, 'p, 'a> {
         ensures { scoped_by (all_placed self.now) result ≡ word_at self.now at word.now }
     {
         let meant = self.meaning(at, word);
-        placed_word(word, &meant)
+        word_meant(word, &meant)
+    }
+
+    /// Whether each word of the statement at a place says a word there. Where it is no, a word may say a list. It costs one step.
+    pub fn says_words(&self, at: usize) -> bool
+        requires { at < length (items_in self.now) }
+        ensures { IsTrue result → SaysWords self.now at }
+    {
+        let scene = Scene {
+            spaces: self.spaces,
+            brought: &self.brought,
+            declared: &self.declared,
+        };
+        says_words_at(&scene, self.openings.as_slice(), at)
+    }
+
+    /// What a word of the statement at a place says there: a word, or the list that is the argument for which it stands.
+    pub fn said<'i>(&'i self, at: usize, word: &Word<'a>) -> Said<'i, 'a>
+        requires { at < length (items_in self.now) }
+        ensures says { said_there (all_placed self.now) word.now.sign result ≡ said_by (written_in self.now.0) (placed_at self.now at) word.now }
+        ensures whole { IsWholeSaid (all_placed self.now) result }
+    {
+        said_of_meaning(word, self.meaning(at, word))
     }
 
     /// The words of the call at a place: that of its macro and, where it is unfolded, its arguments that are looked up. A
@@ -258,10 +280,11 @@ impl<'s, 'p, 'a> Instances<'s, 'p, 'a> {
     /// What a word of the statement at a place means there: its argument, if it stands for a parameter of the macro in whose
     /// body it is; and otherwise itself, in the scope of the outermost call for what the body itself declares, and in that of
     /// the place for all else.
-    pub fn meaning(&self, at: usize, word: &Word<'a>) -> Meant<'a>
+    pub fn meaning<'i>(&'i self, at: usize, word: &Word<'a>) -> Meaning<'i, 'a>
         requires { at < length (entries_in self.now.0) + length self.now.1 }
-        ensures { (p : Placed) → slice_get (placed_in self.now.0 self.now.1) at ≡ Some p
-            → meant_term (placed_in self.now.0 self.now.1) word.now.sign result ≡ meaning (written_in self.now.0) p word.now }
+        ensures says { (p : Placed) → slice_get (placed_in self.now.0 self.now.1) at ≡ Some p
+            → meaning_there (placed_in self.now.0 self.now.1) word.now.sign result ≡ meaning (written_in self.now.0) p word.now }
+        ensures whole { IsWholeMeaning (placed_in self.now.0 self.now.1) result }
     {
         let scene = Scene {
             spaces: self.spaces,

@@ -1,0 +1,19 @@
+use Rattle.cil_syntax.specs.declared.kind.Sign.TheVariants as signs
+use Rattle.cil_syntax.specs.Said.{all_said}
+use Rattle.cil_syntax.specs.Shapes.{looked_up, set_of}
+use Rattle.cil_macros.specs.Fits.{all_read_as}
+use Rattle.cil_macros.proofs.ListLemmas.{class_items, no_pair}
+use Rattle.cil_macros.proofs.PutLemmas.{puts_pair, terms_unread}
+use Rattle.cil_macros.proofs.list_values.Caller.push_class_items.Goals as goal
+
+pub returns-then-items-ne2 : goal.returns-then-items-ne2
+returns-then-items-ne2 c =
+    let call = c.args.self.now in
+    terms_unread call.scene.now call.at (all_read_as class_items (all_said call.«module» c.args.items.now))
+    (no_pair call.«module» (looked_up signs.Classes) (set_of signs.Permission) c.args.items.now c.if-items-ne2.true) c.args.parts.now.items c.args.parts.now.items
+
+pub returns : goal.returns
+returns c =
+    let call = c.args.self.now in
+    puts_pair call.scene.now call.at call.«module» c.args.items.now (looked_up signs.Classes) (set_of signs.Permission) c.index-items-0.result c.index-items-1.result
+    c.if-items-ne2.false c.index-items-0.is c.index-items-1.is c.args.parts.now.items c.push_word.new.parts.items c.push_set.new.parts.items c.in_ok-push_word.ensures c.in_ok-push_set.ensures

@@ -1,0 +1,79 @@
+-- Arguments that are lists, as they are put in part by part: with the arguments of the caller put in. No other crate needs these
+-- words.
+use Rattle.std.specs.Prelude.{◌≡◌, ℕ, Bool, true, false, List, [], ◌∷◌, ◌++◌, Option, Some, slice_get}
+use Rattle.cil_syntax.specs.declared.kind.Sign.{Sign}
+use Rattle.cil_syntax.specs.declared.kind.Sign.TheVariants as signs
+use Rattle.cil_syntax.specs.declared.term.Op.{Op}
+use Rattle.cil_syntax.specs.declared.term.Op.TheVariants as ops
+use Rattle.cil_syntax.specs.declared.term.Term as rust
+use Rattle.cil_syntax.specs.declared.term.Word.{Word}
+use Rattle.cil_faults.specs.declared.spot.Spot.{Spot}
+use Rattle.cil_syntax.specs.Readings.{head_word, read_list}
+use Rattle.cil_syntax.specs.Shapes.{Cell, a_list}
+use Rattle.cil_syntax.specs.Terms.{Term, Leaf, Name, Form, Terms, nil}
+use Rattle.cil_macros.specs.declared.listed.Part.{Part}
+use Rattle.cil_macros.specs.declared.scene.Scene.{Scene}
+use Rattle.cil_macros.specs.ListForms.{kept_cells}
+use Rattle.cil_macros.specs.declared.listed.Listed.{Listed}
+use Rattle.cil_macros.specs.declared.listed.Part.TheVariants as kept_parts
+use Rattle.cil_macros.specs.Listed.{IsWholeList, all_parts_of, list_there, parts_of, parts_there}
+use Rattle.cil_macros.specs.Placed.{Placed, all_filled, filled, meaning}
+use Rattle.cil_macros.specs.Scene.{placed_of_scene}
+use Rattle.cil_macros.specs.Walks.{written_in}
+
+-- a permission of a class map, behind which a list is of a class alone. No word of an argument is one
+abbrev pub is_mapped : Sign → Bool
+is_mapped signs.MappedPermissions = true
+is_mapped sign = false
+
+-- sets may be lists
+abbrev pub is_of_sets : Op → Bool
+is_of_sets ops.CategorySetKind = true
+is_of_sets kind = false
+
+-- the list that some items are, as it was kept
+abbrev pub list_cell : ℕ → Spot → List rust.Term → Cell
+list_cell n at items = record { at = at; face = a_list (head_word (kept_cells n items)); read = read_list at (kept_cells n items) }
+
+-- what a term joins
+abbrev pub inside : Term Word → Terms Word
+inside (Leaf w) = nil
+inside (Name at bytes) = nil
+inside (Form at op ts) = ts
+
+-- what was read, if something was, is joined so
+abbrev pub IsJoinedBy : Spot → Option (Term Word) → Op → Type 0
+IsJoinedBy at o op = (t : Term Word) → o ≡ Some t → t ≡ Form at op (inside t)
+
+-- the parts of what a word means at a place were put behind others
+abbrev pub PutsMeaning : Scene → ℕ → Word → List Part → List Part → Type 0
+PutsMeaning s at w old new =
+    (p : Placed) → slice_get (placed_of_scene s) at ≡ Some p
+    → parts_there (placed_of_scene s) new ≡ parts_there (placed_of_scene s) old ++ parts_of (meaning (written_in s.spaces.now) p w)
+
+-- those of what was read, if something was, as it is at a place
+abbrev pub PutsTerm : Scene → ℕ → Option (Term Word) → List Part → List Part → Type 0
+PutsTerm s at o old new =
+    (p : Placed) (t : Term Word) → slice_get (placed_of_scene s) at ≡ Some p → o ≡ Some t
+    → parts_there (placed_of_scene s) new ≡ parts_there (placed_of_scene s) old ++ parts_of (filled (meaning (written_in s.spaces.now) p) t)
+
+abbrev pub PutsTerms : Scene → ℕ → Option (Terms Word) → List Part → List Part → Type 0
+PutsTerms s at o old new =
+    (p : Placed) (ts : Terms Word) → slice_get (placed_of_scene s) at ≡ Some p → o ≡ Some ts
+    → parts_there (placed_of_scene s) new ≡ parts_there (placed_of_scene s) old ++ all_parts_of (all_filled (meaning (written_in s.spaces.now) p) ts)
+
+-- those of what it joins
+abbrev pub PutsInside : Scene → ℕ → Option (Term Word) → List Part → List Part → Type 0
+PutsInside s at o old new =
+    (p : Placed) (t : Term Word) → slice_get (placed_of_scene s) at ≡ Some p → o ≡ Some t
+    → parts_there (placed_of_scene s) new ≡ parts_there (placed_of_scene s) old ++ all_parts_of (all_filled (meaning (written_in s.spaces.now) p) (inside t))
+
+-- the list is what was read, if something was, as it is at a place
+abbrev pub SaysList : Scene → ℕ → Option (Term Word) → Listed → Type 0
+SaysList s at o l =
+    (p : Placed) (t : Term Word) → slice_get (placed_of_scene s) at ≡ Some p → o ≡ Some t
+    → (list_there (placed_of_scene s) l ≡ filled (meaning (written_in s.spaces.now) p) t) × IsWholeList (placed_of_scene s) l
+
+-- a string, as it is kept
+abbrev pub text_parts : Spot → List ℕ → List Part
+text_parts at bytes = kept_parts.Opens at ops.UnreadText ∷ kept_parts.Text at bytes ∷ kept_parts.Closes ∷ []
