@@ -24,7 +24,7 @@ use Rattle.cil_macros.specs.Puts.{SaysList, is_of_sets, list_cell}
 use Rattle.cil_macros.specs.Scene.{SaysValue, placed_of_scene}
 use Rattle.cil_macros.specs.Walks.{written_in}
 use Rattle.cil_macros.proofs.PartLemmas.{says_terms, whole_so}
-use Rattle.cil_macros.proofs.PutLemmas.{filled_form, filled_leaf, level_word_read, no_parts, range_word_read, set_word_read, some_form, word_value}
+use Rattle.cil_macros.proofs.PutLemmas.{class_word_read, filled_form, filled_leaf, level_word_read, no_parts, range_word_read, set_word_read, some_form, word_value}
 use Rattle.cil_macros.proofs.ValueLemmas.{form_value, kept_text, leaf_value, name_value, put_by_kind, string_cell, string_filled, text_is_string}
 
 module _ (c : Cell) (v : Term Word) where
@@ -56,7 +56,7 @@ unfolding cell_in read_word
 leaf_of_kind ops.CategorySetKind w v e f = word_value signs.CategorySets w v (sym (set_word_read signs.CategorySets w false e) ∙ f)
 leaf_of_kind ops.LevelKind w v e f = word_value signs.Levels w v (sym (level_word_read w) ∙ f)
 leaf_of_kind ops.LevelRangeKind w v e f = word_value signs.LevelRanges w v (sym (range_word_read w) ∙ f)
-leaf_of_kind ops.ClassPermissionKind w v e f = cc
+leaf_of_kind ops.ClassPermissionKind w v e f = word_value signs.ClassPermissions w v (sym (class_word_read w) ∙ f)
 leaf_of_kind kind w v e f = leaf_value kind w v f
 
 -- ---- strings and lists

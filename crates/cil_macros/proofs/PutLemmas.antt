@@ -315,6 +315,10 @@ pub level_word_read : (w : Word) → read_as level (Leaf w) ≡ read_as (looked_
 unfolding cell_in read_word
 level_word_read w = refl
 
+pub class_word_read : (w : Word) → read_as class_permission (Leaf w) ≡ read_as (looked_up signs.ClassPermissions) (Leaf w)
+unfolding cell_in read_word
+class_word_read w = refl
+
 pub range_word_read : (w : Word) → read_as range (Leaf w) ≡ read_as (looked_up signs.LevelRanges) (Leaf w)
 unfolding cell_in read_word
 range_word_read w = refl
