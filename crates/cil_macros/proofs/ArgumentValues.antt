@@ -24,7 +24,8 @@ use Rattle.cil_macros.specs.Puts.{SaysList, is_of_sets, list_cell}
 use Rattle.cil_macros.specs.Scene.{SaysValue, placed_of_scene}
 use Rattle.cil_macros.specs.Walks.{written_in}
 use Rattle.cil_macros.proofs.PartLemmas.{says_terms, whole_so}
-use Rattle.cil_macros.proofs.PutLemmas.{class_word_read, filled_form, filled_leaf, level_word_read, no_parts, range_word_read, set_word_read, some_form, word_value}
+use Rattle.cil_macros.proofs.AskLemmas.{class_word_read, filled_form, filled_leaf, level_word_read, range_word_read, set_word_read, some_form, word_value}
+use Rattle.cil_macros.proofs.PutLemmas.{no_parts}
 use Rattle.cil_macros.proofs.ValueLemmas.{form_value, kept_text, leaf_value, name_value, put_by_kind, string_cell, string_filled, text_is_string}
 
 module _ (c : Cell) (v : Term Word) where

@@ -1,6 +1,7 @@
 mod ArgumentExamples
 pub mod ArgumentLemmas
 pub mod ArgumentValues
+pub mod AskLemmas
 pub mod AskedLemmas
 pub mod BodyLemmas
 pub mod BodyMeaning

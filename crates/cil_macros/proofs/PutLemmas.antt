@@ -1,445 +1,69 @@
--- What is put in part by part: the parts of what was read, with the arguments of the caller put in.
-use Rattle.std.specs.Prelude.{Bool, true, false, ◌&&◌, ◌||◌, if◌then◌else◌, Option, Some, None, is_some, codes, slice_get}
-use Rattle.std.specs.declared.alloc.Global.{Global}
-use Rattle.std.specs.declared.vec.Vec.{Vec}
+-- What is put in part by part: bare parts, each word as what it means.
+use Rattle.std.specs.Prelude.{true, false, Option, Some, None, slice_get}
 use Rattle.std.proofs.Common.{◌≡◌, ◌≤◌, ◌<◌, ◌+◌, ℕ, List, [], ◌∷◌, ◌++◌, length, get_or, drop, refl, sym, ◌∙◌, ap, append_assoc}
 use Rattle.std.proofs.lemmas.List.{append-nil, drop_all}
-use Rattle.cil_syntax.specs.declared.kind.Language.TheVariants as languages
+use Rattle.cil_base.specs.Places.{drop_at}
 use Rattle.cil_syntax.specs.declared.kind.Sign.{Sign}
 use Rattle.cil_syntax.specs.declared.kind.Sign.TheVariants as signs
-use Rattle.cil_syntax.specs.declared.term.LookedUp.{LookedUp}
 use Rattle.cil_syntax.specs.declared.term.Op.{Op}
-use Rattle.cil_syntax.specs.declared.term.Op.TheVariants as ops
 use Rattle.cil_faults.specs.declared.spot.Spot.{Spot}
-use Rattle.cil_syntax.specs.declared.term.Term as rust
-use Rattle.cil_syntax.specs.declared.term.Term.TheVariants as variants
 use Rattle.cil_syntax.specs.declared.term.Word.{Word}
-use Rattle.cil_syntax.specs.Heads.{first_words, has_ranges, head_in, one_operand, two_operands}
-use Rattle.cil_syntax.specs.Readings.{formed, read_expression, read_list, read_row}
-use Rattle.cil_syntax.specs.Said.{all_said, said_of, word_in}
 use Rattle.cil_syntax.specs.Scopes.{ScopedWord}
-use Rattle.cil_syntax.specs.Shapes.{Cell, Reading, Row, Shape, close, item, looked_up, many, set_of}
-use Rattle.cil_syntax.specs.Spelling.{same_bytes}
-use Rattle.cil_syntax.specs.Table.{class_permission, level, range}
-use Rattle.cil_syntax.specs.Terms.{Term, Leaf, Form, Terms, nil, cons}
-use Rattle.cil_syntax.specs.Words.{is_spelled, read_looked_up, read_string, read_word, reads, word_faults}
-use Rattle.cil_syntax.proofs.SaidLemmas.{form_said, leaf_said}
-use Rattle.cil_faults.specs.Spots.{spot_at}
-use Rattle.cil_macros.specs.declared.list_arguments.SetHead.{SetHead}
-use Rattle.cil_macros.specs.declared.list_arguments.SetHead.TheVariants as set_heads
+use Rattle.cil_syntax.specs.Terms.{Term, Leaf, Name, Form, Terms, nil, cons}
 use Rattle.cil_macros.specs.declared.listed.Listed.{Listed}
 use Rattle.cil_macros.specs.declared.listed.Part.{Part}
 use Rattle.cil_macros.specs.declared.listed.Part.TheVariants as kept_parts
 use Rattle.cil_macros.specs.declared.meant.Meant.{Meant}
 use Rattle.cil_macros.specs.declared.placed_word.PlacedWord.{PlacedWord}
 use Rattle.cil_macros.specs.declared.scene.Scene.{Scene}
-use Rattle.cil_macros.specs.Fits.{all_read_as, read_as}
-use Rattle.cil_macros.specs.ListForms.{HeadIs, StartsWith, head_code, kept_cells, two_categories, two_code}
-use Rattle.cil_macros.specs.Listed.{all_parts_of, list_there, parts_of, parts_there, scoped_by, word as part_word}
+use Rattle.cil_macros.specs.Listed as lists
+use Rattle.cil_macros.specs.Listed.{IsWholeList, all_parts_of, closes, list_there, opens, part_there, parts_of, parts_there, plain_first, scoped_by, terms_in, text as part_text, word as part_word}
 use Rattle.cil_macros.specs.Meant.{meant_in, meant_term}
-use Rattle.cil_macros.specs.Parameters.{cell_in, cells_in, is_text, kind_of_argument, read_argument, sound, string_in, text_cell}
-use Rattle.cil_macros.specs.Placed.{Placed, all_filled, filled, meaning, put, put_list}
-use Rattle.cil_macros.specs.Puts.{IsJoinedBy, PutsInside, PutsMeaning, PutsTerm, PutsTerms, SaysList, inside, is_mapped, list_cell, text_parts}
+use Rattle.cil_macros.specs.Placed.{Placed, all_filled, filled, meaning, of_plain_class, put, put_list}
+use Rattle.cil_macros.specs.Puts.{AsksInside, IsJoinedBy, PutsMeaning, PutsPart, PutsParts, SaysList, bare, bare_parts, inside, is_mapped, put_part, put_parts, text_parts}
 use Rattle.cil_macros.specs.Scene.{placed_of_scene}
 use Rattle.cil_macros.specs.Walks.{written_in}
-use Rattle.cil_macros.proofs.ArgumentLemmas.{first_left}
-use Rattle.cil_macros.proofs.ListLemmas.{as_many, cells_counted, class_items, level_items, no_level, no_set, not_as_many, range_items, sensitivity_items, set_listed, sole_kept, two_kept}
+use Rattle.cil_macros.proofs.AskLemmas.{filled_form, parts_none}
 use Rattle.cil_macros.proofs.PartLemmas.{behind_there, between, says_terms, whole_so}
-use Rattle.cil_macros.proofs.ReadLemmas.{formed_value, headed_value, many_none, many_value, none_so, one_of_many, pair_value, says_one, says_range, says_two, sole_value, two_of_many, unheaded_none, union_value}
-use Rattle.cil_macros.proofs.ValueLemmas.{one_faultless, text_is_string}
-
--- ---- terms that are filled
-
-module _ (f : Word → Term ScopedWord) where
-  pub filled_leaf : (w : Word) → filled f (Leaf w) ≡ f w
-  unfolding filled
-  filled_leaf w = refl
-
-  pub filled_form : (at : Spot) (op : Op) (ts : Terms Word) → filled f (Form at op ts) ≡ Form at op (all_filled f ts)
-  unfolding filled
-  filled_form at op ts = refl
-
-  parts_more : (t : Term Word) (ts : Terms Word) → all_parts_of (all_filled f (cons t ts)) ≡ parts_of (filled f t) ++ all_parts_of (all_filled f ts)
-  unfolding filled parts_of
-  parts_more t ts = refl
-
-  parts_none : all_parts_of (all_filled f nil) ≡ []
-  unfolding filled parts_of
-  parts_none = refl
-
-no_value : {T : Type 0} (o : Option T) → false ≡ is_some o → (t : T) → o ≡ Some t → ⊥
-no_value None e t f = cc
-no_value (Some x) e t f = cc
-
--- ---- words
-
-pub word_value : (sign : Sign) (w : Word) (v : Term Word) → read_as (looked_up sign) (Leaf w) ≡ Some v → v ≡ Leaf record { at = w.at; bytes = w.bytes; sign = sign }
-unfolding cell_in read_word
-word_value sign w v e = one_faultless (Leaf record { at = w.at; bytes = w.bytes; sign = sign }) (word_faults w.at (is_spelled sign w.bytes) w.bytes) v e
-
-sound_either : (b : Bool) (x y : Option (Reading (Term Word))) → sound (if b then x else y) ≡ (if b then sound x else sound y)
-sound_either true x y = refl
-sound_either false x y = refl
-
-pub set_word_read : (sign : Sign) (w : Word) (b : Bool) → b ≡ same_bytes w.bytes (codes "all")
-    → read_as (set_of sign) (Leaf w) ≡ (if b then Some (Form w.at ops.All nil) else read_as (looked_up sign) (Leaf w))
-unfolding cell_in read_word
-set_word_read sign w b e =
-    ap (λ c. sound (if c then reads (Form w.at ops.All nil) [] else read_looked_up w.at sign w.bytes)) (sym e)
-    ∙ sound_either b (reads (Form w.at ops.All nil) []) (read_looked_up w.at sign w.bytes)
-
-pub some_form : (at : Spot) (op : Op) (v : Term Word) → Some (Form at op nil) ≡ Some v → v ≡ Form at op nil
-some_form at op v e = cc
-
--- ---- forms
-
-module _ (shape : Shape) (no_string : (at : Spot) (bytes : List ℕ) → read_string at bytes shape ≡ None) (n : ℕ) (t : rust.Term) (at : ℕ) (op : Op) (items : Vec rust.Term Global)
-    (is : t ≡ variants.Form op at items) where
-  cell_here : (b : Bool) → b ≡ is_text op → read_as shape (said_of n t) ≡ sound ((if b then text_cell (spot_at n at) (all_said n items.items) else list_cell n (spot_at n at) items.items).read shape)
-  unfolding cell_in
-  cell_here b e =
-      ap (read_as shape) (ap (said_of n) is ∙ form_said n at op items)
-      ∙ ap (λ c. sound ((if c then text_cell (spot_at n at) (all_said n items.items) else list_cell n (spot_at n at) items.items).read shape)) (sym e)
-
-  no_text : sound ((text_cell (spot_at n at) (all_said n items.items)).read shape) ≡ None
-  no_text =
-      ap (λ (c : Cell). sound (c.read shape)) (text_is_string (spot_at n at) (all_said n items.items)) ∙ ap sound (no_string (spot_at n at) (string_in (all_said n items.items)))
-
-  -- what was read of it was read of a list
-  pub read_as_list : (v : Term Word) → read_as shape (said_of n t) ≡ Some v → sound (read_list (spot_at n at) (kept_cells n items.items) shape) ≡ Some v
-  read_as_list v e = by (is_text op) refl
-    where
-      by : (b : Bool) → b ≡ is_text op → sound (read_list (spot_at n at) (kept_cells n items.items) shape) ≡ Some v
-      by true f = let g : None ≡ Some v = sym (cell_here true f ∙ no_text) ∙ e in cc
-      by false f = sym (cell_here false f) ∙ e
-
--- ---- what is put
-
-module _ (s : Scene) (at : ℕ) where
-  abbrev ps : List Placed
-  ps = placed_of_scene s
-
-  abbrev fill : Placed → Word → Term ScopedWord
-  fill p = meaning (written_in s.spaces.now) p
-
-  -- nothing was read
-  pub term_unread : (o : Option (Term Word)) → false ≡ is_some o → (old new : List Part) → PutsTerm s at o old new
-  term_unread o e old new = λ p t here is. absurd (no_value o e t is)
-
-  pub terms_unread : (o : Option (Terms Word)) → false ≡ is_some o → (old new : List Part) → PutsTerms s at o old new
-  terms_unread o e old new = λ p ts here is. absurd (no_value o e ts is)
-
-  -- ---- words
-
-  pub puts_word : (sign : Sign) (n : ℕ) (t : rust.Term) (w : LookedUp) → t ≡ variants.Leaf w → (own : Word) → own.at ≡ spot_at n w.at → own.bytes ≡ w.bytes → own.sign ≡ sign
-      → (old new : List Part) → PutsMeaning s at own old new → PutsTerm s at (read_as (looked_up sign) (said_of n t)) old new
-  puts_word sign n t w is own at_so bytes_so sign_so old new puts = λ p v here e.
-      let one : own ≡ record { at = spot_at n w.at; bytes = w.bytes; sign = sign } = λ i. record { at = at_so i; bytes = bytes_so i; sign = sign_so i } in
-      let value = word_value sign (word_in n w) v (ap (read_as (looked_up sign)) (sym (ap (said_of n) is ∙ leaf_said n w)) ∙ e) in
-      puts p here
-      ∙ ap (λ u. parts_there ps old ++ parts_of u) (ap (fill p) one ∙ sym (filled_leaf (fill p) (record { at = spot_at n w.at; bytes = w.bytes; sign = sign })) ∙ ap (filled (fill p)) (sym value))
-
-  pub puts_all : (sign : Sign) (n : ℕ) (t : rust.Term) (w : LookedUp) → t ≡ variants.Leaf w → true ≡ same_bytes w.bytes (codes "all")
-      → (old first new : List Part) → first ≡ old ++ kept_parts.Opens (spot_at n w.at) ops.All ∷ [] → new ≡ first ++ kept_parts.Closes ∷ []
-      → PutsTerm s at (read_as (set_of sign) (said_of n t)) old new
-  puts_all sign n t w is every old first new f g = λ p v here e.
-      let value = some_form (spot_at n w.at) ops.All v (sym (ap (read_as (set_of sign)) (ap (said_of n) is ∙ leaf_said n w) ∙ set_word_read sign (word_in n w) true every) ∙ e) in
-      between ps (spot_at n w.at) ops.All old first first new (all_filled (fill p) nil) f
-      (sym (ap (λ xs. parts_there ps first ++ xs) (parts_none (fill p)) ∙ append-nil (parts_there ps first))) g
-      ∙ ap (λ u. parts_there ps old ++ parts_of u) (sym (filled_form (fill p) (spot_at n w.at) ops.All nil) ∙ ap (filled (fill p)) (sym value))
-
-  pub puts_set_word : (sign : Sign) (n : ℕ) (t : rust.Term) (w : LookedUp) → t ≡ variants.Leaf w → false ≡ same_bytes w.bytes (codes "all")
-      → (old new : List Part) → PutsTerm s at (read_as (looked_up sign) (said_of n t)) old new → PutsTerm s at (read_as (set_of sign) (said_of n t)) old new
-  puts_set_word sign n t w is other old new puts = λ p v here e.
-      let leaf = ap (said_of n) is ∙ leaf_said n w in
-      puts p v here (ap (read_as (looked_up sign)) leaf ∙ sym (ap (read_as (set_of sign)) leaf ∙ set_word_read sign (word_in n w) false other) ∙ e)
-
-  -- ---- what joins others
-
-  -- between the signs that it begins and ends
-  pub puts_joined : (o : Option (Term Word)) (bt : Spot) (op : Op) → IsJoinedBy bt o op → (old first more new : List Part) → first ≡ old ++ kept_parts.Opens bt op ∷ []
-      → PutsInside s at o first more → new ≡ more ++ kept_parts.Closes ∷ [] → PutsTerm s at o old new
-  puts_joined o bt op joined old first more new f puts g = λ p v here e.
-      between ps bt op old first more new (all_filled (fill p) (inside v)) f (puts p v here e) g
-      ∙ ap (λ u. parts_there ps old ++ parts_of u) (sym (filled_form (fill p) bt op (inside v)) ∙ ap (filled (fill p)) (sym (joined v e)))
-
-  -- a set that is a list
-  pub puts_set_form : (sign : Sign) (n : ℕ) (t : rust.Term) (bt : ℕ) (kept op : Op) (items : Vec rust.Term Global) → t ≡ variants.Form kept bt items → (slice : List rust.Term) → slice ≡ items.items
-      → IsJoinedBy (spot_at n bt) (sound (read_expression (spot_at n bt) (languages.Sets sign) (kept_cells n slice))) op
-      → (old first more new : List Part) → first ≡ old ++ kept_parts.Opens (spot_at n bt) op ∷ []
-      → PutsInside s at (sound (read_expression (spot_at n bt) (languages.Sets sign) (kept_cells n slice))) first more → new ≡ more ++ kept_parts.Closes ∷ []
-      → PutsTerm s at (read_as (set_of sign) (said_of n t)) old new
-  puts_set_form sign n t bt kept op items is slice same joined old first more new f puts g = λ p v here e.
-      puts_joined (sound (read_expression (spot_at n bt) (languages.Sets sign) (kept_cells n slice))) (spot_at n bt) op joined old first more new f puts g p v here
-      (ap (λ ts. sound (read_expression (spot_at n bt) (languages.Sets sign) (kept_cells n ts))) same
-      ∙ ap sound (sym (set_listed (spot_at n bt) (kept_cells n items.items) sign))
-      ∙ read_as_list (set_of sign) (λ ct bytes. no_set ct bytes sign) n t bt kept items is v e)
-
-  module _ (bt : Spot) (op : Op) (o : Option (Reading (Terms Word))) where
-    pub formed_joined : IsJoinedBy bt (sound (formed bt op [] o)) op
-    formed_joined v e = let f = formed_value bt op o v e in f.so ∙ ap (Form bt op) (sym (ap inside f.so))
-
-    pub formed_inside : (old new : List Part) → PutsTerms s at (sound o) old new → PutsInside s at (sound (formed bt op [] o)) old new
-    formed_inside old new puts = λ p v here e.
-        let f = formed_value bt op o v e in
-        puts p f.parts here f.read ∙ ap (λ ts. parts_there ps old ++ all_parts_of (all_filled (fill p) ts)) (sym (ap inside f.so))
-
-  -- what was read another way
-  pub inside_as : (x y : Option (Term Word)) → ((v : Term Word) → x ≡ Some v → y ≡ Some v) → (old new : List Part) → PutsInside s at y old new → PutsInside s at x old new
-  inside_as x y same old new puts = λ p v here e. puts p v here (same v e)
-
-  pub joined_as : (x y : Option (Term Word)) → ((v : Term Word) → x ≡ Some v → y ≡ Some v) → (bt : Spot) (op : Op) → IsJoinedBy bt y op → IsJoinedBy bt x op
-  joined_as x y same bt op joined = λ v e. joined v (same v e)
-
-  pub term_as : (x y : Option (Term Word)) → ((v : Term Word) → x ≡ Some v → y ≡ Some v) → (old new : List Part) → PutsTerm s at y old new → PutsTerm s at x old new
-  term_as x y same old new puts = λ p v here e. puts p v here (same v e)
-
-  -- ---- one item after another
-
-  module _ (shape : Shape) (n : ℕ) (items : List rust.Term) (skipped : ℕ) (old : List Part) where
-    abbrev left : ℕ → Option (Terms Word)
-    left i = all_read_as (many shape) (all_said n (drop i items))
-
-    -- so far: with the parts of the rest they are those of all
-    pub record IsRest (p : Placed) (ts : Terms Word) (i : ℕ) (now : List Part) : Type 0 where
-      pub rest : Terms Word
-      pub read : left i ≡ Some rest
-      pub so : parts_there ps now ++ all_parts_of (all_filled (fill p) rest) ≡ parts_there ps old ++ all_parts_of (all_filled (fill p) ts)
-
-    abbrev pub ArePut : ℕ → List Part → Type 0
-    ArePut i now = (p : Placed) (ts : Terms Word) → slice_get ps at ≡ Some p → left skipped ≡ Some ts → IsRest p ts i now
-
-    pub none_put : ArePut skipped old
-    none_put = λ p ts here e. record { rest = ts; read = e; so = refl }
-
-    pub one_put : (i : ℕ) (now new : List Part) (t : rust.Term) → i < length items → t ≡ get_or items i t → PutsTerm s at (read_as shape (said_of n t)) now new → ArePut i now → ArePut (i + 1) new
-    unfolding cells_in
-    one_put i now new t within is puts so = λ p ts here e.
-        let r = so p ts here e in
-        let j = many_value shape (cell_in (said_of n t)) (kept_cells n (drop (i + 1) items)) r.rest
-        (ap (all_read_as (many shape)) (sym (first_left n items i t within is)) ∙ r.read) in
-        record {
-          rest = j.rest;
-          read = j.rest_read;
-          so = ap (λ xs. xs ++ all_parts_of (all_filled (fill p) j.rest)) (puts p j.first here j.first_read)
-              ∙ append_assoc (parts_there ps now) (parts_of (filled (fill p) j.first)) (all_parts_of (all_filled (fill p) j.rest))
-              ∙ ap (λ xs. parts_there ps now ++ xs) (sym (parts_more (fill p) j.first j.rest) ∙ ap (λ us. all_parts_of (all_filled (fill p) us)) (sym j.so))
-              ∙ r.so;
-        }
-
-    pub all_put : (i : ℕ) (now : List Part) → length items ≤ i → ArePut i now → PutsTerms s at (left skipped) old now
-    unfolding cells_in
-    all_put i now over so = λ p ts here e.
-        let r = so p ts here e in
-        let none = many_none shape r.rest (ap (λ us. all_read_as (many shape) (all_said n us)) (sym (drop_all i items over)) ∙ r.read) in
-        sym (append-nil (parts_there ps now))
-        ∙ ap (λ xs. parts_there ps now ++ xs) (sym (parts_none (fill p)) ∙ ap (λ us. all_parts_of (all_filled (fill p) us)) (sym none))
-        ∙ r.so
-
-  pub terms_as : (x y : Option (Terms Word)) → x ≡ y → (old new : List Part) → PutsTerms s at y old new → PutsTerms s at x old new
-  terms_as x y same old new puts = λ p v here e. puts p v here (sym same ∙ e)
-
-  -- ---- two items
-
-  module _ (n : ℕ) (items : List rust.Term) where
-    pub puts_pair : (x y : Shape) (a b : rust.Term) → length items ≡ 2 → a ≡ get_or items 0 a → b ≡ get_or items 1 b → (old mid new : List Part)
-        → PutsTerm s at (read_as x (said_of n a)) old mid → PutsTerm s at (read_as y (said_of n b)) mid new
-        → PutsTerms s at (all_read_as (item x (item y close)) (all_said n items)) old new
-    puts_pair x y a b two first second old mid new f g = λ p ts here e.
-        let v = pair_value x y (cell_in (said_of n a)) (cell_in (said_of n b)) ts (ap (λ cs. sound (read_row (item x (item y close)) cs)) (sym (two_kept n a b items two first second)) ∙ e) in
-        let one = parts_of (filled (fill p) v.0) in
-        let other = parts_of (filled (fill p) v.1) in
-        g p v.1 here v.3
-        ∙ ap (λ xs. xs ++ other) (f p v.0 here v.2)
-        ∙ append_assoc (parts_there ps old) one other
-        ∙ ap (λ xs. parts_there ps old ++ (one ++ xs)) (sym (parts_more (fill p) v.1 nil ∙ ap (λ xs. other ++ xs) (parts_none (fill p)) ∙ append-nil other))
-        ∙ ap (λ xs. parts_there ps old ++ xs) (sym (parts_more (fill p) v.0 (cons v.1 nil)))
-        ∙ ap (λ us. parts_there ps old ++ all_parts_of (all_filled (fill p) us)) (sym v.4)
-
-    pub puts_sole : (x : Shape) (a : rust.Term) → length items ≡ 1 → a ≡ get_or items 0 a → (old new : List Part) → PutsTerm s at (read_as x (said_of n a)) old new
-        → PutsTerms s at (all_read_as (item x close) (all_said n items)) old new
-    puts_sole x a one first old new f = λ p ts here e.
-        let v = sole_value x (cell_in (said_of n a)) ts (ap (λ cs. sound (read_row (item x close) cs)) (sym (sole_kept n a items one first)) ∙ e) in
-        f p v.0 here v.1
-        ∙ ap (λ xs. parts_there ps old ++ xs) (sym (parts_more (fill p) v.0 nil ∙ ap (λ xs. parts_of (filled (fill p) v.0) ++ xs) (parts_none (fill p)) ∙ append-nil (parts_of (filled (fill p) v.0))))
-        ∙ ap (λ us. parts_there ps old ++ all_parts_of (all_filled (fill p) us)) (sym v.2)
-
-    -- ---- lists of sets
-
-    module _ (sign : Sign) (bt : Spot) where
-      abbrev read_here : List rust.Term → Option (Term Word)
-      read_here ts = sound (read_expression bt (languages.Sets sign) (kept_cells n ts))
-
-      -- a union
-      union_puts : head_in (languages.Sets sign) (first_words (kept_cells n items)) ≡ None → (old new : List Part)
-          → PutsTerms s at (all_read_as (many (set_of sign)) (all_said n items)) old new → PutsInside s at (read_here items) old new
-      union_puts none old new puts = λ p v here e.
-          let f = union_value sign bt v (kept_cells n items) none e in
-          puts p f.parts here f.read ∙ ap (λ ts. parts_there ps old ++ all_parts_of (all_filled (fill p) ts)) (sym (ap inside f.so))
-
-      pub unheaded_puts : first_words (kept_cells n items) ≡ [] → (old new : List Part) → PutsTerms s at (all_read_as (many (set_of sign)) (all_said n items)) old new
-          → PutsInside s at (read_here items) old new
-      unheaded_puts e = union_puts (unheaded_none n items sign e)
-
-      module _ (w : List ℕ) (code : SetHead)
-          (coded : code ≡ head_code (same_bytes w (codes "not")) ((same_bytes w (codes "and") || same_bytes w (codes "or")) || same_bytes w (codes "xor")) (has_ranges sign && same_bytes w (codes "range"))) where
-        headed_puts : (op : Op) (row : Row) → ((words : List (List ℕ)) → StartsWith w words → HeadIs (head_in (languages.Sets sign) words) op row)
-            → (x : Shape) → ((cells : List Cell) (v : Terms Word) → sound (read_row row cells) ≡ Some v → sound (read_row (many x) cells) ≡ Some v)
-            → (ts : List rust.Term) → StartsWith w (first_words (kept_cells n ts)) → (old new : List Part)
-            → PutsTerms s at (all_read_as (many x) (all_said n (drop 1 ts))) old new → PutsInside s at (read_here ts) old new
-        unfolding cells_in first_words
-        headed_puts op row has x some [] starts old new puts = let e : [] ≡ w ∷ starts.0 = starts.1 in cc
-        headed_puts op row has x some (t ∷ ts) starts old new puts = λ p v here e.
-            let f = headed_value sign bt v (cell_in (said_of n t)) (kept_cells n ts) op row (has (first_words (kept_cells n (t ∷ ts))) starts) e in
-            puts p f.parts here (some (kept_cells n ts) f.parts f.read) ∙ ap (λ us. parts_there ps old ++ all_parts_of (all_filled (fill p) us)) (sym (ap inside f.so))
-
-        module _ (starts : StartsWith w (first_words (kept_cells n items))) where
-          pub union_puts_so : code ≡ set_heads.Union → (old new : List Part) → PutsTerms s at (all_read_as (many (set_of sign)) (all_said n items)) old new → PutsInside s at (read_here items) old new
-          union_puts_so is = union_puts (none_so n items sign w code coded starts is)
-
-          pub one_puts : code ≡ set_heads.One → (old new : List Part) → PutsTerms s at (all_read_as (many (set_of sign)) (all_said n (drop 1 items))) old new → PutsInside s at (read_here items) old new
-          one_puts is = headed_puts ops.Not (one_operand (languages.Sets sign)) (says_one sign w code coded is) (set_of sign) (one_of_many (set_of sign)) items starts
-
-          pub two_puts : code ≡ set_heads.Two → (old new : List Part) → PutsTerms s at (all_read_as (many (set_of sign)) (all_said n (drop 1 items))) old new → PutsInside s at (read_here items) old new
-          two_puts is =
-              headed_puts (two_code (same_bytes w (codes "and")) (same_bytes w (codes "or"))) (two_operands (languages.Sets sign)) (says_two sign w code coded is)
-              (set_of sign) (two_of_many (set_of sign)) items starts
-
-          pub range_puts : code ≡ set_heads.Range → (old new : List Part) → PutsTerms s at (all_read_as (many (looked_up signs.Categories)) (all_said n (drop 1 items))) old new
-              → PutsInside s at (read_here items) old new
-          range_puts is = headed_puts ops.Range two_categories (says_range sign w code coded is) (looked_up signs.Categories) (two_of_many (looked_up signs.Categories)) items starts
-
--- ---- levels, and lists of each kind
-
-pub level_word_read : (w : Word) → read_as level (Leaf w) ≡ read_as (looked_up signs.Levels) (Leaf w)
-unfolding cell_in read_word
-level_word_read w = refl
-
-pub class_word_read : (w : Word) → read_as class_permission (Leaf w) ≡ read_as (looked_up signs.ClassPermissions) (Leaf w)
-unfolding cell_in read_word
-class_word_read w = refl
-
-pub range_word_read : (w : Word) → read_as range (Leaf w) ≡ read_as (looked_up signs.LevelRanges) (Leaf w)
-unfolding cell_in read_word
-range_word_read w = refl
-
-module _ (bt : Spot) (cells : List Cell) where
-  level_list_read : read_list bt cells level ≡ formed bt ops.Level [] (read_row level_items cells)
-  unfolding read_list
-  level_list_read = refl
-
-  range_list_read : read_list bt cells range ≡ formed bt ops.LevelRange [] (read_row range_items cells)
-  unfolding read_list
-  range_list_read = refl
-
-  class_list_read : read_list bt cells class_permission ≡ formed bt ops.ClassPermissions [] (read_row class_items cells)
-  unfolding read_list
-  class_list_read = refl
-
--- a list of another kind is no argument
-pub other_kind : (n : ℕ) (bt : Spot) (items : List rust.Term) (kind : Op) → (kind ≡ ops.ClassPermissionKind → ⊥) → (kind ≡ ops.CategorySetKind → ⊥) → (kind ≡ ops.LevelKind → ⊥)
-    → (kind ≡ ops.LevelRangeKind → ⊥) → (v : Term Word) → read_argument (kind_of_argument kind) (list_cell n bt items) ≡ Some v → ⊥
-unfolding read_list
-other_kind n bt items ops.ClassPermissionKind a b c d v e = a refl
-other_kind n bt items ops.CategorySetKind a b c d v e = b refl
-other_kind n bt items ops.LevelKind a b c d v e = c refl
-other_kind n bt items ops.LevelRangeKind a b c d v e = d refl
-other_kind n bt items ops.TypeKind a b c d v e = cc
-other_kind n bt items kind a b c d v e = cc
-
-module _ (s : Scene) (at : ℕ) (n : ℕ) where
-  pub puts_level_word : (t : rust.Term) (w : LookedUp) → t ≡ variants.Leaf w → (old new : List Part) → PutsTerm s at (read_as (looked_up signs.Levels) (said_of n t)) old new
-      → PutsTerm s at (read_as level (said_of n t)) old new
-  puts_level_word t w is old new puts = λ p v here e.
-      let leaf = ap (said_of n) is ∙ leaf_said n w in
-      puts p v here (ap (read_as (looked_up signs.Levels)) leaf ∙ sym (ap (read_as level) leaf ∙ level_word_read (word_in n w)) ∙ e)
-
-  pub puts_level_form : (t : rust.Term) (bt : ℕ) (kept : Op) (items : Vec rust.Term Global) → t ≡ variants.Form kept bt items → (slice : List rust.Term) → slice ≡ items.items
-      → (old first more new : List Part) → first ≡ old ++ kept_parts.Opens (spot_at n bt) ops.Level ∷ [] → PutsTerms s at (all_read_as level_items (all_said n slice)) first more
-      → new ≡ more ++ kept_parts.Closes ∷ [] → PutsTerm s at (read_as level (said_of n t)) old new
-  puts_level_form t bt kept items is slice same old first more new f puts g = λ p v here e.
-      let o = read_row level_items (kept_cells n slice) in
-      puts_joined s at (sound (formed (spot_at n bt) ops.Level [] o)) (spot_at n bt) ops.Level (formed_joined s at (spot_at n bt) ops.Level o) old first more new f
-      (formed_inside s at (spot_at n bt) ops.Level o first more puts) g p v here
-      (ap (λ ts. sound (formed (spot_at n bt) ops.Level [] (read_row level_items (kept_cells n ts)))) same
-      ∙ ap sound (sym (level_list_read (spot_at n bt) (kept_cells n items.items)))
-      ∙ read_as_list level no_level n t bt kept items is v e)
-
-  module _ (items : List rust.Term) where
-    pub puts_sensitivity : (a : rust.Term) → length items ≡ 1 → a ≡ get_or items 0 a → (old new : List Part) → PutsTerm s at (read_as (looked_up signs.Sensitivities) (said_of n a)) old new
-        → PutsTerms s at (all_read_as level_items (all_said n items)) old new
-    puts_sensitivity a one first old new puts =
-        terms_as s at (all_read_as level_items (all_said n items)) (all_read_as (item (looked_up signs.Sensitivities) close) (all_said n items))
-        (ap sound (as_many (kept_cells n items) (item (looked_up signs.Sensitivities) close) sensitivity_items 1 (cells_counted n items ∙ one))) old new
-        (puts_sole s at n items (looked_up signs.Sensitivities) a one first old new puts)
-
-    pub puts_sensitivity_items : (length items ≡ 1 → ⊥) → (old new : List Part) → PutsTerms s at (all_read_as sensitivity_items (all_said n items)) old new
-        → PutsTerms s at (all_read_as level_items (all_said n items)) old new
-    puts_sensitivity_items never old new puts =
-        terms_as s at (all_read_as level_items (all_said n items)) (all_read_as sensitivity_items (all_said n items))
-        (ap sound (not_as_many (kept_cells n items) (item (looked_up signs.Sensitivities) close) sensitivity_items 1 (λ e. never (sym (cells_counted n items) ∙ e)))) old new puts
-
-    -- ---- what a list of each kind joins
-
-    module _ (bt : Spot) (kind : Op) where
-      abbrev argument : Option (Term Word)
-      argument = read_argument (kind_of_argument kind) (list_cell n bt items)
-
-      class_argument : kind ≡ ops.ClassPermissionKind → argument ≡ sound (formed bt ops.ClassPermissions [] (read_row class_items (kept_cells n items)))
-      class_argument is = ap (λ k. read_argument (kind_of_argument k) (list_cell n bt items)) is ∙ ap sound (class_list_read bt (kept_cells n items))
-
-      level_argument : kind ≡ ops.LevelKind → argument ≡ sound (formed bt ops.Level [] (read_row level_items (kept_cells n items)))
-      level_argument is = ap (λ k. read_argument (kind_of_argument k) (list_cell n bt items)) is ∙ ap sound (level_list_read bt (kept_cells n items))
-
-      range_argument : kind ≡ ops.LevelRangeKind → argument ≡ sound (formed bt ops.LevelRange [] (read_row range_items (kept_cells n items)))
-      range_argument is = ap (λ k. read_argument (kind_of_argument k) (list_cell n bt items)) is ∙ ap sound (range_list_read bt (kept_cells n items))
-
-      set_argument : kind ≡ ops.CategorySetKind → argument ≡ sound (read_expression bt (languages.Sets signs.CategorySets) (kept_cells n items))
-      set_argument is = ap (λ k. read_argument (kind_of_argument k) (list_cell n bt items)) is ∙ ap sound (set_listed bt (kept_cells n items) signs.CategorySets)
-
-      -- by one equation
-      pub joined_by : (op : Op) (y : Option (Term Word)) → argument ≡ y → IsJoinedBy bt y op → IsJoinedBy bt argument op
-      joined_by op y same joined = λ v e. joined v (sym same ∙ e)
-
-      pub inside_by : (y : Option (Term Word)) → argument ≡ y → (old new : List Part) → PutsInside s at y old new → PutsInside s at argument old new
-      inside_by y same old new puts = λ p v here e. puts p v here (sym same ∙ e)
-
-      pub class_joined : kind ≡ ops.ClassPermissionKind → IsJoinedBy bt argument ops.ClassPermissions
-      class_joined is = joined_by ops.ClassPermissions _ (class_argument is) (formed_joined s at bt ops.ClassPermissions (read_row class_items (kept_cells n items)))
-
-      pub class_inside : kind ≡ ops.ClassPermissionKind → (old new : List Part) → PutsTerms s at (all_read_as class_items (all_said n items)) old new → PutsInside s at argument old new
-      class_inside is old new puts = inside_by _ (class_argument is) old new (formed_inside s at bt ops.ClassPermissions (read_row class_items (kept_cells n items)) old new puts)
-
-      pub level_joined : kind ≡ ops.LevelKind → IsJoinedBy bt argument ops.Level
-      level_joined is = joined_by ops.Level _ (level_argument is) (formed_joined s at bt ops.Level (read_row level_items (kept_cells n items)))
-
-      pub level_inside : kind ≡ ops.LevelKind → (old new : List Part) → PutsTerms s at (all_read_as level_items (all_said n items)) old new → PutsInside s at argument old new
-      level_inside is old new puts = inside_by _ (level_argument is) old new (formed_inside s at bt ops.Level (read_row level_items (kept_cells n items)) old new puts)
-
-      pub range_joined_by : kind ≡ ops.LevelRangeKind → IsJoinedBy bt argument ops.LevelRange
-      range_joined_by is = joined_by ops.LevelRange _ (range_argument is) (formed_joined s at bt ops.LevelRange (read_row range_items (kept_cells n items)))
-
-      pub range_inside : kind ≡ ops.LevelRangeKind → (old new : List Part) → PutsTerms s at (all_read_as range_items (all_said n items)) old new → PutsInside s at argument old new
-      range_inside is old new puts = inside_by _ (range_argument is) old new (formed_inside s at bt ops.LevelRange (read_row range_items (kept_cells n items)) old new puts)
-
-      pub set_joined : kind ≡ ops.CategorySetKind → (op : Op) → IsJoinedBy bt (sound (read_expression bt (languages.Sets signs.CategorySets) (kept_cells n items))) op → IsJoinedBy bt argument op
-      set_joined is op joined = joined_by op _ (set_argument is) joined
-
-      pub set_inside : kind ≡ ops.CategorySetKind → (old new : List Part) → PutsInside s at (sound (read_expression bt (languages.Sets signs.CategorySets) (kept_cells n items))) old new
-          → PutsInside s at argument old new
-      set_inside is old new puts = inside_by _ (set_argument is) old new puts
 
 -- a list without parts
 pub no_parts : (ps : List Placed) (l : Listed) → l.parts.items ≡ [] → (f : Word → Term ScopedWord) → parts_there ps l.parts.items ≡ all_parts_of (all_filled f nil)
 no_parts ps l none f = ap (parts_there ps) none ∙ sym (parts_none f)
 
+-- ---- bare parts, put in
+
+module _ (f : Word → Term ScopedWord) where
+  put_behind : (xs ys : List lists.Part) → put_parts f (xs ++ ys) ≡ put_parts f xs ++ put_parts f ys
+  unfolding put_parts
+  put_behind [] ys = refl
+  put_behind (x ∷ xs) ys = ap (λ zs. put_part f x ++ zs) (put_behind xs ys) ∙ sym (append_assoc (put_part f x) (put_parts f xs) (put_parts f ys))
+
+  mutual
+    unfolding put_parts filled parts_of
+
+    -- bare parts of a term, put in, are the parts of what it is filled with
+    pub term_put : (t : Term Word) → put_parts f (parts_of (filled bare t)) ≡ parts_of (filled f t)
+    term_put (Leaf w) = append-nil (parts_of (f w))
+    term_put (Name at bytes) = refl
+    term_put (Form at op ts) =
+        ap (λ xs. opens at op ∷ xs)
+        (put_behind (all_parts_of (all_filled bare ts)) (closes ∷ []) ∙ ap (λ xs. xs ++ closes ∷ []) (terms_put ts))
+
+    pub terms_put : (ts : Terms Word) → put_parts f (all_parts_of (all_filled bare ts)) ≡ all_parts_of (all_filled f ts)
+    terms_put nil = refl
+    terms_put (cons t ts) =
+        put_behind (parts_of (filled bare t)) (all_parts_of (all_filled bare ts))
+        ∙ ap (λ xs. xs ++ put_parts f (all_parts_of (all_filled bare ts))) (term_put t)
+        ∙ ap (λ xs. parts_of (filled f t) ++ xs) (terms_put ts)
+
 -- the list that was made of the parts
-pub list_says : (s : Scene) (at : ℕ) (o : Option (Term Word)) (bt : Spot) (op : Op) → IsJoinedBy bt o op → (old : List Part) → old ≡ [] → (l : Listed) → l.at ≡ bt → l.op ≡ op
-    → PutsInside s at o old l.parts.items → SaysList s at o l
-list_says s at o bt op joined old none l at_so op_so puts = λ p v here e.
+pub list_says : (s : Scene) (at : ℕ) (o : Option (Term Word)) (bt : Spot) (op : Op) → IsJoinedBy bt o op → (none asked old : List Part) → none ≡ [] → AsksInside o none asked → old ≡ []
+    → (l : Listed) → l.at ≡ bt → l.op ≡ op → PutsParts s at asked old l.parts.items → SaysList s at o l
+list_says s at o bt op joined none asked old first asks empty l at_so op_so puts = λ p v here e.
     let f = meaning (written_in s.spaces.now) p in
     let ps = placed_of_scene s in
-    let parts = puts p v here e ∙ ap (λ xs. parts_there ps xs ++ all_parts_of (all_filled f (inside v))) none in (
+    let read = asks v e ∙ ap (λ xs. bare_parts xs ++ all_parts_of (all_filled bare (inside v))) first in
+    let parts = puts p here ∙ ap (λ xs. parts_there ps xs ++ put_parts f (bare_parts asked)) empty ∙ ap (put_parts f) read ∙ terms_put f (inside v) in (
       (λ i. Form (at_so i) (op_so i) (says_terms ps l (all_filled f (inside v)) parts i)) ∙ sym (filled_form f bt op (inside v)) ∙ ap (filled f) (sym (joined v e)),
       whole_so ps l (all_filled f (inside v)) parts,
     )
@@ -469,3 +93,89 @@ kept_list sign e at op ts = refl
 -- a list stays as it is where no permission of a class map stands
 pub list_meant : (ps : List Placed) (sign : Sign) → is_mapped sign ≡ false → (l : Listed) → list_there ps l ≡ put sign (list_there ps l)
 list_meant ps sign e l = kept_list sign e l.at l.op _
+
+mapped_sign : (sign : Sign) → is_mapped sign ≡ true → sign ≡ signs.MappedPermissions
+mapped_sign signs.MappedPermissions e = refl
+mapped_sign sign e = cc
+
+plain_class_parts : (ts : Terms ScopedWord) → all_parts_of (of_plain_class ts) ≡ plain_first (all_parts_of ts)
+unfolding parts_of
+plain_class_parts nil = refl
+plain_class_parts (cons (Leaf w) ts) = refl
+plain_class_parts (cons (Name at bytes) ts) = refl
+plain_class_parts (cons (Form at op parts) ts) = refl
+
+module _ (ps : List Placed) where
+  pub mapped_between : (l : Listed) (old first more new : List Part) → first ≡ old ++ kept_parts.Opens l.at l.op ∷ []
+      → parts_there ps more ≡ parts_there ps first ++ plain_first (parts_there ps l.parts.items) → new ≡ more ++ kept_parts.Closes ∷ [] → IsWholeList ps l
+      → parts_there ps new ≡ parts_there ps old ++ parts_of (put signs.MappedPermissions (list_there ps l))
+  mapped_between l old first more new e f g whole =
+      between ps l.at l.op old first more new (of_plain_class (terms_in (parts_there ps l.parts.items))) e
+      (f ∙ ap (λ xs. parts_there ps first ++ xs) (ap plain_first whole ∙ sym (plain_class_parts (terms_in (parts_there ps l.parts.items))))) g
+
+  -- a list where a word of a sign stands
+  module _ (sign : Sign) (l : Listed) (old new : List Part) where
+    pub list_for : is_mapped sign ≡ false → parts_there ps new ≡ parts_there ps old ++ parts_of (list_there ps l) → parts_there ps new ≡ parts_there ps old ++ parts_of (put sign (list_there ps l))
+    list_for other e = e ∙ ap (λ x. parts_there ps old ++ parts_of x) (list_meant ps sign other l)
+
+    pub mapped_for : is_mapped sign ≡ true → parts_there ps new ≡ parts_there ps old ++ parts_of (put signs.MappedPermissions (list_there ps l))
+        → parts_there ps new ≡ parts_there ps old ++ parts_of (put sign (list_there ps l))
+    mapped_for mapped e = e ∙ ap (λ x. parts_there ps old ++ parts_of (put x (list_there ps l))) (sym (mapped_sign sign mapped))
+
+-- ---- one part after another
+
+-- a sign that a list begins or ends, and a string, stay as they are
+module _ (s : Scene) (at : ℕ) (x : Part) (old new : List Part) where
+  pub puts_word_part : (w : PlacedWord) → x ≡ kept_parts.Word w → PutsMeaning s at w.word old new → PutsPart s at x old new
+  puts_word_part w is puts = λ p here.
+      puts p here ∙ ap (λ y. parts_there (placed_of_scene s) old ++ put_part (meaning (written_in s.spaces.now) p) (part_there [] y)) (sym is)
+
+  pub puts_as_is : (y : Part) → y ≡ x → new ≡ old ++ y ∷ [] → ((ps : List Placed) (f : Word → Term ScopedWord) → part_there ps x ∷ [] ≡ put_part f (part_there [] x)) → PutsPart s at x old new
+  puts_as_is y same e stays = λ p here.
+      behind_there (placed_of_scene s) old (y ∷ []) new e
+      ∙ ap (λ z. parts_there (placed_of_scene s) old ++ part_there (placed_of_scene s) z ∷ []) same
+      ∙ ap (λ xs. parts_there (placed_of_scene s) old ++ xs) (stays (placed_of_scene s) (meaning (written_in s.spaces.now) p))
+
+  stays_by : (y : Part) → x ≡ y → ((ps : List Placed) (f : Word → Term ScopedWord) → part_there ps y ∷ [] ≡ put_part f (part_there [] y))
+      → (ps : List Placed) (f : Word → Term ScopedWord) → part_there ps x ∷ [] ≡ put_part f (part_there [] x)
+  stays_by y is same ps f = ap (λ z. part_there ps z ∷ []) is ∙ same ps f ∙ ap (λ z. put_part f (part_there [] z)) (sym is)
+
+  pub text_stays : (bt : Spot) (bytes : List ℕ) → x ≡ kept_parts.Text bt bytes → (y : Part) → y ≡ x → new ≡ old ++ y ∷ [] → PutsPart s at x old new
+  text_stays bt bytes is y same e = puts_as_is y same e (stays_by (kept_parts.Text bt bytes) is (λ ps f. refl))
+
+  pub begin_stays : (bt : Spot) (op : Op) → x ≡ kept_parts.Opens bt op → (y : Part) → y ≡ x → new ≡ old ++ y ∷ [] → PutsPart s at x old new
+  begin_stays bt op is y same e = puts_as_is y same e (stays_by (kept_parts.Opens bt op) is (λ ps f. refl))
+
+  pub end_stays : x ≡ kept_parts.Closes → (y : Part) → y ≡ x → new ≡ old ++ y ∷ [] → PutsPart s at x old new
+  end_stays is y same e = puts_as_is y same e (stays_by kept_parts.Closes is (λ ps f. refl))
+
+module _ (s : Scene) (at : ℕ) (asked : List Part) (old : List Part) where
+  abbrev fill : Placed → Word → Term ScopedWord
+  fill p = meaning (written_in s.spaces.now) p
+
+  abbrev ps : List Placed
+  ps = placed_of_scene s
+
+  -- so far: with those of the rest they are all
+  abbrev pub AreIn : ℕ → List Part → Type 0
+  AreIn i now = (p : Placed) → slice_get ps at ≡ Some p
+      → parts_there ps now ++ put_parts (fill p) (bare_parts (drop i asked)) ≡ parts_there ps old ++ put_parts (fill p) (bare_parts asked)
+
+  pub none_in : AreIn 0 old
+  none_in = λ p here. refl
+
+  pub one_in : (i : ℕ) (now new : List Part) (x : Part) → i < length asked → x ≡ get_or asked i x → PutsPart s at x now new → AreIn i now → AreIn (i + 1) new
+  unfolding put_parts
+  one_in i now new x within is puts so = λ p here.
+      let rest = put_parts (fill p) (bare_parts (drop (i + 1) asked)) in
+      ap (λ xs. xs ++ rest) (puts p here)
+      ∙ append_assoc (parts_there ps now) (put_part (fill p) (part_there [] x)) rest
+      ∙ ap (λ xs. parts_there ps now ++ put_parts (fill p) (bare_parts xs)) (sym (drop_at asked i x x within is))
+      ∙ so p here
+
+  pub all_in : (i : ℕ) (now : List Part) → length asked ≤ i → AreIn i now → PutsParts s at asked old now
+  unfolding put_parts
+  all_in i now over so = λ p here.
+      sym (append-nil (parts_there ps now))
+      ∙ ap (λ xs. parts_there ps now ++ put_parts (fill p) (bare_parts xs)) (sym (drop_all i asked over))
+      ∙ so p here

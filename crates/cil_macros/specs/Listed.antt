@@ -1,6 +1,7 @@
 -- An argument that is a list, as it is kept: its parts one after another, not as a tree. So no pass over it calls itself, however
 -- many macros handed it on. This project's profile.
 use Rattle.std.specs.Prelude.{◌≡◌, ℕ, List, [], ◌∷◌, ◌++◌, map, Option, Some, None, slice_get}
+use Rattle.cil_syntax.specs.declared.kind.Sign.TheVariants as signs
 use Rattle.cil_syntax.specs.declared.term.Op.{Op}
 use Rattle.cil_faults.specs.declared.spot.Spot.{Spot}
 use Rattle.cil_syntax.specs.Scopes.{ScopedWord}
@@ -9,7 +10,7 @@ use Rattle.cil_macros.specs.declared.listed.Listed as kept
 use Rattle.cil_macros.specs.declared.listed.Part as kept_part
 use Rattle.cil_macros.specs.declared.listed.Part.TheVariants as kept_parts
 use Rattle.cil_macros.specs.declared.placed_word.PlacedWord.{PlacedWord}
-use Rattle.cil_macros.specs.Placed.{Placed}
+use Rattle.cil_macros.specs.Placed.{Placed, wanting}
 
 -- ---- words in scopes
 
@@ -45,6 +46,14 @@ unfoldable mutual
   pub all_parts_of : Terms ScopedWord → List Part
   all_parts_of nil = []
   all_parts_of (cons t ts) = parts_of t ++ all_parts_of ts
+
+-- where a permission of a class map stands, a list is of a class alone: so its first part is, if it is a word
+abbrev pub plain_first : List Part → List Part
+plain_first [] = []
+plain_first (word w ∷ xs) = word (wanting signs.PlainClass w) ∷ xs
+plain_first (text at bytes ∷ xs) = text at bytes ∷ xs
+plain_first (opens at op ∷ xs) = opens at op ∷ xs
+plain_first (closes ∷ xs) = closes ∷ xs
 
 -- ---- what parts say
 

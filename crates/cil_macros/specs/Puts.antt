@@ -1,5 +1,5 @@
--- Arguments that are lists, as they are put in part by part: with the arguments of the caller put in. No other crate needs these
--- words.
+-- Arguments that are lists, as they are put in part by part: first as they are written, and then with the arguments of the caller put
+-- in. No other crate needs these words.
 use Rattle.std.specs.Prelude.{◌≡◌, ℕ, Bool, true, false, List, [], ◌∷◌, ◌++◌, Option, Some, slice_get}
 use Rattle.cil_syntax.specs.declared.kind.Sign.{Sign}
 use Rattle.cil_syntax.specs.declared.kind.Sign.TheVariants as signs
@@ -9,6 +9,7 @@ use Rattle.cil_syntax.specs.declared.term.Term as rust
 use Rattle.cil_syntax.specs.declared.term.Word.{Word}
 use Rattle.cil_faults.specs.declared.spot.Spot.{Spot}
 use Rattle.cil_syntax.specs.Readings.{head_word, read_list}
+use Rattle.cil_syntax.specs.Scopes.{ScopedWord}
 use Rattle.cil_syntax.specs.Shapes.{Cell, a_list}
 use Rattle.cil_syntax.specs.Terms.{Term, Leaf, Name, Form, Terms, nil}
 use Rattle.cil_macros.specs.declared.listed.Part.{Part}
@@ -16,8 +17,9 @@ use Rattle.cil_macros.specs.declared.scene.Scene.{Scene}
 use Rattle.cil_macros.specs.ListForms.{kept_cells}
 use Rattle.cil_macros.specs.declared.listed.Listed.{Listed}
 use Rattle.cil_macros.specs.declared.listed.Part.TheVariants as kept_parts
+use Rattle.cil_macros.specs.Listed as lists
 use Rattle.cil_macros.specs.Listed.{IsWholeList, all_parts_of, list_there, parts_of, parts_there}
-use Rattle.cil_macros.specs.Placed.{Placed, all_filled, filled, meaning}
+use Rattle.cil_macros.specs.Placed.{Placed, all_filled, filled, meaning, unasked}
 use Rattle.cil_macros.specs.Scene.{placed_of_scene}
 use Rattle.cil_macros.specs.Walks.{written_in}
 
@@ -45,28 +47,61 @@ inside (Form at op ts) = ts
 abbrev pub IsJoinedBy : Spot → Option (Term Word) → Op → Type 0
 IsJoinedBy at o op = (t : Term Word) → o ≡ Some t → t ≡ Form at op (inside t)
 
+-- ---- as it is written
+
+-- a word as it is written: in no scope yet
+abbrev pub bare : Word → Term ScopedWord
+bare w = Leaf (unasked w)
+
+-- parts of which each word is bare
+abbrev pub bare_parts : List Part → List lists.Part
+bare_parts xs = parts_there [] xs
+
+-- the parts of what was read, if something was, were put behind others
+abbrev pub AsksTerm : Option (Term Word) → List Part → List Part → Type 0
+AsksTerm o old new = (t : Term Word) → o ≡ Some t → bare_parts new ≡ bare_parts old ++ parts_of (filled bare t)
+
+abbrev pub AsksTerms : Option (Terms Word) → List Part → List Part → Type 0
+AsksTerms o old new = (ts : Terms Word) → o ≡ Some ts → bare_parts new ≡ bare_parts old ++ all_parts_of (all_filled bare ts)
+
+-- those of what it joins
+abbrev pub AsksInside : Option (Term Word) → List Part → List Part → Type 0
+AsksInside o old new = (t : Term Word) → o ≡ Some t → bare_parts new ≡ bare_parts old ++ all_parts_of (all_filled bare (inside t))
+
+-- ---- as it is meant
+
+-- the word that is in a scope
+abbrev pub unscoped : ScopedWord → Word
+unscoped w = record { at = w.at; bytes = w.bytes; sign = w.sign }
+
+-- a part, where words are replaced
+abbrev pub put_part : (Word → Term ScopedWord) → lists.Part → List lists.Part
+put_part f (lists.word w) = parts_of (f (unscoped w))
+put_part f (lists.text at bytes) = lists.text at bytes ∷ []
+put_part f (lists.opens at op) = lists.opens at op ∷ []
+put_part f lists.closes = lists.closes ∷ []
+
+unfoldable pub put_parts : (Word → Term ScopedWord) → List lists.Part → List lists.Part
+put_parts f [] = []
+put_parts f (x ∷ xs) = put_part f x ++ put_parts f xs
+
 -- the parts of what a word means at a place were put behind others
 abbrev pub PutsMeaning : Scene → ℕ → Word → List Part → List Part → Type 0
 PutsMeaning s at w old new =
     (p : Placed) → slice_get (placed_of_scene s) at ≡ Some p
     → parts_there (placed_of_scene s) new ≡ parts_there (placed_of_scene s) old ++ parts_of (meaning (written_in s.spaces.now) p w)
 
--- those of what was read, if something was, as it is at a place
-abbrev pub PutsTerm : Scene → ℕ → Option (Term Word) → List Part → List Part → Type 0
-PutsTerm s at o old new =
-    (p : Placed) (t : Term Word) → slice_get (placed_of_scene s) at ≡ Some p → o ≡ Some t
-    → parts_there (placed_of_scene s) new ≡ parts_there (placed_of_scene s) old ++ parts_of (filled (meaning (written_in s.spaces.now) p) t)
+-- those of a bare part, a word as what it means at a place
+abbrev pub PutsPart : Scene → ℕ → Part → List Part → List Part → Type 0
+PutsPart s at x old new =
+    (p : Placed) → slice_get (placed_of_scene s) at ≡ Some p
+    → parts_there (placed_of_scene s) new ≡ parts_there (placed_of_scene s) old ++ put_part (meaning (written_in s.spaces.now) p) (lists.part_there [] x)
 
-abbrev pub PutsTerms : Scene → ℕ → Option (Terms Word) → List Part → List Part → Type 0
-PutsTerms s at o old new =
-    (p : Placed) (ts : Terms Word) → slice_get (placed_of_scene s) at ≡ Some p → o ≡ Some ts
-    → parts_there (placed_of_scene s) new ≡ parts_there (placed_of_scene s) old ++ all_parts_of (all_filled (meaning (written_in s.spaces.now) p) ts)
-
--- those of what it joins
-abbrev pub PutsInside : Scene → ℕ → Option (Term Word) → List Part → List Part → Type 0
-PutsInside s at o old new =
-    (p : Placed) (t : Term Word) → slice_get (placed_of_scene s) at ≡ Some p → o ≡ Some t
-    → parts_there (placed_of_scene s) new ≡ parts_there (placed_of_scene s) old ++ all_parts_of (all_filled (meaning (written_in s.spaces.now) p) (inside t))
+-- those of bare parts
+abbrev pub PutsParts : Scene → ℕ → List Part → List Part → List Part → Type 0
+PutsParts s at asked old new =
+    (p : Placed) → slice_get (placed_of_scene s) at ≡ Some p
+    → parts_there (placed_of_scene s) new ≡ parts_there (placed_of_scene s) old ++ put_parts (meaning (written_in s.spaces.now) p) (bare_parts asked)
 
 -- the list is what was read, if something was, as it is at a place
 abbrev pub SaysList : Scene → ℕ → Option (Term Word) → Listed → Type 0

@@ -1,20 +1,14 @@
-//! Arguments that are lists, part by part, as their parameters ask: each word as what it means where the call is. That an argument
-//! has the form of its kind was asked before (`list_arguments.rt`), so other forms put in nothing that counts. Costs a step for each
-//! part.
+//! Arguments that are lists, with the arguments of the caller put in: each word as what it means where the call is. A list is first taken
+//! part by part as it is written (`list_parts.rt`). Costs a step for each part.
 
-ghost use Rattle.std.specs.Prelude.{◌≡◌, ◌&&◌, ◌++◌, ℕ, List, OnOk, codes};
-ghost use Rattle.cil_faults.specs.declared.spot.Spot.{Spot as ASpot};
-ghost use Rattle.cil_syntax.specs.declared.kind.Language.TheVariants as languages;
-ghost use Rattle.cil_syntax.specs.Readings.{read_expression};
-ghost use Rattle.cil_syntax.specs.Spelling.{same_bytes};
-ghost use Rattle.cil_macros.specs.ListForms.{kept_cells, two_code};
-ghost use Rattle.cil_macros.specs.Listed.{IsWholeList, all_parts_of, list_there, parts_of, parts_there};
+ghost use Rattle.std.specs.Prelude.{◌≡◌, ◌++◌, ◌∷◌, [], List, OnOk};
+ghost use Rattle.cil_syntax.specs.declared.kind.Sign.TheVariants as signs;
+ghost use Rattle.cil_macros.specs.Listed.{IsWholeList, list_there, parts_of, parts_there, plain_first};
 ghost use Rattle.cil_macros.specs.Meant.{meant_term};
-ghost use Rattle.cil_macros.specs.Parameters.{sound};
-ghost use Rattle.cil_macros.specs.Placed.{Placed};
-ghost use Rattle.cil_macros.specs.Puts.{IsJoinedBy, is_of_sets, text_parts};
+ghost use Rattle.cil_macros.specs.Placed.{Placed, put};
+ghost use Rattle.cil_macros.specs.Puts.{is_mapped, text_parts};
 
-use crate::list_arguments::{SetHead, set_head, word_in_front};
+use crate::list_parts::push_items;
 use crate::listed::{Listed, Part, push_parts};
 use crate::meaning::meaning_at;
 use crate::meant::{Meaning, Meant};
@@ -79,309 +73,117 @@ fn push_list<'a>(parts: &mut Vec<Part<'a>>, list: &Listed<'a>) -> Result<(), NoM
     Ok(())
 }
 
-// ---- sets
+// ---- lists for class maps
 
-/// Whether a word is the set of everything.
-fn is_all(word: &[u8]) -> bool
-    ensures { result ≡ same_bytes word.now (codes "all") }
+/// Whether a sign is that of a permission of a class map.
+fn is_mapped(sign: Sign) -> bool
+    ensures { result ≡ is_mapped sign }
 {
-    word == b"all".as_slice()
+    matches!(sign, Sign::MappedPermissions)
 }
 
-/// The operator of two operands that a word is: and, or, or xor.
-fn two_op(word: &[u8]) -> Op
-    ensures { result ≡ two_code (same_bytes word.now (codes "and")) (same_bytes word.now (codes "or")) }
+/// Adds a list where a word of a sign stands.
+pub(crate) fn push_for<'a>(
+    parts: &mut Vec<Part<'a>>,
+    sign: Sign,
+    list: &Listed<'a>,
+) -> Result<(), NoMemory>
+    ensures { OnOk result ((ps : List Placed) → IsWholeList ps list.now → parts_there ps parts.new.items ≡ parts_there ps parts.old.items ++ parts_of (put sign (list_there ps list.now))) }
 {
-    if word == b"and".as_slice() {
-        return Op::And;
+    if is_mapped(sign) {
+        push_mapped(parts, list)?;
+        return Ok(());
     }
-    if word == b"or".as_slice() {
-        return Op::Or;
-    }
-    Op::Xor
+    push_list(parts, list)?;
+    Ok(())
 }
 
-/// What joins the items of a set over words of a sign.
-fn set_op(sign: Sign, items: &[Term]) -> Op
-    ensures { (n : ℕ) (at : ASpot) → IsJoinedBy at (sound (read_expression at (languages.Sets sign) (kept_cells n items.now))) result }
+/// Adds a list where a permission of a class map stands: there it is of a class alone.
+fn push_mapped<'a>(parts: &mut Vec<Part<'a>>, list: &Listed<'a>) -> Result<(), NoMemory>
+    ensures { OnOk result ((ps : List Placed) → IsWholeList ps list.now
+        → parts_there ps parts.new.items ≡ parts_there ps parts.old.items ++ parts_of (put signs.MappedPermissions (list_there ps list.now))) }
 {
-    let Some(word) = word_in_front(items) else {
-        return Op::Union;
-    };
-    match set_head(sign, word) {
-        SetHead::One => Op::Not,
-        SetHead::Two => two_op(word),
-        SetHead::Range => Op::Range,
-        SetHead::Union => Op::Union,
-    }
+    parts.push(Part::Opens(list.at, list.op))?;
+    push_plain(parts, list.parts.as_slice())?;
+    parts.push(Part::Closes)?;
+    Ok(())
 }
 
-/// Whether an argument of a kind is the set of everything.
-pub(crate) fn is_every(kind: Op, word: &[u8]) -> bool
-    ensures { result ≡ (is_of_sets kind && same_bytes word.now (codes "all")) }
+/// Adds some parts, the first of which wants a class alone if it is a word.
+fn push_plain<'a>(parts: &mut Vec<Part<'a>>, more: &[Part<'a>]) -> Result<(), NoMemory>
+    ensures { OnOk result ((ps : List Placed) → parts_there ps parts.new.items ≡ parts_there ps parts.old.items ++ plain_first (parts_there ps more.now)) }
 {
-    matches!(kind, Op::CategorySetKind) && is_all(word)
+    match more {
+        [] => {}
+        [first, rest @ ..] => {
+            parts.push(plain(first))?;
+            push_parts(parts, rest)?;
+        }
+    }
+    Ok(())
+}
+
+/// A part, which wants a class alone if it is a word.
+fn plain<'a>(part: &Part<'a>) -> Part<'a>
+    ensures { (ps : List Placed) → parts_there ps (result ∷ []) ≡ plain_first (parts_there ps (part.now ∷ [])) }
+{
+    match part {
+        Part::Word(word) => Part::Word(PlacedWord {
+            word: Word {
+                at: word.word.at,
+                bytes: Excerpt::of(word.word.bytes.as_slice()),
+                sign: Sign::PlainClass,
+            },
+            scope: word.scope,
+        }),
+        Part::Text(_, _) => part.copied(),
+        Part::Opens(_, _) => part.copied(),
+        Part::Closes => part.copied(),
+    }
 }
 
 impl<'c, 's, 'p, 'a> Caller<'c, 's, 'p, 'a> {
-    ghost use Rattle.std.specs.Prelude.{◌≡◌, IfOk, OnOk, drop, false};
+    ghost use Rattle.std.specs.Prelude.{◌≡◌, IfOk, OnOk};
     ghost use Rattle.cil_faults.specs.Spots.{spot_at};
-    ghost use Rattle.cil_syntax.specs.declared.kind.Language.TheVariants as languages;
-    ghost use Rattle.cil_syntax.specs.declared.kind.Sign.TheVariants as signs;
-    ghost use Rattle.cil_faults.specs.declared.spot.Spot.{Spot as ASpot};
-    ghost use Rattle.cil_syntax.specs.Readings.{read_expression};
-    ghost use Rattle.cil_syntax.specs.Said.{all_said, said_of};
-    ghost use Rattle.cil_syntax.specs.Shapes.{close, counted, item, looked_up, many, set_of};
-    ghost use Rattle.cil_syntax.specs.Table.{level};
-    ghost use Rattle.cil_macros.specs.Fits.{all_read_as, read_as};
-    ghost use Rattle.cil_macros.specs.ListForms.{kept_cells};
-    ghost use Rattle.cil_macros.specs.Parameters.{kind_of_argument, read_argument, sound};
-    ghost use Rattle.cil_macros.specs.Puts.{IsJoinedBy, PutsInside, PutsMeaning, PutsTerm, PutsTerms, SaysList, is_mapped, list_cell};
-    ghost use Rattle.cil_macros.specs.Scene.{IsKnown, placed_of_scene};
+    ghost use Rattle.cil_macros.specs.Parameters.{kind_of_argument, read_argument};
+    ghost use Rattle.cil_macros.specs.Puts.{PutsMeaning, PutsPart, PutsParts, SaysList, list_cell};
+    ghost use Rattle.cil_macros.specs.Scene.{IsKnown};
 
     /// Adds what a word means where the call is.
     fn push_meaning(&self, parts: &mut Vec<Part<'a>>, word: &Word<'a>) -> Result<(), NoMemory>
-        requires known { IsKnown self.now.scene.now self.now.openings.now self.now.at }
-        requires plain { is_mapped word.now.sign ≡ false }
+        requires { IsKnown self.now.scene.now self.now.openings.now self.now.at }
         ensures { OnOk result (PutsMeaning self.now.scene.now self.now.at word.now parts.old.items parts.new.items) }
     {
         match meaning_at(self.scene, self.openings, self.at, word) {
             Meaning::Plain(meant) => push_meant(parts, word.sign, &meant)?,
-            Meaning::List(list) => push_list(parts, list)?,
+            Meaning::List(list) => push_for(parts, word.sign, list)?,
         }
         Ok(())
     }
 
-    /// Adds a word of a sign.
-    fn push_word(
-        &self,
-        parts: &mut Vec<Part<'a>>,
-        sign: Sign,
-        argument: &Term<'a>,
-    ) -> Result<(), NoMemory>
-        requires known { IsKnown self.now.scene.now self.now.openings.now self.now.at }
-        requires plain { is_mapped sign ≡ false }
-        ensures { OnOk result (PutsTerm self.now.scene.now self.now.at (read_as (looked_up sign) (said_of self.now.«module» argument.now)) parts.old.items parts.new.items) }
+    /// Adds a part: a word as what it means where the call is, anything else as it is.
+    fn put_in_one(&self, parts: &mut Vec<Part<'a>>, asked: &Part<'a>) -> Result<(), NoMemory>
+        requires { IsKnown self.now.scene.now self.now.openings.now self.now.at }
+        ensures { OnOk result (PutsPart self.now.scene.now self.now.at asked.now parts.old.items parts.new.items) }
     {
-        match argument {
-            Term::Leaf(word) => {
-                let own = Word {
-                    at: Spot::of(self.module, word.at),
-                    bytes: Excerpt::of(word.bytes.as_slice()),
-                    sign,
-                };
-                self.push_meaning(parts, &own)?;
-            }
-            Term::Name(_, _) => {}
-            Term::Form(_, _, _) => {}
+        match asked {
+            Part::Word(word) => self.push_meaning(parts, &word.word)?,
+            Part::Text(_, _) => parts.push(asked.copied())?,
+            Part::Opens(_, _) => parts.push(asked.copied())?,
+            Part::Closes => parts.push(asked.copied())?,
         }
         Ok(())
     }
 
-    /// Adds the words of a sign behind so many items.
-    fn push_words(
-        &self,
-        parts: &mut Vec<Part<'a>>,
-        sign: Sign,
-        items: &[Term<'a>],
-        skipped: usize,
-    ) -> Result<(), NoMemory>
-        requires known { IsKnown self.now.scene.now self.now.openings.now self.now.at }
-        requires plain { is_mapped sign ≡ false }
-        ensures { OnOk result (PutsTerms self.now.scene.now self.now.at (all_read_as (many (looked_up sign)) (all_said self.now.«module» (drop skipped items.now))) parts.old.items parts.new.items) }
+    /// Adds parts as they are written, each word as what it means where the call is.
+    fn put_in(&self, parts: &mut Vec<Part<'a>>, asked: &[Part<'a>]) -> Result<(), NoMemory>
+        requires { IsKnown self.now.scene.now self.now.openings.now self.now.at }
+        ensures { OnOk result (PutsParts self.now.scene.now self.now.at asked.now parts.old.items parts.new.items) }
     {
-        for index in skipped..items.len() {
-            self.push_word(parts, sign, &items[index])?;
+        for part in asked {
+            self.put_in_one(parts, part)?;
         }
         Ok(())
-    }
-
-    /// Adds a set over words of a sign.
-    #[cycle(sets)]
-    fn push_set(
-        &self,
-        parts: &mut Vec<Part<'a>>,
-        sign: Sign,
-        argument: &Term<'a>,
-    ) -> Result<(), NoMemory>
-        requires known { IsKnown self.now.scene.now self.now.openings.now self.now.at }
-        requires plain { is_mapped sign ≡ false }
-        ensures { OnOk result (PutsTerm self.now.scene.now self.now.at (read_as (set_of sign) (said_of self.now.«module» argument.now)) parts.old.items parts.new.items) }
-    {
-        match argument {
-            Term::Leaf(word) => {
-                if is_all(word.bytes.as_slice()) {
-                    parts.push(Part::Opens(Spot::of(self.module, word.at), Op::All))?;
-                    parts.push(Part::Closes)?;
-                    return Ok(());
-                }
-                self.push_word(parts, sign, argument)?;
-            }
-            Term::Name(_, _) => {}
-            Term::Form(_, at, items) => {
-                let op = set_op(sign, items.as_slice());
-                parts.push(Part::Opens(Spot::of(self.module, *at), op))?;
-                self.push_set_items(parts, sign, items.as_slice())?;
-                parts.push(Part::Closes)?;
-            }
-        }
-        Ok(())
-    }
-
-    /// Adds what a set joins, by the word in front.
-    #[cycle(sets)]
-    fn push_set_items(
-        &self,
-        parts: &mut Vec<Part<'a>>,
-        sign: Sign,
-        items: &[Term<'a>],
-    ) -> Result<(), NoMemory>
-        requires known { IsKnown self.now.scene.now self.now.openings.now self.now.at }
-        requires plain { is_mapped sign ≡ false }
-        ensures { OnOk result ((at : ASpot) → PutsInside self.now.scene.now self.now.at (sound (read_expression at (languages.Sets sign) (kept_cells self.now.«module» items.now)))
-            parts.old.items parts.new.items) }
-    {
-        let Some(word) = word_in_front(items) else {
-            self.push_sets(parts, sign, items, 0)?;
-            return Ok(());
-        };
-        match set_head(sign, word) {
-            SetHead::One => self.push_sets(parts, sign, items, 1)?,
-            SetHead::Two => self.push_sets(parts, sign, items, 1)?,
-            SetHead::Range => self.push_words(parts, Sign::Categories, items, 1)?,
-            SetHead::Union => self.push_sets(parts, sign, items, 0)?,
-        }
-        Ok(())
-    }
-
-    /// Adds the sets behind so many items.
-    #[cycle(sets)]
-    fn push_sets(
-        &self,
-        parts: &mut Vec<Part<'a>>,
-        sign: Sign,
-        items: &[Term<'a>],
-        skipped: usize,
-    ) -> Result<(), NoMemory>
-        requires known { IsKnown self.now.scene.now self.now.openings.now self.now.at }
-        requires plain { is_mapped sign ≡ false }
-        ensures { OnOk result (PutsTerms self.now.scene.now self.now.at (all_read_as (many (set_of sign)) (all_said self.now.«module» (drop skipped items.now))) parts.old.items parts.new.items) }
-    {
-        for index in skipped..items.len() {
-            self.push_set(parts, sign, &items[index])?;
-        }
-        Ok(())
-    }
-
-    // ---- class permissions, levels and ranges
-
-    /// Adds a class and a set of its permissions.
-    fn push_class_items(
-        &self,
-        parts: &mut Vec<Part<'a>>,
-        items: &[Term<'a>],
-    ) -> Result<(), NoMemory>
-        requires known { IsKnown self.now.scene.now self.now.openings.now self.now.at }
-        ensures { OnOk result (PutsTerms self.now.scene.now self.now.at
-            (all_read_as (item (looked_up signs.Classes) (item (set_of signs.Permission) close)) (all_said self.now.«module» items.now)) parts.old.items parts.new.items) }
-    {
-        if items.len() != 2 {
-            return Ok(());
-        }
-        self.push_word(parts, Sign::Classes, &items[0])?;
-        self.push_set(parts, Sign::Permission, &items[1])?;
-        Ok(())
-    }
-
-    /// Adds a level: its name, or a sensitivity with its categories if it has some.
-    fn push_level(&self, parts: &mut Vec<Part<'a>>, argument: &Term<'a>) -> Result<(), NoMemory>
-        requires known { IsKnown self.now.scene.now self.now.openings.now self.now.at }
-        ensures { OnOk result (PutsTerm self.now.scene.now self.now.at (read_as level (said_of self.now.«module» argument.now)) parts.old.items parts.new.items) }
-    {
-        match argument {
-            Term::Leaf(_) => self.push_word(parts, Sign::Levels, argument)?,
-            Term::Name(_, _) => {}
-            Term::Form(_, at, items) => {
-                parts.push(Part::Opens(Spot::of(self.module, *at), Op::Level))?;
-                self.push_level_items(parts, items.as_slice())?;
-                parts.push(Part::Closes)?;
-            }
-        }
-        Ok(())
-    }
-
-    /// Adds a sensitivity, and its categories if there are more items.
-    fn push_level_items(
-        &self,
-        parts: &mut Vec<Part<'a>>,
-        items: &[Term<'a>],
-    ) -> Result<(), NoMemory>
-        requires known { IsKnown self.now.scene.now self.now.openings.now self.now.at }
-        ensures { OnOk result (PutsTerms self.now.scene.now self.now.at
-            (all_read_as (counted 1 (item (looked_up signs.Sensitivities) close) (item (looked_up signs.Sensitivities) (item (set_of signs.CategorySets) close))) (all_said self.now.«module» items.now))
-            parts.old.items parts.new.items) }
-    {
-        if items.len() == 1 {
-            self.push_word(parts, Sign::Sensitivities, &items[0])?;
-            return Ok(());
-        }
-        if items.len() != 2 {
-            return Ok(());
-        }
-        self.push_word(parts, Sign::Sensitivities, &items[0])?;
-        self.push_set(parts, Sign::CategorySets, &items[1])?;
-        Ok(())
-    }
-
-    /// Adds two levels.
-    fn push_range_items(
-        &self,
-        parts: &mut Vec<Part<'a>>,
-        items: &[Term<'a>],
-    ) -> Result<(), NoMemory>
-        requires known { IsKnown self.now.scene.now self.now.openings.now self.now.at }
-        ensures { OnOk result (PutsTerms self.now.scene.now self.now.at (all_read_as (item level (item level close)) (all_said self.now.«module» items.now)) parts.old.items parts.new.items) }
-    {
-        if items.len() != 2 {
-            return Ok(());
-        }
-        self.push_level(parts, &items[0])?;
-        self.push_level(parts, &items[1])?;
-        Ok(())
-    }
-
-    // ---- arguments
-
-    /// Adds the items of a list that is an argument of a kind, and gives what joins them.
-    fn push_items(
-        &self,
-        parts: &mut Vec<Part<'a>>,
-        kind: Op,
-        items: &[Term<'a>],
-    ) -> Result<Op, NoMemory>
-        requires known { IsKnown self.now.scene.now self.now.openings.now self.now.at }
-        ensures joined { IfOk result (λ op. (at : ASpot) → IsJoinedBy at (read_argument (kind_of_argument kind) (list_cell self.now.«module» at items.now)) op) }
-        ensures parts { OnOk result ((at : ASpot) → PutsInside self.now.scene.now self.now.at (read_argument (kind_of_argument kind) (list_cell self.now.«module» at items.now)) parts.old.items parts.new.items) }
-    {
-        match kind {
-            Op::ClassPermissionKind => {
-                self.push_class_items(parts, items)?;
-                Ok(Op::ClassPermissions)
-            }
-            Op::CategorySetKind => {
-                self.push_set_items(parts, Sign::CategorySets, items)?;
-                Ok(set_op(Sign::CategorySets, items))
-            }
-            Op::LevelKind => {
-                self.push_level_items(parts, items)?;
-                Ok(Op::Level)
-            }
-            Op::LevelRangeKind => {
-                self.push_range_items(parts, items)?;
-                Ok(Op::LevelRange)
-            }
-            _ => Ok(Op::Listed),
-        }
     }
 
     /// A list that is an argument of a kind.
@@ -392,11 +194,13 @@ impl<'c, 's, 'p, 'a> Caller<'c, 's, 'p, 'a> {
         at: u32,
         items: &[Term<'a>],
     ) -> Result<Listed<'a>, NoMemory>
-        requires known { IsKnown self.now.scene.now self.now.openings.now self.now.at }
+        requires { IsKnown self.now.scene.now self.now.openings.now self.now.at }
         ensures { IfOk result (SaysList self.now.scene.now self.now.at (read_argument (kind_of_argument kind) (list_cell self.now.«module» (spot_at self.now.«module» at) items.now))) }
     {
+        let mut asked = Vec::new(alloc);
+        let op = push_items(&mut asked, self.module, kind, items)?;
         let mut parts = Vec::new(alloc);
-        let op = self.push_items(&mut parts, kind, items)?;
+        self.put_in(&mut parts, asked.as_slice())?;
         Ok(Listed {
             at: Spot::of(self.module, at),
             op,

@@ -1,5 +1,5 @@
 use Rattle.cil_macros.proofs.ReadLemmas.{one_joined, range_joined, two_joined, unheaded_joined, union_joined_so}
-use Rattle.cil_macros.proofs.list_values.set_op.Goals as goal
+use Rattle.cil_macros.proofs.list_parts.set_op.Goals as goal
 
 pub returns-in_default : goal.returns-in_default
 returns-in_default c = λ n at. unheaded_joined n c.args.items.now c.args.sign at (c.in_default.ensures n)

@@ -1,6 +1,0 @@
-use Rattle.cil_syntax.specs.Shapes.{set_of}
-use Rattle.cil_macros.proofs.PutLemmas.{ArePut}
-use Rattle.cil_macros.proofs.list_values.Caller.+sets.Given as goal
-
-abbrev pub invariant-push_sets-loop-index : goal.invariant-push_sets-loop-index
-invariant-push_sets-loop-index l = ArePut l.self.scene.now l.self.at (set_of l.sign) l.self.«module» l.items l.fn.skipped l.fn.parts.items l.index l.parts.items
