@@ -34,7 +34,7 @@ module _ (c : Cell) (v : Term Word) where
   no_mask kind false e = e
 
   -- a kind whose arguments are no lists is not masked
-  masked_as : (kind : Op) (b : Bool) → b ≡ may_be_list kind → b ≡ false → read_argument (kind_of_argument kind) c ≡ Some v → read_argument (argument_kind kind) c ≡ Some v
+  pub masked_as : (kind : Op) (b : Bool) → b ≡ may_be_list kind → b ≡ false → read_argument (kind_of_argument kind) c ≡ Some v → read_argument (argument_kind kind) c ≡ Some v
   masked_as kind b e f g = ap (λ x. read_argument (if x then None else kind_of_argument kind) c) (sym e ∙ f) ∙ g
 
 -- what is an argument of a supported kind is one of the kind
@@ -45,13 +45,13 @@ unmasked_value x t v e = no_mask (cell_in t) v x.kind (may_be_list x.kind) e
 -- ---- words
 
 -- the set of everything
-every_value : (kind : Op) (w : Word) (v : Term Word) → true ≡ (is_of_sets kind && same_bytes w.bytes (codes "all")) → read_argument (kind_of_argument kind) (cell_in (Leaf w)) ≡ Some v
+pub every_value : (kind : Op) (w : Word) (v : Term Word) → true ≡ (is_of_sets kind && same_bytes w.bytes (codes "all")) → read_argument (kind_of_argument kind) (cell_in (Leaf w)) ≡ Some v
     → v ≡ Form w.at ops.All nil
 every_value ops.CategorySetKind w v e f = some_form w.at ops.All v (sym (set_word_read signs.CategorySets w true e) ∙ f)
 every_value kind w v e f = cc
 
 -- any other word
-leaf_of_kind : (kind : Op) (w : Word) (v : Term Word) → false ≡ (is_of_sets kind && same_bytes w.bytes (codes "all")) → read_argument (kind_of_argument kind) (cell_in (Leaf w)) ≡ Some v
+pub leaf_of_kind : (kind : Op) (w : Word) (v : Term Word) → false ≡ (is_of_sets kind && same_bytes w.bytes (codes "all")) → read_argument (kind_of_argument kind) (cell_in (Leaf w)) ≡ Some v
     → v ≡ Leaf record { at = w.at; bytes = w.bytes; sign = kind_sign kind }
 unfolding cell_in read_word
 leaf_of_kind ops.CategorySetKind w v e f = word_value signs.CategorySets w v (sym (set_word_read signs.CategorySets w false e) ∙ f)
@@ -70,7 +70,7 @@ list_no_string ops.LevelKind at bytes v e f = cc
 list_no_string ops.LevelRangeKind at bytes v e f = cc
 list_no_string kind at bytes v e f = cc
 
-name_of_kind : (kind : Op) (at : Spot) (bytes : List ℕ) (v : Term Word) → read_argument (kind_of_argument kind) (cell_in (Name at bytes)) ≡ Some v → v ≡ kept_text at bytes
+pub name_of_kind : (kind : Op) (at : Spot) (bytes : List ℕ) (v : Term Word) → read_argument (kind_of_argument kind) (cell_in (Name at bytes)) ≡ Some v → v ≡ kept_text at bytes
 unfolding cell_in
 name_of_kind kind at bytes v e = by (may_be_list kind) refl
   where
@@ -79,7 +79,7 @@ name_of_kind kind at bytes v e = by (may_be_list kind) refl
     by false f = name_value kind at bytes v (masked_as (cell_in (Name at bytes)) v kind false f refl e)
 
 -- of a kind with lists what joins some parts is a list
-list_of_kind : (n : ℕ) (kind : Op) (at : Spot) (op : Op) (items : List rust.Term) (v : Term Word) → true ≡ may_be_list kind
+pub list_of_kind : (n : ℕ) (kind : Op) (at : Spot) (op : Op) (items : List rust.Term) (v : Term Word) → true ≡ may_be_list kind
     → read_argument (kind_of_argument kind) (cell_in (Form at op (all_said n items))) ≡ Some v → read_argument (kind_of_argument kind) (list_cell n at items) ≡ Some v
 unfolding cell_in
 list_of_kind n kind at op items v e f = by (is_text op) refl

@@ -23,7 +23,7 @@ use Rattle.cil_syntax.specs.Spelling.{same_bytes}
 use Rattle.cil_syntax.specs.Table.{class_permission, level, range}
 use Rattle.cil_syntax.specs.Terms.{Term, Leaf, Name, Form, Terms, nil, cons}
 use Rattle.cil_syntax.specs.Words.{is_spelled, read_looked_up, read_string, read_word, reads, word_faults}
-use Rattle.cil_syntax.proofs.SaidLemmas.{form_said, leaf_said}
+use Rattle.cil_syntax.proofs.SaidLemmas.{form_said, leaf_said, name_said}
 use Rattle.cil_faults.specs.Spots.{spot_at}
 use Rattle.cil_macros.specs.declared.list_arguments.SetHead.{SetHead}
 use Rattle.cil_macros.specs.declared.list_arguments.SetHead.TheVariants as set_heads
@@ -35,7 +35,7 @@ use Rattle.cil_macros.specs.ListForms.{HeadIs, StartsWith, head_code, kept_cells
 use Rattle.cil_macros.specs.Listed.{all_parts_of, parts_of, scoped_by, word as part_word}
 use Rattle.cil_macros.specs.Parameters.{cell_in, cells_in, is_text, kind_of_argument, read_argument, sound, string_in, text_cell}
 use Rattle.cil_macros.specs.Placed.{all_filled, filled}
-use Rattle.cil_macros.specs.Puts.{AsksInside, AsksTerm, AsksTerms, IsJoinedBy, bare, bare_parts, inside, list_cell}
+use Rattle.cil_macros.specs.Puts.{AsksInside, AsksTerm, AsksTerms, IsJoinedBy, WritesTerm, WritesTerms, bare, bare_parts, inside, list_cell}
 use Rattle.cil_macros.proofs.ArgumentLemmas.{first_left}
 use Rattle.cil_macros.proofs.ListLemmas.{as_many, cells_counted, class_items, level_items, no_level, no_set, not_as_many, range_items, sensitivity_items, set_listed, sole_kept, two_kept}
 use Rattle.cil_macros.proofs.PartLemmas.{behind_there, between}
@@ -411,3 +411,51 @@ module _ (n : ℕ) where
       pub set_inside : kind ≡ ops.CategorySetKind → (old new : List Part) → AsksInside (sound (read_expression bt (languages.Sets signs.CategorySets) (kept_cells n items))) old new
           → AsksInside argument old new
       set_inside is old new puts = inside_by _ (set_argument is) old new puts
+
+-- ---- terms of a statement
+
+module _ (n : ℕ) (t : rust.Term) (old new : List Part) where
+  pub writes_leaf : (w : LookedUp) → t ≡ variants.Leaf w → (v : PlacedWord) → v ≡ record { word = word_in n w; scope = None } → new ≡ old ++ kept_parts.Word v ∷ []
+      → WritesTerm (said_of n t) old new
+  unfolding parts_of filled
+  writes_leaf w is v so e =
+      behind_there [] old (kept_parts.Word v ∷ []) new e
+      ∙ ap (λ (x : PlacedWord). bare_parts old ++ part_word (scoped_by [] x) ∷ []) so
+      ∙ ap (λ x. bare_parts old ++ parts_of (filled bare x)) (sym (ap (said_of n) is ∙ leaf_said n w))
+
+  pub writes_name : (bt : ℕ) (bytes : List ℕ) → t ≡ variants.Name bt bytes → (at_so : Spot) (bytes_so : List ℕ) → at_so ≡ spot_at n bt → bytes_so ≡ bytes
+      → new ≡ old ++ kept_parts.Text at_so bytes_so ∷ [] → WritesTerm (said_of n t) old new
+  unfolding parts_of filled
+  writes_name bt bytes is at_so bytes_so f g e =
+      behind_there [] old (kept_parts.Text at_so bytes_so ∷ []) new e
+      ∙ (λ i. bare_parts old ++ parts_of (filled bare (Name (f i) (g i))))
+      ∙ ap (λ x. bare_parts old ++ parts_of (filled bare x)) (sym (ap (said_of n) is ∙ name_said n bt bytes))
+
+  pub writes_form : (bt : ℕ) (op : Op) (items : Vec rust.Term Global) → t ≡ variants.Form op bt items → (slice : List rust.Term) → slice ≡ items.items
+      → (first more : List Part) → first ≡ old ++ kept_parts.Opens (spot_at n bt) op ∷ [] → WritesTerms (all_said n slice) first more → new ≡ more ++ kept_parts.Closes ∷ []
+      → WritesTerm (said_of n t) old new
+  writes_form bt op items is slice same first more e writes g =
+      between [] (spot_at n bt) op old first more new (all_filled bare (all_said n items.items)) e
+      (writes ∙ ap (λ ts. bare_parts first ++ all_parts_of (all_filled bare (all_said n ts))) same) g
+      ∙ ap (λ u. bare_parts old ++ parts_of u) (sym (filled_form bare (spot_at n bt) op (all_said n items.items)))
+      ∙ ap (λ u. bare_parts old ++ parts_of (filled bare u)) (sym (ap (said_of n) is ∙ form_said n bt op items))
+
+module _ (n : ℕ) (terms : List rust.Term) (old : List Part) where
+  -- so far: with the parts of the rest they are those of all
+  abbrev pub AreWritten : ℕ → List Part → Type 0
+  AreWritten i now = bare_parts now ++ all_parts_of (all_filled bare (all_said n (drop i terms))) ≡ bare_parts old ++ all_parts_of (all_filled bare (all_said n terms))
+
+  pub one_written : (i : ℕ) (now new : List Part) (t : rust.Term) → i < length terms → t ≡ get_or terms i t → WritesTerm (said_of n t) now new → AreWritten i now → AreWritten (i + 1) new
+  one_written i now new t within is writes so =
+      let rest = all_parts_of (all_filled bare (all_said n (drop (i + 1) terms))) in
+      ap (λ xs. xs ++ rest) writes
+      ∙ append_assoc (bare_parts now) (parts_of (filled bare (said_of n t))) rest
+      ∙ ap (λ xs. bare_parts now ++ xs)
+      (sym (parts_more bare (said_of n t) (all_said n (drop (i + 1) terms))) ∙ ap (λ ts. all_parts_of (all_filled bare ts)) (sym (first_left n terms i t within is)))
+      ∙ so
+
+  pub all_written : (i : ℕ) (now : List Part) → length terms ≤ i → AreWritten i now → WritesTerms (all_said n terms) old now
+  all_written i now over so =
+      sym (append-nil (bare_parts now))
+      ∙ ap (λ xs. bare_parts now ++ xs) (sym (parts_none bare) ∙ ap (λ ts. all_parts_of (all_filled bare (all_said n ts))) (sym (drop_all i terms over)))
+      ∙ so

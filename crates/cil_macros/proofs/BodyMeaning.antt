@@ -127,11 +127,13 @@ module _ (s : Scene) (os : List Opening) (at : ℕ) (known : IsKnown s os at) (p
           (opening.arguments brought.so.call brought.so.opened is_call brought.so.is_opened)
 
       -- where no argument is a list, each word says a word
+      pub no_lists_in_body : o.lists ≡ false → AreNoLists p.bounds
+      no_lists_in_body none =
+          subst AreNoLists (sym bounds_here.so)
+          (plain_bounds ps (macro_parameters brought.so.opened.macro.statement.statement.args) o.arguments.items (sym opening.lists ∙ none))
+
       pub says_words_in_body : o.lists ≡ false → (w : Word) → said_by ws p w ≡ Leaf (word_of ws p w)
-      says_words_in_body none =
-          says_a_word ws p
-          (subst AreNoLists (sym bounds_here.so)
-          (plain_bounds ps (macro_parameters brought.so.opened.macro.statement.statement.args) o.arguments.items (sym opening.lists ∙ none)))
+      says_words_in_body none = says_a_word ws p (no_lists_in_body none)
 
       module _ (called : ℕ) (stated : (m : Standing) → slice_get ss b.macro_rank ≡ Some m → m.statement ≡ statement_at ws called) where
         macro_stated : brought.so.opened.macro.statement ≡ statement_at ws called

@@ -29,6 +29,8 @@ pub mod ItemsThere
 pub mod Kept
 pub mod LawLemmas
 pub mod ListLemmas
+pub mod ListMarkLemmas
+pub mod ListPlaceLemmas
 pub mod MacroLemmas
 pub mod MacroScope
 pub mod MeaningLemmas

@@ -37,13 +37,13 @@ module _ (ws : List Written) (p : Placed) where
   more_bound x (Some t) None bs e = cc
   more_bound x (Some t) (Some others) bs e = (t, refl, others, refl, sym (some_same ((record { parameter = x; value = filled (meaning ws p) t }) ∷ others) bs e))
 
-  one_bound : (x : Parameter) (t : Term Word) (xs : List Parameter) (ts : Terms Word) (bs : List Bound) → bound ws p (x ∷ xs) (cons t ts) ≡ Some bs → OneBound x t xs ts bs
+  pub one_bound : (x : Parameter) (t : Term Word) (xs : List Parameter) (ts : Terms Word) (bs : List Bound) → bound ws p (x ∷ xs) (cons t ts) ≡ Some bs → OneBound x t xs ts bs
   unfolding bound
   one_bound x t xs ts bs e =
       let b = more_bound x (argument_of x t) (bound ws p xs ts) bs e in
       record { value = b.0; is = b.1; others = b.2; bound_so = b.3; all = b.4 }
 
-  not_bound : (x : Parameter) (xs : List Parameter) (bs : List Bound) → bound ws p (x ∷ xs) nil ≡ Some bs → ⊥
+  pub not_bound : (x : Parameter) (xs : List Parameter) (bs : List Bound) → bound ws p (x ∷ xs) nil ≡ Some bs → ⊥
   unfolding bound
   not_bound x xs bs e = cc
 

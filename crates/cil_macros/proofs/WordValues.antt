@@ -107,7 +107,7 @@ module _ (ws : List Written) (p : Placed) (bounds : AreNoLists p.bounds) where
   meant_so w None h = tt
   meant_so w (Some b) h = put_so w.sign b.value h
 
-  meaning_so : (w : Word) → IsNoList (meaning ws p w)
+  pub meaning_so : (w : Word) → IsNoList (meaning ws p w)
   unfolding meaning
   meaning_so w = meant_so w (find (is_served w) p.bounds) (found_so w p.bounds bounds)
 
@@ -170,10 +170,13 @@ placed_says_words ws ss p placed w = says_a_word ws p (placed_no_lists ws ss p p
 
 -- ---- no list is put where only a name may stand
 
+pub no_list_right : (sign : Sign) (t : Term ScopedWord) → IsNoList t → is_misplaced sign t ≡ false
+no_list_right sign (Leaf w) h = refl
+no_list_right sign (Name at name) h = refl
+no_list_right sign (Form at op parts) h = ap (λ b. not b && not (takes_lists sign)) h
+
 never_misplaced : (sign : Sign) (t : Term ScopedWord) → IsNoList t → is_misplaced sign t ≡ true → ⊥
-never_misplaced sign (Leaf w) h e = cc
-never_misplaced sign (Name at name) h e = cc
-never_misplaced sign (Form at op parts) h e = let f : false ≡ true = sym (ap (λ b. not b && not (takes_lists sign)) h) ∙ e in cc
+never_misplaced sign t h e = let f : false ≡ true = sym (no_list_right sign t h) ∙ e in cc
 
 module _ (ws : List Written) (ss : List Standing) (p : Placed) (u : Unfolded) where
   -- what is of a body has the arguments of its call

@@ -15,6 +15,7 @@ pub mod Item
 pub mod Items
 pub mod Laws
 pub mod ListForms
+pub mod ListPlaces
 pub mod Listed
 pub mod Macros
 pub mod Meant

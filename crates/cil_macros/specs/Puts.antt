@@ -57,7 +57,14 @@ bare w = Leaf (unasked w)
 abbrev pub bare_parts : List Part → List lists.Part
 bare_parts xs = parts_there [] xs
 
--- the parts of what was read, if something was, were put behind others
+-- the parts of a term were put behind others
+abbrev pub WritesTerm : Term Word → List Part → List Part → Type 0
+WritesTerm t old new = bare_parts new ≡ bare_parts old ++ parts_of (filled bare t)
+
+abbrev pub WritesTerms : Terms Word → List Part → List Part → Type 0
+WritesTerms ts old new = bare_parts new ≡ bare_parts old ++ all_parts_of (all_filled bare ts)
+
+-- those of what was read, if something was
 abbrev pub AsksTerm : Option (Term Word) → List Part → List Part → Type 0
 AsksTerm o old new = (t : Term Word) → o ≡ Some t → bare_parts new ≡ bare_parts old ++ parts_of (filled bare t)
 

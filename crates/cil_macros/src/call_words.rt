@@ -96,7 +96,7 @@ fn add_arguments<'a>(
 }
 
 /// The number of the body of the call at a place, if it has one.
-fn body_of(bodies: &[Body], at: usize) -> Option<usize>
+pub(crate) fn body_of(bodies: &[Body], at: usize) -> Option<usize>
     requires { AreCallsRising bodies.now }
     ensures body { MatchOption result (HasNoBody bodies.now at) (IsBodyOf bodies.now at) }
     ensures within { IfSome result (λ number. number < length bodies.now) }

@@ -22,6 +22,7 @@ pub mod instances;
 pub mod laws;
 pub mod list_arguments;
 pub mod list_parts;
+pub mod list_places;
 pub mod list_values;
 pub mod listed;
 mod macros;

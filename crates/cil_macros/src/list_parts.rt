@@ -1,6 +1,6 @@
 //! Arguments that are lists, part by part, as their parameters ask: each word as it is written, with the sign that it has there. That an
-//! argument has the form of its kind was asked before (`list_arguments.rt`), so of other forms nothing counts. Costs a step for each
-//! part.
+//! argument has the form of its kind was asked before (`list_arguments.rt`), so of other forms nothing counts. And statements, part
+//! by part. Costs a step for each part.
 
 ghost use Rattle.std.specs.Prelude.{◌≡◌, ◌&&◌, IfOk, OnOk, ℕ, codes, drop};
 ghost use Rattle.cil_faults.specs.declared.spot.Spot.{Spot as ASpot};
@@ -14,7 +14,7 @@ ghost use Rattle.cil_syntax.specs.Table.{level};
 ghost use Rattle.cil_macros.specs.Fits.{all_read_as, read_as};
 ghost use Rattle.cil_macros.specs.ListForms.{kept_cells, two_code};
 ghost use Rattle.cil_macros.specs.Parameters.{kind_of_argument, read_argument, sound};
-ghost use Rattle.cil_macros.specs.Puts.{AsksInside, AsksTerm, AsksTerms, IsJoinedBy, is_of_sets, list_cell};
+ghost use Rattle.cil_macros.specs.Puts.{AsksInside, AsksTerm, AsksTerms, IsJoinedBy, WritesTerm, WritesTerms, is_of_sets, list_cell};
 
 use crate::list_arguments::{SetHead, set_head, word_in_front};
 use crate::listed::Part;
@@ -283,4 +283,44 @@ pub(crate) fn push_items<'a>(
         }
         _ => Ok(Op::Listed),
     }
+}
+
+// ---- statements
+
+/// Adds some terms of a statement, as they are written. It costs a step for each part.
+#[cycle(terms)]
+pub(crate) fn push_terms<'a>(
+    parts: &mut Vec<Part<'a>>,
+    module: u64,
+    terms: &[Term<'a>],
+) -> Result<(), NoMemory>
+    ensures { OnOk result (WritesTerms (all_said «module» terms.now) parts.old.items parts.new.items) }
+{
+    for term in terms {
+        push_term(parts, module, term)?;
+    }
+    Ok(())
+}
+
+#[cycle(terms)]
+fn push_term<'a>(parts: &mut Vec<Part<'a>>, module: u64, term: &Term<'a>) -> Result<(), NoMemory>
+    ensures { OnOk result (WritesTerm (said_of «module» term.now) parts.old.items parts.new.items) }
+{
+    match term {
+        Term::Leaf(word) => {
+            parts.push(Part::Word(PlacedWord {
+                word: word.in_module(module),
+                scope: None,
+            }))?;
+        }
+        Term::Name(at, bytes) => {
+            parts.push(Part::Text(Spot::of(module, *at), Excerpt::of(bytes.as_slice())))?;
+        }
+        Term::Form(op, at, items) => {
+            parts.push(Part::Opens(Spot::of(module, *at), *op))?;
+            push_terms(parts, module, items.as_slice())?;
+            parts.push(Part::Closes)?;
+        }
+    }
+    Ok(())
 }
