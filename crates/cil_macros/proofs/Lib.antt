@@ -34,6 +34,7 @@ pub mod ListPlaceLemmas
 pub mod MacroLemmas
 pub mod MacroScope
 pub mod MeaningLemmas
+pub mod MisplacedLemmas
 pub mod NearestLemmas
 pub mod NestingLemmas
 pub mod OneInstance

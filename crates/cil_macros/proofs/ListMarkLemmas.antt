@@ -1,26 +1,23 @@
 -- Marks at the calls with a list where only a name may stand: statement by statement of all that is brought.
-use Rattle.std.proofs.Common.{◌≡◌, ◌⊎◌, ◌≤◌, ◌<◌, ◌+◌, ℕ, zero, suc, List, [], ◌∷◌, ◌++◌, length, get_or, replicate, set, refl, sym, ◌∙◌, ap, subst, inl, inr, arith, get_or-set_other, get_or-set_same}
-use Rattle.std.specs.Prelude.{Bool, true, false, ◌||◌, if◌then◌else◌, Option, Some, None, slice_get}
+use Rattle.std.proofs.Common.{◌≡◌, ◌⊎◌, ◌≤◌, ◌<◌, ◌+◌, ℕ, zero, suc, List, [], ◌∷◌, length, get_or, replicate, set, refl, sym, ◌∙◌, ap, inl, inr, arith, get_or-set_other, get_or-set_same}
+use Rattle.std.specs.Prelude.{Bool, true, false, ◌||◌, if◌then◌else◌, Some, None, slice_get}
 use Rattle.std.specs.List.{list_any}
 use Rattle.std.proofs.lemmas.List.{length-replicate, length-set}
 use Rattle.cil_base.specs.Places.{in_range, none_some, some_at, some_same}
 use Rattle.cil_syntax.specs.declared.program.Statement.{Statement}
 use Rattle.cil_syntax.specs.declared.term.Word.{Word}
-use Rattle.cil_syntax.specs.Program.{program_of}
 use Rattle.cil_syntax.specs.Said.{args_of}
 use Rattle.cil_syntax.specs.Terms.{Terms}
 use Rattle.cil_syntax.specs.Written.{Written}
 use Rattle.cil_blocks.specs.Contents.{Standing}
 use Rattle.cil_blocks.specs.Entries.{statement_at}
 use Rattle.cil_blocks.specs.Places.{entries_in, statements_in}
-use Rattle.cil_blocks.proofs.EntryLemmas.{standings_length}
 use Rattle.cil_blocks.proofs.NameLemmas.{args_some, at_none}
 use Rattle.cil_macros.specs.declared.entry.Body.{Body}
 use Rattle.cil_macros.specs.declared.entry.Called.{Called}
 use Rattle.cil_macros.specs.declared.openings.Opening.{Opening}
 use Rattle.cil_macros.specs.declared.scene.Scene.{Scene}
-use Rattle.cil_macros.specs.Brings.{is_marked}
-use Rattle.cil_macros.specs.Calls.{Unfolded, bound, is_call, unfolded}
+use Rattle.cil_macros.specs.Calls.{bound, is_call, unfolded}
 use Rattle.cil_macros.specs.Entries.{IsOf}
 use Rattle.cil_macros.specs.ExpandFaults.{asked_words, unfolded_places, words_placed}
 use Rattle.cil_macros.specs.Item.{all_words_in}
@@ -36,7 +33,7 @@ use Rattle.cil_macros.proofs.BringsLemmas.{unmarked_at}
 use Rattle.cil_macros.proofs.CallLemmas.{placed_there}
 use Rattle.cil_macros.proofs.CallOpening.{bounds_of_opened}
 use Rattle.cil_macros.proofs.CallWordLemmas.{not_opened, opened_there}
-use Rattle.cil_macros.proofs.WordValues.{AreNoLists, meaning_so, no_list_right}
+use Rattle.cil_macros.proofs.WordValues.{meaning_so, no_list_right}
 
 never : true ≡ false → ⊥
 never e = cc

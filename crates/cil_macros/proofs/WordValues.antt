@@ -13,7 +13,6 @@ use Rattle.cil_syntax.specs.Terms.{Term, Leaf, Name, Form, Terms, nil, cons}
 use Rattle.cil_syntax.specs.Written.{Written}
 use Rattle.cil_blocks.specs.Contents.{Standing}
 use Rattle.cil_macros.specs.Calls.{Unfolded, IsPlaced, stands, called, in_branch, in_optional, bound, bound_more, bounds_of_call, called_macro, filled_by, is_repeated, unfolded, unfolded_by, unfolded_with}
-use Rattle.cil_macros.specs.ExpandFaults.{HasMisplaced, IsOfCall, directly, in_its_branch, in_its_optional}
 use Rattle.cil_macros.specs.Items.{argument_words, as_word, is_text as is_text_sign, is_text_value, joined_as, leaves, listed_unless, put_unless, said_as, said_by, unfolded_values, unfolded_words, values_of, word_in_argument, word_of}
 use Rattle.cil_macros.specs.declared.meant.Argument.{Argument}
 use Rattle.cil_macros.specs.declared.meant.Argument.TheVariants as arguments
@@ -168,29 +167,12 @@ placed_no_lists ws ss p (in_branch q b w placed e o c i) = placed_no_lists ws ss
 pub placed_says_words : (ws : List Written) (ss : List Standing) (p : Placed) → IsPlaced ws ss p → (w : Word) → said_by ws p w ≡ Leaf (word_of ws p w)
 placed_says_words ws ss p placed w = says_a_word ws p (placed_no_lists ws ss p placed) w
 
--- ---- no list is put where only a name may stand
+-- ---- what is no list may be put where only a name stands
 
 pub no_list_right : (sign : Sign) (t : Term ScopedWord) → IsNoList t → is_misplaced sign t ≡ false
 no_list_right sign (Leaf w) h = refl
 no_list_right sign (Name at name) h = refl
 no_list_right sign (Form at op parts) h = ap (λ b. not b && not (takes_lists sign)) h
-
-never_misplaced : (sign : Sign) (t : Term ScopedWord) → IsNoList t → is_misplaced sign t ≡ true → ⊥
-never_misplaced sign t h e = let f : false ≡ true = sym (no_list_right sign t h) ∙ e in cc
-
-module _ (ws : List Written) (ss : List Standing) (p : Placed) (u : Unfolded) where
-  -- what is of a body has the arguments of its call
-  bounds_of_body : (q : Placed) → IsOfCall ws p u q → q.bounds ≡ u.bounds
-  bounds_of_body q (directly w c i) = refl
-  bounds_of_body q (in_its_optional r w of o c i) = bounds_of_body r of
-  bounds_of_body q (in_its_branch r w of o c i) = bounds_of_body r of
-
-  pub none_misplaced : IsPlaced ws ss p → unfolded ws ss p ≡ Some u → HasMisplaced ws ss p u → ⊥
-  none_misplaced placed e has =
-      let bounds : AreNoLists u.bounds = subst IfUnfolded e (unfolded_so ws p (placed_no_lists ws ss p placed) ss) in
-      let here : AreNoLists has.statement.bounds = subst AreNoLists (sym (bounds_of_body has.statement has.is_of)) bounds in
-      let value : IsNoList has.argument.value = subst IfNoList has.fills (found_so has.filled has.statement.bounds here) in
-      never_misplaced has.filled.sign has.argument.value value has.misplaced
 
 -- ---- the values of a call
 

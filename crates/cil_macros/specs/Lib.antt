@@ -7,6 +7,7 @@ pub mod DeclaredInBodies
 pub mod Depths
 pub mod Entries
 pub mod ExpandFaults
+pub mod Expansion
 pub mod Firsts
 pub mod Fits
 pub mod InBranches

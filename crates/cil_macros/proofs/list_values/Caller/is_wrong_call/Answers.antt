@@ -1,7 +1,7 @@
-use Rattle.std.proofs.Common.{◌≡◌, ◌+◌, ◌∙◌, ap, subst, sym}
+use Rattle.std.proofs.Common.{◌+◌, ◌∙◌, ap, subst, sym}
 use Rattle.std.specs.List.{list_any}
 use Rattle.std.proofs.lemmas.List.{drop_all}
-use Rattle.cil_syntax.specs.Said.{all_said, args_of, said_of}
+use Rattle.cil_syntax.specs.Said.{args_of, said_of}
 use Rattle.cil_macros.specs.Calls.{bound}
 use Rattle.cil_macros.specs.ExpandFaults.{asked_words}
 use Rattle.cil_macros.specs.ListPlaces.{is_wrong_word}
