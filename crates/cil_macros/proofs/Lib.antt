@@ -45,6 +45,8 @@ pub mod PlacedWalk
 pub mod PutLemmas
 pub mod ReadLemmas
 pub mod RoundLemmas
+pub mod SaidPartLemmas
+pub mod SaidThere
 pub mod SameParameters
 pub mod ScopeEndLemmas
 pub mod ScopeLemmas

@@ -20,7 +20,7 @@ use Rattle.cil_macros.specs.Listed as lists
 use Rattle.cil_macros.specs.Listed.{IsWholeList, all_parts_of, closes, list_there, opens, part_there, parts_of, parts_there, plain_first, scoped_by, terms_in, text as part_text, word as part_word}
 use Rattle.cil_macros.specs.Meant.{meant_in, meant_term}
 use Rattle.cil_macros.specs.Placed.{Placed, all_filled, filled, meaning, of_plain_class, put, put_list}
-use Rattle.cil_macros.specs.Puts.{AsksInside, IsJoinedBy, PutsMeaning, PutsPart, PutsParts, SaysList, bare, bare_parts, inside, is_mapped, put_part, put_parts, text_parts}
+use Rattle.cil_macros.specs.Puts.{AsksInside, IsJoinedBy, Placing, PutsPart, PutsParts, SaysList, bare, bare_parts, inside, is_mapped, put_part, put_parts, text_parts}
 use Rattle.cil_macros.specs.Scene.{placed_of_scene}
 use Rattle.cil_macros.specs.Walks.{written_in}
 use Rattle.cil_macros.proofs.AskLemmas.{filled_form, parts_none}
@@ -58,7 +58,7 @@ module _ (f : Word → Term ScopedWord) where
 
 -- the list that was made of the parts
 pub list_says : (s : Scene) (at : ℕ) (o : Option (Term Word)) (bt : Spot) (op : Op) → IsJoinedBy bt o op → (none asked old : List Part) → none ≡ [] → AsksInside o none asked → old ≡ []
-    → (l : Listed) → l.at ≡ bt → l.op ≡ op → PutsParts s at asked old l.parts.items → SaysList s at o l
+    → (l : Listed) → l.at ≡ bt → l.op ≡ op → PutsParts meaning s at asked old l.parts.items → SaysList s at o l
 list_says s at o bt op joined none asked old first asks empty l at_so op_so puts = λ p v here e.
     let f = meaning (written_in s.spaces.now) p in
     let ps = placed_of_scene s in
@@ -125,33 +125,35 @@ module _ (ps : List Placed) where
 -- ---- one part after another
 
 -- a sign that a list begins or ends, and a string, stay as they are
-module _ (s : Scene) (at : ℕ) (x : Part) (old new : List Part) where
-  pub puts_word_part : (w : PlacedWord) → x ≡ kept_parts.Word w → PutsMeaning s at w.word old new → PutsPart s at x old new
+module _ (f : Placing) (s : Scene) (at : ℕ) (x : Part) (old new : List Part) where
+  pub puts_word_part : (w : PlacedWord) → x ≡ kept_parts.Word w
+      → ((p : Placed) → slice_get (placed_of_scene s) at ≡ Some p
+      → parts_there (placed_of_scene s) new ≡ parts_there (placed_of_scene s) old ++ parts_of (f (written_in s.spaces.now) p w.word)) → PutsPart f s at x old new
   puts_word_part w is puts = λ p here.
-      puts p here ∙ ap (λ y. parts_there (placed_of_scene s) old ++ put_part (meaning (written_in s.spaces.now) p) (part_there [] y)) (sym is)
+      puts p here ∙ ap (λ y. parts_there (placed_of_scene s) old ++ put_part (f (written_in s.spaces.now) p) (part_there [] y)) (sym is)
 
-  pub puts_as_is : (y : Part) → y ≡ x → new ≡ old ++ y ∷ [] → ((ps : List Placed) (f : Word → Term ScopedWord) → part_there ps x ∷ [] ≡ put_part f (part_there [] x)) → PutsPart s at x old new
+  pub puts_as_is : (y : Part) → y ≡ x → new ≡ old ++ y ∷ [] → ((ps : List Placed) (g : Word → Term ScopedWord) → part_there ps x ∷ [] ≡ put_part g (part_there [] x)) → PutsPart f s at x old new
   puts_as_is y same e stays = λ p here.
       behind_there (placed_of_scene s) old (y ∷ []) new e
       ∙ ap (λ z. parts_there (placed_of_scene s) old ++ part_there (placed_of_scene s) z ∷ []) same
-      ∙ ap (λ xs. parts_there (placed_of_scene s) old ++ xs) (stays (placed_of_scene s) (meaning (written_in s.spaces.now) p))
+      ∙ ap (λ xs. parts_there (placed_of_scene s) old ++ xs) (stays (placed_of_scene s) (f (written_in s.spaces.now) p))
 
-  stays_by : (y : Part) → x ≡ y → ((ps : List Placed) (f : Word → Term ScopedWord) → part_there ps y ∷ [] ≡ put_part f (part_there [] y))
-      → (ps : List Placed) (f : Word → Term ScopedWord) → part_there ps x ∷ [] ≡ put_part f (part_there [] x)
-  stays_by y is same ps f = ap (λ z. part_there ps z ∷ []) is ∙ same ps f ∙ ap (λ z. put_part f (part_there [] z)) (sym is)
+  stays_by : (y : Part) → x ≡ y → ((ps : List Placed) (g : Word → Term ScopedWord) → part_there ps y ∷ [] ≡ put_part g (part_there [] y))
+      → (ps : List Placed) (g : Word → Term ScopedWord) → part_there ps x ∷ [] ≡ put_part g (part_there [] x)
+  stays_by y is same ps g = ap (λ z. part_there ps z ∷ []) is ∙ same ps g ∙ ap (λ z. put_part g (part_there [] z)) (sym is)
 
-  pub text_stays : (bt : Spot) (bytes : List ℕ) → x ≡ kept_parts.Text bt bytes → (y : Part) → y ≡ x → new ≡ old ++ y ∷ [] → PutsPart s at x old new
-  text_stays bt bytes is y same e = puts_as_is y same e (stays_by (kept_parts.Text bt bytes) is (λ ps f. refl))
+  pub text_stays : (bt : Spot) (bytes : List ℕ) → x ≡ kept_parts.Text bt bytes → (y : Part) → y ≡ x → new ≡ old ++ y ∷ [] → PutsPart f s at x old new
+  text_stays bt bytes is y same e = puts_as_is y same e (stays_by (kept_parts.Text bt bytes) is (λ ps g. refl))
 
-  pub begin_stays : (bt : Spot) (op : Op) → x ≡ kept_parts.Opens bt op → (y : Part) → y ≡ x → new ≡ old ++ y ∷ [] → PutsPart s at x old new
-  begin_stays bt op is y same e = puts_as_is y same e (stays_by (kept_parts.Opens bt op) is (λ ps f. refl))
+  pub begin_stays : (bt : Spot) (op : Op) → x ≡ kept_parts.Opens bt op → (y : Part) → y ≡ x → new ≡ old ++ y ∷ [] → PutsPart f s at x old new
+  begin_stays bt op is y same e = puts_as_is y same e (stays_by (kept_parts.Opens bt op) is (λ ps g. refl))
 
-  pub end_stays : x ≡ kept_parts.Closes → (y : Part) → y ≡ x → new ≡ old ++ y ∷ [] → PutsPart s at x old new
-  end_stays is y same e = puts_as_is y same e (stays_by kept_parts.Closes is (λ ps f. refl))
+  pub end_stays : x ≡ kept_parts.Closes → (y : Part) → y ≡ x → new ≡ old ++ y ∷ [] → PutsPart f s at x old new
+  end_stays is y same e = puts_as_is y same e (stays_by kept_parts.Closes is (λ ps g. refl))
 
-module _ (s : Scene) (at : ℕ) (asked : List Part) (old : List Part) where
+module _ (f : Placing) (s : Scene) (at : ℕ) (asked : List Part) (old : List Part) where
   abbrev fill : Placed → Word → Term ScopedWord
-  fill p = meaning (written_in s.spaces.now) p
+  fill p = f (written_in s.spaces.now) p
 
   abbrev ps : List Placed
   ps = placed_of_scene s
@@ -164,7 +166,7 @@ module _ (s : Scene) (at : ℕ) (asked : List Part) (old : List Part) where
   pub none_in : AreIn 0 old
   none_in = λ p here. refl
 
-  pub one_in : (i : ℕ) (now new : List Part) (x : Part) → i < length asked → x ≡ get_or asked i x → PutsPart s at x now new → AreIn i now → AreIn (i + 1) new
+  pub one_in : (i : ℕ) (now new : List Part) (x : Part) → i < length asked → x ≡ get_or asked i x → PutsPart f s at x now new → AreIn i now → AreIn (i + 1) new
   unfolding put_parts
   one_in i now new x within is puts so = λ p here.
       let rest = put_parts (fill p) (bare_parts (drop (i + 1) asked)) in
@@ -173,7 +175,7 @@ module _ (s : Scene) (at : ℕ) (asked : List Part) (old : List Part) where
       ∙ ap (λ xs. parts_there ps now ++ put_parts (fill p) (bare_parts xs)) (sym (drop_at asked i x x within is))
       ∙ so p here
 
-  pub all_in : (i : ℕ) (now : List Part) → length asked ≤ i → AreIn i now → PutsParts s at asked old now
+  pub all_in : (i : ℕ) (now : List Part) → length asked ≤ i → AreIn i now → PutsParts f s at asked old now
   unfolding put_parts
   all_in i now over so = λ p here.
       sym (append-nil (parts_there ps now))

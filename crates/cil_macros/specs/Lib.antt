@@ -28,5 +28,6 @@ pub mod Parameters
 pub mod Placed
 pub mod Puts
 pub mod Rounds
+pub mod SaidParts
 pub mod Scene
 pub mod Walks

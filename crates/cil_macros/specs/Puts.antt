@@ -12,8 +12,10 @@ use Rattle.cil_syntax.specs.Readings.{head_word, read_list}
 use Rattle.cil_syntax.specs.Scopes.{ScopedWord}
 use Rattle.cil_syntax.specs.Shapes.{Cell, a_list}
 use Rattle.cil_syntax.specs.Terms.{Term, Leaf, Name, Form, Terms, nil}
+use Rattle.cil_syntax.specs.Written.{Written}
 use Rattle.cil_macros.specs.declared.listed.Part.{Part}
 use Rattle.cil_macros.specs.declared.scene.Scene.{Scene}
+use Rattle.cil_macros.specs.Items.{said_by}
 use Rattle.cil_macros.specs.ListForms.{kept_cells}
 use Rattle.cil_macros.specs.declared.listed.Listed.{Listed}
 use Rattle.cil_macros.specs.declared.listed.Part.TheVariants as kept_parts
@@ -98,23 +100,33 @@ PutsMeaning s at w old new =
     (p : Placed) → slice_get (placed_of_scene s) at ≡ Some p
     → parts_there (placed_of_scene s) new ≡ parts_there (placed_of_scene s) old ++ parts_of (meaning (written_in s.spaces.now) p w)
 
--- those of a bare part, a word as what it means at a place
-abbrev pub PutsPart : Scene → ℕ → Part → List Part → List Part → Type 0
-PutsPart s at x old new =
+-- how a word is read where a statement is placed: as it is meant (`meaning`), or as it is said (`said_by`)
+abbrev pub Placing : Type 0
+Placing = List Written → Placed → Word → Term ScopedWord
+
+-- the parts of a bare part, if it is a word as that is read at a place
+abbrev pub PutsPart : Placing → Scene → ℕ → Part → List Part → List Part → Type 0
+PutsPart f s at x old new =
     (p : Placed) → slice_get (placed_of_scene s) at ≡ Some p
-    → parts_there (placed_of_scene s) new ≡ parts_there (placed_of_scene s) old ++ put_part (meaning (written_in s.spaces.now) p) (lists.part_there [] x)
+    → parts_there (placed_of_scene s) new ≡ parts_there (placed_of_scene s) old ++ put_part (f (written_in s.spaces.now) p) (lists.part_there [] x)
 
 -- those of bare parts
-abbrev pub PutsParts : Scene → ℕ → List Part → List Part → List Part → Type 0
-PutsParts s at asked old new =
+abbrev pub PutsParts : Placing → Scene → ℕ → List Part → List Part → List Part → Type 0
+PutsParts f s at asked old new =
     (p : Placed) → slice_get (placed_of_scene s) at ≡ Some p
-    → parts_there (placed_of_scene s) new ≡ parts_there (placed_of_scene s) old ++ put_parts (meaning (written_in s.spaces.now) p) (bare_parts asked)
+    → parts_there (placed_of_scene s) new ≡ parts_there (placed_of_scene s) old ++ put_parts (f (written_in s.spaces.now) p) (bare_parts asked)
 
 -- the list is what was read, if something was, as it is at a place
 abbrev pub SaysList : Scene → ℕ → Option (Term Word) → Listed → Type 0
 SaysList s at o l =
     (p : Placed) (t : Term Word) → slice_get (placed_of_scene s) at ≡ Some p → o ≡ Some t
     → (list_there (placed_of_scene s) l ≡ filled (meaning (written_in s.spaces.now) p) t) × IsWholeList (placed_of_scene s) l
+
+-- the parts of what a word says at a place were put behind others
+abbrev pub SaysWord : Scene → ℕ → Word → List Part → List Part → Type 0
+SaysWord s at w old new =
+    (p : Placed) → slice_get (placed_of_scene s) at ≡ Some p
+    → parts_there (placed_of_scene s) new ≡ parts_there (placed_of_scene s) old ++ parts_of (said_by (written_in s.spaces.now) p w)
 
 -- a string, as it is kept
 abbrev pub text_parts : Spot → List ℕ → List Part

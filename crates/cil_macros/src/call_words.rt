@@ -175,7 +175,7 @@ fn add_word<'a>(
 }
 
 /// Whether a word of a sign is a text, which is not looked up.
-fn is_text(sign: Sign) -> bool
+pub(crate) fn is_text(sign: Sign) -> bool
     ensures { result ≡ is_text sign }
 {
     matches!(sign, Sign::Text)

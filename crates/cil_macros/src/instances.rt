@@ -8,11 +8,13 @@ use crate::calls::{have_one_scope, scope_at, space_at};
 use crate::chain::{Brought, statement_at};
 use crate::declared_names::Declared;
 use crate::entry::Called;
+use crate::listed::Part;
 use crate::meaning::{meaning_at, says_words_at};
 use crate::meant::Meaning;
 use crate::nesting::innermost_at;
 use crate::openings::Opening;
 use crate::placed_word::{PlacedWord, Said, said_of_meaning, word_meant};
+use crate::said_parts::said_parts_at;
 use crate::scene::Scene;
 use cil_base::NoMemory;
 use cil_blocks::numbers::Numbers;
@@ -63,6 +65,7 @@ impl<'s, 'p, 'a> Instances<'s, 'p, 'a> {
     ghost use Rattle.cil_blocks.specs.Places.{entries_in};
     ghost use Rattle.cil_macros.specs.Calls.{IsPlaced, is_call, placed_cmp};
     ghost use Rattle.cil_macros.specs.Depths.{ArePlacedShallow, AreShallowItems};
+    ghost use Rattle.cil_macros.specs.Listed.{all_parts_of, parts_there};
     ghost use Rattle.cil_macros.specs.Macros.{all_standing};
     ghost use Rattle.cil_macros.specs.Item.{innermost};
     ghost use Rattle.cil_macros.specs.Meant.{IsWholeMeaning, meaning_there};
@@ -253,6 +256,21 @@ impl<'s, 'p, 'a> Instances<'s, 'p, 'a> {
         ensures whole { IsWholeSaid (all_placed self.now) result }
     {
         said_of_meaning(word, self.meaning(at, word))
+    }
+
+    /// What the statement at a place says, part by part: each word in its scope, with the arguments put in, lists too. So a pass over
+    /// statements in which an argument may be a list (`says_words`) goes over one list, whatever calls handed on. It costs a step for
+    /// each part.
+    pub fn parts(&self, alloc: Global, at: usize) -> Result<Vec<Part<'a>>, NoMemory>
+        requires { at < length (items_in self.now) }
+        ensures { IfOk result (λ parts. parts_there (all_placed self.now) parts.items ≡ all_parts_of (item_at self.now at).args) }
+    {
+        let scene = Scene {
+            spaces: self.spaces,
+            brought: &self.brought,
+            declared: &self.declared,
+        };
+        said_parts_at(alloc, &scene, self.openings.as_slice(), at)
     }
 
     /// The words of the call at a place: that of its macro and, where it is unfolded, its arguments that are looked up. A

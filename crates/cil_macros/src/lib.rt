@@ -32,6 +32,7 @@ mod nearest;
 mod nesting;
 pub mod openings;
 pub mod placed_word;
+mod said_parts;
 pub mod scene;
 pub mod source;
 pub mod walk;

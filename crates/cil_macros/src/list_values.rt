@@ -64,7 +64,7 @@ fn push_text<'a>(parts: &mut Vec<Part<'a>>, meant: &Meant<'a>) -> Result<(), NoM
 }
 
 /// Adds a list.
-fn push_list<'a>(parts: &mut Vec<Part<'a>>, list: &Listed<'a>) -> Result<(), NoMemory>
+pub(crate) fn push_list<'a>(parts: &mut Vec<Part<'a>>, list: &Listed<'a>) -> Result<(), NoMemory>
     ensures { OnOk result ((ps : List Placed) → IsWholeList ps list.now → parts_there ps parts.new.items ≡ parts_there ps parts.old.items ++ parts_of (list_there ps list.now)) }
 {
     parts.push(Part::Opens(list.at, list.op))?;
@@ -146,6 +146,7 @@ impl<'c, 's, 'p, 'a> Caller<'c, 's, 'p, 'a> {
     ghost use Rattle.std.specs.Prelude.{◌≡◌, IfOk, OnOk};
     ghost use Rattle.cil_faults.specs.Spots.{spot_at};
     ghost use Rattle.cil_macros.specs.Parameters.{kind_of_argument, read_argument};
+    ghost use Rattle.cil_macros.specs.Placed.{meaning};
     ghost use Rattle.cil_macros.specs.Puts.{PutsMeaning, PutsPart, PutsParts, SaysList, list_cell};
     ghost use Rattle.cil_macros.specs.Scene.{IsKnown};
 
@@ -164,7 +165,7 @@ impl<'c, 's, 'p, 'a> Caller<'c, 's, 'p, 'a> {
     /// Adds a part: a word as what it means where the call is, anything else as it is.
     fn put_in_one(&self, parts: &mut Vec<Part<'a>>, asked: &Part<'a>) -> Result<(), NoMemory>
         requires { IsKnown self.now.scene.now self.now.openings.now self.now.at }
-        ensures { OnOk result (PutsPart self.now.scene.now self.now.at asked.now parts.old.items parts.new.items) }
+        ensures { OnOk result (PutsPart meaning self.now.scene.now self.now.at asked.now parts.old.items parts.new.items) }
     {
         match asked {
             Part::Word(word) => self.push_meaning(parts, &word.word)?,
@@ -178,7 +179,7 @@ impl<'c, 's, 'p, 'a> Caller<'c, 's, 'p, 'a> {
     /// Adds parts as they are written, each word as what it means where the call is.
     fn put_in(&self, parts: &mut Vec<Part<'a>>, asked: &[Part<'a>]) -> Result<(), NoMemory>
         requires { IsKnown self.now.scene.now self.now.openings.now self.now.at }
-        ensures { OnOk result (PutsParts self.now.scene.now self.now.at asked.now parts.old.items parts.new.items) }
+        ensures { OnOk result (PutsParts meaning self.now.scene.now self.now.at asked.now parts.old.items parts.new.items) }
     {
         for part in asked {
             self.put_in_one(parts, part)?;

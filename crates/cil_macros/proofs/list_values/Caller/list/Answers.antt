@@ -2,6 +2,7 @@ use Rattle.std.proofs.Common.{refl, subst}
 use Rattle.cil_faults.specs.Spots.{spot_at}
 use Rattle.cil_macros.specs.declared.listed.Listed.{Listed}
 use Rattle.cil_macros.specs.Parameters.{kind_of_argument, read_argument}
+use Rattle.cil_macros.specs.Placed.{meaning}
 use Rattle.cil_macros.specs.Puts.{PutsParts, list_cell}
 use Rattle.cil_macros.proofs.PutLemmas.{list_says}
 use Rattle.cil_macros.proofs.list_values.Caller.list.Goals as goal
@@ -13,4 +14,4 @@ returns c =
     let bt = spot_at call.«module» c.args.at in
     list_says call.scene.now call.at (read_argument (kind_of_argument c.args.kind) (list_cell call.«module» bt c.args.items.now)) bt c.in_ok-op.op (c.in_ok-op.ensures.joined bt)
     c.new-asked.result.items c.push_items.new.parts.items c.new-parts.result.items c.new-asked.ensures.items (c.in_ok-op.ensures.parts bt) c.new-parts.ensures.items l c.of.ensures refl
-    (subst (λ xs. PutsParts call.scene.now call.at xs c.new-parts.result.items c.put_in.new.parts.items) c.as_slice.ensures.value c.in_ok-put_in.ensures)
+    (subst (λ xs. PutsParts meaning call.scene.now call.at xs c.new-parts.result.items c.put_in.new.parts.items) c.as_slice.ensures.value c.in_ok-put_in.ensures)
