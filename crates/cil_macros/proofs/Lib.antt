@@ -28,6 +28,7 @@ pub mod ItemLemmas
 pub mod ItemsThere
 pub mod Kept
 pub mod LawLemmas
+pub mod ListExamples
 pub mod ListLemmas
 pub mod ListMarkLemmas
 pub mod ListPlaceLemmas
