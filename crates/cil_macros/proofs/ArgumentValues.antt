@@ -26,21 +26,12 @@ use Rattle.cil_macros.specs.Walks.{written_in}
 use Rattle.cil_macros.proofs.PartLemmas.{says_terms, whole_so}
 use Rattle.cil_macros.proofs.AskLemmas.{class_word_read, filled_form, filled_leaf, level_word_read, range_word_read, set_word_read, some_form, word_value}
 use Rattle.cil_macros.proofs.PutLemmas.{no_parts}
-use Rattle.cil_macros.proofs.ValueLemmas.{form_value, kept_text, leaf_value, name_value, put_by_kind, string_cell, string_filled, text_is_string}
-
-module _ (c : Cell) (v : Term Word) where
-  no_mask : (kind : Op) (b : Bool) → read_argument (if b then None else kind_of_argument kind) c ≡ Some v → read_argument (kind_of_argument kind) c ≡ Some v
-  no_mask kind true e = cc
-  no_mask kind false e = e
-
-  -- a kind whose arguments are no lists is not masked
-  pub masked_as : (kind : Op) (b : Bool) → b ≡ may_be_list kind → b ≡ false → read_argument (kind_of_argument kind) c ≡ Some v → read_argument (argument_kind kind) c ≡ Some v
-  masked_as kind b e f g = ap (λ x. read_argument (if x then None else kind_of_argument kind) c) (sym e ∙ f) ∙ g
+use Rattle.cil_macros.proofs.ValueLemmas.{form_value, kept_text, leaf_value, name_value, put_by_kind, supported, string_cell, string_filled, text_is_string}
 
 -- what is an argument of a supported kind is one of the kind
 pub unmasked_value : (x : Parameter) (t : Term Word) (v : Term Word) → argument_of x t ≡ Some v → read_argument (kind_of_argument x.kind) (cell_in t) ≡ Some v
 unfolding argument_of
-unmasked_value x t v e = no_mask (cell_in t) v x.kind (may_be_list x.kind) e
+unmasked_value x t v e = (supported x.kind (cell_in t) v e).1
 
 -- ---- words
 
@@ -58,7 +49,7 @@ leaf_of_kind ops.CategorySetKind w v e f = word_value signs.CategorySets w v (sy
 leaf_of_kind ops.LevelKind w v e f = word_value signs.Levels w v (sym (level_word_read w) ∙ f)
 leaf_of_kind ops.LevelRangeKind w v e f = word_value signs.LevelRanges w v (sym (range_word_read w) ∙ f)
 leaf_of_kind ops.ClassPermissionKind w v e f = word_value signs.ClassPermissions w v (sym (class_word_read w) ∙ f)
-leaf_of_kind kind w v e f = leaf_value kind w v f
+leaf_of_kind kind w v e f = leaf_value kind refl w v f
 
 -- ---- strings and lists
 
@@ -76,7 +67,7 @@ name_of_kind kind at bytes v e = by (may_be_list kind) refl
   where
     by : (b : Bool) → b ≡ may_be_list kind → v ≡ kept_text at bytes
     by true f = absurd (list_no_string kind at bytes v f e)
-    by false f = name_value kind at bytes v (masked_as (cell_in (Name at bytes)) v kind false f refl e)
+    by false f = name_value kind (sym f) at bytes v e
 
 -- of a kind with lists what joins some parts is a list
 pub list_of_kind : (n : ℕ) (kind : Op) (at : Spot) (op : Op) (items : List rust.Term) (v : Term Word) → true ≡ may_be_list kind
@@ -131,7 +122,7 @@ module _ (s : Scene) (at : ℕ) (kind : Op) where
   pub form_says : (bt : Spot) (op : Op) (parts : Terms Word) (m : Meant) → false ≡ may_be_list kind → m.at ≡ bt → m.bytes ≡ string_in parts → m.scope ≡ None
       → SaysValue s at kind (Form bt op parts) (arguments.Plain m)
   form_says bt op parts m plain f g h = λ p v here e.
-      (text_says p bt (string_in parts) v (form_value kind bt op parts v (masked_as (cell_in (Form bt op parts)) v kind false plain refl e)) m f g h, tt)
+      (text_says p bt (string_in parts) v (form_value kind (sym plain) bt op parts v e) m f g h, tt)
 
   pub list_value_says : (n : ℕ) (bt : Spot) (op : Op) (items : List rust.Term) (l : Listed) → true ≡ may_be_list kind
       → SaysList s at (read_argument (kind_of_argument kind) (list_cell n bt items)) l → SaysValue s at kind (Form bt op (all_said n items)) (arguments.List l)

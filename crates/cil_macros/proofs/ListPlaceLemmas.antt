@@ -40,7 +40,7 @@ use Rattle.cil_macros.specs.Puts.{AsksInside, IsJoinedBy, bare, bare_parts, insi
 use Rattle.cil_macros.specs.Scene.{placed_of_scene}
 use Rattle.cil_macros.specs.Walks.{written_in}
 use Rattle.cil_macros.proofs.ArgumentLemmas.{first_left, one_parameter}
-use Rattle.cil_macros.proofs.ArgumentValues.{every_value, leaf_of_kind, list_of_kind, masked_as, name_of_kind, unmasked_value}
+use Rattle.cil_macros.proofs.ArgumentValues.{every_value, leaf_of_kind, list_of_kind, name_of_kind, unmasked_value}
 use Rattle.cil_macros.proofs.OpeningLemmas.{OneBound, not_bound, one_bound}
 use Rattle.cil_macros.proofs.ServingLemmas.{no_parameter}
 use Rattle.cil_macros.proofs.ValueLemmas.{form_value, kept_text}
@@ -164,8 +164,7 @@ module _ (s : Scene) (at n : ℕ) (kind : Op) (t : rust.Term) where
     pub string_judged : false ≡ may_be_list kind → IsJudged false
     string_judged plain = λ p v here e.
         text_judged p (spot_at n bt) (string_in (all_said n items.items)) v
-        (form_value kind (spot_at n bt) op (all_said n items.items) v
-        (masked_as (cell_in form) v kind false plain refl (read_so form (ap (said_of n) is ∙ form_said n bt op items) v e)))
+        (form_value kind (sym plain) (spot_at n bt) op (all_said n items.items) v (read_so form (ap (said_of n) is ∙ form_said n bt op items) v e))
 
     pub list_judged : true ≡ may_be_list kind → (slice : List rust.Term) → slice ≡ items.items → (joined : Op)
         → IsJoinedBy (spot_at n bt) (read_argument (kind_of_argument kind) (list_cell n (spot_at n bt) slice)) joined → (old parts : List Part) → old ≡ []

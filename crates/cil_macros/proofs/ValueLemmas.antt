@@ -1,6 +1,6 @@
 -- What an argument is where it is read as its parameter asks: a word of the kind's sign, or a string.
 use Rattle.std.proofs.Common.{◌≡◌, ℕ, Bool, true, false, if◌then◌else◌, List, [], ◌∷◌, refl, sym, ◌∙◌, ap}
-use Rattle.std.specs.Prelude.{Some}
+use Rattle.std.specs.Prelude.{Some, None}
 use Rattle.cil_base.specs.Places.{some_same}
 use Rattle.cil_syntax.specs.declared.kind.Sign.TheVariants as signs
 use Rattle.cil_syntax.specs.declared.term.Op.{Op}
@@ -15,7 +15,7 @@ use Rattle.cil_syntax.specs.Terms.{Term, Leaf, Name, Form, Terms, nil, cons}
 use Rattle.cil_macros.specs.declared.meant.Argument.{Argument}
 use Rattle.cil_macros.specs.declared.meant.Argument.TheVariants as arguments
 use Rattle.cil_macros.specs.Meant.{kind_sign, put_there, value_there}
-use Rattle.cil_macros.specs.Parameters.{argument_kind, cell_in, cells_in, faultless, is_text, read_argument, string_in, text_cell}
+use Rattle.cil_macros.specs.Parameters.{argument_kind, cell_in, cells_in, faultless, is_text, kind_of_argument, may_be_list, read_argument, string_in, text_cell}
 use Rattle.cil_macros.specs.Placed.{Placed, filled, put_list}
 
 -- ---- words
@@ -24,20 +24,35 @@ pub one_faultless : (t : Term Word) (faults : List Inner) (value : Term Word) �
 one_faultless t [] value e = sym (some_same t value e)
 one_faultless t (f ∷ fs) value e = cc
 
-pub leaf_value : (kind : Op) (w : Word) (value : Term Word) → read_argument (argument_kind kind) (cell_in (Leaf w)) ≡ Some value
+no_list : true ≡ false → ⊥
+no_list e = cc
+
+-- what is read as an argument of a supported kind is of a kind without lists
+pub supported : (kind : Op) (c : Cell) (value : Term Word) → read_argument (argument_kind kind) c ≡ Some value → (may_be_list kind ≡ false) × (read_argument (kind_of_argument kind) c ≡ Some value)
+supported kind c value e = by (may_be_list kind) refl e
+  where
+    by : (b : Bool) → may_be_list kind ≡ b → read_argument (if b then None else kind_of_argument kind) c ≡ Some value → (may_be_list kind ≡ false) × (read_argument (kind_of_argument kind) c ≡ Some value)
+    by true f g = cc
+    by false f g = (f, g)
+
+pub leaf_value : (kind : Op) → may_be_list kind ≡ false → (w : Word) (value : Term Word) → read_argument (kind_of_argument kind) (cell_in (Leaf w)) ≡ Some value
     → value ≡ Leaf record { at = w.at; bytes = w.bytes; sign = kind_sign kind }
 unfolding cell_in read_word
-leaf_value ops.TypeKind w value e = one_faultless (Leaf record { at = w.at; bytes = w.bytes; sign = signs.Types }) (word_faults w.at (is_spelled signs.Types w.bytes) w.bytes) value e
-leaf_value ops.RoleKind w value e = one_faultless (Leaf record { at = w.at; bytes = w.bytes; sign = signs.Roles }) (word_faults w.at (is_spelled signs.Roles w.bytes) w.bytes) value e
-leaf_value ops.UserKind w value e = one_faultless (Leaf record { at = w.at; bytes = w.bytes; sign = signs.Users }) (word_faults w.at (is_spelled signs.Users w.bytes) w.bytes) value e
-leaf_value ops.ClassKind w value e = one_faultless (Leaf record { at = w.at; bytes = w.bytes; sign = signs.PlainClass }) (word_faults w.at (is_spelled signs.PlainClass w.bytes) w.bytes) value e
-leaf_value ops.BooleanKind w value e = one_faultless (Leaf record { at = w.at; bytes = w.bytes; sign = signs.Booleans }) (word_faults w.at (is_spelled signs.Booleans w.bytes) w.bytes) value e
-leaf_value ops.ClassMapKind w value e = one_faultless (Leaf record { at = w.at; bytes = w.bytes; sign = signs.ClassMaps }) (word_faults w.at (is_spelled signs.ClassMaps w.bytes) w.bytes) value e
-leaf_value ops.SensitivityKind w value e = one_faultless (Leaf record { at = w.at; bytes = w.bytes; sign = signs.Sensitivities }) (word_faults w.at (is_spelled signs.Sensitivities w.bytes) w.bytes) value e
-leaf_value ops.CategoryKind w value e = one_faultless (Leaf record { at = w.at; bytes = w.bytes; sign = signs.Categories }) (word_faults w.at (is_spelled signs.Categories w.bytes) w.bytes) value e
-leaf_value ops.NameKind w value e = sym (some_same (Leaf record { at = w.at; bytes = w.bytes; sign = signs.Text }) value e)
-leaf_value ops.TextKind w value e = sym (some_same (Leaf record { at = w.at; bytes = w.bytes; sign = signs.Text }) value e)
-leaf_value kind w value e = cc
+leaf_value ops.TypeKind plain w value e = one_faultless (Leaf record { at = w.at; bytes = w.bytes; sign = signs.Types }) (word_faults w.at (is_spelled signs.Types w.bytes) w.bytes) value e
+leaf_value ops.RoleKind plain w value e = one_faultless (Leaf record { at = w.at; bytes = w.bytes; sign = signs.Roles }) (word_faults w.at (is_spelled signs.Roles w.bytes) w.bytes) value e
+leaf_value ops.UserKind plain w value e = one_faultless (Leaf record { at = w.at; bytes = w.bytes; sign = signs.Users }) (word_faults w.at (is_spelled signs.Users w.bytes) w.bytes) value e
+leaf_value ops.ClassKind plain w value e = one_faultless (Leaf record { at = w.at; bytes = w.bytes; sign = signs.PlainClass }) (word_faults w.at (is_spelled signs.PlainClass w.bytes) w.bytes) value e
+leaf_value ops.BooleanKind plain w value e = one_faultless (Leaf record { at = w.at; bytes = w.bytes; sign = signs.Booleans }) (word_faults w.at (is_spelled signs.Booleans w.bytes) w.bytes) value e
+leaf_value ops.ClassMapKind plain w value e = one_faultless (Leaf record { at = w.at; bytes = w.bytes; sign = signs.ClassMaps }) (word_faults w.at (is_spelled signs.ClassMaps w.bytes) w.bytes) value e
+leaf_value ops.SensitivityKind plain w value e = one_faultless (Leaf record { at = w.at; bytes = w.bytes; sign = signs.Sensitivities }) (word_faults w.at (is_spelled signs.Sensitivities w.bytes) w.bytes) value e
+leaf_value ops.CategoryKind plain w value e = one_faultless (Leaf record { at = w.at; bytes = w.bytes; sign = signs.Categories }) (word_faults w.at (is_spelled signs.Categories w.bytes) w.bytes) value e
+leaf_value ops.NameKind plain w value e = sym (some_same (Leaf record { at = w.at; bytes = w.bytes; sign = signs.Text }) value e)
+leaf_value ops.TextKind plain w value e = sym (some_same (Leaf record { at = w.at; bytes = w.bytes; sign = signs.Text }) value e)
+leaf_value ops.ClassPermissionKind plain w value e = absurd (no_list plain)
+leaf_value ops.CategorySetKind plain w value e = absurd (no_list plain)
+leaf_value ops.LevelKind plain w value e = absurd (no_list plain)
+leaf_value ops.LevelRangeKind plain w value e = absurd (no_list plain)
+leaf_value kind plain w value e = cc
 
 -- ---- strings
 
@@ -47,17 +62,24 @@ kept_text at bytes = Form at ops.UnreadText (cons (Name at bytes) nil)
 abbrev pub string_cell : Spot → List ℕ → Cell
 string_cell at bytes = record { at = at; face = a_string; read = read_string at bytes }
 
-string_value : (kind : Op) (at : Spot) (bytes : List ℕ) (value : Term Word) → read_argument (argument_kind kind) (string_cell at bytes) ≡ Some value → value ≡ kept_text at bytes
+string_value : (kind : Op) → may_be_list kind ≡ false → (at : Spot) (bytes : List ℕ) (value : Term Word) → read_argument (kind_of_argument kind) (string_cell at bytes) ≡ Some value → value ≡ kept_text at bytes
 unfolding read_string
-string_value ops.NameKind at bytes value e = sym (some_same (kept_text at bytes) value e)
-string_value ops.TextKind at bytes value e = sym (some_same (kept_text at bytes) value e)
-string_value kind at bytes value e = cc
+string_value ops.NameKind plain at bytes value e = sym (some_same (kept_text at bytes) value e)
+string_value ops.TextKind plain at bytes value e = sym (some_same (kept_text at bytes) value e)
+string_value ops.ClassPermissionKind plain at bytes value e = absurd (no_list plain)
+string_value ops.CategorySetKind plain at bytes value e = absurd (no_list plain)
+string_value ops.LevelKind plain at bytes value e = absurd (no_list plain)
+string_value ops.LevelRangeKind plain at bytes value e = absurd (no_list plain)
+string_value kind plain at bytes value e = cc
 
-list_value : (kind : Op) (at : Spot) (cells : List Cell) (value : Term Word)
-    → read_argument (argument_kind kind) (record { at = at; face = a_list (head_word cells); read = read_list at cells }) ≡ Some value → ⊥
+list_value : (kind : Op) → may_be_list kind ≡ false → (at : Spot) (cells : List Cell) (value : Term Word)
+    → read_argument (kind_of_argument kind) (record { at = at; face = a_list (head_word cells); read = read_list at cells }) ≡ Some value → ⊥
 unfolding read_list
-list_value ops.TypeKind at cells value e = cc
-list_value kind at cells value e = cc
+list_value ops.ClassPermissionKind plain at cells value e = no_list plain
+list_value ops.CategorySetKind plain at cells value e = no_list plain
+list_value ops.LevelKind plain at cells value e = no_list plain
+list_value ops.LevelRangeKind plain at cells value e = no_list plain
+list_value kind plain at cells value e = cc
 
 pub text_is_string : (at : Spot) (parts : Terms Word) → text_cell at parts ≡ string_cell at (string_in parts)
 text_is_string at nil = refl
@@ -65,19 +87,19 @@ text_is_string at (cons (Leaf w) ts) = refl
 text_is_string at (cons (Name bt bytes) ts) = refl
 text_is_string at (cons (Form bt op more) ts) = refl
 
-pub name_value : (kind : Op) (at : Spot) (bytes : List ℕ) (value : Term Word) → read_argument (argument_kind kind) (cell_in (Name at bytes)) ≡ Some value → value ≡ kept_text at bytes
+pub name_value : (kind : Op) → may_be_list kind ≡ false → (at : Spot) (bytes : List ℕ) (value : Term Word) → read_argument (kind_of_argument kind) (cell_in (Name at bytes)) ≡ Some value → value ≡ kept_text at bytes
 unfolding cell_in
-name_value kind at bytes value e = string_value kind at bytes value e
+name_value kind plain at bytes value e = string_value kind plain at bytes value e
 
-pub form_value : (kind : Op) (at : Spot) (op : Op) (parts : Terms Word) (value : Term Word) → read_argument (argument_kind kind) (cell_in (Form at op parts)) ≡ Some value
+pub form_value : (kind : Op) → may_be_list kind ≡ false → (at : Spot) (op : Op) (parts : Terms Word) (value : Term Word) → read_argument (kind_of_argument kind) (cell_in (Form at op parts)) ≡ Some value
     → value ≡ kept_text at (string_in parts)
 unfolding cell_in
-form_value kind at op parts value e = by (is_text op) e
+form_value kind plain at op parts value e = by (is_text op) e
   where
-    by : (b : Bool) → read_argument (argument_kind kind) (if b then text_cell at parts else record { at = at; face = a_list (head_word (cells_in parts)); read = read_list at (cells_in parts) }) ≡ Some value
+    by : (b : Bool) → read_argument (kind_of_argument kind) (if b then text_cell at parts else record { at = at; face = a_list (head_word (cells_in parts)); read = read_list at (cells_in parts) }) ≡ Some value
         → value ≡ kept_text at (string_in parts)
-    by true f = string_value kind at (string_in parts) value (ap (read_argument (argument_kind kind)) (sym (text_is_string at parts)) ∙ f)
-    by false f = absurd (list_value kind at (cells_in parts) value f)
+    by true f = string_value kind plain at (string_in parts) value (ap (read_argument (kind_of_argument kind)) (sym (text_is_string at parts)) ∙ f)
+    by false f = absurd (list_value kind plain at (cells_in parts) value f)
 
 -- ---- what they mean
 

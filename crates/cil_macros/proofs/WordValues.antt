@@ -17,9 +17,9 @@ use Rattle.cil_macros.specs.Items.{argument_words, as_word, is_text as is_text_s
 use Rattle.cil_macros.specs.declared.meant.Argument.{Argument}
 use Rattle.cil_macros.specs.declared.meant.Argument.TheVariants as arguments
 use Rattle.cil_macros.specs.Meant.{bounds_by, is_list, kind_sign, meant_in}
-use Rattle.cil_macros.specs.Parameters.{Parameter, argument_of, call_arguments, is_text, macro_parameters}
+use Rattle.cil_macros.specs.Parameters.{Parameter, argument_of, call_arguments, is_text, macro_parameters, cell_in}
 use Rattle.cil_macros.specs.Placed.{Bound, Placed, filled, is_misplaced, is_served, meaning, meant_by, put, put_list, takes_lists}
-use Rattle.cil_macros.proofs.ValueLemmas.{leaf_value, name_value, form_value}
+use Rattle.cil_macros.proofs.ValueLemmas.{form_value, leaf_value, name_value, supported}
 
 pub not_true : (b : Bool) → IsTrue (not b) → b ≡ false
 not_true true h = cc
@@ -85,9 +85,10 @@ module _ (ps : List Placed) where
 -- what is read as an argument is none
 no_list_read : (x : Parameter) (t : Term Word) (value : Term Word) → argument_of x t ≡ Some value → IsNoList value
 unfolding argument_of
-no_list_read x (Leaf w) value e = subst IsNoList (sym (leaf_value x.kind w value e)) tt
-no_list_read x (Name at bytes) value e = subst IsNoList (sym (name_value x.kind at bytes value e)) refl
-no_list_read x (Form at op parts) value e = subst IsNoList (sym (form_value x.kind at op parts value e)) refl
+no_list_read x (Leaf w) value e = let s = supported x.kind (cell_in (Leaf w)) value e in subst IsNoList (sym (leaf_value x.kind s.0 w value s.1)) tt
+no_list_read x (Name at bytes) value e = let s = supported x.kind (cell_in (Name at bytes)) value e in subst IsNoList (sym (name_value x.kind s.0 at bytes value s.1)) refl
+no_list_read x (Form at op parts) value e =
+    let s = supported x.kind (cell_in (Form at op parts)) value e in subst IsNoList (sym (form_value x.kind s.0 at op parts value s.1)) refl
 
 no_argument : (x : Parameter) (t : Term Word) (o : Option (Term Word)) → argument_of x t ≡ o → IfNone o
 no_argument x t None e = tt

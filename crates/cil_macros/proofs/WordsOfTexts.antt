@@ -19,7 +19,7 @@ use Rattle.cil_syntax.proofs.SliceLemmas.{IsPlain, Whole, WholeIn, FrontText, Ha
 use Rattle.cil_blocks.specs.Contents.{Standing, Stands}
 use Rattle.cil_macros.specs.Calls.{Unfolded, IsPlaced, stands, called, in_branch, in_optional, bound, bound_more, bounds_of_call, called_macro, filled_by, is_repeated, unfolded, unfolded_by, unfolded_with}
 use Rattle.cil_macros.specs.Laws.{HaveWordsOfTexts}
-use Rattle.cil_macros.specs.Parameters.{ArgumentKind, Parameter, argument_kind, argument_of, call_arguments, cell_in, cells_in, faultless, is_text, macro_parameters, read_argument, sound, text_cell}
+use Rattle.cil_macros.specs.Parameters.{ArgumentKind, Parameter, argument_kind, argument_of, call_arguments, cell_in, cells_in, faultless, is_text, kind_of_argument, macro_parameters, may_be_list, read_argument, sound, text_cell}
 use Rattle.cil_macros.specs.Placed.{Bound, Placed, filled, all_filled, is_served, meaning, meant_by, of_plain_class, put, put_list}
 use Rattle.cil_macros.proofs.WrittenLemmas.{stands_written}
 
@@ -36,9 +36,18 @@ abbrev IsPlainKind : Option ArgumentKind → Type 0
 IsPlainKind None = Unit {0}
 IsPlainKind (Some k) = IsPlain k.shape
 
+plain_of_kind : (op : Op) → IsPlainKind (kind_of_argument op)
+plain_of_kind ops.ClassPermissionKind = (tt, ((λ e. cc), (tt, (tt, tt))))
+plain_of_kind ops.LevelKind = (tt, ((λ e. cc), ((tt, tt), (tt, (tt, tt)))))
+plain_of_kind ops.LevelRangeKind = (tt, ((λ e. cc), ((tt, ((λ e. cc), ((tt, tt), (tt, (tt, tt))))), ((tt, ((λ e. cc), ((tt, tt), (tt, (tt, tt))))), tt))))
+plain_of_kind op = tt
+
 kind_plain : (op : Op) → IsPlainKind (argument_kind op)
-kind_plain ops.Listed = tt
-kind_plain op = tt
+kind_plain op = by (may_be_list op)
+  where
+    by : (b : Bool) → IsPlainKind (if b then None else kind_of_argument op)
+    by true = tt
+    by false = plain_of_kind op
 
 module _ (P : Spot → List ℕ → Type 0) (empty : (at : Spot) → P at []) where
   -- each word, name and string of what a word means has the property
