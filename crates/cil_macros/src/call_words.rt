@@ -1,12 +1,12 @@
 //! The words of a call: that of its macro, and its arguments that are looked up. The body of a call is found by a search by
 //! halving among all bodies; its words cost a step for each argument.
 
-ghost use Rattle.std.specs.Prelude.{◌≡◌, ◌+◌, ◌<◌, ◌++◌, IfOk, IfSome, List, MatchOption, OnOk, Some, length, map, slice_get};
+ghost use Rattle.std.specs.Prelude.{◌≡◌, ◌+◌, ◌<◌, ◌++◌, IfOk, IfSome, IsTrue, List, MatchOption, OnOk, Some, length, map, slice_get};
 ghost use Rattle.cil_syntax.specs.Said.{args_of};
 ghost use Rattle.cil_blocks.specs.Contents.{first_word};
 ghost use Rattle.cil_blocks.specs.Places.{entries_in};
 ghost use Rattle.cil_macros.specs.Calls.{unfolded};
-ghost use Rattle.cil_macros.specs.Items.{argument_words, call_words, is_text, macro_words, scoped_by, unfolded_words, word_in_argument};
+ghost use Rattle.cil_macros.specs.Items.{argument_words, call_words, is_text, leaves, macro_words, scoped_by, unfolded_values, unfolded_words, word_in_argument};
 ghost use Rattle.cil_macros.specs.Macros.{all_standing};
 ghost use Rattle.cil_macros.specs.Meant.{bounds_by, kind_sign, meant_term, value_there};
 ghost use Rattle.cil_macros.specs.Parameters.{macro_parameters};
@@ -107,6 +107,20 @@ pub(crate) fn body_of(bodies: &[Body], at: usize) -> Option<usize>
         return None;
     }
     Some(number)
+}
+
+/// Whether what the call at a place says of its arguments are words: none of them is a list.
+pub(crate) fn call_says_words_at(scene: &Scene, openings: &[Opening], at: usize) -> bool
+    requires opened { IsOpened scene.now openings.now }
+    requires within { at < length (entries_in scene.now.spaces.now) + length scene.now.brought.now.entries.items }
+    ensures { IsTrue result → (p : Placed) → slice_get (placed_of_scene scene.now) at ≡ Some p
+        → unfolded_values (unfolded (written_in scene.now.spaces.now) (all_standing scene.now.spaces.now) p) ≡ leaves (unfolded_words (unfolded (written_in scene.now.spaces.now) (all_standing scene.now.spaces.now) p)) }
+{
+    let bodies = scene.brought.bodies.as_slice();
+    match body_of(bodies, at) {
+        None => true,
+        Some(number) => !openings[number].lists,
+    }
 }
 
 /// Adds those of the arguments of a macro that are looked up.

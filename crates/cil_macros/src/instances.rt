@@ -3,7 +3,7 @@
 ghost use Rattle.std.specs.Prelude.{◌≡◌, ◌<◌, Some, length, slice_get};
 
 use crate::branches::{Branch, branch_at};
-use crate::call_words::call_words_at;
+use crate::call_words::{call_says_words_at, call_words_at};
 use crate::calls::{have_one_scope, scope_at, space_at};
 use crate::chain::{Brought, statement_at};
 use crate::declared_names::Declared;
@@ -60,7 +60,7 @@ impl<'s, 'p, 'a> Instances<'s, 'p, 'a> {
     ghost use Rattle.cil_blocks.specs.Contents.{is_conditional};
     ghost use Rattle.cil_blocks.specs.Entries.{statement_at};
     ghost use Rattle.cil_blocks.specs.Namespaces.{AreNamespaces, IsNumber};
-    ghost use Rattle.cil_macros.specs.Items.{IsWholeSaid, SaysWords, all_placed, condition_at, item_at, items_in, leaves, namespaces_in, placed_at, said_by, said_there, scope_by, scoped_by, word_at};
+    ghost use Rattle.cil_macros.specs.Items.{IsWholeSaid, SaysWords, all_placed, call_words, condition_at, item_at, items_in, leaves, namespaces_in, placed_at, said_by, said_there, scope_by, scoped_by, word_at};
     ghost use Rattle.cil_blocks.specs.InheritFaults.{most_instances};
     ghost use Rattle.cil_blocks.specs.Places.{entries_in};
     ghost use Rattle.cil_macros.specs.Calls.{IsPlaced, is_call, placed_cmp};
@@ -271,6 +271,21 @@ impl<'s, 'p, 'a> Instances<'s, 'p, 'a> {
             declared: &self.declared,
         };
         said_parts_at(alloc, &scene, self.openings.as_slice(), at)
+    }
+
+    /// Whether what the call at a place says are words: none of its arguments is a list. Where it is no, one may be. A look-up of its
+    /// body costs a search by halving.
+    pub fn call_says_words(&self, at: usize) -> bool
+        requires { at < length (items_in self.now) }
+        ensures { IsTrue result → is_call (item_at self.now at).keyword ≡ true
+            → (item_at self.now at).args ≡ leaves (call_words (written_in self.now.0) (all_standing self.now.0) (placed_at self.now at) (placed_at self.now at).standing.statement.statement.args) }
+    {
+        let scene = Scene {
+            spaces: self.spaces,
+            brought: &self.brought,
+            declared: &self.declared,
+        };
+        call_says_words_at(&scene, self.openings.as_slice(), at)
     }
 
     /// The words of the call at a place: that of its macro and, where it is unfolded, its arguments that are looked up. A
