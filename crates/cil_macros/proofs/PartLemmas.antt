@@ -8,7 +8,8 @@ use Rattle.cil_syntax.specs.Terms.{Term, Leaf, Name, Form, Terms, nil, cons}
 use Rattle.cil_macros.specs.declared.listed.Listed.{Listed}
 use Rattle.cil_macros.specs.declared.listed.Part as kept_part
 use Rattle.cil_macros.specs.declared.listed.Part.TheVariants as kept_parts
-use Rattle.cil_macros.specs.Listed.{IsWholeList, Part, all_parts_of, closes, list_there, opens, part_there, parts_of, parts_there, read_parts, terms_in, with_part}
+use Rattle.cil_macros.specs.Item.{all_words_in, words_in}
+use Rattle.cil_macros.specs.Listed.{IsWholeList, Part, all_parts_of, closes, list_there, opens, part_there, parts_of, parts_there, read_parts, terms_in, text, with_part, word as part_word, words_in_parts}
 use Rattle.cil_macros.specs.Placed.{Placed}
 
 -- terms behind others
@@ -53,6 +54,29 @@ module _ (ps : List Placed) (l : Listed) (ts : Terms ScopedWord) (e : parts_ther
 
   pub whole_so : IsWholeList ps l
   whole_so = e ∙ sym (ap all_parts_of says_terms)
+
+-- ---- words
+
+words_behind : (xs ys : List Part) → words_in_parts (xs ++ ys) ≡ words_in_parts xs ++ words_in_parts ys
+unfolding words_in_parts
+words_behind [] ys = refl
+words_behind (part_word w ∷ xs) ys = ap (λ ws. w ∷ ws) (words_behind xs ys)
+words_behind (text at bytes ∷ xs) ys = words_behind xs ys
+words_behind (opens at op ∷ xs) ys = words_behind xs ys
+words_behind (closes ∷ xs) ys = words_behind xs ys
+
+mutual
+  unfolding parts_of words_in_parts words_in
+
+  term_words : (t : Term ScopedWord) → words_in_parts (parts_of t) ≡ words_in t
+  term_words (Leaf w) = refl
+  term_words (Name at bytes) = refl
+  term_words (Form at op ts) = words_behind (all_parts_of ts) (closes ∷ []) ∙ append-nil (words_in_parts (all_parts_of ts)) ∙ terms_words ts
+
+  -- the words of some terms are those among their parts
+  pub terms_words : (ts : Terms ScopedWord) → words_in_parts (all_parts_of ts) ≡ all_words_in ts
+  terms_words nil = refl
+  terms_words (cons t ts) = words_behind (parts_of t) (all_parts_of ts) ∙ (λ i. term_words t i ++ terms_words ts i)
 
 pub form_parts : (at : Spot) (op : Op) (ts : Terms ScopedWord) → parts_of (Form at op ts) ≡ opens at op ∷ (all_parts_of ts ++ closes ∷ [])
 unfolding parts_of

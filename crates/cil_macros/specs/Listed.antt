@@ -47,6 +47,14 @@ unfoldable mutual
   all_parts_of nil = []
   all_parts_of (cons t ts) = parts_of t ++ all_parts_of ts
 
+-- the words among some parts, in order
+unfoldable pub words_in_parts : List Part → List ScopedWord
+words_in_parts [] = []
+words_in_parts (word w ∷ xs) = w ∷ words_in_parts xs
+words_in_parts (text at bytes ∷ xs) = words_in_parts xs
+words_in_parts (opens at op ∷ xs) = words_in_parts xs
+words_in_parts (closes ∷ xs) = words_in_parts xs
+
 -- where a permission of a class map stands, a list is of a class alone: so its first part is, if it is a word
 abbrev pub plain_first : List Part → List Part
 plain_first [] = []

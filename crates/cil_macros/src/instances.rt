@@ -65,9 +65,9 @@ impl<'s, 'p, 'a> Instances<'s, 'p, 'a> {
     ghost use Rattle.cil_blocks.specs.Places.{entries_in};
     ghost use Rattle.cil_macros.specs.Calls.{IsPlaced, is_call, placed_cmp};
     ghost use Rattle.cil_macros.specs.Depths.{ArePlacedShallow, AreShallowItems};
-    ghost use Rattle.cil_macros.specs.Listed.{all_parts_of, parts_there};
+    ghost use Rattle.cil_macros.specs.Listed.{all_parts_of, parts_there, words_in_parts};
     ghost use Rattle.cil_macros.specs.Macros.{all_standing};
-    ghost use Rattle.cil_macros.specs.Item.{innermost};
+    ghost use Rattle.cil_macros.specs.Item.{all_words_in, innermost};
     ghost use Rattle.cil_macros.specs.Meant.{IsWholeMeaning, meaning_there};
     ghost use Rattle.cil_macros.specs.Rounds.{AreNested};
     ghost use Rattle.cil_macros.specs.Placed.{Placed, meaning};
@@ -263,7 +263,8 @@ impl<'s, 'p, 'a> Instances<'s, 'p, 'a> {
     /// each part.
     pub fn parts(&self, alloc: Global, at: usize) -> Result<Vec<Part<'a>>, NoMemory>
         requires { at < length (items_in self.now) }
-        ensures { IfOk result (λ parts. parts_there (all_placed self.now) parts.items ≡ all_parts_of (item_at self.now at).args) }
+        ensures parts { IfOk result (λ parts. parts_there (all_placed self.now) parts.items ≡ all_parts_of (item_at self.now at).args) }
+        ensures words { IfOk result (λ parts. words_in_parts (parts_there (all_placed self.now) parts.items) ≡ all_words_in (item_at self.now at).args) }
     {
         let scene = Scene {
             spaces: self.spaces,

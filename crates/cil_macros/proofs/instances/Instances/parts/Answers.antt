@@ -4,7 +4,7 @@ use Rattle.cil_macros.specs.declared.entry.Called.{Called}
 use Rattle.cil_macros.specs.declared.openings.Opening.{Opening}
 use Rattle.cil_macros.specs.Instances.{AreMeant}
 use Rattle.cil_macros.proofs.CallOpening.{all_opened}
-use Rattle.cil_macros.proofs.SaidThere.{parts_say}
+use Rattle.cil_macros.proofs.SaidThere.{parts_say, words_of_parts}
 use Rattle.cil_macros.proofs.PlacedLemmas.{is_place}
 use Rattle.cil_macros.proofs.instances.Instances.parts.Goals as goal
 
@@ -18,7 +18,9 @@ pub said_parts_at-requires-clause-within : goal.said_parts_at-requires-clause-wi
 said_parts_at-requires-clause-within c =
     subst (λ (v : Standings × List Called). c.args.at < length (entries_in v.0) + length v.1) (sym c.self.view_is) (is_place c.args.self.now c.args.at c.requires)
 
-pub returns : goal.returns
-returns c =
-    let i = c.args.self.now in
-    parts_say _ i c.self.view_is c.args.at c.requires c.said_parts_at.result c.said_parts_at.ensures
+pub returns-clause-parts : goal.returns-clause-parts
+returns-clause-parts c = parts_say _ c.args.self.now c.self.view_is c.args.at c.requires c.said_parts_at.result c.said_parts_at.ensures
+
+pub returns-clause-words : goal.returns-clause-words
+returns-clause-words c =
+    words_of_parts c.args.self.now c.args.at c.said_parts_at.result (parts_say _ c.args.self.now c.self.view_is c.args.at c.requires c.said_parts_at.result c.said_parts_at.ensures)
