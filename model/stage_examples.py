@@ -351,6 +351,9 @@ MAPS = [
     ("classorder", [FIRST + b"(classmap m (x))(classorder (unordered file))(classorder (file m nobody))"], refused(
         Fault(41, b"m", b"m nobody"), Fault(41, b"nobody"),
     )),
+    ("a class for the parameter of a map", [
+        FIRST + b"(classmap m (x))(macro k ((classmap p)) (allow b a (p (x))))(call k (file))(call k (m))",
+    ], refused(Fault(41, b"file", b"file))"), Fault(41, b"x", b"x))))"))),
 ]
 
 ARGUMENTS = [
@@ -394,9 +397,6 @@ ARGUMENTS = [
     ("the words of an argument that is a list", [
         FIRST + b"(macro m ((classpermission p)))(call m ((nobody (x))))(call m ((file (nope))))(call m (nobody))",
     ], refused(Fault(41, b"nobody"), Fault(41, b"nope"), Fault(41, b"nobody", b"nobody", 1))),
-    ("a class for the parameter of a map", [
-        FIRST + b"(classmap m (x))(macro k ((classmap p)) (allow b a (p (x))))(call k (file))(call k (m))",
-    ], refused(Fault(41, b"file", b"file))"), Fault(41, b"x", b"x))))") )),
     ("a map for the parameter of a map", [
         FIRST + b"(classmap m (x))(macro k ((classmap p)(classpermission q)) (classmapping p x q)(allow b a (p (x))))"
         b"(call k (m (file (open))))",

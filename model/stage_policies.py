@@ -242,12 +242,16 @@ class StageDraft(OptionalDraft):
 
     # ---- class permissions
 
+    def permissions_of_map(self, spot, word):
+        """The permissions of a class map that a word may mean: a parameter may mean each."""
+        is_parameter = (b"classmap", word) in spot.parameters
+        found = [path for path in self.maps if is_parameter or path[-1] == word.split(b".")[-1]]
+        return list(self.maps[self.rng.choice(found)]) if found else [b"w0"]
+
     def list_on(self, spot, kind, class_word):
         if kind == b"class":
             return [class_word, self.permissions_on(spot, class_word)]
-        is_parameter = (b"classmap", class_word) in spot.parameters
-        found = [path for path in self.maps if is_parameter or path[-1] == class_word.split(b".")[-1]]
-        listed = list(self.maps[self.rng.choice(found)]) if found else [b"w0"]
+        listed = self.permissions_of_map(spot, class_word)
         chosen = self.rng.sample(listed, self.rng.randrange(1, len(listed) + 1))
         if self.goes_wrong("words", 0.1) or (isinstance(spot, OptionalSpot) and often(self.rng, 0.1)):
             chosen.append(self.rng.choice([b"nope", *SHARED]))
@@ -267,8 +271,7 @@ class StageDraft(OptionalDraft):
     def add_mapping(self):
         spot = self.spot(may_be_macro=often(self.rng, 0.5))
         class_map = self.word(spot, b"classmap")
-        found = [path for path in self.maps if path[-1] == class_map.split(b".")[-1]]
-        listed = list(self.maps[self.rng.choice(found)]) if found else [b"w0"]
+        listed = self.permissions_of_map(spot, class_map)
         permission = b"nope" if self.goes_wrong("words", 0.1) else self.rng.choice(listed)
         given = self.class_permission(spot, has_maps=self.goes_wrong("words", 0.2) or often(self.rng, 0.03))
         spot.body.append([b"classmapping", class_map, permission, given])

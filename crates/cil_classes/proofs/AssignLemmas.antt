@@ -1,5 +1,6 @@
 -- What class permissions and map permissions are given, as masks.
 use Rattle.std.specs.Prelude.{◌⊎◌, Contains, IsBitSet, IsPermutation, All, bit_or, set}
+use Rattle.std.specs.List.Sorted.{IsNonDecreasingBy}
 use Rattle.std.proofs.Common.{◌≡◌, ℕ, ◌+◌, ◌<◌, ◌≤◌, List, [], ◌∷◌, ◌++◌, length, take, drop, get_or, refl, sym, ◌∙◌, ap, subst, inl, inr, arith}
 use Rattle.std.proofs.lemmas.Bool.{cases_eq}
 use Rattle.std.proofs.lemmas.List.{get_or_default, get_or-set_other, get_or-set_same, get_or-replicate, length-set, take-append-le, take_all, take_more}
@@ -124,12 +125,23 @@ edges_within givens edges count start are within len = λ k d l.
     omega (arith, small, same, len)
 
 -- the edges, as a sort leaves them
+whole_sort : (old new : List Edge) (n : ℕ) → n ≡ length old → IsPermutation old new → take n (new ++ drop (length new) old) ≡ new
+whole_sort old new n len moved =
+    let long : length new ≡ length old = length_permutation old new moved in
+    ap (λ k. take k (new ++ drop (length new) old)) (len ∙ sym long) ∙ take-append-le (length new) new (drop (length new) old) (omega arith) ∙ take_all (length new) new (omega arith)
+
 pub edges_sorted : (givens : List Given) (old new : List Edge) (n : ℕ) → old ≡ all_edges givens → n ≡ length old → IsPermutation old new
     → AreEdges givens (take n (new ++ drop (length new) old))
 edges_sorted givens old new n made len moved =
-    let long : length new ≡ length old = length_permutation old new moved in
-    let whole : take n (new ++ drop (length new) old) ≡ new =
-    ap (λ k. take k (new ++ drop (length new) old)) (len ∙ sym long) ∙ take-append-le (length new) new (drop (length new) old) (omega arith) ∙ take_all (length new) new (omega arith) in
-    subst (AreEdges givens) (sym whole)
+    subst (AreEdges givens) (sym (whole_sort old new n len moved))
     (edges_are givens new (subst (λ es. IsPermutation es new) made moved)
     (λ e c. subst (λ es. Contains es e) made (Contains-permutation new old e (IsPermutation-sym old new moved) c)))
+
+pub edges_rise : (old new : List Edge) (n : ℕ) → n ≡ length old → IsPermutation old new → IsNonDecreasingBy (λ (e : Edge). e.from) new
+    → IsNonDecreasingBy (λ (e : Edge). e.from) (take n (new ++ drop (length new) old))
+edges_rise old new n len moved rising = subst (λ (es : List Edge). IsNonDecreasingBy (λ (e : Edge). e.from) es) (sym (whole_sort old new n len moved)) rising
+
+-- before the first statement
+pub none_made : (givens : List Given) (made : List Edge) → made ≡ [] → made ≡ all_edges (take 0 givens)
+none_made [] made e = e
+none_made (g ∷ gs) made e = e

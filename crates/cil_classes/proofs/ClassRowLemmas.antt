@@ -1,7 +1,7 @@
 -- The rows of the classes, from the entries of their names.
 use Rattle.std.specs.Prelude.{Some, None, nat_eq, slice_get}
 use Rattle.std.specs.Global.{Vec}
-use Rattle.std.specs.Option.{option_map}
+use Rattle.std.specs.Option.{option_map, option_map_or}
 use Rattle.std.proofs.Common.{◌≡◌, ℕ, ◌+◌, ◌<◌, ◌≤◌, true, false, List, [], ◌∷◌, ◌++◌, map, length, take, get_or, set, refl, sym, ◌∙◌, ap, subst, inl, inr, arith}
 use Rattle.std.proofs.lemmas.Bool.{and_from, and_parts, cases_eq, true≢false}
 use Rattle.std.proofs.lemmas.List.{take_more, take_all, map-append, length-map, length-take-le}
@@ -21,6 +21,14 @@ use Rattle.cil_names.specs.Unresolved.{listed_at}
 use Rattle.cil_classes.specs.ClassRows.{AreClassEntries, AreListed, AreRowsOf}
 use Rattle.cil_classes.specs.declared.row.Class.{Class}
 use Rattle.cil_base.proofs.NameSearches.{number_is}
+
+-- ---- what is listed for an entry
+
+pub none_listed : (lists : List (Vec Bytes)) (d : ℕ) → slice_get lists d ≡ None → listed_at lists d ≡ []
+none_listed lists d e = ap (λ o. option_map_or (λ (v : Vec Bytes). v.items) o []) e
+
+pub some_listed : (lists : List (Vec Bytes)) (d : ℕ) (v : Vec Bytes) → slice_get lists d ≡ Some v → listed_at lists d ≡ v.items
+some_listed lists d v e = ap (λ o. option_map_or (λ (v : Vec Bytes). v.items) o []) e
 
 -- ---- the entries of the classes
 

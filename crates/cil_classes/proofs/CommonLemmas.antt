@@ -7,7 +7,8 @@ use Rattle.std.specs.declared.cmp.Ordering.TheVariants.{Less, Equal, Greater}
 use Rattle.std.proofs.Common.{◌≡◌, ℕ, suc, ◌+◌, ◌<◌, ◌≤◌, Bool, true, false, List, [], ◌∷◌, ◌++◌, length, take, get_or, refl, sym, ◌∙◌, ap, subst, inl, inr, arith}
 use Rattle.std.proofs.lemmas.Bool.{cases_eq, true≢false}
 use Rattle.std.proofs.lemmas.Bool.Decides.{nat_tests}
-use Rattle.std.proofs.lemmas.List.{get_or-set_other, get_or-set_same, take_all}
+use Rattle.std.proofs.lemmas.List.{get_or-replicate, get_or-set_other, get_or-set_same, length-replicate, take_all}
+use Rattle.std.proofs.Math.ListN.{get_or-eq_default, replicate}
 use Rattle.std.proofs.lemmas.List.Elements.{Contains-append_cases, Contains-append_left, Contains-append_right}
 use Rattle.std.proofs.lemmas.Option.{none-some, same_Some}
 use Rattle.cil_base.specs.Lists.{contains_cases, contains_here, contains_none, not_below_itself}
@@ -104,13 +105,28 @@ module _ (shared : List Shared) (rising : IsStrictlySortedBy shared_cmp shared) 
 
 -- ---- flags
 
+-- as many flags, none set
+no_flag : (n : ℕ) (flags : List Bool) → flags ≡ replicate n false → (d : ℕ) → get_or flags d false ≡ false
+no_flag n flags is d =
+    ap (λ (fs : List Bool). get_or fs d false) is
+    ∙ elim (which d n) [
+      | inl l ↦ get_or-replicate n d false false l
+      | inr over ↦ get_or-eq_default (replicate n false) false (let e = length-replicate {A = Bool} n false in omega (arith, e, over))
+    ]
+  where
+    which : (d n : ℕ) → (d < n) ⊎ (n ≤ d)
+    which d n = grind arith
+
 module _ (shared : List Shared) where
   -- a flag is set for each class of two neighbours before this place
   abbrev pub AreFlagged : ℕ → List Bool → Type 0
   AreFlagged n flags = (d : ℕ) → IsFlagged flags d ↔ ((at : ℕ) × (at < n) × IsBeside shared at d)
 
-  pub none_flagged : (flags : List Bool) → ((d : ℕ) → get_or flags d false ≡ false) → AreFlagged 0 flags
+  none_flagged : (flags : List Bool) → ((d : ℕ) → get_or flags d false ≡ false) → AreFlagged 0 flags
   none_flagged flags none d = (λ s. absurd (true≢false (sym s ∙ none d)), λ b. absurd (omega (arith, b.1)))
+
+  pub begun_flagged : (n : ℕ) (flags : List Bool) → flags ≡ replicate n false → (length flags ≡ n) × AreFlagged 0 flags
+  begun_flagged n flags is = (ap length is ∙ length-replicate {A = Bool} n false, none_flagged flags (no_flag n flags is))
 
   pub more_flagged : (n : ℕ) (old new : List Bool) → AreFlagged n old → ((d : ℕ) → IsFlagged new d ↔ (IsFlagged old d ⊎ IsBeside shared n d)) → AreFlagged (n + 1) new
   more_flagged n old new so_far one d = (

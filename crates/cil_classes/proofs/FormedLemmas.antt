@@ -2,12 +2,13 @@
 use Rattle.std.specs.Prelude.{Option, Some, None, slice_get}
 use Rattle.std.specs.Global.{Vec}
 use Rattle.std.specs.List.Sorted.{IsStrictlySortedBy}
-use Rattle.std.proofs.Common.{◌≡◌, ℕ, ◌<◌, ◌≤◌, List, [], ◌∷◌, ◌++◌, drop, get_or, length, map, refl, sym, ◌∙◌, ap, subst, arith}
+use Rattle.std.proofs.Common.{◌≡◌, ℕ, ◌<◌, ◌≤◌, List, [], ◌∷◌, ◌++◌, drop, get_or, length, map, refl, sym, ◌∙◌, ap, subst, inl, inr, arith}
+use Rattle.std.proofs.lemmas.List.{get_or_default}
 use Rattle.cil_base.specs.Lists.{text_cmp}
 use Rattle.cil_base.specs.Places.{get_contains, some_at}
 use Rattle.cil_faults.specs.Spots.{spot_at}
 use Rattle.cil_faults.specs.declared.spot.Spot.{Spot}
-use Rattle.cil_syntax.specs.Forms.{IsClassForm, class_form, leaf_of, word_and_term}
+use Rattle.cil_syntax.specs.Forms.{IsClassForm, class_form, leaf_of, rule_form, word_and_term}
 use Rattle.cil_syntax.specs.Kinds.{is_wanted}
 use Rattle.cil_syntax.specs.declared.kind.Kind.{Kind}
 use Rattle.cil_syntax.specs.declared.kind.Kind.TheVariants as kinds
@@ -31,6 +32,8 @@ use Rattle.cil_names.specs.Unresolved.{listed_at, term_with}
 use Rattle.cil_classes.specs.declared.nodes.Node.{Node}
 use Rattle.cil_classes.specs.declared.nodes.Run.{Run}
 use Rattle.cil_classes.specs.Given.{Holder, mapped, named}
+use Rattle.cil_classes.specs.Givings.{IsMapping, IsNoMapping, IsSet}
+use Rattle.cil_classes.specs.Masks.{IsLeaf}
 use Rattle.cil_classes.specs.Nodes.{IsRunOf, StandsAs}
 use Rattle.cil_classes.specs.Numbers.{AreNumbered}
 use Rattle.cil_classes.specs.Parts.{AreAmong, AreNodes, IsEntryFor, IsForm}
@@ -127,6 +130,87 @@ no_word_and_term m [] other = refl
 no_word_and_term m (a ∷ []) other = one_term (said_of m a)
 no_word_and_term m (a ∷ b ∷ []) other = absurd (other refl)
 no_word_and_term m (a ∷ b ∷ c ∷ ts) other = three_terms (said_of m a) (said_of m b) (said_of m c) (all_said m ts)
+
+leaf_there : (m : ℕ) (t : rust.Term) (leaf : IsLeaf t) → said_of m t ≡ Leaf (word_in m leaf.0)
+leaf_there m t leaf = ap (said_of m) leaf.1 ∙ leaf_said m leaf.0
+
+no_word_first : (a : Term Word) (ts : Terms Word) → leaf_of a ≡ None → (word_and_term (cons a ts) ≡ None) × (rule_form (cons a ts) ≡ None)
+no_word_first (Leaf w) ts e = absurd (none-some w (sym e))
+no_word_first (Name at bytes) ts e = (refl, refl)
+no_word_first (Form at op parts) ts e = (refl, refl)
+
+first_no_word : (m : ℕ) (ts : List rust.Term) (a : rust.Term) → a ≡ get_or ts 0 a → leaf_of (said_of m a) ≡ None → (word_and_term (all_said m ts) ≡ None) × (rule_form (all_said m ts) ≡ None)
+first_no_word m [] a ia never = (refl, refl)
+first_no_word m (x ∷ xs) a ia never = no_word_first (said_of m x) (all_said m xs) (ap (λ t. leaf_of (said_of m t)) (sym ia) ∙ never)
+
+pub no_set_form : (m : ℕ) (ts : List rust.Term) (a : rust.Term) → a ≡ get_or ts 0 a → leaf_of (said_of m a) ≡ None → word_and_term (all_said m ts) ≡ None
+no_set_form m ts a ia never = (first_no_word m ts a ia never).0
+
+pub no_first_word : (m : ℕ) (ts : List rust.Term) (a : rust.Term) → a ≡ get_or ts 0 a → leaf_of (said_of m a) ≡ None → IsNoMapping (all_said m ts)
+no_first_word m ts a ia never = inl (first_no_word m ts a ia never).1
+
+-- the terms one by one
+two_there : (m : ℕ) (ts : List rust.Term) (a b : rust.Term) → length ts ≡ 2 → a ≡ get_or ts 0 a → b ≡ get_or ts 1 b → all_said m ts ≡ cons (said_of m a) (cons (said_of m b) nil)
+two_there m [] a b two ia ib = absurd (omega (arith, two))
+two_there m (x ∷ []) a b two ia ib = absurd (omega (arith, two))
+two_there m (x ∷ y ∷ []) a b two ia ib = ap (λ t. cons (said_of m t) (cons (said_of m y) nil)) (sym ia) ∙ ap (λ t. cons (said_of m a) (cons (said_of m t) nil)) (sym ib)
+two_there m (x ∷ y ∷ z ∷ zs) a b two ia ib = absurd (omega (arith, two))
+
+three_there : (m : ℕ) (ts : List rust.Term) (a b : rust.Term) → length ts ≡ 3 → a ≡ get_or ts 0 a → b ≡ get_or ts 1 b
+    → all_said m ts ≡ cons (said_of m a) (cons (said_of m b) (cons (said_of m (get_or ts 2 a)) nil))
+three_there m [] a b three ia ib = absurd (omega (arith, three))
+three_there m (x ∷ []) a b three ia ib = absurd (omega (arith, three))
+three_there m (x ∷ y ∷ []) a b three ia ib = absurd (omega (arith, three))
+three_there m (x ∷ y ∷ z ∷ []) a b three ia ib =
+    ap (λ t. cons (said_of m t) (cons (said_of m y) (cons (said_of m z) nil))) (sym ia) ∙ ap (λ t. cons (said_of m a) (cons (said_of m t) (cons (said_of m z) nil))) (sym ib)
+three_there m (x ∷ y ∷ z ∷ w ∷ ws) a b three ia ib = absurd (omega (arith, three))
+
+pub set_form : (m : ℕ) (ts : List rust.Term) (a b : rust.Term) → length ts ≡ 2 → a ≡ get_or ts 0 a → IsLeaf a → b ≡ get_or ts 1 b → IsSet (all_said m ts) (said_of m b)
+set_form m ts a b two ia leaf ib = (word_in m leaf.0, two_there m ts a b two ia ib ∙ ap (λ u. cons u (cons (said_of m b) nil)) (leaf_there m a leaf))
+
+one_alone : (a : Term Word) → rule_form (cons a nil) ≡ None
+one_alone (Leaf w) = refl
+one_alone (Name at bytes) = refl
+one_alone (Form at op parts) = refl
+
+two_alone : (a b : Term Word) → rule_form (cons a (cons b nil)) ≡ None
+two_alone (Leaf w) b = refl
+two_alone (Name at bytes) b = refl
+two_alone (Form at op parts) b = refl
+
+four_there : (a b c d : Term Word) (ts : Terms Word) → rule_form (cons a (cons b (cons c (cons d ts)))) ≡ None
+four_there (Leaf w) b c d ts = refl
+four_there (Name at bytes) b c d ts = refl
+four_there (Form at op parts) b c d ts = refl
+
+pub no_three : (m : ℕ) (ts : List rust.Term) → (length ts ≡ 3 → ⊥) → IsNoMapping (all_said m ts)
+no_three m [] other = inl refl
+no_three m (a ∷ []) other = inl (one_alone (said_of m a))
+no_three m (a ∷ b ∷ []) other = inl (two_alone (said_of m a) (said_of m b))
+no_three m (a ∷ b ∷ c ∷ []) other = absurd (other refl)
+no_three m (a ∷ b ∷ c ∷ d ∷ ts) other = inl (four_there (said_of m a) (said_of m b) (said_of m c) (said_of m d) (all_said m ts))
+
+pub no_second_word : (m : ℕ) (ts : List rust.Term) (a b : rust.Term) → length ts ≡ 3 → a ≡ get_or ts 0 a → IsLeaf a → b ≡ get_or ts 1 b → leaf_of (said_of m b) ≡ None → IsNoMapping (all_said m ts)
+no_second_word m ts a b three ia leaf ib never = inr (
+  word_in m leaf.0,
+  said_of m b,
+  said_of m (get_or ts 2 a),
+  three_there m ts a b three ia ib ∙ ap (λ u. cons u (cons (said_of m b) (cons (said_of m (get_or ts 2 a)) nil))) (leaf_there m a leaf),
+  never,
+)
+
+third_is : (ts : List rust.Term) (a c : rust.Term) → length ts ≡ 3 → c ≡ get_or ts 2 c → get_or ts 2 a ≡ c
+third_is ts a c three ic = get_or_default ts 2 a c (omega (arith, three)) ∙ sym ic
+
+pub mapping_form : (m : ℕ) (ts : List rust.Term) (a b c : rust.Term) → length ts ≡ 3 → a ≡ get_or ts 0 a → IsLeaf a → b ≡ get_or ts 1 b → IsLeaf b → c ≡ get_or ts 2 c
+    → IsMapping (all_said m ts) (said_of m c)
+mapping_form m ts a b c three ia first ib second ic = (
+  word_in m first.0,
+  word_in m second.0,
+  three_there m ts a b three ia ib ∙ ap (λ u. cons u (cons (said_of m b) (cons (said_of m (get_or ts 2 a)) nil))) (leaf_there m a first)
+      ∙ ap (λ u. cons (Leaf (word_in m first.0)) (cons u (cons (said_of m (get_or ts 2 a)) nil))) (leaf_there m b second)
+      ∙ ap (λ t. cons (Leaf (word_in m first.0)) (cons (Leaf (word_in m second.0)) (cons (said_of m t) nil))) (third_is ts a c three ic),
+)
 
 module _ (f : Word → ScopedWord) where
   pub set_across : (w : Word) (t : Term Word) → all_across f (cons (Leaf w) (cons t nil)) ≡ cons (Leaf (f w)) (cons (across f t) nil)

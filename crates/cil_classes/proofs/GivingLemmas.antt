@@ -1,6 +1,6 @@
 -- What a statement gives, by the meanings of its words.
 use Rattle.std.specs.Prelude.{Contains, Option, Some, None, if◌then◌else◌, slice_get}
-use Rattle.std.proofs.Common.{◌≡◌, ℕ, ◌<◌, ◌≤◌, true, false, List, [], ◌∷◌, ◌++◌, drop, get_or, length, map, refl, sym, ◌∙◌, ap, subst, arith}
+use Rattle.std.proofs.Common.{◌≡◌, ℕ, ◌<◌, ◌≤◌, true, false, List, [], ◌∷◌, ◌++◌, drop, get_or, length, map, refl, sym, ◌∙◌, ap, subst, inl, inr, arith}
 use Rattle.std.proofs.lemmas.Bool.{true≢false}
 use Rattle.std.proofs.lemmas.List.{map-append}
 use Rattle.std.proofs.lemmas.Option.{none-some, same_Some}
@@ -28,7 +28,7 @@ use Rattle.cil_names.specs.Resolves.{Permission as APermission, Word as AWord, a
 use Rattle.cil_names.specs.Unresolved.{listed_at}
 use Rattle.cil_classes.specs.declared.givens.Giving.{Giving}
 use Rattle.cil_classes.specs.Given.{Holder, mapped, named}
-use Rattle.cil_classes.specs.Givings.{Gift, GivesTo, IsGivenBy, IsGivingOf}
+use Rattle.cil_classes.specs.Givings.{Gift, GivesTo, IsGivenBy, IsGivingOf, IsNoMapping}
 use Rattle.cil_classes.specs.Nodes.{IsEntryOf}
 use Rattle.cil_classes.specs.Parts.{IsEntryFor}
 use Rattle.cil_classes.specs.Tied.{IsThere}
@@ -121,7 +121,7 @@ module _ (k : Known) (xs : List Item) (names : Kind → List (List ℕ)) (known 
   -- ---- classmapping
 
   module _ (is : x.keyword ≡ keywords.ClassMapping) where
-    pub no_mapping : rule_form args ≡ None → (g : Gift) → GivesTo xs (enabled_in k) x g → ⊥
+    no_mapping : rule_form args ≡ None → (g : Gift) → GivesTo xs (enabled_in k) x g → ⊥
     no_mapping none g gives =
         let (word, permission, m, holder, said, stands) = of_mapping xs (enabled_in k) x g.holder g.term is gives.given in
         none-some (word, Leaf permission, g.term) (sym (no_rule f args none) ∙ ap rule_form (sym says ∙ said))
@@ -138,7 +138,7 @@ module _ (k : Known) (xs : List Item) (names : Kind → List (List ℕ)) (known 
           let same = same_Some (word, Leaf permission, g.term) (f w, across f middle, across f t) (ap rule_form (sym all ∙ three_args)) in
           (permission, m, holder, subst (λ u. StandsFor xs (enabled_in k) kinds.ClassMap u m) (ap (λ p. p.0) same) stands, ap (λ p. p.1) same, ap (λ p. p.2) same)
 
-      pub no_permission_word : leaf_of middle ≡ None → (g : Gift) → GivesTo xs (enabled_in k) x g → ⊥
+      no_permission_word : leaf_of middle ≡ None → (g : Gift) → GivesTo xs (enabled_in k) x g → ⊥
       no_permission_word none g gives = let i = its_mapping g gives in none-some i.0 (sym (no_leaf_across f middle none) ∙ ap leaf_of (sym i.4))
 
       pub no_map_named : StandsForNothing xs (enabled_in k) kinds.ClassMap (f w) → (g : Gift) → GivesTo xs (enabled_in k) x g → ⊥
@@ -238,3 +238,6 @@ module _ (k : Known) (xs : List Item) (names : Kind → List (List ℕ)) (known 
 
               here : slice_get permissions n ≡ Some (f q).bytes
               here = let (p, at) = some_at permissions n (omega (arith, below, is_count)) in its_number words are n some p (get_contains permissions n p at)
+
+    pub gives_no_mapping : IsNoMapping args → (g : Gift) → GivesTo xs (enabled_in k) x g → ⊥
+    gives_no_mapping other g gives = elim other [ inl none ↦ no_mapping none g gives | inr m ↦ no_permission_word m.0 m.1 m.2 m.3 m.4 g gives ]

@@ -38,8 +38,11 @@ use Rattle.cil_classes.proofs.TiedLemmas.{exact, has_bit_of, root_of}
 
 -- ---- class by class
 
-pub none_held : (givens : List Given) (count : ℕ) (h : ClassMasks) → Contains [] h → AreMasks givens h.class count h.masks.items
-none_held givens count h c = absurd (contains_none h c)
+-- before the first class
+pub none_yet : (givens : List Given) (count : ℕ) (held : List ClassMasks) → held ≡ []
+    → (map (λ (h : ClassMasks). h.class) held ≡ []) × ((h : ClassMasks) → Contains held h → AreMasks givens h.class count h.masks.items)
+none_yet givens count held e =
+    (ap (map (λ (h : ClassMasks). h.class)) e, λ h there. absurd (contains_none h (subst (λ (hs : List ClassMasks). Contains hs h) e there)))
 
 pub one_held : (givens : List Given) (count : ℕ) (old new : List ClassMasks) (one : ClassMasks) → new ≡ old ++ one ∷ [] → ((h : ClassMasks) → Contains old h → AreMasks givens h.class count h.masks.items)
     → AreMasks givens one.class count one.masks.items → (h : ClassMasks) → Contains new h → AreMasks givens h.class count h.masks.items

@@ -12,7 +12,7 @@ use Rattle.cil_syntax.specs.declared.kind.Kind.TheVariants as kinds
 use Rattle.cil_blocks.specs.declared.namespaces.Space.{Space}
 use Rattle.cil_macros.specs.Item.{Item, OptSet}
 use Rattle.cil_names.specs.declared.entry.Entry.{Entry}
-use Rattle.cil_names.specs.Declarations.{Symbol, name_of, nowhere}
+use Rattle.cil_names.specs.Declarations.{name_of, nowhere}
 use Rattle.cil_names.specs.Entries.{AreEntries}
 use Rattle.cil_names.specs.Numbers.{IsNameAmong, symbol_of}
 use Rattle.cil_classes.specs.Faults.{HasManyClasses, IsClassName, most_classes}

@@ -1,25 +1,23 @@
 -- A small policy in which a class permission and a permission of a class map name one another in a circle, by the definitions.
-use Rattle.std.specs.Prelude.{◌≡◌, ℕ, true, false, List, [], ◌∷◌, None, codes, refl, Contains}
+use Rattle.std.specs.Prelude.{◌≡◌, ℕ, true, false, List, [], ◌∷◌, None, codes, refl}
 use Rattle.std.proofs.Common.{arith}
 use Rattle.cil_syntax.specs.declared.kind.Keyword.{Keyword}
 use Rattle.cil_syntax.specs.declared.kind.Keyword.TheVariants as keywords
 use Rattle.cil_syntax.specs.declared.kind.Kind.TheVariants as kinds
 use Rattle.cil_syntax.specs.declared.kind.Sign.{Sign}
 use Rattle.cil_syntax.specs.declared.kind.Sign.TheVariants as signs
-use Rattle.cil_syntax.specs.declared.term.Op.{Op}
 use Rattle.cil_syntax.specs.declared.term.Op.TheVariants as ops
 use Rattle.cil_syntax.specs.Expressions.{is_in, is_in_each, is_in_odd, is_in_some}
 use Rattle.cil_syntax.specs.Scopes.{ScopedWord}
 use Rattle.cil_syntax.specs.Table.{entry_of}
 use Rattle.cil_syntax.specs.Terms.{Term, Leaf, Name, Form, Terms, nil, cons}
 use Rattle.cil_macros.specs.Item.{Item, all_words_in, names_in, nobody, words_in}
-use Rattle.cil_names.specs.Declarations.{Declared, IsDeclaration, Symbol, by, content_of, nowhere}
+use Rattle.cil_names.specs.Declarations.{Symbol, by, content_of, nowhere}
 use Rattle.cil_names.specs.Members.{StandsFor}
 use Rattle.cil_names.specs.Resolves.{Permission, Word, all_wanted_in, found_in, has, has_permission, lists_permission, resolves, wanted_in, words_of}
 use Rattle.cil_names.specs.Says.{Says}
 use Rattle.cil_names.proofs.MemberLemmas.{stands_by}
-use Rattle.cil_classes.specs.Given.{HasPair, IsGiven, by_mapping, by_set, mapped, named, of_class, of_map, of_name}
-use Rattle.cil_classes.specs.Values.{in_value}
+use Rattle.cil_classes.specs.Given.{HasPair, by_mapping, by_set, of_class, of_map, of_name}
 
 -- ---- statements
 

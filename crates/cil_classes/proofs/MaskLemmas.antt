@@ -1,5 +1,5 @@
 -- Masks of the permissions in the value of an expression.
-use Rattle.std.specs.Prelude.{◌⊎◌, ◌↔◌, ◌||◌, Contains, IsBitSet, Option, Some, bit_or, slice_get}
+use Rattle.std.specs.Prelude.{◌⊎◌, ◌↔◌, ◌||◌, Contains, IsBitSet, None, Option, Some, bit_or, slice_get}
 use Rattle.std.specs.Int.{bit_at}
 use Rattle.std.specs.Global.{Vec}
 use Rattle.std.specs.List.{list_any}
@@ -16,6 +16,7 @@ use Rattle.cil_base.specs.Searches.{any_from, any_true}
 use Rattle.cil_faults.specs.Spots.{spot_at}
 use Rattle.cil_faults.specs.declared.spot.Spot.{Spot}
 use Rattle.cil_syntax.specs.Expressions.{is_in, is_in_some}
+use Rattle.cil_syntax.specs.Forms.{leaf_of}
 use Rattle.cil_syntax.specs.declared.term.LookedUp.{LookedUp}
 use Rattle.cil_syntax.specs.declared.term.Op.{Op}
 use Rattle.cil_syntax.specs.declared.term.Op.TheVariants as ops
@@ -25,7 +26,7 @@ use Rattle.cil_syntax.specs.Said.{all_said, said_of, word_in}
 use Rattle.cil_syntax.specs.Scopes.{ScopedWord}
 use Rattle.cil_syntax.specs.Spelling.{same_bytes}
 use Rattle.cil_syntax.specs.Terms.{Term, Form, Terms}
-use Rattle.cil_syntax.proofs.SaidLemmas.{form_said}
+use Rattle.cil_syntax.proofs.SaidLemmas.{form_said, name_said}
 use Rattle.cil_macros.specs.Item.{all_replaced, replaced, words_in}
 use Rattle.cil_names.specs.PermissionWords.{number_among}
 use Rattle.cil_names.specs.Unresolved.{term_with, terms_with}
@@ -42,6 +43,12 @@ or_false true = refl
 or_false false = refl
 
 -- ---- words alone
+
+pub name_is_none : (t : rust.Term) (at : ℕ) (bytes : List ℕ) → t ≡ rust.Name at bytes → (m : ℕ) → leaf_of (said_of m t) ≡ None
+name_is_none t at bytes is m = ap (λ u. leaf_of (said_of m u)) is ∙ ap leaf_of (name_said m at bytes)
+
+pub form_is_none : (t : rust.Term) (at : ℕ) (op : Op) (parts : Vec rust.Term) → t ≡ rust.Form op at parts → (m : ℕ) → leaf_of (said_of m t) ≡ None
+form_is_none t at op parts is m = ap (λ u. leaf_of (said_of m u)) is ∙ ap leaf_of (form_said m at op parts)
 
 pub no_leaves : AreLeaves []
 no_leaves t c = absurd (contains_none t c)

@@ -1,8 +1,10 @@
 -- Classes that statements join to two different commons. A class has one at most: this project's profile.
-use Rattle.std.specs.Prelude.{◌≡◌, ℕ, suc, Bool, true, false, List, Contains, Some, get_or, slice_get}
+use Rattle.std.specs.Prelude.{◌≡◌, ℕ, suc, Bool, true, false, List, Contains, Option, Some, get_or, slice_get}
 use Rattle.cil_faults.specs.Reported.{fault_at}
 use Rattle.cil_faults.specs.declared.code.FaultCode.TheVariants as causes
 use Rattle.cil_faults.specs.declared.fault.Fault.{Fault}
+use Rattle.cil_faults.specs.declared.spot.Spot.{Spot}
+use Rattle.cil_syntax.specs.Scopes.{ScopedWord}
 use Rattle.cil_macros.specs.Item.{Item}
 use Rattle.cil_names.specs.Declarations.{Symbol}
 use Rattle.cil_names.specs.Shared.{IsSharing, Pair, Shares}
@@ -48,3 +50,11 @@ IsFlagged flags d = get_or flags d false ≡ true
 -- some item has the fault
 abbrev pub IsToldTwice : List Item → Fault → Type 0
 IsToldTwice xs f = (x : Item) × Contains xs x × HasTwoCommons xs x f
+
+-- the first of two words is written here, with these bytes
+pub record IsFirst (words : Option (ScopedWord × ScopedWord)) (at : Spot) (bytes : List ℕ) : Type 0 where
+  pub first : ScopedWord
+  pub second : ScopedWord
+  pub are : words ≡ Some (first, second)
+  pub written : at ≡ first.at
+  pub spelled : bytes ≡ first.bytes

@@ -1,11 +1,12 @@
 -- What each statement gives, to which class permission or permission of a class map. No other crate needs these words.
-use Rattle.std.specs.Prelude.{◌≡◌, ℕ, true, List, Contains}
+use Rattle.std.specs.Prelude.{◌≡◌, ◌⊎◌, true, List, Contains, None}
 use Rattle.cil_syntax.specs.declared.kind.Keyword.TheVariants as keywords
 use Rattle.cil_syntax.specs.declared.kind.Kind.TheVariants as kinds
 use Rattle.cil_syntax.specs.declared.term.Word.{Word}
+use Rattle.cil_syntax.specs.Forms.{leaf_of, rule_form}
 use Rattle.cil_syntax.specs.Said.{said_of}
 use Rattle.cil_syntax.specs.Scopes.{ScopedWord}
-use Rattle.cil_syntax.specs.Terms.{Term, Leaf, nil, cons}
+use Rattle.cil_syntax.specs.Terms.{Term, Leaf, Terms, nil, cons}
 use Rattle.cil_macros.specs.Item.{Item, OptSet, is_enabled}
 use Rattle.cil_names.specs.declared.known.Known.{Known}
 use Rattle.cil_names.specs.Known.{BeginWith, enabled_in}
@@ -19,6 +20,21 @@ use Rattle.cil_classes.specs.Given.{Holder, mapped, named}
 use Rattle.cil_classes.specs.Nodes.{IsNodeIn, StandsAs}
 use Rattle.cil_classes.specs.Parts.{IsPartIn}
 use Rattle.cil_classes.specs.Tied.{IsThere}
+
+-- ---- forms of statements
+
+-- a word and one term behind it, as a classpermissionset has them
+abbrev pub IsSet : Terms Word → Term Word → Type 0
+IsSet args t = (w : Word) × (args ≡ cons (Leaf w) (cons t nil))
+
+-- two words and one term behind them, as a classmapping has them
+abbrev pub IsMapping : Terms Word → Term Word → Type 0
+IsMapping args t = (w : Word) × (q : Word) × (args ≡ cons (Leaf w) (cons (Leaf q) (cons t nil)))
+
+-- the terms are no rule, or the second is no word
+abbrev pub IsNoMapping : Terms Word → Type 0
+IsNoMapping args =
+    (rule_form args ≡ None) ⊎ ((w : Word) × (middle : Term Word) × (t : Term Word) × (args ≡ cons (Leaf w) (cons middle (cons t nil))) × (leaf_of middle ≡ None))
 
 -- ---- what statements give
 

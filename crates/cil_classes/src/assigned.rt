@@ -72,8 +72,7 @@ pub fn masks_of(
     ensures { IfOk result (λ masks. AreMasks givens.now class count masks.items) }
 {
     let start = started(alloc, givens, class, count)?;
-    let masks = spread(alloc, edges, start)?;
-    Ok(masks)
+    spread(alloc, edges, start)
 }
 
 /// What each node is given by itself.

@@ -1,21 +1,23 @@
 //! Classes that statements join to two different commons.
 
-ghost use Rattle.std.specs.Prelude.{◌≡◌, ◌↔◌, ◌<◌, ◌⊎◌, Contains, IfOk, OnOk, false, get_or, length, ℕ};
+ghost use Rattle.std.specs.Prelude.{◌≡◌, ◌↔◌, ◌<◌, ◌⊎◌, Contains, IfOk, MatchOption, None, OnOk, length, true, ℕ};
 ghost use Rattle.std.specs.List.Sorted.{IsStrictlySortedBy};
 ghost use Rattle.cil_faults.specs.declared.fault.Fault.{Fault as AFault};
+ghost use Rattle.cil_syntax.specs.Forms.{two_words};
 ghost use Rattle.cil_macros.specs.Items.{item_at, items_in, namespaces_in};
 ghost use Rattle.cil_names.specs.Entries.{AreEntries};
+ghost use Rattle.cil_names.specs.Resolves.{is_class_common};
 ghost use Rattle.cil_names.specs.Shared.{AreShared};
 ghost use Rattle.cil_names.specs.SharedOrder.{shared_cmp};
 ghost use Rattle.cil_names.specs.declared.shared.Shared.{Shared as APair};
-ghost use Rattle.cil_classes.specs.Commons.{HasTwoCommons, IsBeside, IsFlagged, IsToldTwice, IsTwice};
+ghost use Rattle.cil_classes.specs.Commons.{HasTwoCommons, IsBeside, IsFirst, IsFlagged, IsToldTwice, IsTwice};
 
 use cil_base::NoMemory;
 use cil_blocks::ScopeList;
 use cil_blocks::spelled::spelled;
 use cil_macros::Instances;
-use cil_names::{Names, Shared, shared_at};
-use cil_syntax::{Fault, FaultCode, push_fault_in};
+use cil_names::{Names, Shared, is_set, shared_at};
+use cil_syntax::{Fault, FaultCode, Spot, push_fault_in};
 use std::alloc::Global;
 
 /// Reports each statement that joins a common to a class to which statements join two different ones, where these are the
@@ -72,33 +74,45 @@ fn push_common(
     let Some(one) = shared_at(alloc, names, instances, at, scope)? else {
         return Ok(());
     };
-    if !is_flagged(twice, one.class) {
+    if !is_set(twice, one.class) {
         return Ok(());
     }
-    let statement = instances.statement_there(at);
-    let Some(words) = statement.two_words() else {
+    let space = spelled(alloc, namespaces, instances.space(at))?;
+    let Some(word) = class_word(instances, at) else {
         return Ok(());
     };
-    let said = instances.word(at, &words.first);
-    let space = spelled(alloc, namespaces, instances.space(at))?;
     push_fault_in(
         alloc,
         faults,
         FaultCode::CommonTwice,
-        said.word.at,
+        word.at,
         space,
-        said.word.bytes.as_slice(),
-    )?;
-    Ok(())
+        word.bytes,
+    )
 }
 
-fn is_flagged(flags: &[bool], number: usize) -> bool
-    ensures { result ≡ get_or flags.now number false }
+/// Where a word is written, and its bytes.
+#[derive(Clone, Copy)]
+struct Written<'a> {
+    at: Spot,
+    bytes: &'a [u8],
+}
+
+/// The first of the two words of the statement at a place, if it joins a common to a class.
+fn class_word<'a>(instances: &Instances<'_, '_, 'a>, at: usize) -> Option<Written<'a>>
+    requires { at < length (items_in instances.now) }
+    ensures { is_class_common (item_at instances.now at).keyword ≡ true → MatchOption result (two_words (item_at instances.now at).args ≡ None)
+        (λ word. IsFirst (two_words (item_at instances.now at).args) word.at word.bytes.now) }
 {
-    match flags.get(number) {
-        Some(flag) => *flag,
-        None => false,
-    }
+    let statement = instances.statement_there(at);
+    let Some(words) = statement.two_words() else {
+        return None;
+    };
+    let said = instances.word(at, &words.first);
+    Some(Written {
+        at: said.word.at,
+        bytes: said.word.bytes.as_slice(),
+    })
 }
 
 /// For each entry whether it is that of a class to which two commons are joined. Pairs of one class are neighbours.
@@ -107,7 +121,7 @@ fn flags_of_two(alloc: Global, entries: usize, shared: &[Shared]) -> Result<Vec<
     requires within { (h : APair) → Contains shared.now h → h.class < entries }
     ensures { IfOk result (λ flags. (d : ℕ) → IsFlagged flags.items d ↔ IsTwice shared.now d) }
 {
-    let mut flags = no_flags(alloc, entries)?;
+    let mut flags = vec![in alloc; false; entries]?;
     for at in 0..shared.len() {
         flag_next(&mut flags, shared, at);
     }
@@ -129,12 +143,4 @@ fn flag_next(flags: &mut Vec<bool>, shared: &[Shared], at: usize)
         return;
     }
     flags[class] = true;
-}
-
-/// As many flags, none set.
-fn no_flags(alloc: Global, entries: usize) -> Result<Vec<bool>, NoMemory>
-    ensures len { IfOk result (λ flags. length flags.items ≡ entries) }
-    ensures none { IfOk result (λ flags. (d : ℕ) → get_or flags.items d false ≡ false) }
-{
-    Ok(vec![in alloc; false; entries]?)
 }

@@ -44,9 +44,15 @@ pub fn given_by(
 {
     // What is known of a word: it means the entry that it names.
     laws::means_what_it_names();
-    let parts = term.class_parts(module)?;
-    let class = known.number(Kind::Class, meaning_at(words, 0))?;
-    let row = classes.get(class)?;
+    let Some(parts) = term.class_parts(module) else {
+        return None;
+    };
+    let Some(class) = known.number(Kind::Class, meaning_at(words, 0)) else {
+        return None;
+    };
+    let Some(row) = classes.get(class) else {
+        return None;
+    };
     let count = row.permissions.as_slice().len();
     if count == 0 {
         return None;

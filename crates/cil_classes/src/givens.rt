@@ -10,7 +10,6 @@ ghost use Rattle.cil_syntax.specs.declared.term.Word.{Word as AWord};
 ghost use Rattle.cil_syntax.specs.Forms.{word_and_term};
 ghost use Rattle.cil_syntax.specs.Said.{all_said, args_of, said_of};
 ghost use Rattle.cil_syntax.specs.Scopes.{ScopedWord};
-ghost use Rattle.cil_syntax.specs.Terms.{Leaf, cons, nil};
 ghost use Rattle.cil_macros.proofs.FormLemmas.{all_across};
 ghost use Rattle.cil_macros.specs.Item.{Item, is_enabled};
 ghost use Rattle.cil_macros.specs.Items.{item_at, items_in, word_at};
@@ -18,12 +17,13 @@ ghost use Rattle.cil_names.specs.Known.{IsKnown, enabled_in, row_in};
 ghost use Rattle.cil_names.specs.Numbers.{AreApart};
 ghost use Rattle.cil_names.specs.Rows.{IsTableOf};
 ghost use Rattle.cil_classes.specs.ClassRows.{AreClasses};
-ghost use Rattle.cil_classes.specs.Givings.{Gift, GivesTo, HaveNodes, IsGivenFor, IsGivingOf, IsNodeFor};
+ghost use Rattle.cil_classes.specs.Givings.{Gift, GivesTo, HaveNodes, IsGivenFor, IsGivingOf, IsMapping, IsNoMapping, IsNodeFor, IsSet};
 ghost use Rattle.cil_classes.specs.NodeOrder.{node_cmp};
 ghost use Rattle.cil_classes.specs.Parts.{AreNodes};
 ghost use Rattle.cil_classes.specs.Row.{AreOrderlyRows};
 
 use crate::assigned::Given;
+use crate::mask::is_leaf;
 use crate::nodes::{Node, place_of};
 use crate::parts::{entry_of, part_of};
 use crate::row::Class;
@@ -31,7 +31,7 @@ use crate::widths::listed_count;
 use cil_base::NoMemory;
 use cil_macros::Instances;
 use cil_names::{Known, Meaning, behind_first, laws, meaning_at, same_keyword};
-use cil_syntax::{Keyword, Kind, Statement, Term, Word};
+use cil_syntax::{Keyword, Kind, Statement, Term};
 use std::alloc::Global;
 
 /// What a statement gives.
@@ -183,11 +183,15 @@ fn set_giving<'p, 'a, 's>(
         → MatchOption result ((g : Gift) → GivesTo xs (enabled_in known.now) x g → ⊥) (IsGivingOf known.now xs f x) }
 {
     let module = statement.at.module;
-    let parts = set_parts(statement)?;
-    let entry = entry_of(known, Kind::ClassPermission, meaning_at(words, 0))?;
+    let Some(term) = set_term(statement.args.as_slice()) else {
+        return None;
+    };
+    let Some(entry) = entry_of(known, Kind::ClassPermission, meaning_at(words, 0)) else {
+        return None;
+    };
     Some(Giving {
         node: Node { entry, number: 0 },
-        term: parts.term,
+        term,
         module,
         words: behind_first(words),
     })
@@ -204,46 +208,51 @@ fn mapping_giving<'p, 'a, 's>(
         → MatchOption result ((g : Gift) → GivesTo xs (enabled_in known.now) x g → ⊥) (IsGivingOf known.now xs f x) }
 {
     let module = statement.at.module;
-    let parts = statement.rule_parts()?;
-    let _ = parts.target.word(module)?;
-    let entry = entry_of(known, Kind::ClassMap, meaning_at(words, 0))?;
-    let number = meaning_at(words, 1)?;
+    let Some(term) = mapped_term(statement.args.as_slice()) else {
+        return None;
+    };
+    let Some(entry) = entry_of(known, Kind::ClassMap, meaning_at(words, 0)) else {
+        return None;
+    };
+    let Some(number) = meaning_at(words, 1) else {
+        return None;
+    };
     if number >= listed_count(known.permissions, entry) {
         return None;
     }
     Some(Giving {
         node: Node { entry, number },
-        term: parts.class_permission,
+        term,
         module,
         words: behind_first(behind_first(words)),
     })
 }
 
-/// A word and a class permission.
-#[derive(Drop)]
-struct SetParts<'t, 'a> {
-    word: Word<'a>,
-    term: &'t Term<'a>,
-}
-
-/// The word and the class permission of a classpermissionset.
-fn set_parts<'t, 'a>(statement: &'t Statement<'a>) -> Option<SetParts<'t, 'a>>
-    ensures { MatchOption result (word_and_term (args_of statement.now) ≡ None) (λ parts. args_of statement.now ≡ cons (Leaf parts.word) (cons (said_of statement.now.at.«module» parts.term.now) nil)) }
+/// The class permission of a classpermissionset: the one term behind a word.
+fn set_term<'t, 'a>(terms: &'t [Term<'a>]) -> Option<&'t Term<'a>>
+    ensures { MatchOption result ((m : ℕ) → word_and_term (all_said m terms.now) ≡ None) (λ term. (m : ℕ) → IsSet (all_said m terms.now) (said_of m term.now)) }
 {
-    two_terms(statement.args.as_slice(), statement.at.module)
-}
-
-/// A word and the one term behind it, in a statement of this module.
-fn two_terms<'t, 'a>(terms: &'t [Term<'a>], module: u64) -> Option<SetParts<'t, 'a>>
-    ensures { MatchOption result (word_and_term (all_said «module» terms.now) ≡ None) (λ parts. all_said «module» terms.now ≡ cons (Leaf parts.word) (cons (said_of «module» parts.term.now) nil)) }
-{
-    match terms {
-        [] => None,
-        [_] => None,
-        [first, term] => Some(SetParts {
-            word: first.word(module)?,
-            term,
-        }),
-        [_, _, _, ..] => None,
+    if terms.len() != 2 {
+        return None;
     }
+    if !is_leaf(&terms[0]) {
+        return None;
+    }
+    Some(&terms[1])
+}
+
+/// The class permission of a classmapping: the one term behind two words.
+fn mapped_term<'t, 'a>(terms: &'t [Term<'a>]) -> Option<&'t Term<'a>>
+    ensures { MatchOption result ((m : ℕ) → IsNoMapping (all_said m terms.now)) (λ term. (m : ℕ) → IsMapping (all_said m terms.now) (said_of m term.now)) }
+{
+    if terms.len() != 3 {
+        return None;
+    }
+    if !is_leaf(&terms[0]) {
+        return None;
+    }
+    if !is_leaf(&terms[1]) {
+        return None;
+    }
+    Some(&terms[2])
 }

@@ -26,7 +26,7 @@ use cil_names::Known;
 use std::alloc::Global;
 
 /// The permissions of one class that nodes have.
-#[derive(Debug, Drop)]
+#[derive(Drop)]
 pub struct ClassMasks {
     /// The number of the class.
     pub class: usize,
@@ -35,7 +35,7 @@ pub struct ClassMasks {
 }
 
 /// What enabled statements give to class permissions and to permissions of class maps.
-#[derive(Debug, Drop)]
+#[derive(Drop)]
 pub struct GivenPermissions {
     /// The nodes of all that are given something: rising, each once.
     pub nodes: Vec<Node>,

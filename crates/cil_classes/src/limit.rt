@@ -27,6 +27,5 @@ pub fn push_many(alloc: Global, faults: &mut Vec<Fault>, names: &[Bytes]) -> Res
         FaultCode::TooMany,
         Spot { module: 0, at: 0 },
         b"classes".as_slice(),
-    )?;
-    Ok(())
+    )
 }

@@ -1,10 +1,11 @@
 //! Masks of the permissions in the value of an expression.
 
-ghost use Rattle.std.specs.Prelude.{◌≡◌, ◌↔◌, ◌<◌, ◌≤◌, ℕ, Contains, IfSome, IsBitSet, IsTrue, List, Option, Some, length, take, true};
+ghost use Rattle.std.specs.Prelude.{◌≡◌, ◌↔◌, ◌<◌, ◌≤◌, ℕ, Contains, IfSome, IsBitSet, IsTrue, List, None, Option, Some, false, length, take, true};
 ghost use Rattle.std.specs.List.Sorted.{IsStrictlySortedBy};
 ghost use Rattle.cil_base.specs.Lists.{text_cmp};
 ghost use Rattle.cil_syntax.specs.declared.term.Word.{Word as AWord};
 ghost use Rattle.cil_syntax.specs.declared.term.Op.TheVariants as ops;
+ghost use Rattle.cil_syntax.specs.Forms.{leaf_of};
 ghost use Rattle.cil_syntax.specs.Said.{said_of};
 ghost use Rattle.cil_syntax.specs.Scopes.{ScopedWord};
 ghost use Rattle.cil_macros.specs.Item.{words_in};
@@ -65,12 +66,15 @@ fn are_leaves(terms: &[Term]) -> bool
     true
 }
 
-fn is_leaf(term: &Term) -> bool
-    ensures { IsTrue result → IsLeaf term.now }
+/// Whether a term is a word.
+pub fn is_leaf(term: &Term) -> bool
+    ensures leaf { IsTrue result → IsLeaf term.now }
+    ensures none { result ≡ false → (m : ℕ) → leaf_of (said_of m term.now) ≡ None }
 {
     match term {
         Term::Leaf(_) => true,
-        _ => false,
+        Term::Name(_, _) => false,
+        Term::Form(_, _, _) => false,
     }
 }
 

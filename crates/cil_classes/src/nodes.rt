@@ -11,7 +11,7 @@ use std::cmp::Ordering;
 
 /// What statements give permissions to: a class permission, or a permission of a class map. Nodes are compared by the entry, and
 /// then by the number.
-#[derive(Clone, Copy, Debug)]
+#[derive(Clone, Copy)]
 pub struct Node {
     /// The number of the entry of the class permission, or of the class map.
     pub entry: usize,

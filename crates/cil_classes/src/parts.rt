@@ -78,9 +78,9 @@ fn led_to(
         → BeginWith known.now f (said_of «module» term.now) words.now → AreLed known.now xs nodes.now (term_with f «module» term.now) from.items) }
 {
     match term {
-        Term::Leaf(_) => Ok(named_nodes(alloc, known, nodes, words)?),
+        Term::Leaf(_) => named_nodes(alloc, known, nodes, words),
         Term::Name(_, _) => Ok(Vec::new(alloc)),
-        Term::Form(_, _, _) => Ok(mapped_nodes(alloc, known, nodes, term, module, words)?),
+        Term::Form(_, _, _) => mapped_nodes(alloc, known, nodes, term, module, words),
     }
 }
 
@@ -98,8 +98,7 @@ fn named_nodes(
     let Some(entry) = entry_of(known, Kind::ClassPermission, meaning_at(words, 0)) else {
         return Ok(Vec::new(alloc));
     };
-    let from = run_nodes(alloc, run_of(nodes, entry))?;
-    Ok(from)
+    run_nodes(alloc, run_of(nodes, entry))
 }
 
 /// The nodes of the permissions of a class map that are in the value of an expression.
@@ -128,8 +127,7 @@ fn mapped_nodes(
         return Ok(Vec::new(alloc));
     }
     let rest = behind_first(words);
-    let from = held_nodes(alloc, nodes, run, parts.permissions, rest)?;
-    Ok(from)
+    held_nodes(alloc, nodes, run, parts.permissions, rest)
 }
 
 /// The places of a run.
@@ -183,8 +181,12 @@ pub fn entry_of(known: &Known, kind: Kind, meaning: Option<usize>) -> Option<usi
         → MatchOption result (StandsForNothing xs (enabled_in known.now) kind w) (IsEntryFor known.now xs kind w) }
 {
     laws::means_what_it_names();
-    let d = meaning?;
-    let entry = known.lookup.names.entries().get(d)?;
+    let Some(d) = meaning else {
+        return None;
+    };
+    let Some(entry) = known.lookup.names.entries().get(d) else {
+        return None;
+    };
     if !is_same(entry.kind, kind) {
         return None;
     }

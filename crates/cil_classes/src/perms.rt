@@ -57,8 +57,7 @@ pub fn push_perms(
         words,
     )?;
     if part.mask == 0 {
-        push_held(out, given.held.as_slice(), part.from.as_slice())?;
-        return Ok(());
+        return push_held(out, given.held.as_slice(), part.from.as_slice());
     }
     let class = ClassId { number: part.class };
     out.push((class, part.mask))?;

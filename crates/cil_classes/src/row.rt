@@ -19,7 +19,7 @@ pub struct Class {
 }
 
 /// The classes of a policy.
-#[derive(Debug, Drop)]
+#[derive(Drop)]
 pub struct Classes {
     /// Their rows, in byte order of the names: a class stands at its number.
     pub rows: Vec<Class>,

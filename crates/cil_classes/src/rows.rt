@@ -25,8 +25,7 @@ pub fn class_rows(
 {
     let names = numbering.sections.classes.as_slice();
     let places = class_entries(alloc, lookup, numbering)?;
-    let rows = rows_of(alloc, names, places.as_slice(), permissions)?;
-    Ok(rows)
+    rows_of(alloc, names, places.as_slice(), permissions)
 }
 
 /// For each number of a class its entry.
@@ -40,18 +39,11 @@ fn class_entries(
     ensures len { IfOk result (λ places. length places.items ≡ length numbering.now.sections.classes.items) }
     ensures entries { IfOk result (λ places. AreClassEntries lookup.now.names.now (is_in lookup.now.enabled.now) numbering.now.numbers.items (length lookup.now.names.now) places.items) }
 {
-    let mut places = zeros(alloc, numbering.sections.classes.as_slice())?;
+    let mut places = vec![in alloc; 0; numbering.sections.classes.len()]?;
     for d in 0..lookup.names.entries().len() {
         note_class(&mut places, lookup, numbering, d);
     }
     Ok(places)
-}
-
-/// As many zeros as there are names.
-fn zeros(alloc: Global, names: &[Bytes]) -> Result<Vec<usize>, NoMemory>
-    ensures { IfOk result (λ places. length places.items ≡ length names.now) }
-{
-    Ok(vec![in alloc; 0; names.len()]?)
 }
 
 /// Notes an entry at the number of its class, where it is one.

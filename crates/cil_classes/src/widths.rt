@@ -81,8 +81,7 @@ fn push_wide(
         name.at,
         space,
         name.bytes,
-    )?;
-    Ok(())
+    )
 }
 
 /// The name of the enabled class that the statement at a place declares, if it has too many permissions.

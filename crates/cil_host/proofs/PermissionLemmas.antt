@@ -20,7 +20,8 @@ use Rattle.cil_tables.specs.Meaning.{IsClassAt, IsPermissionAt}
 use Rattle.cil_names.specs.Resolves.{has_permission}
 use Rattle.cil_tables.specs.Table.{Table}
 use Rattle.cil_classes.specs.Row.{class_cmp}
-use Rattle.cil_host.specs.Permissions.{IsPermissionOf}
+use Rattle.cil_host.specs.Machine.{OfLoaded, State}
+use Rattle.cil_host.specs.Permissions.{AreNamesOf, IsPermissionOf}
 
 some_is : {X : Type 0} {a b : X} → Some a ≡ Some b → a ≡ b
 some_is {X} {a} {b} e = ap (λ o. unwrap_or o a) e
@@ -115,3 +116,13 @@ class_there modules t class_name bit p compiles of =
     let row = compiles.table.classes.each of.class_ declared in
     let m = number_of t.classes row.0 row.2 in
     (m.0, record { row = row.0; is_row = m.1; named = row.1.named ∙ of.named })
+
+-- where the class has no permission, or is none, there are no names
+pub no_names : (h : State) (class_name : List ℕ) (names : List (List ℕ)) → length names ≡ 0 → ((bit : ℕ) (name : List ℕ) → OfLoaded h (IsPermissionOf class_name bit name) → ⊥) → AreNamesOf h class_name names
+no_names h class_name names size none = record {
+  all = λ bit name. (
+    λ of. absurd (none bit name of),
+    λ at. let within = slice_get_within names bit name at in absurd (omega (arith, within, size)),
+  );
+  order = λ bit name at. let within = slice_get_within names bit name at in absurd (omega (arith, within, size));
+}

@@ -30,6 +30,12 @@ fact_loaded h m v o p view is holds of =
     let one : Some of.accepted ≡ Some (accepted_of v p) = sym of.is_loaded ∙ ap (λ s. s.loaded) view ∙ ap (option_map (accepted_of v)) is in
     subst (λ a. holds a.modules) (ap (λ q. unwrap_or q of.accepted) one) of.fact
 
+-- where no policy is kept, nothing holds of the loaded modules
+pub none_loaded : (h : State) (m : List (List ℕ)) (v : List ℕ) (o : Option Policy) → h ≡ record { modules = m; loaded = option_map (accepted_of v) o } → o ≡ None
+    → (holds : List (List ℕ) → Type 0) → OfLoaded h holds → ⊥
+none_loaded h m v o view is holds of =
+    let one : Some of.accepted ≡ None = sym of.is_loaded ∙ ap (λ s. s.loaded) view ∙ ap (option_map (accepted_of v)) is in absurd cc
+
 -- the kept lines are those of the modules
 pub optional_lines : (p : Policy) → IsCompiled p.modules p.compiled → (lines : List OptionalLine) → lines ≡ p.compiled.optionals.items → AreOptionalLines lines p.modules
 optional_lines p is lines same = record {
@@ -45,6 +51,7 @@ why_lines v p is lines same = record {
   enabled = is.enabled;
   policy = is.policy;
   right = is.right;
+  first = is.first;
   are_lines = subst (AreReasonsOf is.items p.compiled.why.items) (sym same) is.reasons;
 }
 

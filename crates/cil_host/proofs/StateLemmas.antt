@@ -39,7 +39,7 @@ module _ (h : State) (m : List (List ℕ)) (v w : List ℕ) (o : Option Policy) 
         c.why.items,
         on,
         subst (λ z. CanLoad z c.why.items) (sym modules_are)
-            (record { table = c.tables; compiles = is.compiles; items = is.items; enabled = is.enabled; policy = is.policy; right = is.right }),
+            (record { table = c.tables; compiles = is.compiles; items = is.items; enabled = is.enabled; policy = is.policy; right = is.right; first = is.first }),
         subst (λ z. Lists text_cmp (IsDefaultOn z) on) (sym modules_are) (defaults_listed m c.tables is.compiles w first),
         refl,
         same_state _ _ (sym modules_are) (ap (λ z. Some (record { modules = z; reasons = c.why.items; on = on })) (same ∙ sym modules_are)),

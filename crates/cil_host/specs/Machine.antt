@@ -1,10 +1,11 @@
 -- The model host: its modules, and those of its last accepted load with the reasons why optionals of theirs are left out and the
 -- booleans of theirs that are on. This project's profile.
-use Rattle.std.specs.Prelude.{◌≡◌, ℕ, ◌≤◌, List, Option, Some, None, Result, Ok, Err, OnErr}
+use Rattle.std.specs.Prelude.{◌≡◌, ℕ, ◌≤◌, List, [], Option, Some, None, Result, Ok, Err, OnErr}
 use Rattle.std.specs.Global.{Vec}
 use Rattle.cil_macros.specs.Item.{Item, OptSet}
 use Rattle.cil_optionals.specs.declared.reason.Reason.{Reason}
 use Rattle.cil_optionals.specs.Certificate.{IsRight}
+use Rattle.cil_optionals.specs.First.{AreFirst}
 use Rattle.cil_optionals.specs.Policy.{ArePolicy}
 use Rattle.cil_decide.specs.declared.decision.Decision.{Decision}
 use Rattle.cil_optionals.specs.declared.lines.OptionalLine.{OptionalLine}
@@ -51,6 +52,7 @@ pub record CanLoad (modules : List (List ℕ)) (reasons : List Reason) : Type 0 
   pub enabled : OptSet
   pub policy : ArePolicy modules items enabled
   pub right : IsRight items enabled reasons
+  pub first : AreFirst items [] reasons
 
 -- what is kept of a load is what its modules compile to
 abbrev pub IsKept : Option Policy → Type 0
@@ -122,6 +124,7 @@ pub record AreWhyLines (lines : List WhyLine) (a : Accepted) : Type 0 where
   pub enabled : OptSet
   pub policy : ArePolicy a.modules items enabled
   pub right : IsRight items enabled a.reasons
+  pub first : AreFirst items [] a.reasons
   pub are_lines : AreReasonsOf items a.reasons lines
 
 -- where there are no lines, no policy is loaded; or one is, and there was no memory for them

@@ -1,5 +1,5 @@
 -- The permissions of a class of modules, by their bits. This project's profile.
-use Rattle.std.specs.Prelude.{◌≡◌, ℕ, ◌<◌, true, List, slice_get, Some}
+use Rattle.std.specs.Prelude.{◌≡◌, ◌↔◌, ℕ, ◌<◌, true, List, slice_get, Some}
 use Rattle.std.specs.declared.cmp.Ordering.TheVariants.{Less}
 use Rattle.cil_base.specs.Lists.{Lists, text_cmp}
 use Rattle.cil_syntax.specs.declared.kind.Kind.TheVariants as kinds
@@ -25,3 +25,8 @@ pub record IsPermissionOf (class_name : List ℕ) (bit : ℕ) (permission : List
 pub record IsInOrder (h : State) (class_name : List ℕ) (bit : ℕ) (name : List ℕ) : Type 0 where
   pub only : (other : List ℕ) → OfLoaded h (IsPermissionOf class_name bit other) → other ≡ name
   pub before : (greater : ℕ) (other : List ℕ) → bit < greater → OfLoaded h (IsPermissionOf class_name greater other) → text_cmp name other ≡ Less
+
+-- these are the names of the permissions of the class, each at its bit
+pub record AreNamesOf (h : State) (class_name : List ℕ) (names : List (List ℕ)) : Type 0 where
+  pub all : (bit : ℕ) (name : List ℕ) → OfLoaded h (IsPermissionOf class_name bit name) ↔ (slice_get names bit ≡ Some name)
+  pub order : (bit : ℕ) (name : List ℕ) → slice_get names bit ≡ Some name → IsInOrder h class_name bit name

@@ -5,17 +5,17 @@ ghost use Rattle.cil_modset.specs.Bundle.{bundle};
 ghost use Rattle.cil_modset.specs.Changes.{IsImported, IsInstalled};
 ghost use Rattle.cil_host.specs.Checks.{Checks};
 ghost use Rattle.cil_host.specs.Machine.{OfLoaded, Queries, State, TellsOptionals, TellsWhy};
-ghost use Rattle.cil_host.specs.Permissions.{IsInOrder, IsPermissionOf};
+ghost use Rattle.cil_host.specs.Permissions.{AreNamesOf, IsInOrder, IsPermissionOf};
 ghost use Rattle.cil_host.specs.Listed.{line_of};
 ghost use Rattle.cil_host.specs.Refusal.{Loads};
 ghost use Rattle.cil_host.specs.Sets.{Sets};
 
 use crate::fault::{HostError, QueryFault};
 use crate::lines::{copied_optionals, copied_reasons};
-use cil_base::NoMemory;
+use cil_base::{Bytes, NoMemory};
 use cil_decide::{
     Decision, Settings, boolean_named, class_named, decide, defaults, laws, parse_context,
-    permission_at, permission_named,
+    permission_at, permission_named, permissions_of,
 };
 use cil_faults::Failure;
 use cil_modset::{BundleError, Installed, ModuleSet};
@@ -226,6 +226,20 @@ impl<S: Drop> Host<S> {
             return None;
         };
         permission_at(&policy.compiled.tables, class, bit)
+    }
+
+    /// The names of the permissions of a class of the loaded policy in byte order, so that each stands at its bit in the masks of decisions.
+    /// None if no policy is loaded, or there is no class of this name. It takes no memory, and looks up the class once for all of them.
+    pub fn permissions(&self, class: &[u8]) -> &[Bytes]
+        ensures { AreNamesOf self.now class.now result.now }
+    {
+        let Some(policy) = &self.policy else {
+            return &[];
+        };
+        let Some(class) = class_named(&policy.compiled.tables, class) else {
+            return &[];
+        };
+        permissions_of(&policy.compiled.tables, class)
     }
 
     /// Whether a permission is allowed, by the decision of `query`. It takes no memory.

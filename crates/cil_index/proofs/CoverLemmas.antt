@@ -1,5 +1,5 @@
 -- The masks of some entries, and the keys by which all rules on a class and a pair of types are found.
-use Rattle.std.specs.Prelude.{◌↔◌, ◌⊎◌, Bool, Contains, IsBitSet, Some, None, bit_or, map, option_map, slice_get}
+use Rattle.std.specs.Prelude.{◌↔◌, ◌⊎◌, Bool, Contains, IsBitSet, IsTrue, Some, None, bit_or, map, option_map, slice_get}
 use Rattle.std.proofs.Common.{◌≡◌, ℕ, suc, ◌+◌, ◌<◌, ◌≤◌, List, [], ◌∷◌, ◌++◌, length, take, get_or, sym, ◌∙◌, ap, subst, inl, inr, refl, arith}
 use Rattle.std.proofs.lemmas.Bool.{cases_lt}
 use Rattle.std.proofs.lemmas.List.{take_all, take_more}
@@ -24,7 +24,8 @@ use Rattle.cil_index.specs.Found.{CoversAt, HandOver, Matches}
 use Rattle.cil_index.specs.Memberships.{AreMemberships}
 use Rattle.cil_index.specs.Kept.{rule_of}
 use Rattle.cil_index.specs.Sets.{set_of}
-use Rattle.cil_index.proofs.KeyLemmas.{in_key_most, in_key_past}
+use Rattle.cil_index.proofs.KeyLemmas.{in_key_past}
+use Rattle.cil_index.proofs.SetLemmas.{set_within}
 
 module _ (on : ℕ → Bool) (rules : List Rule) (source target class_ : ℕ) where
   -- the mask has what the rules of these entries cover, and nothing that no rule covers
@@ -79,10 +80,6 @@ same_key class_ source target k c s t = λ i. record { class = c i; source = s i
 pub key_is : (k : Key) (a b c x y z : ℕ) → k ≡ record { class = a; source = b; target = c } → a ≡ x → b ≡ y → c ≡ z → k ≡ record { class = x; source = y; target = z }
 key_is k a b c x y z e p q r = e ∙ (λ i. record { class = p i; source = q i; target = r i })
 
--- a target in a key is at most the greatest
-pub target_most : (class_ source t : ℕ) (k : Key) → IsOf class_ source (in_key t) k → k.target ≤ several
-target_most class_ source t k is = let most = in_key_most t in elim is.target_is [ inl e ↦ omega (arith, e, most) | inr e ↦ omega (arith, e) ]
-
 module _ (on : ℕ → Bool) (rules : List Rule) (s t c : ℕ) where
   -- what all entries with a key hand over
   abbrev pub Hands : List Entry → Key → ℕ → Type 0
@@ -123,15 +120,6 @@ found_by on branches sets records entries index s t c bit covered =
       covers = record { rule = rule_of branches sets k; is_there = slice_get-map (rule_of branches sets) records at.0 ∙ ap (option_map (rule_of branches sets)) at.2; covers = covers };
     }
 
--- where the class has no entries nothing is covered
-pub none_covered : (on : ℕ → Bool) (branches : List Branch) (sets : List (List ℕ)) (records : List Record) (entries part : List Entry) → IsIndex sets records entries → (s t c : ℕ)
-    → ((e : Entry) → Contains entries e → e.key.class ≡ in_key c → Contains part e) → length part ≡ 0 → (bit : ℕ) → IsBitSet 0 bit ↔ HasCover on (map (rule_of branches sets) records) s t c bit
-none_covered on branches sets records entries part index s t c there none bit = (
-  λ set. absurd (none_set bit set),
-  λ covered. let f = found_by on branches sets records entries index s t c bit covered in
-      let (i, within, is) = there f.entry f.is_entry f.is_of.class_is in absurd (omega (arith, within, none)),
-)
-
 -- ---- sources, one after another
 
 module _ (on : ℕ → Bool) (rules : List Rule) (asked : Asked) (part : List Entry) (numbers : List ℕ) where
@@ -171,24 +159,50 @@ module _ (on : ℕ → Bool) (rules : List Rule) (asked : Asked) (part : List En
   pub all_sources : (start mask : ℕ) → AreJoined start mask → ((v : ℕ) → Contains numbers v → start ≤ v → ⊥) → HandOver on rules asked part (λ n. Contains numbers n) mask
   all_sources start mask so_far none n has e bit there of covers = elim (cases_lt n start) [ inl below ↦ so_far.all n (has, below) e bit there of covers | inr ge ↦ absurd (none n has ge) ]
 
+-- ---- the sets that are asked for every type, one after another
+
+module _ (on : ℕ → Bool) (rules : List Rule) (asked : Asked) (entries : List Entry) (first : ℕ) where
+  -- the mask has what the rules of the sources from the first on and below a number cover, and nothing that no rule covers
+  pub record AreJoinedFrom (number mask : ℕ) : Type 0 where
+    pub sound : (bit : ℕ) → IsBitSet mask bit → HasCover on rules asked.source asked.target asked.class bit
+    pub all : HandOver on rules asked entries (λ n. (first ≤ n) × (n < number)) mask
+
+  pub none_joined_from : AreJoinedFrom first 0
+  none_joined_from = record { sound = λ bit set. absurd (none_set bit set); all = λ n (ge, below) e bit c of covers. absurd (omega (arith, ge, below)) }
+
+  pub joined_next : (mask more number source : ℕ) → source ≡ in_key number → AreJoinedFrom number mask
+      → ((bit : ℕ) → IsBitSet more bit → HasCover on rules asked.source asked.target asked.class bit)
+      → ((e : Entry) (bit : ℕ) → Contains entries e → IsOf (in_key asked.class) source (in_key asked.target) e.key → CoversAt on rules asked.source asked.target asked.class e.place bit → IsBitSet more bit)
+      → AreJoinedFrom (number + 1) (bit_or mask more)
+  joined_next mask more number source is_source so_far sound all = record {
+    sound = λ bit set. elim ((set_in_either mask more bit).0 set) [ inl x ↦ so_far.sound bit x | inr x ↦ sound bit x ];
+    all = λ n (ge, below) e bit there of covers. (set_in_either mask more bit).1 (elim (cases_lt n number) [
+      | inl before ↦ inl (so_far.all n (ge, before) e bit there of covers)
+      | inr past ↦ let same : n ≡ number = omega (arith, below, past) in
+          inr (all e bit there (record { class_is = of.class_is; source_is = of.source_is ∙ ap in_key same ∙ sym is_source; target_is = of.target_is }) covers)
+    ]);
+  }
+
+  pub joined_to : (number end mask : ℕ) → end ≤ number → AreJoinedFrom number mask → HandOver on rules asked entries (λ n. (first ≤ n) × (n < end)) mask
+  joined_to number end mask over so_far n (ge, below) = so_far.all n (ge, omega (arith, below, over))
+
 -- what is covered is found by the set of the source alone, by a large set or by one that is noted for the source
-module _ (on : ℕ → Bool) (branches : List Branch) (sets : List (List ℕ)) (records : List Record) (entries part : List Entry) (index : IsIndex sets records entries) (asked : Asked)
-    (there : (e : Entry) → Contains entries e → e.key.class ≡ in_key asked.class → Contains part e) (m : Memberships) (hold : AreMemberships sets m) (source : ℕ) (is_source : source ≡ in_key (suc asked.source))
+module _ (on : ℕ → Bool) (branches : List Branch) (sets : List (List ℕ)) (records : List Record) (entries : List Entry) (index : IsIndex sets records entries) (asked : Asked)
+    (m : Memberships) (hold : AreMemberships sets m) (source : ℕ) (is_source : source ≡ in_key (suc asked.source))
     (alone large own : ℕ)
-    (by_alone : (e : Entry) (bit : ℕ) → Contains part e → IsOf (in_key asked.class) source (in_key asked.target) e.key
+    (by_alone : (e : Entry) (bit : ℕ) → Contains entries e → IsOf (in_key asked.class) source (in_key asked.target) e.key
     → CoversAt on (map (rule_of branches sets) records) asked.source asked.target asked.class e.place bit → IsBitSet alone bit)
-    (by_large : HandOver on (map (rule_of branches sets) records) asked part (λ n. Contains m.large n) large)
-    (by_own : HandOver on (map (rule_of branches sets) records) asked part (λ n. Contains (get_or m.lists.items asked.source []) n) own) where
+    (by_large : HandOver on (map (rule_of branches sets) records) asked entries (λ n. (m.first_large ≤ n) × (n < length sets)) large)
+    (by_own : HandOver on (map (rule_of branches sets) records) asked entries (λ n. Contains (get_or m.lists.items asked.source []) n) own) where
   pub in_one_of : (bit : ℕ) → HasCover on (map (rule_of branches sets) records) asked.source asked.target asked.class bit → IsBitSet (bit_or (bit_or alone large) own) bit
   in_one_of bit covered =
       let f = found_by on branches sets records entries index asked.source asked.target asked.class bit covered in
-      let here = there f.entry f.is_entry f.is_of.class_is in
-      (set_in_either (bit_or alone large) own bit).1 (elim (hold f.kept.source asked.source f.has_source) [
-        | inl same ↦ inl ((set_in_either alone large bit).1 (inl (by_alone f.entry bit here
-            (record { class_is = f.is_of.class_is; source_is = f.is_of.source_is ∙ ap in_key same ∙ sym is_source; target_is = f.is_of.target_is }) f.covers)))
+      (set_in_either (bit_or alone large) own bit).1 (elim (hold.known f.kept.source asked.source f.has_source) [
+        | inl one ↦ inl ((set_in_either alone large bit).1 (inl (by_alone f.entry bit f.is_entry
+            (record { class_is = f.is_of.class_is; source_is = f.is_of.source_is ∙ ap in_key one.has_number ∙ sym is_source; target_is = f.is_of.target_is }) f.covers)))
         | inr known ↦ elim known [
-          | inl member ↦ inl ((set_in_either alone large bit).1 (inr (by_large f.kept.source member f.entry bit here f.is_of f.covers)))
-          | inr member ↦ inr (by_own f.kept.source member f.entry bit here f.is_of f.covers)
+          | inl past ↦ inl ((set_in_either alone large bit).1 (inr (by_large f.kept.source (past, set_within sets f.kept.source asked.source f.has_source) f.entry bit f.is_entry f.is_of f.covers)))
+          | inr member ↦ inr (by_own f.kept.source member f.entry bit f.is_entry f.is_of f.covers)
         ]
       ])
 
@@ -226,4 +240,17 @@ pub at_none : (on : ℕ → Bool) (rules : List Rule) (place : ℕ) (source targ
 at_none on rules place source target class_ at bit = (
   λ s. absurd (none_set bit s),
   λ c. absurd (none_some c.rule (sym at ∙ c.is_there)),
+)
+
+-- ---- whether a set has a type
+
+-- one of several types that is not large has just those for which it is noted
+pub held_as_noted : (sets : List (List ℕ)) (m : Memberships) (set t : ℕ) (answer : Bool) → AreMemberships sets m → (set_of sets set ≡ t ∷ [] → ⊥) → set < m.first_large
+    → IsTrue answer ↔ Contains (get_or m.lists.items t []) set → IsTrue answer ↔ Contains (set_of sets set) t
+held_as_noted sets m set t answer are several_types small tells = (
+  λ yes_. are.noted set t (tells.0 yes_),
+  λ has. elim (are.known set t has) [
+    | inl one ↦ absurd (several_types one.is_one)
+    | inr known ↦ elim known [ inl past ↦ absurd (omega (arith, past, small)) | inr member ↦ tells.1 member ]
+  ],
 )

@@ -1,18 +1,14 @@
 -- The keys of rules, and entries by their keys.
 use Rattle.std.specs.Prelude.{Contains, cond, nat_lt}
 use Rattle.std.specs.List.Sorted.{IsNonDecreasingBy, IsPartitionPoint, IsSorted}
-use Rattle.std.specs.Ordering.{is_lt, nat_cmp, ordering_index, ordering_reverse, ordering_then}
+use Rattle.std.specs.Ordering.{is_lt, ordering_index, ordering_reverse}
 use Rattle.std.specs.declared.cmp.Ordering.{Ordering}
-use Rattle.std.proofs.lemmas.List.{get_or-take, get_or-drop, length-take, length-drop, take_all}
+use Rattle.std.proofs.lemmas.List.{get_or-take, get_or-drop, length-take, length-drop}
 use Rattle.std.specs.declared.cmp.Ordering.TheVariants.{Less, Equal, Greater}
-use Rattle.std.proofs.Common.{◌≡◌, ℕ, Bool, [], ◌∷◌, ◌+◌, ◌-◌, ◌<◌, ◌≤◌, true, false, List, length, get_or, take, drop, refl, sym, ◌∙◌, ap, subst, inl, inr, arith}
+use Rattle.std.proofs.Common.{◌≡◌, ℕ, Bool, ◌+◌, ◌-◌, ◌<◌, ◌≤◌, true, false, List, length, get_or, take, drop, refl, sym, ◌∙◌, ap, subst, inl, inr, arith}
 use Rattle.std.proofs.Math.Dec.{ltb, leb}
 use Rattle.std.proofs.lemmas.Bool.{cases_lt}
 use Rattle.std.proofs.lemmas.Bool.Decides.{nat_tests}
-use Rattle.std.proofs.lemmas.Cmp.{by_ranked, ranked}
-use Rattle.std.proofs.lemmas.List.Sorted.{searchable_from_sorted}
-use Rattle.cil_base.specs.Lists.{text_cmp}
-use Rattle.cil_base.specs.Paths.{below_by, equal_from, same_by}
 use Rattle.cil_index.specs.declared.key.Entry.{Entry}
 use Rattle.cil_index.specs.declared.key.Key.{Key}
 use Rattle.cil_index.specs.declared.index.Bounds.{Bounds}
@@ -97,29 +93,29 @@ module _ (entries : List Entry) (k : Key) (a : ℕ) (low : IsPartitionPoint (λ 
       exactly : (m n : ℕ) → m ≤ n → 1 ≤ m → n ≡ 1 → m ≡ 1
       exactly m n p q r = omega (arith, p, q, r)
 
--- ---- the entries of a class
+-- ---- the entries of a source
 
-module _ (entries : List Entry) (starts : List ℕ) (are : AreStarts entries starts) (c : ℕ) (b : Bounds) (bounds : AreBoundsAt starts c b) where
-  class_within : (e : Entry) → Contains entries e → e.key.class ≡ c → (i : ℕ) × (b.from ≤ i) × (i < b.to) × (i < length entries) × (get_or entries i e ≡ e)
-  class_within e (i, within, is) same =
+module _ (entries : List Entry) (starts : List ℕ) (are : AreStarts entries starts) (s : ℕ) (b : Bounds) (bounds : AreBoundsAt starts s b) where
+  source_within : (e : Entry) → Contains entries e → e.key.source ≡ s → (i : ℕ) × (b.from ≤ i) × (i < b.to) × (i < length entries) × (get_or entries i e ≡ e)
+  source_within e (i, within, is) same =
       let inside = bounds.within in
-      let low = are c (omega (arith, inside)) in
-      let high = are (c + 1) inside in
+      let low = are s (omega (arith, inside)) in
+      let high = are (s + 1) inside in
       let f = bounds.from_is in
       let t = bounds.to_is in
-      let at : (get_or entries i e).key.class ≡ c = ap (λ (z : Entry). z.key.class) is ∙ same in
-      elim (cases_lt i (get_or starts c 0)) [
+      let at : (get_or entries i e).key.source ≡ s = ap (λ (z : Entry). z.key.source) is ∙ same in
+      elim (cases_lt i (get_or starts s 0)) [
         | inl less ↦ let r = low.0 i e (omega arith) less in absurd (omega (arith, r, at))
-        | inr ge ↦ elim (cases_lt i (get_or starts (c + 1) 0)) [
+        | inr ge ↦ elim (cases_lt i (get_or starts (s + 1) 0)) [
           | inl before ↦ (i, omega (arith, ge, f), omega (arith, before, t), within, is)
           | inr past ↦ let r = high.1 i e past within in absurd (omega (arith, r, at))
         ]
       ]
 
-  pub class_there : (found : List Entry) → IsPart entries b found → (e : Entry) → Contains entries e → e.key.class ≡ c → Contains found e
-  class_there found is e has same = elim is [
+  pub source_there : (found : List Entry) → IsPart entries b found → (e : Entry) → Contains entries e → e.key.source ≡ s → Contains found e
+  source_there found is e has same = elim is [
     | inl all ↦ subst (λ z. Contains z e) (sym all) has
-    | inr cut ↦ let at = class_within e has same in
+    | inr cut ↦ let at = source_within e has same in
         let m = at.1 in
         let n = at.2 in
         let w = at.3 in
@@ -142,101 +138,8 @@ sorted_part entries a n up k d low less =
     get_or-take n (drop a entries) (k + 1) d (omega (arith, less, size)) ∙ get_or-drop a entries (k + 1) d ∙ ap (λ z. get_or entries z d) (omega arith) in
     (λ i. is_lt (entry_cmp (two i) (one i))) ∙ up (a + k) d (omega arith) (omega (arith, less, size, rest))
 
-pub class_sorted : (entries : List Entry) (b : Bounds) (found : List Entry) → IsPart entries b found → IsSorted entry_cmp entries → IsSorted entry_cmp found
-class_sorted entries b found is up = elim is [
+pub part_sorted : (entries : List Entry) (b : Bounds) (found : List Entry) → IsPart entries b found → IsSorted entry_cmp entries → IsSorted entry_cmp found
+part_sorted entries b found is up = elim is [
   | inl all ↦ subst (IsSorted entry_cmp) (sym all) up
   | inr cut ↦ subst (IsSorted entry_cmp) (sym cut.2) (sorted_part entries b.from (b.to - b.from) up)
 ]
-
--- ---- the entries of a source
-
-third : (t : ℕ) (o : Ordering) → nat_cmp t 0 ≡ o → 1 ≤ ordering_index (ordering_then o (text_cmp [] []))
-third t Less e = let less = below_by t 0 e in absurd (omega (arith, less))
-third t Equal e = omega arith
-third t Greater e = omega arith
-
--- a key of the class and source is not below the least of these
-not_below : (k : Key) (c s : ℕ) → k.class ≡ c → k.source ≡ s → 1 ≤ ordering_index (key_cmp k (record { class = c; source = s; target = 0 }))
-not_below k c s p q =
-    subst (λ o. 1 ≤ ordering_index (ordering_then o (ordering_then (nat_cmp k.source s) (ordering_then (nat_cmp k.target 0) (text_cmp [] []))))) (sym (equal_from k.class c p))
-    (subst (λ o. 1 ≤ ordering_index (ordering_then o (ordering_then (nat_cmp k.target 0) (text_cmp [] [])))) (sym (equal_from k.source s q)) (third k.target (nat_cmp k.target 0) refl))
-
-above_by : (a b : ℕ) → nat_cmp a b ≡ Greater → b < a
-above_by a b e =
-    by_ranked _ _ _ (nat_cmp a b) (ranked a b (nat_cmp a b) refl) (λ l h. absurd (let f : Greater ≡ Less = sym e ∙ l in cc))
-    (λ q h. absurd (let f : Greater ≡ Equal = sym e ∙ q in cc)) (λ g h. h)
-
-last : (t u : ℕ) → t ≤ u → (o : Ordering) → nat_cmp t u ≡ o → ordering_index (ordering_then o (text_cmp [] [])) ≤ 1
-last t u le Less e = omega arith
-last t u le Equal e = omega arith
-last t u le Greater e = let more = above_by t u e in absurd (omega (arith, le, more))
-
--- nor above the greatest
-not_above : (k : Key) (c s u : ℕ) → k.class ≡ c → k.source ≡ s → k.target ≤ u → ordering_index (key_cmp k (record { class = c; source = s; target = u })) ≤ 1
-not_above k c s u p q le =
-    subst (λ o. ordering_index (ordering_then o (ordering_then (nat_cmp k.source s) (ordering_then (nat_cmp k.target u) (text_cmp [] [])))) ≤ 1) (sym (equal_from k.class c p))
-    (subst (λ o. ordering_index (ordering_then o (ordering_then (nat_cmp k.target u) (text_cmp [] []))) ≤ 1) (sym (equal_from k.source s q)) (last k.target u le (nat_cmp k.target u) refl))
-
--- what is neither is of them
-between : (k : Key) (c s t u : ℕ) → 1 ≤ ordering_index (key_cmp k (record { class = c; source = s; target = t })) → ordering_index (key_cmp k (record { class = c; source = s; target = u })) ≤ 1
-    → (k.class ≡ c) × (k.source ≡ s)
-between k c s t u low high = from (nat_cmp k.class c) (nat_cmp k.source s) refl refl low high
-  where
-    from : (o p : Ordering) → nat_cmp k.class c ≡ o → nat_cmp k.source s ≡ p → 1 ≤ ordering_index (ordering_then o (ordering_then p (text_cmp (k.target ∷ []) (t ∷ []))))
-        → ordering_index (ordering_then o (ordering_then p (text_cmp (k.target ∷ []) (u ∷ [])))) ≤ 1 → (k.class ≡ c) × (k.source ≡ s)
-    from Less p e f g h = absurd (omega (arith, g))
-    from Greater p e f g h = absurd (omega (arith, h))
-    from Equal Less e f g h = absurd (omega (arith, g))
-    from Equal Greater e f g h = absurd (omega (arith, h))
-    from Equal Equal e f g h = (same_by k.class c e, same_by k.source s f)
-
-module _ (entries rest : List Entry) (c s a : ℕ) (low : IsPartitionPoint (λ e. rank_by (record { class = c; source = s; target = 0 }) e < 1) (λ e. 1 ≤ rank_by (record { class = c; source = s; target = 0 }) e) entries a)
-    (is_rest : rest ≡ drop a entries) where
-  behind : (e : Entry) → Contains entries e → e.key.class ≡ c → e.key.source ≡ s → (i : ℕ) × (a ≤ i) × (i < length entries) × (get_or entries i e ≡ e)
-  behind e (i, within, is) of_class of_source = elim (cases_lt i a) [
-    | inl less ↦ let r = low.0 i e (omega arith) less in
-        let n = not_below (get_or entries i e).key c s (ap (λ (z : Entry). z.key.class) is ∙ of_class) (ap (λ (z : Entry). z.key.source) is ∙ of_source) in
-        absurd (omega (arith, r, n))
-    | inr ge ↦ (i, ge, within, is)
-  ]
-
-  -- all entries of the source are in the rest
-  pub source_there : (e : Entry) → Contains entries e → e.key.class ≡ c → e.key.source ≡ s → Contains rest e
-  source_there e has of_class of_source =
-      let at = behind e has of_class of_source in
-      let ge = at.1 in
-      let within = at.2 in
-      let j : ℕ = at.0 - a in
-      let sum : a + j ≡ at.0 = omega (arith, ge) in
-      let size : length rest ≡ length entries - a = ap (λ (z : List Entry). length z) is_rest ∙ length-drop a entries in
-      (j, omega (arith, sum, size, within, ge), ap (λ z. get_or z j e) is_rest ∙ get_or-drop a entries j e ∙ ap (λ z. get_or entries z e) sum ∙ at.3)
-
-  -- and it begins with one, if there is one
-  pub source_first : IsSorted entry_cmp entries → (e : Entry) → Contains entries e → e.key.class ≡ c → e.key.source ≡ s → e.key.target ≤ several
-      → (0 < length rest) × ((get_or rest 0 e).key.class ≡ c) × ((get_or rest 0 e).key.source ≡ s)
-  source_first sorted e has of_class of_source of_target =
-      let at = behind e has of_class of_source in
-      let ge = at.1 in
-      let within = at.2 in
-      let size : length rest ≡ length entries - a = ap (λ (z : List Entry). length z) is_rest ∙ length-drop a entries in
-      let first : get_or rest 0 e ≡ get_or entries a e = ap (λ z. get_or z 0 e) is_rest ∙ get_or-drop a entries 0 e ∙ ap (λ z. get_or entries z e) (omega arith) in
-      let low_rank = low.1 a e (omega arith) (omega (arith, ge, within)) in
-      let rises = searchable_from_sorted key_total (λ (z : Entry). z.key) entries (record { class = c; source = s; target = several }) sorted a at.0 e ge within in
-      let most = not_above e.key c s several of_class of_source of_target in
-      let same : rank_by (record { class = c; source = s; target = several }) (get_or entries at.0 e) ≡ rank_by (record { class = c; source = s; target = several }) e =
-      ap (rank_by (record { class = c; source = s; target = several })) at.3 in
-      let both = between (get_or entries a e).key c s 0 several low_rank (omega (arith, rises, most, same)) in
-      (omega (arith, size, within, ge), ap (λ (z : Entry). z.key.class) first ∙ both.0, ap (λ (z : Entry). z.key.source) first ∙ both.1)
-
-  pub rest_sorted : IsSorted entry_cmp entries → IsSorted entry_cmp rest
-  rest_sorted up =
-      let whole : take (length entries - a) (drop a entries) ≡ drop a entries = take_all _ _ (let e = length-drop a entries in omega (arith, e)) in
-      subst (IsSorted entry_cmp) (whole ∙ sym is_rest) (sorted_part entries a (length entries - a) up)
-
--- a list without entries is sorted
-pub none_sorted : IsSorted entry_cmp []
-none_sorted k d low less = absurd (omega (arith, less))
-
--- what stands in a key is at most what stands there for several types
-pub in_key_most : (n : ℕ) → in_key n ≤ several
-in_key_most n = elim (cases_lt n several) [ inl less ↦ let e = in_key_below n less in omega (arith, less, e) | inr ge ↦ let e = in_key_past n ge in omega (arith, e) ]

@@ -5,76 +5,93 @@ use Rattle.std.proofs.Math.ListN.{get_or-append, get_or-eq_default, set}
 use Rattle.std.proofs.Math.Seq.{get_or-append_seam}
 use Rattle.std.proofs.lemmas.Bool.{cases_lt}
 use Rattle.std.proofs.lemmas.List.{get_or-set_other, get_or-set_same, length-append, take_all, take_more}
-use Rattle.std.proofs.lemmas.List.Elements.{Contains-append_cases}
-use Rattle.cil_base.specs.Lists.{contains_cases, contains_none}
+use Rattle.std.proofs.lemmas.List.Elements.{Contains-append_cases, Contains-append_left, Contains-append_right}
+use Rattle.cil_base.specs.Lists.{contains_cases, contains_here, contains_none}
 use Rattle.cil_index.specs.declared.memberships.Memberships.{Memberships}
-use Rattle.cil_index.specs.Memberships.{AreMemberships, AreNoted, IsKnownFor, IsNoted, IsNotedIn, IsSetNoted}
+use Rattle.cil_index.specs.Memberships.{AreMemberships, AreNoted, AreNotedBelow, IsAlone, IsKnownFor, IsNoted, IsNotedIn}
 use Rattle.cil_index.specs.Sets.{all_sets, set_of}
 use Rattle.cil_index.proofs.SetLemmas.{empty_there, in_one, several_there, small_there}
 
 -- the sets of several types, and those of one, are known for their types
-pub noted_all : (ones : ℕ) (several sets : List (List ℕ)) (m : Memberships) → all_sets ones several ≡ sets → AreNoted ones several (length several) m → AreMemberships sets m
-noted_all ones several sets m is noted number t has = cases number (subst (λ l. Contains (set_of l number) t) (sym is) has)
-  where
-    place_of : (n : ℕ) → ones ≤ n → suc n - ones - 1 + ones + 1 ≡ suc n
-    place_of n ge = omega (arith, ge)
+module _ (ones : ℕ) (several sets : List (List ℕ)) (m : Memberships) (is : all_sets ones several ≡ sets) (noted : AreNotedBelow ones several m) where
+  place_of : (n : ℕ) → ones ≤ n → suc n - ones - 1 + ones + 1 ≡ suc n
+  place_of n ge = omega (arith, ge)
 
-    cases : (n : ℕ) → Contains (set_of (all_sets ones several) n) t → (n ≡ suc t) ⊎ IsKnownFor m t n
-    cases zero has = absurd (contains_none t (subst (λ l. Contains l t) (empty_there ones several) has))
-    cases (suc n) has = elim (cases_lt n ones) [
-      | inl less ↦ inl (ap suc ((in_one n t).0 (subst (λ l. Contains l t) (small_there ones n several less) has)))
-      | inr ge ↦ let at : Contains (get_or several (suc n - ones - 1) []) t = subst (λ l. Contains l t) (several_there ones (suc n) several (omega (arith, ge))) has in
-          inr (elim (cases_lt (suc n - ones - 1) (length several)) [
-            | inl within ↦ subst (IsKnownFor m t) (place_of n ge) (noted (suc n - ones - 1) t within at)
-            | inr past ↦ absurd (contains_none t (subst (λ l. Contains l t) (get_or-eq_default several [] past) at))
-          ])
-    ]
+  known_for : (n t : ℕ) → Contains (set_of (all_sets ones several) n) t → IsAlone (all_sets ones several) n t ⊎ IsKnownFor m t n
+  known_for zero t has = absurd (contains_none t (subst (λ l. Contains l t) (empty_there ones several) has))
+  known_for (suc n) t has = elim (cases_lt n ones) [
+    | inl less ↦ let same : n ≡ t = (in_one n t).0 (subst (λ l. Contains l t) (small_there ones n several less) has) in
+        inl (record { has_number = ap suc same; is_one = small_there ones n several less ∙ ap (λ k. k ∷ []) same })
+    | inr ge ↦ inr (elim (cases_lt (suc n) m.first_large) [
+      | inl below ↦ let at : Contains (get_or several (suc n - ones - 1) []) t = subst (λ l. Contains l t) (several_there ones (suc n) several (omega (arith, ge))) has in
+          inr (subst (Contains (get_or m.lists.items t [])) (place_of n ge) (noted.each (suc n - ones - 1) t (subst (λ k. k < m.first_large) (sym (place_of n ge)) below) at))
+      | inr large ↦ inl large
+    ])
+  ]
+
+  noted_for : (n t : ℕ) → Contains (get_or m.lists.items t []) n → Contains (set_of (all_sets ones several) n) t
+  noted_for n t c =
+      let (place, at, member) = noted.only n t c in
+      let same : place ≡ n - ones - 1 = omega (arith, at) in
+      subst (λ l. Contains l t) (ap (λ k. get_or several k []) same ∙ sym (several_there ones n several (omega (arith, at)))) member
+
+  pub noted_all : AreMemberships sets m
+  noted_all = subst (λ l. AreMemberships l m) is (record { known = known_for; noted = noted_for })
 
 -- one set more
-pub noted_more : (ones : ℕ) (several : List (List ℕ)) (k : ℕ) (set : List ℕ) (number : ℕ) (old new : Memberships) → set ≡ get_or several k [] → number ≡ k + ones + 1 → AreNoted ones several k old
-    → IsSetNoted old set number new → AreNoted ones several (k + 1) new
-noted_more ones several k set number old new is is_number noted step place t below has = elim (cases_lt place k) [
-  | inl less ↦ step.stays t (place + ones + 1) (noted place t less has)
-  | inr ge ↦ let same : place ≡ k = omega (arith, below, ge) in
-      let added : IsKnownFor new t number = step.added t (subst (λ l. Contains l t) (sym is) (subst (λ p. Contains (get_or several p []) t) same has)) in
-      subst (IsKnownFor new t) (is_number ∙ ap (λ p. p + ones + 1) (sym same)) added
-]
-
--- a large set is known for every type
-pub large_noted : (old new : Memberships) (types : List ℕ) (number : ℕ) → new.lists.items ≡ old.lists.items → ((v : ℕ) → Contains new.large v ↔ (Contains old.large v ⊎ (v ≡ number)))
-    → IsSetNoted old types number new
-large_noted old new types number same are = record {
-  stays = λ u n known. elim known [
-    | inl c ↦ inl ((are n).1 (inl c))
-    | inr c ↦ inr (subst (λ (l : List (List ℕ)). Contains (get_or l u []) n) (sym same) c)
+pub noted_more : (ones : ℕ) (several : List (List ℕ)) (k : ℕ) (set : List ℕ) (number : ℕ) (old new : List (List ℕ)) → set ≡ get_or several k [] → number ≡ k + ones + 1 → AreNoted ones several k old
+    → IsNotedIn old set number new → AreNoted ones several (k + 1) new
+noted_more ones several k set number old new is is_number noted step = record {
+  each = λ place t below has. elim (cases_lt place k) [
+    | inl less ↦ step.stays t (place + ones + 1) (noted.each place t less has)
+    | inr ge ↦ let same : place ≡ k = omega (arith, below, ge) in
+        let added : Contains (get_or new t []) number = step.added t (subst (λ l. Contains l t) (sym is) (subst (λ p. Contains (get_or several p []) t) same has)) in
+        subst (Contains (get_or new t [])) (is_number ∙ ap (λ p. p + ones + 1) (sym same)) added
   ];
-  added = λ t c. inl ((are number).1 (inr refl));
+  only = λ n t c. elim (step.only t n c) [
+    | inl d ↦ noted.only n t d
+    | inr d ↦ (k, d.1 ∙ is_number, subst (λ l. Contains l t) is d.0)
+  ];
 }
 
--- another one is noted for its types
-pub small_noted : (old new : Memberships) (types : List ℕ) (number : ℕ) → new.large ≡ old.large → IsNotedIn old.lists.items types number new.lists.items → IsSetNoted old types number new
-small_noted old new types number same are = record {
-  stays = λ u n known. elim known [
-    | inl c ↦ inl (subst (λ l. Contains l n) (sym same) c)
-    | inr c ↦ inr (are.stays u n c)
-  ];
-  added = λ t c. inr (are.added t c);
+-- no list has a number
+pub none_noted : (ones : ℕ) (several lists : List (List ℕ)) → lists ≡ [] → AreNoted ones several 0 lists
+none_noted ones several lists none = record {
+  each = λ place t below has. absurd (omega (arith, below));
+  only = λ n t c. absurd (contains_none n (subst (λ (l : List (List ℕ)). Contains (get_or l t []) n) none c));
+}
+
+-- all below the first large one
+pub noted_below : (ones : ℕ) (several : List (List ℕ)) (k small : ℕ) (m : Memberships) → small ≤ k → m.first_large ≡ small + ones + 1 → AreNoted ones several k m.lists.items → AreNotedBelow ones several m
+noted_below ones several k small m over first noted = record {
+  each = λ place t below has. noted.each place t (omega (arith, below, first, over)) has;
+  only = noted.only;
 }
 
 -- ---- one set
 
 pub none_added : (old : List (List ℕ)) (number : ℕ) → IsNotedIn old [] number old
-none_added old number = record { stays = λ u n c. c; added = λ t c. absurd (contains_none t c) }
+none_added old number = record { stays = λ u n c. c; added = λ t c. absurd (contains_none t c); only = λ u n c. inl c }
 
 pub added_more : (old mid new : List (List ℕ)) (types : List ℕ) (i t number : ℕ) → i < length types → t ≡ get_or types i t → IsNotedIn old (take i types) number mid → IsNoted mid t number new
     → IsNotedIn old (take (i + 1) types) number new
 added_more old mid new types i t number within is so_far step = record {
   stays = λ u n c. step.stays u n (so_far.stays u n c);
-  added = λ u c. elim (Contains-append_cases (take i types) (t ∷ []) u (subst (λ l. Contains l u) (take_more types i t within ∙ ap (λ z. take i types ++ z ∷ []) (sym is)) c)) [
+  added = λ u c. elim (Contains-append_cases (take i types) (t ∷ []) u (subst (λ l. Contains l u) one_more c)) [
     | inl d ↦ step.stays u number (so_far.added u d)
     | inr d ↦ elim (contains_cases u t [] d) [ inl e ↦ subst (λ z. Contains (get_or new z []) number) e step.added | inr m ↦ absurd (contains_none u m) ]
   ];
+  only = λ u n c. elim (step.only u n c) [
+    | inl d ↦ elim (so_far.only u n d) [
+      | inl o ↦ inl o
+      | inr o ↦ inr (subst (λ l. Contains l u) (sym one_more) (Contains-append_left (take i types) (t ∷ []) u o.0), o.1)
+    ]
+    | inr d ↦ inr (subst (λ l. Contains l u) (sym one_more) (Contains-append_right (take i types) (t ∷ []) u (subst (Contains (t ∷ [])) (sym d.0) (contains_here t []))), d.1)
+  ];
 }
+  where
+    one_more : take (i + 1) types ≡ take i types ++ t ∷ []
+    one_more = take_more types i t within ∙ ap (λ z. take i types ++ z ∷ []) (sym is)
 
 pub added_all : (old new : List (List ℕ)) (types set : List ℕ) (i number : ℕ) → length types ≤ i → types ≡ set → IsNotedIn old (take i types) number new → IsNotedIn old set number new
 added_all old new types set i number over is noted = subst (λ l. IsNotedIn old l number new) (take_all i types over ∙ is) noted
@@ -89,6 +106,7 @@ pub noted_at : (old mid new : List (List ℕ)) (t number : ℕ) (list : List ℕ
 noted_at old mid new t number list same within made are = record {
   stays = λ u n c. subst (λ l. Contains (get_or l u []) n) (sym made) (stays u n (subst (λ l. Contains l n) (sym (same u)) c) (order u t));
   added = subst (λ l. Contains (get_or l t []) number) (sym made) (subst (λ l. Contains l number) (sym (get_or-set_same mid t list [] within)) ((are number).1 (inr refl)));
+  only = λ u n c. only u n (subst (λ l. Contains (get_or l u []) n) made c) (order u t);
 }
   where
     stays : (u n : ℕ) → Contains (get_or mid u []) n → (u < t) ⊎ ((u ≡ t) ⊎ (t < u)) → Contains (get_or (set mid t list) u []) n
@@ -96,6 +114,14 @@ noted_at old mid new t number list same within made are = record {
     stays u n c (inr (inr more)) = subst (λ l. Contains l n) (sym (get_or-set_other mid t u list [] (λ e. omega (arith, e, more)))) c
     stays u n c (inr (inl e)) = subst (λ w. Contains (get_or (set mid t list) w []) n) (sym e)
         (subst (λ l. Contains l n) (sym (get_or-set_same mid t list [] within)) ((are n).1 (inl (subst (λ w. Contains (get_or mid w []) n) e c))))
+
+    only : (u n : ℕ) → Contains (get_or (set mid t list) u []) n → (u < t) ⊎ ((u ≡ t) ⊎ (t < u)) → Contains (get_or old u []) n ⊎ ((u ≡ t) × (n ≡ number))
+    only u n c (inl less) = inl (subst (λ l. Contains l n) (get_or-set_other mid t u list [] (λ e. omega (arith, e, less)) ∙ same u) c)
+    only u n c (inr (inr more)) = inl (subst (λ l. Contains l n) (get_or-set_other mid t u list [] (λ e. omega (arith, e, more)) ∙ same u) c)
+    only u n c (inr (inl e)) = elim ((are n).0 (subst (λ l. Contains l n) (ap (λ w. get_or (set mid t list) w []) e ∙ get_or-set_same mid t list [] within) c)) [
+      | inl d ↦ inl (subst (λ l. Contains l n) (same t ∙ ap (λ w. get_or old w []) (sym e)) d)
+      | inr d ↦ inr (e, d)
+    ]
 
 -- an empty list more changes no list
 pub grown : (lists more : List (List ℕ)) (added : List ℕ) → added ≡ [] → more ≡ lists ++ added ∷ [] → (t : ℕ) → get_or more t [] ≡ get_or lists t []

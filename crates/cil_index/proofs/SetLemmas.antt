@@ -1,10 +1,10 @@
 -- The sets of numbers: what each has, and by what it is found.
 use Rattle.std.specs.Prelude.{Contains, ◌↔◌, IsTrue}
-use Rattle.std.proofs.Common.{◌≡◌, ℕ, zero, suc, Bool, true, false, ◌-◌, ◌<◌, ◌≤◌, List, [], ◌∷◌, ◌++◌, length, get_or, refl, sym, ◌∙◌, ap, subst, inl, inr, arith}
+use Rattle.std.proofs.Common.{◌≡◌, ℕ, zero, suc, Bool, true, false, ◌-◌, ◌<◌, ◌≤◌, List, [], ◌∷◌, ◌++◌, length, get_or, ◌+◌, refl, sym, ◌∙◌, ap, subst, inl, inr, arith}
 use Rattle.std.proofs.lemmas.Bool.{cases_lt}
 use Rattle.std.proofs.Math.ListN.{get_or-append, get_or-eq_default}
-use Rattle.std.proofs.Math.Dec.{eqb}
-use Rattle.std.proofs.lemmas.Bool.Decides.{eqb_tells}
+use Rattle.std.proofs.Math.Dec.{eqb, ltb}
+use Rattle.std.proofs.lemmas.Bool.Decides.{eqb_tells, nat_tests}
 use Rattle.std.proofs.Math.Seq.{get_or-append_seam, get_or-append_right}
 use Rattle.std.proofs.lemmas.List.{get_or_default, length-append}
 use Rattle.cil_base.specs.Lists.{contains_here, contains_cases, contains_none}
@@ -55,7 +55,7 @@ in_one n t = (
   λ e. subst (Contains (n ∷ [])) e (contains_here n []),
 )
 
-none_in : (t : ℕ) (set : List ℕ) → set ≡ [] → IsTrue false ↔ Contains set t
+pub none_in : (t : ℕ) (set : List ℕ) → set ≡ [] → IsTrue false ↔ Contains set t
 none_in t set e = rw e (λ h. let f : false ≡ true = h in absurd cc, λ c. absurd (contains_none t c))
 
 module _ (ones : ℕ) (more sets : List (List ℕ)) (view : all_sets ones more ≡ sets) where
@@ -91,6 +91,23 @@ module _ (ones : ℕ) (more sets : List (List ℕ)) (view : all_sets ones more �
   pub none_has : (n t : ℕ) → ones < n → length more ≤ n - ones - 1 → IsTrue false ↔ Contains (set_of sets n) t
   none_has n t over past = none_in t (set_of sets n) (other_is n over ∙ get_or-eq_default more [] past)
 
+  -- a set of several types is not that of one
+  pub several_not_one : (n t : ℕ) → ones < n → AreSeveral more → set_of sets n ≡ t ∷ [] → ⊥
+  several_not_one n t over many one = elim (cases_lt (n - ones - 1) (length more)) [
+    | inl within ↦ let set = get_or more (n - ones - 1) [] in
+        let long = many set (n - ones - 1, within, get_or_default more (n - ones - 1) set [] within) in
+        let short : length set ≡ 1 = ap (λ (z : List ℕ). length z) (sym (other_is n over) ∙ one) in
+        absurd (omega (arith, long, short))
+    | inr past ↦ let none : t ∷ [] ≡ [] = sym one ∙ other_is n over ∙ get_or-eq_default more [] past in absurd cc
+  ]
+
+  pub count_all : length more + ones + 1 ≡ length sets
+  unfolding all_sets
+  count_all =
+      let size = length-small ones in
+      let both = length-append (small_sets ones) more in
+      let same = ap (λ (z : List (List ℕ)). length z) view in omega (arith, size, both, same)
+
   pub key_empty : (n : ℕ) → n ≡ 0 → several ≡ key_of_set (set_of sets n)
   key_empty n e = ap key_of_set (sym (empty_is n e))
 
@@ -108,3 +125,10 @@ module _ (ones : ℕ) (more sets : List (List ℕ)) (view : all_sets ones more �
       of_many [] l = absurd (omega (arith, l))
       of_many (t ∷ []) l = absurd (omega (arith, l))
       of_many (t ∷ u ∷ rest) l = refl
+
+pub above : (a b : ℕ) → IsTrue (ltb a b) → a < b
+above a b e = grind (arith, nat_tests)
+
+-- a set that has a type is there
+pub set_within : (sets : List (List ℕ)) (n t : ℕ) → Contains (set_of sets n) t → n < length sets
+set_within sets n t has = elim (cases_lt n (length sets)) [ inl less ↦ less | inr past ↦ absurd (contains_none t (subst (λ l. Contains l t) (get_or-eq_default sets [] past) has)) ]

@@ -1,5 +1,5 @@
--- The index of rules: an entry for each record, by its class, the number of its source set and, where its target is one type, by that type.
-use Rattle.std.specs.Prelude.{◌≡◌, ◌⊎◌, ◌<◌, ◌≤◌, ◌+◌, ◌-◌, ℕ, cond, nat_lt, length, get_or, take, drop, List, [], ◌∷◌, Contains, Some, slice_get}
+-- The index of rules: an entry for each record, by the number of its source set, its class and, where its target is one type, by that type.
+use Rattle.std.specs.Prelude.{◌≡◌, ◌⊎◌, ◌<◌, ◌≤◌, ◌+◌, ◌*◌, ◌-◌, ℕ, cond, nat_lt, length, get_or, take, drop, List, [], ◌∷◌, Contains, Some, slice_get}
 use Rattle.std.specs.List.Sorted.{IsPartitionPoint, IsSorted}
 use Rattle.std.specs.Cmp.{IsTotalOrder}
 use Rattle.std.proofs.lemmas.Cmp.{on_total, nat_list_cmp_total}
@@ -37,10 +37,14 @@ key_of_target Itself source = key_of_set source
 abbrev pub key_of_record : List (List ℕ) → Record → Key
 key_of_record sets k = record { class = in_key k.class; source = in_key k.source; target = key_of_target (target_named sets k.target) (set_of sets k.source) }
 
-abbrev pub key_fields : Key → List ℕ
-key_fields k = k.class ∷ k.source ∷ k.target ∷ []
+-- the class and the target of a key as one number
+abbrev pub aim_of : Key → ℕ
+aim_of k = k.class * 4294967296 + k.target
 
--- keys stand by class, source and target
+abbrev pub key_fields : Key → List ℕ
+key_fields k = k.source ∷ aim_of k ∷ []
+
+-- keys stand by source, class and target
 abbrev pub key_cmp : Key → Key → Ordering
 key_cmp = on key_fields text_cmp
 
@@ -62,9 +66,9 @@ pub record IsIndex (sets : List (List ℕ)) (records : List Record) (entries : L
   pub sorted : IsSorted entry_cmp entries
   pub each : HasEntries sets records entries
 
--- where the entries of each class begin
+-- where the entries of each source begin
 abbrev pub AreStarts : List Entry → List ℕ → Type 0
-AreStarts entries starts = (c : ℕ) → c < length starts → IsPartitionPoint (λ e. e.key.class < c) (λ e. c ≤ e.key.class) entries (get_or starts c 0)
+AreStarts entries starts = (s : ℕ) → s < length starts → IsPartitionPoint (λ e. e.key.source < s) (λ e. s ≤ e.key.source) entries (get_or starts s 0)
 
 -- ---- private words
 
@@ -74,10 +78,10 @@ pub record IsOf (class_ source target : ℕ) (k : Key) : Type 0 where
   pub source_is : k.source ≡ source
   pub target_is : (k.target ≡ target) ⊎ (k.target ≡ several)
 
-pub record AreBoundsAt (starts : List ℕ) (c : ℕ) (b : Bounds) : Type 0 where
-  pub within : c + 1 < length starts
-  pub from_is : b.from ≡ get_or starts c 0
-  pub to_is : b.to ≡ get_or starts (c + 1) 0
+pub record AreBoundsAt (starts : List ℕ) (s : ℕ) (b : Bounds) : Type 0 where
+  pub within : s + 1 < length starts
+  pub from_is : b.from ≡ get_or starts s 0
+  pub to_is : b.to ≡ get_or starts (s + 1) 0
 
 -- the part of the entries between two places, or all of them
 abbrev pub IsPart : List Entry → Bounds → List Entry → Type 0

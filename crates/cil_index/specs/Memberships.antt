@@ -1,33 +1,46 @@
 -- Which sets have a type.
-use Rattle.std.specs.Prelude.{◌≡◌, ◌⊎◌, ◌<◌, ◌+◌, ℕ, suc, List, [], Contains, get_or}
+use Rattle.std.specs.Prelude.{◌≡◌, ◌⊎◌, ◌<◌, ◌≤◌, ◌+◌, ℕ, suc, List, [], ◌∷◌, Contains, get_or}
 use Rattle.cil_index.specs.declared.memberships.Memberships.{Memberships}
 use Rattle.cil_index.specs.Sets.{set_of}
 
--- the number is that of a large set, or is noted for the type
+-- the sets of this number are asked for every type, or it is noted for this one
 abbrev pub IsKnownFor : Memberships → ℕ → ℕ → Type 0
-IsKnownFor m t number = Contains m.large number ⊎ Contains (get_or m.lists.items t []) number
+IsKnownFor m t number = (m.first_large ≤ number) ⊎ Contains (get_or m.lists.items t []) number
 
--- a set that has a type is that of this type alone, or is known for the type
-abbrev pub AreMemberships : List (List ℕ) → Memberships → Type 0
-AreMemberships sets m = (set t : ℕ) → Contains (set_of sets set) t → (set ≡ suc t) ⊎ IsKnownFor m t set
+-- the set of a type alone stands behind its number
+pub record IsAlone (sets : List (List ℕ)) (set t : ℕ) : Type 0 where
+  pub has_number : set ≡ suc t
+  pub is_one : set_of sets set ≡ t ∷ []
+
+-- a set that has a type is that of this type alone, or is known for the type; and one that is noted for a type has it
+pub record AreMemberships (sets : List (List ℕ)) (m : Memberships) : Type 0 where
+  pub known : (set t : ℕ) → Contains (set_of sets set) t → IsAlone sets set t ⊎ IsKnownFor m t set
+  pub noted : (set t : ℕ) → Contains (get_or m.lists.items t []) set → Contains (set_of sets set) t
 
 -- ---- private words
 
--- the first k sets of several types are known for their types
-abbrev pub AreNoted : (ones : ℕ) (several : List (List ℕ)) (k : ℕ) → Memberships → Type 0
-AreNoted ones several k m = (place t : ℕ) → place < k → Contains (get_or several place []) t → IsKnownFor m t (place + ones + 1)
+-- what is noted for a type is the number of a set of several types that has it
+abbrev pub AreOfTypes : (ones : ℕ) (several lists : List (List ℕ)) → Type 0
+AreOfTypes ones several lists = (n t : ℕ) → Contains (get_or lists t []) n → (place : ℕ) × (n ≡ place + ones + 1) × Contains (get_or several place []) t
 
--- a number was added for the types of a set, and none was lost
-pub record IsSetNoted (old : Memberships) (types : List ℕ) (number : ℕ) (new : Memberships) : Type 0 where
-  pub stays : (u n : ℕ) → IsKnownFor old u n → IsKnownFor new u n
-  pub added : (t : ℕ) → Contains types t → IsKnownFor new t number
+-- the first k sets of several types are noted for just their types
+pub record AreNoted (ones : ℕ) (several : List (List ℕ)) (k : ℕ) (lists : List (List ℕ)) : Type 0 where
+  pub each : (place t : ℕ) → place < k → Contains (get_or several place []) t → Contains (get_or lists t []) (place + ones + 1)
+  pub only : AreOfTypes ones several lists
 
--- a number was added to the list of one type, and none was lost
+-- the sets of several types that are not asked for every type are noted for just their types
+pub record AreNotedBelow (ones : ℕ) (several : List (List ℕ)) (m : Memberships) : Type 0 where
+  pub each : (place t : ℕ) → place + ones + 1 < m.first_large → Contains (get_or several place []) t → Contains (get_or m.lists.items t []) (place + ones + 1)
+  pub only : AreOfTypes ones several m.lists.items
+
+-- a number was added to the list of one type, and nothing else was changed
 pub record IsNoted (old : List (List ℕ)) (t number : ℕ) (new : List (List ℕ)) : Type 0 where
   pub stays : (u n : ℕ) → Contains (get_or old u []) n → Contains (get_or new u []) n
   pub added : Contains (get_or new t []) number
+  pub only : (u n : ℕ) → Contains (get_or new u []) n → Contains (get_or old u []) n ⊎ ((u ≡ t) × (n ≡ number))
 
--- a number was added to the list of each of some types, and none was lost
+-- a number was added to the list of each of some types, and nothing else was changed
 pub record IsNotedIn (old : List (List ℕ)) (types : List ℕ) (number : ℕ) (new : List (List ℕ)) : Type 0 where
   pub stays : (u n : ℕ) → Contains (get_or old u []) n → Contains (get_or new u []) n
   pub added : (t : ℕ) → Contains types t → Contains (get_or new t []) number
+  pub only : (u n : ℕ) → Contains (get_or new u []) n → Contains (get_or old u []) n ⊎ (Contains types u × (n ≡ number))

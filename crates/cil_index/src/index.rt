@@ -1,10 +1,10 @@
 //! The index of rules: sorted entries, searched by halving.
 
-ghost use Rattle.std.specs.Prelude.{◌≡◌, ◌≤◌, ◌<◌, Contains, IfOk, IfSome, IsFalse, Some, get_or, length, slice_get};
+ghost use Rattle.std.specs.Prelude.{◌≡◌, ◌≤◌, ◌<◌, Contains, IfOk, IfSome, Some, get_or, length, slice_get};
 ghost use Rattle.std.specs.Ordering.{ordering_index};
 ghost use Rattle.std.specs.List.Sorted.{IsPartitionPoint, IsSorted};
 ghost use Rattle.cil_index.specs.declared.key.Entry.{Entry as AnEntry};
-ghost use Rattle.cil_index.specs.Entries.{AreBoundsAt, AreStarts, HasEntries, IsIndex, IsPart, entry_cmp, key_cmp, key_of_record, several};
+ghost use Rattle.cil_index.specs.Entries.{AreBoundsAt, AreStarts, HasEntries, IsIndex, IsPart, entry_cmp, key_cmp, key_of_record};
 ghost use Rattle.cil_index.specs.declared.record.Record.{Record as ARecord};
 
 use crate::key::{Entry, Key, number_key, rank};
@@ -45,14 +45,14 @@ pub fn with_key<'s>(entries: &'s [Entry], key: &Key) -> &'s [Entry]
     &rest[..run_length(rest, key)]
 }
 
-/// Entries among which are all of a class. It costs no search where the places of the class are known.
-pub fn class_part<'s>(entries: &'s [Entry], starts: &[u32], class: u32) -> &'s [Entry]
+/// Entries among which are all of a set of sources. It costs no search where the place of the set is known.
+pub fn source_part<'s>(entries: &'s [Entry], starts: &[u32], source: u32) -> &'s [Entry]
     requires sorted { IsSorted entry_cmp entries.now }
     requires starts { AreStarts entries.now starts.now }
-    ensures all { (e : AnEntry) → Contains entries.now e → e.key.class ≡ class → Contains result.now e }
+    ensures all { (e : AnEntry) → Contains entries.now e → e.key.source ≡ source → Contains result.now e }
     ensures sorted { IsSorted entry_cmp result.now }
 {
-    match bounds_of(starts, class) {
+    match bounds_of(starts, source) {
         Some(bounds) => part(entries, bounds),
         None => entries,
     }
@@ -65,12 +65,12 @@ pub struct Bounds {
     pub to: u32,
 }
 
-/// Where the entries of a class begin and end, where that is known.
-fn bounds_of(starts: &[u32], class: u32) -> Option<Bounds>
-    ensures { IfSome result (λ b. AreBoundsAt starts.now class b) }
+/// Where the entries of a source begin and end, where that is known.
+fn bounds_of(starts: &[u32], source: u32) -> Option<Bounds>
+    ensures { IfSome result (λ b. AreBoundsAt starts.now source b) }
 {
-    let from = starts.get(class as usize)?;
-    let to = starts.get(class as usize + 1)?;
+    let from = starts.get(source as usize)?;
+    let to = starts.get(source as usize + 1)?;
     Some(Bounds {
         from: *from,
         to: *to,
@@ -86,35 +86,6 @@ fn part(entries: &[Entry], bounds: Bounds) -> &[Entry]
         return entries;
     }
     &entries[from..to]
-}
-
-/// Entries among which are all of a class and a set of sources. It costs a search by halving.
-pub fn of_source(entries: &[Entry], class: u32, source: u32) -> &[Entry]
-    requires { IsSorted entry_cmp entries.now }
-    ensures all { (e : AnEntry) → Contains entries.now e → e.key.class ≡ class → e.key.source ≡ source → e.key.target ≤ several → Contains result.now e }
-    ensures sorted { IsSorted entry_cmp result.now }
-{
-    let least = Key {
-        class,
-        source,
-        target: 0,
-    };
-    let rest = &entries[start_of(entries, &least)..];
-    if begins_with(rest, class, source) {
-        rest
-    } else {
-        &rest[..0]
-    }
-}
-
-/// Whether the first entry is of a class and a set of sources.
-fn begins_with(entries: &[Entry], class: u32, source: u32) -> bool
-    ensures { IsFalse result → (d : AnEntry) → 0 < length entries.now → (get_or entries.now 0 d).key.class ≡ class → (get_or entries.now 0 d).key.source ≡ source → ⊥ }
-{
-    match entries.get(0) {
-        Some(first) => first.key.class == class && first.key.source == source,
-        None => false,
-    }
 }
 
 /// The index of some records: an entry for each, sorted. Errors: out of memory.
@@ -156,33 +127,33 @@ fn key_of(sets: &Sets, kept: &Record) -> Key
     ensures { result ≡ key_of_record sets.now kept.now }
 {
     Key {
-        class: number_key(kept.class as usize),
-        source: number_key(kept.source as usize),
         target: match kept.target {
             Reach::Types(set) => sets.key(set),
             Reach::Itself => sets.key(kept.source),
         },
+        class: number_key(kept.class as usize),
+        source: number_key(kept.source as usize),
     }
 }
 
-/// Where the entries of the first classes begin, so many of them. Errors: out of memory.
-pub fn starts_of(alloc: Global, entries: &[Entry], classes: usize) -> Result<Vec<u32>, NoMemory>
+/// Where the entries of the first sets of sources begin, so many of them. Errors: out of memory.
+pub fn starts_of(alloc: Global, entries: &[Entry], sources: usize) -> Result<Vec<u32>, NoMemory>
     requires { IsSorted entry_cmp entries.now }
     ensures { IfOk result (λ starts. AreStarts entries.now starts.items) }
 {
-    let mut starts = Vec::with_capacity(alloc, classes)?;
-    for class in 0..classes {
-        starts.push(class_start(entries, class)?)?;
+    let mut starts = Vec::with_capacity(alloc, sources)?;
+    for source in 0..sources {
+        starts.push(source_start(entries, source)?)?;
     }
     Ok(starts)
 }
 
-/// The place of the first entry of a class or a later one. Beyond 4,294,967,296 entries it is out of memory.
-fn class_start(entries: &[Entry], class: usize) -> Result<u32, NoMemory>
+/// The place of the first entry of a source or a later one. Beyond 4,294,967,296 entries it is out of memory.
+fn source_start(entries: &[Entry], source: usize) -> Result<u32, NoMemory>
     requires { IsSorted entry_cmp entries.now }
-    ensures { IfOk result (λ place. IsPartitionPoint (λ e. e.key.class < class) (λ e. class ≤ e.key.class) entries.now place) }
+    ensures { IfOk result (λ place. IsPartitionPoint (λ e. e.key.source < source) (λ e. source ≤ e.key.source) entries.now place) }
 {
-    let place = entries.partition_point(|entry| (entry.key.class as usize) < class);
+    let place = entries.partition_point(|entry| (entry.key.source as usize) < source);
     if place > u32::MAX as usize {
         return Err(NoMemory);
     }

@@ -1,23 +1,23 @@
-//! By what a rule is found: its class, the number of the set of its sources, and its target where that is one type.
+//! By what a rule is found: the number of the set of its sources, its class, and its target where that is one type.
 
 ghost use Rattle.std.specs.Prelude.{◌≡◌, ℕ, refl, suc};
 ghost use Rattle.std.specs.Cmp.{eq_by_cmp_equiv, partial_equiv_from_equiv, partial_order_from_total};
 ghost use Rattle.std.specs.Ordering.{as_partial_cmp, eq_by_cmp, ordering_index};
-ghost use Rattle.cil_index.specs.Entries.{entry_cmp, entry_total, in_key, key_cmp};
+ghost use Rattle.cil_index.specs.Entries.{aim_of, entry_cmp, entry_total, in_key, key_cmp};
 
 use std::cmp::Ordering;
 
 /// What stands in a key for all but one type, and for a number for which a key has no room.
 pub const SEVERAL: u32 = u32::MAX;
 
-/// A class, a set of sources and a target, by their numbers.
+/// A set of sources, a class and a target, by their numbers.
 #[derive(Clone, Copy, Debug)]
 pub struct Key {
+    /// The number of the type, if it is one alone.
+    pub target: u32,
     pub class: u32,
     /// The number of the set.
     pub source: u32,
-    /// The number of the type, if it is one alone.
-    pub target: u32,
 }
 
 /// A rule in the index.
@@ -53,14 +53,18 @@ pub fn next_key(number: usize) -> u32
     }
 }
 
-/// The order of keys: by class, source, target.
+/// The class and the target of a key as one number: a search compares them in one step.
+fn aim(key: &Key) -> u64
+    ensures { result ≡ aim_of key.now }
+{
+    key.class as u64 * (1 << 32) + key.target as u64
+}
+
+/// The order of keys: by source, class, target.
 pub fn compare(a: &Key, b: &Key) -> Ordering
     ensures { result ≡ key_cmp a.now b.now }
 {
-    a.class
-        .cmp(&b.class)
-        .then(a.source.cmp(&b.source))
-        .then(a.target.cmp(&b.target))
+    a.source.cmp(&b.source).then(aim(a).cmp(&aim(b)))
 }
 
 /// How an entry compares with a key: 0 where it is below, 1 where it has the key, 2 where it is above.

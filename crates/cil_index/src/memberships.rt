@@ -1,23 +1,23 @@
-//! The sets that have a type: by these the rules are found that have it among several sources.
+//! The sets that have a type: by these the rules are found that have it among several sources, and tested whether they reach it.
 
-ghost use Rattle.std.specs.Prelude.{◌≡◌, ◌<◌, ℕ, [], IfOk, MatchOption, OnOk, get_or, length};
-ghost use Rattle.cil_index.specs.Memberships.{AreMemberships, AreNoted, IsNoted, IsNotedIn, IsSetNoted};
+ghost use Rattle.std.specs.Prelude.{◌≡◌, ◌≤◌, ◌<◌, ◌↔◌, ℕ, [], Contains, IfOk, IsTrue, MatchOption, OnOk, get_or, length};
+ghost use Rattle.cil_index.specs.Memberships.{AreMemberships, AreNotedBelow, IsNoted, IsNotedIn};
 
 use crate::sets::Sets;
 use cil_base::NoMemory;
 use cil_sets::Numbers;
 use std::alloc::Global;
 
-/// A set of more types than this is asked for every type. So the numbers that are kept for the types of a set are bounded, and a set that
-/// has many of them is mostly asked for one of them.
+/// From the first set on that has more types than this, sets are asked for every type: they stand in the order of their lengths. So the numbers
+/// that are kept for the types of a set are bounded, and a set that has many of them is mostly asked for one of them.
 const MANY: usize = 1_024;
 
 /// The numbers of the sets of several types that have a type. They take 16 bytes for each block of 64 numbers of which a type has some.
 #[derive(Debug, Drop)]
 pub struct Memberships {
-    /// Those of the sets of more than 1,024 types.
-    pub large: Numbers,
-    /// For each type those of the others that have it.
+    /// The sets from this number on are asked for every type.
+    pub first_large: usize,
+    /// For each type the numbers of the others that have it.
     lists: Vec<Numbers>,
 }
 
@@ -37,38 +37,42 @@ impl Memberships {
     {
         self.lists.get(number)
     }
+
+    /// Whether a set is noted for a type. It costs a search by halving in the numbers of the type: they have few blocks.
+    pub fn has(&self, number: usize, set: usize) -> bool
+        ensures { IsTrue result ↔ Contains (get_or self.now.lists.items number []) set }
+    {
+        match self.of_type(number) {
+            Some(numbers) => numbers.contains(set),
+            None => false,
+        }
+    }
 }
 
 /// Those of these sets, where so many of one type alone stand in front. Errors: out of memory.
 fn noted(alloc: Global, ones: u32, several: &[Numbers]) -> Result<Memberships, NoMemory>
-    ensures { IfOk result (AreNoted ones several.now (length several.now)) }
+    ensures { IfOk result (AreNotedBelow ones several.now) }
 {
-    let mut memberships = Memberships {
-        large: Numbers::new(alloc),
-        lists: Vec::new(alloc),
-    };
-    for place in 0..several.len() {
+    let mut lists = Vec::new(alloc);
+    let small = before_large(several);
+    for place in 0..small {
         let number = place + ones as usize + 1;
-        note(alloc, &mut memberships, &several[place], number)?;
+        add_set(alloc, &mut lists, &several[place], number)?;
     }
-    Ok(memberships)
+    let first_large = small + ones as usize + 1;
+    Ok(Memberships { first_large, lists })
 }
 
-/// Adds the number of a set for its types. Errors: out of memory.
-fn note(
-    alloc: Global,
-    memberships: &mut Memberships,
-    set: &Numbers,
-    number: usize,
-) -> Result<(), NoMemory>
-    ensures { OnOk result (IsSetNoted memberships.old set.now number memberships.new) }
+/// How many sets stand before the first large one.
+fn before_large(several: &[Numbers]) -> usize
+    ensures { result ≤ length several.now }
 {
-    if set.len() > MANY {
-        memberships.large.add(number)?;
-    } else {
-        add_set(alloc, &mut memberships.lists, set, number)?;
+    for place in 0..several.len() {
+        if several[place].len() > MANY {
+            return place;
+        }
     }
-    Ok(())
+    several.len()
 }
 
 /// Adds the number of a set to the list of each of its types. Errors: out of memory.

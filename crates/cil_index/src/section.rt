@@ -14,7 +14,7 @@ ghost use Rattle.cil_index.specs.Memberships.{AreMemberships};
 ghost use Rattle.cil_index.specs.Sections.{IsIndexed, rules_of};
 ghost use Rattle.cil_index.specs.Sets.{AreNumbered};
 
-use crate::cover::{Asked, Searched, covered, mask_at};
+use crate::cover::{Asked, Index, Searched, covered, mask_at};
 use crate::index::{index_of, starts_of};
 use crate::key::Entry;
 use crate::memberships::Memberships;
@@ -27,7 +27,7 @@ use cil_sets::Numbers;
 use std::alloc::Global;
 use std::marker::Model;
 
-/// Rules of one kind: their records in their order, an entry for each, and where the entries of each class begin.
+/// Rules of one kind: their records in their order, an entry for each, and where the entries of each set of sources begin.
 #[derive(Debug, Drop)]
 struct Indexed {
     records: Vec<Record>,
@@ -70,14 +70,13 @@ pub struct NamedRules {
 }
 
 impl Sections {
-    /// These rules in their order, each once, where these are the sets of declared names and the branches of conditions, and there are so
-    /// many classes. It costs a look-up of each set, and two sorts of the rules by numbers. Errors: out of memory.
+    /// These rules in their order, each once, where these are the sets of declared names and the branches of conditions. It costs a look-up of
+    /// each set, two sorts of the rules by numbers, and a search by halving for each set among them. Errors: out of memory.
     pub fn of(
         alloc: Global,
         rules: &NamedRules,
         named: &[Numbers],
         branches: Vec<Branch>,
-        classes: usize,
     ) -> Result<Sections, NoMemory>
         requires { IsStrictlySortedBy branch_cmp branches.items }
         ensures allow { IfOk result (λ s. Lists rule_cmp (Contains (map (rule_named branches.items named.now) rules.now.allow.items)) s.allow) }
@@ -87,16 +86,9 @@ impl Sections {
         let sets = Sets::of(alloc, named)?;
         let memberships = Memberships::of(alloc, &sets)?;
         let numbers = numbers_of(alloc, &sets, named)?;
-        let allow = index_rules(alloc, &branches, &sets, &numbers, &rules.allow, classes)?;
-        let auditallow = index_rules(
-            alloc,
-            &branches,
-            &sets,
-            &numbers,
-            &rules.auditallow,
-            classes,
-        )?;
-        let dontaudit = index_rules(alloc, &branches, &sets, &numbers, &rules.dontaudit, classes)?;
+        let allow = index_rules(alloc, &branches, &sets, &numbers, &rules.allow)?;
+        let auditallow = index_rules(alloc, &branches, &sets, &numbers, &rules.auditallow)?;
+        let dontaudit = index_rules(alloc, &branches, &sets, &numbers, &rules.dontaudit)?;
         Ok(Sections {
             branches,
             sets,
@@ -107,9 +99,9 @@ impl Sections {
         })
     }
 
-    /// The permissions that are allowed on a class and a pair of types, by these settings. It takes no memory: it costs three searches by
-    /// halving for each set that has the source, a test of each of their rules on the class that reaches several types, and a step for each
-    /// part of the condition of one that covers.
+    /// The permissions that are allowed on a class and a pair of types, by these settings. It takes no memory: for each set that has the source,
+    /// and for each of more than 1,024 types, it costs two searches by halving among the rules from this set, a test of each of these on the
+    /// class that reaches the target alone or several types, and a step for each part of the condition of one that covers.
     pub fn allowed(&self, settings: &Settings, asked: &Asked) -> u32
         ensures { (bit : ℕ) → IsBitSet result bit ↔ HasCover (is_on settings.now) self.now.allow asked.now.source asked.now.target asked.now.class bit }
     {
@@ -191,9 +183,11 @@ fn covered_in(
         memberships,
         records: rules.records.as_slice(),
     };
-    let entries = rules.entries.as_slice();
-    let starts = rules.starts.as_slice();
-    covered(&searched, entries, starts, settings, asked)
+    let index = Index {
+        entries: rules.entries.as_slice(),
+        starts: rules.starts.as_slice(),
+    };
+    covered(&searched, &index, settings, asked)
 }
 
 /// Rules of one kind with their index. Errors: out of memory.
@@ -203,7 +197,6 @@ fn index_rules(
     sets: &Sets,
     numbers: &Vec<u32>,
     rules: &Vec<NamedRule>,
-    classes: usize,
 ) -> Result<Indexed, NoMemory>
     requires { IsStrictlySortedBy branch_cmp branches.now.items }
     ensures index { IfOk result (IsIndexed sets.now) }
@@ -213,8 +206,8 @@ fn index_rules(
     let branches = branches.as_slice();
     let records = records_of(alloc, branches, numbers.as_slice(), rules.as_slice())?;
     let entries = index_of(alloc, sets, records.as_slice())?;
-    // Where a class ends is where the next begins.
-    let starts = starts_of(alloc, entries.as_slice(), classes.saturating_add(1))?;
+    // Where the entries of a source end is where those of the next begin.
+    let starts = starts_of(alloc, entries.as_slice(), sets.count().saturating_add(1))?;
     Ok(Indexed {
         records,
         entries,

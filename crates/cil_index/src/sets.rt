@@ -1,6 +1,6 @@
 //! Sets of types by numbers.
 
-ghost use Rattle.std.specs.Prelude.{◌≡◌, ◌↔◌, ◌<◌, ℕ, suc, [], Contains, IfOk, IsTrue, List, OnOk, Some, length, slice_get};
+ghost use Rattle.std.specs.Prelude.{◌≡◌, ◌↔◌, ◌<◌, ℕ, suc, [], ◌∷◌, Contains, IfOk, IsTrue, List, OnOk, Some, length, slice_get};
 ghost use Rattle.std.specs.List.Sorted.{IsStrictlySortedBy};
 ghost use Rattle.cil_sets.specs.Answers.{set_cmp};
 ghost use Rattle.cil_index.specs.Entries.{key_of_set};
@@ -126,6 +126,21 @@ impl Sets {
             Some(set) => set.contains(number),
             None => false,
         }
+    }
+
+    /// How many there are.
+    pub fn count(&self) -> usize
+        ensures { result ≡ length self.now }
+    {
+        self.several.len() + self.ones as usize + 1
+    }
+
+    /// Whether a set stands behind those of one type alone.
+    pub fn is_several(&self, set: u32) -> bool
+        ensures { IsTrue result → (t : ℕ) → set_of self.now set ≡ t ∷ [] → ⊥ }
+    {
+        let _ = &self.several;
+        set > self.ones
     }
 
     /// Those of several types, and how many sets of one type alone stand in front of them.

@@ -5,7 +5,7 @@ use Rattle.std.proofs.Math.Dec.{eqb}
 use Rattle.std.proofs.Math.ListN.{set}
 use Rattle.std.proofs.lemmas.Bool.Decides.{eqb_tells}
 use Rattle.std.proofs.lemmas.List.{get_or_default, get_or-set_other, get_or-set_same, length-set, take_all, take_more}
-use Rattle.std.proofs.lemmas.List.Elements.{Contains-append_cases, Contains-append_left, Contains-append_right}
+use Rattle.std.proofs.lemmas.List.Elements.{Contains-append_cases}
 use Rattle.cil_base.specs.Lists.{contains_cases, contains_none}
 use Rattle.cil_base.specs.MadeLists.{from_map}
 use Rattle.cil_classes.proofs.BitLemmas.{none_set, set_in_both, set_in_either}
@@ -18,7 +18,7 @@ use Rattle.cil_neverallow.specs.declared.overlap.Overlap.{Overlap}
 use Rattle.cil_neverallow.specs.Overlaps.{IsOverlap}
 use Rattle.cil_neverallow.specs.declared.forbidden.View.{View}
 use Rattle.cil_neverallow.specs.Permissions.{AreApart, AreIn, AreJoined, IsApart}
-use Rattle.cil_neverallow.specs.Stated.{AreLeftOut, Stated, nothing_stated, stated_at}
+use Rattle.cil_neverallow.specs.Stated.{Keeps, Stated}
 use Rattle.cil_neverallow.specs.Violations.{IsViolation}
 
 -- ---- the permissions of rules
@@ -113,55 +113,15 @@ no_overlap sets forbidden all allowed masks among are apart o both =
 
 -- ---- statements
 
--- the first of the statements that were looked at
-pub record AreKept (masks : List ℕ) (first kept : List Stated) : Type 0 where
-  pub among : (st : Stated) → Contains kept st → Contains first st
-  pub rest : AreLeftOut masks first kept
-
-pub none_kept : (masks : List ℕ) (kept : List Stated) → kept ≡ [] → AreKept masks [] kept
-none_kept masks kept none = record { among = λ st c. absurd (contains_none st (subst (λ l. Contains l st) none c)); rest = λ st c. absurd (contains_none st c) }
-
-module _ (masks : List ℕ) (sts : List Stated) (i : ℕ) (st : Stated) (within : i < length sts) (is : st ≡ stated_at sts i) where
-  taken : take (i + 1) sts ≡ take i sts ++ st ∷ []
-  taken = take_more sts i nothing_stated within ∙ ap (λ (z : Stated). take i sts ++ z ∷ []) (sym is)
-
-  earlier : (other : Stated) → Contains (take i sts) other → Contains (take (i + 1) sts) other
-  earlier other c = subst (λ l. Contains l other) (sym taken) (Contains-append_left (take i sts) (st ∷ []) other c)
-
-  -- one statement more is kept
-  pub kept_more : (old new : List Stated) → AreKept masks (take i sts) old → new ≡ old ++ st ∷ [] → AreKept masks (take (i + 1) sts) new
-  kept_more old new so_far push = record {
-    among = λ other c. elim (Contains-append_cases old (st ∷ []) other (subst (λ l. Contains l other) push c)) [
-      | inl d ↦ earlier other (so_far.among other d)
-      | inr d ↦ subst (λ l. Contains l other) (sym taken) (Contains-append_right (take i sts) (st ∷ []) other d)
-    ];
-    rest = λ other c. elim (Contains-append_cases (take i sts) (st ∷ []) other (subst (λ l. Contains l other) taken c)) [
-      | inl d ↦ elim (so_far.rest other d) [ inl e ↦ inl (subst (λ l. Contains l other) (sym push) (Contains-append_left old (st ∷ []) other e)) | inr e ↦ inr e ]
-      | inr d ↦ inl (subst (λ l. Contains l other) (sym push) (Contains-append_right old (st ∷ []) other d))
-    ];
-  }
-
-  -- or it is left out
-  pub left_more : (kept : List Stated) → AreKept masks (take i sts) kept → AreApart masks st.rules → AreKept masks (take (i + 1) sts) kept
-  left_more kept so_far apart = record {
-    among = λ other c. earlier other (so_far.among other c);
-    rest = λ other c. elim (Contains-append_cases (take i sts) (st ∷ []) other (subst (λ l. Contains l other) taken c)) [
-      | inl d ↦ so_far.rest other d
-      | inr d ↦ elim (contains_cases other st [] d) [ inl e ↦ inr (subst (λ (z : Stated). AreApart masks z.rules) e apart) | inr m ↦ absurd (contains_none other m) ]
-    ];
-  }
-
-pub kept_all : (masks : List ℕ) (sts : List Stated) (i : ℕ) (kept : List Stated) → length sts ≤ i → AreKept masks (take i sts) kept → AreKept masks sts kept
-kept_all masks sts i kept over are = subst (λ l. AreKept masks l kept) (take_all i sts over) are
-
--- those that are left out are in no fault
+-- those that are not kept are in no fault
 module _ (at : ℕ → Item) (v : View) (forbidden allowed kept : List Stated) (all : List NamedRule) (masks : List ℕ) (among : (st : Stated) (r : NamedRule) → Contains forbidden st → Contains st.rules r → Contains all r)
-    (are : AreIn all masks) (subset : (st : Stated) → Contains kept st → Contains allowed st) (rest : AreLeftOut masks allowed kept) (f : Fault) where
+    (are : AreIn all masks) (keeps : Keeps masks allowed kept) (f : Fault) where
   pub same_there : IsViolation at v forbidden kept f → IsViolation at v forbidden allowed f
-  same_there w = record { statement = w.statement; is_statement = w.is_statement; meet = record { other = w.meet.other; is_other = subset w.meet.other w.meet.is_other; meet = w.meet.meet } }
+  same_there w =
+      record { statement = w.statement; is_statement = w.is_statement; meet = record { other = w.meet.other; is_other = keeps.among w.meet.other w.meet.is_other; meet = w.meet.meet } }
 
   pub same_back : IsViolation at v forbidden allowed f → IsViolation at v forbidden kept f
-  same_back w = elim (rest w.meet.other w.meet.is_other) [
+  same_back w = elim (keeps.rest w.meet.other w.meet.is_other) [
     | inl c ↦ record { statement = w.statement; is_statement = w.is_statement; meet = record { other = w.meet.other; is_other = c; meet = w.meet.meet } }
     | inr apart ↦ absurd (no_overlap v.sets.now w.statement.rules all w.meet.other.rules masks (λ r c. among w.statement r w.is_statement c) are apart w.meet.meet.overlap w.meet.meet.least.is)
   ]

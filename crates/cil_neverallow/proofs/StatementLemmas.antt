@@ -13,7 +13,8 @@ use Rattle.cil_rules.specs.Kept.{rule_named}
 use Rattle.cil_rules.specs.Rule.{Rule}
 use Rattle.cil_rules.specs.declared.rule.NamedRule.{NamedRule}
 use Rattle.cil_neverallow.specs.declared.statements.Run.{Run}
-use Rattle.cil_neverallow.specs.Stated.{AreHereOr, AreRunsIn, AreStatements, IsAdded, IsRunIn, Stated, nothing_stated, stated_at, stated_in}
+use Rattle.cil_neverallow.specs.Permissions.{AreApart}
+use Rattle.cil_neverallow.specs.Stated.{AreHereOr, AreKept, AreRunsIn, AreStatements, IsAdded, IsRunIn, Keeps, Stated, nothing_stated, stated_at, stated_in}
 
 -- ---- parts of one list
 
@@ -137,58 +138,116 @@ one_here old new st push s c = elim (Contains-append_cases old (st ∷ []) s (su
 pub places_more : (old new : List Stated) (i n : ℕ) → i < n → ((st : Stated) → Contains old st → st.place < n) → AreHereOr old i new → (st : Stated) → Contains new st → st.place < n
 places_more old new i n within below here st c = elim (here st c) [ inl d ↦ below st d | inr e ↦ (let h = e in omega (arith, h, within)) ]
 
+-- those that are kept of one statement more
+module _ {masks : List ℕ} (all old new : List Stated) (one : Stated) (keeps : Keeps masks all old) where
+  with_one : new ≡ old ++ one ∷ [] → Keeps masks (all ++ one ∷ []) new
+  with_one push = record {
+    among = λ st c. elim (Contains-append_cases old (one ∷ []) st (subst (λ l. Contains l st) push c)) [
+      | inl d ↦ Contains-append_left all (one ∷ []) st (keeps.among st d)
+      | inr d ↦ Contains-append_right all (one ∷ []) st d
+    ];
+    rest = λ st c. elim (Contains-append_cases all (one ∷ []) st c) [
+      | inl d ↦ elim (keeps.rest st d) [ inl e ↦ inl (subst (λ l. Contains l st) (sym push) (Contains-append_left old (one ∷ []) st e)) | inr e ↦ inr e ]
+      | inr d ↦ inl (subst (λ l. Contains l st) (sym push) (Contains-append_right old (one ∷ []) st d))
+    ];
+  }
+
+  without_one : new ≡ old → AreApart masks one.rules → Keeps masks (all ++ one ∷ []) new
+  without_one same apart = record {
+    among = λ st c. Contains-append_left all (one ∷ []) st (keeps.among st (subst (λ l. Contains l st) same c));
+    rest = λ st c. elim (Contains-append_cases all (one ∷ []) st c) [
+      | inl d ↦ elim (keeps.rest st d) [ inl e ↦ inl (subst (λ l. Contains l st) (sym same) e) | inr e ↦ inr e ]
+      | inr d ↦ elim (contains_cases st one [] d) [ inl e ↦ inr (subst (λ (z : Stated). AreApart masks z.rules) e apart) | inr m ↦ absurd (contains_none st m) ]
+    ];
+  }
+
 module _ {K : Type 0} (asked : Item → K → Type 0) (gives : K → Rule → Type 0) (sets : List (List ℕ)) where
   -- rules that were put into an empty room are those of the statement
   pub of_room : (x : Item) (old new : List NamedRule) → old ≡ [] → AreBehind asked gives x (map (rule_named [] sets) old) (map (rule_named [] sets) new) → AreRecordsOf asked gives (x ∷ []) (map (rule_named [] sets) new)
   of_room x old new empty behind =
       subst (AreRecordsOf asked gives (x ∷ [])) (sym (behind.behind ∙ ap (λ l. map (rule_named [] sets) l ++ behind.records) empty)) behind.are
 
-  -- a statement without rules has no case
-  pub no_rules : (x : Item) (rules : List NamedRule) (sts : List Stated) (place : ℕ) → rules ≡ [] → AreRecordsOf asked gives (x ∷ []) (map (rule_named [] sets) rules) → IsAdded asked gives sets x place sts sts
-  no_rules x rules sts place empty are = inl (
-    refl,
-    λ k is. let r = are.each x k (contains_here x []) is in contains_none r.0 (subst (λ l. Contains (map (rule_named [] sets) l) r.0) empty r.2),
-  )
+  -- a statement that has a rule with one of the permissions is put behind those that are kept
+  pub was_kept : (masks : List ℕ) (x : Item) (rules : List NamedRule) (old new : List Stated) (place : ℕ) → new ≡ old ++ record { place = place; rules = rules } ∷ []
+      → AreRecordsOf asked gives (x ∷ []) (map (rule_named [] sets) rules) → IsAdded masks asked gives sets x place old new
+  was_kept masks x rules old new place push are = record { statement = record { place = place; rules = rules }; stands = refl; rules = are; kept = inl push }
 
-  pub some_rules : (x : Item) (rules : List NamedRule) (old new : List Stated) (place : ℕ) → new ≡ old ++ record { place = place; rules = rules } ∷ []
-      → AreRecordsOf asked gives (x ∷ []) (map (rule_named [] sets) rules) → IsAdded asked gives sets x place old new
-  some_rules x rules old new place push are = inr (record { place = place; rules = rules }, push, refl, are)
+  -- or it has none
+  pub was_left : (masks : List ℕ) (x : Item) (rules : List NamedRule) (old new : List Stated) (place : ℕ) → new ≡ old → AreApart masks rules
+      → AreRecordsOf asked gives (x ∷ []) (map (rule_named [] sets) rules) → IsAdded masks asked gives sets x place old new
+  was_left masks x rules old new place same apart are = record { statement = record { place = place; rules = rules }; stands = refl; rules = are; kept = inr (same, apart) }
 
   module _ (at : ℕ → Item) where
-    pub no_statements : AreStatements asked gives sets at 0 []
+    no_statements : AreStatements asked gives sets at 0 []
     no_statements = record {
       each = λ st c. absurd (contains_none st c);
       all = λ place k below is. absurd (omega (arith, below));
     }
 
     -- one place more
-    pub statements_more : (i : ℕ) (old new : List Stated) → AreStatements asked gives sets at i old → IsAdded asked gives sets (at i) i old new → AreStatements asked gives sets at (i + 1) new
-    statements_more i old new so_far added = elim added [
-      | inl none ↦ record {
-        each = λ st c. so_far.each st (subst (λ z. Contains z st) none.0 c);
-        all = λ place k below is. elim (before_or place i below) [
-          | inl less ↦ let s = so_far.all place k less is in (s.0, subst (λ z. Contains z s.0) (sym none.0) s.1, s.2)
-          | inr e ↦ absurd (none.1 k (subst (λ p. asked (at p) k) e is))
-        ];
-      }
-      | inr one ↦ record {
-        each = λ st c. elim (Contains-append_cases old (one.0 ∷ []) st (subst (λ z. Contains z st) one.1 c)) [
-          | inl d ↦ so_far.each st d
-          | inr d ↦ elim (contains_cases st one.0 [] d) [
-            | inl e ↦ subst (λ (z : Stated). AreRecordsOf asked gives (at z.place ∷ []) (map (rule_named [] sets) z.rules)) e
-                (subst (λ p. AreRecordsOf asked gives (at p ∷ []) (map (rule_named [] sets) one.0.rules)) (sym one.2) one.3)
-            | inr n ↦ absurd (contains_none st n)
-          ]
-        ];
-        all = λ place k below is. elim (before_or place i below) [
-          | inl less ↦ let s = so_far.all place k less is in (s.0, subst (λ z. Contains z s.0) (sym one.1) (Contains-append_left old (one.0 ∷ []) s.0 s.1), s.2)
-          | inr e ↦ (one.0, subst (λ z. Contains z one.0) (sym one.1) (Contains-append_right old (one.0 ∷ []) one.0 (contains_here one.0 [])), one.2 ∙ sym e)
-        ];
-      }
-    ]
+    statements_more : (i : ℕ) (sts : List Stated) (one : Stated) → one.place ≡ i → AreRecordsOf asked gives (at i ∷ []) (map (rule_named [] sets) one.rules)
+        → AreStatements asked gives sets at i sts → AreStatements asked gives sets at (i + 1) (sts ++ one ∷ [])
+    statements_more i sts one stands rules so_far = record {
+      each = λ st c. elim (Contains-append_cases sts (one ∷ []) st c) [
+        | inl d ↦ so_far.each st d
+        | inr d ↦ elim (contains_cases st one [] d) [
+          | inl e ↦ subst (λ (z : Stated). AreRecordsOf asked gives (at z.place ∷ []) (map (rule_named [] sets) z.rules)) e
+              (subst (λ p. AreRecordsOf asked gives (at p ∷ []) (map (rule_named [] sets) one.rules)) (sym stands) rules)
+          | inr n ↦ absurd (contains_none st n)
+        ]
+      ];
+      all = λ place k below is. elim (before_or place i below) [
+        | inl less ↦ let s = so_far.all place k less is in (s.0, Contains-append_left sts (one ∷ []) s.0 s.1, s.2)
+        | inr e ↦ (one, Contains-append_right sts (one ∷ []) one (contains_here one []), stands ∙ sym e)
+      ];
+    }
       where
         before_or : (p j : ℕ) → p < j + 1 → (p < j) ⊎ (p ≡ j)
         before_or p j h = grind arith
 
-    pub all_statements : (i n : ℕ) (sts : List Stated) → n ≤ i → AreStatements asked gives sets at i sts → AreStatements asked gives sets at n sts
-    all_statements i n sts over are = record { each = are.each; all = λ place k below is. are.all place k (omega (arith, below, over)) is }
+    module _ (masks : List ℕ) where
+      pub none_kept : (kept : List Stated) → kept ≡ [] → AreKept masks asked gives sets at 0 kept
+      none_kept kept none = record {
+        all = [];
+        within = λ st c. absurd (contains_none st c);
+        are = no_statements;
+        keeps = record { among = λ st c. absurd (contains_none st (subst (λ l. Contains l st) none c)); rest = λ st c. absurd (contains_none st c) };
+      }
+
+      -- one place more: its statement is kept or not
+      pub kept_more : (i : ℕ) (old new : List Stated) → AreKept masks asked gives sets at i old → IsAdded masks asked gives sets (at i) i old new → AreKept masks asked gives sets at (i + 1) new
+      kept_more i old new so_far added = record {
+        all = so_far.all ++ one ∷ [];
+        within = λ st c. elim (Contains-append_cases so_far.all (one ∷ []) st c) [
+          | inl d ↦ let w = so_far.within st d in omega (arith, w)
+          | inr d ↦ elim (contains_cases st one [] d) [
+            | inl e ↦ let p = ap (λ (z : Stated). z.place) (sym e) ∙ added.stands in omega (arith, p)
+            | inr n ↦ absurd (contains_none st n)
+          ]
+        ];
+        are = statements_more i so_far.all one added.stands added.rules so_far.are;
+        keeps = elim added.kept [ inl push ↦ with_one so_far.all old new one so_far.keeps push | inr left ↦ without_one so_far.all old new one so_far.keeps left.0 left.1 ];
+      }
+        where
+          one : Stated
+          one = added.statement
+
+      pub all_kept : (i n : ℕ) (kept : List Stated) → n ≤ i → i ≤ n → AreKept masks asked gives sets at i kept → AreKept masks asked gives sets at n kept
+      all_kept i n kept over up are = subst (λ k. AreKept masks asked gives sets at k kept) (omega (arith, over, up)) are
+
+    -- without masks each statement that has a case is kept
+    pub each_kept : (masks : List ℕ) (n : ℕ) (kept : List Stated) → masks ≡ [] → AreKept masks asked gives sets at n kept → AreStatements asked gives sets at n kept
+    each_kept masks n kept none are = record {
+      each = λ st c. are.are.each st (are.keeps.among st c);
+      all = λ place k below is. let s = are.are.all place k below is in elim (are.keeps.rest s.0 s.1) [
+        | inl c ↦ (s.0, c, s.2)
+        | inr apart ↦ absurd (no_case s.0 k (are.are.each s.0 s.1) (subst (λ p. asked (at p) k) (sym s.2) is) (subst (λ l. AreApart l s.0.rules) none apart))
+      ];
+    }
+      where
+        no_case : (st : Stated) (k : K) → AreRecordsOf asked gives (at st.place ∷ []) (map (rule_named [] sets) st.rules) → asked (at st.place) k → AreApart [] st.rules → ⊥
+        no_case st k of_it is apart =
+            let r = of_it.each (at st.place) k (contains_here (at st.place) []) is in
+            let (named, there, e) = from_map (rule_named [] sets) st.rules r.0 r.2 in
+            let w = (apart named there).within in
+            omega (arith, w)

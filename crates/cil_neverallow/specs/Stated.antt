@@ -28,15 +28,24 @@ pub record AreStatements {K : Type 0} (asked : Item → K → Type 0) (gives : K
 
 -- ---- private words
 
--- a statement that was not kept has no rule with one of these permissions
-abbrev pub AreLeftOut : List ℕ → List Stated → List Stated → Type 0
-AreLeftOut masks sts kept = (st : Stated) → Contains sts st → Contains kept st ⊎ AreApart masks st.rules
+-- some statements are kept, and any other has no rule with one of these permissions
+pub record Keeps (masks : List ℕ) (all kept : List Stated) : Type 0 where
+  pub among : (st : Stated) → Contains kept st → Contains all st
+  pub rest : (st : Stated) → Contains all st → Contains kept st ⊎ AreApart masks st.rules
 
--- the statement at a place was put behind others, if it has a case
-abbrev pub IsAdded : {K : Type 0} → (Item → K → Type 0) → (K → Rule → Type 0) → List (List ℕ) → Item → ℕ → List Stated → List Stated → Type 0
-IsAdded {K} asked gives sets x place old new =
-    ((new ≡ old) × ((k : K) → asked x k → ⊥))
-    ⊎ ((st : Stated) × (new ≡ old ++ st ∷ []) × (st.place ≡ place) × AreRecordsOf asked gives (x ∷ []) (map (rule_named [] sets) st.rules))
+-- these are kept of the statements with their rules, each of which is one of the first n
+pub record AreKept {K : Type 0} (masks : List ℕ) (asked : Item → K → Type 0) (gives : K → Rule → Type 0) (sets : List (List ℕ)) (at : ℕ → Item) (n : ℕ) (kept : List Stated) : Type 0 where
+  pub all : List Stated
+  pub within : (st : Stated) → Contains all st → st.place < n
+  pub are : AreStatements asked gives sets at n all
+  pub keeps : Keeps masks all kept
+
+-- the statement at a place, which may have no rules, was put behind those that are kept, or it has no rule with one of these permissions
+pub record IsAdded {K : Type 0} (masks : List ℕ) (asked : Item → K → Type 0) (gives : K → Rule → Type 0) (sets : List (List ℕ)) (x : Item) (place : ℕ) (old new : List Stated) : Type 0 where
+  pub statement : Stated
+  pub stands : statement.place ≡ place
+  pub rules : AreRecordsOf asked gives (x ∷ []) (map (rule_named [] sets) statement.rules)
+  pub kept : (new ≡ old ++ statement ∷ []) ⊎ ((new ≡ old) × AreApart masks statement.rules)
 
 -- each was there, or is at this place
 abbrev pub AreHereOr : List Stated → ℕ → List Stated → Type 0

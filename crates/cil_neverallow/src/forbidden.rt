@@ -4,6 +4,7 @@ ghost use Rattle.std.specs.Prelude.{◌≡◌, ◌↔◌, ◌⊎◌, ◌<◌, Co
 ghost use Rattle.std.specs.List.Sorted.{IsStrictlySortedBy};
 ghost use Rattle.cil_faults.specs.declared.fault.Fault.{Fault as AFault};
 ghost use Rattle.cil_faults.specs.Refusal.{Answers};
+ghost use Rattle.cil_syntax.specs.declared.kind.Keyword.TheVariants as keywords;
 ghost use Rattle.cil_syntax.specs.declared.kind.Kind.TheVariants as variants;
 ghost use Rattle.cil_macros.specs.Items.{item_at, items_in};
 ghost use Rattle.cil_names.specs.Known.{enabled_in, row_in};
@@ -11,14 +12,15 @@ ghost use Rattle.cil_names.specs.Rows.{IsTableOf};
 ghost use Rattle.cil_classes.specs.NodeOrder.{node_cmp};
 ghost use Rattle.cil_classes.specs.Row.{AreOrderlyRows};
 ghost use Rattle.cil_rules.specs.ForNames.{ForNames};
+ghost use Rattle.cil_rules.specs.Records.{CaseBy, IsRuleOf, ignored};
 ghost use Rattle.cil_neverallow.specs.NeverFaults.{NeverFault};
-ghost use Rattle.cil_neverallow.specs.Stated.{Stated, stated_of};
+ghost use Rattle.cil_neverallow.specs.Stated.{AreStatements, Stated, stated_of};
 ghost use Rattle.cil_neverallow.specs.Violations.{AreAlways, AreAmong, IsOne, IsPair, IsViolation};
 
 use crate::index::{index_of, may_meet};
 use crate::overlap::least;
 use crate::permissions::permissions_of;
-use crate::statements::{Part, Statements, statements_of, with_permissions};
+use crate::statements::{Part, Statements, statements_of};
 use crate::told::push_told;
 use cil_base::{Bytes, NoMemory};
 use cil_classes::{Class, GivenPermissions};
@@ -45,10 +47,10 @@ pub struct View<'s> {
 /// which it covers too, whatever branches of booleanifs they are in. Each two of them are one fault, which names the least of what both cover,
 /// by source, then target, then class, then permission. (CIL Reference Guide, "neverallow".)
 ///
-/// The cost: with no neverallow statement, a step for each instance. Else the allow rules are made once more, and those of statements that
-/// allow something which is forbidden of their class are sorted. A neverallow statement of one type a side then costs a question to their
-/// index for each of its classes, if none of them meets it; any other costs a comparison with each of them, and so do 10,000 of them with
-/// 100,000 such statements 1,000,000,000.
+/// The cost: with no neverallow statement, a step for each instance. Else the rules of each allow statement are made once more, one statement
+/// after another in the same room, and those of statements that allow something which is forbidden of their class are kept and sorted. A
+/// neverallow statement of one type a side then costs a question to their index for each of its classes, if none of them meets it; any other
+/// costs a comparison with each of them, and so do 10,000 of them with 100,000 such statements 1,000,000,000.
 ///
 /// Errors: the faults, 65 each; or out of memory.
 pub fn violations(
@@ -64,47 +66,53 @@ pub fn violations(
     ensures { ForNames known.now (items_in instances.now) view.now.sets.now view.now.classes.now given.now (λ names.
         names variants.Type_ ≡ view.now.types.now → Answers (λ done. Unit {0}) (NeverFault (items_in instances.now) (enabled_in known.now)) result) }
 {
-    let (sets, classes) = (view.sets, view.classes);
     let forbidden = statements_of(
         alloc,
+        &[],
         instances,
         known,
-        sets,
-        classes,
+        view.sets,
+        view.classes,
         given,
         Keyword::NeverAllow,
     )?;
     if forbidden.len() == 0 {
         return Ok(());
     }
-    let allowed = statements_of(
-        alloc,
-        instances,
-        known,
-        sets,
-        classes,
-        given,
-        Keyword::Allow,
-    )?;
-    check(alloc, instances, view, &forbidden, &allowed)
+    check(alloc, instances, known, view, given, &forbidden)
 }
 
-/// Refuses what statements forbid and others allow. Those that allow nothing which any of the others forbids are left out first: in most
-/// policies nearly all.
+/// Refuses what these neverallow statements forbid. Of the allow statements only those are kept that allow something which is forbidden of its
+/// class: in most policies few.
 fn check(
     alloc: Global,
     instances: &Instances,
+    known: &Known,
     view: &View,
+    given: &GivenPermissions,
     forbidden: &Statements,
-    allowed: &Statements,
 ) -> Result<(), Failure>
+    requires table { IsTableOf (map (row_in known.now) (items_in instances.now)) known.now.words.now }
+    requires rows { AreOrderlyRows view.now.classes.now }
+    requires nodes { IsStrictlySortedBy node_cmp given.now.nodes.items }
     requires forbidden { (st : Stated) → Contains forbidden.now st → st.place < length (items_in instances.now) }
-    requires allowed { (st : Stated) → Contains allowed.now st → st.place < length (items_in instances.now) }
-    ensures { Answers (λ done. Unit {0}) (IsViolation (item_at instances.now) view.now forbidden.now allowed.now) result }
+    ensures { ForNames known.now (items_in instances.now) view.now.sets.now view.now.classes.now given.now (λ names. names variants.Type_ ≡ view.now.types.now
+        → AreStatements (CaseBy (items_in instances.now) (enabled_in known.now) keywords.NeverAllow ignored)
+        (IsRuleOf (items_in instances.now) (enabled_in known.now) (names variants.Type_) view.now.classes.now ignored) view.now.sets.now (item_at instances.now) (length (items_in instances.now)) forbidden.now
+        → Answers (λ done. Unit {0}) (NeverFault (items_in instances.now) (enabled_in known.now)) result) }
 {
     let masks = permissions_of(alloc, forbidden.all_rules(), view.classes.len())?;
-    let near = with_permissions(alloc, masks.as_slice(), allowed)?;
-    compare(alloc, instances, view, forbidden, &near)
+    let allowed = statements_of(
+        alloc,
+        masks.as_slice(),
+        instances,
+        known,
+        view.sets,
+        view.classes,
+        given,
+        Keyword::Allow,
+    )?;
+    compare(alloc, instances, view, forbidden, &allowed)
 }
 
 /// Refuses what statements forbid and others allow: each is compared with each.

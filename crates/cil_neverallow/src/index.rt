@@ -27,13 +27,7 @@ pub fn index_of(alloc: Global, view: &View, allowed: &Statements) -> Result<Sect
         auditallow: Vec::new(alloc),
         dontaudit: Vec::new(alloc),
     };
-    let index = Sections::of(
-        alloc,
-        &rules,
-        view.sets,
-        Vec::new(alloc),
-        view.classes.len(),
-    )?;
+    let index = Sections::of(alloc, &rules, view.sets, Vec::new(alloc))?;
     Ok(index)
 }
 

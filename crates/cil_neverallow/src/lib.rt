@@ -2,9 +2,10 @@
 //!
 //! Start at `violations` in `forbidden.rt`. `specs/NeverFaults.antt` says which faults a policy has for its neverallow statements, by names.
 //! `specs/Overlaps.antt` says what the rules of two statements cover together and which of it is the least, and `specs/Violations.antt` which
-//! faults that gives, both by numbers. `statements.rt` keeps statements with their rules (`specs/Stated.antt`), `permissions.rt` tells which allow
-//! statements have no permission that is forbidden, `index.rt` which neverallow statements can meet none, `overlap.rt` compares two, and
-//! `told.rt` says what is told of them. No branch of a booleanif is asked of a statement: both count. What a rule says is read a crate below.
+//! faults that gives, both by numbers. `statements.rt` keeps statements with their rules (`specs/Stated.antt`): all neverallow statements, and of
+//! the allow statements those that have a permission which is forbidden, as `permissions.rt` tells. `index.rt` tells which neverallow
+//! statements can meet none of them, `overlap.rt` compares two, and `told.rt` says what is told of them. No branch of a booleanif is asked of a
+//! statement: both count. What a rule says is read a crate below.
 #![tactic(auto)]
 
 mod forbidden;

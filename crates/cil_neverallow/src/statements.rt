@@ -12,7 +12,7 @@ ghost use Rattle.cil_classes.specs.Row.{AreOrderlyRows};
 ghost use Rattle.cil_rules.specs.declared.rule.NamedRule.{NamedRule as ARule};
 ghost use Rattle.cil_rules.specs.ForNames.{ForNames};
 ghost use Rattle.cil_rules.specs.Records.{CaseBy, IsRuleOf, ignored};
-ghost use Rattle.cil_neverallow.specs.Stated.{AreHereOr, AreLeftOut, AreStatements, IsAdded, IsRunIn, Stated, stated_at, stated_in, stated_of};
+ghost use Rattle.cil_neverallow.specs.Stated.{AreHereOr, AreKept, IsAdded, IsRunIn, Stated, stated_at, stated_in, stated_of};
 
 use crate::permissions::name_some;
 use cil_base::NoMemory;
@@ -108,25 +108,6 @@ impl Statements {
     }
 }
 
-/// Those of the statements that have a rule with one of these permissions, or on none of these classes. Error: out of memory.
-pub fn with_permissions(
-    alloc: Global,
-    masks: &[u32],
-    statements: &Statements,
-) -> Result<Statements, NoMemory>
-    ensures among { IfOk result (λ kept. (st : Stated) → Contains kept st → Contains statements.now st) }
-    ensures rest { IfOk result (λ kept. AreLeftOut masks.now statements.now kept) }
-{
-    let mut kept = Statements::new(alloc);
-    for number in 0..statements.len() {
-        let statement = statements.get(number);
-        if name_some(masks, statement.rules) {
-            kept.push(statement.place, statement.rules)?;
-        }
-    }
-    Ok(kept)
-}
-
 /// A part of the rules.
 fn rules_in(rules: &[NamedRule], run: Run) -> &[NamedRule]
     requires { IsRunIn rules.now run }
@@ -136,9 +117,11 @@ fn rules_in(rules: &[NamedRule], run: Run) -> &[NamedRule]
 }
 
 /// The enabled statements with this first word that cover something, whatever branch of a booleanif they are in, each with its rules, where
-/// the words of each declared name stand for these types. Error: out of memory.
+/// the words of each declared name stand for these types. Of these only such that have a rule with one of the permissions of the masks, or
+/// on a class without a mask: so with no masks all of them. The others take no memory. Error: out of memory.
 pub fn statements_of(
     alloc: Global,
+    masks: &[u32],
     instances: &Instances,
     known: &Known,
     types: &[Numbers],
@@ -151,20 +134,21 @@ pub fn statements_of(
     requires nodes { IsStrictlySortedBy node_cmp given.now.nodes.items }
     requires written { says_as_written keyword ≡ true }
     requires plain { is_mapping keyword ≡ false }
-    ensures within { IfOk result (λ sts. (st : Stated) → Contains sts st → st.place < length (items_in instances.now)) }
-    ensures statements { IfOk result (λ sts. ForNames known.now (items_in instances.now) types.now classes.now given.now (λ names.
-        AreStatements (CaseBy (items_in instances.now) (enabled_in known.now) keyword ignored)
-        (IsRuleOf (items_in instances.now) (enabled_in known.now) (names variants.Type_) classes.now ignored) types.now (item_at instances.now) (length (items_in instances.now)) sts)) }
+    ensures within { IfOk result (λ kept. (st : Stated) → Contains kept st → st.place < length (items_in instances.now)) }
+    ensures statements { IfOk result (λ kept. ForNames known.now (items_in instances.now) types.now classes.now given.now (λ names.
+        AreKept masks.now (CaseBy (items_in instances.now) (enabled_in known.now) keyword ignored)
+        (IsRuleOf (items_in instances.now) (enabled_in known.now) (names variants.Type_) classes.now ignored) types.now (item_at instances.now) (length (items_in instances.now)) kept)) }
 {
-    let mut statements = Statements::new(alloc);
+    let mut kept = Statements::new(alloc);
     let mut rules = Vec::new(alloc);
-    let mut masks = Vec::new(alloc);
+    let mut given_masks = Vec::new(alloc);
     for at in 0..instances.len() {
         add_at(
             alloc,
-            &mut statements,
+            masks,
+            &mut kept,
             &mut rules,
-            &mut masks,
+            &mut given_masks,
             instances,
             at,
             known,
@@ -174,16 +158,17 @@ pub fn statements_of(
             keyword,
         )?;
     }
-    Ok(statements)
+    Ok(kept)
 }
 
-/// Adds the statement at a place, if it is an enabled one with this first word that covers something. The lists are room for its rules and
-/// its masks.
+/// Adds the statement at a place, if it is an enabled one with this first word that has a rule with one of the permissions of the masks, or
+/// on a class without a mask. The other two lists are room for its rules, and for the masks that its class permission gives.
 fn add_at(
     alloc: Global,
-    statements: &mut Statements,
+    masks: &[u32],
+    kept: &mut Statements,
     rules: &mut Vec<NamedRule>,
-    masks: &mut Vec<(ClassId, u32)>,
+    given_masks: &mut Vec<(ClassId, u32)>,
     instances: &Instances,
     at: usize,
     known: &Known,
@@ -198,19 +183,32 @@ fn add_at(
     requires nodes { IsStrictlySortedBy node_cmp given.now.nodes.items }
     requires written { says_as_written keyword ≡ true }
     requires plain { is_mapping keyword ≡ false }
-    ensures places { OnOk result (AreHereOr statements.old at statements.new) }
+    ensures places { OnOk result (AreHereOr kept.old at kept.new) }
     ensures added { OnOk result (ForNames known.now (items_in instances.now) types.now classes.now given.now (λ names.
-        IsAdded (CaseBy (items_in instances.now) (enabled_in known.now) keyword ignored)
-        (IsRuleOf (items_in instances.now) (enabled_in known.now) (names variants.Type_) classes.now ignored) types.now (item_at instances.now at) at statements.old statements.new)) }
+        IsAdded masks.now (CaseBy (items_in instances.now) (enabled_in known.now) keyword ignored)
+        (IsRuleOf (items_in instances.now) (enabled_in known.now) (names variants.Type_) classes.now ignored) types.now (item_at instances.now at) at kept.old kept.new)) }
 {
     rules.clear();
     let words = known.words.row(at);
     push_rules(
-        alloc, rules, masks, instances, at, words, known, types, classes, given, 0, keyword,
+        alloc,
+        rules,
+        given_masks,
+        instances,
+        at,
+        words,
+        known,
+        types,
+        classes,
+        given,
+        0,
+        keyword,
     )?;
-    if rules.len() == 0 {
+    // Most statements have no rule with such a permission: nothing is copied of them.
+    let named = rules.as_slice();
+    if !name_some(masks, named) {
         return Ok(());
     }
-    statements.push(at, rules.as_slice())?;
+    kept.push(at, named)?;
     Ok(())
 }

@@ -2,6 +2,9 @@ pub mod BoolLemmas
 pub mod CountLemmas
 pub mod DeclareLemmas
 mod Examples
+pub mod FirstLawLemmas
+pub mod FirstLemmas
+pub mod FirstPartLemmas
 pub mod GreatestLemmas
 pub mod KeepLemmas
 pub mod PartLemmas

@@ -27,7 +27,7 @@ or_last true false = refl
 or_last false true = refl
 or_last false false = refl
 
-abbrev AreSame : List ℕ → List Reason → Type 0
+abbrev pub AreSame : List ℕ → List Reason → Type 0
 AreSame out rs = (o : ℕ) → among out o ≡ among (map left_out rs) o
 
 pub pushed : (rs : List Reason) (r : Reason) (o : ℕ) → among (map left_out (rs ++ r ∷ [])) o ≡ ((left_out r == o) || among (map left_out rs) o)
@@ -35,7 +35,7 @@ pushed rs r o =
     ap (λ l. among l o) (map-append left_out rs (r ∷ [])) ∙ list_any-append (λ k. k == o) (map left_out rs) (left_out r ∷ [])
     ∙ or_last (among (map left_out rs) o) (left_out r == o)
 
-one_more_out : (out : List ℕ) (rs : List Reason) (r : Reason) → AreSame out rs → AreSame (left_out r ∷ out) (rs ++ r ∷ [])
+pub one_more_out : (out : List ℕ) (rs : List Reason) (r : Reason) → AreSame out rs → AreSame (left_out r ∷ out) (rs ++ r ∷ [])
 one_more_out out rs r same o = ap (λ b. (left_out r == o) || b) (same o) ∙ sym (pushed rs r o)
 
 one_item : (a b : Reason) → Some a ≡ Some b → a ≡ b

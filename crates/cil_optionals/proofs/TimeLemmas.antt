@@ -92,7 +92,7 @@ start_times ps rs times e = subst (AreTimesUpTo ps rs 0) (sym e) (record {
 
 -- ---- one step more
 
-there_within : (times : List ℕ) (q : ℕ) → 0 < get_or times q 0 → q < length times
+pub there_within : (times : List ℕ) (q : ℕ) → 0 < get_or times q 0 → q < length times
 there_within [] q l = absurd (omega (arith, l))
 there_within (t ∷ ts) zero l = omega arith
 there_within (t ∷ ts) (suc q) l = let h = there_within ts q l in omega (arith, h)
@@ -118,7 +118,7 @@ and_out true false false = refl
 and_out false x y = refl
 
 -- what one step more takes out
-left_more : (ps : List Part) (rs : List Reason) (k o : ℕ) (r : Reason) → slice_get rs k ≡ Some r → left_after ps (take (k + 1) rs) o ≡ (left_after ps (take k rs) o && not (left_out r == o))
+pub left_more : (ps : List Part) (rs : List Reason) (k o : ℕ) (r : Reason) → slice_get rs k ≡ Some r → left_after ps (take (k + 1) rs) o ≡ (left_after ps (take k rs) o && not (left_out r == o))
 left_more ps rs k o r e =
     let within = slice_get_within rs k r e in
     let whole : take (k + 1) rs ≡ take k rs ++ r ∷ [] = take_more rs k r within ∙ ap (λ z. take k rs ++ z ∷ []) (get_or_from_slice_get rs k r r e) in
@@ -187,10 +187,10 @@ latest_more p xs x i k most one later within is old new e =
 -- ---- what the times show
 
 module _ (ps : List Part) (es : List Entry) (rs : List Reason) (times entry_times : List ℕ) (are : AreTimes ps rs times) (entries : AreEntryTimes es times (length rs + 1) entry_times) where
-  after_is : (k : ℕ) → k ≤ length rs → after times k ≡ left_after ps (take k rs)
+  pub after_is : (k : ℕ) → k ≤ length rs → after times k ≡ left_after ps (take k rs)
   after_is k l = λ i o. are k o l i
 
-  names_are : (k : ℕ) → k ≤ length rs → names_after entry_times k ≡ names_one es (left_after ps (take k rs))
+  pub names_are : (k : ℕ) → k ≤ length rs → names_after entry_times k ≡ names_one es (left_after ps (take k rs))
   names_are k l =
       let one : after entry_times k ≡ is_declared_at (after times k) es = λ i d. entries k d (omega (arith, l)) i in
       (λ i ds. list_any (one i) ds) ∙ ap (names_one es) (after_is k l)

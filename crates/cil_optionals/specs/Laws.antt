@@ -2,10 +2,12 @@
 use Rattle.std.specs.Prelude.{◌≡◌, ℕ, true, false, List, Contains}
 use Rattle.cil_blocks.specs.Contents.{is_optional}
 use Rattle.cil_macros.specs.Item.{Item, OptSet, nobody}
-use Rattle.cil_names.specs.Resolves.{Wanted, resolves}
+use Rattle.cil_names.specs.Resolves.{Wanted, is_judged, resolves}
 use Rattle.cil_optionals.specs.declared.reason.Reason.{Reason}
-use Rattle.cil_optionals.specs.Certificate.{IsRight}
-use Rattle.cil_optionals.specs.Greatest.{IsGood, IsGreatest, LiesIn}
+use Rattle.cil_optionals.specs.declared.reason.Reason.TheVariants.{Missing}
+use Rattle.cil_optionals.specs.Certificate.{Holds, IsRight, all_but, left_out}
+use Rattle.cil_optionals.specs.First.{IsFirst}
+use Rattle.cil_optionals.specs.Greatest.{IsGood, IsGreatest, LiesIn, OwnWord}
 use Rattle.cil_optionals.specs.Policy.{ArePolicy}
 
 -- a law: what resolves goes on to resolve where more optionals are in
@@ -32,3 +34,13 @@ HasOnePolicy =
 -- a law: where no statement is an optional, the greatest set is the empty one
 abbrev pub FlatIsGreatest : Type 0
 FlatIsGreatest = (xs : List Item) → ((x : Item) → Contains xs x → is_optional x.keyword ≡ false) → IsGreatest xs nobody
+
+-- a law: an optional has one first reason, where the same are out
+abbrev pub HasOneFirst : Type 0
+HasOneFirst =
+    (xs : List Item) (out : List ℕ) (q r : Reason) → left_out q ≡ left_out r → Holds xs out q → Holds xs out r → IsFirst xs out q → IsFirst xs out r → q ≡ r
+
+-- a law: the word of a first reason is judged; it is no permission of a class that is missing
+abbrev pub TellsJudged : Type 0
+TellsJudged =
+    (xs : List Item) (out : List ℕ) (o i j : ℕ) (w : Wanted) → IsFirst xs out (Missing o i j) → OwnWord xs o i j w → is_judged xs (all_but xs out) w ≡ true

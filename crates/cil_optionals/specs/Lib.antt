@@ -1,5 +1,7 @@
 pub mod Certificate
 pub mod Counts
+pub mod First
+pub mod FirstParts
 pub mod Greatest
 pub mod Laws
 pub mod Lines

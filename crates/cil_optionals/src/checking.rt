@@ -39,12 +39,12 @@ pub fn is_shown(
 
 /// What a check goes by.
 #[derive(Clone, Copy)]
-struct Check<'r, 's, 'p, 'a> {
-    parts: &'r Parts<'r, 's, 'p, 'a>,
+pub struct Check<'r, 's, 'p, 'a> {
+    pub parts: &'r Parts<'r, 's, 'p, 'a>,
     /// For how many steps each optional is left.
-    times: &'r [usize],
+    pub times: &'r [usize],
     /// For how many steps each entry is declared.
-    entries: &'r [usize],
+    pub entries: &'r [usize],
 }
 
 impl Check<'_, '_, '_, '_> {
@@ -90,7 +90,8 @@ impl Check<'_, '_, '_, '_> {
         }
     }
 
-    fn parent_is_out(&self, step: usize, optional: usize) -> bool
+    /// Whether the optional round an optional is out.
+    pub fn parent_is_out(&self, step: usize, optional: usize) -> bool
         ensures { result ≡ holds_in (parts_in self.now.parts.now) (after self.now.times.now step) (named_after self.now.entries.now step) (ParentOut optional) }
     {
         self.is_outside(step, self.parts.inside(optional))

@@ -1,11 +1,13 @@
 //! The greatest set of optionals whose words all name something.
 
-ghost use Rattle.std.specs.Prelude.{◌≡◌, ◌↔◌, IfOk, IsTrue};
+ghost use Rattle.std.specs.Prelude.{◌≡◌, ◌↔◌, IfOk, IsTrue, []};
 ghost use Rattle.cil_macros.specs.Items.{items_in, namespaces_in};
 ghost use Rattle.cil_names.specs.Entries.{AreEntries, is_in};
 ghost use Rattle.cil_names.specs.Unresolved.{ArePermissions};
 ghost use Rattle.cil_optionals.specs.Certificate.{IsRight};
 ghost use Rattle.cil_optionals.specs.Counts.{lookups, removals};
+ghost use Rattle.cil_optionals.specs.First.{AreFirst};
+ghost use Rattle.cil_optionals.specs.FirstParts.{AreFirstIn};
 ghost use Rattle.cil_optionals.specs.Greatest.{IsGreatest};
 ghost use Rattle.cil_optionals.specs.PartCounts.{AreLookups};
 ghost use Rattle.cil_optionals.specs.Parts.{IsShown, parts_in};
@@ -13,6 +15,7 @@ ghost use Rattle.cil_words.specs.Table.{AreAsks, could_in};
 
 use crate::checking::is_shown;
 use crate::counts::lookups_of;
+use crate::first::first_reasons;
 use crate::guesses::{Walk, guess_by};
 use crate::laws;
 use crate::parts::{Parts, parts_of};
@@ -48,8 +51,8 @@ pub struct Counted {
 }
 
 /// The greatest set of optionals in which each has its parent and all words of its own statements name something, with a reason
-/// for each optional that is left out. (CIL Reference Guide, "Container Statements", "optional".) It makes the table of what all
-/// instances ask for, and drops it. Error: out of memory.
+/// for each optional that is left out: the first that holds when its turn comes. (CIL Reference Guide, "Container Statements",
+/// "optional".) It makes the table of what all instances ask for, and drops it. Error: out of memory.
 pub fn greatest<'r, 'a>(
     alloc: Global,
     instances: &'r Instances<'_, '_, 'a>,
@@ -60,6 +63,7 @@ pub fn greatest<'r, 'a>(
     requires permissions { ArePermissions (namespaces_in instances.now) names.now (items_in instances.now) permissions.now }
     ensures right { IfOk result (λ c. IsRight (items_in instances.now) (is_in c.enabled) c.reasons.items) }
     ensures greatest { IfOk result (λ c. IsGreatest (items_in instances.now) (is_in c.enabled)) }
+    ensures first { IfOk result (λ c. AreFirst (items_in instances.now) [] c.reasons.items) }
 {
     let asks = asks_of(alloc, names, permissions, instances)?;
     let chosen = greatest_of(alloc, instances, names, &asks)?;
@@ -77,6 +81,7 @@ pub fn greatest_of<'r, 'a>(
     requires asks { AreAsks (namespaces_in instances.now) names.now (items_in instances.now) (could_in asks.now) }
     ensures right { IfOk result (λ c. IsRight (items_in instances.now) (is_in c.enabled) c.reasons.items) }
     ensures greatest { IfOk result (λ c. IsGreatest (items_in instances.now) (is_in c.enabled)) }
+    ensures first { IfOk result (λ c. AreFirst (items_in instances.now) [] c.reasons.items) }
 {
     let counted = counted_of(alloc, instances, names, asks)?;
     Ok(counted.chosen)
@@ -95,6 +100,7 @@ pub fn greatest_counted<'r, 'a>(
     requires permissions { ArePermissions (namespaces_in instances.now) names.now (items_in instances.now) permissions.now }
     ensures right { IfOk result (λ c. IsRight (items_in instances.now) (is_in c.chosen.enabled) c.chosen.reasons.items) }
     ensures greatest { IfOk result (λ c. IsGreatest (items_in instances.now) (is_in c.chosen.enabled)) }
+    ensures first { IfOk result (λ c. AreFirst (items_in instances.now) [] c.chosen.reasons.items) }
     ensures removals { IfOk result (λ c. c.removals ≡ removals (items_in instances.now) (is_in c.chosen.enabled)) }
     ensures lookups { IfOk result (λ c. c.lookups ≡ lookups (items_in instances.now) (is_in c.chosen.enabled)) }
 {
@@ -114,6 +120,7 @@ fn counted_of<'r, 'a>(
     requires asks { AreAsks (namespaces_in instances.now) names.now (items_in instances.now) (could_in asks.now) }
     ensures right { IfOk result (λ c. IsRight (items_in instances.now) (is_in c.chosen.enabled) c.chosen.reasons.items) }
     ensures greatest { IfOk result (λ c. IsGreatest (items_in instances.now) (is_in c.chosen.enabled)) }
+    ensures first { IfOk result (λ c. AreFirst (items_in instances.now) [] c.chosen.reasons.items) }
     ensures removals { IfOk result (λ c. c.removals ≡ removals (items_in instances.now) (is_in c.chosen.enabled)) }
     ensures lookups { IfOk result (λ c. c.lookups ≡ lookups (items_in instances.now) (is_in c.chosen.enabled)) }
 {
@@ -128,8 +135,31 @@ fn counted_of<'r, 'a>(
     })
 }
 
-/// The greatest set, by the parts of all statements: a guess, if a check says that it and its look-ups are right.
+/// The greatest set, by the parts of all statements, with the first reason of each optional that is left out.
 fn counted_by(
+    alloc: Global,
+    instances: &Instances,
+    parts: &Parts,
+    entries: &[Entry],
+) -> Result<Walk, NoMemory>
+    ensures shown { IfOk result (λ w. IsShown (parts_in parts.now) entries.now (is_in w.chosen.enabled) w.chosen.reasons.items) }
+    ensures first { IfOk result (λ w. AreFirstIn (parts_in parts.now) entries.now w.chosen.reasons.items) }
+    ensures lookups { IfOk result (λ w. AreLookups (items_in instances.now) (parts_in parts.now) entries.now (is_in w.chosen.enabled) w.lookups) }
+{
+    let Walk { chosen, lookups } = walked(alloc, instances, parts, entries)?;
+    let reasons = first_reasons(alloc, parts, entries, &chosen)?;
+    let Chosen {
+        enabled,
+        reasons: _,
+    } = chosen;
+    Ok(Walk {
+        chosen: Chosen { enabled, reasons },
+        lookups,
+    })
+}
+
+/// The greatest set, with some right reasons: a guess, if a check says that it and its look-ups are right.
+fn walked(
     alloc: Global,
     instances: &Instances,
     parts: &Parts,

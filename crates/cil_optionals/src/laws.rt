@@ -8,8 +8,8 @@ ghost use Rattle.cil_names.specs.Entries.{AreEntries, is_in};
 ghost use Rattle.cil_names.specs.Unresolved.{ArePermissions};
 ghost use Rattle.cil_optionals.specs.Certificate.{IsRight};
 ghost use Rattle.cil_optionals.specs.Greatest.{IsGreatest};
-ghost use Rattle.cil_optionals.specs.Laws.{FlatIsGreatest, HasOneGreatest, HasOnePolicy};
-ghost use Rattle.cil_optionals.specs.Laws.{KeepsResolving, RightIsGreatest, UnionIsGood};
+ghost use Rattle.cil_optionals.specs.Laws.{FlatIsGreatest, HasOneFirst, HasOneGreatest, HasOnePolicy};
+ghost use Rattle.cil_optionals.specs.Laws.{KeepsResolving, RightIsGreatest, TellsJudged, UnionIsGood};
 
 use crate::chosen::Chosen;
 use crate::parts::parts_of;
@@ -50,6 +50,16 @@ pub fn one_policy()
 /// Where no statement is an optional, the greatest set of optionals is the empty one.
 pub fn flat_is_greatest()
     ensures { FlatIsGreatest }
+{}
+
+/// An optional has one first reason, where the same optionals are out.
+pub fn one_first()
+    ensures { HasOneFirst }
+{}
+
+/// The word of a first reason is judged: it is no permission of a class that is missing.
+pub fn tells_judged()
+    ensures { TellsJudged }
 {}
 
 /// The greatest set of optionals in rounds: each pass over all statements takes out the optionals for which it finds a reason,

@@ -54,7 +54,7 @@ fn note(times: &mut Vec<usize>, optional: usize, time: usize, top: usize)
 }
 
 /// The time of this number; 0 where there is none.
-fn time_of(times: &[usize], number: usize) -> usize
+pub fn time_of(times: &[usize], number: usize) -> usize
     ensures { result ≡ get_or times.now number 0 }
 {
     match times.get(number) {

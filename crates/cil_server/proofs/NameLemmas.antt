@@ -1,5 +1,5 @@
 -- The names of a mask, bit by bit.
-use Rattle.std.specs.Prelude.{codes, Contains, IsBitSet, Option, IfNone, IfSome, MatchOption, None, Some}
+use Rattle.std.specs.Prelude.{codes, Contains, Option, MatchOption, None, Some}
 use denote.Ref.{Bor}
 use Rattle.std.proofs.Common.{◌≡◌, ℕ, zero, suc, ◌+◌, ◌<◌, ◌≤◌, inl, inr, List, [], ◌∷◌, ◌++◌, refl, sym, ◌∙◌, ap, subst, arith, Bool, true, false}
 use Rattle.std.specs.List.{AllByRecursion}
@@ -8,12 +8,12 @@ use Rattle.std.specs.declared.cmp.Ordering.TheVariants.{Less}
 use Rattle.std.proofs.lemmas.Bool.{cases_order}
 use Rattle.std.proofs.lemmas.List.{append_assoc, append-nil}
 use Rattle.cil_base.specs.Lists.{contains_cases, contains_here, contains_later, contains_none, text_cmp}
-use Rattle.cil_host.specs.Machine.{OfLoaded, State}
-use Rattle.cil_host.specs.Permissions.{IsInOrder, IsPermissionOf}
+use Rattle.cil_host.specs.Machine.{State}
+use Rattle.cil_host.specs.Permissions.{AreNamesOf}
 use Rattle.cil_server.specs.Replies.{listed}
 use Rattle.cil_server.specs.Step.{IsNamed, NamesOf}
 use Rattle.cil_server.specs.Streams.{OutputState, Tells}
-use Rattle.cil_server.specs.Turns.{IsPlaced, TellsName, TellsNames, behind_comma}
+use Rattle.cil_server.specs.Turns.{IsListed, IsPlaced, TellsName, TellsNames, behind_comma}
 use Rattle.cil_server.proofs.StreamLemmas.{tells_before, tells_both, tells_none}
 
 -- the names of a mask from a bit on, with so many bits left, bit by bit
@@ -211,10 +211,11 @@ pub name_later : (is_first : Bool) (tells : List ℕ → Type 0) (option : Optio
 name_later is_first tells option name e f told =
     subst (λ z. TellsName is_first tells z false) (sym e) (subst (λ b. tells (behind_comma b name.now)) (sym f) told, refl)
 
--- the name of a bit that is set
-pub placed_at : (h : State) (class_name : List ℕ) (mask bit : ℕ) (r : Option (Bor (List ℕ))) → IsBitSet mask bit
-    → IfSome r (λ name. OfLoaded h (IsPermissionOf class_name bit name.now)) → IfSome r (λ name. IsInOrder h class_name bit name.now)
-    → IfNone r ((name : List ℕ) → OfLoaded h (IsPermissionOf class_name bit name) → ⊥)
+-- the name of a bit that is set, where these are the names of all bits
+pub placed_by : (h : State) (class_name : List ℕ) (mask bit : ℕ) (names : List (List ℕ)) (r : Option (Bor (List ℕ)))
+    → AreNamesOf h class_name names
+    → MatchOption r ((name : List ℕ) → IsListed names mask bit name → ⊥) (λ name. IsListed names mask bit name.now)
     → MatchOption r ((name : List ℕ) → IsNamed h class_name mask bit name → ⊥) (λ name. IsPlaced h class_name mask bit name.now)
-placed_at h class_name mask bit (Some name) set found order none = record { named = record { is_set = set; permission = found }; order = order }
-placed_at h class_name mask bit None set found order none = λ name is. none name is.permission
+placed_by h class_name mask bit names (Some name) are is =
+    record { named = record { is_set = is.is_set; permission = (are.all bit name.now).1 is.is_name }; order = are.order bit name.now is.is_name }
+placed_by h class_name mask bit names None are none = λ name is. none name (record { is_set = is.is_set; is_name = (are.all bit name).0 is.permission })

@@ -1,5 +1,5 @@
 -- What the parts of a session do to the host, the streams and the replies.
-use Rattle.std.specs.Prelude.{◌≡◌, ℕ, ◌+◌, ◌<◌, ◌≤◌, Bool, true, false, List, [], ◌∷◌, length, Option, Some, None, Result, Ok, Err}
+use Rattle.std.specs.Prelude.{◌≡◌, ℕ, ◌+◌, ◌<◌, ◌≤◌, Bool, true, false, List, [], ◌∷◌, length, IsBitSet, Option, Some, None, Result, Ok, Err, slice_get}
 use denote.Ref.{Bor}
 use Rattle.cil_decide.specs.declared.decision.Decision.{Decision}
 use Rattle.cil_host.specs.Machine.{State}
@@ -30,6 +30,11 @@ pub record TellsNames (h : State) (class_name : List ℕ) (mask : ℕ) (tells : 
 pub record IsPlaced (h : State) (class_name : List ℕ) (mask bit : ℕ) (name : List ℕ) : Type 0 where
   pub named : IsNamed h class_name mask bit name
   pub order : IsInOrder h class_name bit name
+
+-- the name of a bit that is set in a mask, by the names of all bits
+pub record IsListed (names : List (List ℕ)) (mask bit : ℕ) (name : List ℕ) : Type 0 where
+  pub is_set : IsBitSet mask bit
+  pub is_name : slice_get names bit ≡ Some name
 
 -- a name, behind a comma unless it is the first
 abbrev pub behind_comma : Bool → List ℕ → List ℕ

@@ -3,10 +3,11 @@
 ghost use Rattle.std.specs.Prelude.{◌≡◌, ◌<◌, ◌++◌, ◌∷◌, ℕ, List, MatchOption, codes, decimal};
 ghost use Rattle.hex.specs.Hex.{encode_lower};
 ghost use Rattle.cil_faults.specs.Printed.{printed_space};
+ghost use Rattle.cil_host.specs.Machine.{State};
+ghost use Rattle.cil_host.specs.Permissions.{AreNamesOf};
 ghost use Rattle.cil_server.specs.Replies.{newline, of_bundle_fault, of_check, of_export, of_host_error, of_import, of_install, of_line, of_list, of_optional, of_optional_line, of_optionals, of_query_fault, of_reason, of_standing, of_why, of_why_line, ok_number, refused, refused_at, spaced};
-ghost use Rattle.cil_server.specs.Step.{IsNamed};
 ghost use Rattle.cil_server.specs.Streams.{Tells};
-ghost use Rattle.cil_server.specs.Turns.{IsPlaced, TellsDecision, TellsName, TellsNames};
+ghost use Rattle.cil_server.specs.Turns.{IsListed, TellsDecision, TellsName, TellsNames};
 
 use crate::devices::Sink;
 use crate::output::Output;
@@ -281,22 +282,23 @@ pub(crate) fn put_decision<S: Drop, W: Sink>(
 )
     ensures { TellsDecision host.now class.now decision (Tells output.old output.new) }
 {
+    let names = host.permissions(class);
     output.put(b"OK ");
-    put_names(output, host, class, decision.allowed);
+    put_names(output, names, decision.allowed);
     output.put(b" ");
-    put_names(output, host, class, decision.auditallow);
+    put_names(output, names, decision.auditallow);
     output.put(b" ");
-    put_names(output, host, class, decision.auditdeny);
+    put_names(output, names, decision.auditdeny);
     output.put(b"\n");
 }
 
 /// The names of the permissions of a mask, with commas between; a hyphen where there is none.
-fn put_names<S: Drop, W: Sink>(output: &mut Output<'_, W>, host: &Host<S>, class: &[u8], mask: u32)
-    ensures { TellsNames host.now class.now mask (Tells output.old output.new) }
+fn put_names<W: Sink>(output: &mut Output<'_, W>, names: &[Bytes], mask: u32)
+    ensures { (h : State) (class_ : List ℕ) → AreNamesOf h class_ names.now → TellsNames h class_ mask (Tells output.old output.new) }
 {
     let mut is_first = true;
     for bit in 0..u32::BITS {
-        let name = named(host, class, mask, bit);
+        let name = named(names, mask, bit);
         is_first = put_name(output, is_first, name);
     }
     if is_first {
@@ -323,12 +325,13 @@ fn put_name<W: Sink>(output: &mut Output<'_, W>, is_first: bool, name: Option<&[
 }
 
 /// The name of a bit, where it is set in a mask.
-fn named<'a, S: Drop>(host: &'a Host<S>, class: &[u8], mask: u32, bit: u32) -> Option<&'a [u8]>
+fn named(names: &[Bytes], mask: u32, bit: u32) -> Option<&[u8]>
     requires { bit < 32 }
-    ensures { MatchOption result ((name : List ℕ) → IsNamed host.now class.now mask bit name → ⊥) (λ name. IsPlaced host.now class.now mask bit name.now) }
+    ensures { MatchOption result ((name : List ℕ) → IsListed names.now mask bit name → ⊥) (λ name. IsListed names.now mask bit name.now) }
 {
     if (mask >> bit) & 1 == 1 {
-        host.permission(class, bit)
+        let name = names.get(bit as usize)?;
+        Some(name.as_slice())
     } else {
         None
     }

@@ -74,12 +74,12 @@ macro parameters = next (word 7 (codes "m")) (next (list 9 parameters) (next (li
 abbrev parameter : ℕ → List ℕ → List ℕ → Node
 parameter at kind name = list at (next (word (at + 1) kind) (next (word (at + 8) name) none))
 
--- `()`, `((type x))`, `((classmap x))`, `((type x.y))`, `((type))`, `(type x)`; and a macro without parameters at all
+-- `()`, `((type x))`, `((category x))`, `((type x.y))`, `((type))`, `(type x)`; and a macro without parameters at all
 macros : (read keywords.Macro (macro none) ≡ reads (cons (Name (spot 7) (codes "m")) (cons (Form (spot 9) ops.Parameters nil) nil)) [])
     × (read keywords.Macro (macro (next (parameter 10 (codes "type") (codes "x")) none))
     ≡ reads (cons (Name (spot 7) (codes "m")) (cons (Form (spot 9) ops.Parameters
     (cons (Form (spot 10) ops.Parameter (cons (Form (spot 11) ops.TypeKind nil) (cons (Name (spot 18) (codes "x")) nil))) nil)) nil)) [])
-    × (faults_of (read keywords.Macro (macro (next (parameter 10 (codes "classmap") (codes "x")) none))) ≡ fault causes.Unsupported 11 (codes "classmap") ∷ [])
+    × (faults_of (read keywords.Macro (macro (next (parameter 10 (codes "category") (codes "x")) none))) ≡ fault causes.Unsupported 11 (codes "category") ∷ [])
     × (faults_of (read keywords.Macro (macro (next (parameter 10 (codes "type") (codes "x.y")) none))) ≡ fault causes.BadName 18 (codes "x.y") ∷ [])
     × (read keywords.Macro (macro (next (list 10 (next (word 11 (codes "type")) none)) none)) ≡ None)
     × (read keywords.Macro (macro (next (word 10 (codes "type")) (next (word 15 (codes "x")) none))) ≡ None)

@@ -267,6 +267,7 @@ module _ (modules : List (List ℕ)) (xs : List Item) (are : AreItems modules xs
     };
     optionals = of.optionals;
     right = of.right;
+    first = of.first;
     reasons = of.reasons;
   }
 

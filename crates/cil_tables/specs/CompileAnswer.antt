@@ -9,6 +9,7 @@ use Rattle.cil_macros.specs.Item.{Item, OptSet}
 use Rattle.cil_macros.specs.Walks.{written_in}
 use Rattle.cil_names.specs.Faults.{ClashFault}
 use Rattle.cil_optionals.specs.Certificate.{IsRight}
+use Rattle.cil_optionals.specs.First as why
 use Rattle.cil_optionals.specs.Greatest.{IsGreatest}
 use Rattle.cil_optionals.specs.Policy.{ArePolicy}
 use Rattle.cil_tables.specs.declared.compiler.Compiled.{Compiled}
@@ -26,6 +27,7 @@ pub record IsCompiled (modules : List (List ℕ)) (c : Compiled) : Type 0 where
   pub compiles : Compiles modules c.tables
   pub optionals : AreOptionalsOf items enabled c.optionals.items
   pub right : IsRight items enabled c.why.items
+  pub first : why.AreFirst items [] c.why.items
   pub reasons : AreReasonsOf items c.why.items c.reasons.items
 
 -- the same of items alone
@@ -37,6 +39,7 @@ pub record IsCompiledOf (xs : List Item) (c : Compiled) : Type 0 where
   pub table : IsTable xs enabled c.tables
   pub optionals : AreOptionalsOf xs enabled c.optionals.items
   pub right : IsRight xs enabled c.why.items
+  pub first : why.AreFirst xs [] c.why.items
   pub reasons : AreReasonsOf xs c.why.items c.reasons.items
 
 -- all that stands in modules that have no fault up to there

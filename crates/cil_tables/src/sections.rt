@@ -109,7 +109,7 @@ fn rules_given(
         &branches,
     )?;
     let rows = branches.into_rows();
-    let sections = Sections::of(alloc, &rules, types, rows, classes.len())?;
+    let sections = Sections::of(alloc, &rules, types, rows)?;
     Ok(sections)
 }
 

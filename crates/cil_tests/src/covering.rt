@@ -16,7 +16,7 @@ type Range = (usize, usize);
 type Row = (Range, Option<Range>, u32, u32);
 
 /// Sets of one type, of several, of none, and of types far apart in numbers; classes in no order; a rule twice, two that differ in
-/// permissions alone, and rules of a class that is not counted.
+/// permissions alone, and classes of great numbers.
 const ROWS: &[Row] = &[
     ((2, 3), Some((3, 4)), 1, 0x1),
     ((2, 3), Some((0, 5)), 1, 0x2),
@@ -35,9 +35,6 @@ const ROWS: &[Row] = &[
     ((3, 4), Some((3, 4)), 7, 0x1),
     ((1, 4), None, u32::MAX, 0x2),
 ];
-
-/// How many classes are counted.
-const CLASSES: usize = 3;
 
 /// The types that are asked of, and the classes.
 const TYPES: &[usize] = &[0, 1, 2, 3, 4, 5, 6, 69_989, 70_000, 70_009, usize::MAX];
@@ -94,7 +91,7 @@ fn sections_of(alloc: Global, rows: &[Row]) -> Result<Sections, NoMemory> {
         auditallow: Vec::new(alloc),
         dontaudit: Vec::new(alloc),
     };
-    Sections::of(alloc, &rules, sets.as_slice(), Vec::new(alloc), CLASSES)
+    Sections::of(alloc, &rules, sets.as_slice(), Vec::new(alloc))
 }
 
 /// Whether a type is in a range.

@@ -3,6 +3,7 @@ use Rattle.std.proofs.Common.{◌<◌, ◌≤◌, Bool, ℕ, List, arith, length
 use Rattle.cil_macros.specs.Items.{item_at, items_in, namespaces_in}
 use Rattle.cil_macros.proofs.ItemLemmas.{items_taken}
 use Rattle.cil_names.specs.declared.entry.Entry.{Entry}
+use Rattle.std.proofs.lemmas.Result.{IfOk-from_err}
 use Rattle.cil_classes.specs.Commons.{IsFlagged, IsTwice}
 use Rattle.cil_classes.proofs.CommonLemmas.{all_told, class_within, more_told, none_told}
 use Rattle.cil_classes.proofs.commons.push_commons.Goals as goal
@@ -36,3 +37,9 @@ flags_of_two-requires-clause-rising c = c.requires.shared.rising
 
 pub push_common-requires-clause-twice : goal.push_common-requires-clause-twice
 push_common-requires-clause-twice c = subst (λ (flags : List Bool). (d : ℕ) → IsFlagged flags d ↔ IsTwice c.args.shared.now d) (sym c.as_slice.ensures.value) c.in_ok-twice.ensures
+
+pub returns-in_err-twice : goal.returns-in_err-twice
+returns-in_err-twice c = IfOk-from_err c.from_residual.result _ c.from_residual.ensures.0
+
+pub returns-in_err-push_common : goal.returns-in_err-push_common
+returns-in_err-push_common c = IfOk-from_err c.from_residual-in_err-push_common.result _ c.from_residual-in_err-push_common.ensures.0

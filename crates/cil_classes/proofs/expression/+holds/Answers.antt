@@ -14,7 +14,8 @@ pub tallied-loop-part-preserved : goal.tallied-loop-part-preserved
 tallied-loop-part-preserved t c = (
   λ m. behind_more m c.args.words.now c.args.parts.now _ c.part-item.result _ _ c.loop-part-test.true c.part-item.is (c.loop-part.invariant.0 m) (c.behind_word-rest.ensures m),
   λ f m permissions rising are p at.
-      let one = c.holds.ensures f m permissions rising (numbered_part permissions f m c.args.parts.now c.loop-part.part-index c.part-item.result c.args.words.now _ c.loop-part-test.true c.part-item.is are (c.loop-part.invariant.0 m)) p at in
+      let one = c.holds.ensures f m permissions rising (numbered_part permissions f m c.args.parts.now c.loop-part.part-index c.part-item.result c.args.words.now _ c.loop-part-test.true c.part-item.is are
+      (c.loop-part.invariant.0 m)) p at in
       tallied_more f m p c.args.parts.now c.loop-part.part-index c.part-item.result _ _ _ _ _ _ c.loop-part-test.true c.part-item.is (c.loop-part.invariant.1 f m permissions rising are p at)
       (c.with-all.ensures.some ∙ ap (λ b. c.loop-part.all.some || b) one) (c.with-all.ensures.each ∙ ap (λ b. c.loop-part.all.each && b) one) (c.with-all.ensures.odd ∙ ap (differ c.loop-part.all.odd) one),
 )
@@ -32,6 +33,7 @@ holds-returns-in-Name t c = λ f m permissions rising are p at. name_held f m p 
 
 pub holds-returns-in-Form : goal.holds-returns-in-Form
 holds-returns-in-Form t c = λ f m permissions rising are p at.
-    let counts = c.tallied.ensures f m permissions rising (subst (λ l. AreNumbered permissions f (all_leaves m l) c.args.words.now) (sym c.as_slice.ensures.value) (numbered_form permissions f m c.args.term.now _ _ c.in-Form.parts c.args.words.now c.in-Form.is are)) p at in
+    let counts = c.tallied.ensures f m permissions rising (subst (λ l. AreNumbered permissions f (all_leaves m l) c.args.words.now) (sym c.as_slice.ensures.value) (numbered_form permissions f m c.args.term.now _ _
+    c.in-Form.parts c.args.words.now c.in-Form.is are)) p at in
     c.combined.ensures
     ∙ form_held f m p c.args.term.now _ c.in-Form.op c.in-Form.parts _ _ _ c.in-Form.is (subst (λ l. IsTallied p (terms_with f m l) c.tallied.result.some c.tallied.result.each c.tallied.result.odd) c.as_slice.ensures.value counts)

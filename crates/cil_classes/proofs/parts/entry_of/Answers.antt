@@ -4,25 +4,23 @@ use Rattle.cil_names.proofs.StandLemmas.{of_no_entry, of_nothing, of_other_kind}
 use Rattle.cil_classes.proofs.EntryForLemmas.{entry_is}
 use Rattle.cil_classes.proofs.parts.entry_of.Goals as goal
 
-pub returns-in_err-d : goal.returns-in_err-d
-returns-in_err-d c =
-    rw c.from_residual.ensures
-    (λ is names w known means. of_nothing c.args.known.now is names known c.args.kind c.requires.plain w c.means_what_it_names.ensures (sym c.in_err-d.was ∙ means))
+pub returns-in_default : goal.returns-in_default
+returns-in_default c =
+    λ is names w known means. of_nothing c.args.known.now is names known c.args.kind c.requires.plain w c.means_what_it_names.ensures (sym c.in_default.is ∙ means)
 
-pub returns-in_err-entry : goal.returns-in_err-entry
-returns-in_err-entry c =
-    rw c.from_residual-in_err-entry.ensures
-    (λ is names w known means. of_no_entry c.args.known.now is names known c.args.kind c.requires.plain w c.means_what_it_names.ensures c.in_ok-d.d (sym c.in_ok-d.was ∙ means)
-    (past_end _ _ c.in_ok-d.d c.entries.ensures.value c.in_err-entry.ensures.lookup.3))
+pub returns-in_default-get : goal.returns-in_default-get
+returns-in_default-get c =
+    λ is names w known means. of_no_entry c.args.known.now is names known c.args.kind c.requires.plain w c.means_what_it_names.ensures c.in-Some.d (sym c.in-Some.is ∙ means)
+    (past_end _ _ c.in-Some.d c.entries.ensures.value c.in_default-get.ensures.lookup.3)
 
 pub returns-then-not-is_same : goal.returns-then-not-is_same
 returns-then-not-is_same c =
-    λ is names w known means. of_other_kind c.args.known.now is names known c.args.kind c.requires.plain w c.means_what_it_names.ensures c.in_ok-d.d c.in_ok-entry.entry.now (sym c.in_ok-d.was ∙ means)
-    (at_place _ _ c.in_ok-d.d c.entries.ensures.value c.in_ok-entry.entry.now c.in_ok-entry.ensures.lookup.3.0 c.in_ok-entry.ensures.lookup.1)
+    λ is names w known means. of_other_kind c.args.known.now is names known c.args.kind c.requires.plain w c.means_what_it_names.ensures c.in-Some.d c.in-Some-get.entry.now (sym c.in-Some.is ∙ means)
+    (at_place _ _ c.in-Some.d c.entries.ensures.value c.in-Some-get.entry.now c.in-Some-get.ensures.lookup.3.0 c.in-Some-get.ensures.lookup.1)
     (λ e. absurd (let t = c.is_same.ensures.1 e in let n = c.if-not-is_same.true in cc (t, n)))
 
 pub returns : goal.returns
 returns c =
-    λ is names w known means. entry_is c.args.known.now is names known c.args.kind c.requires.plain w c.means_what_it_names.ensures c.in_ok-d.d c.in_ok-entry.entry.now (sym c.in_ok-d.was ∙ means)
-    (at_place _ _ c.in_ok-d.d c.entries.ensures.value c.in_ok-entry.entry.now c.in_ok-entry.ensures.lookup.3.0 c.in_ok-entry.ensures.lookup.1)
+    λ is names w known means. entry_is c.args.known.now is names known c.args.kind c.requires.plain w c.means_what_it_names.ensures c.in-Some.d c.in-Some-get.entry.now (sym c.in-Some.is ∙ means)
+    (at_place _ _ c.in-Some.d c.entries.ensures.value c.in-Some-get.entry.now c.in-Some-get.ensures.lookup.3.0 c.in-Some-get.ensures.lookup.1)
     (c.is_same.ensures.0 c.if-not-is_same.false)

@@ -1,6 +1,7 @@
 use Rattle.std.proofs.Common.{arith, get_or}
 use Rattle.cil_base.specs.Places.{is_there}
 use Rattle.cil_names.specs.Unresolved.{term_with}
+use Rattle.std.proofs.lemmas.Result.{IfOk-from_err}
 use Rattle.cil_classes.specs.Parts.{IsHeldAt}
 use Rattle.cil_classes.proofs.LeadLemmas.{all_of_run, held_wanted, one_more, wanted_held}
 use Rattle.cil_classes.proofs.parts.held_nodes.Goals as goal
@@ -23,3 +24,6 @@ pub returns : goal.returns
 returns c = λ f m permissions rising numbered among v.
     all_of_run (IsHeldAt permissions c.args.nodes.now (term_with f m c.args.expression.now)) c.args.run c.loop-v.v c.loop-v.from.items c.loop-v-test.false
     (c.loop-v.invariant f m permissions rising numbered among) v
+
+pub returns-in_err-push_if : goal.returns-in_err-push_if
+returns-in_err-push_if c = IfOk-from_err c.from_residual.result _ c.from_residual.ensures.0

@@ -1,4 +1,5 @@
 use Rattle.std.proofs.Common.{refl}
+use Rattle.std.proofs.lemmas.Result.{IfOk-weaker}
 use Rattle.cil_syntax.specs.Said.{said_of}
 use Rattle.cil_names.specs.Unresolved.{listed_at}
 use Rattle.cil_classes.proofs.FormedLemmas.{are_among, form_there, no_form, numbered_there, parts_there, rising_there}
@@ -32,7 +33,7 @@ returns-then-run c = λ xs names f known nodes begin form.
     c.run_of-run.result c.run_of-run.ensures.run _ c.new-then-run.ensures.items c.if-run.true
 
 pub returns : goal.returns
-returns c = λ xs names f known nodes begin form.
+returns c =
     let k = c.args.known.now in
     let m = c.args.«module» in
     let said = said_of m c.args.term.now in
@@ -40,9 +41,13 @@ returns c = λ xs names f known nodes begin form.
     let expression = said_of m c.in-Some.parts.permissions.now in
     let d = c.in-Some-entry_of.entry in
     let run = c.run_of-run.result in
+    IfOk-weaker c.held_nodes.result _ _
+    (λ from held xs names f known nodes begin form.
     let for = c.in-Some-entry_of.ensures xs names (f word) known (class_means k f said word expression c.in-Some.ensures c.args.words.now begin c.meaning_at.result c.meaning_at.ensures) in
     led_by_map k xs names known c.args.nodes.now nodes (across f said) (f word) (across f expression) (parts_there f said word expression c.in-Some.ensures) d for run c.run_of-run.ensures.run
-    (form_there f said word expression c.in-Some.ensures) c.run_of-run.ensures.within c.in_ok-from.from.items
-    (c.in_ok-from.ensures f m (listed_at k.permissions.now d) (rising_there k xs names known c.args.nodes.now nodes (f word) d for run c.run_of-run.ensures.run)
-    (numbered_there k xs names known c.args.nodes.now nodes (f word) d for run c.run_of-run.ensures.run f said word expression c.in-Some.ensures c.args.words.now _ refl begin c.behind_first-rest.ensures c.if-run.false c.run_of-run.ensures.within)
-    (are_among k xs names known c.args.nodes.now nodes (f word) d for run c.run_of-run.ensures.run))
+    (form_there f said word expression c.in-Some.ensures) c.run_of-run.ensures.within from.items
+    (held f m (listed_at k.permissions.now d) (rising_there k xs names known c.args.nodes.now nodes (f word) d for run c.run_of-run.ensures.run)
+    (numbered_there k xs names known c.args.nodes.now nodes (f word) d for run c.run_of-run.ensures.run f said word expression c.in-Some.ensures c.args.words.now _ refl begin c.behind_first-rest.ensures c.if-run.false
+    c.run_of-run.ensures.within)
+    (are_among k xs names known c.args.nodes.now nodes (f word) d for run c.run_of-run.ensures.run)))
+    c.held_nodes.ensures

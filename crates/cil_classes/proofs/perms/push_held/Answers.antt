@@ -1,4 +1,5 @@
 use Rattle.std.proofs.Common.{refl}
+use Rattle.std.proofs.lemmas.Result.{IfOk-from_err}
 use Rattle.cil_classes.proofs.PushLemmas.{all_pushed, none_pushed, one_pushed}
 use Rattle.cil_classes.proofs.perms.push_held.Goals as goal
 
@@ -11,3 +12,6 @@ loop-one-preserved c =
 
 pub returns : goal.returns
 returns c = all_pushed c.args.held.now c.loop-one.one-index c.args.from.now _ _ c.loop-one-test.false c.loop-one.invariant
+
+pub returns-in_err-push_union : goal.returns-in_err-push_union
+returns-in_err-push_union c = IfOk-from_err c.from_residual.result _ c.from_residual.ensures.0

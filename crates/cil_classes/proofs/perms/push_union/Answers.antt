@@ -1,4 +1,5 @@
 use Rattle.std.proofs.Common.{inl, inr, refl, subst}
+use Rattle.std.proofs.lemmas.Result.{IfOk-from_err}
 use Rattle.cil_classes.specs.Pushed.{IsUnionOf}
 use Rattle.cil_classes.proofs.perms.push_union.Goals as goal
 
@@ -15,3 +16,6 @@ returns c = record {
   union = subst (λ ms. IsUnionOf ms c.args.from.now c.union_of-mask.result) c.as_slice.ensures.value c.union_of-mask.ensures;
   behind = inr (c.if-mask-eq0.false, c.in_ok-push.ensures.items);
 }
+
+pub returns-in_err-push : goal.returns-in_err-push
+returns-in_err-push c = IfOk-from_err c.from_residual.result _ c.from_residual.ensures.0

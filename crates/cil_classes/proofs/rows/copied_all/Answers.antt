@@ -1,6 +1,7 @@
 use Rattle.std.proofs.Common.{[], ◌∷◌, ◌++◌, ◌∙◌, ap}
 use Rattle.std.proofs.lemmas.List.{map-id}
 use Rattle.cil_base.specs.MadeLists.{one_mapped, all_mapped}
+use Rattle.std.proofs.lemmas.Result.{IfOk-from_err}
 use Rattle.cil_classes.proofs.rows.copied_all.Goals as goal
 
 pub loop-name-init : goal.loop-name-init
@@ -13,3 +14,9 @@ loop-name-preserved c =
 
 pub returns : goal.returns
 returns c = all_mapped (λ n. n) _ _ [] _ c.loop-name-test.false c.loop-name.invariant ∙ map-id _
+
+pub returns-in_err-copy_of : goal.returns-in_err-copy_of
+returns-in_err-copy_of c = IfOk-from_err c.from_residual.result _ c.from_residual.ensures.0
+
+pub returns-in_err-push : goal.returns-in_err-push
+returns-in_err-push c = IfOk-from_err c.from_residual-in_err-push.result _ c.from_residual-in_err-push.ensures.0

@@ -1,5 +1,6 @@
 use Rattle.std.proofs.Common.{ap, ◌∙◌}
 use Rattle.cil_names.specs.Unresolved.{listed_at}
+use Rattle.std.proofs.lemmas.Result.{IfOk-from_err}
 use Rattle.cil_classes.proofs.ClassRowLemmas.{listed_all, listed_begun, listed_more}
 use Rattle.cil_classes.proofs.rows.rows_of.Goals as goal
 
@@ -14,3 +15,12 @@ loop-number-preserved c =
 
 pub returns : goal.returns
 returns c = listed_all c.args.names.now c.args.places.now c.args.permissions.now _ _ c.loop-number-test.false c.loop-number.invariant
+
+pub returns-in_err-copy_of : goal.returns-in_err-copy_of
+returns-in_err-copy_of c = IfOk-from_err c.from_residual.result _ c.from_residual.ensures.0
+
+pub returns-in_err-permissions_at : goal.returns-in_err-permissions_at
+returns-in_err-permissions_at c = IfOk-from_err c.from_residual-in_err-permissions_at.result _ c.from_residual-in_err-permissions_at.ensures.0
+
+pub returns-in_err-push : goal.returns-in_err-push
+returns-in_err-push c = IfOk-from_err c.from_residual-in_err-push.result _ c.from_residual-in_err-push.ensures.0

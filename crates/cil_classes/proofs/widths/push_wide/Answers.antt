@@ -1,5 +1,6 @@
 use Rattle.std.specs.Prelude.{length}
 use Rattle.std.proofs.Common.{◌≡◌, ◌≤◌, List, ◌∷◌, ◌++◌, ◌∙◌, [], ap, subst, sym}
+use Rattle.std.proofs.lemmas.Result.{IfOk-from_err, on_ok_weaker}
 use Rattle.cil_blocks.specs.declared.namespaces.Space.{Space}
 use Rattle.cil_blocks.specs.Namespaces.{space_at}
 use Rattle.cil_faults.specs.declared.code.FaultCode.TheVariants as causes
@@ -24,6 +25,12 @@ returns c =
     let name = c.in-Some.name in
     let space : c.in_ok-space.space ≡ qualified x.space =
     c.in_ok-space.ensures ∙ ap qualified (ap (λ (ss : List Space). space_at ss c.space.result) c.namespaces.ensures.value ∙ c.space.ensures.is) in
+    on_ok_weaker c.push_fault_in.result
+    (λ one.
     let told : c.push_fault_in.new.faults.items ≡ c.args.faults.now.items ++ fault_at causes.ClassWide name.at x.space name.bytes.now ∷ [] =
-    c.in_ok-push_fault_in.ensures ∙ ap (λ s. c.args.faults.now.items ++ spelled_fault causes.ClassWide name.at s name.bytes.now ∷ []) space in
-    one_more c.args.faults.now.items c.push_fault_in.new.faults.items _ (IsWide (is_in c.args.lookup.now.enabled.now) (items_in c.args.instances.now) x) told c.in-Some.ensures
+    one ∙ ap (λ s. c.args.faults.now.items ++ spelled_fault causes.ClassWide name.at s name.bytes.now ∷ []) space in
+    one_more c.args.faults.now.items c.push_fault_in.new.faults.items _ (IsWide (is_in c.args.lookup.now.enabled.now) (items_in c.args.instances.now) x) told c.in-Some.ensures)
+    c.push_fault_in.ensures
+
+pub returns-in_err-space : goal.returns-in_err-space
+returns-in_err-space c = IfOk-from_err c.from_residual.result _ c.from_residual.ensures.0

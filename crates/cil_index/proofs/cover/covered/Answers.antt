@@ -1,19 +1,13 @@
-use Rattle.std.proofs.Common.{sym, ◌∙◌}
 use Rattle.cil_conditions.specs.Bits.{is_on}
 use Rattle.cil_index.specs.Searched.{rules_in}
-use Rattle.cil_index.proofs.CoverLemmas.{in_one_of, none_covered, only_these}
+use Rattle.cil_index.proofs.CoverLemmas.{in_one_of, only_these}
 use Rattle.cil_index.proofs.cover.covered.Goals as goal
-
-pub returns-then-part-eq0 : goal.returns-then-part-eq0
-returns-then-part-eq0 c =
-    none_covered (is_on c.args.settings.now) c.args.searched.now.branches.now c.args.searched.now.sets.now c.args.searched.now.records.now c.args.entries.now c.class_part-part.result.now c.requires.index
-    c.args.asked.now.source c.args.asked.now.target c.args.asked.now.class (λ e has same. c.class_part-part.ensures.all e has (same ∙ sym c.number_key.ensures)) c.if-part-eq0.true
 
 pub returns : goal.returns
 returns c = λ bit. (
-  only_these (is_on c.args.settings.now) (rules_in c.args.searched.now) c.args.asked.now.source c.args.asked.now.target c.args.asked.now.class c.by_source.result c.by_sources.result c.by_own.result
-      c.by_source.ensures.sound c.by_sources.ensures.sound c.by_own.ensures.sound bit,
-  in_one_of (is_on c.args.settings.now) c.args.searched.now.branches.now c.args.searched.now.sets.now c.args.searched.now.records.now c.args.entries.now c.class_part-part.result.now c.requires.index c.args.asked.now
-      (λ e has same. c.class_part-part.ensures.all e has (same ∙ sym c.number_key.ensures)) c.args.searched.now.memberships.now c.requires.memberships c.next_key.result c.next_key.ensures
-      c.by_source.result c.by_sources.result c.by_own.result c.by_source.ensures.all c.by_sources.ensures.all c.by_own.ensures.all bit,
+  only_these (is_on c.args.settings.now) (rules_in c.args.searched.now) c.args.asked.now.source c.args.asked.now.target c.args.asked.now.class c.by_source.result c.by_large.result c.by_own.result
+      c.by_source.ensures.sound c.by_large.ensures.sound c.by_own.ensures.sound bit,
+  in_one_of (is_on c.args.settings.now) c.args.searched.now.branches.now c.args.searched.now.sets.now c.args.searched.now.records.now c.args.index.now.entries.now c.requires.index c.args.asked.now
+      c.args.searched.now.memberships.now c.requires.memberships c.next_key.result c.next_key.ensures
+      c.by_source.result c.by_large.result c.by_own.result c.by_source.ensures.all c.by_large.ensures.all c.by_own.ensures.all bit,
 )

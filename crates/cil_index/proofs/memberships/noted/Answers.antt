@@ -1,15 +1,18 @@
-use Rattle.std.proofs.Common.{[], arith, refl, ◌∙◌}
+use Rattle.std.proofs.Common.{[], arith, length, refl, ◌<◌, ◌∙◌}
 use Rattle.std.proofs.lemmas.List.{get_or_default}
-use Rattle.cil_index.proofs.MembershipLemmas.{noted_more}
+use Rattle.cil_index.proofs.MembershipLemmas.{none_noted, noted_below, noted_more}
 use Rattle.cil_index.proofs.memberships.noted.Goals as goal
 
 pub loop-place-init : goal.loop-place-init
-loop-place-init c = λ place t below has. absurd (omega (arith, below))
+loop-place-init c = none_noted c.args.ones c.args.several.now _ c.new-lists.ensures.items
 
 pub loop-place-preserved : goal.loop-place-preserved
 loop-place-preserved c =
-    noted_more c.args.ones c.args.several.now c.loop-place.place c.index-several-place.result _ c.loop-place.memberships c.note.new.memberships
-    (c.index-several-place.is ∙ get_or_default c.args.several.now c.loop-place.place _ [] c.loop-place-test.true) refl c.loop-place.invariant c.in_ok-note.ensures
+    let below = c.loop-place-test.true in
+    let within = c.before_large-small.ensures in
+    let there : c.loop-place.place < length c.args.several.now = omega (arith, below, within) in
+    noted_more c.args.ones c.args.several.now c.loop-place.place c.index-several-place.result _ c.loop-place.lists.items c.add_set.new.lists.items
+    (c.index-several-place.is ∙ get_or_default c.args.several.now c.loop-place.place _ [] there) refl c.loop-place.invariant c.in_ok-add_set.ensures
 
 pub returns : goal.returns
-returns c = λ place t below has. let over = c.loop-place-test.false in c.loop-place.invariant place t (omega (arith, below, over)) has
+returns c = noted_below c.args.ones c.args.several.now c.loop-place.place c.before_large-small.result _ c.loop-place-test.false refl c.loop-place.invariant

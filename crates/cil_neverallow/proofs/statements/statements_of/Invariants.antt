@@ -1,4 +1,4 @@
-use Rattle.std.specs.Prelude.{◌<◌, ℕ, List, Contains, length}
+use Rattle.std.specs.Prelude.{◌<◌, ◌≤◌, ℕ, List, Contains, length}
 use Rattle.cil_syntax.specs.declared.kind.Kind.{Kind}
 use Rattle.cil_syntax.specs.declared.kind.Kind.TheVariants as kinds
 use Rattle.cil_macros.specs.Items.{item_at, items_in}
@@ -7,15 +7,16 @@ use Rattle.cil_names.specs.Numbers.{AreApart}
 use Rattle.cil_classes.specs.ClassRows.{AreClasses}
 use Rattle.cil_classes.specs.Held.{IsAssigned}
 use Rattle.cil_rules.specs.Records.{ignored, CaseBy, IsRuleOf}
-use Rattle.cil_neverallow.specs.Stated.{AreStatements, Stated}
+use Rattle.cil_neverallow.specs.Stated.{AreKept, Stated}
 use Rattle.cil_neverallow.proofs.statements.statements_of.Given as goal
 
 abbrev pub invariant-loop-at : goal.invariant-loop-at
 invariant-loop-at l = record {
-  within : (st : Stated) → Contains l.statements st → st.place < length (items_in l.instances);
+  up : l.at ≤ length (items_in l.instances);
+  within : (st : Stated) → Contains l.kept st → st.place < length (items_in l.instances);
   are : (names : Kind → List (List ℕ)) → IsKnown l.known (items_in l.instances) names → AreApart l.known.lookup.names.now (enabled_in l.known) l.known.numbers.now
       → AreStanding l.known (items_in l.instances) names kinds.Type_ l.types → AreClasses (items_in l.instances) (enabled_in l.known) (names kinds.Class) l.classes
       → IsAssigned l.known (items_in l.instances) l.classes l.given
-      → AreStatements (CaseBy (items_in l.instances) (enabled_in l.known) l.keyword ignored) (IsRuleOf (items_in l.instances) (enabled_in l.known) (names kinds.Type_) l.classes ignored)
-      l.types (item_at l.instances) l.at l.statements;
+      → AreKept l.masks (CaseBy (items_in l.instances) (enabled_in l.known) l.keyword ignored) (IsRuleOf (items_in l.instances) (enabled_in l.known) (names kinds.Type_) l.classes ignored)
+      l.types (item_at l.instances) l.at l.kept;
 }

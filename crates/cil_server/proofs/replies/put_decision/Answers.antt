@@ -6,18 +6,21 @@ use Rattle.cil_server.proofs.replies.put_decision.Goals as goal
 
 pub returns : goal.returns
 returns g c =
-    let told1 = tells_both c.args.output.now c.put.new.self c.put_names.new.output ((codes "OK ")) (joined c.put_names.ensures.names) c.put.ensures c.put_names.ensures.told in
-    let told2 = tells_both c.args.output.now c.put_names.new.output c.put-2.new.self ((codes "OK ") ++ (joined c.put_names.ensures.names)) (codes " ") told1 c.put-2.ensures in
-    let told3 = tells_both c.args.output.now c.put-2.new.self c.put_names-2.new.output ((codes "OK ") ++ (joined c.put_names.ensures.names) ++ (codes " ")) (joined c.put_names-2.ensures.names) told2 c.put_names-2.ensures.told in
-    let told4 = tells_both c.args.output.now c.put_names-2.new.output c.put-3.new.self ((codes "OK ") ++ (joined c.put_names.ensures.names) ++ (codes " ") ++ (joined c.put_names-2.ensures.names)) (codes " ") told3 c.put-3.ensures in
-    let told5 = tells_both c.args.output.now c.put-3.new.self c.put_names-3.new.output ((codes "OK ") ++ (joined c.put_names.ensures.names) ++ (codes " ") ++ (joined c.put_names-2.ensures.names) ++ (codes " ")) (joined c.put_names-3.ensures.names) told4 c.put_names-3.ensures.told in
-    let told6 = tells_both c.args.output.now c.put_names-3.new.output c.put-4.new.self ((codes "OK ") ++ (joined c.put_names.ensures.names) ++ (codes " ") ++ (joined c.put_names-2.ensures.names) ++ (codes " ") ++ (joined c.put_names-3.ensures.names)) newline told5 c.put-4.ensures in
+    let names1 = c.put_names.ensures c.args.host.now c.args.class.now c.permissions-names.ensures in
+    let names2 = c.put_names-2.ensures c.args.host.now c.args.class.now c.permissions-names.ensures in
+    let names3 = c.put_names-3.ensures c.args.host.now c.args.class.now c.permissions-names.ensures in
+    let told1 = tells_both c.args.output.now c.put.new.self c.put_names.new.output ((codes "OK ")) (joined names1.names) c.put.ensures names1.told in
+    let told2 = tells_both c.args.output.now c.put_names.new.output c.put-2.new.self ((codes "OK ") ++ (joined names1.names)) (codes " ") told1 c.put-2.ensures in
+    let told3 = tells_both c.args.output.now c.put-2.new.self c.put_names-2.new.output ((codes "OK ") ++ (joined names1.names) ++ (codes " ")) (joined names2.names) told2 names2.told in
+    let told4 = tells_both c.args.output.now c.put_names-2.new.output c.put-3.new.self ((codes "OK ") ++ (joined names1.names) ++ (codes " ") ++ (joined names2.names)) (codes " ") told3 c.put-3.ensures in
+    let told5 = tells_both c.args.output.now c.put-3.new.self c.put_names-3.new.output ((codes "OK ") ++ (joined names1.names) ++ (codes " ") ++ (joined names2.names) ++ (codes " ")) (joined names3.names) told4 names3.told in
+    let told6 = tells_both c.args.output.now c.put_names-3.new.output c.put-4.new.self ((codes "OK ") ++ (joined names1.names) ++ (codes " ") ++ (joined names2.names) ++ (codes " ") ++ (joined names3.names)) newline told5 c.put-4.ensures in
     record {
-      allowed = c.put_names.ensures.names;
-      auditallow = c.put_names-2.ensures.names;
-      auditdeny = c.put_names-3.ensures.names;
-      are_allowed = c.put_names.ensures.are_names;
-      are_auditallow = c.put_names-2.ensures.are_names;
-      are_auditdeny = c.put_names-3.ensures.are_names;
+      allowed = names1.names;
+      auditallow = names2.names;
+      auditdeny = names3.names;
+      are_allowed = names1.are_names;
+      are_auditallow = names2.are_names;
+      are_auditdeny = names3.are_names;
       told = told6;
     }

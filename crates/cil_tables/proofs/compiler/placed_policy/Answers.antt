@@ -79,5 +79,6 @@ returns-clause-compiled c = record {
   table = c.in_ok-tables.ensures.tables.0;
   optionals = c.in_ok-optionals.ensures;
   right = c.in_ok-chosen.ensures.right;
+  first = c.in_ok-chosen.ensures.first;
   reasons = subst (λ (rs : List Reason). AreReasonsOf (items_in c.args.instances.now) rs c.in_ok-reasons.reasons.items) c.as_slice-3.ensures.value c.in_ok-reasons.ensures;
 }
