@@ -690,6 +690,30 @@ def class_rules(size):
     yield from filled(size, "", "(allow a a p)", "")
 
 
+def list_of(size):
+    """A list of so many permissions of a class, which has one."""
+    return f"(c({' '.join('e' * size)}))"
+
+
+def list_calls(size):
+    """A size is a number of permissions in a list, which is the argument of half as many calls."""
+    body = f"(call m({list_of(size)}))"
+    return [f"(type a)(class c(e))(macro m((classpermission p))(allow a a p))(macro n(){body})" + "(call n)" * (size // 2)]
+
+
+def list_chain(size):
+    """A size is a number of macros, each of which hands a list on to the next, and of the permissions in this list."""
+    links = [f"(macro m{n + 1:x}((classpermission p))(call m{n:x}(p)))" for n in range(size - 1)]
+    first = "(type a)(class c(e))(macro m0((classpermission p))(allow a a p))"
+    return [first + "".join(links) + f"(call m{size - 1:x}({list_of(size)}))"]
+
+
+def list_rules(size):
+    """A macro of very many rules on one class permission, and a call of it with a very long list."""
+    rules_ = "(allow a a p)" * (size // 2 // 13)
+    return [f"(type a)(class c(e))(macro m((classpermission p)){rules_})(call m({list_of(size // 4)}))"]
+
+
 # ---- booleans and neverallow
 
 BASE = "(user u)(class c(e f))"
@@ -942,6 +966,8 @@ FORMS = {
     "permission-ring": (permission_ring, 100_000, load), "map-ring": (map_ring, 100_000, load),
     "wide-permissions": (wide_permissions, 100_000, load), "wide-rules": (wide_rules, 100_000, load),
     "class-masks": (class_masks, LONGEST, load), "class-rules": (class_rules, LONGEST, load),
+    "list-calls": (list_calls, 2_000, load), "list-chain": (list_chain, 2_000, load),
+    "list-rules": (list_rules, LONGEST, load),
     "many-booleans": (many_booleans, LONGEST, load), "long-condition": (long_condition, LONGEST - 200, queries),
     "condition-rules": (condition_rules, LONGEST, query), "alike-conditions": (alike_conditions, LONGEST, load),
     "branch-calls": (branch_calls, LONGEST - 200, load), "settings": (one_boolean, 100_000, settings),

@@ -294,8 +294,8 @@ def sort_key(line):
 
 # The files of rows/ whose rows run over the model too.
 ROWS = [
-    "attributes.session", "audit.session", "booleans.session", "checks.session", "maps.session", "neverallow.session",
-    "transitions.session",
+    "arguments.session", "attributes.session", "audit.session", "booleans.session", "checks.session", "maps.session",
+    "neverallow.session", "transitions.session",
 ]
 
 

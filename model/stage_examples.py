@@ -401,6 +401,51 @@ ARGUMENTS = [
         FIRST + b"(classmap m (x))(macro k ((classmap p)(classpermission q)) (classmapping p x q)(allow b a (p (x))))"
         b"(call k (m (file (open))))",
     ], accepted((BA, b"OK open - open,read"))),
+    ("a list on a map, with operators over its permissions", [
+        FIRST + b"(classmap m (x y))(classmapping m x (file (open)))(classmapping m y (file (read)))"
+        b"(macro k ((classpermission p)) (allow b a p))(call k ((m (and all (not (y))))))",
+    ], accepted((BA, b"OK open - open,read"))),
+    ("a list in audit rules", [
+        FIRST + b"(macro m ((classpermission p)(classpermission q)) (auditallow b a p)(dontaudit b a q))"
+        b"(call m ((file (open)) (file all)))",
+    ], accepted((BA, b"OK - open -"))),
+    ("a list in a branch", [
+        FIRST + b"(boolean bo true)(macro m ((classpermission p)) (allow b a p))"
+        b"(booleanif bo (true (call m ((file (open)))))(false (call m ((file (read))))))",
+    ], accepted((BA, b"OK open - open,read"), (b"SET bo false", b"OK"), (BA, b"OK read - open,read"))),
+    ("a list in a neverallow, and in the rule that it forbids", [
+        FIRST + b"(macro m ((classpermission p)) (neverallow b a p)(allow b a p))(call m ((file (open read))))",
+    ], refused(Never(b"(neverallow", b"(allow b", b"b:a:file:open"))),
+    ("the permissions of a list, in the namespace of the call", [
+        FIRST + b"(macro m ((classpermission p)) (allow b a p))(block n (call m ((file (nope)))))(call m ((file nope)))",
+    ], refused(Fault(41, b"nope", b"nope)))))", space=b"n"), Fault(41, b"nope", b"nope)))", 1))),
+    ("of a list on a map in a classmapping the class word alone", [
+        FIRST + b"(classmap m (x))(macro k ((classpermission p)) (classmapping m x p))(call k ((m (x nope))))",
+    ], refused(Fault(41, b"m", b"m (x nope"), Fault(41, b"nope"))),
+    ("such a list puts the optional of the call out", [
+        FIRST + b"(optional o (call k ((m ()))))(classmap m (x))(macro k ((classpermission p)) (classmapping m x p))",
+    ], accepted((b"OPTIONALS", lines(b"0 123 . o out")), (b"WHY", lines(b"0 123 . o missing m")))),
+    ("a permission of a list puts the optional of the call out", [
+        FIRST + b"(optional o (call k ((file (open (not nope))))))(macro k ((classpermission p)) (allow b a p))",
+    ], accepted((b"OPTIONALS", lines(b"0 123 . o out")), (b"WHY", lines(b"0 123 . o missing nope")), (BA, NONE))),
+    ("a name that the body declares, from another body", [
+        FIRST + b"(block lib (classpermission q)(classpermissionset q (.file (read)))(macro in ((classpermission p))"
+        b" (allow .b .a p))(macro out () (classpermission q)(classpermissionset q (.file (open)))(call in (q))))"
+        b"(block n (call lib.out))",
+    ], accepted((BA, b"OK open - open,read"))),
+    ("a parameter with the name of a class permission", [
+        FIRST + b"(classpermission q)(classpermissionset q (file (read)))(macro k ((classpermission q)) (allow b a q)"
+        b"(allow a a .q))(call k ((file (open))))",
+    ], accepted((BA, b"OK open - open,read"), (AA, b"OK read - open,read"))),
+    ("a parameter at places of other kinds", [
+        FIRST + b"(macro k ((classpermission p)) (allow p a (p (open))))(call k ((file (open))))",
+    ], refused(Fault(41, b"p", b"p a"), Fault(41, b"p", b"p (open)"))),
+    ("a misplaced list in a branch, a call in the same body", [
+        FIRST + b"(boolean bo true)(macro h ())(macro k ((classpermission p)) (classpermissionset p (file (open)))(call h (p))"
+        b"(call k (p)))(booleanif bo (true (call k ((file (read))))))",
+    ], refused(
+        Fault(34, b"k", b"k (p))"), Fault(35, b"h", b"h (p)"), Fault(35, b"k", b"k ((file"), Fault(37, b"k", b"k ((file"),
+    )),
 ]
 
 AUDIT = [

@@ -32,6 +32,14 @@ SETTING = {
 
 MAPPED = [b"w0", b"w1", b"w2", b"w3", b"read", b"p0", b"p1"]
 CONDITIONS = [b"and", b"or", b"xor", b"eq", b"neq"]
+
+# Arguments that are nearly class permissions.
+WRONG_LISTS = [
+    [], [b"file"], [b"file", [b"read"], [b"open"]], [b"not", [b"read"]], [b"all", [b"read"]], [[b"file"], [b"read"]],
+    [b"1x", [b"read"]], [Quoted(b"file"), [b"read"]], [b"file", Quoted(b"read")], [b"file", [b"not"]],
+    [b"file", [b"and", b"read"]], [b"file", [b"read", b"or"]], [b"file", [b"a.b"]], [b"file", b"self"], [b"all"],
+    b"all", b"self", b"1x", Quoted(b"file"),
+]
 WRONG = {
     **block_policies.WRONG,
     "sets": {51, 52, 53, 54},
@@ -99,7 +107,9 @@ class StageDraft(OptionalDraft):
         return b"class", self.word(spot, b"class")
 
     def argument(self, spot, kind):
-        if kind == b"classpermission" and not self.goes_wrong("calls", 0.12):
+        if kind == b"classpermission":
+            if self.goes_wrong("calls", 0.2) or self.goes_wrong("lists", 0.15):
+                return copy.deepcopy(self.rng.choice(WRONG_LISTS))
             return self.class_permission(spot)
         if kind == b"typealias":
             kind = b"type"
@@ -541,6 +551,28 @@ class StageDraft(OptionalDraft):
 
     # ---- lists
 
+    def listed_body(self, macro):
+        """The body of a macro, or of a new optional in it."""
+        return self.optional_in(macro).body if often(self.rng, 0.25) else macro.body
+
+    def add_listed_rule(self, macro, name):
+        """A rule over a class permission in the body of a macro: by itself, in an optional or a branch."""
+        keywords = [b"allow"] * 4 + [each for each in (b"auditallow", b"dontaudit", b"neverallow") if self.has(each)]
+        made = [self.rng.choice(keywords), b"y", self.rng.choice([b"self", b".a"]), name]
+        if self.has(b"booleanif") and made[0] != b"neverallow" and often(self.rng, 0.15):
+            made = [b"booleanif", self.condition(macro), [self.rng.choice([b"true", b"false"]), made]]
+        self.listed_body(macro).append(made)
+
+    def add_list_on_parameter(self, path):
+        """A macro that calls one with a list on a class that is an argument itself, and calls of it."""
+        outer = self.macro_in(self.spot(), [(b"class", b"v"), (b"type", b"y")])
+        if not outer:
+            return
+        outer_path = self.macros[-1][0]
+        outer.body.append([b"call", self.path(outer.space, path), [[b"v", [self.rng.choice(MARKS)]], b"y"]])
+        for spot in (self.spot(), self.spot(may_be_macro=often(self.rng, 0.5))):
+            spot.body.append([b"call", self.path(spot.space, outer_path), [b".file", self.rng.choice([b".a", b".b"])]])
+
     def add_listed(self):
         """A macro with a class permission in some places, that hands it on or not, and calls with names and lists."""
         name = self.rng.choice([b"x", b"n", b"file"])
@@ -557,9 +589,9 @@ class StageDraft(OptionalDraft):
                 permission = self.rng.choice(list(self.maps.get(class_map) or [b"w0"]))
                 macro.body.append([b"classmapping", self.path(macro.space, class_map), permission, name])
             elif form == 1 and is_wrong:
-                macro.body.append([b"classpermissionset", name, [b".file", [self.rng.choice(MARKS)]]])
+                self.listed_body(macro).append([b"classpermissionset", name, [b".file", [self.rng.choice(MARKS)]]])
             else:
-                macro.body.append([b"allow", b"y", self.rng.choice([b"self", b".a"]), name])
+                self.add_listed_rule(macro, name)
         callers = [(self.spot(may_be_macro=often(self.rng, 0.3)), path, macro) for _ in range(self.rng.choice([1, 2]))]
         if often(self.rng, 0.5):
             outer = self.macro_in(self.spot(), [(b"classpermission", self.rng.choice([name, b"z"])), (b"type", b"y")])
@@ -567,6 +599,8 @@ class StageDraft(OptionalDraft):
                 outer.body.append([b"call", self.path(outer.space, path), [outer.parameters[0][1], b"y"]])
                 outer_path = self.macros[-1][0]
                 callers.append((self.spot(may_be_macro=often(self.rng, 0.3)), outer_path, outer))
+        if often(self.rng, 0.3):
+            self.add_list_on_parameter(path)
         for spot, called, of in callers:
             made = self.call_of(spot, called, of)
             if often(self.rng, 0.3):
@@ -579,6 +613,10 @@ class StageDraft(OptionalDraft):
                 made[2][0] = self.rng.choice([
                     [b".file", [b"nope"]], [b"nobody", [b"read"]], [b".m", [b"and", b"all", b"w9"]],
                 ])
+                if self.declared[b"classmap"] and often(self.rng, 0.5):
+                    class_map = self.rng.choice(self.declared[b"classmap"])
+                    permission = self.rng.choice(list(self.maps.get(class_map) or [b"w0"]))
+                    made[2][0] = [b"." + b".".join(class_map), [permission]]
             spot.body.append(made)
 
     # ---- whole policies

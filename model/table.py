@@ -172,7 +172,7 @@ STAGES = {
 }
 
 # The stages that the program accepts today. Whoever brings one there enters it here.
-TODAY = "sets", "transitions", "maps", "audit", "booleans"
+TODAY = "sets", "transitions", "maps", "arguments", "audit", "booleans"
 
 
 def accepting(stages):

@@ -5,7 +5,7 @@ use Rattle.std.proofs.Common.{◌≡◌, ℕ, ◌<◌, List, length, not, sym, �
 use Rattle.cil_faults.specs.declared.code.FaultCode.TheVariants as causes
 use Rattle.cil_faults.specs.declared.fault.Fault.{Fault}
 use Rattle.cil_syntax.specs.declared.kind.Kind.{Kind}
-use Rattle.cil_macros.specs.Items.{Kept, items_in, says_as_written}
+use Rattle.cil_macros.specs.Items.{Kept, items_in, may_say_lists, says_as_written}
 use Rattle.cil_names.specs.Known.{enabled_in}
 use Rattle.cil_names.specs.Spaces.{Sets, SpaceOf}
 use Rattle.cil_names.specs.declared.known.Known.{Known}
@@ -32,7 +32,8 @@ module _ (k : Known) (i : Kept) (r : Space) (names : List (List ℕ)) (sections 
   alias_within s c = step_within k i which.item sets.0 steps are s c
 
   pub alias_says : (s : Step) → Contains steps s → SaysTwo i s
-  alias_says s c = step_says k i which.item sets.0 steps are (λ keyword t. ap says_as_written ((sets.2.giving keyword).0 t) ∙ (alias_written r aliases e).written) s c
+  alias_says s c = step_says k i which.item sets.0 steps are (λ keyword t.
+      (ap says_as_written ((sets.2.giving keyword).0 t) ∙ (alias_written r aliases e).written, ap may_say_lists ((sets.2.giving keyword).0 t) ∙ (alias_written r aliases e).named)) s c
 
   pub alias_told : (lasts : List (Option ℕ)) → AreLast steps lasts → length lasts ≡ length k.lookup.names.now → (old middle new : List Fault)
       → ((f : Fault) → Contains middle f

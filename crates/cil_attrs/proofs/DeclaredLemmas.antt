@@ -69,10 +69,10 @@ module _ (ss : List blocks.Space) (es : List Entry) (xs : List Item) (s : OptSet
   pub left_out : is_enabled s x ≡ false → (code : FaultCode) (f : Fault) → IsToldAt ss es xs s kind code flags x f → ⊥
   left_out off code f t = true≢false (sym t.declares.enabled ∙ off)
 
-  module _ (st : Statement) (g : Word → ScopedWord) (said : IsSaid st g x) where
-    pub other_kind : (Contains (entry_of st.keyword).declares kind → ⊥) → (code : FaultCode) (f : Fault) → IsToldAt ss es xs s kind code flags x f → ⊥
-    other_kind none code f t = none (subst (λ k. Contains (entry_of k).declares kind) said.keyword t.declares.of_kind)
+  pub other_kind : (st : Statement) → x.keyword ≡ st.keyword → (Contains (entry_of st.keyword).declares kind → ⊥) → (code : FaultCode) (f : Fault) → IsToldAt ss es xs s kind code flags x f → ⊥
+  other_kind st same none code f t = none (subst (λ k. Contains (entry_of k).declares kind) same t.declares.of_kind)
 
+  module _ (st : Statement) (g : Word → ScopedWord) (said : IsSaid st g x) where
     module _ (declares : Contains (entry_of st.keyword).declares kind) where
       args_are : x.args ≡ all_replaced (λ at. at) g (args_of st)
       args_are = said.args (declares_written st.keyword kind declares)

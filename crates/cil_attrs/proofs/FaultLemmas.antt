@@ -24,7 +24,7 @@ use Rattle.cil_syntax.specs.Terms.{Form, Leaf, Name, Term, Terms, cons, nil}
 use Rattle.cil_syntax.proofs.KindLemmas.{same_kind}
 use Rattle.cil_faults.specs.declared.spot.Spot.{Spot}
 use Rattle.cil_macros.specs.Item.{Item, OptSet}
-use Rattle.cil_macros.specs.Items.{Kept, item_at, items_in, says_as_written}
+use Rattle.cil_macros.specs.Items.{Kept, item_at, items_in, may_say_lists, says_as_written}
 use Rattle.cil_names.specs.Declarations.{Declaration, Symbol, by, content_of, declarations, declared_by, name_of, nowhere}
 use Rattle.cil_names.specs.Entries.{AreEntries}
 use Rattle.cil_names.specs.Family.{DependsOn, no_range}
@@ -415,9 +415,9 @@ told_among i P Q steps same f = (
 )
 
 -- the statement of a step says two words, and its alias has an entry
-module _ (k : Known) (i : Kept) (item : Kind) (j : Sets) (steps : List Step) (are : AreSteps k i item j steps) (written : (keyword : Keyword) → j.giving keyword ≡ true → says_as_written keyword ≡ true) where
+module _ (k : Known) (i : Kept) (item : Kind) (j : Sets) (steps : List Step) (are : AreSteps k i item j steps) (written : (keyword : Keyword) → j.giving keyword ≡ true → (says_as_written keyword ≡ true) × (may_say_lists keyword ≡ false)) where
   pub step_says : (s : Step) → Contains steps s → SaysTwo i s
-  step_says s c = let is = are.each s c in (is.by.alias_word, is.by.target_word, is.by.says, written (item_at i s.at).keyword is.by.giving, is.within)
+  step_says s c = let is = are.each s c in (is.by.alias_word, is.by.target_word, is.by.says, (written (item_at i s.at).keyword is.by.giving).0, (written (item_at i s.at).keyword is.by.giving).1, is.within)
 
 pub step_within : (k : Known) (i : Kept) (item : Kind) (j : Sets) (steps : List Step) → AreSteps k i item j steps → (s : Step) → Contains steps s → s.alias < length k.lookup.names.now
 step_within k i item j steps are s c = let is = are.each s c in in_range k.lookup.names.now s.alias is.is_alias.entry is.is_alias.at

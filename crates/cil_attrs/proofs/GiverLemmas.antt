@@ -17,7 +17,7 @@ use Rattle.cil_syntax.specs.Forms.{word_and_term}
 use Rattle.cil_syntax.specs.Kinds.{is_wanted}
 use Rattle.cil_syntax.specs.Scopes.{ScopedWord}
 use Rattle.cil_syntax.specs.Terms.{Term, Leaf, Terms, nil, cons}
-use Rattle.cil_macros.specs.Items.{Kept, item_at, items_in, says_as_written, word_at}
+use Rattle.cil_macros.specs.Items.{Kept, item_at, items_in, may_say_lists, says_as_written, word_at}
 use Rattle.cil_macros.specs.Item.{Item, all_replaced, is_enabled, replaced}
 use Rattle.cil_macros.proofs.FormLemmas.{across, all_across, no_word}
 use Rattle.cil_names.specs.declared.entry.Entry.{Entry}
@@ -143,7 +143,7 @@ written_of r which is written keyword t = by (either_true (option_map_or (λ j. 
     one None (Some j) are w e = absurd are
     one (Some i) None are w e = absurd are
     one (Some i) (Some j) are w e =
-        let same = (are.giving keyword).0 e in record { written = ap says_as_written same ∙ w.written; plain = ap is_mapping same ∙ w.plain }
+        let same = (are.giving keyword).0 e in record { written = ap says_as_written same ∙ w.written; named = ap may_say_lists same ∙ w.named; plain = ap is_mapping same ∙ w.plain }
 
     by : (option_map_or (λ j. j.giving keyword) which.aliases false ≡ true) ⊎ (option_map_or (λ j. j.giving keyword) which.attributes false ≡ true) → SaysItsTerms keyword
     by (inl e) = one r.aliases which.aliases is.aliases written.0 e

@@ -6,7 +6,7 @@ use Rattle.cil_blocks.specs.declared.namespaces.Space as blocks
 use Rattle.cil_syntax.specs.declared.kind.Kind.{Kind}
 use Rattle.cil_syntax.specs.declared.kind.Kind.TheVariants as kinds
 use Rattle.cil_syntax.specs.Kinds.{is_wanted}
-use Rattle.cil_macros.specs.Items.{says_as_written}
+use Rattle.cil_macros.specs.Items.{may_say_lists, says_as_written}
 use Rattle.cil_names.specs.Resolves.{is_mapping}
 use Rattle.cil_names.specs.Declarations.{Symbol}
 use Rattle.cil_names.specs.Entries.{AreOrdered}
@@ -39,9 +39,9 @@ items_apart Roles = refl
 items_apart Users = refl
 
 pub are_written : (r : Space) → AreWritten (kinds_in r)
-are_written Types = (record { written = refl; plain = refl }, record { written = refl; plain = refl })
-are_written Roles = (tt, record { written = refl; plain = refl })
-are_written Users = (tt, record { written = refl; plain = refl })
+are_written Types = (record { written = refl; named = refl; plain = refl }, record { written = refl; named = refl; plain = refl })
+are_written Roles = (tt, record { written = refl; named = refl; plain = refl })
+are_written Users = (tt, record { written = refl; named = refl; plain = refl })
 
 pub items_have_section : (r : Space) → has_section (kinds_in r).item ≡ true
 items_have_section Types = refl
@@ -69,6 +69,7 @@ attribute_wanted Users a e = ap (λ (s : SetKind). is_wanted (sign_in Users) s.k
 pub alias_written : (r : Space) (a : SetKind) → (kinds_in r).aliases ≡ Some a → SaysItsTerms a.giving
 alias_written Types a e = record {
   written = ap (λ (s : SetKind). says_as_written s.giving) (sym (same_set _ a e));
+  named = ap (λ (s : SetKind). may_say_lists s.giving) (sym (same_set _ a e));
   plain = ap (λ (s : SetKind). is_mapping s.giving) (sym (same_set _ a e));
 }
 alias_written Roles a e = absurd (let f : None ≡ Some a = e in cc)

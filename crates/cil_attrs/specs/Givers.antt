@@ -6,7 +6,7 @@ use Rattle.cil_syntax.specs.Forms.{word_and_term}
 use Rattle.cil_syntax.specs.Scopes.{ScopedWord}
 use Rattle.cil_syntax.specs.Terms.{Term}
 use Rattle.cil_macros.specs.Item.{Item, is_enabled, replaced}
-use Rattle.cil_macros.specs.Items.{Kept, item_at, items_in, says_as_written, word_at}
+use Rattle.cil_macros.specs.Items.{Kept, item_at, items_in, may_say_lists, says_as_written, word_at}
 use Rattle.cil_names.specs.Resolves.{is_mapping}
 use Rattle.cil_names.specs.declared.entry.Entry.{Entry}
 use Rattle.cil_names.specs.declared.known.Known.{Known}
@@ -40,9 +40,10 @@ pub record HasKinds (r : SpaceKinds) (which : SpaceOf) : Type 0 where
   pub aliases : AreSets r.aliases which.aliases
   pub attributes : AreSets r.attributes which.attributes
 
--- statements of this keyword say what is written, and ask for the words of their terms
+-- statements of this keyword say what is written, each word as a word, and ask for the words of their terms
 pub record SaysItsTerms (keyword : Keyword) : Type 0 where
   pub written : says_as_written keyword ≡ true
+  pub named : may_say_lists keyword ≡ false
   pub plain : is_mapping keyword ≡ false
 
 -- so do the statements that give members

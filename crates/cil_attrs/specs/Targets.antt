@@ -14,7 +14,7 @@ use Rattle.cil_syntax.specs.Terms.{Term, Leaf, Name, Form}
 use Rattle.cil_syntax.specs.declared.term.Word.{Word}
 use Rattle.cil_blocks.specs.declared.namespaces.Space as blocks
 use Rattle.cil_macros.specs.Item.{Item, OptSet}
-use Rattle.cil_macros.specs.Items.{Kept, item_at, items_in, says_as_written}
+use Rattle.cil_macros.specs.Items.{Kept, item_at, items_in, may_say_lists, says_as_written}
 use Rattle.cil_names.specs.Declarations.{Symbol}
 use Rattle.cil_names.specs.Known.{enabled_in}
 use Rattle.cil_names.specs.Numbers.{symbol_of}
@@ -148,7 +148,8 @@ IsToldAmong i P steps f = (s : Step) × Contains steps s × IsToldOf i P s f
 
 -- the statement at the place of the step says two words
 abbrev pub SaysTwo : Kept → Step → Type 0
-SaysTwo i s = (w v : ScopedWord) × (word_and_term (item_at i s.at).args ≡ Some (w, Leaf v)) × (says_as_written (item_at i s.at).keyword ≡ true) × (s.at < length (items_in i))
+SaysTwo i s = (w v : ScopedWord) × (word_and_term (item_at i s.at).args ≡ Some (w, Leaf v)) × (says_as_written (item_at i s.at).keyword ≡ true) × (may_say_lists (item_at i s.at).keyword ≡ false)
+    × (s.at < length (items_in i))
 
 -- ---- which sets depend on themselves
 

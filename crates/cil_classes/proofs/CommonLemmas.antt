@@ -6,6 +6,9 @@ use Rattle.std.specs.declared.cmp.Ordering.{Ordering}
 use Rattle.std.specs.declared.cmp.Ordering.TheVariants.{Less, Equal, Greater}
 use Rattle.std.proofs.Common.{◌≡◌, ℕ, suc, ◌+◌, ◌<◌, ◌≤◌, Bool, true, false, List, [], ◌∷◌, ◌++◌, length, take, get_or, refl, sym, ◌∙◌, ap, subst, inl, inr, arith}
 use Rattle.std.proofs.lemmas.Bool.{cases_eq, true≢false}
+use Rattle.cil_syntax.specs.declared.kind.Keyword.{Keyword}
+use Rattle.cil_syntax.specs.declared.kind.Keyword.TheVariants as keywords
+use Rattle.cil_macros.specs.Items.{may_say_lists}
 use Rattle.std.proofs.lemmas.Bool.Decides.{nat_tests}
 use Rattle.std.proofs.lemmas.List.{get_or-replicate, get_or-set_other, get_or-set_same, length-replicate, take_all}
 use Rattle.std.proofs.Math.ListN.{get_or-eq_default, replicate}
@@ -24,7 +27,7 @@ use Rattle.cil_macros.proofs.FormLemmas.{pair_across}
 use Rattle.cil_names.specs.Declarations.{Symbol}
 use Rattle.cil_names.specs.Entries.{AreOrdered}
 use Rattle.cil_names.specs.Numbers.{symbol_of}
-use Rattle.cil_names.specs.Resolves.{names_outside}
+use Rattle.cil_names.specs.Resolves.{is_class_common, names_outside}
 use Rattle.cil_names.specs.Shared.{AreShared, IsEntryOf, IsPairOf, IsSharing, Pair, Shares}
 use Rattle.cil_names.specs.SharedOrder.{same_pair, shared_cmp, shared_total}
 use Rattle.cil_names.specs.declared.entry.Entry.{Entry}
@@ -315,3 +318,8 @@ module _ (xs : List Item) (before : List Fault) where
 
   pub all_told : (n : ℕ) (faults : List Fault) → length xs ≤ n → AreToldTwice (take n xs) faults → (f : Fault) → Contains faults f ↔ (Contains before f ⊎ IsToldTwice xs f)
   all_told n faults over are = subst (λ ys. AreToldTwice ys faults) (take_all n xs over) are
+
+-- what joins a common to a class has no place for a list
+pub joins_no_lists : (k : Keyword) → is_class_common k ≡ true → may_say_lists k ≡ false
+joins_no_lists keywords.ClassCommon e = refl
+joins_no_lists k e = absurd (true≢false (sym e))

@@ -37,6 +37,7 @@ use Rattle.cil_classes.specs.NodeOrder.{node_cmp, node_total, one_node, same_nod
 use Rattle.cil_classes.specs.Nodes.{IsBitOf, IsEntryOf, IsNodeIn, StandsAs}
 use Rattle.cil_classes.specs.Parts.{AreNodes, IsPartIn}
 use Rattle.cil_classes.specs.Tied.{AreGivens, IsThere}
+use Rattle.cil_classes.proofs.AlikeLemmas.{part_alike}
 use Rattle.cil_classes.proofs.EntryForLemmas.{same_entry}
 use Rattle.cil_classes.proofs.NodeLemmas.{one_place}
 use Rattle.cil_classes.proofs.ValueLemmas.{apart}
@@ -122,7 +123,7 @@ module _ (k : Known) (xs : List Item) (names : Kind → List (List ℕ)) (known 
   given_recorded given at part = (
     (is.gift, is.by),
     λ g gives. subst (λ j. IsGivenFor k xs rows nodes j given) (sym (is.only g gives))
-        (record { node = r.node; at = at; stands = is.node }, subst (IsPartIn k xs rows nodes given.part) (sym is.term) part),
+        (record { node = r.node; at = at; stands = is.node }, part_alike xs (enabled_in k) (IsNodeIn k nodes) (IsBitOf xs (enabled_in k) rows) given.part (term_with f r.«module» r.term.now) is.gift.term (sym is.term) part),
   )
 
 -- ---- all of them

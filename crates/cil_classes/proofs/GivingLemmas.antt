@@ -1,5 +1,6 @@
 -- What a statement gives, by the meanings of its words.
 use Rattle.std.specs.Prelude.{Contains, Option, Some, None, if◌then◌else◌, slice_get}
+use Rattle.std.specs.List.{list_all}
 use Rattle.std.proofs.Common.{◌≡◌, ℕ, ◌<◌, ◌≤◌, true, false, List, [], ◌∷◌, ◌++◌, drop, get_or, length, map, refl, sym, ◌∙◌, ap, subst, inl, inr, arith}
 use Rattle.std.proofs.lemmas.Bool.{true≢false}
 use Rattle.std.proofs.lemmas.List.{map-append}
@@ -17,6 +18,7 @@ use Rattle.cil_syntax.specs.Said.{said_of}
 use Rattle.cil_syntax.specs.Scopes.{ScopedWord}
 use Rattle.cil_syntax.specs.Terms.{Term, Leaf, Terms, nil, cons}
 use Rattle.cil_macros.specs.Item.{Item, OptSet, is_enabled, words_in}
+use Rattle.cil_macros.specs.ListTerms.{AreAlike, IsAlike, spotless}
 use Rattle.cil_macros.proofs.FormLemmas.{across, all_across, leaf_across, no_rule, no_word, rule_across}
 use Rattle.cil_names.specs.Declarations.{Symbol}
 use Rattle.cil_names.specs.declared.known.Known.{Known}
@@ -32,6 +34,7 @@ use Rattle.cil_classes.specs.Givings.{Gift, GivesTo, IsGivenBy, IsGivingOf, IsNo
 use Rattle.cil_classes.specs.Nodes.{IsEntryOf}
 use Rattle.cil_classes.specs.Parts.{IsEntryFor}
 use Rattle.cil_classes.specs.Tied.{IsThere}
+use Rattle.cil_classes.proofs.AlikeLemmas.{IsLike, like_back, rule_alike, leaf_alike}
 use Rattle.cil_classes.proofs.EntryForLemmas.{its_permissions, list_for}
 use Rattle.cil_classes.proofs.FormedLemmas.{no_leaf_across, set_across}
 use Rattle.cil_classes.proofs.ValueLemmas.{found_at, found_here}
@@ -108,7 +111,7 @@ module _ (k : Known) (xs : List Item) (names : Kind → List (List ℕ)) (known 
         by = record { enabled = enabled; there = tt; given = (f w, is, set_args, for.stands) };
         only = λ g gives. let i = its_set g gives in same_gift g its_gift (i.1 ∙ ap named (for.only_symbol i.0 i.2)) i.3;
         node = (subst (λ j. IsEntryOf k.lookup.namespaces.now k.lookup.names.now kinds.ClassPermission j (symbol_of k.lookup.namespaces.now for.entry)) (sym entry) (entry_itself kinds.ClassPermission (f w) d for), number);
-        term = ap (across f) (sym term);
+        term = ap (λ u. spotless (across f u)) (sym term);
         begin = record {
           more = [];
           are = rest ∙ ap (drop 1) (set_row words are) ∙ map-append (value_in k) (wanted_in (across f t)) [] ∙ ap (λ u. map (value_in k) (wanted_in (across f u)) ++ []) (sym term);
@@ -224,7 +227,7 @@ module _ (k : Known) (xs : List Item) (names : Kind → List (List ℕ)) (known 
               subst (λ j. IsEntryOf k.lookup.namespaces.now k.lookup.names.now kinds.ClassMap j symbol) (sym entry) (entry_itself kinds.ClassMap (f w) d for),
               ap (λ j. slice_get (listed_at k.permissions.now j) r.node.number) entry ∙ ap (slice_get permissions) number ∙ here,
             );
-            term = ap (across f) (sym term);
+            term = ap (λ u. spotless (across f u)) (sym term);
             begin = record {
               more = [];
               are =
@@ -241,3 +244,57 @@ module _ (k : Known) (xs : List Item) (names : Kind → List (List ℕ)) (known 
 
     pub gives_no_mapping : IsNoMapping args → (g : Gift) → GivesTo xs (enabled_in k) x g → ⊥
     gives_no_mapping other g gives = elim other [ inl none ↦ no_mapping none g gives | inr m ↦ no_permission_word m.0 m.1 m.2 m.3 m.4 g gives ]
+
+-- ---- statements that are the same but for the places of what they say
+
+module _ (xs : List Item) (s : OptSet) where
+  -- what the one gives, the other gives
+  record GivesLike (y : Item) (g : Gift) : Type 0 where
+    pub term : Term ScopedWord
+    pub alike : IsAlike g.term term
+    pub gives : GivesTo xs s y (record { holder = g.holder; term = term })
+
+  gives_like : (x y : Item) → x.keyword ≡ keywords.ClassMapping → IsLike x y → (g : Gift) → GivesTo xs s x g → GivesLike y g
+  gives_like x y is like g gives =
+      let (word, permission, m, holder, args, stands) = of_mapping xs s x g.holder g.term is gives.given in
+      let (q, cp, three, second, third) = rule_alike word (Leaf permission) g.term y.args (subst (λ ts. AreAlike ts y.args) args like.args) in
+      let said : y.args ≡ cons (Leaf word) (cons (Leaf permission) (cons cp nil)) = three ∙ ap (λ u. cons (Leaf word) (cons u (cons cp nil))) (leaf_alike permission q second) in
+      record {
+        term = cp;
+        alike = third;
+        gives = record {
+          enabled = ap (list_all s) (sym like.round) ∙ gives.enabled;
+          there = gives.there;
+          given = subst (λ h. IsGivenBy xs s y h cp) (sym holder) (word, permission, sym like.keyword ∙ is, said, stands, refl);
+        };
+      }
+
+  one_term : (x : Item) → x.keyword ≡ keywords.ClassMapping → (g h : Gift) → GivesTo xs s x g → GivesTo xs s x h → g.term ≡ h.term
+  one_term x is g h a b =
+      let (word, permission, m, holder, args, stands) = of_mapping xs s x g.holder g.term is a.given in
+      let (other, another, n, of, same, also) = of_mapping xs s x h.holder h.term is b.given in
+      ap (λ p. p.2) (same_Some (word, Leaf permission, g.term) (other, Leaf another, h.term) (ap rule_form (sym args ∙ same)))
+
+module _ (k : Known) (xs : List Item) (x y : Item) (is : y.keyword ≡ keywords.ClassMapping) (like : IsLike y x) where
+  back : IsLike x y
+  back = like_back y x like
+
+  x_is : x.keyword ≡ keywords.ClassMapping
+  x_is = sym like.keyword ∙ is
+
+  pub none_given : ((g : Gift) → GivesTo xs (enabled_in k) y g → ⊥) → (g : Gift) → GivesTo xs (enabled_in k) x g → ⊥
+  none_given none g gives = let l = gives_like xs (enabled_in k) x y x_is back g gives in none _ l.gives
+
+  pub given_like : (f : Word → ScopedWord) (r : Giving) → IsGivingOf k xs f y r → IsGivingOf k xs f x r
+  given_like f r of =
+      let l = gives_like xs (enabled_in k) y x is like of.gift of.by in
+      record {
+        gift = record { holder = of.gift.holder; term = l.term };
+        by = l.gives;
+        only = λ g gives.
+            let m = gives_like xs (enabled_in k) x y x_is back g gives in
+            same_gift g (record { holder = of.gift.holder; term = l.term }) (ap (λ (h : Gift). h.holder) (of.only _ m.gives)) (one_term xs (enabled_in k) x x_is g (record { holder = of.gift.holder; term = l.term }) gives l.gives);
+        node = of.node;
+        term = sym l.alike ∙ of.term;
+        begin = of.begin;
+      }

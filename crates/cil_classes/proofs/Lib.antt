@@ -1,3 +1,4 @@
+pub mod AlikeLemmas
 pub mod AssignLemmas
 pub mod BitLemmas
 pub mod ClassRowLemmas

@@ -18,6 +18,7 @@ use Rattle.cil_syntax.specs.declared.kind.Kind.TheVariants as kinds
 use Rattle.cil_syntax.specs.declared.kind.Sign.TheVariants as signs
 use Rattle.cil_faults.specs.declared.spot.Spot.{Spot}
 use Rattle.cil_syntax.specs.declared.term.Word.{Word}
+use Rattle.cil_syntax.specs.Program.{statement_of}
 use Rattle.cil_syntax.specs.Said.{args_of}
 use Rattle.cil_syntax.specs.Spelling.{same_bytes}
 use Rattle.cil_syntax.specs.Table.{entry_of}
@@ -34,13 +35,13 @@ use Rattle.cil_blocks.specs.declared.namespaces.Space.{Space}
 use Rattle.cil_names.specs.Declarations.{Declaration, Symbol, by, content_of, declarations, declared_by}
 use Rattle.cil_names.specs.Entries.{AreEntries, HasNoEntryIn, IsEntryIn, is_entry_of}
 use Rattle.cil_macros.specs.Item.{Item, OptSet, all_replaced, is_enabled}
-use Rattle.cil_macros.specs.Items.{says_as_written}
+use Rattle.cil_macros.specs.Items.{Kept, item_at, may_say_lists, placed_at, says_as_written, word_at}
 use Rattle.cil_names.specs.Numbers.{symbol_of}
 use Rattle.cil_names.specs.Resolves.{has_permission}
 use Rattle.cil_syntax.specs.Kinds.{is_wanted}
 use Rattle.cil_blocks.specs.Namespaces.{space_at}
 use Rattle.cil_names.specs.Unresolved.{ArePermissions, listed_at}
-use Rattle.cil_macros.proofs.ItemsThere.{IsSaid}
+use Rattle.cil_macros.proofs.ItemsThere.{keyword_there, named_there}
 use Rattle.cil_classes.specs.Commons.{IsToldTwice}
 use Rattle.cil_classes.specs.Faults.{ClassFault, HasManyClasses, too_many, two_commons, wide}
 use Rattle.cil_classes.specs.Row.{most_permissions}
@@ -98,9 +99,17 @@ module _ (f : Word → ScopedWord) where
 pub not_enabled : (xs : List Item) (s : OptSet) (x : Item) → is_enabled s x ≡ false → (f : Fault) → IsWide s xs x f → ⊥
 not_enabled xs s x off f w = true≢false (sym w.enabled ∙ off)
 
-module _ (ss : List Space) (xs : List Item) (es : List Entry) (s : OptSet) (x : Item) (st : Statement) (g : Word → ScopedWord) (said : IsSaid st g x) where
+-- what a class statement says is what is written
+pub record IsClassSaid (st : Statement) (g : Word → ScopedWord) (x : Item) : Type 0 where
+  pub keyword : x.keyword ≡ st.keyword
+  pub args : st.keyword ≡ keywords.Class → x.args ≡ all_replaced (λ at. at) g (args_of st)
+
+pub class_said : (i : Kept) (at : ℕ) (st : Statement) → statement_of st ≡ (placed_at i at).standing.statement.statement → IsClassSaid st (word_at i at) (item_at i at)
+class_said i at st is = record { keyword = keyword_there i at st is; args = λ k. named_there i at st is (ap may_say_lists k) (ap says_as_written k) }
+
+module _ (ss : List Space) (xs : List Item) (es : List Entry) (s : OptSet) (x : Item) (st : Statement) (g : Word → ScopedWord) (said : IsClassSaid st g x) where
   class_says : st.keyword ≡ keywords.Class → x.args ≡ all_replaced (λ at. at) g (args_of st)
-  class_says k = said.args (ap says_as_written k)
+  class_says k = said.args k
 
   declares_by : (f : Fault) (w : IsWide s xs x f) → DeclaresClass st w.at w.name
   declares_by f w =

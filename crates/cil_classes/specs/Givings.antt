@@ -8,6 +8,7 @@ use Rattle.cil_syntax.specs.Said.{said_of}
 use Rattle.cil_syntax.specs.Scopes.{ScopedWord}
 use Rattle.cil_syntax.specs.Terms.{Term, Leaf, Terms, nil, cons}
 use Rattle.cil_macros.specs.Item.{Item, OptSet, is_enabled}
+use Rattle.cil_macros.specs.ListTerms.{IsAlike}
 use Rattle.cil_names.specs.declared.known.Known.{Known}
 use Rattle.cil_names.specs.Known.{BeginWith, enabled_in}
 use Rattle.cil_names.specs.Members.{StandsFor}
@@ -57,13 +58,14 @@ pub record GivesTo (xs : List Item) (s : OptSet) (x : Item) (g : Gift) : Type 0 
   pub there : IsThere xs s g.holder
   pub given : IsGivenBy xs s x g.holder g.term
 
--- what the statement gives, by numbers: the node of its holder, its term, and meanings that begin with those of the term's words
+-- what the statement gives, by numbers: the node of its holder, its term, whatever the places of its lists, and meanings that begin
+-- with those of the term's words
 pub record IsGivingOf (k : Known) (xs : List Item) (f : Word → ScopedWord) (x : Item) (r : Giving) : Type 0 where
   pub gift : Gift
   pub by : GivesTo xs (enabled_in k) x gift
   pub only : (g : Gift) → GivesTo xs (enabled_in k) x g → g ≡ gift
   pub node : StandsAs k.lookup.namespaces.now k.lookup.names.now k.permissions.now r.node gift.holder
-  pub term : gift.term ≡ term_with f r.«module» r.term.now
+  pub term : IsAlike gift.term (term_with f r.«module» r.term.now)
   pub begin : BeginWith k f (said_of r.«module» r.term.now) r.words.now
 
 -- the node is that of the holder

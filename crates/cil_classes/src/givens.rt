@@ -1,6 +1,6 @@
 //! What the statements of a policy give to class permissions and to permissions of class maps, by numbers.
 
-ghost use Rattle.std.specs.Prelude.{◌≡◌, ◌<◌, ℕ, Contains, IfOk, List, MatchOption, None, Some, length, map, true};
+ghost use Rattle.std.specs.Prelude.{◌≡◌, ◌<◌, ℕ, Contains, IfOk, List, MatchOption, None, Some, length, map, true, false, IsTrue};
 ghost use Rattle.std.specs.List.Sorted.{IsStrictlySortedBy};
 ghost use Rattle.cil_base.specs.Records.{AreRecordsOf, IsRecordOf};
 ghost use Rattle.cil_syntax.specs.declared.kind.Keyword.TheVariants as keywords;
@@ -12,7 +12,9 @@ ghost use Rattle.cil_syntax.specs.Said.{all_said, args_of, said_of};
 ghost use Rattle.cil_syntax.specs.Scopes.{ScopedWord};
 ghost use Rattle.cil_macros.proofs.FormLemmas.{all_across};
 ghost use Rattle.cil_macros.specs.Item.{Item, is_enabled};
-ghost use Rattle.cil_macros.specs.Items.{item_at, items_in, word_at};
+ghost use Rattle.cil_macros.specs.Items.{SaysItsWords, item_at, items_in, word_at};
+ghost use Rattle.cil_macros.specs.ListTerms.{AreAlike};
+ghost use Rattle.cil_names.specs.declared.known.Known.{Known as Lookups};
 ghost use Rattle.cil_names.specs.Known.{IsKnown, enabled_in, row_in};
 ghost use Rattle.cil_names.specs.Numbers.{AreApart};
 ghost use Rattle.cil_names.specs.Rows.{IsTableOf};
@@ -69,11 +71,57 @@ fn unsorted(alloc: Global, instances: &Instances, known: &Known) -> Result<Vec<N
 {
     let mut nodes = Vec::new(alloc);
     for at in 0..instances.len() {
-        if let Some(giving) = giving_at(instances, at, known.words.row(at), known) {
-            nodes.push(giving.node)?;
+        if let Some(node) = node_at(alloc, instances, at, known.words.row(at), known)? {
+            nodes.push(node)?;
         }
     }
     Ok(nodes)
+}
+
+/// To what the statement at a place gives something, if it is an enabled one that does.
+fn node_at(
+    alloc: Global,
+    instances: &Instances,
+    at: usize,
+    words: &[Meaning],
+    known: &Known,
+) -> Result<Option<Node>, NoMemory>
+    requires within { at < length (items_in instances.now) }
+    ensures { IfOk result (λ node. (xs : List Item) (names : kinds.Kind → List (List ℕ)) → IsKnown known.now xs names → words.now ≡ row_in known.now (item_at instances.now at)
+        → IsRecordOf (GivesTo xs (enabled_in known.now)) (IsNodeFor known.now) (item_at instances.now at) node) }
+{
+    if !maps_list(instances, at, known) {
+        return Ok(node_of(giving_at(instances, at, words, known)));
+    }
+    let terms = instances.terms(alloc, at)?;
+    Ok(node_of(mapping_giving(known, terms.as_slice(), 0, words)))
+}
+
+/// The node of what a statement gives, if it gives something.
+fn node_of(giving: Option<Giving<'_, '_, '_>>) -> Option<Node>
+    ensures { (k : Lookups) (xs : List Item) (f : AWord → ScopedWord) (x : Item) → MatchOption giving.entry ((g : Gift) → GivesTo xs (enabled_in k) x g → ⊥) (IsGivingOf k xs f x)
+        → IsRecordOf (GivesTo xs (enabled_in k)) (IsNodeFor k) x result }
+{
+    let Some(giving) = giving else {
+        return None;
+    };
+    Some(giving.node)
+}
+
+/// Whether the statement at a place is an enabled classmapping that may have a list where a word is written.
+fn maps_list(instances: &Instances, at: usize, known: &Known) -> bool
+    requires { at < length (items_in instances.now) }
+    ensures lists { IsTrue result → (item_at instances.now at).keyword ≡ keywords.ClassMapping }
+    ensures enabled { IsTrue result → is_enabled (enabled_in known.now) (item_at instances.now at) ≡ true }
+    ensures words { result ≡ false → is_enabled (enabled_in known.now) (item_at instances.now at) ≡ true → (item_at instances.now at).keyword ≡ keywords.ClassMapping → SaysItsWords instances.now at }
+{
+    if !same_keyword(instances.statement_there(at).keyword, Keyword::ClassMapping) {
+        return false;
+    }
+    if !instances.may_have_list(at) {
+        return false;
+    }
+    known.is_enabled(instances, at)
 }
 
 /// What enabled statements give, in their order, where each to which they give something has a node. Error: out of memory.
@@ -128,7 +176,34 @@ fn given_at(
         → words.now ≡ row_in known.now (item_at instances.now at)
         → IsRecordOf (GivesTo xs (enabled_in known.now)) (IsGivenFor known.now xs classes.now nodes.now) (item_at instances.now at) given) }
 {
-    let Some(giving) = giving_at(instances, at, words, known) else {
+    if !maps_list(instances, at, known) {
+        let giving = giving_at(instances, at, words, known);
+        let given = given_of(alloc, known, classes, nodes, giving)?;
+        return Ok(given);
+    }
+    let terms = instances.terms(alloc, at)?;
+    let giving = mapping_giving(known, terms.as_slice(), 0, words);
+    let listed = given_of(alloc, known, classes, nodes, giving)?;
+    Ok(listed)
+}
+
+/// The same, where this is what a statement gives.
+fn given_of(
+    alloc: Global,
+    known: &Known,
+    classes: &[Class],
+    nodes: &[Node],
+    giving: Option<Giving<'_, '_, '_>>,
+) -> Result<Option<Given>, NoMemory>
+    requires rows { AreOrderlyRows classes.now }
+    requires rising { IsStrictlySortedBy node_cmp nodes.now }
+    ensures { IfOk result (λ given. (xs : List Item) (names : kinds.Kind → List (List ℕ)) → IsKnown known.now xs names
+        → AreApart known.now.lookup.names.now (enabled_in known.now) known.now.numbers.now
+        → AreClasses xs (enabled_in known.now) (names variants.Class) classes.now → AreNodes known.now nodes.now → HaveNodes known.now xs nodes.now → (x : Item) (f : AWord → ScopedWord) → Contains xs x
+        → MatchOption giving.entry ((g : Gift) → GivesTo xs (enabled_in known.now) x g → ⊥) (IsGivingOf known.now xs f x)
+        → IsRecordOf (GivesTo xs (enabled_in known.now)) (IsGivenFor known.now xs classes.now nodes.now) x given) }
+{
+    let Some(giving) = giving else {
         return Ok(None);
     };
     let Some(to) = place_of(nodes, giving.node) else {
@@ -155,6 +230,7 @@ fn giving_at<'p, 'a, 's>(
     known: &Known,
 ) -> Option<Giving<'p, 'a, 's>>
     requires within { at < length (items_in instances.now) }
+    requires words { is_enabled (enabled_in known.now) (item_at instances.now at) ≡ true → (item_at instances.now at).keyword ≡ keywords.ClassMapping → SaysItsWords instances.now at }
     ensures { (xs : List Item) (names : kinds.Kind → List (List ℕ)) → IsKnown known.now xs names → words.now ≡ row_in known.now (item_at instances.now at)
         → MatchOption result ((g : Gift) → GivesTo xs (enabled_in known.now) (item_at instances.now at) g → ⊥)
         (IsGivingOf known.now xs (word_at instances.now at) (item_at instances.now at)) }
@@ -167,7 +243,8 @@ fn giving_at<'p, 'a, 's>(
         return set_giving(known, statement, words);
     }
     if same_keyword(statement.keyword, Keyword::ClassMapping) {
-        return mapping_giving(known, statement, words);
+        let module = statement.at.module;
+        return mapping_giving(known, statement.args.as_slice(), module, words);
     }
     None
 }
@@ -197,18 +274,18 @@ fn set_giving<'p, 'a, 's>(
     })
 }
 
-/// What a classmapping gives.
-fn mapping_giving<'p, 'a, 's>(
+/// What a classmapping gives that says these terms, or others in whose place they stand.
+fn mapping_giving<'t, 'a, 's>(
     known: &Known,
-    statement: &'p Statement<'a>,
+    terms: &'t [Term<'a>],
+    module: u64,
     words: &'s [Meaning],
-) -> Option<Giving<'p, 'a, 's>>
+) -> Option<Giving<'t, 'a, 's>>
     ensures { (xs : List Item) (names : kinds.Kind → List (List ℕ)) (x : Item) (f : AWord → ScopedWord) → IsKnown known.now xs names → is_enabled (enabled_in known.now) x ≡ true
-        → x.keyword ≡ keywords.ClassMapping → x.args ≡ all_across f (args_of statement.now) → words.now ≡ row_in known.now x
+        → x.keyword ≡ keywords.ClassMapping → AreAlike (all_across f (all_said «module» terms.now)) x.args → words.now ≡ row_in known.now x
         → MatchOption result ((g : Gift) → GivesTo xs (enabled_in known.now) x g → ⊥) (IsGivingOf known.now xs f x) }
 {
-    let module = statement.at.module;
-    let Some(term) = mapped_term(statement.args.as_slice()) else {
+    let Some(term) = mapped_term(terms) else {
         return None;
     };
     let Some(entry) = entry_of(known, Kind::ClassMap, meaning_at(words, 0)) else {

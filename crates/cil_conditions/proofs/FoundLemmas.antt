@@ -23,8 +23,8 @@ use Rattle.cil_syntax.specs.Written.{Statement as Said}
 use Rattle.cil_blocks.specs.Branches.{condition_in, replaced}
 use Rattle.cil_blocks.specs.Contents.{is_conditional}
 use Rattle.cil_macros.specs.Item.{all_replaced}
-use Rattle.cil_macros.specs.Items.{Kept, SaysWords, condition_at, item_at, items_in, placed_at, says_as_written, word_at}
-use Rattle.cil_macros.proofs.ItemsThere.{keyword_there, said_there}
+use Rattle.cil_macros.specs.Items.{Kept, condition_at, item_at, items_in, may_say_lists, placed_at, says_as_written, word_at}
+use Rattle.cil_macros.proofs.ItemsThere.{keyword_there, named_there}
 use Rattle.cil_names.specs.declared.known.Known.{Known}
 use Rattle.cil_names.specs.Known.{BeginWith, IsKnown, enabled_in, row_in, value_in}
 use Rattle.cil_names.specs.Resolves.{all_wanted_in, is_mapping, wanted_in}
@@ -120,6 +120,12 @@ conditional_written keywords.BooleanIf e = refl
 conditional_written keywords.Block e = absurd (let f : false ≡ true = e in cc)
 conditional_written w e = absurd (let f : false ≡ true = e in cc)
 
+-- no list stands for a word of it
+conditional_named : (w : Keyword) → is_conditional w ≡ true → may_say_lists w ≡ false
+conditional_named keywords.BooleanIf e = refl
+conditional_named keywords.Block e = absurd (let f : false ≡ true = e in cc)
+conditional_named w e = absurd (let f : false ≡ true = e in cc)
+
 conditional_plain : (w : Keyword) → is_conditional w ≡ true → is_mapping w ≡ false
 conditional_plain keywords.BooleanIf e = refl
 conditional_plain keywords.Block e = absurd (let f : false ≡ true = e in cc)
@@ -139,7 +145,7 @@ module _ (i : Kept) (k : Known) (at : ℕ) (s : Statement) (is : statement_of s 
         ap (λ (w : Said). replaced (λ p. p) (word_at i at) (condition_in w.args)) (sym is)
         ∙ ap (λ ts. replaced (λ p. p) (word_at i at) (condition_in ts)) has.are
 
-    module _ (says : SaysWords i at) (conditional : is_conditional s.keyword ≡ true) (words : List (Option ℕ)) (row : words ≡ row_in k (item_at i at)) where
+    module _ (conditional : is_conditional s.keyword ≡ true) (words : List (Option ℕ)) (row : words ≡ row_in k (item_at i at)) where
       -- its meanings come first
       begins : BeginWith k (word_at i at) (said_of s.at.«module» t) words
       unfolding all_wanted_in all_replaced
@@ -148,7 +154,7 @@ module _ (i : Kept) (k : Known) (at : ℕ) (s : Statement) (is : statement_of s 
         are =
             row
             ∙ ap (map (value_in k)) (plain_said (item_at i at).keyword (item_at i at).args (ap is_mapping (keyword_there i at s is) ∙ conditional_plain s.keyword conditional))
-            ∙ ap (λ ts. map (value_in k) (all_wanted_in ts)) (said_there i at s is says (conditional_written s.keyword conditional) ∙ ap (all_replaced (λ p. p) (word_at i at)) has.are)
+            ∙ ap (λ ts. map (value_in k) (all_wanted_in ts)) (named_there i at s is (conditional_named s.keyword conditional) (conditional_written s.keyword conditional) ∙ ap (all_replaced (λ p. p) (word_at i at)) has.are)
             ∙ map-append (value_in k) (wanted_in (term_with (word_at i at) s.at.«module» t)) (all_wanted_in (all_replaced (λ p. p) (word_at i at) has.more));
       }
 

@@ -7,7 +7,7 @@ use Rattle.cil_syntax.specs.declared.term.Op.{Op}
 use Rattle.cil_syntax.specs.declared.term.Op.TheVariants as ops
 use Rattle.cil_faults.specs.declared.spot.Spot.{Spot}
 use Rattle.cil_syntax.specs.declared.term.Word.{Word}
-use Rattle.cil_macros.specs.Parameters.{kind_of_argument, read_argument, serves_sign, cell_in, cells_in}
+use Rattle.cil_macros.specs.Parameters.{argument_kind, read_argument, serves_sign, cell_in, cells_in}
 use Rattle.cil_macros.specs.Placed.{is_misplaced, put}
 use Rattle.cil_syntax.specs.Scopes.{ScopedWord}
 use Rattle.cil_syntax.specs.Heads.{begins_with, first_words, heads}
@@ -22,7 +22,7 @@ abbrev kept : ℕ → List ℕ → Term Word
 kept at bytes = Leaf record { at = spot at; bytes = bytes; sign = signs.Unread }
 
 abbrev is_argument : Op → Term Word → Bool
-is_argument kind t = is_some (read_argument (kind_of_argument kind) (cell_in t))
+is_argument kind t = is_some (read_argument (argument_kind kind) (cell_in t))
 
 -- TypeKind: `a`
 -- TypeKind: `(a)`
@@ -140,13 +140,13 @@ put_there = (refl, refl, refl)
 
 -- which places arguments serve: a category also where sets of categories stand, and a set where one category does; a class
 -- where class maps do; a boolean no type
-pub served : (serves_sign (kind_of_argument ops.CategoryKind) signs.CategorySets ≡ true)
-    × (serves_sign (kind_of_argument ops.CategorySetKind) signs.Categories ≡ true)
-    × (serves_sign (kind_of_argument ops.SensitivityKind) signs.SensitivityAliases ≡ true)
-    × (serves_sign (kind_of_argument ops.ClassKind) signs.ClassMaps ≡ true)
-    × (serves_sign (kind_of_argument ops.ClassPermissionKind) signs.NamedPermissions ≡ true)
-    × (serves_sign (kind_of_argument ops.BooleanKind) signs.Booleans ≡ true)
-    × (serves_sign (kind_of_argument ops.BooleanKind) signs.Types ≡ false)
-    × (serves_sign (kind_of_argument ops.LevelKind) signs.LevelRanges ≡ false)
-    × (serves_sign (kind_of_argument ops.ClassPermissionKind) signs.Permission ≡ false)
+pub served : (serves_sign (argument_kind ops.CategoryKind) signs.CategorySets ≡ true)
+    × (serves_sign (argument_kind ops.CategorySetKind) signs.Categories ≡ true)
+    × (serves_sign (argument_kind ops.SensitivityKind) signs.SensitivityAliases ≡ true)
+    × (serves_sign (argument_kind ops.ClassKind) signs.ClassMaps ≡ true)
+    × (serves_sign (argument_kind ops.ClassPermissionKind) signs.NamedPermissions ≡ true)
+    × (serves_sign (argument_kind ops.BooleanKind) signs.Booleans ≡ true)
+    × (serves_sign (argument_kind ops.BooleanKind) signs.Types ≡ false)
+    × (serves_sign (argument_kind ops.LevelKind) signs.LevelRanges ≡ false)
+    × (serves_sign (argument_kind ops.ClassPermissionKind) signs.Permission ≡ false)
 served = (refl, refl, refl, refl, refl, refl, refl, refl, refl)

@@ -22,7 +22,7 @@ use Rattle.cil_syntax.specs.Spelling.{is_reserved}
 use Rattle.cil_syntax.specs.Terms.{Term, Leaf, Name, Form, Terms, nil, cons}
 use Rattle.cil_faults.specs.Spots.{spot_at}
 use Rattle.cil_syntax.specs.Written.{Named}
-use Rattle.cil_macros.specs.Fits.{fits, has_form, is_read_as, is_sound_word}
+use Rattle.cil_macros.specs.Fits.{fits, is_of_kind, is_read_as, is_sound_word}
 use Rattle.cil_macros.specs.Parameters.{Parameter, argument_of, call_arguments, cell_in, cells_in, faultless, is_text, macro_parameters, parameter_in, parameters_in, sound, text_cell}
 
 -- ---- what a term reads as
@@ -140,7 +140,7 @@ one_parameter (Leaf w) kind name more e = cc
 one_parameter (Name at bytes) kind name more e = cc
 one_parameter (Form at op parts) kind name more e = ap (λ xs. xs ++ parameters_in more) (a_parameter parts kind name e)
 
-judged_by_kind : (x : Parameter) (t : Term Word) → is_some (argument_of x t) ≡ has_form x.kind t
+judged_by_kind : (x : Parameter) (t : Term Word) → is_some (argument_of x t) ≡ is_of_kind x.kind t
 unfolding argument_of
 judged_by_kind x t = refl
 
@@ -152,7 +152,7 @@ first_left n arguments k t within is =
 
 module _ (m n : ℕ) (p : rust.Term) (more : Terms Word) (kind : Op) (name : Named) (e : parameter_form (said_of m p) ≡ Some (kind, name)) where
   pub argument_judged : (arguments : List rust.Term) (k : ℕ) (t : rust.Term) (form : Bool) → k < length arguments → t ≡ get_or arguments k t
-      → form ≡ has_form kind (said_of n t)
+      → form ≡ is_of_kind kind (said_of n t)
       → fits (parameters_in (cons (said_of m p) more)) (all_said n (drop k arguments))
       ≡ (form && fits (parameters_in more) (all_said n (drop (k + 1) arguments)))
   argument_judged arguments k t form within is judged =

@@ -11,12 +11,14 @@ use Rattle.cil_blocks.specs.Entries.{statement_at}
 use Rattle.cil_blocks.specs.Places.{entries_in}
 use Rattle.cil_blocks.proofs.EntryLemmas.{standings_length}
 use Rattle.cil_macros.specs.declared.entry.Body as code
+use Rattle.cil_macros.specs.declared.meant.Argument.{Argument}
 use Rattle.cil_macros.specs.declared.meant.Meant.{Meant}
 use Rattle.cil_macros.specs.declared.openings.Opening.{Opening}
 use Rattle.cil_macros.specs.declared.scene.Scene.{Scene}
 use Rattle.cil_macros.specs.Calls.{home_of}
+use Rattle.cil_macros.specs.Items.{said_by, word_of}
 use Rattle.cil_macros.specs.Macros.{all_standing}
-use Rattle.cil_macros.specs.Meant.{AreArguments, meant_term, scope_there}
+use Rattle.cil_macros.specs.Meant.{AreArguments, meant_term, put_there, scope_there}
 use Rattle.cil_macros.specs.Openings.{IsNumbered, IsOpening}
 use Rattle.cil_macros.specs.Parameters.{macro_parameters}
 use Rattle.cil_macros.specs.Placed.{Body, Bound, Placed, declares, is_served, meaning, meant_by, scope_in, scope_of}
@@ -26,6 +28,7 @@ use Rattle.cil_macros.proofs.BodyLemmas.{IsBrought, is_brought}
 use Rattle.cil_macros.proofs.CallLemmas.{stood_at}
 use Rattle.cil_macros.proofs.CalledMacros.{is_macro_call}
 use Rattle.cil_macros.proofs.WalkLemmas.{number_of_macro}
+use Rattle.cil_macros.proofs.WordValues.{AreNoLists, plain_bounds, says_a_word}
 
 -- a word in a scope
 abbrev in_scope : Word → Scope → Term ScopedWord
@@ -66,6 +69,12 @@ module _ (s : Scene) (os : List Opening) (at : ℕ) (known : IsKnown s os at) (p
       ap (in_scope w) scope_here
       ∙ sym (by_argument ws p w None (ap (λ (q : Placed). find (is_served w) q.bounds) m.2)
       ∙ ap (in_scope w) (ap (λ (q : Placed). scope_of ws q w) m.2 ∙ sym (ap (λ (q : Placed). q.standing.scope) m.2)))
+
+  -- what stands has no arguments, so each word of it says a word
+  pub says_words_standing : at < length (entries_in s.spaces.now) → (w : Word) → said_by ws p w ≡ Leaf (word_of ws p w)
+  says_words_standing h =
+      let m = stood_at s.spaces.now s.brought.now.entries.items at h p here in
+      says_a_word ws p (subst AreNoLists (sym (ap (λ (q : Placed). q.bounds) m.2)) tt)
 
   -- its home
   pub standing_home : at < length (entries_in s.spaces.now) → scope_there (slice_get ps at) ≡ home_of p.standing.scope p.body
@@ -111,6 +120,21 @@ module _ (s : Scene) (os : List Opening) (at : ℕ) (known : IsKnown s os at) (p
       pub body_home : scope_there (slice_get ps o.home) ≡ home_of p.standing.scope p.body
       body_home = opening.home brought.so.call is_call ∙ sym (ap (home_of p.standing.scope) body_here)
 
+      bounds_here : AreArguments ps (macro_parameters brought.so.opened.macro.statement.statement.args) p.bounds o.arguments.items
+      bounds_here =
+          subst (λ bs. AreArguments ps (macro_parameters brought.so.opened.macro.statement.statement.args) bs o.arguments.items)
+          (sym (ap (λ (q : Placed). q.bounds) placed_here ∙ brought.is.bounds))
+          (opening.arguments brought.so.call brought.so.opened is_call brought.so.is_opened)
+
+      -- where no argument is a list, each word says a word
+      pub no_lists_in_body : o.lists ≡ false → AreNoLists p.bounds
+      no_lists_in_body none =
+          subst AreNoLists (sym bounds_here.so)
+          (plain_bounds ps (macro_parameters brought.so.opened.macro.statement.statement.args) o.arguments.items (sym opening.lists ∙ none))
+
+      pub says_words_in_body : o.lists ≡ false → (w : Word) → said_by ws p w ≡ Leaf (word_of ws p w)
+      says_words_in_body none = says_a_word ws p (no_lists_in_body none)
+
       module _ (called : ℕ) (stated : (m : Standing) → slice_get ss b.macro_rank ≡ Some m → m.statement ≡ statement_at ws called) where
         macro_stated : brought.so.opened.macro.statement ≡ statement_at ws called
         macro_stated = stated brought.so.opened.macro macro_here
@@ -127,8 +151,8 @@ module _ (s : Scene) (os : List Opening) (at : ℕ) (known : IsKnown s os at) (p
             (sym (ap (λ (q : Placed). q.bounds) placed_here ∙ brought.is.bounds))
             (opening.arguments brought.so.call brought.so.opened is_call brought.so.is_opened))
 
-        pub argument_word : (w : Word) → (m : Meant) → IsArgument ps w p.bounds m → meant_term ps w.sign m ≡ meaning ws p w
-        argument_word w m x = sym (by_argument ws p w (Some x.bound) x.is ∙ x.put_there)
+        pub argument_word : (w : Word) → (m : Argument) → IsArgument ps w p.bounds m → put_there ps w.sign m ≡ meaning ws p w
+        argument_word w m x = sym (by_argument ws p w (Some x.bound) x.is ∙ x.put_so)
 
         pub home_word : (w : Word) → find (is_served w) p.bounds ≡ None → true ≡ declares ws (statement_at ws called) w.bytes w.sign
             → meant_term ps w.sign (kept_word w o.home) ≡ meaning ws p w

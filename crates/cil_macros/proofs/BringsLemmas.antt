@@ -128,7 +128,7 @@ module _ (ws : List Written) where
       (λ r. (so.so k).1 (first_step k r)),
     )
 
-  unmarked_at : (n k : ℕ) → get_or (replicate n false) k false ≡ false
+  pub unmarked_at : (n k : ℕ) → get_or (replicate n false) k false ≡ false
   unmarked_at n k = elim (cases_lt k n) [
     | inl h ↦ get_or-replicate n k false false h
     | inr h ↦ get_or_past (replicate n false) k false (let l = length-replicate n false in omega (arith, l, h))

@@ -20,8 +20,8 @@ use Rattle.cil_macros.specs.Macros.{all_standing}
 use Rattle.cil_macros.specs.Openings.{AreOpenings, IsOpening}
 use Rattle.cil_macros.specs.Parameters.{call_arguments, macro_parameters}
 use Rattle.cil_macros.specs.Placed.{Bound, Placed}
-use Rattle.cil_macros.specs.Scene.{IsKnown, IsScene, placed_of_scene}
-use Rattle.cil_macros.specs.Walks.{written_in}
+use Rattle.cil_macros.specs.Scene.{IsKnown, IsOpened, IsScene, placed_of_scene}
+use Rattle.cil_macros.specs.Walks.{AreInTurn, written_in}
 use Rattle.cil_macros.proofs.CallLemmas.{call_there, macro_there}
 use Rattle.cil_macros.proofs.CalledMacros.{unfolded_of}
 use Rattle.cil_macros.proofs.EntryLemmas.{placed_length}
@@ -137,3 +137,17 @@ all_known s os at are meant within = record {
       let many = meant.many in
       omega (arith, h, many);
 }
+
+-- and each call that is unfolded has its body
+pub all_opened : (s : Scene) (os : List Opening) → AreInstances s.spaces.now s.brought.now → AreMeant s.spaces.now s.brought.now s.declared.now os → IsOpened s os
+all_opened s os are meant = record {
+  scene = record { standings = are.standings; brought = are.brought; declared = meant.declared };
+  in_turn = are.in_turn;
+  opened = meant.openings;
+  many = meant.many;
+}
+
+pub opened_so : (s : Scene) (xs os : List Opening) → xs ≡ os → IsScene s
+    → AreInTurn s.spaces.now s.brought.now.entries.items s.brought.now.bodies.items (length (entries_in s.spaces.now) + length s.brought.now.entries.items)
+    → AreOpenings (written_in s.spaces.now) (all_standing s.spaces.now) (placed_of_scene s) s.brought.now.bodies.items os → length os ≡ length s.brought.now.bodies.items → IsOpened s xs
+opened_so s xs os same scene in_turn opened many = subst (IsOpened s) (sym same) (record { scene = scene; in_turn = in_turn; opened = opened; many = many })

@@ -25,15 +25,18 @@ use Rattle.cil_blocks.specs.Places.{entries_in, statements_in}
 use Rattle.cil_blocks.proofs.EntryLemmas.{standings_length}
 use Rattle.cil_blocks.proofs.NameLemmas.{args_some, at_none}
 use Rattle.cil_macros.specs.declared.entry.Body.{Body}
+use Rattle.cil_macros.specs.declared.listed.Listed.{Listed}
+use Rattle.cil_macros.specs.declared.meant.Argument.{Argument}
+use Rattle.cil_macros.specs.declared.meant.Argument.TheVariants as arguments
 use Rattle.cil_macros.specs.declared.meant.Meant.{Meant}
 use Rattle.cil_macros.specs.declared.openings.Opening.{Opening}
 use Rattle.cil_macros.specs.declared.placed_word.PlacedWord.{PlacedWord}
 use Rattle.cil_macros.specs.declared.scene.Scene.{Scene}
-use Rattle.cil_macros.specs.Calls.{IsPlaced, Unfolded, is_call, unfolded}
+use Rattle.cil_macros.specs.Calls.{Unfolded, is_call, unfolded}
 use Rattle.cil_macros.specs.Instances.{AreInstances, AreMeant}
-use Rattle.cil_macros.specs.Items.{Kept, all_placed, argument_words, call_says, call_words, is_text, item_at, items_in, leaves, listed_unless, macro_words, placed_at, says, scoped_by, unfolded_words, with_macro, word_in_argument}
+use Rattle.cil_macros.specs.Items.{Kept, all_placed, argument_words, call_says, call_words, is_text, item_at, items_in, leaves, listed_unless, macro_words, placed_at, says, scoped_by, unfolded_values, unfolded_words, with_macro, word_in_argument}
 use Rattle.cil_macros.specs.Macros.{all_standing}
-use Rattle.cil_macros.specs.Meant.{bounds_by, kind_sign, meant_in, meant_term, scope_there}
+use Rattle.cil_macros.specs.Meant.{bounds_by, kind_sign, meant_in, meant_term, scope_there, value_there}
 use Rattle.cil_macros.specs.Parameters.{Parameter, macro_parameters, parameters_in}
 use Rattle.cil_macros.specs.Placed.{Placed}
 use Rattle.cil_macros.specs.Scene.{IsOpened, placed_of_scene}
@@ -42,7 +45,7 @@ use Rattle.cil_macros.proofs.ArgumentLemmas.{first_left, one_parameter}
 use Rattle.cil_macros.proofs.CallOpening.{no_macro_there}
 use Rattle.cil_macros.proofs.PlacedLemmas.{is_place, placed_so}
 use Rattle.cil_macros.proofs.ServingLemmas.{no_parameter}
-use Rattle.cil_macros.proofs.WordValues.{placed_no_lists, unfolded_are_words, unfolded_so}
+use Rattle.cil_macros.proofs.WordValues.{AreNoLists, IfUnfolded, plain_bounds, unfolded_are_words}
 
 -- ---- the word of the macro
 
@@ -113,7 +116,20 @@ no_bounds : (ps : List Placed) (xs : List Parameter) → bounds_by ps xs [] ≡ 
 no_bounds ps [] = refl
 no_bounds ps (x ∷ xs) = refl
 
-module _ (m : ℕ) (terms : List rust.Term) (arguments : List Meant) (old : List PlacedWord) where
+-- what an argument of a kind adds
+abbrev pub AddsValue : Op → Argument → List PlacedWord → List PlacedWord → Type 0
+AddsValue kind a old new = (ps : List Placed) → map (scoped_by ps) new ≡ map (scoped_by ps) old ++ word_in_argument (value_there ps kind a)
+
+module _ (kind : Op) (a : Argument) (old : List PlacedWord) where
+  -- a word or a string adds what it means
+  pub adds_plain : (m : Meant) → a ≡ arguments.Plain m → (new : List PlacedWord) → AddsArgument kind m old new → AddsValue kind a old new
+  adds_plain m e new adds ps = adds ps ∙ ap (λ x. map (scoped_by ps) old ++ word_in_argument (value_there ps kind x)) (sym e)
+
+  -- a list is no word
+  pub adds_no_list : (l : Listed) → a ≡ arguments.List l → AddsValue kind a old old
+  adds_no_list l e ps = sym (append-nil (map (scoped_by ps) old)) ∙ ap (λ x. map (scoped_by ps) old ++ word_in_argument (value_there ps kind x)) (sym e)
+
+module _ (m : ℕ) (terms : List rust.Term) (arguments : List Argument) (old : List PlacedWord) where
   abbrev left : ℕ → List Parameter
   left i = parameters_in (all_said m (drop i terms))
 
@@ -153,8 +169,8 @@ module _ (m : ℕ) (terms : List rust.Term) (arguments : List Meant) (old : List
             ∙ so.so ps;
       }
 
-      pub one_added : (kind : Op) (name : Named) → parameter_form (said_of m t) ≡ Some (kind, name) → (a : Meant) → taken < length arguments → a ≡ get_or arguments taken a
-          → (new : List PlacedWord) → AddsArgument kind a words new → AreAdded (i + 1) (taken + 1) new
+      pub one_added : (kind : Op) (name : Named) → parameter_form (said_of m t) ≡ Some (kind, name) → (a : Argument) → taken < length arguments → a ≡ get_or arguments taken a
+          → (new : List PlacedWord) → AddsValue kind a words new → AreAdded (i + 1) (taken + 1) new
       one_added kind name e a there at new adds = record { so = λ ps. by ps }
         where
           its : Parameter
@@ -163,7 +179,7 @@ module _ (m : ℕ) (terms : List rust.Term) (arguments : List Meant) (old : List
           by : (ps : List Placed) → map (scoped_by ps) new ++ argument_words (bounds_by ps (left (i + 1)) (drop (taken + 1) arguments))
               ≡ map (scoped_by ps) old ++ argument_words (bounds_by ps (parameters_in (all_said m terms)) arguments)
           by ps =
-              let word = word_in_argument (meant_term ps (kind_sign kind) a) in
+              let word = word_in_argument (value_there ps kind a) in
               let rest = argument_words (bounds_by ps (left (i + 1)) (drop (taken + 1) arguments)) in
               ap (λ xs. xs ++ rest) (adds ps)
               ∙ append_assoc (map (scoped_by ps) words) word rest
@@ -202,6 +218,11 @@ module _ (s : Scene) (os : List Opening) (are : IsOpened s os) (at : ℕ) (p : P
       → map (scoped_by (placed_of_scene s)) old ≡ map (scoped_by (placed_of_scene s)) old ++ unfolded_words (unfolded ws ss p)
   adds_nothing none old = sym (append-nil (map (scoped_by (placed_of_scene s)) old)) ∙ ap (λ o. map (scoped_by (placed_of_scene s)) old ++ unfolded_words o) (sym (not_opened none))
 
+  -- what is not unfolded says no argument
+  pub says_no_argument : HasNoBody s.brought.now.bodies.items at → unfolded_values (unfolded ws ss p) ≡ leaves (unfolded_words (unfolded ws ss p))
+  unfolding leaves
+  says_no_argument none = ap unfolded_values (not_opened none) ∙ ap (λ o. leaves (unfolded_words o)) (sym (not_opened none))
+
   module _ (number : ℕ) (x : IsBodyOf s.brought.now.bodies.items at number) where
     -- one that has a body is
     pub opened_there : (u : Unfolded) × (unfolded ws ss p ≡ Some u) × (slice_get ss x.body.macro_rank ≡ Some u.macro)
@@ -216,6 +237,16 @@ module _ (s : Scene) (os : List Opening) (are : IsOpened s os) (at : ℕ) (p : P
         let h = in_range ss x.body.macro_rank u.0.macro u.2 in
         let l = standings_length ws (entries_in s.spaces.now) in
         omega (arith, h, l)
+
+    -- arguments that are no lists are words
+    pub says_word_arguments : (o : Opening) → slice_get os number ≡ Some o → o.lists ≡ false → unfolded_values (unfolded ws ss p) ≡ leaves (unfolded_words (unfolded ws ss p))
+    says_word_arguments o e none =
+        let u = opened_there in
+        let opening = are.opened number x.body o x.is e in
+        let arguments = opening.arguments p u.0 (ap (slice_get (placed_of_scene s)) x.by_call ∙ here) u.1 in
+        unfolded_are_words (unfolded ws ss p)
+        (subst IfUnfolded (sym u.1)
+        (subst AreNoLists (sym arguments.so) (plain_bounds (placed_of_scene s) (macro_parameters u.0.macro.statement.statement.args) o.arguments.items (sym opening.lists ∙ none))))
 
     module _ (k : ℕ) (stated : (m : Standing) → slice_get ss x.body.macro_rank ≡ Some m → m.statement ≡ statement_at ws k) where
       pub macro_missing : slice_get (statements_in s.spaces.now) k ≡ None → ⊥
@@ -249,32 +280,37 @@ unfolding leaves
 macro_said p None us = refl
 macro_said p (Some w) us = refl
 
-module _ (ws : List Written) (ss : List Standing) (p : Placed) (placed : IsPlaced ws ss p) where
-  says_call : (args : Terms Word) → call_says ws ss p args ≡ leaves (call_words ws ss p args)
-  says_call args =
-      ap (with_macro p (first_word args)) (unfolded_are_words (unfolded ws ss p) (unfolded_so ws p (placed_no_lists ws ss p placed) ss))
-      ∙ macro_said p (first_word args) (unfolded_words (unfolded ws ss p))
+says_by_call : (ws : List Written) (ss : List Standing) (p : Placed) (keyword : Keyword) (args : Terms Word) → is_call keyword ≡ true → says ws ss p keyword args ≡ call_says ws ss p args
+unfolding says
+says_by_call ws ss p keywords.Call args e = refl
+says_by_call ws ss p keyword args e = absurd (let f : false ≡ true = e in cc)
 
-  says_words : (keyword : Keyword) (args : Terms Word) → is_call keyword ≡ true → says ws ss p keyword args ≡ leaves (call_words ws ss p args)
-  unfolding says
-  says_words keywords.Call args e = says_call args
-  says_words keyword args e = absurd (let f : false ≡ true = e in cc)
-
-item_says : (i : Kept) (at : ℕ) (words : List PlacedWord) → at < length (items_in i) → IsPlaced (written_in i.0) (all_standing i.0) (placed_at i at)
-    → ((p : Placed) → slice_get (all_placed i) at ≡ Some p → map (scoped_by (all_placed i)) words ≡ call_words (written_in i.0) (all_standing i.0) p p.standing.statement.statement.args)
-    → is_call (item_at i at).keyword ≡ true → (item_at i at).args ≡ leaves (map (scoped_by (all_placed i)) words)
-item_says i at words within placed so e =
-    let p = placed_at i at in
-    says_words (written_in i.0) (all_standing i.0) p placed p.standing.statement.statement.keyword p.standing.statement.statement.args e
-    ∙ ap leaves (sym (so p (placed_so i at (is_place i at within))))
-
--- the same where there is memory
-pub words_say : {E : Type 0} (j i : Kept) → j ≡ i → (at : ℕ) → at < length (items_in i) → IsPlaced (written_in i.0) (all_standing i.0) (placed_at i at) → (r : Result (Vec PlacedWord Global) E)
+-- the words that were kept, where there is memory
+pub words_say : {E : Type 0} (j i : Kept) → j ≡ i → (at : ℕ) → at < length (items_in i) → (r : Result (Vec PlacedWord Global) E)
     → IfOk r (λ words. (p : Placed) → slice_get (all_placed j) at ≡ Some p
     → map (scoped_by (all_placed j)) words.items ≡ call_words (written_in j.0) (all_standing j.0) p p.standing.statement.statement.args)
-    → IfOk r (λ words. is_call (item_at i at).keyword ≡ true → (item_at i at).args ≡ leaves (map (scoped_by (all_placed i)) words.items))
-words_say j i same at within placed (Ok words) so =
-    item_says i at words.items within placed
-    (subst (λ (k : Kept). (p : Placed) → slice_get (all_placed k) at ≡ Some p
-    → map (scoped_by (all_placed k)) words.items ≡ call_words (written_in k.0) (all_standing k.0) p p.standing.statement.statement.args) same so)
-words_say j i same at within placed (Err e) so = tt
+    → IfOk r (λ words. map (scoped_by (all_placed i)) words.items ≡ call_words (written_in i.0) (all_standing i.0) (placed_at i at) (placed_at i at).standing.statement.statement.args)
+words_say j i same at within (Ok words) so =
+    subst (λ (k : Kept). (p : Placed) → slice_get (all_placed k) at ≡ Some p
+    → map (scoped_by (all_placed k)) words.items ≡ call_words (written_in k.0) (all_standing k.0) p p.standing.statement.statement.args) same so (placed_at i at) (placed_so i at (is_place i at within))
+words_say j i same at within (Err e) so = tt
+
+-- what a call says whose arguments are words
+pub words_of_call : (i : Kept) (at : ℕ) → at < length (items_in i) → unfolded_values (unfolded (written_in i.0) (all_standing i.0) (placed_at i at)) ≡ leaves (unfolded_words (unfolded (written_in i.0) (all_standing i.0) (placed_at i at)))
+    → is_call (item_at i at).keyword ≡ true
+    → (item_at i at).args ≡ leaves (call_words (written_in i.0) (all_standing i.0) (placed_at i at) (placed_at i at).standing.statement.statement.args)
+words_of_call i at within words e =
+    let p = placed_at i at in
+    says_by_call (written_in i.0) (all_standing i.0) p p.standing.statement.statement.keyword p.standing.statement.statement.args e
+    ∙ ap (with_macro p (first_word p.standing.statement.statement.args)) words
+    ∙ macro_said p (first_word p.standing.statement.statement.args) (unfolded_words (unfolded (written_in i.0) (all_standing i.0) p))
+
+-- the same, by what is kept
+pub words_of_call_there : (j i : Kept) → j ≡ i → (at : ℕ) → at < length (items_in i)
+    → ((p : Placed) → slice_get (all_placed j) at ≡ Some p → unfolded_values (unfolded (written_in j.0) (all_standing j.0) p) ≡ leaves (unfolded_words (unfolded (written_in j.0) (all_standing j.0) p)))
+    → is_call (item_at i at).keyword ≡ true
+    → (item_at i at).args ≡ leaves (call_words (written_in i.0) (all_standing i.0) (placed_at i at) (placed_at i at).standing.statement.statement.args)
+words_of_call_there j i same at within words =
+    words_of_call i at within
+    ((subst (λ (k : Kept). (p : Placed) → slice_get (all_placed k) at ≡ Some p → unfolded_values (unfolded (written_in k.0) (all_standing k.0) p) ≡ leaves (unfolded_words (unfolded (written_in k.0) (all_standing k.0) p)))
+    same words) (placed_at i at) (placed_so i at (is_place i at within)))

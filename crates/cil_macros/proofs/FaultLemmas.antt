@@ -1,5 +1,5 @@
 -- What is told of calls: all that is wrong with what is placed.
-use Rattle.std.proofs.Common.{◌≡◌, ℕ, zero, suc, ◌+◌, ◌≤◌, Bool, false, ◌&&◌, List, [], ◌∷◌, ◌++◌, length, drop, refl, sym, ◌∙◌, ap, arith, append_assoc}
+use Rattle.std.proofs.Common.{◌≡◌, ℕ, zero, suc, ◌+◌, ◌≤◌, Bool, false, ◌&&◌, ◌||◌, List, [], ◌∷◌, ◌++◌, length, drop, refl, sym, ◌∙◌, ap, arith, append_assoc}
 use Rattle.std.specs.Prelude.{Some, None, is_some, not, slice_get}
 use Rattle.std.proofs.lemmas.List.{append-nil}
 use Rattle.cil_base.specs.Places.{none_some, some_same}
@@ -23,15 +23,15 @@ from_place [] at x e = absurd (none_some x e)
 from_place (y ∷ ys) zero x e = ap (λ z. z ∷ ys) (some_same y x e)
 from_place (y ∷ ys) (suc at) x e = from_place ys at x e ∙ ap (λ n. x ∷ drop n (y ∷ ys)) (let f : suc (at + 1) ≡ suc at + 1 = omega arith in f)
 
-pub one_told : (ws : List Written) (ss : List Standing) (marks : List Bool) (xs : List Placed) (at : ℕ) (p : Placed) (old new all : List Fault) → slice_get xs at ≡ Some p
-    → new ≡ old ++ faults_of ws ss (is_marked marks at) p → old ++ faults_from ws ss marks at (drop at xs) ≡ all
-    → new ++ faults_from ws ss marks (at + 1) (drop (at + 1) xs) ≡ all
+pub one_told : (ws : List Written) (ss : List Standing) (marks lists : List Bool) (xs : List Placed) (at : ℕ) (p : Placed) (old new all : List Fault) → slice_get xs at ≡ Some p
+    → new ≡ old ++ faults_of ws ss (is_marked marks at) (is_marked lists at) p → old ++ faults_from ws ss marks lists at (drop at xs) ≡ all
+    → new ++ faults_from ws ss marks lists (at + 1) (drop (at + 1) xs) ≡ all
 unfolding faults_from
-one_told ws ss marks xs at p old new all e is so =
-    ap (λ ys. ys ++ faults_from ws ss marks (at + 1) (drop (at + 1) xs)) is
-    ∙ append_assoc old (faults_of ws ss (is_marked marks at) p) (faults_from ws ss marks (at + 1) (drop (at + 1) xs))
-    ∙ ap (λ n. old ++ (faults_of ws ss (is_marked marks at) p ++ faults_from ws ss marks n (drop (at + 1) xs))) (let f : at + 1 ≡ suc at = omega arith in f)
-    ∙ ap (λ ys. old ++ faults_from ws ss marks at ys) (sym (from_place xs at p e))
+one_told ws ss marks lists xs at p old new all e is so =
+    ap (λ ys. ys ++ faults_from ws ss marks lists (at + 1) (drop (at + 1) xs)) is
+    ∙ append_assoc old (faults_of ws ss (is_marked marks at) (is_marked lists at) p) (faults_from ws ss marks lists (at + 1) (drop (at + 1) xs))
+    ∙ ap (λ n. old ++ (faults_of ws ss (is_marked marks at) (is_marked lists at) p ++ faults_from ws ss marks lists n (drop (at + 1) xs))) (let f : at + 1 ≡ suc at = omega arith in f)
+    ∙ ap (λ ys. old ++ faults_from ws ss marks lists at ys) (sym (from_place xs at p e))
     ∙ so
 
 drop_all : {X : Type 0} (xs : List X) (at : ℕ) → length xs ≤ at → drop at xs ≡ []
@@ -40,11 +40,11 @@ drop_all [] (suc at) h = refl
 drop_all (x ∷ xs) zero h = absurd (omega (arith, h))
 drop_all (x ∷ xs) (suc at) h = drop_all xs at (omega (arith, h))
 
-pub all_told : (ws : List Written) (ss : List Standing) (marks : List Bool) (xs : List Placed) (at : ℕ) (faults all : List Fault) → length xs ≤ at
-    → faults ++ faults_from ws ss marks at (drop at xs) ≡ all → faults ≡ all
+pub all_told : (ws : List Written) (ss : List Standing) (marks lists : List Bool) (xs : List Placed) (at : ℕ) (faults all : List Fault) → length xs ≤ at
+    → faults ++ faults_from ws ss marks lists at (drop at xs) ≡ all → faults ≡ all
 unfolding faults_from
-all_told ws ss marks xs at faults all h so =
-    sym (append-nil faults) ∙ ap (λ ys. faults ++ faults_from ws ss marks at ys) (sym (drop_all xs at h)) ∙ so
+all_told ws ss marks lists xs at faults all h so =
+    sym (append-nil faults) ∙ ap (λ ys. faults ++ faults_from ws ss marks lists at ys) (sym (drop_all xs at h)) ∙ so
 
 -- ---- of one
 
@@ -67,12 +67,14 @@ all_causes_told p x old again unfit new space w f g a u m =
     ∙ ap (λ n. old ++ told n x (Some w)) f
     ∙ ap (λ o. old ++ told p.standing.space x o) (sym g)
 
-pub nothing_wrong : (ws : List Written) (ss : List Standing) (mark : Bool) (p : Placed) (c : Bool) → called_macro ss p ≡ None → c ≡ (mark && is_call_in_branch p.standing.statement)
-    → record { again = false; unfit = false; misplaced = c } ≡ wrong_of ws ss mark p
-nothing_wrong ws ss mark p c e h = λ i. record { again = is_again p (sym e i); unfit = is_unfit ws p (sym e i); misplaced = h i }
+pub nothing_wrong : (ws : List Written) (ss : List Standing) (mark list : Bool) (p : Placed) (b c : Bool) → called_macro ss p ≡ None → b ≡ list
+    → c ≡ (mark && is_call_in_branch p.standing.statement) → record { again = false; unfit = b; misplaced = c } ≡ wrong_of ws ss mark list p
+nothing_wrong ws ss mark list p b c e g h = λ i. record { again = is_again p (sym e i); unfit = is_unfit ws p (sym e i) || g i; misplaced = h i }
 
-pub this_wrong : (ws : List Written) (ss : List Standing) (mark : Bool) (p : Placed) (m : Standing) (a b c : Bool) → called_macro ss p ≡ Some m → a ≡ is_repeated p m
-    → b ≡ is_some (bounds_of_call ws p m) → c ≡ (mark && is_call_in_branch p.standing.statement) → record { again = a; unfit = not b; misplaced = c } ≡ wrong_of ws ss mark p
-this_wrong ws ss mark p m a b c e f g h =
-    (λ i. record { again = f i; unfit = not (g i); misplaced = h i })
-    ∙ (λ i. record { again = is_again p (sym e i); unfit = is_unfit ws p (sym e i); misplaced = mark && is_call_in_branch p.standing.statement })
+pub this_wrong : (ws : List Written) (ss : List Standing) (mark list : Bool) (p : Placed) (m : Standing) (a b c d u : Bool) → called_macro ss p ≡ Some m → a ≡ is_repeated p m
+    → b ≡ is_some (bounds_of_call ws p m) → d ≡ list → u ≡ (not b || d) → c ≡ (mark && is_call_in_branch p.standing.statement)
+    → record { again = a; unfit = u; misplaced = c } ≡ wrong_of ws ss mark list p
+this_wrong ws ss mark list p m a b c d u e f g j l h =
+    (λ i. record { again = f i; unfit = l i; misplaced = h i })
+    ∙ (λ i. record { again = is_repeated p m; unfit = not (g i) || j i; misplaced = mark && is_call_in_branch p.standing.statement })
+    ∙ (λ i. record { again = is_again p (sym e i); unfit = is_unfit ws p (sym e i) || list; misplaced = mark && is_call_in_branch p.standing.statement })

@@ -26,7 +26,6 @@ use Rattle.cil_macros.proofs.CalledMacros.{names_macro}
 use Rattle.cil_macros.proofs.ExpandLemmas.{limit_alone, no_step}
 use Rattle.cil_macros.proofs.PlacedWalk.{queue_order}
 use Rattle.cil_macros.proofs.ThroughLemmas.{came_through_none, stands_ended}
-use Rattle.cil_macros.proofs.WordValues.{none_misplaced}
 use Rattle.cil_macros.proofs.WrittenLemmas.{stands_written}
 
 never : true ≡ false → ⊥
@@ -74,7 +73,7 @@ module _ (ws : List Written) (ss : List Standing) (rising : IsStrictlySortedBy w
   no_fault : (f : Fault) → ExpandFault ws ss f → ⊥
   no_fault f (call_cycle p m w ip e g again) = no_macro p m e
   no_fault f (call_arguments p m w ip e g none) = no_macro p m e
-  no_fault f (call_misplaced p u w ip e g has) = none_misplaced ws ss p u ip e has
+  no_fault f (call_misplaced p u w ip e g has) = not_unfolded p u e
   no_fault f (call_place p q w ip b iq x misplaced g) =
       let s = from_map placed_standing ss p (placed_stands p ip) in
       let t = from_map placed_standing ss q (placed_stands q iq) in

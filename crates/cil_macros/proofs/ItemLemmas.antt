@@ -1,6 +1,6 @@
 -- The items of all that is placed, place by place.
 use Rattle.std.specs.Prelude.{Some, slice_get}
-use Rattle.std.proofs.Common.{◌≡◌, ℕ, ◌+◌, ◌<◌, true, List, [], ◌∷◌, ◌++◌, length, take, drop, get_or, refl, sym, ◌∙◌, ap, arith}
+use Rattle.std.proofs.Common.{◌≡◌, ℕ, ◌+◌, ◌<◌, Bool, true, false, List, [], ◌∷◌, ◌++◌, length, take, drop, get_or, refl, sym, ◌∙◌, ap, arith}
 use Rattle.std.proofs.lemmas.List.{get_or-map, length-map, take_more}
 use Rattle.cil_base.specs.Places.{drop_at, is_there}
 use Rattle.cil_syntax.specs.declared.kind.Keyword.{Keyword}
@@ -11,7 +11,7 @@ use Rattle.cil_syntax.specs.Written.{Written}
 use Rattle.cil_blocks.specs.Contents.{Standing, standing_top}
 use Rattle.cil_blocks.specs.Entries.{nothing}
 use Rattle.cil_macros.specs.Item.{Item, all_replaced, replaced}
-use Rattle.cil_macros.specs.Items.{Kept, all_placed, item_at, item_of, items_in, placed_at, said_by, says, says_as_written, word_of}
+use Rattle.cil_macros.specs.Items.{Kept, all_placed, item_at, item_of, items_in, may_say_lists, placed_at, said_by, says, says_as_written, says_there, word_of}
 use Rattle.cil_macros.specs.Macros.{all_standing}
 use Rattle.cil_macros.specs.Placed.{Placed, all_filled, filled, placed_standing}
 use Rattle.cil_macros.specs.Walks.{written_in}
@@ -66,17 +66,30 @@ module _ {L M : Type 0} (f : L → Term M) (g : L → M) (words : (w : L) → f 
 -- ---- what items say
 
 -- each statement says what is written, but for calls and what is judged with the blocks
-pub said_filled : (ws : List Written) (ss : List Standing) (p : Placed) (k : Keyword) (args : Terms Word) → says_as_written k ≡ true → says ws ss p k args ≡ all_filled (said_by ws p) args
+pub said_written : (ws : List Written) (ss : List Standing) (p : Placed) (k : Keyword) (args : Terms Word) → says_as_written k ≡ true → says ws ss p k args ≡ says_there ws p (may_say_lists k) args
 unfolding says
-said_filled ws ss p keywords.BlockAbstract args e = absurd cc
-said_filled ws ss p keywords.BlockInherit args e = absurd cc
-said_filled ws ss p keywords.Call args e = absurd cc
-said_filled ws ss p k args e = refl
+said_written ws ss p keywords.BlockAbstract args e = absurd cc
+said_written ws ss p keywords.BlockInherit args e = absurd cc
+said_written ws ss p keywords.Call args e = absurd cc
+said_written ws ss p k args e = refl
 
--- and each word as a word, where each says one
+module _ (ws : List Written) (ss : List Standing) (p : Placed) (k : Keyword) (args : Terms Word) (written : says_as_written k ≡ true) where
+  -- with the lists that are put in, where lists may be
+  pub said_filled : may_say_lists k ≡ true → says ws ss p k args ≡ all_filled (said_by ws p) args
+  said_filled lists = said_written ws ss p k args written ∙ ap (λ b. says_there ws p b args) lists
+
+  -- each word as a word, where no list may be
+  pub said_named : may_say_lists k ≡ false → says ws ss p k args ≡ all_replaced (λ at. at) (word_of ws p) args
+  said_named none = said_written ws ss p k args written ∙ ap (λ b. says_there ws p b args) none
+
+-- and where each says one
 pub said_as_written : (ws : List Written) (ss : List Standing) (p : Placed) → ((w : Word) → said_by ws p w ≡ Leaf (word_of ws p w)) → (k : Keyword) (args : Terms Word) → says_as_written k ≡ true
     → says ws ss p k args ≡ all_replaced (λ at. at) (word_of ws p) args
-said_as_written ws ss p words k args e = said_filled ws ss p k args e ∙ filled_with_words (said_by ws p) (word_of ws p) words args
+said_as_written ws ss p words k args e = said_written ws ss p k args e ∙ by (may_say_lists k)
+  where
+    by : (b : Bool) → says_there ws p b args ≡ all_replaced (λ at. at) (word_of ws p) args
+    by true = filled_with_words (said_by ws p) (word_of ws p) words args
+    by false = refl
 
 module _ (ws : List Written) (ss : List Standing) (p : Placed) (args : Terms Word) where
   pub inherit_says : says ws ss p keywords.BlockInherit args ≡ nil

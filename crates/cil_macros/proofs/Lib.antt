@@ -1,5 +1,7 @@
 mod ArgumentExamples
 pub mod ArgumentLemmas
+pub mod ArgumentValues
+pub mod AskLemmas
 pub mod AskedLemmas
 pub mod BodyLemmas
 pub mod BodyMeaning
@@ -26,17 +28,27 @@ pub mod ItemLemmas
 pub mod ItemsThere
 pub mod Kept
 pub mod LawLemmas
+pub mod ListExamples
 pub mod ListLemmas
+pub mod ListMarkLemmas
+pub mod ListPlaceLemmas
+pub mod ListTermLemmas
 pub mod MacroLemmas
 pub mod MacroScope
 pub mod MeaningLemmas
+pub mod MisplacedLemmas
 pub mod NearestLemmas
 pub mod NestingLemmas
 pub mod OneInstance
 pub mod OpeningLemmas
+pub mod PartLemmas
 pub mod PlacedLemmas
 pub mod PlacedWalk
+pub mod PutLemmas
+pub mod ReadLemmas
 pub mod RoundLemmas
+pub mod SaidPartLemmas
+pub mod SaidThere
 pub mod SameParameters
 pub mod ScopeEndLemmas
 pub mod ScopeLemmas

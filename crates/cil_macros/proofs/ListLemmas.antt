@@ -27,9 +27,9 @@ use Rattle.cil_syntax.proofs.SaidLemmas.{form_said, leaf_said, name_said}
 use Rattle.cil_faults.specs.Spots.{spot_at}
 use Rattle.cil_macros.specs.declared.list_arguments.SetHead.{SetHead}
 use Rattle.cil_macros.specs.declared.list_arguments.SetHead.TheVariants as set_heads
-use Rattle.cil_macros.specs.Fits.{are_read_as, has_form, is_of_kind, is_read_as, is_sound_word}
+use Rattle.cil_macros.specs.Fits.{are_read_as, is_read_as, is_sound_word}
 use Rattle.cil_macros.specs.ListForms.{HasRow, SaysHead, StartsWith, head_code, kept_cells, two_categories}
-use Rattle.cil_macros.specs.Parameters.{cell_in, cells_in, faultless, is_text, kind_of_argument, may_be_list, read_argument, sound, string_in, text_cell}
+use Rattle.cil_macros.specs.Parameters.{cell_in, cells_in, faultless, is_text, sound, string_in, text_cell}
 use Rattle.cil_macros.proofs.ArgumentLemmas.{first_left, leaf_word}
 use Rattle.cil_macros.proofs.ValueLemmas.{text_is_string}
 
@@ -57,19 +57,6 @@ joined_sound (Some r) (Some s) = both_faultless r.value s.value (cons r.value s.
 formed_sound : (at : Spot) (op : Op) (o : Option (Reading (Terms Word))) → is_some (sound (formed at op [] o)) ≡ is_some (sound o)
 formed_sound at op None = refl
 formed_sound at op (Some r) = same_faultless (Form at op r.value) r.value r.faults
-
--- ---- kinds
-
-module _ (kind : Op) (t : Term Word) where
-  by_mask : (b : Bool) → b ≡ may_be_list kind → has_form kind t ≡ is_some (read_argument (if b then None else kind_of_argument kind) (cell_in t))
-  by_mask b e = ap (λ c. is_some (read_argument (if c then None else kind_of_argument kind) (cell_in t))) (sym e)
-
-  -- nothing has the form of a kind that is not supported
-  pub masked : (b : Bool) → b ≡ may_be_list kind → b ≡ true → false ≡ has_form kind t
-  masked b e f = sym (by_mask true (sym f ∙ e))
-
-  pub unmasked : (b : Bool) → b ≡ may_be_list kind → b ≡ false → (form : Bool) → form ≡ is_of_kind kind t → form ≡ has_form kind t
-  unmasked b e f form g = g ∙ sym (by_mask false (sym f ∙ e))
 
 -- ---- rows
 
@@ -313,7 +300,7 @@ pub coded_union : (n t r : Bool) → n ≡ false → t ≡ false → r ≡ false
 coded_union n t r e f g = λ i. head_code (sym e i) (sym f i) (sym g i)
 
 module _ (sign : Sign) where
-  abbrev operator : List ℕ → Op → Row → Head
+  abbrev pub operator : List ℕ → Op → Row → Head
   operator word op row = record { words = word ∷ []; op = op; taken = true; row = row }
 
   abbrev one : Row
@@ -322,7 +309,7 @@ module _ (sign : Sign) where
   abbrev two : Row
   two = two_operands (languages.Sets sign)
 
-  abbrev range_head : Head
+  abbrev pub range_head : Head
   range_head = head_of (codes "range" ∷ []) ops.Range two_categories
 
   no_range_head : (b : Bool) → find (λ (h : Head). begins_with h.words []) (if b then range_head ∷ [] else []) ≡ None
@@ -336,7 +323,7 @@ module _ (sign : Sign) where
   no_head = no_range_head (has_ranges sign)
 
   module _ (w : List ℕ) (ws : List (List ℕ)) where
-    abbrev decided : (n a o x b r : Bool) → Option Head
+    abbrev pub decided : (n a o x b r : Bool) → Option Head
     decided n a o x b r =
         cond (n && true) (Some (operator (codes "not") ops.Not one))
         (cond (a && true) (Some (operator (codes "and") ops.And two))
@@ -348,7 +335,7 @@ module _ (sign : Sign) where
     ranged true = refl
     ranged false = refl
 
-    found : head_in (languages.Sets sign) (w ∷ ws)
+    pub found : head_in (languages.Sets sign) (w ∷ ws)
         ≡ decided (same_bytes w (codes "not")) (same_bytes w (codes "and")) (same_bytes w (codes "or")) (same_bytes w (codes "xor")) (has_ranges sign) (same_bytes w (codes "range"))
     unfolding heads begins_with
     found =
@@ -500,14 +487,14 @@ module _ (n : ℕ) (ts : List rust.Term) (t : rust.Term) (some : 1 ≤ length ts
 
 -- ---- two items
 
-two_kept : (n : ℕ) (a b : rust.Term) (xs : List rust.Term) → length xs ≡ 2 → a ≡ get_or xs 0 a → b ≡ get_or xs 1 b → kept_cells n xs ≡ cell_in (said_of n a) ∷ cell_in (said_of n b) ∷ []
+pub two_kept : (n : ℕ) (a b : rust.Term) (xs : List rust.Term) → length xs ≡ 2 → a ≡ get_or xs 0 a → b ≡ get_or xs 1 b → kept_cells n xs ≡ cell_in (said_of n a) ∷ cell_in (said_of n b) ∷ []
 unfolding cells_in
 two_kept n a b [] h p q = absurd (omega (arith, h))
 two_kept n a b (x ∷ []) h p q = absurd (omega (arith, h))
 two_kept n a b (x ∷ y ∷ []) h p q = λ i. cell_in (said_of n (sym p i)) ∷ cell_in (said_of n (sym q i)) ∷ []
 two_kept n a b (x ∷ y ∷ z ∷ xs) h p q = absurd (omega (arith, h))
 
-sole_kept : (n : ℕ) (a : rust.Term) (xs : List rust.Term) → length xs ≡ 1 → a ≡ get_or xs 0 a → kept_cells n xs ≡ cell_in (said_of n a) ∷ []
+pub sole_kept : (n : ℕ) (a : rust.Term) (xs : List rust.Term) → length xs ≡ 1 → a ≡ get_or xs 0 a → kept_cells n xs ≡ cell_in (said_of n a) ∷ []
 unfolding cells_in
 sole_kept n a [] h p = absurd (omega (arith, h))
 sole_kept n a (x ∷ []) h p = ap (λ y. cell_in (said_of n y) ∷ []) (sym p)
@@ -550,11 +537,11 @@ module _ (n : ℕ) (s t : Shape) (items : List rust.Term) where
 -- ---- levels
 
 module _ (cells : List Cell) (first second : Row) (k : ℕ) where
-  as_many : length cells ≡ k → read_row (counted k first second) cells ≡ read_row first cells
+  pub as_many : length cells ≡ k → read_row (counted k first second) cells ≡ read_row first cells
   unfolding read_row
   as_many e = ap (λ b. if b then read_row first cells else read_row second cells) (eq-eqb (length cells) k e)
 
-  not_as_many : (length cells ≡ k → ⊥) → read_row (counted k first second) cells ≡ read_row second cells
+  pub not_as_many : (length cells ≡ k → ⊥) → read_row (counted k first second) cells ≡ read_row second cells
   unfolding read_row
   not_as_many h = ap (λ b. if b then read_row first cells else read_row second cells) (ne_eqb (length cells) k h)
 

@@ -23,7 +23,7 @@ use Rattle.cil_blocks.specs.Places.{entries_in, statements_in}
 use Rattle.cil_blocks.proofs.EntryLemmas.{standings_length}
 use Rattle.cil_blocks.proofs.NameLemmas.{at_none, at_some}
 use Rattle.cil_blocks.proofs.NamespaceLemmas.{global_at}
-use Rattle.cil_macros.specs.Items.{Kept, all_placed, as_word, item_at, item_of, items_in, namespaces_in, placed_at, scope_by, word_at, word_of}
+use Rattle.cil_macros.specs.Items.{Kept, all_placed, as_word, item_at, item_of, items_in, namespaces_in, placed_at, said_as, said_by, scope_by, word_at, word_of}
 use Rattle.cil_macros.specs.Macros.{all_standing}
 use Rattle.cil_macros.specs.Meant.{scope_there}
 use Rattle.cil_macros.specs.Placed.{Placed, meaning, placed_standing}
@@ -63,6 +63,10 @@ module _ (i : Kept) where
   pub word_so : (at : ℕ) (w : Word) (t : Term ScopedWord) → t ≡ meaning (written_in i.0) (placed_at i at) w → as_word w t ≡ word_at i at w
   unfolding word_of
   word_so at w t e = ap (as_word w) e
+
+  pub said_so : (at : ℕ) (w : Word) (t : Term ScopedWord) → t ≡ meaning (written_in i.0) (placed_at i at) w → said_as w t ≡ said_by (written_in i.0) (placed_at i at) w
+  unfolding said_by
+  said_so at w t e = ap (said_as w) e
 
   -- the statement there, by its number
   module _ (nested : IsNested (statements_in i.0)) (at n : ℕ) (so : (placed_at i at).standing.statement ≡ statement_at (written_in i.0) n) where

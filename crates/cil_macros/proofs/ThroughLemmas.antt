@@ -124,7 +124,7 @@ module _ (ws : List Written) where
 
 -- ---- what is brought
 
-through_trail : (ws : List Written) (p : Placed) (o : Option Unfolded) (w : Written) → (placed_through ws p o w).standing.trail ≡ p.standing.trail ++ w.statement.at ∷ []
+pub through_trail : (ws : List Written) (p : Placed) (o : Option Unfolded) (w : Written) → (placed_through ws p o w).standing.trail ≡ p.standing.trail ++ w.statement.at ∷ []
 through_trail ws p None w = refl
 through_trail ws p (Some u) w = refl
 

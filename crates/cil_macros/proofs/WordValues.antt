@@ -1,22 +1,26 @@
--- No argument is a list: each word of a placed statement says a word there. Kinds whose arguments may be lists are not
--- supported yet.
-use Rattle.std.specs.Prelude.{◌≡◌, Bool, true, false, ◌&&◌, not, if◌then◌else◌, cond, List, [], ◌∷◌, ◌++◌, Option, Some, None, find, refl}
-use Rattle.std.proofs.Common.{sym, ◌∙◌, ap, subst}
+-- Where no argument is a list, each word says a word.
+use Rattle.std.specs.Prelude.{◌≡◌, Bool, true, false, ◌&&◌, not, cond, List, [], ◌∷◌, ◌++◌, Option, Some, None, find, refl, IsTrue}
+use Rattle.std.proofs.Common.{ℕ, ◌∙◌, ap}
+use Rattle.std.specs.List.{list_any}
 use Rattle.cil_syntax.specs.declared.kind.Sign.{Sign}
 use Rattle.cil_syntax.specs.declared.kind.Sign.TheVariants as signs
 use Rattle.cil_syntax.specs.declared.term.Op.{Op}
 use Rattle.cil_faults.specs.declared.spot.Spot.{Spot}
 use Rattle.cil_syntax.specs.declared.term.Word.{Word}
 use Rattle.cil_syntax.specs.Scopes.{ScopedWord}
-use Rattle.cil_syntax.specs.Terms.{Term, Leaf, Name, Form, Terms, nil, cons}
+use Rattle.cil_syntax.specs.Terms.{Term, Leaf, Name, Form, Terms}
 use Rattle.cil_syntax.specs.Written.{Written}
-use Rattle.cil_blocks.specs.Contents.{Standing}
-use Rattle.cil_macros.specs.Calls.{Unfolded, IsPlaced, stands, called, in_branch, in_optional, bound, bound_more, bounds_of_call, called_macro, filled_by, is_repeated, unfolded, unfolded_by, unfolded_with}
-use Rattle.cil_macros.specs.ExpandFaults.{HasMisplaced, IsOfCall, directly, in_its_branch, in_its_optional}
+use Rattle.cil_macros.specs.Calls.{Unfolded}
 use Rattle.cil_macros.specs.Items.{argument_words, as_word, is_text as is_text_sign, is_text_value, joined_as, leaves, listed_unless, put_unless, said_as, said_by, unfolded_values, unfolded_words, values_of, word_in_argument, word_of}
-use Rattle.cil_macros.specs.Parameters.{Parameter, argument_of, call_arguments, is_text, macro_parameters}
-use Rattle.cil_macros.specs.Placed.{Bound, Placed, filled, is_misplaced, is_served, meaning, meant_by, put, put_list, takes_lists}
-use Rattle.cil_macros.proofs.ValueLemmas.{leaf_value, name_value, form_value}
+use Rattle.cil_macros.specs.declared.meant.Argument.{Argument}
+use Rattle.cil_macros.specs.declared.meant.Argument.TheVariants as arguments
+use Rattle.cil_macros.specs.Meant.{bounds_by, is_list, kind_sign, meant_in}
+use Rattle.cil_macros.specs.Parameters.{Parameter, is_text}
+use Rattle.cil_macros.specs.Placed.{Bound, Placed, is_misplaced, is_served, meaning, meant_by, put, put_list, takes_lists}
+
+pub not_true : (b : Bool) → IsTrue (not b) → b ≡ false
+not_true true h = cc
+not_true false h = refl
 
 -- ---- what is no list
 
@@ -33,14 +37,6 @@ AreNoLists (b ∷ bs) = IsNoList b.value × AreNoLists bs
 abbrev IfNoList : Option Bound → Type 0
 IfNoList None = Unit {0}
 IfNoList (Some b) = IsNoList b.value
-
-abbrev IfNone : {L : Type 0} → Option (Term L) → Type 0
-IfNone None = Unit {0}
-IfNone (Some t) = IsNoList t
-
-abbrev IfBounds : Option (List Bound) → Type 0
-IfBounds None = Unit {0}
-IfBounds (Some bs) = AreNoLists bs
 
 abbrev pub IfUnfolded : Option Unfolded → Type 0
 IfUnfolded None = Unit {0}
@@ -63,16 +59,17 @@ put_so sign (Form at op parts) h = listed_put sign at op parts h
 
 -- ---- arguments
 
--- what is read as an argument is none
-no_list_read : (x : Parameter) (t : Term Word) (value : Term Word) → argument_of x t ≡ Some value → IsNoList value
-unfolding argument_of
-no_list_read x (Leaf w) value e = subst IsNoList (sym (leaf_value x.kind w value e)) tt
-no_list_read x (Name at bytes) value e = subst IsNoList (sym (name_value x.kind at bytes value e)) refl
-no_list_read x (Form at op parts) value e = subst IsNoList (sym (form_value x.kind at op parts value e)) refl
+module _ (ps : List Placed) where
+  plain_meant : (sign : Sign) (at : Spot) (bytes : List ℕ) (o : Option ℕ) → IsNoList (meant_in ps sign at bytes o)
+  plain_meant sign at bytes None = refl
+  plain_meant sign at bytes (Some k) = tt
 
-no_argument : (x : Parameter) (t : Term Word) (o : Option (Term Word)) → argument_of x t ≡ o → IfNone o
-no_argument x t None e = tt
-no_argument x t (Some value) e = no_list_read x t value e
+  -- arguments of which none is a list
+  pub plain_bounds : (xs : List Parameter) (ms : List Argument) → list_any is_list ms ≡ false → AreNoLists (bounds_by ps xs ms)
+  plain_bounds [] ms e = tt
+  plain_bounds (x ∷ xs) [] e = tt
+  plain_bounds (x ∷ xs) (arguments.Plain m ∷ ms) e = (plain_meant (kind_sign x.kind) m.at m.bytes m.scope, plain_bounds xs ms e)
+  plain_bounds (x ∷ xs) (arguments.List l ∷ ms) e = let f : true ≡ false = e in cc
 
 one_bound : (b : Bool) (x y : Option Bound) → IfNoList x → IfNoList y → IfNoList (cond b x y)
 one_bound true x y h k = h
@@ -87,7 +84,7 @@ module _ (ws : List Written) (p : Placed) (bounds : AreNoLists p.bounds) where
   meant_so w None h = tt
   meant_so w (Some b) h = put_so w.sign b.value h
 
-  meaning_so : (w : Word) → IsNoList (meaning ws p w)
+  pub meaning_so : (w : Word) → IsNoList (meaning ws p w)
   unfolding meaning
   meaning_so w = meant_so w (find (is_served w) p.bounds) (found_so w p.bounds bounds)
 
@@ -95,79 +92,12 @@ module _ (ws : List Written) (p : Placed) (bounds : AreNoLists p.bounds) where
   unfolding said_by word_of
   says_a_word w = said_so w (meaning ws p w) (meaning_so w)
 
-  filled_so : (t : Term Word) → IsNoList t → IsNoList (filled (meaning ws p) t)
-  unfolding filled
-  filled_so (Leaf w) h = meaning_so w
-  filled_so (Name at name) h = tt
-  filled_so (Form at op parts) h = h
+-- ---- what is no list may be put where only a name stands
 
-  filled_by_so : (o : Option (Term Word)) → IfNone o → IfNone (filled_by ws p o)
-  filled_by_so None h = tt
-  filled_by_so (Some t) h = filled_so t h
-
-  more_so : (x : Parameter) (t : Option (Term ScopedWord)) (r : Option (List Bound)) → IfNone t → IfBounds r → IfBounds (bound_more x t r)
-  more_so x None r h k = tt
-  more_so x (Some t) None h k = tt
-  more_so x (Some t) (Some bs) h k = (h, k)
-
-  bound_so : (xs : List Parameter) (ts : Terms Word) → IfBounds (bound ws p xs ts)
-  unfolding bound
-  bound_so [] nil = tt
-  bound_so [] (cons t ts) = tt
-  bound_so (x ∷ xs) nil = tt
-  bound_so (x ∷ xs) (cons t ts) =
-      more_so x (filled_by ws p (argument_of x t)) (bound ws p xs ts) (filled_by_so (argument_of x t) (no_argument x t (argument_of x t) refl)) (bound_so xs ts)
-
-  one_unfolded : (b : Bool) (x y : Option Unfolded) → IfUnfolded x → IfUnfolded y → IfUnfolded (if b then x else y)
-  one_unfolded true x y h k = h
-  one_unfolded false x y h k = k
-
-  with_so : (m : Standing) (o : Option (List Bound)) → IfBounds o → IfUnfolded (unfolded_with m o)
-  with_so m None h = tt
-  with_so m (Some bs) h = h
-
-  by_so : (o : Option Standing) → IfUnfolded (unfolded_by ws p o)
-  by_so None = tt
-  by_so (Some m) =
-      one_unfolded (is_repeated p m) None (unfolded_with m (bounds_of_call ws p m)) tt
-      (with_so m (bounds_of_call ws p m) (bound_so (macro_parameters m.statement.statement.args) (call_arguments p.standing.statement.statement.args)))
-
-  pub unfolded_so : (ss : List Standing) → IfUnfolded (unfolded ws ss p)
-  unfolding unfolded
-  unfolded_so ss = by_so (called_macro ss p)
-
--- ---- all that is placed
-
-pub placed_no_lists : (ws : List Written) (ss : List Standing) (p : Placed) → IsPlaced ws ss p → AreNoLists p.bounds
-placed_no_lists ws ss p (stands s c) = tt
-placed_no_lists ws ss p (called q u w placed e c i) = subst IfUnfolded e (unfolded_so ws q (placed_no_lists ws ss q placed) ss)
-placed_no_lists ws ss p (in_optional q b w placed e o c i) = placed_no_lists ws ss q placed
-placed_no_lists ws ss p (in_branch q b w placed e o c i) = placed_no_lists ws ss q placed
-
--- each word of a placed statement says a word
-pub placed_says_words : (ws : List Written) (ss : List Standing) (p : Placed) → IsPlaced ws ss p → (w : Word) → said_by ws p w ≡ Leaf (word_of ws p w)
-placed_says_words ws ss p placed w = says_a_word ws p (placed_no_lists ws ss p placed) w
-
--- ---- no list is put where only a name may stand
-
-never_misplaced : (sign : Sign) (t : Term ScopedWord) → IsNoList t → is_misplaced sign t ≡ true → ⊥
-never_misplaced sign (Leaf w) h e = cc
-never_misplaced sign (Name at name) h e = cc
-never_misplaced sign (Form at op parts) h e = let f : false ≡ true = sym (ap (λ b. not b && not (takes_lists sign)) h) ∙ e in cc
-
-module _ (ws : List Written) (ss : List Standing) (p : Placed) (u : Unfolded) where
-  -- what is of a body has the arguments of its call
-  bounds_of_body : (q : Placed) → IsOfCall ws p u q → q.bounds ≡ u.bounds
-  bounds_of_body q (directly w c i) = refl
-  bounds_of_body q (in_its_optional r w of o c i) = bounds_of_body r of
-  bounds_of_body q (in_its_branch r w of o c i) = bounds_of_body r of
-
-  pub none_misplaced : IsPlaced ws ss p → unfolded ws ss p ≡ Some u → HasMisplaced ws ss p u → ⊥
-  none_misplaced placed e has =
-      let bounds : AreNoLists u.bounds = subst IfUnfolded e (unfolded_so ws p (placed_no_lists ws ss p placed) ss) in
-      let here : AreNoLists has.statement.bounds = subst AreNoLists (sym (bounds_of_body has.statement has.is_of)) bounds in
-      let value : IsNoList has.argument.value = subst IfNoList has.fills (found_so has.filled has.statement.bounds here) in
-      never_misplaced has.filled.sign has.argument.value value has.misplaced
+pub no_list_right : (sign : Sign) (t : Term ScopedWord) → IsNoList t → is_misplaced sign t ≡ false
+no_list_right sign (Leaf w) h = refl
+no_list_right sign (Name at name) h = refl
+no_list_right sign (Form at op parts) h = ap (λ b. not b && not (takes_lists sign)) h
 
 -- ---- the values of a call
 

@@ -36,9 +36,11 @@ abbrev IsPlainKind : Option ArgumentKind → Type 0
 IsPlainKind None = Unit {0}
 IsPlainKind (Some k) = IsPlain k.shape
 
-kind_plain : (op : Op) → IsPlainKind (argument_kind op)
-kind_plain ops.Listed = tt
-kind_plain op = tt
+plain_of_kind : (op : Op) → IsPlainKind (argument_kind op)
+plain_of_kind ops.ClassPermissionKind = (tt, ((λ e. cc), (tt, (tt, tt))))
+plain_of_kind ops.LevelKind = (tt, ((λ e. cc), ((tt, tt), (tt, (tt, tt)))))
+plain_of_kind ops.LevelRangeKind = (tt, ((λ e. cc), ((tt, ((λ e. cc), ((tt, tt), (tt, (tt, tt))))), ((tt, ((λ e. cc), ((tt, tt), (tt, (tt, tt))))), tt))))
+plain_of_kind op = tt
 
 module _ (P : Spot → List ℕ → Type 0) (empty : (at : Spot) → P at []) where
   -- each word, name and string of what a word means has the property
@@ -109,7 +111,7 @@ module _ (P : Spot → List ℕ → Type 0) (empty : (at : Spot) → P at []) wh
 
   argument_has : (x : Parameter) (t : Term Word) → Whole P t → IfTerm (argument_of x t)
   unfolding argument_of
-  argument_has x t h = read_has (argument_kind x.kind) (kind_plain x.kind) t h
+  argument_has x t h = read_has (argument_kind x.kind) (plain_of_kind x.kind) t h
 
   arguments_have : (ts : Terms Word) → WholeIn P ts → WholeIn P (call_arguments ts)
   arguments_have nil h = tt

@@ -1,5 +1,5 @@
 -- What is wrong with calls, placed statement by placed statement, as it is told.
-use Rattle.std.specs.Prelude.{◌≡◌, ℕ, suc, Bool, false, ◌&&◌, not, if◌then◌else◌, List, [], ◌∷◌, ◌++◌, Option, Some, None, is_some, slice_get}
+use Rattle.std.specs.Prelude.{◌≡◌, ℕ, suc, Bool, false, ◌&&◌, ◌||◌, not, if◌then◌else◌, List, [], ◌∷◌, ◌++◌, Option, Some, None, is_some, slice_get}
 use Rattle.cil_faults.specs.declared.code.FaultCode.{FaultCode}
 use Rattle.cil_faults.specs.declared.code.FaultCode.TheVariants as causes
 use Rattle.cil_faults.specs.declared.fault.Fault.{Fault}
@@ -38,24 +38,25 @@ told space x (Some w) =
     told_if x.again causes.CallCycle space w
     ++ (told_if x.unfit causes.CallArguments space w ++ told_if x.misplaced causes.CallPlace space w)
 
--- what is wrong with a placed statement, where it is marked or not
-abbrev pub wrong_of : List Written → List Standing → Bool → Placed → Wrong
-wrong_of ws ss mark p = record {
+-- what is wrong with a placed statement, where it is marked or not: as one that brings what may not be in a branch, or as a call with a
+-- list where only a name may stand
+abbrev pub wrong_of : List Written → List Standing → Bool → Bool → Placed → Wrong
+wrong_of ws ss mark list p = record {
   again = is_again p (called_macro ss p);
-  unfit = is_unfit ws p (called_macro ss p);
+  unfit = is_unfit ws p (called_macro ss p) || list;
   misplaced = mark && is_call_in_branch p.standing.statement;
 }
 
 -- and its faults
-abbrev pub faults_of : List Written → List Standing → Bool → Placed → List Fault
-faults_of ws ss mark p = told p.standing.space (wrong_of ws ss mark p) (first_word p.standing.statement.statement.args)
+abbrev pub faults_of : List Written → List Standing → Bool → Bool → Placed → List Fault
+faults_of ws ss mark list p = told p.standing.space (wrong_of ws ss mark list p) (first_word p.standing.statement.statement.args)
 
 -- those of all that is placed from a place on
-unfoldable pub faults_from : List Written → List Standing → List Bool → ℕ → List Placed → List Fault
-faults_from ws ss marks k [] = []
-faults_from ws ss marks k (p ∷ ps) = faults_of ws ss (is_marked marks k) p ++ faults_from ws ss marks (suc k) ps
+unfoldable pub faults_from : List Written → List Standing → List Bool → List Bool → ℕ → List Placed → List Fault
+faults_from ws ss marks lists k [] = []
+faults_from ws ss marks lists k (p ∷ ps) = faults_of ws ss (is_marked marks k) (is_marked lists k) p ++ faults_from ws ss marks lists (suc k) ps
 
 -- what is wrong there
-abbrev pub SaysWrong : Standings → List Called → List Bool → ℕ → Wrong → Type 0
-SaysWrong s cs marks at x =
-    (p : Placed) → slice_get (placed_in s cs) at ≡ Some p → x ≡ wrong_of (written_in s) (all_standing s) (is_marked marks at) p
+abbrev pub SaysWrong : Standings → List Called → List Bool → List Bool → ℕ → Wrong → Type 0
+SaysWrong s cs marks lists at x =
+    (p : Placed) → slice_get (placed_in s cs) at ≡ Some p → x ≡ wrong_of (written_in s) (all_standing s) (is_marked marks at) (is_marked lists at) p

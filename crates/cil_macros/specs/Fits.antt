@@ -12,24 +12,27 @@ use Rattle.cil_syntax.specs.Spelling.{is_reserved}
 use Rattle.cil_syntax.specs.Terms.{Term, Terms, nil, cons}
 use Rattle.cil_syntax.specs.Written.{Written}
 use Rattle.cil_macros.specs.Calls.{bound, bound_more, filled_by}
-use Rattle.cil_macros.specs.Parameters.{Parameter, argument_kind, argument_of, cell_in, cells_in, kind_of_argument, read_argument, sound}
+use Rattle.cil_macros.specs.Parameters.{Parameter, argument_kind, argument_of, cell_in, cells_in, read_argument, sound}
 use Rattle.cil_macros.specs.Placed.{Bound, Placed}
 
--- a term that was kept reads by a shape without a fault
+-- a term that was kept, read by a shape without a fault
+abbrev pub read_as : Shape → Term Word → Option (Term Word)
+read_as shape t = sound ((cell_in t).read shape)
+
+-- items that were kept, read by a row without a fault
+abbrev pub all_read_as : Row → Terms Word → Option (Terms Word)
+all_read_as row ts = sound (read_row row (cells_in ts))
+
+-- they read so
 abbrev pub is_read_as : Shape → Term Word → Bool
-is_read_as shape t = is_some (sound ((cell_in t).read shape))
+is_read_as shape t = is_some (read_as shape t)
 
--- items that were kept read by a row without a fault
 abbrev pub are_read_as : Row → Terms Word → Bool
-are_read_as row ts = is_some (sound (read_row row (cells_in ts)))
-
--- an argument has the form of a kind, supported or not
-abbrev pub is_of_kind : Op → Term Word → Bool
-is_of_kind kind t = is_some (read_argument (kind_of_argument kind) (cell_in t))
+are_read_as row ts = is_some (all_read_as row ts)
 
 -- an argument has the form of a kind
-abbrev pub has_form : Op → Term Word → Bool
-has_form kind t = is_some (read_argument (argument_kind kind) (cell_in t))
+abbrev pub is_of_kind : Op → Term Word → Bool
+is_of_kind kind t = is_some (read_argument (argument_kind kind) (cell_in t))
 
 -- a word has the spelling that a sign wants, and is not reserved
 abbrev pub is_sound_word : Sign → List ℕ → Bool

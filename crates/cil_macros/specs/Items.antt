@@ -1,6 +1,6 @@
 -- The statements that take part in a policy: each that is placed, its words with the namespaces that they ask and the
 -- arguments put in. CIL Reference Guide, "Call / Macro Statements"; which words a call has is this project's profile.
-use Rattle.std.specs.Prelude.{◌≡◌, ℕ, Bool, true, false, List, [], ◌∷◌, ◌++◌, map, get_or, Option, Some, None, slice_get}
+use Rattle.std.specs.Prelude.{◌≡◌, ℕ, Bool, true, false, ◌||◌, List, [], ◌∷◌, ◌++◌, map, get_or, Option, Some, None}
 use Rattle.std.specs.List.{flat_map}
 use Rattle.cil_base.specs.Lists.{Lists}
 use Rattle.cil_syntax.specs.declared.kind.Keyword.{Keyword}
@@ -16,13 +16,15 @@ use Rattle.cil_blocks.specs.Contents.{Standing, Stands, first_word, standing_cmp
 use Rattle.cil_blocks.specs.Entries.{nothing}
 use Rattle.cil_blocks.specs.Places.{Standings, spaces_in}
 use Rattle.cil_macros.specs.declared.entry.Called.{Called}
-use Rattle.cil_macros.specs.declared.placed_word.PlacedWord.{PlacedWord}
-use Rattle.cil_macros.specs.Calls.{IsPlaced, Unfolded, placed_cmp, unfolded}
-use Rattle.cil_macros.specs.Item.{Item}
+use Rattle.cil_macros.specs.declared.placed_word.Said.{Said}
+use Rattle.cil_macros.specs.declared.placed_word.Said.TheVariants as said
+use Rattle.cil_macros.specs.Calls.{IsPlaced, Unfolded, is_call, placed_cmp, unfolded}
+use Rattle.cil_macros.specs.Item.{Item, all_replaced}
 use Rattle.cil_macros.specs.Macros.{all_standing}
-use Rattle.cil_macros.specs.Meant.{scope_there}
+unfoldable pub use Rattle.cil_macros.specs.Listed.{scope_by, scoped_by}
+use Rattle.cil_macros.specs.Listed.{IsWholeList, list_there}
 use Rattle.cil_macros.specs.Parameters.{is_text as is_text_op}
-use Rattle.cil_macros.specs.Placed.{Bound, Placed, all_filled, condition_there, meaning, placed_standing}
+use Rattle.cil_macros.specs.Placed.{Bound, Placed, all_filled, condition_there, meaning, placed_standing, put}
 unfoldable pub use Rattle.cil_macros.specs.Placed.{as_word, unasked, word_of}
 use Rattle.cil_macros.specs.Rounds.{round_of}
 use Rattle.cil_macros.specs.Walks.{placed_in, written_in}
@@ -42,6 +44,16 @@ said_as w (Form at op parts) = joined_as (is_text_op op) w (Form at op parts)
 -- what a word of a placed statement says there: the argument for which it stands, or itself in its scope
 unfoldable pub said_by : List Written → Placed → Word → Term ScopedWord
 said_by ws p w = said_as w (meaning ws p w)
+
+-- the same, as it is told
+abbrev pub said_there : List Placed → Sign → Said → Term ScopedWord
+said_there ps sign (said.Word w) = Leaf (scoped_by ps w)
+said_there ps sign (said.List l) = put sign (list_there ps l.now)
+
+-- where it is a list, its parts are those of its terms
+abbrev pub IsWholeSaid : List Placed → Said → Type 0
+IsWholeSaid ps (said.Word w) = Unit {0}
+IsWholeSaid ps (said.List l) = IsWholeList ps l.now
 
 -- ---- what statements say
 
@@ -77,12 +89,30 @@ with_macro p (Some w) ts = cons (Leaf record { at = w.at; bytes = w.bytes; sign 
 abbrev pub call_says : List Written → List Standing → Placed → Terms Word → Terms ScopedWord
 call_says ws ss p args = with_macro p (first_word args) (unfolded_values (unfolded ws ss p))
 
+-- a statement of this keyword has a place where a list may stand for a name. At each place of the others only a name may, so each word
+-- of theirs says a word
+abbrev pub may_say_lists : Keyword → Bool
+may_say_lists keywords.Allow = true
+may_say_lists keywords.AuditAllow = true
+may_say_lists keywords.DontAudit = true
+may_say_lists keywords.NeverAllow = true
+may_say_lists keywords.ClassMapping = true
+may_say_lists keyword = false
+
+abbrev pub says_there : List Written → Placed → Bool → Terms Word → Terms ScopedWord
+says_there ws p true args = all_filled (said_by ws p) args
+says_there ws p false args = all_replaced (λ at. at) (word_of ws p) args
+
+-- a call says its arguments, which may be lists
+abbrev pub says_lists : Keyword → Bool
+says_lists keyword = is_call keyword || may_say_lists keyword
+
 -- the words of blockinherit and blockabstract are no words of a policy: they are judged with the blocks
 unfoldable pub says : List Written → List Standing → Placed → Keyword → Terms Word → Terms ScopedWord
 says ws ss p keywords.BlockInherit args = nil
 says ws ss p keywords.BlockAbstract args = nil
 says ws ss p keywords.Call args = call_says ws ss p args
-says ws ss p keyword args = all_filled (said_by ws p) args
+says ws ss p keyword args = says_there ws p (may_say_lists keyword) args
 
 -- the other statements say what is written
 abbrev pub says_as_written : Keyword → Bool
@@ -174,14 +204,13 @@ word_at i k = word_of (written_in i.0) (placed_at i k)
 abbrev pub SaysWords : Kept → ℕ → Type 0
 SaysWords i k = (w : Word) → said_by (written_in i.0) (placed_at i k) w ≡ Leaf (word_at i k w)
 
+-- what the statement at a place says are the words of what is written: of a call those of its macro and of its arguments
+pub record SaysItsWords (i : Kept) (k : ℕ) : Type 0 where
+  pub call : is_call (item_at i k).keyword ≡ true
+      → (item_at i k).args ≡ leaves (call_words (written_in i.0) (all_standing i.0) (placed_at i k) (placed_at i k).standing.statement.statement.args)
+  pub written : says_as_written (item_at i k).keyword ≡ true
+      → (item_at i k).args ≡ all_replaced (λ at. at) (word_at i k) (placed_at i k).standing.statement.statement.args
+
 -- the condition of the booleanif at a place
 abbrev pub condition_at : Kept → ℕ → Term ScopedWord
 condition_at i k = condition_there (written_in i.0) (placed_at i k)
-
--- a word in the scope of what is placed somewhere
-abbrev pub scope_by : List Placed → Option ℕ → List (List (List ℕ))
-scope_by ps None = []
-scope_by ps (Some k) = scope_there (slice_get ps k)
-
-abbrev pub scoped_by : List Placed → PlacedWord → ScopedWord
-scoped_by ps w = record { at = w.word.at; bytes = w.word.bytes; sign = w.word.sign; scope = scope_by ps w.scope }

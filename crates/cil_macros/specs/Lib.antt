@@ -7,6 +7,7 @@ pub mod DeclaredInBodies
 pub mod Depths
 pub mod Entries
 pub mod ExpandFaults
+pub mod Expansion
 pub mod Firsts
 pub mod Fits
 pub mod InBranches
@@ -15,6 +16,9 @@ pub mod Item
 pub mod Items
 pub mod Laws
 pub mod ListForms
+pub mod ListPlaces
+pub mod ListTerms
+pub mod Listed
 pub mod Macros
 pub mod Meant
 pub mod Nearest
@@ -23,6 +27,8 @@ pub mod Openings
 pub mod Opens
 pub mod Parameters
 pub mod Placed
+pub mod Puts
 pub mod Rounds
+pub mod SaidParts
 pub mod Scene
 pub mod Walks

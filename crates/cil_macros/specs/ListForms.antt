@@ -3,6 +3,8 @@ use Rattle.std.specs.Prelude.{◌≡◌, ℕ, Bool, true, if◌then◌else◌, L
 use Rattle.cil_syntax.specs.declared.kind.Language.TheVariants as languages
 use Rattle.cil_syntax.specs.declared.kind.Sign.{Sign}
 use Rattle.cil_syntax.specs.declared.kind.Sign.TheVariants as signs
+use Rattle.cil_syntax.specs.declared.term.Op.{Op}
+use Rattle.cil_syntax.specs.declared.term.Op.TheVariants as ops
 use Rattle.cil_syntax.specs.declared.term.Term as rust
 use Rattle.cil_syntax.specs.Heads.{Head, one_operand, two_operands}
 use Rattle.cil_syntax.specs.Said.{all_said}
@@ -33,6 +35,25 @@ pub record HasRow (o : Option Head) (row : Row) : Type 0 where
   pub is : o ≡ Some head
   pub taken : head.taken ≡ true
   pub so : head.row ≡ row
+
+-- the head says this, and has this row behind its first word
+pub record HeadIs (o : Option Head) (op : Op) (row : Row) : Type 0 where
+  pub head : Head
+  pub is : o ≡ Some head
+  pub taken : head.taken ≡ true
+  pub op_so : head.op ≡ op
+  pub row_so : head.row ≡ row
+
+-- of the operators with two operands
+abbrev pub two_code : Bool → Bool → Op
+two_code and or = if and then ops.And else (if or then ops.Or else ops.Xor)
+
+-- what the head of a list says, an operator with two operands this
+abbrev pub SaysOp : Sign → Option Head → Op → SetHead → Type 0
+SaysOp sign o two set_heads.One = HeadIs o ops.Not (one_operand (languages.Sets sign))
+SaysOp sign o two set_heads.Two = HeadIs o two (two_operands (languages.Sets sign))
+SaysOp sign o two set_heads.Range = HeadIs o ops.Range two_categories
+SaysOp sign o two set_heads.Union = o ≡ None
 
 -- what the head of a list says
 abbrev pub SaysHead : Sign → Option Head → SetHead → Type 0

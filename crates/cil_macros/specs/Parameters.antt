@@ -117,34 +117,30 @@ pub record ArgumentKind : Type 0 where
   pub serves : Place
 
 -- what the argument of a parameter of a kind is
-abbrev pub kind_of_argument : Op → Option ArgumentKind
-kind_of_argument ops.TypeKind = Some record { shape = looked_up signs.Types; serves = of_types }
-kind_of_argument ops.RoleKind = Some record { shape = looked_up signs.Roles; serves = of_roles }
-kind_of_argument ops.UserKind = Some record { shape = looked_up signs.Users; serves = of_users }
-kind_of_argument ops.BooleanKind = Some record { shape = looked_up signs.Booleans; serves = of_booleans }
-kind_of_argument ops.ClassKind = Some record { shape = looked_up signs.PlainClass; serves = of_classes }
-kind_of_argument ops.ClassMapKind = Some record { shape = looked_up signs.ClassMaps; serves = of_classes }
-kind_of_argument ops.ClassPermissionKind = Some record { shape = class_permission; serves = of_class_permissions }
-kind_of_argument ops.SensitivityKind = Some record { shape = looked_up signs.Sensitivities; serves = of_sensitivities }
-kind_of_argument ops.CategoryKind = Some record { shape = looked_up signs.Categories; serves = of_categories }
-kind_of_argument ops.CategorySetKind = Some record { shape = set_of signs.CategorySets; serves = of_categories }
-kind_of_argument ops.LevelKind = Some record { shape = level; serves = of_levels }
-kind_of_argument ops.LevelRangeKind = Some record { shape = range; serves = of_level_ranges }
-kind_of_argument ops.NameKind = Some record { shape = any_text; serves = of_texts }
-kind_of_argument ops.TextKind = Some record { shape = any_text; serves = of_texts }
-kind_of_argument op = None
+abbrev pub argument_kind : Op → Option ArgumentKind
+argument_kind ops.TypeKind = Some record { shape = looked_up signs.Types; serves = of_types }
+argument_kind ops.RoleKind = Some record { shape = looked_up signs.Roles; serves = of_roles }
+argument_kind ops.UserKind = Some record { shape = looked_up signs.Users; serves = of_users }
+argument_kind ops.BooleanKind = Some record { shape = looked_up signs.Booleans; serves = of_booleans }
+argument_kind ops.ClassKind = Some record { shape = looked_up signs.PlainClass; serves = of_classes }
+argument_kind ops.ClassMapKind = Some record { shape = looked_up signs.ClassMaps; serves = of_classes }
+argument_kind ops.ClassPermissionKind = Some record { shape = class_permission; serves = of_class_permissions }
+argument_kind ops.SensitivityKind = Some record { shape = looked_up signs.Sensitivities; serves = of_sensitivities }
+argument_kind ops.CategoryKind = Some record { shape = looked_up signs.Categories; serves = of_categories }
+argument_kind ops.CategorySetKind = Some record { shape = set_of signs.CategorySets; serves = of_categories }
+argument_kind ops.LevelKind = Some record { shape = level; serves = of_levels }
+argument_kind ops.LevelRangeKind = Some record { shape = range; serves = of_level_ranges }
+argument_kind ops.NameKind = Some record { shape = any_text; serves = of_texts }
+argument_kind ops.TextKind = Some record { shape = any_text; serves = of_texts }
+argument_kind op = None
 
--- an argument of this kind may be a list: such kinds are not supported yet, and nothing is an argument of theirs
+-- an argument of this kind may be a list
 abbrev pub may_be_list : Op → Bool
 may_be_list ops.ClassPermissionKind = true
 may_be_list ops.CategorySetKind = true
 may_be_list ops.LevelKind = true
 may_be_list ops.LevelRangeKind = true
 may_be_list op = false
-
--- the same of the kinds that are supported
-abbrev pub argument_kind : Op → Option ArgumentKind
-argument_kind op = if may_be_list op then None else kind_of_argument op
 
 abbrev pub is_place : Option Place → Place → Bool
 is_place None p = false

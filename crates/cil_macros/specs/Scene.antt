@@ -1,18 +1,18 @@
 -- What meanings follow from: all that stands, what calls bring, and what bodies declare.
-use Rattle.std.specs.Prelude.{◌≡◌, ℕ, ◌+◌, ◌<◌, List, length, Option, Some, None, find, slice_get}
+use Rattle.std.specs.Prelude.{◌≡◌, ℕ, ◌+◌, ◌<◌, List, length, Some, find, slice_get}
 use Rattle.cil_syntax.specs.declared.term.Op.{Op}
 use Rattle.cil_syntax.specs.declared.term.Word.{Word}
 use Rattle.cil_syntax.specs.Terms.{Term}
 use Rattle.cil_blocks.specs.Places.{AreStandings, entries_in}
-use Rattle.cil_macros.specs.declared.meant.Meant.{Meant}
+use Rattle.cil_macros.specs.declared.meant.Argument.{Argument}
 use Rattle.cil_macros.specs.declared.openings.Opening.{Opening}
 use Rattle.cil_macros.specs.declared.scene.Scene.{Scene}
 use Rattle.cil_macros.specs.DeclaredInBodies.{AreDeclared}
 use Rattle.cil_macros.specs.Firsts.{IsEarlier}
 use Rattle.cil_macros.specs.Macros.{all_standing}
-use Rattle.cil_macros.specs.Meant.{kind_sign, meant_term}
+use Rattle.cil_macros.specs.Meant.{IsWhole, put_there, value_there}
 use Rattle.cil_macros.specs.Openings.{AreOpenings}
-use Rattle.cil_macros.specs.Parameters.{Parameter, argument_of}
+use Rattle.cil_macros.specs.Parameters.{cell_in, argument_kind, read_argument}
 use Rattle.cil_macros.specs.Placed.{Bound, Placed, filled, is_served, meaning, put}
 use Rattle.cil_macros.specs.Walks.{AreBrought, AreInTurn, placed_in, written_in}
 
@@ -40,17 +40,14 @@ pub record IsOpened (s : Scene) (os : List Opening) : Type 0 where
   pub many : length os ≡ length s.brought.now.bodies.items
 
 -- what an argument of a kind means, of the call that is placed there
-abbrev pub SaysValue : Scene → ℕ → Op → Term Word → Meant → Type 0
+abbrev pub SaysValue : Scene → ℕ → Op → Term Word → Argument → Type 0
 SaysValue s at kind argument m =
-    (p : Placed) (x : Parameter) (value : Term Word) → slice_get (placed_of_scene s) at ≡ Some p → x.kind ≡ kind → argument_of x argument ≡ Some value
-    → meant_term (placed_of_scene s) (kind_sign kind) m ≡ filled (meaning (written_in s.spaces.now) p) value
+    (p : Placed) (value : Term Word) → slice_get (placed_of_scene s) at ≡ Some p → read_argument (argument_kind kind) (cell_in argument) ≡ Some value
+    → (value_there (placed_of_scene s) kind m ≡ filled (meaning (written_in s.spaces.now) p) value) × IsWhole (placed_of_scene s) m
 
 -- the argument for which a word stands, as it is put there
-pub record IsArgument (ps : List Placed) (w : Word) (bs : List Bound) (m : Meant) : Type 0 where
+pub record IsArgument (ps : List Placed) (w : Word) (bs : List Bound) (m : Argument) : Type 0 where
   pub bound : Bound
   pub is : find (is_served w) bs ≡ Some bound
-  pub put_there : put w.sign bound.value ≡ meant_term ps w.sign m
-
-abbrev pub SaysArgument : List Placed → Word → List Bound → Option Meant → Type 0
-SaysArgument ps w bs None = find (is_served w) bs ≡ None
-SaysArgument ps w bs (Some m) = IsArgument ps w bs m
+  pub put_so : put w.sign bound.value ≡ put_there ps w.sign m
+  pub whole : IsWhole ps m

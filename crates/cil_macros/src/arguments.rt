@@ -6,7 +6,7 @@ ghost use Rattle.cil_syntax.specs.declared.term.Word.{Word};
 ghost use Rattle.cil_syntax.specs.Said.{all_said, args_of, said_of};
 ghost use Rattle.cil_syntax.specs.Shapes.{any_text, looked_up};
 ghost use Rattle.cil_syntax.specs.Terms.{Terms, cons};
-ghost use Rattle.cil_macros.specs.Fits.{fits, has_form, is_of_kind, is_read_as, is_sound_word};
+ghost use Rattle.cil_macros.specs.Fits.{fits, is_of_kind, is_read_as, is_sound_word};
 ghost use Rattle.cil_macros.specs.Meant.{first_for, is_for, kind_sign};
 ghost use Rattle.cil_macros.specs.Parameters.{argument_kind, call_arguments, is_text, macro_parameters, may_be_list, parameters_in, serves_sign};
 
@@ -56,24 +56,14 @@ fn behind_fitting(parameter: &Term, module: u64, arguments: &[Term], taken: usiz
         return Some(taken);
     };
     let argument = arguments.get(taken)?;
-    if !has_form(found.kind, argument) {
+    if !is_of_kind(found.kind, argument) {
         return None;
     }
     Some(taken + 1)
 }
 
-/// Whether an argument has the form of a kind. None has that of a kind that is not supported yet.
-fn has_form(kind: Op, argument: &Term) -> bool
-    ensures { (n : ℕ) → result ≡ has_form kind (said_of n argument.now) }
-{
-    if may_be_list(kind) {
-        return false;
-    }
-    is_of_kind(kind, argument)
-}
-
-/// Whether arguments of a kind may be lists: such kinds are not supported yet.
-fn may_be_list(kind: Op) -> bool
+/// Whether arguments of a kind may be lists.
+pub(crate) fn may_be_list(kind: Op) -> bool
     ensures { result ≡ may_be_list kind }
 {
     matches!(
@@ -82,7 +72,7 @@ fn may_be_list(kind: Op) -> bool
     )
 }
 
-/// Whether an argument has the form of a kind, supported or not.
+/// Whether an argument has the form of a kind.
 pub fn is_of_kind(kind: Op, argument: &Term) -> bool
     ensures { (n : ℕ) → result ≡ is_of_kind kind (said_of n argument.now) }
 {
@@ -154,6 +144,16 @@ fn serves(kind: Op, sign: Sign) -> bool
             sign,
             Sign::Categories | Sign::CategoryAliases | Sign::CategorySets
         ),
+        Op::ClassPermissionKind => matches!(
+            sign,
+            Sign::ClassPermissions | Sign::NamedPermissions | Sign::MappedPermissions
+        ),
+        Op::CategorySetKind => matches!(
+            sign,
+            Sign::Categories | Sign::CategoryAliases | Sign::CategorySets
+        ),
+        Op::LevelKind => matches!(sign, Sign::Levels),
+        Op::LevelRangeKind => matches!(sign, Sign::LevelRanges),
         Op::NameKind | Op::TextKind => matches!(sign, Sign::Text),
         _ => false,
     }
@@ -172,6 +172,10 @@ pub(crate) fn sign_of(kind: Op) -> Sign
         Op::ClassMapKind => Sign::ClassMaps,
         Op::SensitivityKind => Sign::Sensitivities,
         Op::CategoryKind => Sign::Categories,
+        Op::ClassPermissionKind => Sign::ClassPermissions,
+        Op::CategorySetKind => Sign::CategorySets,
+        Op::LevelKind => Sign::Levels,
+        Op::LevelRangeKind => Sign::LevelRanges,
         _ => Sign::Text,
     }
 }

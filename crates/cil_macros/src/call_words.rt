@@ -1,14 +1,14 @@
 //! The words of a call: that of its macro, and its arguments that are looked up. The body of a call is found by a search by
 //! halving among all bodies; its words cost a step for each argument.
 
-ghost use Rattle.std.specs.Prelude.{◌≡◌, ◌+◌, ◌<◌, ◌++◌, IfOk, IfSome, List, MatchOption, OnOk, Some, length, map, slice_get};
+ghost use Rattle.std.specs.Prelude.{◌≡◌, ◌+◌, ◌<◌, ◌++◌, IfOk, IfSome, IsTrue, List, MatchOption, OnOk, Some, length, map, slice_get};
 ghost use Rattle.cil_syntax.specs.Said.{args_of};
 ghost use Rattle.cil_blocks.specs.Contents.{first_word};
 ghost use Rattle.cil_blocks.specs.Places.{entries_in};
 ghost use Rattle.cil_macros.specs.Calls.{unfolded};
-ghost use Rattle.cil_macros.specs.Items.{argument_words, call_words, is_text, macro_words, scoped_by, unfolded_words, word_in_argument};
+ghost use Rattle.cil_macros.specs.Items.{argument_words, call_words, is_text, leaves, macro_words, scoped_by, unfolded_values, unfolded_words, word_in_argument};
 ghost use Rattle.cil_macros.specs.Macros.{all_standing};
-ghost use Rattle.cil_macros.specs.Meant.{bounds_by, kind_sign, meant_term};
+ghost use Rattle.cil_macros.specs.Meant.{bounds_by, kind_sign, meant_term, value_there};
 ghost use Rattle.cil_macros.specs.Parameters.{macro_parameters};
 ghost use Rattle.cil_macros.specs.Placed.{Placed};
 ghost use Rattle.cil_macros.specs.Scene.{IsOpened, IsScene, placed_of_scene};
@@ -17,7 +17,7 @@ ghost use Rattle.cil_macros.specs.Walks.{AreCallsRising, HasNoBody, IsBodyOf, wr
 use crate::arguments::{listed, sign_of};
 use crate::chain::{standing_statement, statement_at};
 use crate::entry::Body;
-use crate::meant::Meant;
+use crate::meant::{Argument, Meant};
 use crate::openings::Opening;
 use crate::placed_word::PlacedWord;
 use crate::scene::Scene;
@@ -96,7 +96,7 @@ fn add_arguments<'a>(
 }
 
 /// The number of the body of the call at a place, if it has one.
-fn body_of(bodies: &[Body], at: usize) -> Option<usize>
+pub(crate) fn body_of(bodies: &[Body], at: usize) -> Option<usize>
     requires { AreCallsRising bodies.now }
     ensures body { MatchOption result (HasNoBody bodies.now at) (IsBodyOf bodies.now at) }
     ensures within { IfSome result (λ number. number < length bodies.now) }
@@ -109,10 +109,24 @@ fn body_of(bodies: &[Body], at: usize) -> Option<usize>
     Some(number)
 }
 
+/// Whether what the call at a place says of its arguments are words: none of them is a list.
+pub(crate) fn call_says_words_at(scene: &Scene, openings: &[Opening], at: usize) -> bool
+    requires opened { IsOpened scene.now openings.now }
+    requires within { at < length (entries_in scene.now.spaces.now) + length scene.now.brought.now.entries.items }
+    ensures { IsTrue result → (p : Placed) → slice_get (placed_of_scene scene.now) at ≡ Some p
+        → unfolded_values (unfolded (written_in scene.now.spaces.now) (all_standing scene.now.spaces.now) p) ≡ leaves (unfolded_words (unfolded (written_in scene.now.spaces.now) (all_standing scene.now.spaces.now) p)) }
+{
+    let bodies = scene.brought.bodies.as_slice();
+    match body_of(bodies, at) {
+        None => true,
+        Some(number) => !openings[number].lists,
+    }
+}
+
 /// Adds those of the arguments of a macro that are looked up.
 fn add_looked_up<'a>(
     called: &Statement<'a>,
-    arguments: &[Meant<'a>],
+    arguments: &[Argument<'a>],
     words: &mut Vec<PlacedWord<'a>>,
 ) -> Result<(), NoMemory>
     ensures { OnOk result ((ps : List Placed) → map (scoped_by ps) words.new.items
@@ -131,26 +145,42 @@ fn add_looked_up<'a>(
     Ok(())
 }
 
-/// Adds an argument of a kind, if it is looked up: a word that is no text.
+/// Adds an argument of a kind, if it is a word that is looked up.
 fn add_argument<'a>(
     kind: Op,
-    argument: &Meant<'a>,
+    argument: &Argument<'a>,
     words: &mut Vec<PlacedWord<'a>>,
 ) -> Result<(), NoMemory>
     ensures { OnOk result ((ps : List Placed) → map (scoped_by ps) words.new.items
-        ≡ map (scoped_by ps) words.old.items ++ word_in_argument (meant_term ps (kind_sign kind) argument.now)) }
+        ≡ map (scoped_by ps) words.old.items ++ word_in_argument (value_there ps kind argument.now)) }
+{
+    match argument {
+        Argument::Plain(meant) => add_word(kind, meant, words)?,
+        Argument::List(_) => {}
+    }
+    Ok(())
+}
+
+/// Adds what an argument of a kind means, if it is a word that is looked up: no text.
+fn add_word<'a>(
+    kind: Op,
+    meant: &Meant<'a>,
+    words: &mut Vec<PlacedWord<'a>>,
+) -> Result<(), NoMemory>
+    ensures { OnOk result ((ps : List Placed) → map (scoped_by ps) words.new.items
+        ≡ map (scoped_by ps) words.old.items ++ word_in_argument (meant_term ps (kind_sign kind) meant.now)) }
 {
     let sign = sign_of(kind);
     if is_text(sign) {
         return Ok(());
     }
-    let Some(place) = argument.scope else {
+    let Some(place) = meant.scope else {
         return Ok(());
     };
     words.push(PlacedWord {
         word: Word {
-            at: argument.at,
-            bytes: Excerpt::of(argument.bytes.as_slice()),
+            at: meant.at,
+            bytes: Excerpt::of(meant.bytes.as_slice()),
             sign,
         },
         scope: Some(place),
@@ -159,7 +189,7 @@ fn add_argument<'a>(
 }
 
 /// Whether a word of a sign is a text, which is not looked up.
-fn is_text(sign: Sign) -> bool
+pub(crate) fn is_text(sign: Sign) -> bool
     ensures { result ≡ is_text sign }
 {
     matches!(sign, Sign::Text)

@@ -1,7 +1,7 @@
 //! What is wrong with calls, told at the word of the macro, in the namespace in which the call is placed. A look at each placed
 //! statement is the cost; what marks cost stands in `brings.rt`.
 
-ghost use Rattle.std.specs.Prelude.{◌≡◌, ◌&&◌, ◌+◌, ◌<◌, ◌≤◌, ◌++◌, ◌∷◌, [], IfOk, OnOk, Some, length, slice_get};
+ghost use Rattle.std.specs.Prelude.{◌≡◌, ◌&&◌, ◌||◌, not, ◌+◌, ◌<◌, ◌≤◌, ◌++◌, ◌∷◌, [], IfOk, OnOk, Some, length, slice_get};
 ghost use Rattle.cil_syntax.specs.Program.{IsNested, program_of};
 ghost use Rattle.cil_blocks.specs.Contents.{first_word, is_conditional};
 ghost use Rattle.cil_blocks.specs.Entries.{statement_at};
@@ -31,7 +31,7 @@ use std::alloc::Global;
 pub struct Wrong {
     /// It came through its macro already.
     pub again: bool,
-    /// Its arguments are too few or too many, or have not the forms that the macro asks.
+    /// Its arguments are too few or too many, or have not the forms that the macro asks; or one is a list where only a name may stand.
     pub unfit: bool,
     /// It is written in a branch, and brings what may not be in one.
     pub misplaced: bool,
@@ -45,21 +45,23 @@ struct Site<'s, 'a> {
     word: &'s Word<'a>,
 }
 
-/// The faults of all calls.
+/// The faults of all calls. Marks tell at which places something is brought that may not be in a branch, and which calls have a list
+/// where only a name may stand.
 pub fn call_faults(
     alloc: Global,
     source: &Source,
     brought: &Brought,
     marks: &[bool],
+    lists: &[bool],
 ) -> Result<Vec<Fault>, NoMemory>
     requires source { IsSource source.now }
     requires brought { AreBrought source.now.spaces.now brought.now }
-    ensures { IfOk result (λ faults. faults.items ≡ faults_from (written_in source.now.spaces.now) (all_standing source.now.spaces.now) marks.now 0 (placed_in source.now.spaces.now brought.now.entries.items)) }
+    ensures { IfOk result (λ faults. faults.items ≡ faults_from (written_in source.now.spaces.now) (all_standing source.now.spaces.now) marks.now lists.now 0 (placed_in source.now.spaces.now brought.now.entries.items)) }
 {
     let mut faults = Vec::new(alloc);
     let mut scope = ScopeList::new(alloc);
     for at in 0..source.spaces.entries().len() + brought.entries.len() {
-        let wrong = wrong_at(alloc, source, brought, marks, at, &mut scope)?;
+        let wrong = wrong_at(alloc, source, brought, marks, lists, at, &mut scope)?;
         report(alloc, &mut faults, source, brought, at, wrong)?;
     }
     Ok(faults)
@@ -104,27 +106,36 @@ fn wrong_at(
     source: &Source,
     brought: &Brought,
     marks: &[bool],
+    lists: &[bool],
     at: usize,
     scope: &mut ScopeList,
 ) -> Result<Wrong, NoMemory>
     requires source { IsSource source.now }
     requires brought { AreBrought source.now.spaces.now brought.now }
     requires within { at < length (entries_in source.now.spaces.now) + length brought.now.entries.items }
-    ensures { IfOk result (SaysWrong source.now.spaces.now brought.now.entries.items marks.now at) }
+    ensures { IfOk result (SaysWrong source.now.spaces.now brought.now.entries.items marks.now lists.now at) }
 {
     let misplaced = is_misplaced(source.spaces, brought, marks, at);
+    let list = has_mark(lists, at);
     let Some(called) = macro_at(alloc, source, brought, at, scope)? else {
         return Ok(Wrong {
             again: false,
-            unfit: false,
+            unfit: list,
             misplaced,
         });
     };
     Ok(Wrong {
         again: comes_again(source, brought, at, called),
-        unfit: !has_arguments(source, brought, at, called),
+        unfit: is_unfit(has_arguments(source, brought, at, called), list),
         misplaced,
     })
+}
+
+/// Whether the arguments of a call do not fit, or it is marked as one with a list where only a name may stand.
+fn is_unfit(fits: bool, list: bool) -> bool
+    ensures { result ≡ (not fits || list) }
+{
+    !fits || list
 }
 
 /// Whether the statement at a place is marked, and a call that is written in a branch.

@@ -205,7 +205,7 @@ fn is_set_word(sign: Sign, word: &[u8]) -> bool
 }
 
 /// The word in front of some items, if one is there.
-fn word_in_front<'t>(items: &'t [Term]) -> Option<&'t [u8]>
+pub(crate) fn word_in_front<'t>(items: &'t [Term]) -> Option<&'t [u8]>
     ensures { (n : ℕ) → MatchOption result (first_words (kept_cells n items.now) ≡ []) (λ w. StartsWith w.now (first_words (kept_cells n items.now))) }
 {
     match items {
@@ -219,7 +219,7 @@ fn word_in_front<'t>(items: &'t [Term]) -> Option<&'t [u8]>
 }
 
 /// What the list of a set over words of a sign says that begins with a word.
-fn set_head(sign: Sign, word: &[u8]) -> SetHead
+pub(crate) fn set_head(sign: Sign, word: &[u8]) -> SetHead
     ensures { result ≡ head_code (same_bytes word.now (codes "not")) ((same_bytes word.now (codes "and") || same_bytes word.now (codes "or")) || same_bytes word.now (codes "xor"))
         (has_ranges sign && same_bytes word.now (codes "range")) }
 {

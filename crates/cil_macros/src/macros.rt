@@ -140,7 +140,7 @@ pub fn is_call_at(statements: &[Statement], number: usize) -> bool
 }
 
 /// Whether a statement calls a macro.
-fn is_call(keyword: Keyword) -> bool
+pub(crate) fn is_call(keyword: Keyword) -> bool
     ensures { result ≡ is_call keyword }
 {
     matches!(keyword, Keyword::Call)

@@ -1,42 +1,46 @@
 //! What a word means where it is placed: its argument, or itself in a scope. A word of a body costs a step for each parameter
 //! of its macro.
 
-ghost use Rattle.std.specs.Prelude.{◌≡◌, ◌+◌, ◌<◌, List, MatchOption, Some, length, slice_get};
+ghost use Rattle.std.specs.Prelude.{◌≡◌, ◌+◌, ◌<◌, IsTrue, List, MatchOption, None, Some, find, length, slice_get};
 ghost use Rattle.cil_syntax.specs.Program.{IsNested, program_of};
+ghost use Rattle.cil_syntax.specs.Terms.{Leaf};
 ghost use Rattle.cil_syntax.specs.Written.{Written};
+ghost use Rattle.cil_syntax.specs.declared.term.Word.{Word as AWord};
 ghost use Rattle.cil_blocks.specs.Contents.{Standing};
 ghost use Rattle.cil_blocks.specs.Entries.{statement_at};
 ghost use Rattle.cil_blocks.specs.Places.{entries_in};
 ghost use Rattle.cil_macros.specs.Entries.{AreBodies, placed_of};
 ghost use Rattle.cil_macros.specs.Macros.{all_standing};
-ghost use Rattle.cil_macros.specs.Meant.{AreArguments, meant_term};
+ghost use Rattle.cil_macros.specs.Meant.{AreArguments, IsWholeMeaning, meaning_there};
+ghost use Rattle.cil_macros.specs.Items.{said_by, word_of};
 ghost use Rattle.cil_macros.specs.Openings.{IsNumbered};
 ghost use Rattle.cil_macros.specs.Parameters.{macro_parameters};
-ghost use Rattle.cil_macros.specs.Placed.{Bound, Placed, meaning};
-ghost use Rattle.cil_macros.specs.Scene.{IsKnown, SaysArgument, placed_of_scene};
+ghost use Rattle.cil_macros.specs.Placed.{Bound, Placed, is_served, meaning};
+ghost use Rattle.cil_macros.specs.Scene.{IsArgument, IsKnown, placed_of_scene};
 ghost use Rattle.cil_macros.specs.Walks.{placed_in, written_in};
 
 use crate::arguments::parameter_for;
 use crate::chain::{Brought, standing_statement};
-use crate::meant::Meant;
+use crate::meant::{Argument, Meaning, Meant};
 use crate::openings::Opening;
 use crate::scene::Scene;
 use cil_syntax::{Statement, Word};
 
 /// What a word of the statement at a place means there, where it is known what the bodies round it have from their calls.
-pub fn meaning_at<'a>(
+pub fn meaning_at<'o, 'a>(
     scene: &Scene<'_, '_, 'a>,
-    openings: &[Opening<'a>],
+    openings: &'o [Opening<'a>],
     at: usize,
     word: &Word<'a>,
-) -> Meant<'a>
+) -> Meaning<'o, 'a>
     requires { IsKnown scene.now openings.now at }
-    ensures { (p : Placed) → slice_get (placed_of_scene scene.now) at ≡ Some p
-        → meant_term (placed_of_scene scene.now) word.now.sign result ≡ meaning (written_in scene.now.spaces.now) p word.now }
+    ensures says { (p : Placed) → slice_get (placed_of_scene scene.now) at ≡ Some p
+        → meaning_there (placed_of_scene scene.now) word.now.sign result ≡ meaning (written_in scene.now.spaces.now) p word.now }
+    ensures whole { IsWholeMeaning (placed_of_scene scene.now) result }
 {
     let standing = scene.spaces.entries().len();
     let Some(number) = body_number(scene.brought, standing, at) else {
-        return Meant::word(word.at, word.bytes.as_slice(), at);
+        return Meaning::Plain(Meant::word(word.at, word.bytes.as_slice(), at));
     };
     let opening = &openings[number];
     let called = standing_statement(
@@ -44,28 +48,41 @@ pub fn meaning_at<'a>(
         scene.brought.bodies[number].macro_rank,
     );
     if let Some(argument) = argument_for(scene.spaces.statements(), opening, called, word) {
-        return argument;
+        return argument.meaning();
     }
     if scene.declared.has(called, word.bytes.as_slice(), word.sign) {
-        return Meant::word(word.at, word.bytes.as_slice(), opening.home);
+        return Meaning::Plain(Meant::word(word.at, word.bytes.as_slice(), opening.home));
     }
-    Meant::word(word.at, word.bytes.as_slice(), at)
+    Meaning::Plain(Meant::word(word.at, word.bytes.as_slice(), at))
+}
+
+/// Whether each word of the statement at a place says a word there: no argument of its body is a list. It costs one step.
+pub fn says_words_at(scene: &Scene, openings: &[Opening], at: usize) -> bool
+    requires { IsKnown scene.now openings.now at }
+    ensures { IsTrue result → (p : Placed) (w : AWord) → slice_get (placed_of_scene scene.now) at ≡ Some p
+        → said_by (written_in scene.now.spaces.now) p w ≡ Leaf (word_of (written_in scene.now.spaces.now) p w) }
+{
+    let standing = scene.spaces.entries().len();
+    match body_number(scene.brought, standing, at) {
+        None => true,
+        Some(number) => !openings[number].lists,
+    }
 }
 
 /// The argument for which a word stands in the body of the macro that is the statement of a number.
-fn argument_for<'a>(
+fn argument_for<'o, 'a>(
     statements: &[Statement<'a>],
-    opening: &Opening<'a>,
+    opening: &'o Opening<'a>,
     called: usize,
     word: &Word<'a>,
-) -> Option<Meant<'a>>
+) -> Option<&'o Argument<'a>>
     requires { IsNested statements.now }
     ensures { (ps : List Placed) (bs : List Bound) → AreArguments ps (macro_parameters (statement_at (program_of statements.now) called).statement.args) bs opening.now.arguments.items
-        → SaysArgument ps word.now bs result }
+        → MatchOption result (find (is_served word.now) bs ≡ None) (λ argument. IsArgument ps word.now bs argument.now) }
 {
     let number = parameter_for(statements.get(called)?, word)?;
     let argument = opening.arguments.get(number)?;
-    Some(argument.copied())
+    Some(argument)
 }
 
 /// The number of the body of what is placed somewhere, if a call brought it: what stands comes first, so many.

@@ -6,18 +6,22 @@ ghost use Rattle.cil_syntax.specs.Said.{all_said};
 ghost use Rattle.cil_blocks.specs.Places.{entries_in};
 ghost use Rattle.cil_macros.specs.Calls.{Unfolded, home_of, unfolded};
 ghost use Rattle.cil_macros.specs.Macros.{all_standing};
-ghost use Rattle.cil_macros.specs.Meant.{AreArguments, scope_there};
+ghost use Rattle.std.specs.List.{list_any};
+ghost use Rattle.cil_macros.specs.Meant.{AreArguments, is_list, scope_there};
 ghost use Rattle.cil_macros.specs.Openings.{AreOpenings, IsOpening};
 ghost use Rattle.cil_macros.specs.Parameters.{macro_parameters, string_in};
 ghost use Rattle.cil_macros.specs.Placed.{Placed};
 ghost use Rattle.cil_macros.specs.Scene.{IsScene, placed_of_scene};
 ghost use Rattle.cil_macros.specs.Walks.{placed_in, written_in};
 
-use crate::arguments::{listed, sign_of};
+use crate::arguments::{listed, may_be_list, sign_of};
 use crate::chain::{standing_statement, statement_at};
 use crate::entry::Body;
+use crate::list_parts::is_every;
+use crate::list_values::Caller;
+use crate::listed::Listed;
 use crate::meaning::{body_number, meaning_at};
-use crate::meant::Meant;
+use crate::meant::{Argument, Meant};
 use crate::scene::Scene;
 use cil_base::NoMemory;
 use cil_syntax::{Excerpt, Op, Spot, Statement, Term, Word};
@@ -28,8 +32,10 @@ use std::alloc::Global;
 pub struct Opening<'a> {
     /// The place of the outermost call: the one that stands in no body.
     pub home: usize,
-    /// What the arguments mean, one for each parameter of the macro.
-    pub arguments: Vec<Meant<'a>>,
+    /// What the arguments are, one for each parameter of the macro.
+    pub arguments: Vec<Argument<'a>>,
+    /// Whether one of them is a list.
+    pub lists: bool,
 }
 
 /// What the body of a macro takes its arguments from.
@@ -75,15 +81,32 @@ fn opening_of<'a>(
         at: body.call,
     };
     let arguments = call.arguments(alloc, body.macro_rank)?;
+    let lists = has_list(arguments.as_slice());
     Ok(Opening {
         home: call.home(),
         arguments,
+        lists,
     })
+}
+
+/// Whether an argument is a list.
+fn has_list(arguments: &[Argument]) -> bool
+    ensures { result ≡ list_any is_list arguments.now }
+{
+    for argument in arguments {
+        if argument.is_list() {
+            return true;
+        }
+    }
+    false
 }
 
 impl<'c, 's, 'p, 'a> Call<'c, 's, 'p, 'a> {
     ghost use Rattle.std.specs.Prelude.{◌≡◌, ◌+◌, ◌<◌, List, IfOk, Some, length, slice_get};
-    ghost use Rattle.cil_syntax.specs.Said.{args_of, said_of};
+    ghost use Rattle.cil_faults.specs.Spots.{spot_at};
+    ghost use Rattle.cil_syntax.specs.declared.term.Op.{Op as AnOp};
+    ghost use Rattle.cil_syntax.specs.Said.{all_said, args_of, said_of};
+    ghost use Rattle.cil_syntax.specs.Terms.{Form, Leaf};
     ghost use Rattle.cil_blocks.specs.Places.{entries_in};
     ghost use Rattle.cil_macros.specs.Calls.{Unfolded, bound, home_of, unfolded};
     ghost use Rattle.cil_macros.specs.Macros.{all_standing};
@@ -107,7 +130,7 @@ impl<'c, 's, 'p, 'a> Call<'c, 's, 'p, 'a> {
     }
 
     /// What the arguments mean, where the macro of a rank is called.
-    fn arguments(&self, alloc: Global, called: usize) -> Result<Vec<Meant<'a>>, NoMemory>
+    fn arguments(&self, alloc: Global, called: usize) -> Result<Vec<Argument<'a>>, NoMemory>
         requires call { IsKnown self.now.scene.now self.now.openings.now self.now.at }
         requires standing { called < length (entries_in self.now.scene.now.spaces.now) }
         ensures { IfOk result (λ ms. (p : Placed) (u : Unfolded) → slice_get (placed_of_scene self.now.scene.now) self.now.at ≡ Some p
@@ -137,7 +160,7 @@ impl<'c, 's, 'p, 'a> Call<'c, 's, 'p, 'a> {
         alloc: Global,
         called: &Statement<'a>,
         call: &Statement<'a>,
-    ) -> Result<Vec<Meant<'a>>, NoMemory>
+    ) -> Result<Vec<Argument<'a>>, NoMemory>
         requires { IsKnown self.now.scene.now self.now.openings.now self.now.at }
         ensures { IfOk result (λ ms. (p : Placed) (bs : List Bound) → slice_get (placed_of_scene self.now.scene.now) self.now.at ≡ Some p
             → bound (written_in self.now.scene.now.spaces.now) p (macro_parameters (args_of called.now)) (call_arguments (args_of call.now)) ≡ Some bs
@@ -150,31 +173,86 @@ impl<'c, 's, 'p, 'a> Call<'c, 's, 'p, 'a> {
                 let Some(argument) = arguments.get(meanings.len()) else {
                     return Ok(meanings);
                 };
-                meanings.push(self.argument_meaning(parameter.kind, argument, call.at.module))?;
+                let value = self.argument_value(alloc, parameter.kind, argument, call.at.module)?;
+                meanings.push(value)?;
             }
         }
         Ok(meanings)
     }
 
-    /// What an argument of a kind means, which is written in this module.
-    fn argument_meaning(&self, kind: Op, argument: &Term<'a>, module: u64) -> Meant<'a>
+    /// What an argument of a kind is, which is written in this module.
+    fn argument_value(
+        &self,
+        alloc: Global,
+        kind: Op,
+        argument: &Term<'a>,
+        module: u64,
+    ) -> Result<Argument<'a>, NoMemory>
         requires { IsKnown self.now.scene.now self.now.openings.now self.now.at }
-        ensures { SaysValue self.now.scene.now self.now.at kind (said_of «module» argument.now) result }
+        ensures { IfOk result (SaysValue self.now.scene.now self.now.at kind (said_of «module» argument.now)) }
     {
         match argument {
             Term::Leaf(word) => {
-                let own = Word {
-                    at: Spot::of(module, word.at),
-                    bytes: Excerpt::of(word.bytes.as_slice()),
-                    sign: sign_of(kind),
-                };
-                meaning_at(self.scene, self.openings, self.at, &own)
+                let value = self.word_value(alloc, kind, &word.in_module(module))?;
+                Ok(value)
             }
-            Term::Name(at, bytes) => Meant::string(Spot::of(module, *at), bytes.as_slice()),
+            Term::Name(at, bytes) => Ok(Argument::Plain(Meant::string(
+                Spot::of(module, *at),
+                bytes.as_slice(),
+            ))),
             Term::Form(_, at, parts) => {
-                Meant::string(Spot::of(module, *at), string_in(parts.as_slice()))
+                let value = self.form_value(alloc, kind, *at, parts.as_slice(), module)?;
+                Ok(value)
             }
         }
+    }
+
+    /// What an argument is that is a word: the set of everything, or what the word means. A list that is handed on is copied, a
+    /// step for each part.
+    fn word_value(&self, alloc: Global, kind: Op, word: &Word<'a>) -> Result<Argument<'a>, NoMemory>
+        requires { IsKnown self.now.scene.now self.now.openings.now self.now.at }
+        ensures { IfOk result (SaysValue self.now.scene.now self.now.at kind (Leaf word.now)) }
+    {
+        if is_every(kind, word.bytes.as_slice()) {
+            return Ok(Argument::List(Listed {
+                at: word.at,
+                op: Op::All,
+                parts: Vec::new(alloc),
+            }));
+        }
+        let own = Word {
+            at: word.at,
+            bytes: Excerpt::of(word.bytes.as_slice()),
+            sign: sign_of(kind),
+        };
+        let meaning = meaning_at(self.scene, self.openings, self.at, &own);
+        let value = meaning.as_argument(alloc)?;
+        Ok(value)
+    }
+
+    /// What an argument is that joins some parts: a list where its kind has lists, and otherwise a string.
+    fn form_value(
+        &self,
+        alloc: Global,
+        kind: Op,
+        at: u32,
+        parts: &[Term<'a>],
+        module: u64,
+    ) -> Result<Argument<'a>, NoMemory>
+        requires { IsKnown self.now.scene.now self.now.openings.now self.now.at }
+        ensures { IfOk result (λ a. (op : AnOp) → SaysValue self.now.scene.now self.now.at kind (Form (spot_at «module» at) op (all_said «module» parts.now)) a) }
+    {
+        if !may_be_list(kind) {
+            return Ok(Argument::Plain(Meant::string(Spot::of(module, at), string_in(parts))));
+        }
+        let caller = Caller {
+            scene: self.scene,
+            openings: self.openings,
+            at: self.at,
+            module,
+        };
+        let list = caller.list(alloc, kind, at, parts)?;
+        Ok(Argument::List(list))
     }
 }
 

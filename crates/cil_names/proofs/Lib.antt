@@ -1,5 +1,6 @@
 pub mod AnswerLemmas
 pub mod AskedLemmas
+pub mod AskedPartLemmas
 pub mod BehindLemmas
 pub mod CandidateLemmas
 mod CommonExamples

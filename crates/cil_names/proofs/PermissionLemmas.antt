@@ -44,10 +44,10 @@ use Rattle.cil_names.specs.Declarations.{Declaration, Symbol, content_of, declar
 use Rattle.cil_names.specs.Entries.{AreOrdered, HasNoEntry, IsEntryAt, is_entry}
 use Rattle.cil_blocks.specs.Entries.{statement_at}
 use Rattle.cil_macros.specs.Item.{Item, all_replaced, is_enabled, names_in, nobody, replaced}
-use Rattle.cil_macros.specs.Items.{Kept, SaysWords, item_at, items_in, placed_at, says_as_written, word_at}
-use Rattle.cil_macros.specs.Macros.{all_standing}
+use Rattle.cil_macros.specs.Items.{Kept, item_at, items_in, may_say_lists, placed_at, says_as_written, word_at}
 use Rattle.cil_macros.specs.Walks.{written_in}
-use Rattle.cil_macros.proofs.ItemLemmas.{items_taken, said_as_written}
+use Rattle.cil_macros.proofs.ItemLemmas.{items_taken}
+use Rattle.cil_macros.proofs.ItemsThere.{named_there}
 use Rattle.cil_names.specs.Numbers.{symbol_of}
 use Rattle.cil_names.specs.Permissions.{AreEmpty, AreListed, AreOwn, DeclaresList, DeclaresNoList, SaysList, SaysNoList, has_list, list_sign, listed_by}
 use Rattle.cil_names.specs.Resolves.{fits, gives_permission, listed_permissions, lists_permission}
@@ -149,15 +149,16 @@ record IsListOf (k : Keyword) (sign : Sign) : Type 0 where
   wanted : is_wanted sign kind ≡ true
   has : has_list sign ≡ true
   written : says_as_written k ≡ true
+  named : may_say_lists k ≡ false
 
 list_kind : (k : Keyword) (sign : Sign) → list_sign k ≡ Some sign → IsListOf k sign
 unfolding entry_of
 list_kind keywords.Class sign e =
-    subst (IsListOf keywords.Class) (same_Some signs.Classes sign e) (record { kind = kinds.Class; declares = refl; wanted = refl; has = refl; written = refl })
+    subst (IsListOf keywords.Class) (same_Some signs.Classes sign e) (record { kind = kinds.Class; declares = refl; wanted = refl; has = refl; written = refl; named = refl })
 list_kind keywords.ClassMap sign e =
-    subst (IsListOf keywords.ClassMap) (same_Some signs.Classes sign e) (record { kind = kinds.ClassMap; declares = refl; wanted = refl; has = refl; written = refl })
+    subst (IsListOf keywords.ClassMap) (same_Some signs.Classes sign e) (record { kind = kinds.ClassMap; declares = refl; wanted = refl; has = refl; written = refl; named = refl })
 list_kind keywords.Common sign e =
-    subst (IsListOf keywords.Common) (same_Some signs.Commons sign e) (record { kind = kinds.Common; declares = refl; wanted = refl; has = refl; written = refl })
+    subst (IsListOf keywords.Common) (same_Some signs.Commons sign e) (record { kind = kinds.Common; declares = refl; wanted = refl; has = refl; written = refl; named = refl })
 list_kind k sign e = absurd (none-some sign e)
 
 pub class_declares : (entry_of keywords.Class).declares ≡ kinds.Class ∷ []
@@ -500,12 +501,9 @@ pub none_in_optional : (x : Item) → (x.round ≡ [] → ⊥) → DeclaresNoLis
 none_in_optional x inside sign name d = inside d.outside
 
 module _ (i : Kept) (at : ℕ) where
-  module _ (s : Statement) (says : statement_of s ≡ (placed_at i at).standing.statement.statement) (words : SaysWords i at) where
+  module _ (s : Statement) (says : statement_of s ≡ (placed_at i at).standing.statement.statement) where
     list_says : (sign : Sign) → list_sign s.keyword ≡ Some sign → (item_at i at).args ≡ all_replaced (λ bt. bt) (word_at i at) (args_of s)
-    list_says sign k =
-        said_as_written (written_in i.0) (all_standing i.0) (placed_at i at) words (placed_at i at).standing.statement.statement.keyword (placed_at i at).standing.statement.statement.args
-        (ap says_as_written (sym (ap (λ t. t.keyword) says)) ∙ (list_kind s.keyword sign k).written)
-        ∙ ap (all_replaced (λ bt. bt) (word_at i at)) (sym (ap (λ t. t.args) says))
+    list_says sign k = let kind = list_kind s.keyword sign k in named_there i at s says kind.named kind.written
 
     pub none_declared : SaysNoList s → DeclaresNoList (item_at i at)
     none_declared none sign name d =

@@ -22,10 +22,10 @@ use Rattle.cil_macros.specs.Items.{Kept, all_placed, leaves, namespaces_in, plac
 use Rattle.cil_macros.specs.Macros.{all_standing}
 use Rattle.cil_macros.specs.Placed.{Placed}
 use Rattle.cil_macros.specs.Walks.{IsScope, written_in}
-use Rattle.cil_macros.proofs.ItemLemmas.{abstract_says, inherit_says, said_as_written}
+use Rattle.cil_macros.proofs.ItemLemmas.{abstract_says, inherit_says}
 use Rattle.cil_names.specs.declared.reading.Reading.{Reading}
 use Rattle.cil_names.specs.Entries.{scoped}
-use Rattle.cil_names.specs.Readings.{IsReading, item_read, word_read}
+use Rattle.cil_names.specs.Readings.{IsReading, ReadsWords, item_read, word_read, words_called}
 use Rattle.cil_names.specs.Resolves.{Word as AWord, all_wanted_in, is_mapping, wanted_in, words_of, words_of_class, words_of_mapping, words_said}
 use Rattle.cil_names.specs.Unresolved.{terms_with}
 
@@ -47,12 +47,6 @@ module _ {L M : Type 0} (f : L → M) where
         ap (λ l. l ++ all_words_in (all_replaced (λ at. at) f ts)) (words_of_term t)
         ∙ ap (λ l. map f (words_in t) ++ l) (words_of_terms ts)
         ∙ sym (map-append f (words_in t) (all_words_in ts))
-
--- words, one after another
-pub words_of_leaves : (ws : List ScopedWord) → all_words_in (leaves ws) ≡ ws
-unfolding leaves words_in all_words_in
-words_of_leaves [] = refl
-words_of_leaves (w ∷ ws) = ap (λ l. w ∷ l) (words_of_leaves ws)
 
 pub wanted_of_leaves : (ws : List ScopedWord) → all_wanted_in (leaves ws) ≡ map AWord ws
 unfolding leaves wanted_in all_wanted_in
@@ -89,31 +83,11 @@ module _ (r : Reading) (is : IsReading r) where
       says_nothing (written_in r.instances.now.0) (all_standing r.instances.now.0) there there.standing.statement.statement.keyword there.standing.statement.statement.args
       (ap is_call keyword_read ∙ c) (ap says_as_written keyword_read ∙ e)
 
-  -- nothing means nothing
-  pub nothing_meant : {Y : Type 0} (f : ScopedWord → Y) → is_call r.statement.now.keyword ≡ false → says_as_written r.statement.now.keyword ≡ false → (old : List Y)
-      → old ≡ old ++ map f (all_words_in (item_read r).args)
-  nothing_meant f c e old = sym (ap (λ ts. old ++ map f (all_words_in ts)) (nothing_read c e) ∙ ap (λ ws. old ++ map f ws) no_words ∙ append-nil old)
-
-  pub written_read : says_as_written r.statement.now.keyword ≡ true → (terms : List rust.Term) → terms ≡ r.statement.now.args.items
+  pub written_read : ReadsWords r → says_as_written r.statement.now.keyword ≡ true → (terms : List rust.Term) → terms ≡ r.statement.now.args.items
       → (item_read r).args ≡ all_replaced (λ at. at) (word_read r) (all_said r.statement.now.at.«module» terms)
-  written_read e terms same =
-      said_as_written (written_in r.instances.now.0) (all_standing r.instances.now.0) there is.words there.standing.statement.statement.keyword there.standing.statement.statement.args
-      (ap says_as_written keyword_read ∙ e)
+  written_read words e terms same =
+      words.written (ap says_as_written keyword_read ∙ e)
       ∙ ap (all_replaced (λ at. at) (word_read r)) (args_read ∙ ap (all_said r.statement.now.at.«module») (sym same))
-
-  -- what its words mean, by what those that are written mean there
-  pub written_meant : {Y : Type 0} (f : ScopedWord → Y) → says_as_written r.statement.now.keyword ≡ true → (terms : List rust.Term) → terms ≡ r.statement.now.args.items
-      → map (λ w. f (word_read r w)) (all_words_in (all_said r.statement.now.at.«module» terms)) ≡ map f (all_words_in (item_read r).args)
-  written_meant f e terms same =
-      sym (ap (λ ts. map f (all_words_in ts)) (written_read e terms same)
-      ∙ ap (map f) (words_of_terms (word_read r) (all_said r.statement.now.at.«module» terms))
-      ∙ map-map f (word_read r) (all_words_in (all_said r.statement.now.at.«module» terms)))
-
-  -- the words of a call, one after another
-  pub call_meant : {Y : Type 0} (f : ScopedWord → Y) (ws : List PlacedWord) → (item_read r).args ≡ leaves (map (scoped_by (all_placed r.instances.now)) ws)
-      → map (λ w. f (scoped_by (all_placed r.instances.now) w)) ws ≡ map f (all_words_in (item_read r).args)
-  call_meant f ws e =
-      sym (ap (λ ts. map f (all_words_in ts)) e ∙ ap (map f) (words_of_leaves (map (scoped_by (all_placed r.instances.now)) ws)) ∙ map-map f (scoped_by (all_placed r.instances.now)) ws)
 
 -- ---- the words of a statement
 
@@ -136,11 +110,14 @@ nothing_said k args e = ap (words_said k) e ∙ none (is_mapping k)
     none true = refl
     none false = none_wanted
 
-pub call_wanted : (r : Reading) → is_call (item_read r).keyword ≡ true → (ws : List PlacedWord) → (item_read r).args ≡ leaves (map (scoped_by (all_placed r.instances.now)) ws)
+-- the words of a call, one after another
+pub call_wanted : (r : Reading) → ReadsWords r → is_call (item_read r).keyword ≡ true → (ws : List PlacedWord) → map (scoped_by (all_placed r.instances.now)) ws ≡ words_called r
     → words_of (item_read r) ≡ map (λ w. AWord (scoped_by (all_placed r.instances.now) w)) ws
-call_wanted r called ws e =
+call_wanted r words called ws same =
     plain_said (item_read r).keyword (item_read r).args (call_no_mapping (item_read r).keyword called)
-    ∙ ap all_wanted_in e ∙ wanted_of_leaves (map (scoped_by (all_placed r.instances.now)) ws) ∙ map-map AWord (scoped_by (all_placed r.instances.now)) ws
+    ∙ ap all_wanted_in (words.call called ∙ ap leaves (sym same))
+    ∙ wanted_of_leaves (map (scoped_by (all_placed r.instances.now)) ws)
+    ∙ map-map AWord (scoped_by (all_placed r.instances.now)) ws
 
 -- the words of a classmapping, by its first two terms and those behind them
 pub mapping_wanted : (f : Word → ScopedWord) (m : ℕ) (ts : List rust.Term) → words_of_class (terms_with f m (take 2 ts)) ++ all_wanted_in (terms_with f m (drop 2 ts)) ≡ words_of_mapping (terms_with f m ts)

@@ -36,7 +36,7 @@ use Rattle.cil_faults.specs.Namespaces.{Namespace}
 use Rattle.cil_blocks.specs.declared.namespaces.Space.{Space}
 use Rattle.cil_blocks.specs.Namespaces.{AreNamespaces, IsNumber, space_at}
 use Rattle.cil_macros.specs.Item.{Item, all_replaced, is_enabled, nobody}
-use Rattle.cil_macros.specs.Items.{says_as_written}
+use Rattle.cil_macros.specs.Items.{may_say_lists, says_as_written}
 use Rattle.cil_macros.proofs.FormLemmas.{no_pair, pair_across}
 use Rattle.cil_names.specs.declared.entry.Entry.{Entry}
 use Rattle.cil_names.specs.declared.shared.Shared.{Shared}
@@ -276,6 +276,10 @@ module _ (ss : List Space) (are : AreNamespaces ss) (xs : List Item) (es : List 
 pub joins_as_written : (k : Keyword) → is_class_common k ≡ true → says_as_written k ≡ true
 joins_as_written keywords.ClassCommon e = refl
 joins_as_written k e = absurd (true≢false (sym e))
+
+pub joins_named : (k : Keyword) → is_class_common k ≡ true → may_say_lists k ≡ false
+joins_named keywords.ClassCommon e = refl
+joins_named k e = absurd (true≢false (sym e))
 
 none_on : (round : List ℕ) → list_all nobody round ≡ true → round ≡ []
 none_on [] e = refl

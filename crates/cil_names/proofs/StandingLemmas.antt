@@ -1,5 +1,5 @@
 -- The numbers of declared symbols, and of those for which words stand.
-use Rattle.std.specs.Prelude.{Contains, Some, slice_get}
+use Rattle.std.specs.Prelude.{Contains, Some}
 use Rattle.std.specs.Ordering.{nat_cmp}
 use Rattle.std.proofs.Common.{◌≡◌, ℕ, ◌<◌, true, List, [], length, get_or, sym, ◌∙◌, ap, subst}
 use Rattle.cil_base.specs.Lists.{Lists, contains_none}

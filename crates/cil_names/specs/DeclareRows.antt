@@ -13,7 +13,7 @@ use Rattle.cil_syntax.specs.Terms.{Term, Terms, nil, cons}
 use Rattle.cil_syntax.specs.Scopes.{ScopedWord}
 use Rattle.cil_blocks.specs.Namespaces.{IsNumber, space_at}
 use Rattle.cil_macros.specs.Item.{OptSet, all_replaced, replaced}
-use Rattle.cil_macros.specs.Items.{Kept, item_at, items_in, namespaces_in, says_as_written, word_at}
+use Rattle.cil_macros.specs.Items.{Kept, item_at, items_in, may_say_lists, namespaces_in, says_as_written, word_at}
 use Rattle.cil_names.specs.declared.content.Comparison.{Comparison}
 use Rattle.cil_names.specs.declared.content.ReadAt.{ReadAt}
 use Rattle.cil_names.specs.declared.row.Row.{Row}
@@ -112,7 +112,8 @@ pub record AreThere (c : Comparison) : Type 0 where
   pub one : c.one.at < length (items_in c.instances.now)
   pub other : c.other.at < length (items_in c.instances.now)
 
--- the instance at a place says what is written
+-- the instance at a place says what is written, each word as a word
 pub record SaysWritten (i : Kept) (k : ℕ) : Type 0 where
   pub within : k < length (items_in i)
   pub written : says_as_written (item_at i k).keyword ≡ true
+  pub named : may_say_lists (item_at i k).keyword ≡ false

@@ -1,4 +1,5 @@
 pub mod Asked
+pub mod AskedParts
 pub mod Classes
 pub mod Declarations
 pub mod DeclareRows

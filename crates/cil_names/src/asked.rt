@@ -5,13 +5,14 @@ ghost use Rattle.std.specs.List.{flat_map};
 ghost use Rattle.std.specs.Option.{option_map};
 ghost use Rattle.cil_macros.specs.Calls.{is_call};
 ghost use Rattle.cil_macros.specs.Item.{all_words_in, words_in};
-ghost use Rattle.cil_macros.specs.Items.{all_placed, item_at, items_in, scoped_by};
+ghost use Rattle.cil_macros.specs.Items.{all_placed, item_at, items_in, says_lists, scoped_by};
 ghost use Rattle.cil_macros.specs.Placed.{Placed};
 ghost use Rattle.cil_names.specs.Asked.{asked_by, wanted_by};
-ghost use Rattle.cil_names.specs.Readings.{IsReading, item_read, module_of, scoped_there, word_read};
+ghost use Rattle.cil_names.specs.Readings.{IsReading, ReadsWords, item_read, module_of, scoped_there, word_read};
 ghost use Rattle.cil_names.specs.Resolves.{all_wanted_in, told_at, told_word, wanted_in, words_of, words_of_class, words_of_mapping};
 ghost use Rattle.cil_names.specs.Unresolved.{term_with, terms_with};
 
+use crate::asked_parts::asked_in_parts;
 use crate::reading::{Reading, behind_two, front_two, is_call, is_mapping, says_as_written};
 use cil_base::NoMemory;
 use cil_macros::{Instances, PlacedWord};
@@ -113,6 +114,29 @@ impl<'r, 's, 'p, 'a> Reading<'r, 's, 'p, 'a> {
         requires { IsReading self.now }
         ensures { IfOk result (λ asked. asked_by self.now asked.items ≡ words_of (item_read self.now)) }
     {
+        if self.instances.may_have_list(self.at) {
+            return self.asked_by_parts(alloc);
+        }
+        self.asked_by_words(alloc)
+    }
+
+    /// The same of a statement that may say a list: by the parts of what it says.
+    fn asked_by_parts(&self, alloc: Global) -> Result<Vec<Asked<'a>>, NoMemory>
+        requires reading { IsReading self.now }
+        requires lists { says_lists (item_read self.now).keyword ≡ true }
+        ensures { IfOk result (λ asked. asked_by self.now asked.items ≡ words_of (item_read self.now)) }
+    {
+        let parts = self.instances.parts(alloc, self.at)?;
+        let asked = asked_in_parts(alloc, self.statement.keyword, parts.as_slice())?;
+        Ok(asked)
+    }
+
+    /// The same of a statement that says words alone: by what is written.
+    fn asked_by_words(&self, alloc: Global) -> Result<Vec<Asked<'a>>, NoMemory>
+        requires reading { IsReading self.now }
+        requires words { ReadsWords self.now }
+        ensures { IfOk result (λ asked. asked_by self.now asked.items ≡ words_of (item_read self.now)) }
+    {
         let mut asked = Vec::new(alloc);
         if is_call(self.statement.keyword) {
             self.ask_call(alloc, &mut asked)?;
@@ -147,7 +171,8 @@ impl<'r, 's, 'p, 'a> Reading<'r, 's, 'p, 'a> {
 
     /// Adds the words of a call.
     fn ask_call(&self, alloc: Global, asked: &mut Vec<Asked<'a>>) -> Result<(), NoMemory>
-        requires { IsReading self.now }
+        requires reading { IsReading self.now }
+        requires words { ReadsWords self.now }
         ensures { OnOk result (is_call (item_read self.now).keyword ≡ true → asked_by self.now asked.new.items ≡ asked_by self.now asked.old.items ++ words_of (item_read self.now)) }
     {
         let words = self.call_words(alloc)?;

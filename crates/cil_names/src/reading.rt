@@ -1,10 +1,10 @@
 //! A placed statement, as its words are looked up: what each says there, and where it is looked up.
 
-ghost use Rattle.std.specs.Prelude.{◌≡◌, ◌↔◌, IfOk, IsTrue, Some, drop, map, take, true};
+ghost use Rattle.std.specs.Prelude.{◌≡◌, ◌↔◌, IfOk, IsTrue, Some, drop, map, take};
 ghost use Rattle.cil_macros.specs.Calls.{is_call};
-ghost use Rattle.cil_macros.specs.Items.{all_placed, leaves, says_as_written, scoped_by};
+ghost use Rattle.cil_macros.specs.Items.{all_placed, says_as_written, scoped_by};
 ghost use Rattle.cil_names.specs.Resolves.{is_mapping as maps};
-ghost use Rattle.cil_names.specs.Readings.{IsReading, item_read, scoped_there, word_read};
+ghost use Rattle.cil_names.specs.Readings.{IsReading, scoped_there, word_read, words_called};
 
 use cil_base::NoMemory;
 use cil_macros::{Instances, PlacedWord};
@@ -34,7 +34,7 @@ impl<'r, 's, 'p, 'a> Reading<'r, 's, 'p, 'a> {
     /// The words of the call that the statement is: that of its macro and, where it is unfolded, its arguments that are looked up.
     pub fn call_words(&self, alloc: Global) -> Result<Vec<PlacedWord<'a>>, NoMemory>
         requires { IsReading self.now }
-        ensures { IfOk result (λ ws. is_call (item_read self.now).keyword ≡ true → (item_read self.now).args ≡ leaves (map (scoped_there self.now) ws.items)) }
+        ensures { IfOk result (λ ws. map (scoped_there self.now) ws.items ≡ words_called self.now) }
     {
         self.instances.call_words(alloc, self.at)
     }

@@ -15,10 +15,10 @@ use Rattle.cil_syntax.specs.Written.{Statement as Said, Written, bytes_of, named
 use Rattle.cil_faults.specs.Namespaces.{qualified}
 use Rattle.cil_blocks.specs.Contents.{is_optional}
 use Rattle.cil_macros.specs.Item.{Item, OptSet, all_replaced, replaced}
-use Rattle.cil_macros.specs.Items.{Kept, SaysWords, item_at, placed_at, says_as_written, word_at}
+use Rattle.cil_macros.specs.Items.{Kept, item_at, may_say_lists, placed_at, says_as_written, word_at}
 use Rattle.cil_optionals.specs.declared.lines.OptionalLine.{OptionalLine}
 use Rattle.cil_optionals.specs.Lines.{label_of, lines_from, lines_of, optional_line}
-use Rattle.cil_macros.proofs.ItemsThere.{keyword_there, said_there}
+use Rattle.cil_macros.proofs.ItemsThere.{keyword_there, named_there}
 
 -- ---- labels
 
@@ -28,6 +28,11 @@ optional_said keywords.BlockInherit e = e
 optional_said keywords.BlockAbstract e = e
 optional_said keywords.Call e = e
 optional_said k e = refl
+
+-- no list stands for a word of it
+optional_named : (k : Keyword) → is_optional k ≡ true → may_say_lists k ≡ false
+optional_named keywords.Optional e = refl
+optional_named k e = absurd (let f : false ≡ true = e in cc)
 
 -- the name in front is said as it is written
 front_name : (f : Word → ScopedWord) (ts : Terms Word) → bytes_of (named_in_front (all_replaced (λ at. at) f ts)) ≡ bytes_of (named_in_front ts)
@@ -39,9 +44,9 @@ front_name f (cons (Form at op parts) ts) = refl
 
 module _ (i : Kept) (at : ℕ) (s : Statement) (is : statement_of s ≡ (placed_at i at).standing.statement.statement) where
   -- the label of an optional is the name with which its statement begins
-  pub label_there : SaysWords i at → is_optional s.keyword ≡ true → bytes_of (named_in_front (args_of s)) ≡ label_of (item_at i at)
-  label_there words e =
-      sym (ap (λ ts. bytes_of (named_in_front ts)) (said_there i at s is words (optional_said s.keyword e))
+  pub label_there : is_optional s.keyword ≡ true → bytes_of (named_in_front (args_of s)) ≡ label_of (item_at i at)
+  label_there e =
+      sym (ap (λ ts. bytes_of (named_in_front ts)) (named_there i at s is (optional_named s.keyword e) (optional_said s.keyword e))
       ∙ front_name (word_at i at) (args_of s))
 
   -- where it is written

@@ -12,7 +12,7 @@ use Rattle.cil_syntax.specs.Written.{bytes_of, named_in_front}
 use Rattle.cil_faults.specs.Namespaces.{qualified}
 use Rattle.cil_blocks.specs.Contents.{is_optional}
 use Rattle.cil_macros.specs.Item.{Item, OptSet}
-use Rattle.cil_macros.specs.Items.{Kept, SaysWords, item_at, items_in, placed_at}
+use Rattle.cil_macros.specs.Items.{Kept, item_at, items_in, placed_at}
 use Rattle.cil_macros.proofs.ItemLemmas.{item_there}
 use Rattle.cil_base.specs.Among.{among, among_at}
 use Rattle.cil_optionals.specs.declared.reason.Reason.{Reason}
@@ -53,9 +53,9 @@ reason_line i r at here e line told = record {
 }
 
 -- the name with which its statement begins is the label
-pub label_here : (i : Kept) (at : ℕ) (s : Statement) → statement_of s ≡ (placed_at i at).standing.statement.statement → SaysWords i at
+pub label_here : (i : Kept) (at : ℕ) (s : Statement) → statement_of s ≡ (placed_at i at).standing.statement.statement
     → is_optional_at (items_in i) at ≡ true → bytes_of (named_in_front (args_of s)) ≡ label_of (item_at i at)
-label_here i at s is words e = label_there i at s is words (sym (ap is_optional (keyword_there i at s is)) ∙ optional_here i at e)
+label_here i at s is e = label_there i at s is (sym (ap is_optional (keyword_there i at s is)) ∙ optional_here i at e)
 
 -- ---- the reasons of a right choice
 

@@ -1,4 +1,5 @@
 pub mod BehindLemmas
 pub mod BranchLemmas
 pub mod TargetLemmas
+pub mod LikeLemmas
 pub mod RuleLemmas

@@ -1,3 +1,4 @@
+pub mod Added
 pub mod Behind
 pub mod Covered
 pub mod CoveredBy

@@ -1,6 +1,7 @@
 //! The rules of a policy. A rule costs no look-up of a word and no search, but the numbers of its source, target and class, a walk over
 //! the words of its target, and a step for each of its permission words. Where its class permission is a name or a list on a class map, it
-//! costs what the masks of these cost, and a record for each class of which they give permissions.
+//! costs what the masks of these cost, and a record for each class of which they give permissions. One of whose words stands for a list
+//! costs a step more for each part of what it says.
 
 ghost use Rattle.std.specs.Prelude.{◌≡◌, ◌↔◌, ◌<◌, ◌++◌, ◌∷◌, ℕ, [], IfOk, IsTrue, List, true, false, MatchOption, OnOk, length, map, suc};
 ghost use Rattle.std.specs.List.Sorted.{IsStrictlySortedBy};
@@ -13,10 +14,12 @@ ghost use Rattle.cil_syntax.specs.declared.kind.Kind as kinds;
 ghost use Rattle.cil_syntax.specs.declared.kind.Kind.TheVariants as variants;
 ghost use Rattle.cil_syntax.specs.declared.term.Op.TheVariants as ops;
 ghost use Rattle.cil_syntax.specs.declared.term.Word.{Word as AWord};
-ghost use Rattle.cil_syntax.specs.Said.{said_of};
+ghost use Rattle.cil_syntax.specs.Said.{args_of, said_of};
 ghost use Rattle.cil_syntax.specs.Scopes.{ScopedWord};
 ghost use Rattle.cil_macros.specs.Item.{Item, OptSet};
-ghost use Rattle.cil_macros.specs.Items.{item_at, items_in, says_as_written};
+ghost use Rattle.cil_macros.proofs.FormLemmas.{all_across};
+ghost use Rattle.cil_macros.specs.Items.{item_at, items_in, says_as_written, says_lists};
+ghost use Rattle.cil_macros.specs.ListTerms.{AreAlike};
 ghost use Rattle.cil_names.specs.declared.known.Known.{Known as Lookups};
 ghost use Rattle.cil_names.specs.Known.{AreStanding, BeginWith, IsKnown, enabled_in, row_in, set_meant};
 ghost use Rattle.cil_names.specs.Resolves.{is_mapping};
@@ -24,6 +27,7 @@ ghost use Rattle.cil_names.specs.Rows.{IsTableOf};
 ghost use Rattle.cil_names.specs.Unresolved.{term_with};
 ghost use Rattle.cil_classes.specs.NodeOrder.{node_cmp};
 ghost use Rattle.cil_classes.specs.Row.{AreOrderlyRows};
+ghost use Rattle.cil_rules.specs.Added.{AddsRules};
 ghost use Rattle.cil_rules.specs.Behind.{AreBehind, rule_with};
 ghost use Rattle.cil_rules.specs.declared.rule.Reach.TheVariants as reaches;
 ghost use Rattle.cil_rules.specs.ForNames.{ForNames};
@@ -37,7 +41,7 @@ use cil_conditions::Branches;
 use cil_macros::Instances;
 use cil_names::{Known, Meaning, behind, behind_first, meaning_at, same_keyword};
 use cil_sets::Numbers;
-use cil_syntax::{Keyword, Op, Term};
+use cil_syntax::{Keyword, Op, Statement, Term};
 use std::alloc::Global;
 
 /// The rules of the enabled statements with this first word, in the order of these, where the words of each declared name stand for these
@@ -184,6 +188,69 @@ pub fn push_rules(
     if !known.is_enabled(instances, at) {
         return Ok(());
     }
+    if instances.may_have_list(at) {
+        push_listed(
+            alloc, out, masks, instances, at, words, known, types, classes, given, branch,
+        )?;
+        return Ok(());
+    }
+    push_said(
+        alloc, out, masks, statement, words, known, types, classes, given, branch,
+    )?;
+    Ok(())
+}
+
+/// Adds the rules of the enabled statement at a place in which a list may be put in for a word: those of what it says, as a statement.
+fn push_listed(
+    alloc: Global,
+    out: &mut Vec<NamedRule>,
+    masks: &mut Vec<(ClassId, u32)>,
+    instances: &Instances,
+    at: usize,
+    words: &[Meaning],
+    known: &Known,
+    types: &[Numbers],
+    classes: &[Class],
+    given: &GivenPermissions,
+    branch: u32,
+) -> Result<(), NoMemory>
+    requires within { at < length (items_in instances.now) }
+    requires lists { says_lists (item_at instances.now at).keyword ≡ true }
+    requires rows { AreOrderlyRows classes.now }
+    requires nodes { IsStrictlySortedBy node_cmp given.now.nodes.items }
+    ensures { OnOk result (AddsRules known.now types.now classes.now given.now branch (item_at instances.now at) words.now out.old.items out.new.items) }
+{
+    let statement = instances.statement_there(at);
+    let said = Statement {
+        keyword: statement.keyword,
+        at: statement.at,
+        under: statement.under,
+        args: instances.terms(alloc, at)?,
+    };
+    push_said(
+        alloc, out, masks, &said, words, known, types, classes, given, branch,
+    )?;
+    Ok(())
+}
+
+/// Adds the rules of an enabled statement that says what this one says, or what stands in its place.
+fn push_said(
+    alloc: Global,
+    out: &mut Vec<NamedRule>,
+    masks: &mut Vec<(ClassId, u32)>,
+    statement: &Statement,
+    words: &[Meaning],
+    known: &Known,
+    types: &[Numbers],
+    classes: &[Class],
+    given: &GivenPermissions,
+    branch: u32,
+) -> Result<(), NoMemory>
+    requires rows { AreOrderlyRows classes.now }
+    requires nodes { IsStrictlySortedBy node_cmp given.now.nodes.items }
+    ensures { OnOk result ((x : Item) (f : AWord → ScopedWord) → AreAlike (all_across f (args_of statement.now)) x.args
+        → AddsRules known.now types.now classes.now given.now branch x words.now out.old.items out.new.items) }
+{
     let Some(parts) = statement.rule_parts() else {
         return Ok(());
     };

@@ -546,7 +546,7 @@ pub statements_10 : (found_as keywords.CategoryAliasActual (list 0 (next (word 1
     × (found (list 0 (next (word 1 (codes "dontaudit")) (next (word 11 (codes "a")) (next (word 13 (codes "b")) (next (word 15 (codes "p")) none))))) ≡ [])
     × (found (list 0 (next (word 1 (codes "neverallow")) (next (word 12 (codes "a")) (next (word 14 (codes "self")) (next (list 19 (next (word 20 (codes "c")) (next (list 22 (next (word 23 (codes "d")) none)) none))) none))))) ≡ [])
     × (found (list 0 (next (word 1 (codes "neverallow")) (next (word 12 (codes "a")) (next (word 14 (codes "other")) (next (list 20 (next (word 21 (codes "c")) (next (list 23 (next (word 24 (codes "d")) none)) none))) none))))) ≡ fault causes.Unsupported 14 (codes "other") ∷ [])
-    × (found (list 0 (next (word 1 (codes "macro")) (next (word 7 (codes "m")) (next (list 9 (next (list 10 (next (word 11 (codes "typealias")) (next (word 21 (codes "a")) none))) (next (list 23 (next (word 24 (codes "bool")) (next (word 29 (codes "b")) none))) (next (list 31 (next (word 32 (codes "boolean")) (next (word 40 (codes "c")) none))) (next (list 42 (next (word 43 (codes "classmap")) (next (word 52 (codes "d")) none))) (next (list 54 (next (word 55 (codes "classpermission")) (next (word 71 (codes "e")) none))) none)))))) none)))) ≡ fault causes.Unsupported 55 (codes "classpermission") ∷ [])
+    × (found (list 0 (next (word 1 (codes "macro")) (next (word 7 (codes "m")) (next (list 9 (next (list 10 (next (word 11 (codes "typealias")) (next (word 21 (codes "a")) none))) (next (list 23 (next (word 24 (codes "bool")) (next (word 29 (codes "b")) none))) (next (list 31 (next (word 32 (codes "boolean")) (next (word 40 (codes "c")) none))) (next (list 42 (next (word 43 (codes "classmap")) (next (word 52 (codes "d")) none))) (next (list 54 (next (word 55 (codes "classpermission")) (next (word 71 (codes "e")) none))) none)))))) none)))) ≡ [])
 unfolding verdict_of cells_of cell_of read_row read_word read_string read_list rules containers types classes users entry_of set_aside_words later_words left_out_words heads first_words begins_with
 statements_10 = (refl, refl, refl, refl, refl, refl, refl, refl)
 

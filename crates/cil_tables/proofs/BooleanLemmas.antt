@@ -16,7 +16,7 @@ use Rattle.cil_syntax.specs.declared.kind.Keyword.TheVariants as keywords
 use Rattle.cil_syntax.specs.declared.term.Word.{Word}
 use Rattle.cil_syntax.specs.Scopes.{ScopedWord}
 use Rattle.cil_syntax.specs.Terms.{Leaf, Name, Form, Terms, nil, cons}
-use Rattle.cil_macros.specs.Items.{says_as_written}
+use Rattle.cil_macros.specs.Items.{may_say_lists, says_as_written}
 use Rattle.cil_tables.specs.declared.tables.Boolean.{Boolean}
 use Rattle.cil_tables.specs.Table.{boolean_names, most_booleans}
 use Rattle.cil_names.specs.Declarations.{name_of, nowhere}
@@ -138,6 +138,11 @@ named_across f (cons (Name at name) (cons (Form bt op parts) rest)) = refl
 pub boolean_as_written : (k : Keyword) → is_boolean k ≡ true → says_as_written k ≡ true
 boolean_as_written keywords.Boolean e = refl
 boolean_as_written k e = absurd (true≢false (sym e))
+
+-- no list stands for a word of it
+pub boolean_named : (k : Keyword) → is_boolean k ≡ true → may_say_lists k ≡ false
+boolean_named keywords.Boolean e = refl
+boolean_named k e = absurd (true≢false (sym e))
 
 -- ---- the section
 

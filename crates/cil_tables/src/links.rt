@@ -5,7 +5,7 @@ ghost use Rattle.std.specs.Prelude.{◌≡◌, ◌<◌, [], get_or, length, ℕ,
 ghost use Rattle.cil_base.specs.Lists.{Lists};
 ghost use Rattle.cil_syntax.specs.declared.kind.Kind as kinds;
 ghost use Rattle.cil_macros.specs.Item.{Item};
-ghost use Rattle.cil_macros.specs.Items.{item_at, items_in, says_as_written};
+ghost use Rattle.cil_macros.specs.Items.{item_at, items_in, may_say_lists, says_as_written};
 ghost use Rattle.cil_names.specs.Resolves.{is_mapping};
 ghost use Rattle.cil_names.specs.Rows.{IsTableOf};
 ghost use Rattle.cil_tables.specs.Links.{IsLink, JoinsAll, JoinsNothing};
@@ -43,6 +43,7 @@ pub(crate) fn links_of(
 ) -> Result<Links, NoMemory>
     requires table { IsTableOf (map (row_in known.now) (items_in instances.now)) known.now.words.now }
     requires written { says_as_written joins.keyword ≡ true }
+    requires named { may_say_lists joins.keyword ≡ false }
     requires plain { is_mapping joins.keyword ≡ false }
     ensures { IfOk result (λ links. (names : kinds.Kind → List (List ℕ)) → IsKnown known.now (items_in instances.now) names
         → AreStanding known.now (items_in instances.now) names joins.holder_kind holders.now → AreStanding known.now (items_in instances.now) names joins.held_kind helds.now
@@ -84,6 +85,7 @@ fn joined_at<'s>(
 ) -> Option<Joined<'s>>
     requires within { at < length (items_in instances.now) }
     requires written { says_as_written joins.keyword ≡ true }
+    requires named { may_say_lists joins.keyword ≡ false }
     requires plain { is_mapping joins.keyword ≡ false }
     ensures { (xs : List Item) (names : kinds.Kind → List (List ℕ)) → IsKnown known.now xs names → AreStanding known.now xs names joins.holder_kind holders.now
         → AreStanding known.now xs names joins.held_kind helds.now → words.now ≡ row_in known.now (item_at instances.now at)

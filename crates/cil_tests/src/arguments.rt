@@ -1,6 +1,6 @@
 //! What may be an argument of each kind, also of those that are not supported yet.
 
-use cil_macros::{arguments_fit, is_of_kind};
+use cil_macros::is_of_kind;
 use cil_modset::ModuleSet;
 use cil_syntax::{Op, Program, written};
 use cil_text_tests::set_of;

@@ -93,6 +93,26 @@ const POLICIES: &[(&[&str], &str)] = &[
         ],
         "0 0",
     ),
+    // Class permissions as arguments: lists that are handed on, in rules, a mapping and an optional; one that is misplaced and
+    // one of a wrong form; a permission that the class lacks.
+    (
+        &[
+            "(class c (p q))(type a)(classmap m (x))(macro in ((classpermission l)(classpermission n)) (allow a a l)(auditallow a self n)(classmapping m x l)(optional o (dontaudit a a l)))(macro out ((classpermission k)) (call in (k (m (x)))))(call out ((c (and all (not (q))))))(neverallow a a (c (q)))(optional w (call in ((c (r)) (c (p)))))",
+        ],
+        "3 2",
+    ),
+    (
+        &[
+            "(macro k ((classpermission l)) (classpermissionset l (c (p))))(call k ((c (q))))(call k ((c)))",
+        ],
+        "35 0 68 . k\n35 0 86 . k\n",
+    ),
+    (
+        &[
+            "(class c (p))(type a)(macro k ((classpermission l)) (allow a a l)(dontaudit a a l))(call k ((c (not (p q)))))",
+        ],
+        "41 0 103 . q\n",
+    ),
     // Lists 100 deep, and a branch. Constraints are not supported yet, so their trees are read alone.
     (
         &[

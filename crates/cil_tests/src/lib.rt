@@ -17,6 +17,8 @@ mod branches;
 #[cfg(test)]
 mod candidates;
 #[cfg(test)]
+mod class_masks;
+#[cfg(test)]
 mod covering;
 #[cfg(test)]
 mod decisions;

@@ -3,7 +3,7 @@
 use crate::answers::{Question, row_holds};
 use cil_blocks::spelled::spelled;
 use cil_blocks::{Namespaces, ScopeList, Spaces};
-use cil_macros::Instances;
+use cil_macros::{Instances, Meaning};
 use cil_syntax::{Statement, Word};
 use std::alloc::Global;
 
@@ -125,7 +125,9 @@ fn show_word<'a>(
     if at >= instances.len() {
         return None;
     }
-    let meant = instances.meaning(at, word);
+    let Meaning::Plain(meant) = instances.meaning(at, word) else {
+        return None;
+    };
     let bytes = str::from_utf8(meant.bytes.as_slice()).ok()?;
     write!(out, " {bytes}").ok()?;
     if let Some(scope) = meant.scope {

@@ -1,14 +1,16 @@
 //! The walk over the terms of a placed statement, which adds the entries that each word and permission could name, and the number
-//! of each permission.
+//! of each permission. Where the statement may say a list it goes over what `Reading::asked` lists, and over no term.
 
 ghost use Rattle.std.specs.Prelude.{◌≡◌, ◌<◌, ◌∷◌, [], Contains, IfOk, IfSome, OnOk, length, map, true};
 ghost use Rattle.std.specs.List.Sorted.{IsStrictlySortedBy};
 ghost use Rattle.cil_base.specs.Lists.{text_cmp};
 ghost use Rattle.cil_macros.specs.Calls.{is_call};
 ghost use Rattle.cil_macros.specs.Item.{all_words_in, words_in};
+ghost use Rattle.cil_macros.specs.Items.{all_placed};
+ghost use Rattle.cil_names.specs.Asked.{wanted_by};
 ghost use Rattle.cil_names.specs.Classes.{IsClassFor, IsClassOf};
 ghost use Rattle.cil_names.specs.Entries.{candidates_of};
-ghost use Rattle.cil_names.specs.Readings.{item_read, module_of, scoped_there, word_read};
+ghost use Rattle.cil_names.specs.Readings.{ReadsWords, item_read, module_of, scoped_there, word_read};
 ghost use Rattle.cil_names.specs.Resolves.{Permission as APermission, Word as AWord, all_wanted_in, wanted_in, words_of, words_of_class, words_of_mapping};
 ghost use Rattle.cil_names.specs.Unresolved.{term_with, terms_with};
 ghost use Rattle.cil_syntax.specs.Scopes.{ScopedWord};
@@ -19,6 +21,7 @@ use crate::cells::Cells;
 use crate::scopes::{LastScope, Scopes};
 use cil_base::NoMemory;
 use cil_macros::PlacedWord;
+use cil_names::asked::Asked;
 use cil_names::reading::{
     Reading, behind_two, front_two, is_at, is_call, is_mapping, says_as_written,
 };
@@ -43,6 +46,104 @@ impl<'r, 's, 'p, 'a> Walk<'r, 's, 'p, 'a> {
     /// more, but where its name has one entry in all. A scope is filled where a word asks for it.
     pub fn statement(&self, cells: &mut Cells, scopes: &mut Scopes) -> Result<(), NoMemory>
         requires walk { IsWalk self.now }
+        requires scopes { AreScopes self.now.reading.instances.now scopes.old }
+        ensures asks { OnOk result (AddsFor self.now (words_of (item_read self.now.reading)) cells.old cells.new) }
+        ensures scopes { OnOk result (AreScopes self.now.reading.instances.now scopes.new) }
+    {
+        if self.reading.instances.may_have_list(self.reading.at) {
+            return self.listed(cells, scopes);
+        }
+        self.written(cells, scopes)
+    }
+
+    /// The same of a statement that may say a list.
+    fn listed(&self, cells: &mut Cells, scopes: &mut Scopes) -> Result<(), NoMemory>
+        requires walk { IsWalk self.now }
+        requires scopes { AreScopes self.now.reading.instances.now scopes.old }
+        ensures asks { OnOk result (AddsFor self.now (words_of (item_read self.now.reading)) cells.old cells.new) }
+        ensures scopes { OnOk result (AreScopes self.now.reading.instances.now scopes.new) }
+    {
+        let asked = self.reading.asked(self.alloc)?;
+        for one in asked.as_slice() {
+            self.one(cells, scopes, one)?;
+        }
+        Ok(())
+    }
+
+    /// Adds a list for something that is asked for; for a class list one for its class word, and one for each permission.
+    fn one(&self, cells: &mut Cells, scopes: &mut Scopes, one: &Asked<'a>) -> Result<(), NoMemory>
+        requires walk { IsWalk self.now }
+        requires scopes { AreScopes self.now.reading.instances.now scopes.old }
+        ensures asks { OnOk result (AddsFor self.now (wanted_by (all_placed self.now.reading.instances.now) one.now) cells.old cells.new) }
+        ensures scopes { OnOk result (AreScopes self.now.reading.instances.now scopes.new) }
+    {
+        match one {
+            Asked::Word(word) => self.word(cells, scopes, word)?,
+            Asked::ClassList(class, permissions) => {
+                self.class_permissions(cells, scopes, class, permissions.as_slice())?;
+            }
+        }
+        Ok(())
+    }
+
+    /// Adds the lists of a class word and of permissions behind it.
+    fn class_permissions(
+        &self,
+        cells: &mut Cells,
+        scopes: &mut Scopes,
+        class: &PlacedWord,
+        permissions: &[PlacedWord],
+    ) -> Result<(), NoMemory>
+        requires walk { IsWalk self.now }
+        requires scopes { AreScopes self.now.reading.instances.now scopes.old }
+        ensures asks { OnOk result (AddsFor self.now (AWord (scoped_there self.now.reading class.now) ∷ map (λ p. APermission (scoped_there self.now.reading class.now) (scoped_there self.now.reading p)) permissions.now) cells.old cells.new) }
+        ensures scopes { OnOk result (AreScopes self.now.reading.instances.now scopes.new) }
+    {
+        let found = self.class_word(cells, scopes, class)?;
+        self.placed_permissions(cells, found, permissions)?;
+        Ok(())
+    }
+
+    /// Adds the lists of permissions of a class that was found.
+    fn placed_permissions(
+        &self,
+        cells: &mut Cells,
+        found: Option<Class<'_>>,
+        permissions: &[PlacedWord],
+    ) -> Result<(), NoMemory>
+        requires walk { IsWalk self.now }
+        requires rising { IfSome found (λ k. IsStrictlySortedBy text_cmp k.permissions.now) }
+        ensures { OnOk result ((c : ScopedWord) → IsClassFor (spaces_by self.now) self.now.names.now self.now.permissions.now c found.entry
+            → AddsFor self.now (map (λ p. APermission c (scoped_there self.now.reading p)) permissions.now) cells.old cells.new) }
+    {
+        for permission in permissions {
+            self.placed_permission(cells, found, permission)?;
+        }
+        Ok(())
+    }
+
+    /// Adds the list of a permission of a class that was found.
+    fn placed_permission(
+        &self,
+        cells: &mut Cells,
+        found: Option<Class<'_>>,
+        permission: &PlacedWord,
+    ) -> Result<(), NoMemory>
+        requires walk { IsWalk self.now }
+        requires rising { IfSome found (λ k. IsStrictlySortedBy text_cmp k.permissions.now) }
+        ensures { OnOk result ((c : ScopedWord) → IsClassFor (spaces_by self.now) self.now.names.now self.now.permissions.now c found.entry
+            → AddsFor self.now (APermission c (scoped_there self.now.reading permission.now) ∷ []) cells.old cells.new) }
+    {
+        let name = permission.word.bytes.as_slice();
+        let guess = cells.guess(found, name);
+        cells.push_permission(permission_of(found, name, guess.number), &guess)?;
+        Ok(())
+    }
+
+    /// The same as `statement`, of a statement that says words alone.
+    fn written(&self, cells: &mut Cells, scopes: &mut Scopes) -> Result<(), NoMemory>
+        requires walk { IsWalk self.now }
+        requires words { ReadsWords self.now.reading }
         requires scopes { AreScopes self.now.reading.instances.now scopes.old }
         ensures asks { OnOk result (AddsFor self.now (words_of (item_read self.now.reading)) cells.old cells.new) }
         ensures scopes { OnOk result (AreScopes self.now.reading.instances.now scopes.new) }
@@ -85,6 +186,7 @@ impl<'r, 's, 'p, 'a> Walk<'r, 's, 'p, 'a> {
     /// Adds a list for each word of a call.
     fn call(&self, cells: &mut Cells, scopes: &mut Scopes) -> Result<(), NoMemory>
         requires walk { IsWalk self.now }
+        requires words { ReadsWords self.now.reading }
         requires scopes { AreScopes self.now.reading.instances.now scopes.old }
         ensures asks { OnOk result (is_call (item_read self.now.reading).keyword ≡ true → AddsFor self.now (words_of (item_read self.now.reading)) cells.old cells.new) }
         ensures scopes { OnOk result (AreScopes self.now.reading.instances.now scopes.new) }
@@ -374,10 +476,7 @@ impl<'r, 's, 'p, 'a> Walk<'r, 's, 'p, 'a> {
         match term {
             Term::Leaf(word) => {
                 let written = word.in_module(self.reading.statement.at.module);
-                let permission = self.reading.word(&written);
-                let name = permission.word.bytes.as_slice();
-                let guess = cells.guess(found, name);
-                cells.push_permission(permission_of(found, name, guess.number), &guess)?;
+                self.placed_permission(cells, found, &self.reading.word(&written))?;
             }
             Term::Name(_, _) => {}
             Term::Form(_, _, parts) => self.permissions(cells, found, parts.as_slice())?,

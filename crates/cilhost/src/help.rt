@@ -156,7 +156,8 @@ Faults of a policy, one a line after FAULTS: NUMBER MODULE PLACE NAMESPACE WORD
   32  a blockinherit that names no block
   33  a block that inherits itself, in one or more steps
   34  a macro that calls itself, in one or more steps
-  35  a call with too few or too many arguments, or with one of a wrong form
+  35  a call with too few or too many arguments, or with one of a wrong form, such as a list where
+      the macro needs a name
   36  a name with two different declarations
   37  a call in a branch of a booleanif that brings what may not be in one
   38  more than 1000000 statements, with those that are inherited or come by calls. It is reported

@@ -5,8 +5,9 @@ use Rattle.cil_base.specs.Places.{get_contains}
 use Rattle.cil_blocks.specs.Namespaces.{space_at}
 use Rattle.cil_macros.specs.Items.{item_at, items_in, word_at}
 use Rattle.cil_macros.proofs.ItemLemmas.{item_there}
-use Rattle.cil_macros.proofs.ItemsThere.{is_said}
+use Rattle.cil_macros.proofs.ItemsThere.{is_named, keyword_there}
 use Rattle.cil_names.specs.Entries.{HasNoEntryIn, IsEntryIn, is_in}
+use Rattle.cil_names.proofs.DeclareRowLemmas.{declares_named}
 use Rattle.cil_attrs.proofs.DeclaredLemmas.{flagged, left_out, no_entry, no_name, not_flagged, other_kind}
 use Rattle.cil_attrs.proofs.declared.flagged_name.Goals as goal
 
@@ -20,8 +21,8 @@ pub returns-then-not-declares : goal.returns-then-not-declares
 returns-then-not-declares c = λ code.
     let i = c.args.instances.now in
     let s = c.statement_there-statement.result.now in
-    other_kind c.args.lookup.now.namespaces.now c.args.lookup.now.names.now (items_in i) (is_in c.args.lookup.now.enabled.now) c.args.told.now.kind c.args.told.now.flags.now (item_at i c.args.at) s (word_at i c.args.at)
-    (is_said i c.args.at s c.statement_there-statement.ensures.is c.statement_there-statement.ensures.words) (λ h. let t = c.declares.ensures.1 h in let f = c.if-not-declares.true in true≢false (sym t ∙ f)) code
+    other_kind c.args.lookup.now.namespaces.now c.args.lookup.now.names.now (items_in i) (is_in c.args.lookup.now.enabled.now) c.args.told.now.kind c.args.told.now.flags.now (item_at i c.args.at) s
+    (keyword_there i c.args.at s c.statement_there-statement.ensures.is) (λ h. let t = c.declares.ensures.1 h in let f = c.if-not-declares.true in true≢false (sym t ∙ f)) code
 
 pub returns-then-not-has_round : goal.returns-then-not-has_round
 returns-then-not-has_round c = λ code.
@@ -33,7 +34,7 @@ returns-in_default c = λ code.
     let i = c.args.instances.now in
     let s = c.statement_there-statement.result.now in
     no_name c.args.lookup.now.namespaces.now c.args.lookup.now.names.now (items_in i) (is_in c.args.lookup.now.enabled.now) c.args.told.now.kind c.args.told.now.flags.now (item_at i c.args.at) s (word_at i c.args.at)
-    (is_said i c.args.at s c.statement_there-statement.ensures.is c.statement_there-statement.ensures.words) (c.declares.ensures.0 c.if-not-declares.false) c.in_default.ensures code
+    (is_named i c.args.at s c.statement_there-statement.ensures.is (declares_named s.keyword c.args.told.now.kind (c.declares.ensures.0 c.if-not-declares.false))) (c.declares.ensures.0 c.if-not-declares.false) c.in_default.ensures code
 
 pub returns-in_default-entry : goal.returns-in_default-entry
 returns-in_default-entry c = λ code.
@@ -43,7 +44,7 @@ returns-in_default-entry c = λ code.
     let x = item_at i c.args.at in
     let space : space_at ss c.space-space.result ≡ x.space = ap (λ z. space_at z c.space-space.result) c.requires.namespaces ∙ c.space-space.ensures.is in
     let name = c.in-Some.name in
-    no_entry ss c.args.lookup.now.names.now (items_in i) (is_in c.args.lookup.now.enabled.now) c.args.told.now.kind c.args.told.now.flags.now x s (word_at i c.args.at) (is_said i c.args.at s c.statement_there-statement.ensures.is c.statement_there-statement.ensures.words)
+    no_entry ss c.args.lookup.now.names.now (items_in i) (is_in c.args.lookup.now.enabled.now) c.args.told.now.kind c.args.told.now.flags.now x s (word_at i c.args.at) (is_named i c.args.at s c.statement_there-statement.ensures.is (declares_named s.keyword c.args.told.now.kind (c.declares.ensures.0 c.if-not-declares.false)))
     (c.declares.ensures.0 c.if-not-declares.false) name.at name.bytes.now c.in-Some.ensures c.args.told.now.sign c.requires.wanted c.requires.entries
     (subst (HasNoEntryIn ss c.args.lookup.now.names.now name.bytes.now c.args.told.now.sign) space c.in_default-entry.ensures) code
 
@@ -55,7 +56,7 @@ returns-then-not-is_flagged c = λ code.
     let x = item_at i c.args.at in
     let space : space_at ss c.space-space.result ≡ x.space = ap (λ z. space_at z c.space-space.result) c.requires.namespaces ∙ c.space-space.ensures.is in
     let name = c.in-Some.name in
-    not_flagged ss c.args.lookup.now.names.now (items_in i) (is_in c.args.lookup.now.enabled.now) c.args.told.now.kind c.args.told.now.flags.now x s (word_at i c.args.at) (is_said i c.args.at s c.statement_there-statement.ensures.is c.statement_there-statement.ensures.words)
+    not_flagged ss c.args.lookup.now.names.now (items_in i) (is_in c.args.lookup.now.enabled.now) c.args.told.now.kind c.args.told.now.flags.now x s (word_at i c.args.at) (is_named i c.args.at s c.statement_there-statement.ensures.is (declares_named s.keyword c.args.told.now.kind (c.declares.ensures.0 c.if-not-declares.false)))
     (c.declares.ensures.0 c.if-not-declares.false) name.at name.bytes.now c.in-Some.ensures c.args.told.now.sign c.requires.wanted c.requires.entries c.in-Some-entry.d
     (subst (λ n. IsEntryIn ss c.args.lookup.now.names.now name.bytes.now c.args.told.now.sign n c.in-Some-entry.d) space c.in-Some-entry.ensures) (sym c.is_flagged.ensures ∙ c.if-not-is_flagged.true) code
 
@@ -67,7 +68,7 @@ returns c = λ code.
     let x = item_at i c.args.at in
     let space : space_at ss c.space-space.result ≡ x.space = ap (λ z. space_at z c.space-space.result) c.requires.namespaces ∙ c.space-space.ensures.is in
     let name = c.in-Some.name in
-    flagged ss c.args.lookup.now.names.now (items_in i) (is_in c.args.lookup.now.enabled.now) c.args.told.now.kind c.args.told.now.flags.now x s (word_at i c.args.at) (is_said i c.args.at s c.statement_there-statement.ensures.is c.statement_there-statement.ensures.words)
+    flagged ss c.args.lookup.now.names.now (items_in i) (is_in c.args.lookup.now.enabled.now) c.args.told.now.kind c.args.told.now.flags.now x s (word_at i c.args.at) (is_named i c.args.at s c.statement_there-statement.ensures.is (declares_named s.keyword c.args.told.now.kind (c.declares.ensures.0 c.if-not-declares.false)))
     (c.declares.ensures.0 c.if-not-declares.false) name.at name.bytes.now c.in-Some.ensures c.args.told.now.sign c.requires.wanted c.requires.entries c.in-Some-entry.d
     (subst (λ n. IsEntryIn ss c.args.lookup.now.names.now name.bytes.now c.args.told.now.sign n c.in-Some-entry.d) space c.in-Some-entry.ensures)
     (get_contains (items_in i) c.args.at x (item_there i c.args.at c.requires.within)) (sym c.has_round.ensures ∙ c.if-not-has_round.false) (sym c.is_flagged.ensures ∙ c.if-not-is_flagged.false) code

@@ -11,9 +11,9 @@ use Rattle.cil_syntax.specs.Said.{args_of}
 use Rattle.cil_syntax.specs.Scopes.{ScopedWord}
 use Rattle.cil_syntax.specs.Terms.{Leaf}
 use Rattle.cil_macros.specs.Item.{all_replaced}
-use Rattle.cil_macros.specs.Items.{item_at, says_as_written, word_at}
+use Rattle.cil_macros.specs.Items.{item_at, may_say_lists, says_as_written, word_at}
 use Rattle.cil_macros.proofs.FormLemmas.{no_pair, pair_across}
-use Rattle.cil_macros.proofs.ItemsThere.{keyword_there, said_there}
+use Rattle.cil_macros.proofs.ItemsThere.{keyword_there, named_there}
 use Rattle.cil_attrs.specs.Targets.{IsFlagged, IsToldOf}
 use Rattle.cil_attrs.proofs.FaultLemmas.{told_step, two_said}
 use Rattle.cil_attrs.proofs.ToldLemmas.{one_more}
@@ -27,8 +27,9 @@ returns-in_default c =
     let i = c.args.instances.now in
     let at = c.args.step.now.at in
     let s = c.statement_there-statement.result.now in
-    let (w, v, says, written, within) = c.requires in
-    let args = said_there i at s c.statement_there-statement.ensures.is c.statement_there-statement.ensures.words (ap says_as_written (sym (keyword_there i at s c.statement_there-statement.ensures.is)) ∙ written) in
+    let (w, v, says, written, named, within) = c.requires in
+    let keyword = sym (keyword_there i at s c.statement_there-statement.ensures.is) in
+    let args = named_there i at s c.statement_there-statement.ensures.is (ap may_say_lists keyword ∙ named) (ap says_as_written keyword ∙ written) in
     absurd (none-some (w, v) (sym (ap two_words args ∙ no_pair (word_at i at) (args_of s) c.in_default.ensures) ∙ ap two_words (two_said (item_at i at).args w (Leaf v) says)))
 
 pub returns : goal.returns
@@ -37,8 +38,9 @@ returns c =
     let at = c.args.step.now.at in
     let x = item_at i at in
     let s = c.statement_there-statement.result.now in
-    let (w, v, says, written, within) = c.requires in
-    let args = said_there i at s c.statement_there-statement.ensures.is c.statement_there-statement.ensures.words (ap says_as_written (sym (keyword_there i at s c.statement_there-statement.ensures.is)) ∙ written) in
+    let (w, v, says, written, named, within) = c.requires in
+    let keyword = sym (keyword_there i at s c.statement_there-statement.ensures.is) in
+    let args = named_there i at s c.statement_there-statement.ensures.is (ap may_say_lists keyword ∙ named) (ap says_as_written keyword ∙ written) in
     let first = word_at i at c.in-Some.words.first in
     let second = word_at i at c.in-Some.words.second in
     let here : word_and_term x.args ≡ Some (first, Leaf second) = ap word_and_term (args ∙ ap (all_replaced (λ bt. bt) (word_at i at)) c.in-Some.ensures ∙ pair_across (word_at i at) c.in-Some.words.first c.in-Some.words.second) in

@@ -4,7 +4,7 @@ use Rattle.cil_syntax.specs.Forms.{word_and_term}
 use Rattle.cil_syntax.specs.Said.{all_said, args_of, said_of}
 use Rattle.cil_syntax.specs.Terms.{Leaf, cons, nil}
 use Rattle.cil_macros.specs.Items.{item_at, word_at}
-use Rattle.cil_macros.proofs.ItemsThere.{keyword_there, said_there}
+use Rattle.cil_macros.proofs.ItemsThere.{keyword_there, named_there}
 use Rattle.cil_names.specs.Known.{value_in}
 use Rattle.cil_names.specs.Resolves.{is_mapping}
 use Rattle.cil_names.specs.Spaces.{any_sets}
@@ -27,7 +27,8 @@ pub returns-in_default-clause-gift : goal.returns-in_default-clause-gift
 returns-in_default-clause-gift c = λ xs names which known is are.
     let i = c.args.instances.now in
     let s = c.statement_there-statement.result.now in
-    let says = said_there i c.args.at s c.statement_there-statement.ensures.is c.statement_there-statement.ensures.words (written_of c.args.space.now which is c.requires.written s.keyword (sym (c.is_giving.ensures which is) ∙ c.if-not-is_giving.false)).written in
+    let giving = written_of c.args.space.now which is c.requires.written s.keyword (sym (c.is_giving.ensures which is) ∙ c.if-not-is_giving.false) in
+    let says = named_there i c.args.at s c.statement_there-statement.ensures.is giving.named giving.written in
     other_terms c.args.known.now xs which (item_at i c.args.at) (word_at i c.args.at) (args_of s) says
     (subst (λ ts. word_and_term (all_said s.at.«module» ts) ≡ None) c.as_slice.ensures.value c.in_default.ensures)
 
@@ -39,8 +40,9 @@ returns-in_default-set_named-clause-gift c = λ xs names which known is row.
     let x = item_at i c.args.at in
     let f = word_at i c.args.at in
     let there = keyword_there i c.args.at s c.statement_there-statement.ensures.is in
-    let says = said_there i c.args.at s c.statement_there-statement.ensures.is c.statement_there-statement.ensures.words (written_of c.args.space.now which is c.requires.written s.keyword (sym (c.is_giving.ensures which is) ∙ c.if-not-is_giving.false)).written in
-    let are = row ∙ ap (map (value_in k)) (plain_said x.keyword x.args (ap is_mapping there ∙ (written_of c.args.space.now which is c.requires.written s.keyword (sym (c.is_giving.ensures which is) ∙ c.if-not-is_giving.false)).plain)) in
+    let giving = written_of c.args.space.now which is c.requires.written s.keyword (sym (c.is_giving.ensures which is) ∙ c.if-not-is_giving.false) in
+    let says = named_there i c.args.at s c.statement_there-statement.ensures.is giving.named giving.written in
+    let are = row ∙ ap (map (value_in k)) (plain_said x.keyword x.args (ap is_mapping there ∙ giving.plain)) in
     let e = said_of s.at.«module» c.in-Some.term.now in
     let w = c.in-Some.ensures.0 in
     let said = subst (λ ts. all_said s.at.«module» ts ≡ cons (Leaf w) (cons e nil)) c.as_slice.ensures.value c.in-Some.ensures.1 in
@@ -56,8 +58,9 @@ returns-clause-gift c = λ xs names which known is row.
     let x = item_at i c.args.at in
     let f = word_at i c.args.at in
     let there = keyword_there i c.args.at s c.statement_there-statement.ensures.is in
-    let says = said_there i c.args.at s c.statement_there-statement.ensures.is c.statement_there-statement.ensures.words (written_of c.args.space.now which is c.requires.written s.keyword (sym (c.is_giving.ensures which is) ∙ c.if-not-is_giving.false)).written in
-    let are = row ∙ ap (map (value_in k)) (plain_said x.keyword x.args (ap is_mapping there ∙ (written_of c.args.space.now which is c.requires.written s.keyword (sym (c.is_giving.ensures which is) ∙ c.if-not-is_giving.false)).plain)) in
+    let giving = written_of c.args.space.now which is c.requires.written s.keyword (sym (c.is_giving.ensures which is) ∙ c.if-not-is_giving.false) in
+    let says = named_there i c.args.at s c.statement_there-statement.ensures.is giving.named giving.written in
+    let are = row ∙ ap (map (value_in k)) (plain_said x.keyword x.args (ap is_mapping there ∙ giving.plain)) in
     let e = said_of s.at.«module» c.in-Some.term.now in
     let w = c.in-Some.ensures.0 in
     let said = subst (λ ts. all_said s.at.«module» ts ≡ cons (Leaf w) (cons e nil)) c.as_slice.ensures.value c.in-Some.ensures.1 in

@@ -4,10 +4,10 @@ use Rattle.cil_syntax.specs.Said.{args_of}
 use Rattle.cil_syntax.specs.Scopes.{ScopedWord}
 use Rattle.cil_macros.specs.Items.{item_at, items_in, word_at}
 use Rattle.cil_macros.proofs.FormLemmas.{no_pair}
-use Rattle.cil_macros.proofs.ItemsThere.{keyword_there, said_there}
+use Rattle.cil_macros.proofs.ItemsThere.{keyword_there, named_there}
 use Rattle.cil_names.specs.Resolves.{is_class_common}
 use Rattle.cil_names.proofs.SharedLemmas.{joins_as_written}
-use Rattle.cil_classes.proofs.CommonLemmas.{says_words}
+use Rattle.cil_classes.proofs.CommonLemmas.{joins_no_lists, says_words}
 use Rattle.cil_classes.proofs.commons.class_word.Goals as goal
 
 pub returns-in_default : goal.returns-in_default
@@ -15,7 +15,8 @@ returns-in_default c = λ joins.
     let i = c.args.instances.now in
     let s = c.statement_there-statement.result.now in
     let is = c.statement_there-statement.ensures.is in
-    let says = said_there i c.args.at s is c.statement_there-statement.ensures.words (joins_as_written s.keyword (ap is_class_common (sym (keyword_there i c.args.at s is)) ∙ joins)) in
+    let joins_there = ap is_class_common (sym (keyword_there i c.args.at s is)) ∙ joins in
+    let says = named_there i c.args.at s is (joins_no_lists s.keyword joins_there) (joins_as_written s.keyword joins_there) in
     ap two_words says ∙ no_pair (word_at i c.args.at) (args_of s) c.in_default.ensures
 
 pub returns : goal.returns
@@ -23,7 +24,8 @@ returns c = λ joins.
     let i = c.args.instances.now in
     let s = c.statement_there-statement.result.now in
     let is = c.statement_there-statement.ensures.is in
-    let says = said_there i c.args.at s is c.statement_there-statement.ensures.words (joins_as_written s.keyword (ap is_class_common (sym (keyword_there i c.args.at s is)) ∙ joins)) in
+    let joins_there = ap is_class_common (sym (keyword_there i c.args.at s is)) ∙ joins in
+    let says = named_there i c.args.at s is (joins_no_lists s.keyword joins_there) (joins_as_written s.keyword joins_there) in
     let words = c.in-Some.words in
     record {
       first = word_at i c.args.at words.first;

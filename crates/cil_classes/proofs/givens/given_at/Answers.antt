@@ -1,20 +1,22 @@
-use Rattle.cil_macros.specs.Items.{item_at, word_at}
-use Rattle.std.proofs.lemmas.Result.{IfOk-from_err}
-use Rattle.cil_classes.proofs.GivensLemmas.{given_recorded, has_a_place}
+use Rattle.std.proofs.Common.{ap, ◌∙◌}
+use Rattle.cil_syntax.specs.Said.{all_said}
+use Rattle.cil_macros.specs.Items.{item_at, says_lists, word_at}
+use Rattle.cil_macros.specs.Listed.{all_parts_of}
+use Rattle.cil_macros.specs.ListTerms.{all_spotless, numbered}
+use Rattle.cil_macros.proofs.FormLemmas.{all_across}
 use Rattle.cil_classes.proofs.givens.given_at.Goals as goal
 
-pub returns-in_default : goal.returns-in_default
-returns-in_default c = λ xs names known apart classes nodes all among are. c.in_default.ensures xs names known are
+pub terms-requires-clause-lists : goal.terms-requires-clause-lists
+terms-requires-clause-lists c = ap says_lists (c.maps_list.ensures.lists c.if-not-maps_list.false)
 
-pub returns-in_default-place_of : goal.returns-in_default-place_of
-returns-in_default-place_of c = λ xs names known apart classes nodes all among are.
-    λ g gives. has_a_place c.args.known.now xs names known c.args.classes.now c.args.nodes.now (word_at c.args.instances.now c.args.at) (item_at c.args.instances.now c.args.at) _
-    (c.in-Some.ensures xs names known are) all among c.in_default-place_of.ensures.none
+pub returns-then-not-maps_list : goal.returns-then-not-maps_list
+returns-then-not-maps_list c = λ xs names known apart classes nodes all among are.
+    c.in_ok-given.ensures xs names known apart classes nodes all (item_at c.args.instances.now c.args.at) (word_at c.args.instances.now c.args.at) among (c.giving_at-giving.ensures xs names known are)
 
 pub returns : goal.returns
 returns c = λ xs names known apart classes nodes all among are.
-    given_recorded c.args.known.now xs names known c.args.classes.now c.args.nodes.now (word_at c.args.instances.now c.args.at) (item_at c.args.instances.now c.args.at) _
-    (c.in-Some.ensures xs names known are) _ c.in-Some-place_of.ensures.found (c.in_ok-part.ensures xs names _ known apart classes nodes (c.in-Some.ensures xs names known are).begin)
-
-pub returns-in_err-part : goal.returns-in_err-part
-returns-in_err-part c = IfOk-from_err c.from_residual.result _ c.from_residual.ensures.0
+    let x = item_at c.args.instances.now c.args.at in
+    let f = numbered (all_parts_of x.args) in
+    c.in_ok-listed.ensures xs names known apart classes nodes all x f among
+    (c.mapping_giving-giving.ensures xs names x f known (c.maps_list.ensures.enabled c.if-not-maps_list.false) (c.maps_list.ensures.lists c.if-not-maps_list.false)
+    (ap (λ ts. all_spotless (all_across f (all_said 0 ts))) c.as_slice.ensures.value ∙ c.in_ok-terms.ensures 0) are)

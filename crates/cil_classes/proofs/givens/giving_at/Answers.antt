@@ -1,8 +1,12 @@
 use Rattle.std.proofs.Common.{ap, sym, ◌∙◌}
 use Rattle.std.proofs.lemmas.Bool.{true≢false}
-use Rattle.cil_macros.specs.Items.{item_at, says_as_written, word_at}
-use Rattle.cil_macros.proofs.ItemsThere.{keyword_there, said_there}
+use Rattle.cil_syntax.specs.Said.{all_said}
+use Rattle.cil_macros.specs.Items.{item_at, may_say_lists, says_as_written, word_at}
+use Rattle.cil_macros.specs.ListTerms.{all_spotless}
+use Rattle.cil_macros.proofs.FormLemmas.{all_across}
+use Rattle.cil_macros.proofs.ItemsThere.{keyword_there, named_there}
 use Rattle.cil_names.specs.Known.{enabled_in}
+use Rattle.cil_classes.proofs.AlikeLemmas.{itself_there}
 use Rattle.cil_classes.proofs.GivingLemmas.{not_enabled, other_statement}
 use Rattle.cil_classes.proofs.givens.giving_at.Goals as goal
 
@@ -16,7 +20,7 @@ returns-then-same_keyword c = λ xs names known are.
     let s = c.statement_there-statement.result.now in
     let keyword = keyword_there i c.args.at s c.statement_there-statement.ensures.is in
     let is = c.same_keyword.ensures.0 c.if-same_keyword.true in
-    let says = said_there i c.args.at s c.statement_there-statement.ensures.is c.statement_there-statement.ensures.words (ap says_as_written is) in
+    let says = named_there i c.args.at s c.statement_there-statement.ensures.is (ap may_say_lists is) (ap says_as_written is) in
     c.set_giving.ensures xs names (item_at i c.args.at) (word_at i c.args.at) known (sym c.is_enabled.ensures ∙ c.if-not-is_enabled.false) (keyword ∙ is) says are
 
 pub returns-then-same_keyword-2 : goal.returns-then-same_keyword-2
@@ -25,8 +29,9 @@ returns-then-same_keyword-2 c = λ xs names known are.
     let s = c.statement_there-statement.result.now in
     let keyword = keyword_there i c.args.at s c.statement_there-statement.ensures.is in
     let is = c.same_keyword-2.ensures.0 c.if-same_keyword-2.true in
-    let says = said_there i c.args.at s c.statement_there-statement.ensures.is c.statement_there-statement.ensures.words (ap says_as_written is) in
-    c.mapping_giving.ensures xs names (item_at i c.args.at) (word_at i c.args.at) known (sym c.is_enabled.ensures ∙ c.if-not-is_enabled.false) (keyword ∙ is) says are
+    let says = itself_there i c.args.at s c.statement_there-statement.ensures.is (c.requires.words (sym c.is_enabled.ensures ∙ c.if-not-is_enabled.false) (keyword ∙ is)) (ap says_as_written is) in
+    c.mapping_giving.ensures xs names (item_at i c.args.at) (word_at i c.args.at) known (sym c.is_enabled.ensures ∙ c.if-not-is_enabled.false) (keyword ∙ is)
+    (ap (λ ts. all_spotless (all_across (word_at i c.args.at) (all_said s.at.«module» ts))) c.as_slice.ensures.value ∙ ap all_spotless (sym says)) are
 
 pub returns : goal.returns
 returns c = λ xs names known are.

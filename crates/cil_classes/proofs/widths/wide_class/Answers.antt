@@ -8,8 +8,7 @@ use Rattle.cil_macros.proofs.ItemLemmas.{item_there}
 use Rattle.cil_names.specs.Entries.{HasNoEntryIn, IsEntryIn, is_in}
 use Rattle.cil_names.specs.Unresolved.{listed_at}
 use Rattle.cil_classes.specs.Row.{most_permissions}
-use Rattle.cil_macros.proofs.ItemsThere.{is_said}
-use Rattle.cil_classes.proofs.WidthLemmas.{declares_none, few, many, no_entry, not_enabled}
+use Rattle.cil_classes.proofs.WidthLemmas.{class_said, declares_none, few, many, no_entry, not_enabled}
 use Rattle.cil_classes.proofs.widths.wide_class.Goals as goal
 
 pub entry-requires-clause-ordered : goal.entry-requires-clause-ordered
@@ -28,7 +27,7 @@ returns-in_default c =
     let i = c.args.instances.now in
     let s = c.statement_there-statement.result.now in
     declares_none c.args.lookup.now.namespaces.now (items_in i) c.args.lookup.now.names.now (is_in c.args.lookup.now.enabled.now) (item_at i c.args.at) s (word_at i c.args.at)
-    (is_said i c.args.at s c.statement_there-statement.ensures.is c.statement_there-statement.ensures.words) c.in_default.ensures
+    (class_said i c.args.at s c.statement_there-statement.ensures.is) c.in_default.ensures
 
 pub returns-in_default-entry : goal.returns-in_default-entry
 returns-in_default-entry c =
@@ -38,8 +37,7 @@ returns-in_default-entry c =
     let x = item_at i c.args.at in
     let space : space_at ss c.space-space.result ≡ x.space = ap (λ z. space_at z c.space-space.result) c.requires.namespaces ∙ c.space-space.ensures.is in
     let name = c.in-Some.name in
-    no_entry ss (items_in i) c.args.lookup.now.names.now (is_in c.args.lookup.now.enabled.now) x s (word_at i c.args.at) (is_said i c.args.at s c.statement_there-statement.ensures.is
-    c.statement_there-statement.ensures.words) name.at name.bytes.now
+    no_entry ss (items_in i) c.args.lookup.now.names.now (is_in c.args.lookup.now.enabled.now) x s (word_at i c.args.at) (class_said i c.args.at s c.statement_there-statement.ensures.is) name.at name.bytes.now
     c.in-Some.ensures c.requires.entries (get_contains (items_in i) c.args.at x (item_there i c.args.at c.requires.within))
     (subst (HasNoEntryIn ss c.args.lookup.now.names.now name.bytes.now signs.Classes) space c.in_default-entry.ensures)
 
@@ -52,8 +50,7 @@ returns-then-listed_count-le-MOST_PERMISSIONS c =
     let x = item_at i c.args.at in
     let space : space_at ss c.space-space.result ≡ x.space = ap (λ z. space_at z c.space-space.result) c.requires.namespaces ∙ c.space-space.ensures.is in
     let name = c.in-Some.name in
-    few ss (items_in i) c.args.lookup.now.names.now (is_in c.args.lookup.now.enabled.now) x s (word_at i c.args.at) (is_said i c.args.at s c.statement_there-statement.ensures.is
-    c.statement_there-statement.ensures.words) name.at name.bytes.now
+    few ss (items_in i) c.args.lookup.now.names.now (is_in c.args.lookup.now.enabled.now) x s (word_at i c.args.at) (class_said i c.args.at s c.statement_there-statement.ensures.is) name.at name.bytes.now
     c.in-Some.ensures c.requires.entries (get_contains (items_in i) c.args.at x (item_there i c.args.at c.requires.within)) c.args.permissions.now c.requires.permissions c.in-Some-entry.class
     (subst (λ n. IsEntryIn ss c.args.lookup.now.names.now name.bytes.now signs.Classes n c.in-Some-entry.class) space c.in-Some-entry.ensures) short
 
@@ -66,8 +63,7 @@ returns c =
     let x = item_at i c.args.at in
     let space : space_at ss c.space-space.result ≡ x.space = ap (λ z. space_at z c.space-space.result) c.requires.namespaces ∙ c.space-space.ensures.is in
     let name = c.in-Some.name in
-    many ss (items_in i) c.args.lookup.now.names.now (is_in c.args.lookup.now.enabled.now) x s (word_at i c.args.at) (is_said i c.args.at s c.statement_there-statement.ensures.is
-    c.statement_there-statement.ensures.words) name.at name.bytes.now
+    many ss (items_in i) c.args.lookup.now.names.now (is_in c.args.lookup.now.enabled.now) x s (word_at i c.args.at) (class_said i c.args.at s c.statement_there-statement.ensures.is) name.at name.bytes.now
     c.in-Some.ensures c.requires.entries (get_contains (items_in i) c.args.at x (item_there i c.args.at c.requires.within)) c.args.permissions.now c.requires.permissions c.in-Some-entry.class
     (subst (λ n. IsEntryIn ss c.args.lookup.now.names.now name.bytes.now signs.Classes n c.in-Some-entry.class) space c.in-Some-entry.ensures)
     (sym c.has_round.ensures ∙ c.if-not-has_round.false) big

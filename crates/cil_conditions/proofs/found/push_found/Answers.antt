@@ -25,7 +25,7 @@ returns-in_default-2 c = λ old.
     let i = c.args.instances.now in
     let s = c.statement_there-statement.result.now in
     found_skipped i c.args.known.now c.args.at c.args.found.now.items old
-    (λ is names known. condition_unsaid i c.args.known.now c.args.at s c.statement_there-statement.ensures.is c.in-Some.term.now c.in-Some.ensures c.statement_there-statement.ensures.words
+    (λ is names known. condition_unsaid i c.args.known.now c.args.at s c.statement_there-statement.ensures.is c.in-Some.term.now c.in-Some.ensures
     (sym c.is_conditional.ensures ∙ c.if-not-is_conditional.false) c.args.words.now c.requires.row (rw c.in_default-2.is at c.in_ok-condition.ensures) names known)
 
 pub returns : goal.returns
@@ -35,5 +35,5 @@ returns c = λ old.
     let s = c.statement_there-statement.result.now in
     subst (AreFound i k _) (sym c.in_ok-push.ensures.items)
     (found_more i k c.args.at c.args.found.now.items old c.in_ok-both.both (ap (λ f. f.at) c.in_ok-both.ensures)
-    (condition_spelled i k c.args.at s c.statement_there-statement.ensures.is c.in-Some.term.now c.in-Some.ensures c.statement_there-statement.ensures.words
+    (condition_spelled i k c.args.at s c.statement_there-statement.ensures.is c.in-Some.term.now c.in-Some.ensures
     (sym c.is_conditional.ensures ∙ c.if-not-is_conditional.false) c.args.words.now c.requires.row c.in-Some-2.condition (rw c.in-Some-2.is at c.in_ok-condition.ensures) c.in_ok-both.both c.in_ok-both.ensures))

@@ -13,7 +13,7 @@ use Rattle.cil_macros.proofs.faults.call_faults.Goals as goal
 pub loop-at-init : goal.loop-at-init
 loop-at-init c =
     let s = c.args.source.now.spaces.now in
-    ap (λ fs. fs ++ faults_from (written_in s) (all_standing s) c.args.marks.now 0 (placed_in s c.args.brought.now.entries.items)) c.new-faults.ensures.items
+    ap (λ fs. fs ++ faults_from (written_in s) (all_standing s) c.args.marks.now c.args.lists.now 0 (placed_in s c.args.brought.now.entries.items)) c.new-faults.ensures.items
 
 pub loop-at-preserved : goal.loop-at-preserved
 loop-at-preserved c =
@@ -24,7 +24,7 @@ loop-at-preserved c =
     let m = c.len.ensures in
     let n = c.args.brought.now.entries.ok.0 in
     let p = placed_there s cs c.loop-at.at (omega (arith, h, l, m, n)) in
-    one_told (written_in s) (all_standing s) c.args.marks.now (placed_in s cs) c.loop-at.at p.0 c.loop-at.faults.items c.report.new.faults.items _ p.1
+    one_told (written_in s) (all_standing s) c.args.marks.now c.args.lists.now (placed_in s cs) c.loop-at.at p.0 c.loop-at.faults.items c.report.new.faults.items _ p.1
     (c.in_ok-report.ensures p.0 p.1
     ∙ ap (λ x. c.loop-at.faults.items ++ told p.0.standing.space x (first_word p.0.standing.statement.statement.args)) (c.in_ok-wrong.ensures p.0 p.1)) c.loop-at.invariant
 
@@ -38,4 +38,4 @@ returns c =
     let n = c.args.brought.now.entries.ok.0 in
     let k = placed_length (written_in s) (all_standing s) cs in
     let j = standings_length (written_in s) (entries_in s) in
-    all_told (written_in s) (all_standing s) c.args.marks.now (placed_in s cs) c.loop-at.at c.loop-at.faults.items _ (omega (arith, h, l, m, n, k, j)) c.loop-at.invariant
+    all_told (written_in s) (all_standing s) c.args.marks.now c.args.lists.now (placed_in s cs) c.loop-at.at c.loop-at.faults.items _ (omega (arith, h, l, m, n, k, j)) c.loop-at.invariant

@@ -6,5 +6,5 @@ use Rattle.cil_macros.proofs.faults.call_faults.Given as goal
 
 abbrev pub invariant-loop-at : goal.invariant-loop-at
 invariant-loop-at l =
-    l.faults.items ++ faults_from (written_in l.source.spaces.now) (all_standing l.source.spaces.now) l.marks l.at (drop l.at (placed_in l.source.spaces.now l.brought.entries.items))
-    ≡ faults_from (written_in l.source.spaces.now) (all_standing l.source.spaces.now) l.marks 0 (placed_in l.source.spaces.now l.brought.entries.items)
+    l.faults.items ++ faults_from (written_in l.source.spaces.now) (all_standing l.source.spaces.now) l.marks l.lists l.at (drop l.at (placed_in l.source.spaces.now l.brought.entries.items))
+    ≡ faults_from (written_in l.source.spaces.now) (all_standing l.source.spaces.now) l.marks l.lists 0 (placed_in l.source.spaces.now l.brought.entries.items)

@@ -1,4 +1,4 @@
-use Rattle.std.proofs.Common.{rules, sym, ◌∙◌, ap, subst}
+use Rattle.std.proofs.Common.{rules, sym, ◌∙◌, ap}
 use Rattle.std.specs.Prelude.{slice_get}
 use Rattle.cil_base.specs.Places.{not_there, there_as}
 use Rattle.cil_syntax.specs.Program.{program_of}
@@ -7,7 +7,6 @@ use Rattle.cil_blocks.specs.Entries.{statement_at}
 use Rattle.cil_blocks.proofs.NameLemmas.{args_some, at_none}
 use Rattle.cil_macros.specs.Meant.{first_for}
 use Rattle.cil_macros.specs.Parameters.{macro_parameters}
-use Rattle.cil_macros.specs.Scene.{IsArgument}
 use Rattle.cil_macros.proofs.MeaningLemmas.{for_missing, for_none, for_one}
 use Rattle.cil_macros.proofs.meaning.argument_for.Goals as goal
 
@@ -44,4 +43,4 @@ returns c = λ ps bs are.
     (c.in_ok-number.ensures ∙ sym (ap (λ t. first_for c.args.word.now (macro_parameters t)) (args_some c.args.statements.now c.requires c.args.called c.in_ok-get.field-0.now there)))
     (ap (λ xs. slice_get xs c.in_ok-number.number) (sym c.deref.ensures.value)
     ∙ there_as c.deref.result.now c.in_ok-number.number m c.in_ok-argument.ensures.lookup.3.0 c.in_ok-argument.ensures.lookup.1) in
-    subst (IsArgument ps c.args.word.now bs) (sym c.copied.ensures) one
+    one

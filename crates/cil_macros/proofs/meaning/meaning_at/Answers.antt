@@ -13,8 +13,8 @@ use Rattle.cil_macros.proofs.BodyMeaning.{argument_word, arguments_here, home_wo
 use Rattle.cil_macros.proofs.CallLemmas.{placed_there, stands_by}
 use Rattle.cil_macros.proofs.meaning.meaning_at.Goals as goal
 
-pub returns-in_default : goal.returns-in_default
-returns-in_default c = λ p here.
+pub returns-in_default-clause-says : goal.returns-in_default-clause-says
+returns-in_default-clause-says c = λ p here.
     let l = ap length c.entries-standing.ensures.same in
     let below = c.in_default.ensures in
     ap (meant_term (placed_of_scene c.args.scene.now) c.args.word.now.sign) (same_word c.args.word.now c.args.at c.word.result _ c.word.ensures c.as_slice.ensures)
@@ -45,8 +45,8 @@ standing_statement-called-requires c =
     let e = ap length c.entries.ensures.same in
     omega (arith, k, l, e)
 
-pub returns-in-Some-argument_for : goal.returns-in-Some-argument_for
-returns-in-Some-argument_for c = λ p here.
+pub returns-in-Some-argument_for-clause-says : goal.returns-in-Some-argument_for-clause-says
+returns-in-Some-argument_for-clause-says c = λ p here.
     let s = c.args.scene.now in
     let n = subst (λ k. IsNumbered s.brought.now.entries.items k c.args.at c.in-Some.number) (ap length c.entries-standing.ensures.same) c.in-Some.ensures in
     let h = number_below s c.args.openings.now c.args.at c.requires p here c.in-Some.number n in
@@ -58,11 +58,28 @@ returns-in-Some-argument_for c = λ p here.
     let stated = stands_by s.spaces.now s.brought.now.entries.items c.entries.result.now c.index.result.now.macro_rank called c.entries.ensures.same c.standing_statement-called.ensures in
     let are = arguments_here s c.args.openings.now c.args.at c.requires p here c.in-Some.number n c.index.result.now b c.index-openings-number.result o called stated in
     let so = rw c.statements.ensures at c.in-Some-argument_for.ensures in
-    argument_word s c.args.openings.now c.args.at c.requires p here c.in-Some.number n c.index.result.now b c.index-openings-number.result o called stated
-    c.args.word.now c.in-Some-argument_for.argument (so (placed_of_scene s) p.bounds are)
+    c.meaning.ensures.says (placed_of_scene s) c.args.word.now.sign
+    ∙ argument_word s c.args.openings.now c.args.at c.requires p here c.in-Some.number n c.index.result.now b c.index-openings-number.result o called stated
+    c.args.word.now c.in-Some-argument_for.argument.now (so (placed_of_scene s) p.bounds are)
 
-pub returns-then-has : goal.returns-then-has
-returns-then-has c = λ p here.
+pub returns-in-Some-argument_for-clause-whole : goal.returns-in-Some-argument_for-clause-whole
+returns-in-Some-argument_for-clause-whole c =
+    let s = c.args.scene.now in
+    let n = subst (λ k. IsNumbered s.brought.now.entries.items k c.args.at c.in-Some.number) (ap length c.entries-standing.ensures.same) c.in-Some.ensures in
+    let (p, here) = placed_there s.spaces.now s.brought.now.entries.items c.args.at c.requires.within in
+    let h = number_below s c.args.openings.now c.args.at c.requires p here c.in-Some.number n in
+    let b = there_as s.brought.now.bodies.items c.in-Some.number c.index.result.now h c.index.ensures in
+    let first = c.requires.first n.rank n.called n.behind n.is in
+    let same = n.body in
+    let o = there_as c.args.openings.now c.in-Some.number c.index-openings-number.result (omega (arith, first, same)) c.index-openings-number.is in
+    let called = c.standing_statement-called.result in
+    let stated = stands_by s.spaces.now s.brought.now.entries.items c.entries.result.now c.index.result.now.macro_rank called c.entries.ensures.same c.standing_statement-called.ensures in
+    let are = arguments_here s c.args.openings.now c.args.at c.requires p here c.in-Some.number n c.index.result.now b c.index-openings-number.result o called stated in
+    let so = rw c.statements.ensures at c.in-Some-argument_for.ensures in
+    c.meaning.ensures.whole (placed_of_scene s) (so (placed_of_scene s) p.bounds are).whole
+
+pub returns-then-has-clause-says : goal.returns-then-has-clause-says
+returns-then-has-clause-says c = λ p here.
     let s = c.args.scene.now in
     let n = subst (λ k. IsNumbered s.brought.now.entries.items k c.args.at c.in-Some.number) (ap length c.entries-standing.ensures.same) c.in-Some.ensures in
     let h = number_below s c.args.openings.now c.args.at c.requires p here c.in-Some.number n in
@@ -81,8 +98,8 @@ returns-then-has c = λ p here.
     c.args.word.now (so (placed_of_scene s) p.bounds are)
     (c.if-has.ensures (written_in s.spaces.now) c.requires.scene.declared below ∙ ap (λ bytes. declares (written_in s.spaces.now) (statement_at (written_in s.spaces.now) called) bytes c.args.word.now.sign) c.as_slice-2.ensures)
 
-pub returns : goal.returns
-returns c = λ p here.
+pub returns-clause-says : goal.returns-clause-says
+returns-clause-says c = λ p here.
     let s = c.args.scene.now in
     let n = subst (λ k. IsNumbered s.brought.now.entries.items k c.args.at c.in-Some.number) (ap length c.entries-standing.ensures.same) c.in-Some.ensures in
     let h = number_below s c.args.openings.now c.args.at c.requires p here c.in-Some.number n in

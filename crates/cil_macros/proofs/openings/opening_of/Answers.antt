@@ -1,3 +1,6 @@
+use Rattle.std.proofs.Common.{◌∙◌, ap}
+use Rattle.std.specs.List.{list_any}
+use Rattle.cil_macros.specs.Meant.{is_list}
 use Rattle.cil_macros.proofs.CallOpening.{macro_at, macro_known, next_known}
 use Rattle.cil_macros.proofs.openings.opening_of.Goals as goal
 
@@ -16,4 +19,5 @@ returns c =
     record {
       home = λ call e. c.home.ensures call e;
       arguments = λ call u e f. c.in_ok-arguments.ensures call u e f (macro_at s c.requires.scene c.args.openings.now c.requires.opened c.args.body.now c.requires.next call u e f);
+      lists = c.has_list-lists.ensures ∙ ap (list_any is_list) c.as_slice.ensures.value;
     }

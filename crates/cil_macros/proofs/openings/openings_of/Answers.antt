@@ -1,7 +1,11 @@
-use Rattle.std.proofs.Common.{◌∙◌, [], ◌∷◌, ap, arith, length, sym}
+use Rattle.std.proofs.Common.{◌∙◌, [], ◌∷◌, ap, arith, length, subst, sym}
 use Rattle.std.specs.Prelude.{slice_get}
 use Rattle.std.proofs.lemmas.List.{length-append}
 use Rattle.cil_base.specs.Places.{is_there}
+use Rattle.cil_macros.specs.Macros.{all_standing}
+use Rattle.cil_macros.specs.Openings.{AreOpenings}
+use Rattle.cil_macros.specs.Scene.{placed_of_scene}
+use Rattle.cil_macros.specs.Walks.{written_in}
 use Rattle.cil_macros.proofs.CallOpening.{one_opening}
 use Rattle.cil_macros.proofs.openings.openings_of.Goals as goal
 
@@ -10,6 +14,11 @@ opening_of-requires-clause-next c =
     ap (λ k. slice_get c.args.scene.now.brought.now.bodies.items k) (ap length c.as_slice.ensures.value ∙ c.loop-body.invariant.0)
     ∙ ap (λ xs. slice_get xs c.loop-body.body-index) (sym c.as_slice-body-items.ensures.value)
     ∙ is_there c.as_slice-body-items.result.now c.loop-body.body-index _ c.loop-body-test.true
+
+pub opening_of-requires-clause-opened : goal.opening_of-requires-clause-opened
+opening_of-requires-clause-opened c =
+    let s = c.args.scene.now in
+    subst (λ os. AreOpenings (written_in s.spaces.now) (all_standing s.spaces.now) (placed_of_scene s) s.brought.now.bodies.items os) (sym c.as_slice.ensures.value) c.loop-body.invariant.1
 
 pub loop-body-preserved : goal.loop-body-preserved
 loop-body-preserved c =

@@ -28,7 +28,7 @@ pub returns-in_default-clause-listed : goal.returns-in_default-clause-listed
 returns-in_default-clause-listed c = λ xs ordered known are.
     let i = c.args.instances.now in
     kept_without (namespaces_in i) c.args.entries.now xs (item_at i c.args.at) c.args.lists.now.items
-    (none_declared i c.args.at c.statement_there-statement.result.now c.statement_there-statement.ensures.is c.statement_there-statement.ensures.words c.in_default.ensures) are
+    (none_declared i c.args.at c.statement_there-statement.result.now c.statement_there-statement.ensures.is c.in_default.ensures) are
 
 pub returns-in_default-entry_in-clause-listed : goal.returns-in_default-entry_in-clause-listed
 returns-in_default-entry_in-clause-listed c = λ xs ordered known are.
@@ -36,7 +36,7 @@ returns-in_default-entry_in-clause-listed c = λ xs ordered known are.
     let sign = c.in-Some.list.sign in
     let name = c.in-Some.list.name in
     kept_unknown (namespaces_in i) c.args.entries.now xs (item_at i c.args.at) (subst AreNamespaces c.namespaces.ensures.value c.namespaces.ensures.once) ordered c.space-space.result c.space-space.ensures sign name.bytes.now
-    (one_declared i c.args.at c.statement_there-statement.result.now c.statement_there-statement.ensures.is c.statement_there-statement.ensures.words sign name.at name.bytes.now c.in-Some.ensures (c.is_outside.ensures.0 c.if-not-is_outside.false)) c.args.lists.now.items
+    (one_declared i c.args.at c.statement_there-statement.result.now c.statement_there-statement.ensures.is sign name.at name.bytes.now c.in-Some.ensures (c.is_outside.ensures.0 c.if-not-is_outside.false)) c.args.lists.now.items
     c.in_default-entry_in.ensures are
 
 pub returns-in_default-listed_behind_name-clause-listed : goal.returns-in_default-listed_behind_name-clause-listed
@@ -45,9 +45,9 @@ returns-in_default-listed_behind_name-clause-listed c = λ xs ordered known are.
     let sign = c.in-Some.list.sign in
     let name = c.in-Some.list.name in
     kept_unlisted (namespaces_in i) c.args.entries.now xs (item_at i c.args.at) (subst AreNamespaces c.namespaces.ensures.value c.namespaces.ensures.once) ordered c.space-space.result c.space-space.ensures sign name.bytes.now
-    (one_declared i c.args.at c.statement_there-statement.result.now c.statement_there-statement.ensures.is c.statement_there-statement.ensures.words sign name.at name.bytes.now c.in-Some.ensures (c.is_outside.ensures.0 c.if-not-is_outside.false))
+    (one_declared i c.args.at c.statement_there-statement.result.now c.statement_there-statement.ensures.is sign name.at name.bytes.now c.in-Some.ensures (c.is_outside.ensures.0 c.if-not-is_outside.false))
     (word_at i c.args.at) (args_of c.statement_there-statement.result.now)
-    (said_by_list i c.args.at c.statement_there-statement.result.now c.statement_there-statement.ensures.is c.statement_there-statement.ensures.words sign name.at name.bytes.now c.in-Some.ensures) c.args.lists.now.items
+    (said_by_list i c.args.at c.statement_there-statement.result.now c.statement_there-statement.ensures.is sign name.at name.bytes.now c.in-Some.ensures) c.args.lists.now.items
     c.in_default-listed_behind_name.ensures are
 
 pub statement-number-requires : goal.statement-number-requires
@@ -71,10 +71,10 @@ returns-then-is_at-clause-listed c = λ xs ordered known are.
     slice_get-get_or c.args.last.now.items class_ c.index.result.now (class_within _ _ _ _ _ _ c.requires.last_len c.in-Some-entry_in.ensures)
     ∙ ap Some (sym c.index.ensures ∙ c.is_at.ensures.0 c.if-is_at.true) in
     kept_again (namespaces_in i) c.args.entries.now xs (item_at i c.args.at) (subst AreNamespaces c.namespaces.ensures.value c.namespaces.ensures.once) ordered c.space-space.result c.space-space.ensures sign name.bytes.now
-    (one_declared i c.args.at s c.statement_there-statement.ensures.is c.statement_there-statement.ensures.words sign name.at name.bytes.now c.in-Some.ensures (c.is_outside.ensures.0 c.if-not-is_outside.false)) c.args.lists.now.items class_
+    (one_declared i c.args.at s c.statement_there-statement.ensures.is sign name.at name.bytes.now c.in-Some.ensures (c.is_outside.ensures.0 c.if-not-is_outside.false)) c.args.lists.now.items class_
     c.in-Some-entry_in.ensures
     (λ p t. known class_ c.statement-number.result last p
-    (ap (list_any (same_bytes p)) (sym (listed_here i c.args.at s c.statement_there-statement.ensures.is c.statement_there-statement.ensures.words sign name.at name.bytes.now c.in-Some.ensures c.statement-number.result
+    (ap (list_any (same_bytes p)) (sym (listed_here i c.args.at s c.statement_there-statement.ensures.is sign name.at name.bytes.now c.in-Some.ensures c.statement-number.result
     (c.statement-number.ensures (placed_at i c.args.at) (placed_there i c.args.at c.requires.within)))) ∙ t)) are
 
 pub returns-clause-listed : goal.returns-clause-listed
@@ -84,9 +84,9 @@ returns-clause-listed c = λ xs ordered known are.
     let name = c.in-Some.list.name in
     let s = c.statement_there-statement.result.now in
     added (namespaces_in i) c.args.entries.now xs (item_at i c.args.at) (subst AreNamespaces c.namespaces.ensures.value c.namespaces.ensures.once) ordered c.space-space.result c.space-space.ensures sign name.bytes.now
-    (one_declared i c.args.at s c.statement_there-statement.ensures.is c.statement_there-statement.ensures.words sign name.at name.bytes.now c.in-Some.ensures (c.is_outside.ensures.0 c.if-not-is_outside.false))
+    (one_declared i c.args.at s c.statement_there-statement.ensures.is sign name.at name.bytes.now c.in-Some.ensures (c.is_outside.ensures.0 c.if-not-is_outside.false))
     (word_at i c.args.at) (args_of s)
-    (said_by_list i c.args.at s c.statement_there-statement.ensures.is c.statement_there-statement.ensures.words sign name.at name.bytes.now c.in-Some.ensures) c.args.lists.now.items c.in-Some-entry_in.class
+    (said_by_list i c.args.at s c.statement_there-statement.ensures.is sign name.at name.bytes.now c.in-Some.ensures) c.args.lists.now.items c.in-Some-entry_in.class
     c.in-Some-entry_in.ensures c.replace-listed.result c.replace-listed.new.dest c.in_ok-lists.field-0 s.at.«module»
     c.in-Some-listed_behind_name.items.now c.requires.len
     (slice_get_read _ _ _ _ refl (class_within _ _ _ _ _ _ c.requires.len c.in-Some-entry_in.ensures) c.index_mut.ensures.value ∙ ap Some (sym c.replace-listed.ensures.value))
@@ -99,13 +99,13 @@ returns-clause-last c = λ ordered known.
     let name = c.in-Some.list.name in
     let s = c.statement_there-statement.result.now in
     listed_after (namespaces_in i) c.args.entries.now [] (item_at i c.args.at) (subst AreNamespaces c.namespaces.ensures.value c.namespaces.ensures.once) ordered c.space-space.result c.space-space.ensures sign name.bytes.now
-    (one_declared i c.args.at s c.statement_there-statement.ensures.is c.statement_there-statement.ensures.words sign name.at name.bytes.now c.in-Some.ensures (c.is_outside.ensures.0 c.if-not-is_outside.false))
+    (one_declared i c.args.at s c.statement_there-statement.ensures.is sign name.at name.bytes.now c.in-Some.ensures (c.is_outside.ensures.0 c.if-not-is_outside.false))
     (word_at i c.args.at) (args_of s)
-    (said_by_list i c.args.at s c.statement_there-statement.ensures.is c.statement_there-statement.ensures.words sign name.at name.bytes.now c.in-Some.ensures) c.args.lists.now.items c.in-Some-entry_in.class
+    (said_by_list i c.args.at s c.statement_there-statement.ensures.is sign name.at name.bytes.now c.in-Some.ensures) c.args.lists.now.items c.in-Some-entry_in.class
     c.in-Some-entry_in.ensures c.replace-listed.result c.replace-listed.new.dest c.in_ok-lists.field-0 s.at.«module»
     c.in-Some-listed_behind_name.items.now c.requires.len
     (slice_get_read _ _ _ _ refl (class_within _ _ _ _ _ _ c.requires.len c.in-Some-entry_in.ensures) c.index_mut.ensures.value ∙ ap Some (sym c.replace-listed.ensures.value))
     c.in-Some-listed_behind_name.ensures (c.in_ok-lists.ensures s.at.«module»)
     i c.args.last.now.items c.statement-number.result (class_within _ _ _ _ _ _ c.requires.last_len c.in-Some-entry_in.ensures)
-    (listed_here i c.args.at s c.statement_there-statement.ensures.is c.statement_there-statement.ensures.words sign name.at name.bytes.now c.in-Some.ensures c.statement-number.result
+    (listed_here i c.args.at s c.statement_there-statement.ensures.is sign name.at name.bytes.now c.in-Some.ensures c.statement-number.result
     (c.statement-number.ensures (placed_at i c.args.at) (placed_there i c.args.at c.requires.within))) known

@@ -21,5 +21,5 @@ returns c =
     c.in_ok-push.ensures.items
     ∙ ap (λ l. c.args.lines.now.items ++ l ∷ [])
     (made_line inside (item_at i at) s.at _ _ _ (place_there i at s is) c.in_ok-space.ensures
-    (c.in_ok-label.ensures ∙ c.label_in.ensures ∙ label_there i at s is c.statement_there-statement.ensures.words optional) c.has.ensures)
+    (c.in_ok-label.ensures ∙ c.label_in.ensures ∙ label_there i at s is optional) c.has.ensures)
     ∙ ap (λ ls. c.args.lines.now.items ++ ls) (one_line inside (item_at i at) (optional_there i at s is true optional))

@@ -16,4 +16,4 @@ returns c =
     let optional : is_optional_at (items_in i) at ≡ true = subst (λ o. is_optional_at (items_in i) o ≡ true) (sym c.left_out-at.ensures) c.requires.optional in
     reason_line i r at c.left_out-at.ensures c.requires.optional _
     (made_why (item_at i at) (missing_of (items_in i) r) s.at _ _ _ (place_there i at s is) c.in_ok-space.ensures
-    (c.in_ok-label.ensures ∙ c.label_in.ensures ∙ label_here i at s is c.statement_there-statement.ensures.words optional) c.in_ok-missing.ensures)
+    (c.in_ok-label.ensures ∙ c.label_in.ensures ∙ label_here i at s is optional) c.in_ok-missing.ensures)

@@ -3,8 +3,8 @@ use Rattle.std.specs.Ordering.{nat_cmp}
 use Rattle.std.proofs.lemmas.Bool.{true≢false}
 use Rattle.cil_base.specs.Lists.{Lists}
 use Rattle.cil_syntax.specs.Said.{args_of}
-use Rattle.cil_macros.specs.Items.{item_at, says_as_written, word_at}
-use Rattle.cil_macros.proofs.ItemsThere.{keyword_there, said_there}
+use Rattle.cil_macros.specs.Items.{item_at, may_say_lists, says_as_written, word_at}
+use Rattle.cil_macros.proofs.ItemsThere.{keyword_there, named_there}
 use Rattle.cil_names.specs.Known.{HasNumberFor, enabled_in, meant_in, set_meant, value_in}
 use Rattle.cil_names.specs.Resolves.{is_mapping}
 use Rattle.cil_names.proofs.ReadingLemmas.{plain_said}
@@ -26,7 +26,7 @@ returns-in_err-_words c =
     (λ xs names known some others are.
     let i = c.args.instances.now in
     let s = c.statement_there-statement.result.now in
-    let says = said_there i c.args.at s c.statement_there-statement.ensures.is c.statement_there-statement.ensures.words (ap says_as_written (c.same_keyword.ensures.0 c.if-not-same_keyword.false) ∙ c.requires.written) in
+    let says = named_there i c.args.at s c.statement_there-statement.ensures.is (ap may_say_lists (c.same_keyword.ensures.0 c.if-not-same_keyword.false) ∙ c.requires.named) (ap says_as_written (c.same_keyword.ensures.0 c.if-not-same_keyword.false) ∙ c.requires.written) in
     other_terms xs c.args.known.now _ _ _ _ _ (item_at i c.args.at) (word_at i c.args.at) (args_of s) says c.in_err-_words.ensures)
 
 pub returns-in_err-first : goal.returns-in_err-first
@@ -39,7 +39,7 @@ returns-in_err-first c =
     let x = item_at i c.args.at in
     let f = word_at i c.args.at in
     let j = c.args.joins in
-    let says = said_there i c.args.at s c.statement_there-statement.ensures.is c.statement_there-statement.ensures.words (ap says_as_written (c.same_keyword.ensures.0 c.if-not-same_keyword.false) ∙ c.requires.written) in
+    let says = named_there i c.args.at s c.statement_there-statement.ensures.is (ap may_say_lists (c.same_keyword.ensures.0 c.if-not-same_keyword.false) ∙ c.requires.named) (ap says_as_written (c.same_keyword.ensures.0 c.if-not-same_keyword.false) ∙ c.requires.written) in
     let are = row ∙ ap (map (value_in k)) (plain_said x.keyword x.args (ap is_mapping (keyword_there i c.args.at s c.statement_there-statement.ensures.is ∙ c.same_keyword.ensures.0 c.if-not-same_keyword.false) ∙ c.requires.plain)) in
     let first = c.in_ok-_words._words.first in
     let second = c.in_ok-_words._words.second in
@@ -60,7 +60,7 @@ returns-in_err-second c =
     let x = item_at i c.args.at in
     let f = word_at i c.args.at in
     let j = c.args.joins in
-    let says = said_there i c.args.at s c.statement_there-statement.ensures.is c.statement_there-statement.ensures.words (ap says_as_written (c.same_keyword.ensures.0 c.if-not-same_keyword.false) ∙ c.requires.written) in
+    let says = named_there i c.args.at s c.statement_there-statement.ensures.is (ap may_say_lists (c.same_keyword.ensures.0 c.if-not-same_keyword.false) ∙ c.requires.named) (ap says_as_written (c.same_keyword.ensures.0 c.if-not-same_keyword.false) ∙ c.requires.written) in
     let are = row ∙ ap (map (value_in k)) (plain_said x.keyword x.args (ap is_mapping (keyword_there i c.args.at s c.statement_there-statement.ensures.is ∙ c.same_keyword.ensures.0 c.if-not-same_keyword.false) ∙ c.requires.plain)) in
     let first = c.in_ok-_words._words.first in
     let second = c.in_ok-_words._words.second in
@@ -81,7 +81,7 @@ returns c =
     let f = word_at i c.args.at in
     let j = c.args.joins in
     let is = c.same_keyword.ensures.0 c.if-not-same_keyword.false in
-    let says = said_there i c.args.at s c.statement_there-statement.ensures.is c.statement_there-statement.ensures.words (ap says_as_written is ∙ c.requires.written) in
+    let says = named_there i c.args.at s c.statement_there-statement.ensures.is (ap may_say_lists is ∙ c.requires.named) (ap says_as_written is ∙ c.requires.written) in
     let are = row ∙ ap (map (value_in k)) (plain_said x.keyword x.args (ap is_mapping (keyword_there i c.args.at s c.statement_there-statement.ensures.is ∙ c.same_keyword.ensures.0 c.if-not-same_keyword.false) ∙ c.requires.plain)) in
     let first = c.in_ok-_words._words.first in
     let second = c.in_ok-_words._words.second in

@@ -1,7 +1,6 @@
 -- cil_words/proofs/settled_rows/settled/Answers.antt
-use Rattle.std.proofs.Common.{map, ◌∙◌, subst}
+use Rattle.std.proofs.Common.{map, ◌∙◌}
 use Rattle.cil_names.specs.Entries.{is_declared_in, is_in}
-use Rattle.cil_names.specs.Rows.{IsTableOf}
 use Rattle.cil_names.proofs.RowLemmas.{changed, changed_within}
 use Rattle.cil_words.specs.Table.{ask_value}
 use Rattle.cil_words.proofs.RowLemmas.{rows_mean}

@@ -10,7 +10,6 @@ use Rattle.cil_macros.specs.Items.{Kept, all_placed, placed_at}
 use Rattle.cil_macros.specs.Macros.{all_standing}
 use Rattle.cil_macros.specs.Walks.{written_in}
 use Rattle.cil_macros.proofs.PlacedLemmas.{has_number, is_place, placed_so, stated_some}
-use Rattle.cil_macros.proofs.ItemsThere.{says_words_there}
 use Rattle.cil_macros.proofs.instances.Instances.statement_there.Goals as goal
 
 pub statement-requires : goal.statement-requires
@@ -27,17 +26,13 @@ numbered-requires c =
     subst (λ (ss : List Statement). c.statement.result < length ss) (sym list)
     (has_number i nested c.args.at c.statement.result (c.statement.ensures (placed_at i c.args.at) (placed_so i c.args.at h)) placed standings h)
 
-pub returns-clause-is : goal.returns-clause-is
-returns-clause-is c =
+pub returns : goal.returns
+returns c =
     let i = c.args.self.now in
     let h = is_place i c.args.at c.requires in
     let list : c.statements.result.now ≡ statements_in i.0 = c.statements.ensures ∙ ap (λ (v : Kept). statements_in v.0) c.self.view_is in
     let nested = subst (λ (v : Kept). IsNested (statements_in v.0)) c.self.view_is c.self.invariant.0.standings.contents.nested in
-    stated_some i nested c.args.at c.statement.result (c.statement.ensures (placed_at i c.args.at) (placed_so i c.args.at h)) c.numbered.result.now
-    (subst (λ (ss : List Statement). slice_get ss c.statement.result ≡ Some c.numbered.result.now) list c.numbered.ensures)
-
-pub returns-clause-words : goal.returns-clause-words
-returns-clause-words c =
-    let i = c.args.self.now in
-    let placed = subst (λ (v : Kept). Lists placed_cmp (IsPlaced (written_in v.0) (all_standing v.0)) (all_placed v)) c.self.view_is c.self.invariant.0.placed in
-    says_words_there i c.args.at c.requires placed
+    record {
+      is = stated_some i nested c.args.at c.statement.result (c.statement.ensures (placed_at i c.args.at) (placed_so i c.args.at h)) c.numbered.result.now
+          (subst (λ (ss : List Statement). slice_get ss c.statement.result ≡ Some c.numbered.result.now) list c.numbered.ensures);
+    }

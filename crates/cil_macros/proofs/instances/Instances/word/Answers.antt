@@ -9,5 +9,5 @@ meaning-meant-requires c = is_place c.args.self.now c.args.at c.requires
 
 pub returns : goal.returns
 returns c =
-    c.placed_word.ensures (all_placed c.args.self.now)
-    ∙ word_so c.args.self.now c.args.at c.args.word.now _ (c.meaning-meant.ensures (placed_at c.args.self.now c.args.at) (placed_so c.args.self.now c.args.at (is_place c.args.self.now c.args.at c.requires)))
+    c.word_meant.ensures (all_placed c.args.self.now)
+    ∙ word_so c.args.self.now c.args.at c.args.word.now _ (c.meaning-meant.ensures.says (placed_at c.args.self.now c.args.at) (placed_so c.args.self.now c.args.at (is_place c.args.self.now c.args.at c.requires)))

@@ -22,4 +22,4 @@ returns c = λ called.
     all_mapped (λ (w : PlacedWord). AWord (scoped_there r w)) c.as_slice-word-items.result.now c.loop-word.word-index _ _ c.loop-word-test.false c.loop-word.invariant
     ∙ ap (λ l. asked_by r c.args.asked.now.items ++ l)
     (ap (map (λ (w : PlacedWord). AWord (scoped_there r w))) c.as_slice-word-items.ensures.value
-    ∙ sym (call_wanted r called c.in_ok-words.words.items (c.in_ok-words.ensures called)))
+    ∙ sym (call_wanted r c.requires.words called c.in_ok-words.words.items c.in_ok-words.ensures))

@@ -1,28 +1,23 @@
-use Rattle.std.proofs.Common.{rules, ◌++◌, ◌∷◌, [], ap, sym, ◌∙◌}
+use Rattle.std.proofs.Common.{◌++◌, ◌∷◌, [], ap, sym, ◌∙◌}
 use Rattle.std.proofs.lemmas.Simd.{map-map}
 use Rattle.cil_syntax.specs.Scopes.{ScopedWord}
 use Rattle.cil_words.specs.Walks.{spaces_by}
 use Rattle.cil_words.specs.Table.{ask_of}
-use Rattle.cil_names.specs.Readings.{module_of, scoped_there, word_read}
+use Rattle.cil_names.specs.Readings.{module_of, word_read}
 use Rattle.cil_names.specs.Resolves.{Permission as APermission}
 use Rattle.cil_names.proofs.AskedLemmas.{all_words_at, words_at}
-use Rattle.cil_words.proofs.WalkLemmas.{each_all, each_one, form_each, leaf_each, more_each, name_each, none_each, permission_asks}
+use Rattle.cil_words.proofs.WalkLemmas.{each_all, each_one, form_each, leaf_each, more_each, name_each, none_each}
 use Rattle.cil_names.proofs.UnresolvedLemmas.{walked_all, walked_on}
 use Rattle.cil_words.proofs.walk.Walk.+permissions.Goals as goal
 
-pub permission-returns-in_ok-push_permission-in-Leaf : goal.permission-returns-in_ok-push_permission-in-Leaf
-permission-returns-in_ok-push_permission-in-Leaf t c = λ w is xs entries permissions.
+pub permission-returns-in_ok-placed_permission-in-Leaf : goal.permission-returns-in_ok-placed_permission-in-Leaf
+permission-returns-in_ok-placed_permission-in-Leaf t c = λ w is xs entries permissions.
     let l = c.args.self.now in
     let r = l.reading in
     let could = λ (p : ScopedWord). ask_of (spaces_by l) l.names.now xs l.permissions.now (APermission w p) in
-    let said = scoped_there r c.word-permission.result in
     leaf_each (word_read r) (module_of r) could c.args.term.now c.args.cells.now _ c.in-Leaf.word c.in-Leaf.is
-    (c.in_ok-push_permission-in-Leaf.ensures
-    ∙ ap (λ k. c.args.cells.now ++ k ∷ [])
-    (permission_asks (spaces_by l) l.names.now xs l.permissions.now w said c.permission_of.result
-    (c.permission_of.ensures.entry (spaces_by l) l.names.now l.permissions.now w said xs is (search rules) entries permissions)
-    (c.permission_of.ensures.number (spaces_by l) l.names.now l.permissions.now w said xs is (search rules) entries permissions))
-    ∙ ap (λ p. c.args.cells.now ++ could p ∷ []) (c.word-permission.ensures ∙ ap (word_read r) c.in_module-written.ensures))
+    (c.in_ok-placed_permission-in-Leaf.ensures w is xs entries permissions
+    ∙ ap (λ p. c.args.cells.now ++ could p ∷ []) (c.word.ensures ∙ ap (word_read r) c.in_module-written.ensures))
     ∙ ap (λ ws. c.args.cells.now ++ ws) (sym (map-map (ask_of (spaces_by l) l.names.now xs l.permissions.now) (APermission w) (words_at (word_read r) (module_of r) c.args.term.now)))
 
 pub permission-returns-in-Name : goal.permission-returns-in-Name

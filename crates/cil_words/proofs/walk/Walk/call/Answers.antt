@@ -26,4 +26,4 @@ returns-clause-asks c = λ called xs entries permissions.
     all_mapped (λ (w : PlacedWord). could (AWord (scoped_there l.reading w))) c.as_slice-word-items.result.now c.loop-word.word-index _ _ c.loop-word-test.false (c.loop-word.invariant.0 xs entries permissions)
     ∙ ap (λ ds. old ++ ds) (sym (map-map could (λ (w : PlacedWord). AWord (scoped_there l.reading w)) c.as_slice-word-items.result.now))
     ∙ ap (λ ws. old ++ map could (map (λ (w : PlacedWord). AWord (scoped_there l.reading w)) ws)) c.as_slice-word-items.ensures.value
-    ∙ ap (λ ws. old ++ map could ws) (sym (call_wanted l.reading called c.in_ok-words.words.items (c.in_ok-words.ensures called)))
+    ∙ ap (λ ws. old ++ map could ws) (sym (call_wanted l.reading c.requires.words called c.in_ok-words.words.items c.in_ok-words.ensures))

@@ -1,4 +1,4 @@
-use Rattle.std.specs.Prelude.{drop, take}
+use Rattle.std.specs.Prelude.{take}
 use Rattle.std.proofs.Common.{◌++◌, ◌∙◌, ap, append_assoc, map, sym}
 use Rattle.std.proofs.lemmas.List.{map-append}
 use Rattle.cil_names.specs.Readings.{module_of, word_read}

@@ -1,0 +1,26 @@
+use Rattle.std.proofs.Common.{◌+◌, ◌<◌, List, length, subst, sym}
+use Rattle.cil_blocks.specs.Places.{Standings, entries_in}
+use Rattle.cil_macros.specs.declared.entry.Called.{Called}
+use Rattle.cil_macros.specs.declared.openings.Opening.{Opening}
+use Rattle.cil_macros.specs.Instances.{AreMeant}
+use Rattle.cil_macros.proofs.CallOpening.{all_opened}
+use Rattle.cil_macros.proofs.SaidThere.{parts_say, words_of_parts}
+use Rattle.cil_macros.proofs.PlacedLemmas.{is_place}
+use Rattle.cil_macros.proofs.instances.Instances.parts.Goals as goal
+
+pub said_parts_at-requires-clause-opened : goal.said_parts_at-requires-clause-opened
+said_parts_at-requires-clause-opened c =
+    let inside = c.self.inside in
+    all_opened _ c.as_slice.result.now c.self.invariant.0
+    (subst (λ (os : List Opening). AreMeant inside.spaces.now inside.brought inside.declared os) (sym c.as_slice.ensures.value) c.self.invariant.1)
+
+pub said_parts_at-requires-clause-within : goal.said_parts_at-requires-clause-within
+said_parts_at-requires-clause-within c =
+    subst (λ (v : Standings × List Called). c.args.at < length (entries_in v.0) + length v.1) (sym c.self.view_is) (is_place c.args.self.now c.args.at c.requires.within)
+
+pub returns-clause-parts : goal.returns-clause-parts
+returns-clause-parts c = parts_say _ c.args.self.now c.self.view_is c.args.at c.requires.within c.requires.lists c.said_parts_at.result c.said_parts_at.ensures
+
+pub returns-clause-words : goal.returns-clause-words
+returns-clause-words c =
+    words_of_parts c.args.self.now c.args.at c.said_parts_at.result (parts_say _ c.args.self.now c.self.view_is c.args.at c.requires.within c.requires.lists c.said_parts_at.result c.said_parts_at.ensures)

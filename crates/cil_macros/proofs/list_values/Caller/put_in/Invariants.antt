@@ -1,0 +1,6 @@
+use Rattle.cil_macros.specs.Placed.{meaning}
+use Rattle.cil_macros.proofs.PutLemmas.{AreIn}
+use Rattle.cil_macros.proofs.list_values.Caller.put_in.Given as goal
+
+abbrev pub invariant-loop-part : goal.invariant-loop-part
+invariant-loop-part l = AreIn meaning l.self.scene.now l.self.at l.asked l.fn.parts.items l.part-index l.parts.items
