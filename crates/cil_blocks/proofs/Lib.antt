@@ -3,6 +3,7 @@ pub mod Begun
 pub mod BranchExamples
 pub mod ChainNumbers
 pub mod ContentLemmas
+pub mod CoverLemmas
 pub mod CycleLemmas
 pub mod DoubledLemmas
 pub mod EntryLemmas

@@ -229,11 +229,13 @@ module _ (ss : List Statement) (ordered : IsNested ss) (ps : Parts) (ts : Target
   lies : (i : ℕ) → i < length ws → HasTarget ts i → ComesBack ps ts i → LiesOnCycle ws i
   lies i h some c =
       let t = one_of (targets_in ts i) some in
-      let e = (are_targets.inheriting i t.0 t.1).1 in
-      (e, elim c.is_step [
-        | inl part ↦ absurd (no_parts i c.next h e part)
-        | inr target ↦ on_cycle_by i c.next e target c.further
-      ])
+      let e = (are_targets.inheriting i t.0 t.1).1 in (
+        e,
+        elim c.is_step [
+          | inl part ↦ absurd (no_parts i c.next h e part)
+          | inr target ↦ on_cycle_by i c.next e target c.further
+        ],
+      )
 
   comes_back : (i : ℕ) → i < length ws → LiesOnCycle ws i → HasWayBack ps ts i
   comes_back i h (e, cycle) =
