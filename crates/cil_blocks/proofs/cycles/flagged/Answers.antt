@@ -1,4 +1,4 @@
-use Rattle.std.proofs.Common.{◌≡◌, arith, subst, true, false, sym, ◌∙◌}
+use Rattle.std.proofs.Common.{◌≡◌, arith, subst}
 use Rattle.cil_blocks.specs.Steps.{HaveWayBack}
 use Rattle.cil_blocks.proofs.StepLemmas.{flagged_back, none_found, none_more, not_back, one_found}
 use Rattle.cil_blocks.proofs.cycles.flagged.Goals as goal
