@@ -68,7 +68,9 @@ pub fn entry_in(
     requires { IsStrictlySortedBy (on key_of by_name_cmp) entries.now }
     ensures { MatchOption result (HasNoEntry entries.now name.now sign space) (IsEntryAt entries.now name.now sign space) }
 {
-    let rank = sign.rank()?;
+    let Some(rank) = sign.rank() else {
+        return None;
+    };
     entry_of(
         entries,
         few_named(entries, guesses, name, rank),
@@ -129,9 +131,11 @@ fn by_halving(entries: &[Entry], space: usize, name: &[u8], sign: Sign) -> Optio
     requires { IsStrictlySortedBy (on key_of by_name_cmp) entries.now }
     ensures { MatchOption result (HasNoEntry entries.now name.now sign space) (IsEntryAt entries.now name.now sign space) }
 {
-    let rank = sign.rank()?;
+    let Some(rank) = sign.rank() else {
+        return None;
+    };
     let place = place_of(entries, space, name, rank)?;
-    if !sign.wants(entries[place].kind) {
+    if !is_wanted_in(entries, place, space, sign) {
         return None;
     }
     Some(place)
@@ -145,7 +149,9 @@ fn namesakes_of(entries: &[Entry], guesses: &Guesses, path: &Path, sign: Sign) -
     if !path.dotless {
         return None;
     }
-    let rank = sign.rank()?;
+    let Some(rank) = sign.rank() else {
+        return None;
+    };
     few_named(entries, guesses, path.names, rank)
 }
 
@@ -214,7 +220,10 @@ pub fn push_candidates(
     let same = namesakes_of(entries, guesses, &path, word.sign);
     for from in asked_scope(path.global, scope) {
         let named = named_in(namespaces, entries, guesses, same, *from, &path, word.sign);
-        push_listed(found, named)?;
+        match push_listed(found, named) {
+            Ok(()) => {}
+            Err(failure) => return Err(failure),
+        }
     }
     Ok(())
 }
@@ -299,10 +308,10 @@ fn has_one(enabled: &[bool], rounds: &[Vec<usize>]) -> bool
 fn has_declared(enabled: &[bool], entries: &[Entry], d: usize) -> bool
     ensures { result ≡ is_declared_at (is_in enabled.now) entries.now d }
 {
-    match entries.get(d) {
-        Some(entry) => is_declared(enabled, entry),
-        None => false,
-    }
+    let Some(entry) = entries.get(d) else {
+        return false;
+    };
+    is_declared(enabled, entry)
 }
 
 /// The number, where its entry is declared.
