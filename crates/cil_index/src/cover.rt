@@ -1,22 +1,22 @@
 //! What rules cover, by the index.
 
 ghost use Rattle.std.specs.Prelude.{◌≡◌, ◌≤◌, ◌<◌, ◌↔◌, ℕ, [], get_or, length, IsBitSet, IsTrue, Contains, Some};
-ghost use Rattle.std.specs.List.Sorted.{IsSorted};
+ghost use Rattle.std.specs.List.Sorted.{IsNonDecreasingBy, IsSorted};
 ghost use Rattle.cil_rules.specs.Covers.{HasCover, Reaches};
 ghost use Rattle.cil_rules.specs.Rule.{Rule as ARule};
 ghost use Rattle.cil_index.specs.declared.key.Entry.{Entry as AnEntry};
-ghost use Rattle.cil_index.specs.Entries.{AreStarts, IsIndex, IsOf, entry_cmp, in_key};
-ghost use Rattle.cil_index.specs.Memberships.{AreMemberships};
+ghost use Rattle.cil_index.specs.Entries.{AreStarts, IsIndex, entry_cmp};
+ghost use Rattle.cil_index.specs.Memberships.{AreMemberships, IsKnownFor};
 ghost use Rattle.cil_conditions.specs.Active.{is_active};
 ghost use Rattle.cil_conditions.specs.Bits.{is_on};
 ghost use Rattle.cil_rules.specs.Kept.{branch_named, target_named};
 ghost use Rattle.cil_index.specs.Kept.{rule_of};
-ghost use Rattle.cil_index.specs.Found.{CoversAt, HandOver, Matches};
+ghost use Rattle.cil_index.specs.Found.{AreAims, CoversAt, HandOver, IsAimed, IsOf, Matches, MayReach};
 ghost use Rattle.cil_index.specs.Searched.{rules_in};
 ghost use Rattle.cil_index.specs.Sets.{set_of};
 
-use crate::index::{source_part, with_key};
-use crate::key::{Entry, Key, SEVERAL, next_key, number_key};
+use crate::index::{from_aim, source_part};
+use crate::key::{BEYOND, Entry, ITSELF, SEVERAL, aim, next_key, number_key, type_key};
 use crate::memberships::Memberships;
 use crate::record::Record;
 use crate::sets::Sets;
@@ -41,6 +41,15 @@ pub struct Asked {
     pub class: usize,
 }
 
+/// Where the entries stand, among those of a set of sources, that are searched for: those of the class with the target alone, and from the
+/// first to the last those with a target that is not one type.
+#[derive(Clone, Copy)]
+pub struct Aims {
+    pub alone: u64,
+    pub several: u64,
+    pub last: u64,
+}
+
 /// Entries of rules, in their order, and where those of each set of sources begin.
 #[derive(Clone, Copy)]
 pub struct Index<'s> {
@@ -56,36 +65,57 @@ pub fn covered(searched: &Searched, index: &Index, settings: &Settings, asked: &
     requires memberships { AreMemberships searched.now.sets.now searched.now.memberships.now }
     ensures { (bit : ℕ) → IsBitSet result bit ↔ HasCover (is_on settings.now) (rules_in searched.now) asked.now.source asked.now.target asked.now.class bit }
 {
-    by_source(searched, index, settings, asked, next_key(asked.source))
-        | by_large(searched, index, settings, asked)
-        | by_own(searched, index, settings, asked)
+    let aims = aims_of(asked);
+    by_source(searched, index, settings, asked, &aims, next_key(asked.source))
+        | by_large(searched, index, settings, asked, &aims)
+        | by_own(searched, index, settings, asked, &aims)
+}
+
+/// Where the entries stand that are searched for.
+fn aims_of(asked: &Asked) -> Aims
+    ensures { AreAims asked.now result }
+{
+    let class = number_key(asked.class);
+    Aims {
+        alone: aim(class, type_key(asked.target)),
+        several: aim(class, SEVERAL),
+        last: aim(class, BEYOND),
+    }
 }
 
 /// The permissions of the rules whose sources are one of the sets that are asked for every type, and that cover what is asked.
-fn by_large(searched: &Searched, index: &Index, settings: &Settings, asked: &Asked) -> u32
+fn by_large(
+    searched: &Searched,
+    index: &Index,
+    settings: &Settings,
+    asked: &Asked,
+    aims: &Aims,
+) -> u32
     requires sorted { IsSorted entry_cmp index.now.entries.now }
     requires starts { AreStarts index.now.entries.now index.now.starts.now }
     requires memberships { AreMemberships searched.now.sets.now searched.now.memberships.now }
+    requires aims { AreAims asked.now aims.now }
     ensures sound { (bit : ℕ) → IsBitSet result bit → HasCover (is_on settings.now) (rules_in searched.now) asked.now.source asked.now.target asked.now.class bit }
-    ensures all { HandOver (is_on settings.now) (rules_in searched.now) asked.now index.now.entries.now (λ n. (searched.now.memberships.now.first_large ≤ n) × (n < length searched.now.sets.now)) result }
+    ensures all { HandOver (is_on settings.now) (rules_in searched.now) searched.now.memberships.now asked.now index.now.entries.now (λ n. (searched.now.memberships.now.first_large ≤ n) × (n < length searched.now.sets.now)) result }
 {
     let mut mask = 0;
     for number in searched.memberships.first_large..searched.sets.count() {
-        mask |= by_source(searched, index, settings, asked, number_key(number));
+        mask |= by_source(searched, index, settings, asked, aims, number_key(number));
     }
     mask
 }
 
 /// The permissions of the rules whose sources are a set that is noted for the source, and that cover what is asked.
-fn by_own(searched: &Searched, index: &Index, settings: &Settings, asked: &Asked) -> u32
+fn by_own(searched: &Searched, index: &Index, settings: &Settings, asked: &Asked, aims: &Aims) -> u32
     requires sorted { IsSorted entry_cmp index.now.entries.now }
     requires starts { AreStarts index.now.entries.now index.now.starts.now }
     requires memberships { AreMemberships searched.now.sets.now searched.now.memberships.now }
+    requires aims { AreAims asked.now aims.now }
     ensures sound { (bit : ℕ) → IsBitSet result bit → HasCover (is_on settings.now) (rules_in searched.now) asked.now.source asked.now.target asked.now.class bit }
-    ensures all { HandOver (is_on settings.now) (rules_in searched.now) asked.now index.now.entries.now (λ n. Contains (get_or searched.now.memberships.now.lists.items asked.now.source []) n) result }
+    ensures all { HandOver (is_on settings.now) (rules_in searched.now) searched.now.memberships.now asked.now index.now.entries.now (λ n. Contains (get_or searched.now.memberships.now.lists.items asked.now.source []) n) result }
 {
     match searched.memberships.of_type(asked.source) {
-        Some(numbers) => by_sources(searched, index, settings, asked, numbers),
+        Some(numbers) => by_sources(searched, index, settings, asked, aims, numbers),
         None => 0,
     }
 }
@@ -96,19 +126,21 @@ fn by_sources(
     index: &Index,
     settings: &Settings,
     asked: &Asked,
+    aims: &Aims,
     numbers: &Numbers,
 ) -> u32
     requires sorted { IsSorted entry_cmp index.now.entries.now }
     requires starts { AreStarts index.now.entries.now index.now.starts.now }
     requires memberships { AreMemberships searched.now.sets.now searched.now.memberships.now }
+    requires aims { AreAims asked.now aims.now }
     ensures sound { (bit : ℕ) → IsBitSet result bit → HasCover (is_on settings.now) (rules_in searched.now) asked.now.source asked.now.target asked.now.class bit }
-    ensures all { HandOver (is_on settings.now) (rules_in searched.now) asked.now index.now.entries.now (λ n. Contains numbers.now n) result }
+    ensures all { HandOver (is_on settings.now) (rules_in searched.now) searched.now.memberships.now asked.now index.now.entries.now (λ n. Contains numbers.now n) result }
 {
     let mut mask = 0;
     let mut start = 0;
     while let Some(number) = numbers.next_from(start) {
-        mask |= by_source(searched, index, settings, asked, number_key(number));
-        if number >= SEVERAL as usize {
+        mask |= by_source(searched, index, settings, asked, aims, number_key(number));
+        if number >= BEYOND as usize {
             return mask;
         }
         start = number + 1;
@@ -122,53 +154,77 @@ fn by_source(
     index: &Index,
     settings: &Settings,
     asked: &Asked,
+    aims: &Aims,
     source: u32,
 ) -> u32
     requires sorted { IsSorted entry_cmp index.now.entries.now }
     requires starts { AreStarts index.now.entries.now index.now.starts.now }
     requires memberships { AreMemberships searched.now.sets.now searched.now.memberships.now }
+    requires aims { AreAims asked.now aims.now }
     ensures sound { (bit : ℕ) → IsBitSet result bit → HasCover (is_on settings.now) (rules_in searched.now) asked.now.source asked.now.target asked.now.class bit }
-    ensures all { (e : AnEntry) (bit : ℕ) → Contains index.now.entries.now e → IsOf (in_key asked.now.class) source (in_key asked.now.target) e.key → CoversAt (is_on settings.now) (rules_in searched.now) asked.now.source asked.now.target asked.now.class e.place bit → IsBitSet result bit }
+    ensures all { (e : AnEntry) (bit : ℕ) → Contains index.now.entries.now e → IsOf searched.now.memberships.now asked.now source e → CoversAt (is_on settings.now) (rules_in searched.now) asked.now.source asked.now.target asked.now.class e.place bit → IsBitSet result bit }
 {
     let part = source_part(index.entries, index.starts, source);
-    let class = number_key(asked.class);
-    let target = number_key(asked.target);
-    found(searched, part, settings, asked, key(class, source, target))
-        | found(searched, part, settings, asked, key(class, source, SEVERAL))
+    joined(searched, settings, asked, from_aim(part, aims.alone), aims.alone)
+        | joined(searched, settings, asked, from_aim(part, aims.several), aims.last)
 }
 
-/// A key of these parts.
-fn key(class: u32, source: u32, target: u32) -> Key
-    ensures { result ≡ record { class = class; source = source; target = target } }
-{
-    Key {
-        target,
-        class,
-        source,
-    }
-}
-
-/// The permissions of the rules with a key that cover what is asked.
-fn found(searched: &Searched, part: &[Entry], settings: &Settings, asked: &Asked, key: Key) -> u32
-    requires sorted { IsSorted entry_cmp part.now }
+/// The permissions of the rules of some entries, up to the last of an aim, that cover what is asked.
+fn joined(
+    searched: &Searched,
+    settings: &Settings,
+    asked: &Asked,
+    entries: &[Entry],
+    last: u64,
+) -> u32
+    requires rising { IsNonDecreasingBy (λ e. e.aim) entries.now }
     requires memberships { AreMemberships searched.now.sets.now searched.now.memberships.now }
     ensures sound { (bit : ℕ) → IsBitSet result bit → HasCover (is_on settings.now) (rules_in searched.now) asked.now.source asked.now.target asked.now.class bit }
-    ensures all { (e : AnEntry) (bit : ℕ) → Contains part.now e → e.key ≡ key → CoversAt (is_on settings.now) (rules_in searched.now) asked.now.source asked.now.target asked.now.class e.place bit → IsBitSet result bit }
-{
-    joined(searched, settings, asked, with_key(part, &key))
-}
-
-/// The permissions of the rules of some entries that cover what is asked.
-fn joined(searched: &Searched, settings: &Settings, asked: &Asked, entries: &[Entry]) -> u32
-    requires memberships { AreMemberships searched.now.sets.now searched.now.memberships.now }
-    ensures sound { (bit : ℕ) → IsBitSet result bit → HasCover (is_on settings.now) (rules_in searched.now) asked.now.source asked.now.target asked.now.class bit }
-    ensures all { (e : AnEntry) (bit : ℕ) → Contains entries.now e → CoversAt (is_on settings.now) (rules_in searched.now) asked.now.source asked.now.target asked.now.class e.place bit → IsBitSet result bit }
+    ensures all { (e : AnEntry) (bit : ℕ) → Contains entries.now e → e.aim ≤ last → IsAimed searched.now.memberships.now asked.now e.aim → CoversAt (is_on settings.now) (rules_in searched.now) asked.now.source asked.now.target asked.now.class e.place bit → IsBitSet result bit }
 {
     let mut mask = 0;
     for entry in entries {
-        mask |= mask_at(searched, settings, asked, entry.place as usize);
+        if entry.aim > last {
+            return mask;
+        }
+        mask |= mask_of(searched, settings, asked, entry);
     }
     mask
+}
+
+/// The permissions of the rule of an entry, where it is on what is asked. The rule is read only where its target may have the type.
+fn mask_of(searched: &Searched, settings: &Settings, asked: &Asked, entry: &Entry) -> u32
+    requires memberships { AreMemberships searched.now.sets.now searched.now.memberships.now }
+    ensures sound { (bit : ℕ) → IsBitSet result bit → CoversAt (is_on settings.now) (rules_in searched.now) asked.now.source asked.now.target asked.now.class entry.now.place bit }
+    ensures all { IsAimed searched.now.memberships.now asked.now entry.now.aim → (bit : ℕ) → CoversAt (is_on settings.now) (rules_in searched.now) asked.now.source asked.now.target asked.now.class entry.now.place bit → IsBitSet result bit }
+{
+    if !may_reach(searched.memberships, asked, (entry.aim % (1 << 32)) as u32) {
+        return 0;
+    }
+    mask_at(searched, settings, asked, entry.place as usize)
+}
+
+/// Whether a target that stands so in an entry may have the type.
+fn may_reach(memberships: &Memberships, asked: &Asked, target: u32) -> bool
+    ensures { MayReach memberships.now asked.now target → IsTrue result }
+{
+    if target < SEVERAL || target == BEYOND {
+        return true;
+    }
+    if target == ITSELF {
+        return asked.source == asked.target;
+    }
+    may_have(memberships, asked.target, (target - SEVERAL) as usize)
+}
+
+/// Whether a set is noted for a type, or asked for every type.
+fn may_have(memberships: &Memberships, number: usize, set: usize) -> bool
+    ensures { IsKnownFor memberships.now number set → IsTrue result }
+{
+    if set >= memberships.first_large {
+        return true;
+    }
+    memberships.has(number, set)
 }
 
 /// The permissions of the rule at a place, where it is on what is asked.
