@@ -1,10 +1,11 @@
 -- The masks of some entries, and by which of them all rules on a class and a pair of types are found.
 use Rattle.std.specs.List.Sorted.{IsNonDecreasingBy}
-use Rattle.std.specs.Prelude.{◌↔◌, ◌⊎◌, Bool, false, Contains, IsBitSet, IsTrue, Some, None, bit_or, map, option_map, slice_get}
-use Rattle.std.proofs.Common.{◌≡◌, ℕ, suc, ◌+◌, ◌%◌, ◌<◌, ◌≤◌, List, [], ◌∷◌, ◌++◌, length, take, get_or, sym, ◌∙◌, ap, subst, inl, inr, refl, arith}
+use Rattle.std.specs.Prelude.{◌↔◌, ◌⊎◌, Bool, false, Contains, IsBitSet, IsTrue, Some, None, bit_and, bit_or, map, option_map, slice_get}
+use Rattle.std.proofs.Common.{◌≡◌, ℕ, suc, ◌+◌, ◌/◌, ◌%◌, ◌^◌, ◌<◌, ◌≤◌, List, [], ◌∷◌, ◌++◌, length, take, get_or, sym, ◌∙◌, ap, subst, inl, inr, refl, arith}
 use Rattle.std.proofs.lemmas.Bool.{cases_lt}
 use Rattle.std.proofs.lemmas.List.{get_or-take, get_or_default, length-take, take_all, take_more}
 use Rattle.std.proofs.lemmas.List.Elements.{Contains-append_cases}
+use Rattle.std.proofs.lemmas.Nat.{bit_set_by_shift}
 use Rattle.std.proofs.lemmas.Option.{slice_get-map}
 use Rattle.cil_base.specs.Lists.{contains_cases, contains_none}
 use Rattle.cil_base.specs.MadeLists.{from_map}
@@ -24,7 +25,7 @@ use Rattle.cil_index.specs.declared.memberships.Memberships.{Memberships}
 use Rattle.cil_index.specs.declared.record.Record.{Record}
 use Rattle.cil_index.specs.Entries.{IsIndex, aim_of, alone_key, beyond, entry_of, in_key, itself, key_of_set, set_key, several, target_key}
 use Rattle.cil_index.specs.Found.{AreAims, CoversAt, HandOver, IsAimed, IsOf, Matches, MayReach}
-use Rattle.cil_index.specs.Memberships.{AreMemberships}
+use Rattle.cil_index.specs.Memberships.{AreMemberships, IsFilter, IsKnownFor}
 use Rattle.cil_index.specs.Kept.{rule_of}
 use Rattle.cil_index.specs.Sets.{set_of}
 use Rattle.cil_index.proofs.KeyLemmas.{aimed_target, in_key_past, reach_cases}
@@ -82,7 +83,7 @@ module _ (on : ℕ → Bool) (rules : List Rule) (m : Memberships) (asked : Aske
       → CoversAt on rules asked.source asked.target asked.class e.place bit → IsBitSet mask bit
 
   -- an entry of a source that may reach the target stands at one of two places
-  pub two_runs : (part one two : List Entry) (aims : Aims) (x y : ℕ) → AreAims asked aims → ((e : Entry) → Contains part e → aims.alone ≤ e.aim → Contains one e)
+  pub two_runs : (part one two : List Entry) (aims : Aims) (x y : ℕ) → AreAims m asked aims → ((e : Entry) → Contains part e → aims.alone ≤ e.aim → Contains one e)
       → ((e : Entry) → Contains part e → aims.several ≤ e.aim → Contains two e) → Hands one aims.alone x → Hands two aims.last y
       → (e : Entry) (bit : ℕ) → Contains part e → IsAimed m asked e.aim → CoversAt on rules asked.source asked.target asked.class e.place bit → IsBitSet (bit_or x y) bit
   two_runs part one two aims x y are in_one in_two has_x has_y e bit has aimed covers =
@@ -289,3 +290,8 @@ held_as_noted sets m set t answer are several_types small tells = (
 -- an entry whose target cannot have the type is not of the class, or does not reach it
 pub never_aimed : (m : Memberships) (asked : Asked) (aim : ℕ) (answer : Bool) → (MayReach m asked (aim % 4294967296) → IsTrue answer) → answer ≡ false → IsAimed m asked aim → ⊥
 never_aimed m asked aim answer tells not_ aimed = let yes_ = tells (aimed_target m asked aim aimed) in absurd cc
+
+-- a set whose bit is not there is not noted for the type, so it is not known for it unless it is large
+pub not_known : (m : Memberships) (t set bits : ℕ) → IsFilter (get_or m.lists.items t []) bits → set < m.first_large → bit_and (bits / 2 ^ (set % 64)) 1 ≡ 0 → IsKnownFor m t set → ⊥
+not_known m t set bits filter small none (inl past) = omega (arith, past, small)
+not_known m t set bits filter small none (inr member) = let one = (bit_set_by_shift bits (set % 64)).1 (filter set member) in omega (arith, one, none)

@@ -1,5 +1,5 @@
 -- What the rule at a place covers, and by which entries the rules that cover something are found.
-use Rattle.std.specs.Prelude.{◌≡◌, ◌⊎◌, ℕ, Bool, true, List, Contains, IsBitSet, Some, slice_get}
+use Rattle.std.specs.Prelude.{◌≡◌, ◌⊎◌, ℕ, Bool, true, List, [], Contains, IsBitSet, Some, get_or, slice_get}
 use Rattle.cil_conditions.specs.Active.{is_active}
 use Rattle.cil_rules.specs.Rule.{Rule}
 use Rattle.cil_rules.specs.Covers.{Covers, Reaches}
@@ -8,7 +8,7 @@ use Rattle.cil_index.specs.declared.cover.Asked.{Asked}
 use Rattle.cil_index.specs.declared.key.Entry.{Entry}
 use Rattle.cil_index.specs.declared.memberships.Memberships.{Memberships}
 use Rattle.cil_index.specs.Entries.{aim_of, alone_key, beyond, in_key, itself, set_key, several}
-use Rattle.cil_index.specs.Memberships.{IsKnownFor}
+use Rattle.cil_index.specs.Memberships.{IsFilter, IsKnownFor}
 
 -- the rule at the place covers the permission
 pub record CoversAt (on : ℕ → Bool) (rules : List Rule) (source target class_ place bit : ℕ) : Type 0 where
@@ -42,8 +42,9 @@ HandOver on rules m asked entries among mask =
     (n : ℕ) → among n → (e : Entry) (bit : ℕ) → Contains entries e → IsOf m asked (in_key n) e
     → CoversAt on rules asked.source asked.target asked.class e.place bit → IsBitSet mask bit
 
--- where the entries stand that are searched for
-pub record AreAims (asked : Asked) (aims : Aims) : Type 0 where
+-- where the entries stand that are searched for, and a test of the sets that may have the target
+pub record AreAims (m : Memberships) (asked : Asked) (aims : Aims) : Type 0 where
   pub alone_is : aims.alone ≡ aim_of (in_key asked.class) (alone_key asked.target)
   pub several_is : aims.several ≡ aim_of (in_key asked.class) several
   pub last_is : aims.last ≡ aim_of (in_key asked.class) beyond
+  pub filtered : IsFilter (get_or m.lists.items asked.target []) aims.filter

@@ -6,7 +6,7 @@ ghost use Rattle.cil_rules.specs.Covers.{HasCover, Reaches};
 ghost use Rattle.cil_rules.specs.Rule.{Rule as ARule};
 ghost use Rattle.cil_index.specs.declared.key.Entry.{Entry as AnEntry};
 ghost use Rattle.cil_index.specs.Entries.{AreStarts, IsIndex, entry_cmp};
-ghost use Rattle.cil_index.specs.Memberships.{AreMemberships, IsKnownFor};
+ghost use Rattle.cil_index.specs.Memberships.{AreFilters, AreMemberships, IsFilter, IsKnownFor};
 ghost use Rattle.cil_conditions.specs.Active.{is_active};
 ghost use Rattle.cil_conditions.specs.Bits.{is_on};
 ghost use Rattle.cil_rules.specs.Kept.{branch_named, target_named};
@@ -42,12 +42,13 @@ pub struct Asked {
 }
 
 /// Where the entries stand, among those of a set of sources, that are searched for: those of the class with the target alone, and from the
-/// first to the last those with a target that is not one type.
+/// first to the last those with a target that is not one type. And a bit for each set that has the target, by what 64 leaves of its number.
 #[derive(Clone, Copy)]
 pub struct Aims {
     pub alone: u64,
     pub several: u64,
     pub last: u64,
+    pub filter: u64,
 }
 
 /// Entries of rules, in their order, and where those of each set of sources begin.
@@ -65,21 +66,23 @@ pub fn covered(searched: &Searched, index: &Index, settings: &Settings, asked: &
     requires memberships { AreMemberships searched.now.sets.now searched.now.memberships.now }
     ensures { (bit : ℕ) → IsBitSet result bit ↔ HasCover (is_on settings.now) (rules_in searched.now) asked.now.source asked.now.target asked.now.class bit }
 {
-    let aims = aims_of(asked);
+    let aims = aims_of(searched.memberships, asked);
     by_source(searched, index, settings, asked, &aims, next_key(asked.source))
         | by_large(searched, index, settings, asked, &aims)
         | by_own(searched, index, settings, asked, &aims)
 }
 
 /// Where the entries stand that are searched for.
-fn aims_of(asked: &Asked) -> Aims
-    ensures { AreAims asked.now result }
+fn aims_of(memberships: &Memberships, asked: &Asked) -> Aims
+    requires { AreFilters memberships.now.lists.items memberships.now.filters.items }
+    ensures { AreAims memberships.now asked.now result }
 {
     let class = number_key(asked.class);
     Aims {
         alone: aim(class, type_key(asked.target)),
         several: aim(class, SEVERAL),
         last: aim(class, BEYOND),
+        filter: memberships.filter(asked.target),
     }
 }
 
@@ -94,7 +97,7 @@ fn by_large(
     requires sorted { IsSorted entry_cmp index.now.entries.now }
     requires starts { AreStarts index.now.entries.now index.now.starts.now }
     requires memberships { AreMemberships searched.now.sets.now searched.now.memberships.now }
-    requires aims { AreAims asked.now aims.now }
+    requires aims { AreAims searched.now.memberships.now asked.now aims.now }
     ensures sound { (bit : ℕ) → IsBitSet result bit → HasCover (is_on settings.now) (rules_in searched.now) asked.now.source asked.now.target asked.now.class bit }
     ensures all { HandOver (is_on settings.now) (rules_in searched.now) searched.now.memberships.now asked.now index.now.entries.now (λ n. (searched.now.memberships.now.first_large ≤ n) × (n < length searched.now.sets.now)) result }
 {
@@ -110,7 +113,7 @@ fn by_own(searched: &Searched, index: &Index, settings: &Settings, asked: &Asked
     requires sorted { IsSorted entry_cmp index.now.entries.now }
     requires starts { AreStarts index.now.entries.now index.now.starts.now }
     requires memberships { AreMemberships searched.now.sets.now searched.now.memberships.now }
-    requires aims { AreAims asked.now aims.now }
+    requires aims { AreAims searched.now.memberships.now asked.now aims.now }
     ensures sound { (bit : ℕ) → IsBitSet result bit → HasCover (is_on settings.now) (rules_in searched.now) asked.now.source asked.now.target asked.now.class bit }
     ensures all { HandOver (is_on settings.now) (rules_in searched.now) searched.now.memberships.now asked.now index.now.entries.now (λ n. Contains (get_or searched.now.memberships.now.lists.items asked.now.source []) n) result }
 {
@@ -132,7 +135,7 @@ fn by_sources(
     requires sorted { IsSorted entry_cmp index.now.entries.now }
     requires starts { AreStarts index.now.entries.now index.now.starts.now }
     requires memberships { AreMemberships searched.now.sets.now searched.now.memberships.now }
-    requires aims { AreAims asked.now aims.now }
+    requires aims { AreAims searched.now.memberships.now asked.now aims.now }
     ensures sound { (bit : ℕ) → IsBitSet result bit → HasCover (is_on settings.now) (rules_in searched.now) asked.now.source asked.now.target asked.now.class bit }
     ensures all { HandOver (is_on settings.now) (rules_in searched.now) searched.now.memberships.now asked.now index.now.entries.now (λ n. Contains numbers.now n) result }
 {
@@ -160,13 +163,13 @@ fn by_source(
     requires sorted { IsSorted entry_cmp index.now.entries.now }
     requires starts { AreStarts index.now.entries.now index.now.starts.now }
     requires memberships { AreMemberships searched.now.sets.now searched.now.memberships.now }
-    requires aims { AreAims asked.now aims.now }
+    requires aims { AreAims searched.now.memberships.now asked.now aims.now }
     ensures sound { (bit : ℕ) → IsBitSet result bit → HasCover (is_on settings.now) (rules_in searched.now) asked.now.source asked.now.target asked.now.class bit }
     ensures all { (e : AnEntry) (bit : ℕ) → Contains index.now.entries.now e → IsOf searched.now.memberships.now asked.now source e → CoversAt (is_on settings.now) (rules_in searched.now) asked.now.source asked.now.target asked.now.class e.place bit → IsBitSet result bit }
 {
     let part = source_part(index.entries, index.starts, source);
-    joined(searched, settings, asked, from_aim(part, aims.alone), aims.alone)
-        | joined(searched, settings, asked, from_aim(part, aims.several), aims.last)
+    joined(searched, settings, asked, aims, from_aim(part, aims.alone), aims.alone)
+        | joined(searched, settings, asked, aims, from_aim(part, aims.several), aims.last)
 }
 
 /// The permissions of the rules of some entries, up to the last of an aim, that cover what is asked.
@@ -174,11 +177,13 @@ fn joined(
     searched: &Searched,
     settings: &Settings,
     asked: &Asked,
+    aims: &Aims,
     entries: &[Entry],
     last: u64,
 ) -> u32
     requires rising { IsNonDecreasingBy (λ e. e.aim) entries.now }
     requires memberships { AreMemberships searched.now.sets.now searched.now.memberships.now }
+    requires aims { AreAims searched.now.memberships.now asked.now aims.now }
     ensures sound { (bit : ℕ) → IsBitSet result bit → HasCover (is_on settings.now) (rules_in searched.now) asked.now.source asked.now.target asked.now.class bit }
     ensures all { (e : AnEntry) (bit : ℕ) → Contains entries.now e → e.aim ≤ last → IsAimed searched.now.memberships.now asked.now e.aim → CoversAt (is_on settings.now) (rules_in searched.now) asked.now.source asked.now.target asked.now.class e.place bit → IsBitSet result bit }
 {
@@ -187,25 +192,34 @@ fn joined(
         if entry.aim > last {
             return mask;
         }
-        mask |= mask_of(searched, settings, asked, entry);
+        mask |= mask_of(searched, settings, asked, aims, entry);
     }
     mask
 }
 
 /// The permissions of the rule of an entry, where it is on what is asked. The rule is read only where its target may have the type.
-fn mask_of(searched: &Searched, settings: &Settings, asked: &Asked, entry: &Entry) -> u32
+fn mask_of(
+    searched: &Searched,
+    settings: &Settings,
+    asked: &Asked,
+    aims: &Aims,
+    entry: &Entry,
+) -> u32
     requires memberships { AreMemberships searched.now.sets.now searched.now.memberships.now }
+    requires aims { AreAims searched.now.memberships.now asked.now aims.now }
     ensures sound { (bit : ℕ) → IsBitSet result bit → CoversAt (is_on settings.now) (rules_in searched.now) asked.now.source asked.now.target asked.now.class entry.now.place bit }
     ensures all { IsAimed searched.now.memberships.now asked.now entry.now.aim → (bit : ℕ) → CoversAt (is_on settings.now) (rules_in searched.now) asked.now.source asked.now.target asked.now.class entry.now.place bit → IsBitSet result bit }
 {
-    if !may_reach(searched.memberships, asked, (entry.aim % (1 << 32)) as u32) {
+    let target = (entry.aim % (1 << 32)) as u32;
+    if !may_reach(searched.memberships, asked, aims.filter, target) {
         return 0;
     }
     mask_at(searched, settings, asked, entry.place as usize)
 }
 
 /// Whether a target that stands so in an entry may have the type.
-fn may_reach(memberships: &Memberships, asked: &Asked, target: u32) -> bool
+fn may_reach(memberships: &Memberships, asked: &Asked, filter: u64, target: u32) -> bool
+    requires { IsFilter (get_or memberships.now.lists.items asked.now.target []) filter }
     ensures { MayReach memberships.now asked.now target → IsTrue result }
 {
     if target < SEVERAL || target == BEYOND {
@@ -214,15 +228,19 @@ fn may_reach(memberships: &Memberships, asked: &Asked, target: u32) -> bool
     if target == ITSELF {
         return asked.source == asked.target;
     }
-    may_have(memberships, asked.target, (target - SEVERAL) as usize)
+    may_have(memberships, asked.target, filter, (target - SEVERAL) as usize)
 }
 
 /// Whether a set is noted for a type, or asked for every type.
-fn may_have(memberships: &Memberships, number: usize, set: usize) -> bool
+fn may_have(memberships: &Memberships, number: usize, filter: u64, set: usize) -> bool
+    requires { IsFilter (get_or memberships.now.lists.items number []) filter }
     ensures { IsKnownFor memberships.now number set → IsTrue result }
 {
     if set >= memberships.first_large {
         return true;
+    }
+    if (filter >> (set % 64)) & 1 == 0 {
+        return false;
     }
     memberships.has(number, set)
 }
