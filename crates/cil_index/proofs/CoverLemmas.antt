@@ -1,6 +1,6 @@
 -- The masks of some entries, and by which of them all rules on a class and a pair of types are found.
 use Rattle.std.specs.List.Sorted.{IsNonDecreasingBy}
-use Rattle.std.specs.Prelude.{◌↔◌, ◌⊎◌, Bool, false, Contains, IsBitSet, IsTrue, Some, None, bit_and, bit_or, map, option_map, slice_get}
+use Rattle.std.specs.Prelude.{◌↔◌, ◌⊎◌, Bool, true, false, Contains, IfSome, IsBitSet, IsTrue, Option, Some, None, bit_and, bit_or, map, option_map, slice_get}
 use Rattle.std.proofs.Common.{◌≡◌, ℕ, suc, ◌+◌, ◌/◌, ◌%◌, ◌^◌, ◌<◌, ◌≤◌, List, [], ◌∷◌, ◌++◌, length, take, get_or, sym, ◌∙◌, ap, subst, inl, inr, refl, arith}
 use Rattle.std.proofs.lemmas.Bool.{cases_lt}
 use Rattle.std.proofs.lemmas.List.{get_or-take, get_or_default, length-take, take_all, take_more}
@@ -295,3 +295,15 @@ never_aimed m asked aim answer tells not_ aimed = let yes_ = tells (aimed_target
 pub not_known : (m : Memberships) (t set bits : ℕ) → IsFilter (get_or m.lists.items t []) bits → set < m.first_large → bit_and (bits / 2 ^ (set % 64)) 1 ≡ 0 → IsKnownFor m t set → ⊥
 not_known m t set bits filter small none (inl past) = omega (arith, past, small)
 not_known m t set bits filter small none (inr member) = let one = (bit_set_by_shift bits (set % 64)).1 (filter set member) in omega (arith, one, none)
+
+-- ---- a set that is known to have the source
+
+pub known_as : (o : Option ℕ) (number : ℕ) (P : ℕ → Type 0) → IfSome o (λ k. k ≡ number) → P number → IfSome o P
+known_as (Some k) number P same p = subst P (sym same) p
+known_as None number P same p = tt
+
+pub known_has : (o : Option ℕ) (set : ℕ) (P : ℕ → Type 0) → o ≡ Some set → IfSome o P → P set
+known_has o set P is p = subst (λ (z : Option ℕ). IfSome z P) is p
+
+pub yes_both : (P : Type 0) → P → IsTrue true ↔ P
+yes_both P p = (λ t. p, λ q. refl)

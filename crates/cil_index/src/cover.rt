@@ -1,6 +1,6 @@
 //! What rules cover, by the index.
 
-ghost use Rattle.std.specs.Prelude.{◌≡◌, ◌≤◌, ◌<◌, ◌↔◌, ℕ, [], get_or, length, IsBitSet, IsTrue, Contains, Some};
+ghost use Rattle.std.specs.Prelude.{◌≡◌, ◌≤◌, ◌<◌, ◌↔◌, ℕ, [], get_or, length, IfSome, IsBitSet, IsTrue, Contains, Some};
 ghost use Rattle.std.specs.List.Sorted.{IsNonDecreasingBy, IsSorted};
 ghost use Rattle.cil_rules.specs.Covers.{HasCover, Reaches};
 ghost use Rattle.cil_rules.specs.Rule.{Rule as ARule};
@@ -67,7 +67,7 @@ pub fn covered(searched: &Searched, index: &Index, settings: &Settings, asked: &
     ensures { (bit : ℕ) → IsBitSet result bit ↔ HasCover (is_on settings.now) (rules_in searched.now) asked.now.source asked.now.target asked.now.class bit }
 {
     let aims = aims_of(searched.memberships, asked);
-    by_source(searched, index, settings, asked, &aims, next_key(asked.source))
+    by_source(searched, index, settings, asked, &aims, next_key(asked.source), None)
         | by_large(searched, index, settings, asked, &aims)
         | by_own(searched, index, settings, asked, &aims)
 }
@@ -103,7 +103,7 @@ fn by_large(
 {
     let mut mask = 0;
     for number in searched.memberships.first_large..searched.sets.count() {
-        mask |= by_source(searched, index, settings, asked, aims, number_key(number));
+        mask |= by_source(searched, index, settings, asked, aims, number_key(number), None);
     }
     mask
 }
@@ -123,7 +123,7 @@ fn by_own(searched: &Searched, index: &Index, settings: &Settings, asked: &Asked
     }
 }
 
-/// The permissions of the rules whose sources are one of these sets, and that cover what is asked.
+/// The permissions of the rules whose sources are one of these sets, which have the source, and that cover what is asked.
 fn by_sources(
     searched: &Searched,
     index: &Index,
@@ -132,6 +132,7 @@ fn by_sources(
     aims: &Aims,
     numbers: &Numbers,
 ) -> u32
+    requires has { (n : ℕ) → Contains numbers.now n → Contains (set_of searched.now.sets.now n) asked.now.source }
     requires sorted { IsSorted entry_cmp index.now.entries.now }
     requires starts { AreStarts index.now.entries.now index.now.starts.now }
     requires memberships { AreMemberships searched.now.sets.now searched.now.memberships.now }
@@ -142,7 +143,8 @@ fn by_sources(
     let mut mask = 0;
     let mut start = 0;
     while let Some(number) = numbers.next_from(start) {
-        mask |= by_source(searched, index, settings, asked, aims, number_key(number));
+        let known = known_number(number);
+        mask |= by_source(searched, index, settings, asked, aims, number_key(number), known);
         if number >= BEYOND as usize {
             return mask;
         }
@@ -151,7 +153,19 @@ fn by_sources(
     mask
 }
 
+/// A number in four bytes, where it has room.
+fn known_number(number: usize) -> Option<u32>
+    ensures { IfSome result (λ k. k ≡ number) }
+{
+    if number < BEYOND as usize {
+        Some(number as u32)
+    } else {
+        None
+    }
+}
+
 /// The permissions of the rules with the class and a source that cover what is asked: those that reach the target alone, or several types.
+/// The set of a number that is handed on is known to have the source.
 fn by_source(
     searched: &Searched,
     index: &Index,
@@ -159,7 +173,9 @@ fn by_source(
     asked: &Asked,
     aims: &Aims,
     source: u32,
+    known: Option<u32>,
 ) -> u32
+    requires known { IfSome known (λ k. Contains (set_of searched.now.sets.now k) asked.now.source) }
     requires sorted { IsSorted entry_cmp index.now.entries.now }
     requires starts { AreStarts index.now.entries.now index.now.starts.now }
     requires memberships { AreMemberships searched.now.sets.now searched.now.memberships.now }
@@ -168,8 +184,8 @@ fn by_source(
     ensures all { (e : AnEntry) (bit : ℕ) → Contains index.now.entries.now e → IsOf searched.now.memberships.now asked.now source e → CoversAt (is_on settings.now) (rules_in searched.now) asked.now.source asked.now.target asked.now.class e.place bit → IsBitSet result bit }
 {
     let part = source_part(index.entries, index.starts, source);
-    joined(searched, settings, asked, aims, from_aim(part, aims.alone), aims.alone)
-        | joined(searched, settings, asked, aims, from_aim(part, aims.several), aims.last)
+    joined(searched, settings, asked, aims, known, from_aim(part, aims.alone), aims.alone)
+        | joined(searched, settings, asked, aims, known, from_aim(part, aims.several), aims.last)
 }
 
 /// The permissions of the rules of some entries, up to the last of an aim, that cover what is asked.
@@ -178,9 +194,11 @@ fn joined(
     settings: &Settings,
     asked: &Asked,
     aims: &Aims,
+    known: Option<u32>,
     entries: &[Entry],
     last: u64,
 ) -> u32
+    requires known { IfSome known (λ k. Contains (set_of searched.now.sets.now k) asked.now.source) }
     requires rising { IsNonDecreasingBy (λ e. e.aim) entries.now }
     requires memberships { AreMemberships searched.now.sets.now searched.now.memberships.now }
     requires aims { AreAims searched.now.memberships.now asked.now aims.now }
@@ -192,7 +210,7 @@ fn joined(
         if entry.aim > last {
             return mask;
         }
-        mask |= mask_of(searched, settings, asked, aims, entry);
+        mask |= mask_of(searched, settings, asked, aims, known, entry);
     }
     mask
 }
@@ -203,8 +221,10 @@ fn mask_of(
     settings: &Settings,
     asked: &Asked,
     aims: &Aims,
+    known: Option<u32>,
     entry: &Entry,
 ) -> u32
+    requires known { IfSome known (λ k. Contains (set_of searched.now.sets.now k) asked.now.source) }
     requires memberships { AreMemberships searched.now.sets.now searched.now.memberships.now }
     requires aims { AreAims searched.now.memberships.now asked.now aims.now }
     ensures sound { (bit : ℕ) → IsBitSet result bit → CoversAt (is_on settings.now) (rules_in searched.now) asked.now.source asked.now.target asked.now.class entry.now.place bit }
@@ -214,7 +234,7 @@ fn mask_of(
     if !may_reach(searched.memberships, asked, aims.filter, target) {
         return 0;
     }
-    mask_at(searched, settings, asked, entry.place as usize)
+    mask_known(searched, settings, asked, known, entry.place as usize)
 }
 
 /// Whether a target that stands so in an entry may have the type.
@@ -250,10 +270,25 @@ pub fn mask_at(searched: &Searched, settings: &Settings, asked: &Asked, place: u
     requires memberships { AreMemberships searched.now.sets.now searched.now.memberships.now }
     ensures { (bit : ℕ) → IsBitSet result bit ↔ CoversAt (is_on settings.now) (rules_in searched.now) asked.now.source asked.now.target asked.now.class place bit }
 {
+    mask_known(searched, settings, asked, None, place)
+}
+
+/// The permissions of the rule at a place, where it is on what is asked, and the set of a number is known to have the source.
+fn mask_known(
+    searched: &Searched,
+    settings: &Settings,
+    asked: &Asked,
+    known: Option<u32>,
+    place: usize,
+) -> u32
+    requires memberships { AreMemberships searched.now.sets.now searched.now.memberships.now }
+    requires known { IfSome known (λ k. Contains (set_of searched.now.sets.now k) asked.now.source) }
+    ensures { (bit : ℕ) → IsBitSet result bit ↔ CoversAt (is_on settings.now) (rules_in searched.now) asked.now.source asked.now.target asked.now.class place bit }
+{
     let Some(kept) = searched.records.get(place) else {
         return 0;
     };
-    if matches(searched, settings, asked, kept) {
+    if matches(searched, settings, asked, known, kept) {
         kept.mask
     } else {
         0
@@ -261,13 +296,20 @@ pub fn mask_at(searched: &Searched, settings: &Settings, asked: &Asked, place: u
 }
 
 /// Whether a rule counts, and is on what is asked. Its condition is asked last.
-fn matches(searched: &Searched, settings: &Settings, asked: &Asked, kept: &Record) -> bool
+fn matches(
+    searched: &Searched,
+    settings: &Settings,
+    asked: &Asked,
+    known: Option<u32>,
+    kept: &Record,
+) -> bool
     requires memberships { AreMemberships searched.now.sets.now searched.now.memberships.now }
+    requires known { IfSome known (λ k. Contains (set_of searched.now.sets.now k) asked.now.source) }
     ensures { IsTrue result ↔ Matches (is_on settings.now) (rule_of searched.now.branches.now searched.now.sets.now kept.now) asked.now.source asked.now.target asked.now.class }
 {
     kept.class as usize == asked.class
         && reaches(searched, kept.target, asked)
-        && holds(searched, kept.source, asked.source)
+        && has_source(searched, asked, known, kept.source)
         && is_active(searched.branches, settings, kept.branch)
 }
 
@@ -292,6 +334,28 @@ fn reaches(searched: &Searched, target: Reach, asked: &Asked) -> bool
     match target {
         Reach::Itself => asked.source == asked.target,
         Reach::Types(set) => holds(searched, set, asked.target),
+    }
+}
+
+/// Whether a set has the source, where the set of a number is known to have it.
+fn has_source(searched: &Searched, asked: &Asked, known: Option<u32>, set: u32) -> bool
+    requires memberships { AreMemberships searched.now.sets.now searched.now.memberships.now }
+    requires known { IfSome known (λ k. Contains (set_of searched.now.sets.now k) asked.now.source) }
+    ensures { IsTrue result ↔ Contains (set_of searched.now.sets.now set) asked.now.source }
+{
+    if is_known(known, set) {
+        return true;
+    }
+    holds(searched, set, asked.source)
+}
+
+/// Whether this is the number.
+fn is_known(known: Option<u32>, set: u32) -> bool
+    ensures { IsTrue result → known ≡ Some set }
+{
+    match known {
+        Some(number) => number == set,
+        None => false,
     }
 }
 

@@ -1,7 +1,14 @@
 use Rattle.cil_conditions.specs.Bits.{is_on}
 use Rattle.cil_index.specs.Searched.{rules_in}
-use Rattle.cil_index.proofs.CoverLemmas.{all_sources, either_sound, joined_source, last_source, none_joined}
+use Rattle.std.specs.Prelude.{ℕ, Contains}
+use Rattle.cil_index.specs.Sets.{set_of}
+use Rattle.cil_index.proofs.CoverLemmas.{all_sources, either_sound, joined_source, known_as, last_source, none_joined}
 use Rattle.cil_index.proofs.cover.by_sources.Goals as goal
+
+pub by_source-mask-requires-clause-known : goal.by_source-mask-requires-clause-known
+by_source-mask-requires-clause-known c =
+    known_as c.known_number-known.result c.in-Some.number (λ (k : ℕ). Contains (set_of c.args.searched.now.sets.now k) c.args.asked.now.source) c.known_number-known.ensures
+    (c.requires.has c.in-Some.number c.in-Some.ensures.member)
 
 pub loop-number-init : goal.loop-number-init
 loop-number-init c = none_joined (is_on c.args.settings.now) (rules_in c.args.searched.now) c.args.searched.now.memberships.now c.args.asked.now c.args.index.now.entries.now c.args.numbers.now
