@@ -23,7 +23,7 @@ use Rattle.cil_index.specs.declared.cover.Asked.{Asked}
 use Rattle.cil_index.specs.declared.key.Entry.{Entry}
 use Rattle.cil_index.specs.declared.memberships.Memberships.{Memberships}
 use Rattle.cil_index.specs.declared.record.Record.{Record}
-use Rattle.cil_index.specs.Entries.{IsIndex, aim_of, alone_key, beyond, entry_of, in_key, itself, key_of_set, set_key, several, target_key}
+use Rattle.cil_index.specs.Entries.{IsIndex, aim_of, alone_key, beyond, entry_of, in_key, itself, key_of_set, set_key, target_key}
 use Rattle.cil_index.specs.Found.{AreAims, CoversAt, HandOver, IsAimed, IsOf, Matches, MayReach}
 use Rattle.cil_index.specs.Memberships.{AreMemberships, IsFilter, IsKnownFor}
 use Rattle.cil_index.specs.Kept.{rule_of}

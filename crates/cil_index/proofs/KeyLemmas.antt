@@ -1,5 +1,5 @@
 -- What stands in entries, and entries by their sources and their aims.
-use Rattle.std.specs.Prelude.{◌⊎◌, ◌*◌, ◌%◌, Contains, cond, nat_lt}
+use Rattle.std.specs.Prelude.{◌⊎◌, ◌%◌, Contains, cond, nat_lt}
 use Rattle.std.specs.List.Sorted.{IsNonDecreasingBy, IsPartitionPoint, IsSorted}
 use Rattle.std.specs.Ordering.{is_lt, ordering_then}
 use Rattle.std.proofs.lemmas.List.{get_or-take, get_or-drop, length-take, length-drop}

@@ -1,5 +1,5 @@
 -- Which sets hold a type, one set after another.
-use Rattle.std.specs.Int.{bit_at, w64}
+use Rattle.std.specs.Int.{w64}
 use Rattle.std.specs.Prelude.{◌↔◌, ◌⊎◌, Contains, IsBitSet, bit_or}
 use Rattle.std.proofs.Common.{◌≡◌, ℕ, zero, suc, ◌+◌, ◌-◌, ◌*◌, ◌%◌, ◌^◌, ◌<◌, ◌≤◌, List, [], ◌∷◌, ◌++◌, length, take, get_or, sym, ◌∙◌, ap, subst, inl, inr, refl, arith}
 use Rattle.std.proofs.Math.ListN.{get_or-append, get_or-eq_default, set}

@@ -1,5 +1,5 @@
 use Rattle.std.proofs.Common.{subst, sym, ap, ◌∙◌, [], get_or}
-use Rattle.cil_index.specs.Entries.{aim_of, alone_key, several, beyond}
+use Rattle.cil_index.specs.Entries.{aim_of, several, beyond}
 use Rattle.cil_index.specs.Memberships.{IsFilter}
 use Rattle.cil_index.proofs.cover.aims_of.Goals as goal
 
