@@ -28,7 +28,7 @@ use Rattle.cil_index.specs.Found.{AreAims, CoversAt, HandOver, IsAimed, IsOf, Ma
 use Rattle.cil_index.specs.Memberships.{AreMemberships, IsFilter, IsKnownFor}
 use Rattle.cil_index.specs.Kept.{rule_of}
 use Rattle.cil_index.specs.Sets.{set_of}
-use Rattle.cil_index.proofs.KeyLemmas.{aimed_target, in_key_past, reach_cases}
+use Rattle.cil_index.proofs.KeyLemmas.{aimed_target, alone_below, in_key_past, reach_cases}
 use Rattle.cil_index.proofs.SetLemmas.{set_within}
 
 module _ (on : ℕ → Bool) (rules : List Rule) (m : Memberships) (asked : Asked) where
@@ -84,7 +84,7 @@ module _ (on : ℕ → Bool) (rules : List Rule) (m : Memberships) (asked : Aske
 
   -- an entry of a source that may reach the target stands at one of two places
   pub two_runs : (part one two : List Entry) (aims : Aims) (x y : ℕ) → AreAims m asked aims → ((e : Entry) → Contains part e → aims.alone ≤ e.aim → Contains one e)
-      → ((e : Entry) → Contains part e → aims.several ≤ e.aim → Contains two e) → Hands one aims.alone x → Hands two aims.last y
+      → ((e : Entry) → Contains one e → aims.several ≤ e.aim → Contains two e) → Hands one aims.alone x → Hands two aims.last y
       → (e : Entry) (bit : ℕ) → Contains part e → IsAimed m asked e.aim → CoversAt on rules asked.source asked.target asked.class e.place bit → IsBitSet (bit_or x y) bit
   two_runs part one two aims x y are in_one in_two has_x has_y e bit has aimed covers =
       let is = aimed.1 in
@@ -95,7 +95,8 @@ module _ (on : ℕ → Bool) (rules : List Rule) (m : Memberships) (asked : Aske
         | inl same ↦ let at : e.aim ≡ aims.alone = is ∙ ap (aim_of (in_key asked.class)) same ∙ sym first in
             inl (has_x e bit (in_one e has (omega (arith, at))) (omega (arith, at)) aimed covers)
         | inr w ↦ let low = w.0 in let high = w.1 in
-            inr (has_y e bit (in_two e has (omega (arith, is, second, low))) (omega (arith, is, third, high)) aimed covers)
+            let less = alone_below asked.target in
+            inr (has_y e bit (in_two e (in_one e has (omega (arith, is, first, low, less))) (omega (arith, is, second, low))) (omega (arith, is, third, high)) aimed covers)
       ])
 
 -- ---- what stands in the entry of a rule that covers

@@ -1,10 +1,10 @@
 -- What stands in entries, and entries by their sources and their aims.
-use Rattle.std.specs.Prelude.{◌⊎◌, ◌%◌, Contains, cond, nat_lt}
+use Rattle.std.specs.Prelude.{◌⊎◌, ◌%◌, Contains, IsTrue, cond, nat_lt}
 use Rattle.std.specs.List.Sorted.{IsNonDecreasingBy, IsPartitionPoint, IsSorted}
 use Rattle.std.specs.Ordering.{is_lt, ordering_then}
-use Rattle.std.proofs.lemmas.List.{get_or-take, get_or-drop, length-take, length-drop}
+use Rattle.std.proofs.lemmas.List.{get_or-take, get_or-drop, get_or_default, length-take, length-drop}
 use Rattle.std.proofs.Common.{◌≡◌, ℕ, Bool, ◌+◌, ◌-◌, ◌<◌, ◌≤◌, true, false, List, [], ◌∷◌, length, get_or, take, drop, refl, sym, ◌∙◌, ap, subst, inl, inr, arith}
-use Rattle.std.proofs.Math.Dec.{ltb}
+use Rattle.std.proofs.Math.Dec.{leb, ltb}
 use Rattle.std.proofs.lemmas.Bool.{cases_lt}
 use Rattle.std.proofs.lemmas.Bool.Decides.{nat_tests}
 use Rattle.std.proofs.lemmas.List.MinMax.{ranks_by}
@@ -15,7 +15,7 @@ use Rattle.cil_index.specs.declared.cover.Asked.{Asked}
 use Rattle.cil_index.specs.declared.key.Entry.{Entry}
 use Rattle.cil_index.specs.declared.index.Bounds.{Bounds}
 use Rattle.cil_index.specs.declared.memberships.Memberships.{Memberships}
-use Rattle.cil_index.specs.Entries.{AreBounds, AreKnown, AreStarts, BeginAt, aim_of, alone_key, beyond, entry_cmp, entry_total, in_key, itself, set_key, several}
+use Rattle.cil_index.specs.Entries.{AreBounds, AreKnown, AreStarts, BeginAt, aim_of, alone_key, beyond, entry_cmp, entry_total, in_key, itself, last_type, set_key, several}
 use Rattle.cil_index.specs.Found.{IsAimed, MayReach}
 use Rattle.cil_index.specs.Memberships.{IsKnownFor}
 
@@ -32,23 +32,23 @@ aim_parts entries a i p = (λ k d x y. ltb_true _ _ (p.0 k d x y), λ k d x y. l
 -- ---- numbers that stand for others
 
 -- a number, or what stands for one without room
-chosen : (n bound v : ℕ) (P : ℕ → Type 0) → (n < bound → P v) → (bound ≤ n → P beyond) → P (cond (nat_lt n bound) v beyond)
-chosen n bound v P yes_ no_ = cases (nat_lt n bound) refl
+chosen : (n bound v other : ℕ) (P : ℕ → Type 0) → (n < bound → P v) → (bound ≤ n → P other) → P (cond (nat_lt n bound) v other)
+chosen n bound v other P yes_ no_ = cases (nat_lt n bound) refl
   where
-    cases : (b : Bool) → nat_lt n bound ≡ b → P (cond b v beyond)
+    cases : (b : Bool) → nat_lt n bound ≡ b → P (cond b v other)
     cases true e = yes_ (ltb_true n bound e)
     cases false e = no_ (ltb_false n bound e)
 
 pub in_key_past : (n : ℕ) → beyond ≤ n → in_key n ≡ beyond
-in_key_past n ge = chosen n beyond n (λ k. k ≡ beyond) (λ less. absurd (omega (arith, ge, less))) (λ over. refl)
+in_key_past n ge = chosen n beyond n beyond (λ k. k ≡ beyond) (λ less. absurd (omega (arith, ge, less))) (λ over. refl)
 
--- what stands for one type is below all that stands for several, or is the last
-alone_is : (t : ℕ) → (alone_key t < several) ⊎ (alone_key t ≡ beyond)
-alone_is t = chosen t several t (λ k. (k < several) ⊎ (k ≡ beyond)) (λ less. inl less) (λ over. inr refl)
+-- what stands for one type is below all that stands for several
+pub alone_below : (t : ℕ) → alone_key t < several
+alone_below t = chosen t last_type t last_type (λ k. k < several) (λ less. omega (arith, less)) (λ over. omega arith)
 
 -- what stands for a set is the last, or behind the first of them by its number
 set_is : (n : ℕ) → ((several + n ≡ set_key n) × (set_key n < itself)) ⊎ (set_key n ≡ beyond)
-set_is n = chosen n 2147483646 (several + n) (λ k. ((several + n ≡ k) × (k < itself)) ⊎ (k ≡ beyond)) (λ less. inl (refl, omega (arith, less))) (λ over. inr refl)
+set_is n = chosen n 2147483646 (several + n) beyond (λ k. ((several + n ≡ k) × (k < itself)) ⊎ (k ≡ beyond)) (λ less. inl (refl, omega (arith, less))) (λ over. inr refl)
 
 module _ (m : Memberships) (asked : Asked) where
   -- a target that may have the type is the type alone, or stands among those of several
@@ -62,7 +62,7 @@ module _ (m : Memberships) (asked : Asked) where
 
   reach_small : (key : ℕ) → MayReach m asked key → key < 4294967296
   reach_small key r = elim (reach_cases key r) [
-    | inl e ↦ elim (alone_is asked.target) [ inl less ↦ omega (arith, e, less) | inr last ↦ omega (arith, e, last) ]
+    | inl e ↦ let less = alone_below asked.target in omega (arith, e, less)
     | inr w ↦ let le = w.1 in omega (arith, le)
   ]
 
@@ -75,7 +75,7 @@ module _ (m : Memberships) (asked : Asked) where
 
   -- a target that is no type, not the source and not without room is a set, and known for the type
   pub set_reached : (key : ℕ) → several ≤ key → (key ≡ beyond → ⊥) → (key ≡ itself → ⊥) → MayReach m asked key → IsKnownFor m asked.target (key - several)
-  set_reached key ge room other (inl e) = elim (alone_is asked.target) [ inl less ↦ absurd (omega (arith, e, less, ge)) | inr last ↦ absurd (room (e ∙ last)) ]
+  set_reached key ge room other (inl e) = let less = alone_below asked.target in absurd (omega (arith, e, less, ge))
   set_reached key ge room other (inr (inl e)) = absurd (other e.0)
   set_reached key ge room other (inr (inr (n, e, known))) = elim (set_is n) [
     | inl d ↦ let sum = d.0 in let same : n ≡ key - several = omega (arith, e, sum) in subst (IsKnownFor m asked.target) same known
@@ -83,7 +83,7 @@ module _ (m : Memberships) (asked : Asked) where
   ]
 
   pub itself_reached : (key : ℕ) → key ≡ itself → MayReach m asked key → asked.source ≡ asked.target
-  itself_reached key is (inl e) = elim (alone_is asked.target) [ inl less ↦ absurd (omega (arith, e, less, is)) | inr last ↦ absurd (omega (arith, e, last, is)) ]
+  itself_reached key is (inl e) = let less = alone_below asked.target in absurd (omega (arith, e, less, is))
   itself_reached key is (inr (inl e)) = e.1
   itself_reached key is (inr (inr (n, e, known))) = elim (set_is n) [
     | inl d ↦ let less = d.1 in absurd (omega (arith, e, less, is))
@@ -101,6 +101,30 @@ module _ (entries : List Entry) (a i : ℕ) (parts : IsPartitionPoint (λ e. e.a
         let size = length-drop i entries in
         subst (λ z. Contains z e) (sym is) (j, omega (arith, size, sum, within), get_or-drop i entries j e ∙ ap (λ z. get_or entries z e) sum ∙ at)
   ]
+
+-- where an entry is not below an aim, none behind it is
+pub near_parts : (entries : List Entry) (a n i : ℕ) → IsNonDecreasingBy (λ (e : Entry). e.aim) entries → n < length entries → (other : Entry) → a ≤ (get_or entries n other).aim
+    → IsPartitionPoint (λ e. e.aim < a) (λ e. a ≤ e.aim) (take n entries) i → i ≤ length (take n entries) → IsPartitionPoint (λ e. e.aim < a) (λ e. a ≤ e.aim) entries i
+near_parts entries a n i up within other past parts bound =
+    let size = length-take n entries in (
+      λ k d x less. subst (λ (z : Entry). z.aim < a) (get_or-take n entries k d (omega (arith, less, bound, size))) (parts.0 k d x less),
+      λ k d ge inside. elim (cases_lt k n) [
+        | inl before ↦ subst (λ (z : Entry). a ≤ z.aim) (get_or-take n entries k d before) (parts.1 k d ge (omega (arith, before, size, within)))
+        | inr over ↦ let rise = up n k d over inside in
+            let same : (get_or entries n d).aim ≡ (get_or entries n other).aim = ap (λ (z : Entry). z.aim) (get_or_default entries n d other within) in omega (arith, rise, same, past)
+      ],
+    )
+
+pub test_le : (a b : ℕ) → a ≤ b → IsTrue (leb a b)
+test_le a b le = grind (arith, nat_tests)
+
+-- entries of which the first is behind an aim are all behind it
+pub none_to : (entries : List Entry) (last : ℕ) (first : Entry) → IsNonDecreasingBy (λ (e : Entry). e.aim) entries → get_or entries 0 first ≡ first → (e : Entry) → Contains entries e → e.aim ≤ last
+    → first.aim ≤ last
+none_to entries last first up is e (j, within, at) le =
+    let rise = up 0 j e (omega arith) within in
+    let one : (get_or entries 0 e).aim ≡ first.aim = ap (λ (z : Entry). z.aim) (get_or_default entries 0 e first (omega (arith, within)) ∙ is) in
+    let two : (get_or entries j e).aim ≡ e.aim = ap (λ (z : Entry). z.aim) at in omega (arith, rise, one, two, le)
 
 -- ---- the entries of a source
 

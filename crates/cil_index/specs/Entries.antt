@@ -29,9 +29,13 @@ itself = 4294967294
 abbrev pub several : ℕ
 several = 2147483648
 
+-- as this one stand the types behind it too
+abbrev pub last_type : ℕ
+last_type = 2147483647
+
 -- what stands for a target that is one type alone
 abbrev pub alone_key : ℕ → ℕ
-alone_key t = cond (nat_lt t several) t beyond
+alone_key t = cond (nat_lt t last_type) t last_type
 
 -- what stands for a target that is the set of this number, of several types or none
 abbrev pub set_key : ℕ → ℕ

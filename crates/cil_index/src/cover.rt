@@ -15,7 +15,7 @@ ghost use Rattle.cil_index.specs.Found.{AreAims, CoversAt, HandOver, IsAimed, Is
 ghost use Rattle.cil_index.specs.Searched.{rules_in};
 ghost use Rattle.cil_index.specs.Sets.{set_of};
 
-use crate::index::{from_aim, source_part};
+use crate::index::{from_aim, near_aim, source_part};
 use crate::key::{BEYOND, Entry, ITSELF, SEVERAL, aim, next_key, number_key, type_key};
 use crate::memberships::Memberships;
 use crate::record::Record;
@@ -184,8 +184,44 @@ fn by_source(
     ensures all { (e : AnEntry) (bit : ℕ) → Contains index.now.entries.now e → IsOf searched.now.memberships.now asked.now source e → CoversAt (is_on settings.now) (rules_in searched.now) asked.now.source asked.now.target asked.now.class e.place bit → IsBitSet result bit }
 {
     let part = source_part(index.entries, index.starts, source);
-    joined(searched, settings, asked, aims, known, from_aim(part, aims.alone), aims.alone)
-        | joined(searched, settings, asked, aims, known, from_aim(part, aims.several), aims.last)
+    let one = from_aim(part, aims.alone);
+    let several = near_aim(one, aims.several);
+    found(searched, settings, asked, aims, known, one, aims.alone)
+        | found(searched, settings, asked, aims, known, several, aims.last)
+}
+
+/// The same as `joined`: mostly there is no entry up to the last.
+fn found(
+    searched: &Searched,
+    settings: &Settings,
+    asked: &Asked,
+    aims: &Aims,
+    known: Option<u32>,
+    entries: &[Entry],
+    last: u64,
+) -> u32
+    requires known { IfSome known (λ k. Contains (set_of searched.now.sets.now k) asked.now.source) }
+    requires rising { IsNonDecreasingBy (λ e. e.aim) entries.now }
+    requires memberships { AreMemberships searched.now.sets.now searched.now.memberships.now }
+    requires aims { AreAims searched.now.memberships.now asked.now aims.now }
+    ensures sound { (bit : ℕ) → IsBitSet result bit → HasCover (is_on settings.now) (rules_in searched.now) asked.now.source asked.now.target asked.now.class bit }
+    ensures all { (e : AnEntry) (bit : ℕ) → Contains entries.now e → e.aim ≤ last → IsAimed searched.now.memberships.now asked.now e.aim → CoversAt (is_on settings.now) (rules_in searched.now) asked.now.source asked.now.target asked.now.class e.place bit → IsBitSet result bit }
+{
+    if !is_any_to(entries, last) {
+        return 0;
+    }
+    joined(searched, settings, asked, aims, known, entries, last)
+}
+
+/// Whether some entry is not behind an aim.
+fn is_any_to(entries: &[Entry], last: u64) -> bool
+    requires { IsNonDecreasingBy (λ e. e.aim) entries.now }
+    ensures { (e : AnEntry) → Contains entries.now e → e.aim ≤ last → IsTrue result }
+{
+    match entries.first() {
+        Some(entry) => entry.aim <= last,
+        None => false,
+    }
 }
 
 /// The permissions of the rules of some entries, up to the last of an aim, that cover what is asked.

@@ -31,6 +31,31 @@ pub fn from_aim(entries: &[Entry], aim: u64) -> &[Entry]
     &entries[aim_start(entries, aim)..]
 }
 
+/// So many entries are searched first where an aim is expected near.
+const NEAR: usize = 16;
+
+/// The place of the first entry that is not below an aim, where it is expected near.
+fn near_start(entries: &[Entry], aim: u64) -> usize
+    requires { IsNonDecreasingBy (λ e. e.aim) entries.now }
+    ensures bound { result ≤ length entries.now }
+    ensures parts { IsPartitionPoint (λ e. e.aim < aim) (λ e. aim ≤ e.aim) entries.now result }
+{
+    if entries.len() <= NEAR || entries[NEAR].aim < aim {
+        return aim_start(entries, aim);
+    }
+    let near = aim_start(&entries[..NEAR], aim);
+    near
+}
+
+/// The same as `from_aim`. It costs a search among a few entries, where the aim is near.
+pub fn near_aim(entries: &[Entry], aim: u64) -> &[Entry]
+    requires { IsNonDecreasingBy (λ e. e.aim) entries.now }
+    ensures rising { IsNonDecreasingBy (λ e. e.aim) result.now }
+    ensures all { (e : AnEntry) → Contains entries.now e → aim ≤ e.aim → Contains result.now e }
+{
+    &entries[near_start(entries, aim)..]
+}
+
 /// The entries of a set of sources, in the order of their aims. It costs no search where the place of the set is known.
 pub fn source_part<'s>(entries: &'s [Entry], starts: &[u32], source: u32) -> &'s [Entry]
     requires sorted { IsSorted entry_cmp entries.now }

@@ -16,6 +16,9 @@ pub const ITSELF: u32 = u32::MAX - 1;
 /// From here on stand the targets that are not one type: a set by its number behind this one.
 pub const SEVERAL: u32 = 1 << 31;
 
+/// As this one stand the types behind it too.
+const LAST_TYPE: u32 = SEVERAL - 1;
+
 /// A rule in the index.
 #[derive(Clone, Copy, Debug)]
 pub struct Entry {
@@ -56,10 +59,10 @@ pub fn next_key(number: usize) -> u32
 pub fn type_key(number: usize) -> u32
     ensures { result ≡ alone_key number }
 {
-    if number < SEVERAL as usize {
+    if number < LAST_TYPE as usize {
         number as u32
     } else {
-        BEYOND
+        LAST_TYPE
     }
 }
 
