@@ -67,8 +67,15 @@ pub fn covered(searched: &Searched, index: &Index, settings: &Settings, asked: &
     ensures { (bit : ℕ) → IsBitSet result bit ↔ HasCover (is_on settings.now) (rules_in searched.now) asked.now.source asked.now.target asked.now.class bit }
 {
     let aims = aims_of(searched.memberships, asked);
-    by_source(searched, index, settings, asked, &aims, next_key(asked.source), None)
-        | by_large(searched, index, settings, asked, &aims)
+    by_source(
+        searched,
+        index,
+        settings,
+        asked,
+        &aims,
+        next_key(asked.source),
+        None,
+    ) | by_large(searched, index, settings, asked, &aims)
         | by_own(searched, index, settings, asked, &aims)
 }
 
@@ -103,13 +110,27 @@ fn by_large(
 {
     let mut mask = 0;
     for number in searched.memberships.first_large..searched.sets.count() {
-        mask |= by_source(searched, index, settings, asked, aims, number_key(number), None);
+        mask |= by_source(
+            searched,
+            index,
+            settings,
+            asked,
+            aims,
+            number_key(number),
+            None,
+        );
     }
     mask
 }
 
 /// The permissions of the rules whose sources are a set that is noted for the source, and that cover what is asked.
-fn by_own(searched: &Searched, index: &Index, settings: &Settings, asked: &Asked, aims: &Aims) -> u32
+fn by_own(
+    searched: &Searched,
+    index: &Index,
+    settings: &Settings,
+    asked: &Asked,
+    aims: &Aims,
+) -> u32
     requires sorted { IsSorted entry_cmp index.now.entries.now }
     requires starts { AreStarts index.now.entries.now index.now.starts.now }
     requires memberships { AreMemberships searched.now.sets.now searched.now.memberships.now }
@@ -144,7 +165,15 @@ fn by_sources(
     let mut start = 0;
     while let Some(number) = numbers.next_from(start) {
         let known = known_number(number);
-        mask |= by_source(searched, index, settings, asked, aims, number_key(number), known);
+        mask |= by_source(
+            searched,
+            index,
+            settings,
+            asked,
+            aims,
+            number_key(number),
+            known,
+        );
         if number >= BEYOND as usize {
             return mask;
         }
@@ -284,7 +313,12 @@ fn may_reach(memberships: &Memberships, asked: &Asked, filter: u64, target: u32)
     if target == ITSELF {
         return asked.source == asked.target;
     }
-    may_have(memberships, asked.target, filter, (target - SEVERAL) as usize)
+    may_have(
+        memberships,
+        asked.target,
+        filter,
+        (target - SEVERAL) as usize,
+    )
 }
 
 /// Whether a set is noted for a type, or asked for every type.

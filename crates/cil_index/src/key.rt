@@ -119,6 +119,8 @@ impl Ord for Entry {
 
     /// By source, class, target.
     fn cmp(&self, other: &Entry) -> Ordering {
-        self.source.cmp(&other.source).then(self.aim.cmp(&other.aim))
+        self.source
+            .cmp(&other.source)
+            .then(self.aim.cmp(&other.aim))
     }
 }
