@@ -215,31 +215,52 @@ fn by_source(
     let part = source_part(index.entries, index.starts, source);
     let one = from_aim(part, aims.alone);
     let several = near_aim(one, aims.several);
-    found(searched, settings, asked, aims, known, one, aims.alone)
-        | found(searched, settings, asked, aims, known, several, aims.last)
+    of_target(searched, settings, asked, aims, known, one)
+        | of_several(searched, settings, asked, aims, known, several)
 }
 
-/// The same as `joined`: mostly there is no entry up to the last.
-fn found(
+/// The permissions of the rules that reach the target alone and cover what is asked, of the entries from its aim on. Mostly there are none.
+fn of_target(
     searched: &Searched,
     settings: &Settings,
     asked: &Asked,
     aims: &Aims,
     known: Option<u32>,
     entries: &[Entry],
-    last: u64,
 ) -> u32
     requires known { IfSome known (λ k. Contains (set_of searched.now.sets.now k) asked.now.source) }
     requires rising { IsNonDecreasingBy (λ e. e.aim) entries.now }
     requires memberships { AreMemberships searched.now.sets.now searched.now.memberships.now }
     requires aims { AreAims searched.now.memberships.now asked.now aims.now }
     ensures sound { (bit : ℕ) → IsBitSet result bit → HasCover (is_on settings.now) (rules_in searched.now) asked.now.source asked.now.target asked.now.class bit }
-    ensures all { (e : AnEntry) (bit : ℕ) → Contains entries.now e → e.aim ≤ last → IsAimed searched.now.memberships.now asked.now e.aim → CoversAt (is_on settings.now) (rules_in searched.now) asked.now.source asked.now.target asked.now.class e.place bit → IsBitSet result bit }
+    ensures all { (e : AnEntry) (bit : ℕ) → Contains entries.now e → e.aim ≤ aims.now.alone → IsAimed searched.now.memberships.now asked.now e.aim → CoversAt (is_on settings.now) (rules_in searched.now) asked.now.source asked.now.target asked.now.class e.place bit → IsBitSet result bit }
 {
-    if !is_any_to(entries, last) {
+    if !is_any_to(entries, aims.alone) {
         return 0;
     }
-    joined(searched, settings, asked, aims, known, entries, last)
+    joined(searched, settings, asked, aims, known, entries, aims.alone)
+}
+
+/// The permissions of the rules that reach several types and cover what is asked, of the entries from their first aim on.
+fn of_several(
+    searched: &Searched,
+    settings: &Settings,
+    asked: &Asked,
+    aims: &Aims,
+    known: Option<u32>,
+    entries: &[Entry],
+) -> u32
+    requires known { IfSome known (λ k. Contains (set_of searched.now.sets.now k) asked.now.source) }
+    requires rising { IsNonDecreasingBy (λ e. e.aim) entries.now }
+    requires memberships { AreMemberships searched.now.sets.now searched.now.memberships.now }
+    requires aims { AreAims searched.now.memberships.now asked.now aims.now }
+    ensures sound { (bit : ℕ) → IsBitSet result bit → HasCover (is_on settings.now) (rules_in searched.now) asked.now.source asked.now.target asked.now.class bit }
+    ensures all { (e : AnEntry) (bit : ℕ) → Contains entries.now e → e.aim ≤ aims.now.last → IsAimed searched.now.memberships.now asked.now e.aim → CoversAt (is_on settings.now) (rules_in searched.now) asked.now.source asked.now.target asked.now.class e.place bit → IsBitSet result bit }
+{
+    if !is_any_to(entries, aims.last) {
+        return 0;
+    }
+    joined(searched, settings, asked, aims, known, entries, aims.last)
 }
 
 /// Whether some entry is not behind an aim.

@@ -1,5 +1,5 @@
 use Rattle.cil_classes.proofs.BitLemmas.{none_set}
-use Rattle.cil_index.proofs.cover.found.Goals as goal
+use Rattle.cil_index.proofs.cover.of_several.Goals as goal
 
 pub returns-then-not-is_any_to-clause-sound : goal.returns-then-not-is_any_to-clause-sound
 returns-then-not-is_any_to-clause-sound c = λ bit set. absurd (none_set bit set)
