@@ -52,7 +52,15 @@ pub fn members<S: Space>(
         → Answers (AreMembers known.now (items_in instances.now) sections which) (SetFault (items_in instances.now) (enabled_in known.now) which) result }
 {
     let space = S::kinds();
-    members_of(alloc, known, instances, names, &space, S::sign(), S::limit())
+    members_of(
+        alloc,
+        known,
+        instances,
+        names,
+        &space,
+        S::sign(),
+        S::limit(),
+    )
 }
 
 /// The same for a name space with these kinds, sign and limit.
