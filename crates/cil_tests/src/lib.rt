@@ -9,14 +9,6 @@ mod answers;
 #[cfg(test)]
 mod arguments;
 #[cfg(test)]
-mod asked_words;
-#[cfg(test)]
-mod bodies;
-#[cfg(test)]
-mod branches;
-#[cfg(test)]
-mod candidates;
-#[cfg(test)]
 mod class_masks;
 #[cfg(test)]
 mod covering;
