@@ -1,17 +1,13 @@
-//! Module texts that several files use, and what tests ask of all that is placed in modules with blocks and macros. Each function holds
-//! one value that it made, since each way out of it lets go of all that it holds.
+//! What tests ask of all that is placed in modules. Each function holds one value that it made or two, since each way out lets go of all.
 
-ghost use Rattle.std.specs.Prelude.{IfOk};
 ghost use Rattle.cil_macros.specs.Items.{items_in, namespaces_in};
 ghost use Rattle.cil_names.specs.Entries.{AreEntries};
 ghost use Rattle.cil_names.specs.Unresolved.{ArePermissions};
 
-use cil_base::NoMemory;
-use cil_blocks::spelled::spelled;
-use cil_blocks::{Namespaces, Spaces, inherit};
+use cil_blocks::{Spaces, inherit};
 use cil_macros::{Instances, expand};
 use cil_modset::ModuleSet;
-use cil_names::{Entry, Names, commons_of, declare, permissions_of};
+use cil_names::{Names, commons_of, declare, permissions_of};
 use cil_syntax::{Bytes, FaultList, Program, render, written};
 use cil_text_tests::set_of;
 use std::alloc::Global;
@@ -67,7 +63,7 @@ impl<Q: NamedQuestion> Question for ByNames<Q> {
     }
 }
 
-/// Adds the answer to a question by declared names.
+/// Adds the answer to a question by declared names. The permissions of a class are its own and those of its common.
 fn ask_by_names<'r, 'a, Q: NamedQuestion>(
     alloc: Global,
     instances: &'r Instances<'_, '_, 'a>,
@@ -77,7 +73,10 @@ fn ask_by_names<'r, 'a, Q: NamedQuestion>(
 ) -> bool
     requires { AreEntries (namespaces_in instances.now) (items_in instances.now) names.now }
 {
-    let Ok(lists) = class_permissions(alloc, names, instances) else {
+    let Ok(shared) = commons_of(alloc, names, instances) else {
+        return false;
+    };
+    let Ok(lists) = permissions_of(alloc, names, instances, shared.as_slice()) else {
         return false;
     };
     let permissions = lists.as_slice();
@@ -87,19 +86,6 @@ fn ask_by_names<'r, 'a, Q: NamedQuestion>(
         permissions,
     };
     question.answer(alloc, &all, out)
-}
-
-/// The permissions of all classes, with those of their commons.
-fn class_permissions(
-    alloc: Global,
-    names: &Names,
-    instances: &Instances,
-) -> Result<Vec<Vec<Bytes>>, NoMemory>
-    requires { AreEntries (namespaces_in instances.now) (items_in instances.now) names.now }
-    ensures { IfOk result (λ lists. ArePermissions (namespaces_in instances.now) names.now (items_in instances.now) lists.items) }
-{
-    let shared = commons_of(alloc, names, instances)?;
-    permissions_of(alloc, names, instances, shared.as_slice())
 }
 
 /// Adds the answer for what stands in blocks. False where a call is wrong, or there is no memory.
@@ -146,30 +132,6 @@ pub(crate) fn row_holds<Q: Question>(alloc: Global, row: &str, question: &Q) -> 
         Some((text, want)) => is_answer(alloc, &[text], question, want),
         None => false,
     }
-}
-
-/// Adds the kind and the qualified name of an entry.
-pub(crate) fn show_entry(
-    alloc: Global,
-    out: &mut String,
-    spaces: &Namespaces,
-    entry: &Entry,
-) -> bool {
-    if entry.space > spaces.len() {
-        return false;
-    }
-    match spelled(alloc, spaces, entry.space) {
-        Ok(space) => show_name(out, entry, text_of(space.as_slice())),
-        Err(_) => false,
-    }
-}
-
-/// Adds the kind of an entry, and its name behind that of its namespace.
-fn show_name(out: &mut String, entry: &Entry, space: &str) -> bool {
-    let dot = if space.is_empty() { "" } else { "." };
-    let name = text_of(entry.name.as_slice());
-    let kind = entry.kind;
-    write!(out, "{kind:?} {space}{dot}{name}").is_ok()
 }
 
 /// A module with a class, a user, a role, two types and a rule: 123 bytes.

@@ -1,8 +1,7 @@
 //! What may be an argument of the kinds that are not supported yet, and what the bodies of macros declare.
 
 use crate::answers::{Question, is_answer};
-use cil_macros::{Declared, Instances, declared_in_bodies, is_of_kind};
-use cil_modset::ModuleSet;
+use cil_macros::{Instances, declared_in_bodies, is_of_kind};
 use cil_syntax::Sign::{
     Blocks, Classes, Macros, Permission, PlainClass, Roles, Text, Types, Unread, Users,
 };
@@ -29,14 +28,11 @@ impl Question for IsArgument {
 
 /// The kind of a parameter, a call with an argument, and whether that has the form of the kind. Those of supported kinds are in sessions.
 const ARGUMENTS: &[(Op, &str, bool)] = &[
-    // A name: no list and no reserved word.
-    (Op::TypeKind, "(call m (a))", true),
     (Op::SensitivityKind, "(call m (s0))", true),
     (Op::SensitivityKind, "(call m ((s0)))", false),
     (Op::CategoryKind, "(call m (c0))", true),
     (Op::CategoryKind, "(call m ((c0)))", false),
     (Op::CategoryKind, "(call m (all))", false),
-    // A set of categories.
     (Op::CategorySetKind, "(call m (c0))", true),
     (Op::CategorySetKind, "(call m (all))", true),
     (Op::CategorySetKind, "(call m (()))", true),
@@ -51,7 +47,6 @@ const ARGUMENTS: &[(Op, &str, bool)] = &[
     (Op::CategorySetKind, "(call m ((not c0 c1)))", false),
     (Op::CategorySetKind, "(call m ((c0 and c1)))", false),
     (Op::CategorySetKind, "(call m ((c0 \"c1\")))", false),
-    // A level and a range.
     (Op::LevelKind, "(call m (l))", true),
     (Op::LevelKind, "(call m ((s0)))", true),
     (Op::LevelKind, "(call m ((s0 (range c0 c3))))", true),
@@ -97,8 +92,11 @@ const DECLARED: &[Row] = &[
 ];
 
 /// Whether the word of a row is declared as it says, and as nothing else.
-fn is_declared_so(declared: &Declared, row: Row) -> bool {
+fn declares(alloc: Global, program: &Program, row: Row) -> bool {
     let (number, word, want) = row;
+    let Ok(declared) = declared_in_bodies(alloc, program.statements()) else {
+        return false;
+    };
     for &sign in SIGNS {
         if declared.has(number, word.as_bytes(), sign) != (want == Some(sign)) {
             return false;
@@ -107,27 +105,12 @@ fn is_declared_so(declared: &Declared, row: Row) -> bool {
     true
 }
 
-/// The same for what is written.
-fn declares(alloc: Global, program: &Program, row: Row) -> bool {
-    match declared_in_bodies(alloc, program.statements()) {
-        Ok(declared) => is_declared_so(&declared, row),
-        Err(_) => false,
-    }
-}
-
-/// The same for modules.
-fn declares_in(alloc: Global, modules: &ModuleSet, row: Row) -> bool {
-    match written(alloc, modules) {
-        Ok(program) => declares(alloc, &program, row),
-        Err(_) => false,
-    }
-}
-
 #[test]
 fn bodies_declare_what_is_written_in_them(rt: HostRuntime) -> Result<(), Fail> {
     let modules = set_of(rt.alloc(), &[TWO])?;
+    let program = written(rt.alloc(), &modules)?;
     for &row in DECLARED {
-        assert!(rt; declares_in(rt.alloc(), &modules, row), "{row:?}");
+        assert!(rt; declares(rt.alloc(), &program, row), "{row:?}");
     }
     Ok(())
 }

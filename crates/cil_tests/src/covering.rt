@@ -43,11 +43,6 @@ const ROWS: &[Row] = &[
 const COVERED: &[(usize, usize, usize, u32)] = &[
     (2, 3, 1, 0x4f),
     (3, 3, 1, 0x2c),
-    (2, 2, 1, 0x3a),
-    (0, 3, 1, 0x4),
-    (5, 5, 1, 0x20),
-    (2, 3, 0, 0x1),
-    (3, 5, 2, 0x8000_0000),
     (5, 5, 2, 0xC000_0000),
     (6, 6, 2, 0),
     (70_000, 69_989, 0, 0),
@@ -57,7 +52,6 @@ const COVERED: &[(usize, usize, usize, u32)] = &[
     (69_999, 70_000, 0, 0),
     (3, 3, 7, 0x1),
     (3, 3, u32::MAX as usize, 0x2),
-    (4, 4, u32::MAX as usize, 0),
     (3, 3, usize::MAX, 0),
     (usize::MAX, usize::MAX, 1, 0),
 ];

@@ -119,57 +119,27 @@ fn decides_by_the_rules(rt: HostRuntime) -> Result<(), Fail> {
 }
 
 /// What becomes of a boolean of the loaded policy, and whether the first type may open the second then.
-type Turn = (&'static [u8], bool, Result<(), QueryFault>, bool);
-
-/// Of a host without a policy, and of one with it.
-const TURNS: &[&[Turn]] = &[
-    &[(b"late", true, Err(QueryFault::NoPolicy), false)],
-    &[
-        (b"net.open", true, Ok(()), true),
-        (b"net", true, Err(QueryFault::NoBoolean), true),
-        (b"late", false, Ok(()), false),
-    ],
-];
-
-fn are_turned(host: &mut Host<u8>, turns: &[Turn]) -> bool {
-    for &(name, value, want, is_open) in turns {
-        if host.set_boolean(name, value) != want {
-            return false;
-        }
-        if (host.check(b"u:r:a", b"u:r:b", b"file", b"open") == Ok(true)) != is_open {
-            return false;
-        }
-    }
-    true
-}
-
-/// A class, a bit, and the permission of the first policy there.
-const TOLD: &[(&[u8], u32, Option<&[u8]>)] = &[
-    (b"file", 0, Some(b"open")),
-    (b"file", 1, Some(b"read")),
-    (b"file", 2, None),
-    (b"file", u32::MAX, None),
-    (b"dir", 0, None),
-    (b".file", 0, None),
-];
-
-/// Whether a host loads what it has.
-fn loads(alloc: Global, host: &mut Host<u8>) -> bool {
-    host.install(alloc, FIRST.as_bytes()).is_ok()
-        && host.install(alloc, SWITCHED.as_bytes()).is_ok()
-        && host.load(alloc).is_ok()
+fn turned(host: &mut Host<u8>, name: &[u8], value: bool) -> Result<bool, QueryFault> {
+    host.set_boolean(name, value)?;
+    host.check(b"u:r:a", b"u:r:b", b"file", b"open")
 }
 
 #[test]
 fn a_host_answers(rt: HostRuntime) {
     let mut host: Host<u8> = Host::new(rt.alloc(), 512, 0);
     assert!(rt; host.permission(b"file", 0).is_none());
-    assert!(rt; are_turned(&mut host, TURNS[0]));
-    assert!(rt; loads(rt.alloc(), &mut host));
-    assert!(rt; are_turned(&mut host, TURNS[1]));
-    for &(class, bit, want) in TOLD {
-        assert!(rt; host.permission(class, bit) == want, "{bit}");
-    }
+    assert!(rt; turned(&mut host, b"late", true) == Err(QueryFault::NoPolicy));
+    assert!(rt; host.install(rt.alloc(), FIRST.as_bytes()).is_ok());
+    assert!(rt; host.install(rt.alloc(), SWITCHED.as_bytes()).is_ok());
+    assert!(rt; host.load(rt.alloc()).is_ok());
+    assert!(rt; turned(&mut host, b"net.open", true) == Ok(true));
+    assert!(rt; turned(&mut host, b"net", true) == Err(QueryFault::NoBoolean));
+    assert!(rt; turned(&mut host, b"late", false) == Ok(false));
+    assert!(rt; host.permission(b"file", 1) == Some(b"read".as_slice()));
+    assert!(rt; host.permission(b"file", 2).is_none());
+    assert!(rt; host.permission(b"file", u32::MAX).is_none());
+    assert!(rt; host.permission(b"dir", 0).is_none());
+    assert!(rt; host.permission(b".file", 0).is_none());
 }
 
 /// Whether names are kept as they are given.

@@ -13,8 +13,17 @@ use std::test::Fail;
 /// A namespace, by the number of the one round it and its own name, and its number.
 type Space = (usize, &'static [u8], usize);
 
-/// Namespaces: `p`, `r` and `p.q`.
-const SPACES: &[Space] = &[(0, b"p", 1), (0, b"r", 2), (1, b"q", 3)];
+/// Namespaces: each is added, or is there and has its number. `p` has the number 1, `r` 2 and `p.q` 3.
+const SPACES: &[Space] = &[
+    (0, b"p", 1),
+    (0, b"r", 2),
+    (1, b"q", 3),
+    (0, b"p", 1),
+    (1, b"q", 3),
+    (0, b"q", 4),
+    (1, b"p", 5),
+    (3, b"q", 6),
+];
 
 /// A namespace, a name, its kind, and the optionals round each of its statements; with none it is declared outside all.
 type Declared = (usize, &'static [u8], Kind, &'static [&'static [usize]]);
@@ -47,24 +56,6 @@ fn spaces_of(alloc: Global, rows: &[Space]) -> Option<Spaces> {
         }
     }
     Some(spaces)
-}
-
-/// One that is there or is added behind these.
-const ONE_MORE_SPACE: &[Space] = &[
-    (0, b"p", 1),
-    (0, b"r", 2),
-    (1, b"q", 3),
-    (0, b"q", 4),
-    (1, b"p", 4),
-    (3, b"q", 4),
-];
-
-#[test]
-fn each_namespace_has_one_number(rt: HostRuntime) {
-    for &one in ONE_MORE_SPACE {
-        let rows = [SPACES[0], SPACES[1], SPACES[2], one];
-        assert!(rt; spaces_of(rt.alloc(), &rows).is_some(), "{one:?}");
-    }
 }
 
 /// The sets of optionals round the statements of a name. None where there is no memory.
@@ -127,19 +118,6 @@ enum Ask {
 /// A word, what it wants, its scope, and what it means.
 type Row = (&'static [u8], Sign, &'static [usize], Ask);
 
-/// Whether these are the declared names that a word could name in a scope.
-fn could(alloc: Global, spaces: &Spaces, names: &Names, row: &Row, want: &[usize]) -> bool
-    requires ordered { AreOrdered spaces.now names.now }
-{
-    if !are_numbers(spaces, row.2) {
-        return false;
-    }
-    match names.candidates(alloc, spaces, &word(row.0, row.1), row.2) {
-        Ok(found) => found.as_slice() == &want[1..],
-        Err(_) => false,
-    }
-}
-
 /// The scope with these namespaces, and with the global one behind them. None where there is no memory.
 fn scope_of(alloc: Global, numbers: &[usize]) -> Option<ScopeList> {
     let mut scope = ScopeList::new(alloc);
@@ -150,22 +128,23 @@ fn scope_of(alloc: Global, numbers: &[usize]) -> Option<ScopeList> {
     Some(scope)
 }
 
-/// The same, behind the number 9, where the scope is asked whether it has a namespace.
-fn are_pushed(alloc: Global, spaces: &Spaces, names: &Names, row: &Row, want: &[usize]) -> bool
+/// Whether these are the declared names that a word could name in a scope, behind the number 9, where the scope is asked whether it has a
+/// namespace, and in a list of their own.
+fn could(alloc: Global, spaces: &Spaces, names: &Names, row: &Row, want: &[usize]) -> Option<bool>
     requires { AreOrdered spaces.now names.now }
 {
-    let Some(scope) = scope_of(alloc, row.2) else {
-        return false;
-    };
-    let Ok(mut found) = Vec::from_slice(alloc, &[9]) else {
-        return false;
-    };
+    let scope = scope_of(alloc, row.2)?;
+    if !are_numbers(spaces, scope.as_slice()) {
+        return None;
+    }
     let word = word(row.0, row.1);
-    are_numbers(spaces, scope.as_slice())
-        && names
-            .push_candidates(&mut found, spaces, &word, &scope)
-            .is_ok()
-        && found.as_slice() == want
+    let mut pushed = Vec::from_slice(alloc, &[9]).ok()?;
+    let is_pushed = names.push_candidates(&mut pushed, spaces, &word, &scope);
+    if is_pushed.is_err() || pushed.as_slice() != want {
+        return None;
+    }
+    let found = names.candidates(alloc, spaces, &word, scope.as_slice());
+    Some(found.ok()?.as_slice() == &want[1..])
 }
 
 /// What a word names in its scope where these optionals are enabled. None where there is no such scope, or no memory.
@@ -185,9 +164,7 @@ fn is_meant(alloc: Global, spaces: &Spaces, names: &Names, row: &Row) -> bool
 {
     match row.3 {
         Ask::Names(flags, want) => named(alloc, spaces, names, row, flags) == Some(want),
-        Ask::Could(want) => {
-            could(alloc, spaces, names, row, want) && are_pushed(alloc, spaces, names, row, want)
-        }
+        Ask::Could(want) => could(alloc, spaces, names, row, want) == Some(true),
         Ask::Everywhere(want) => names.unscoped(&word(row.0, row.1)) == want,
     }
 }
@@ -365,7 +342,7 @@ fn words_name_the_first_that_is_declared(rt: HostRuntime) -> Result<(), Fail> {
 const ONE_MORE_NAME: &[(usize, &[u8], bool)] = &[
     (3, b"zz", true),
     (0, b"zz", true),
-    (4, b"zz", false),
+    (7, b"zz", false),
     (3, b"z", false),
     (2, b"z", false),
     (3, b"y", false),

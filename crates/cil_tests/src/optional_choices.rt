@@ -11,6 +11,7 @@ use cil_optionals::laws::greatest_in_rounds;
 use cil_optionals::{Chosen, Reason, base_faults, check, greatest_counted};
 use cil_syntax::Failure;
 use std::alloc::Global;
+use std::test::Fail;
 
 // The first policy has the statements 0 to 8. The module behind it has those from 9 on: first all in no optional, then those in each.
 
@@ -259,19 +260,13 @@ const PICKED: &[&str] = &[
     "(optional o (type x)(optional p (roletype r nobody)(optional q (roletype r x)(optional s))))(optional t (roletype r x)) => 3 0",
 ];
 
-/// Whether that is so of a row.
-fn is_picked_so(alloc: Global, row: &str) -> bool {
-    match row.split_once(" => ") {
-        Some((text, want)) => is_chosen_so(alloc, text, want),
-        None => false,
-    }
-}
-
 #[test]
-fn what_is_chosen_is_right(rt: HostRuntime) {
+fn what_is_chosen_is_right(rt: HostRuntime) -> Result<(), Fail> {
     for row in PICKED {
-        assert!(rt; is_picked_so(rt.alloc(), row), "{row}");
+        let (text, want) = row.split_once(" => ").ok_or("no row")?;
+        assert!(rt; is_chosen_so(rt.alloc(), text, want), "{row}");
     }
+    Ok(())
 }
 
 /// Adds 1,000 optionals, each of which declares a type and wants that of the next, the last one that of this number.

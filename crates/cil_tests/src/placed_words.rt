@@ -5,7 +5,7 @@ ghost use Rattle.cil_names.specs.Entries.{AreEntries};
 ghost use Rattle.cil_names.specs.Unresolved.{ArePermissions};
 ghost use Rattle.std.specs.Prelude.{◌<◌, length};
 
-use crate::answers::{ByNames, Named, NamedQuestion, is_answer, row_holds, show_entry, text_of};
+use crate::answers::{ByNames, Named, NamedQuestion, is_answer, row_holds, text_of};
 use crate::look_ups::word;
 use cil_macros::Instances;
 use cil_names::{Meaning, OptSet, Words, are_numbers, word_asked};
@@ -13,8 +13,9 @@ use cil_syntax::Sign;
 use cil_words::{Asks, asks_of, judged, settled};
 use std::alloc::Global;
 
-/// What the words of a module without optionals name, by numbers.
-struct NamedWords;
+/// What the words of the statement at a place name, in a module without optionals.
+#[derive(Drop)]
+struct NamedWords(usize);
 
 impl NamedQuestion for NamedWords {
     fn answer(&self, alloc: Global, all: &Named, out: &mut String) -> bool {
@@ -22,7 +23,7 @@ impl NamedQuestion for NamedWords {
             return false;
         };
         match asks_of(alloc, all.names, all.permissions, all.instances) {
-            Ok(asks) => show_rows(out, all, &asks, &words),
+            Ok(asks) => show_row(out, &asks, self.0, words.row(self.0)),
             Err(_) => false,
         }
     }
@@ -41,16 +42,6 @@ fn words_of(alloc: Global, all: &Named) -> Option<Words>
     settled(alloc, all.names, asks, &enabled).ok()
 }
 
-/// Adds what the words of each statement mean, in brackets.
-fn show_rows(out: &mut String, all: &Named, asks: &Asks, words: &Words) -> bool {
-    for at in 0..all.instances.len() {
-        if !show_row(out, asks, at, words.row(at)) {
-            return false;
-        }
-    }
-    true
-}
-
 /// Adds the number of the entry that each word names, or that of its permission behind a letter.
 fn show_row(out: &mut String, asks: &Asks, at: usize, row: &[Meaning]) -> bool {
     for (i, word) in row.iter().enumerate() {
@@ -63,24 +54,37 @@ fn show_row(out: &mut String, asks: &Asks, at: usize, row: &[Meaning]) -> bool {
         let Some(value) = word.entry() else {
             return false;
         };
-        if write!(out, "{front}{letter}{value}").is_err() {
+        if write!(out, " {letter}{value}").is_err() {
             return false;
         }
     }
-    row.is_empty() || out.push_str("]").is_ok()
+    true
 }
 
-/// Texts, and behind arrows what their words name: in calls, and in operators, which say nothing by themselves. More are in
-/// `rows/names.session`. Entries are in the order of their names.
-const NAMED: &[&str] = &[
-    "(class c (q p))(macro m ((type x)) (allow x self (c (p q))))(type a)(call m (a)) => [2 0][0 1 p0 p1]",
-    "(class c (p q))(type a)(allow a self (c (and (p (q)) (not (xor (q) p))))) => [0 1 p0 p1 p1 p0]",
+/// A place, and a text with behind an arrow what the words there name: in calls, and in operators, which say nothing by themselves. More are
+/// in `rows/names.session`.
+const NAMED: &[(usize, &str)] = &[
+    (
+        3,
+        "(class c (q p))(macro m ((type x)) (allow x self (c (p q))))(type a)(call m (a)) =>  2 0",
+    ),
+    (
+        4,
+        "(class c (q p))(macro m ((type x)) (allow x self (c (p q))))(type a)(call m (a)) =>  0 1 p0 p1",
+    ),
+    (
+        2,
+        "(class c (p q))(type a)(allow a self (c (and (p (q)) (not (xor (q) p))))) =>  0 1 p0 p1 p1 p0",
+    ),
 ];
 
 #[test]
 fn words_name_entries(rt: HostRuntime) {
-    for row in NAMED {
-        assert!(rt; row_holds(rt.alloc(), row, &ByNames(NamedWords)), "{row}");
+    for &(at, row) in NAMED {
+        assert!(rt;
+            row_holds(rt.alloc(), row, &ByNames(NamedWords(at))),
+            "{row}"
+        );
     }
 }
 
@@ -126,17 +130,18 @@ fn permission_words_name_the_class_that_has_them(rt: HostRuntime) {
     }
 }
 
-/// A text, and behind an arrow each word of its statements with the entries that it could name.
+/// A text, and behind an arrow each word of its statements with the numbers of the entries that it could name: these are in the order of
+/// their names, and then of their namespaces.
 const LISTED: &[&str] = &[
-    "(type t)(block p (type t)(role r)(roletype r t)) => r: Role p.r; t: Type_ p.t, Type_ t; ",
-    "(type t)(block p (type t)(roletype object_r .t)) => object_r: Role object_r; .t: Type_ t; ",
-    "(class t (p))(roletype object_r t) => object_r: Role object_r; t: -; ",
+    "(type t)(block p (type t)(role r)(roletype r t)) => r: 1; t: 3 2; ",
+    "(type t)(block p (type t)(roletype object_r .t)) => object_r: 0; .t: 1; ",
+    "(class t (p))(roletype object_r t) => object_r: 0; t: -; ",
     // A class word, and then its permissions: they are those of the first class that it names.
-    "(type t)(class c (r))(block p (class c (w))(allow t self (c (r w)))) => t: Type_ t; c: Class p.c, Class c; r: -; w: Class p.c; ",
-    "(type t)(allow t self (c (r))) => t: Type_ t; c: -; r: -; ",
-    "(class c (r))(common k (x))(classcommon c .k)(allow r c (c (r x))) => c: Class c; .k: Common k; r: -; c: -; c: Class c; r: Class c; x: Class c; ",
+    "(type t)(class c (r))(block p (class c (w))(allow t self (c (r w)))) => t: 3; c: 1 0; r: -; w: 1; ",
+    "(type t)(allow t self (c (r))) => t: 1; c: -; r: -; ",
+    "(class c (r))(common k (x))(classcommon c .k)(allow r c (c (r x))) => c: 0; .k: 1; r: -; c: -; c: 0; r: 0; x: 0; ",
     // A call, and a statement of the body: an argument is looked up where the call stands.
-    "(macro m ((type x)) (roletype object_r x))(type t)(block p (type t)(call m (t))) => m: Macro m; t: Type_ p.t, Type_ t; object_r: Role object_r; t: Type_ p.t, Type_ t; ",
+    "(macro m ((type x)) (roletype object_r x))(type t)(block p (type t)(call m (t))) => m: 0; t: 3 2; object_r: 1; t: 3 2; ",
     "(block a (type t))(block b (blockinherit a)) => ",
 ];
 
@@ -146,16 +151,16 @@ struct Listed;
 impl NamedQuestion for Listed {
     fn answer(&self, alloc: Global, all: &Named, out: &mut String) -> bool {
         match asks_of(alloc, all.names, all.permissions, all.instances) {
-            Ok(asks) => show_lists(alloc, out, all, &asks),
+            Ok(asks) => show_lists(alloc, out, all.instances, &asks),
             Err(_) => false,
         }
     }
 }
 
 /// Adds each word of all statements with its candidates. False where there is no memory, or as many words as lists.
-fn show_lists(alloc: Global, out: &mut String, all: &Named, asks: &Asks) -> bool {
-    for at in 0..all.instances.len() {
-        if !show_statement(alloc, out, all, asks, at) {
+fn show_lists(alloc: Global, out: &mut String, instances: &Instances, asks: &Asks) -> bool {
+    for at in 0..instances.len() {
+        if !show_statement(alloc, out, instances, asks, at) {
             return false;
         }
     }
@@ -163,56 +168,35 @@ fn show_lists(alloc: Global, out: &mut String, all: &Named, asks: &Asks) -> bool
 }
 
 /// The same of one statement.
-fn show_statement(alloc: Global, out: &mut String, all: &Named, asks: &Asks, at: usize) -> bool
-    requires { at < length (items_in all.now.instances.now) }
-{
-    for number in 0..asks.count(at) {
-        let list = asks.word(at, number);
-        if !show_asked(alloc, out, all.instances, at, number)
-            || !show_entries(alloc, out, all, list)
-        {
-            return false;
-        }
-    }
-    matches!(
-        word_asked(alloc, all.instances, at, asks.count(at)),
-        Ok(None)
-    )
-}
-
-/// Adds the word of a statement with this number.
-fn show_asked(
+fn show_statement(
     alloc: Global,
     out: &mut String,
     instances: &Instances,
+    asks: &Asks,
     at: usize,
-    number: usize,
 ) -> bool
     requires { at < length (items_in instances.now) }
 {
-    match word_asked(alloc, instances, at, number) {
-        Ok(Some(found)) => write!(out, "{}: ", text_of(found.word.bytes.as_slice())).is_ok(),
-        _ => false,
-    }
-}
-
-/// Adds the entry of a number.
-fn show_number(alloc: Global, out: &mut String, all: &Named, number: usize) -> bool {
-    match all.names.entries().get(number) {
-        Some(entry) => show_entry(alloc, out, all.instances.namespaces(), entry),
-        None => false,
-    }
-}
-
-/// Adds some entries with commas between, or `-`.
-fn show_entries(alloc: Global, out: &mut String, all: &Named, numbers: &[u32]) -> bool {
-    for (i, number) in numbers.iter().enumerate() {
-        let front = if i > 0 { ", " } else { "" };
-        if out.push_str(front).is_err() || !show_number(alloc, out, all, *number as usize) {
+    for number in 0..asks.count(at) {
+        let Ok(Some(found)) = word_asked(alloc, instances, at, number) else {
+            return false;
+        };
+        let bytes = text_of(found.word.bytes.as_slice());
+        if write!(out, "{bytes}:").is_err() || !show_entries(out, asks.word(at, number)) {
             return false;
         }
     }
-    out.push_str(if numbers.is_empty() { "-; " } else { "; " })
+    matches!(word_asked(alloc, instances, at, asks.count(at)), Ok(None))
+}
+
+/// Adds some numbers, or `-`.
+fn show_entries(out: &mut String, numbers: &[u32]) -> bool {
+    for number in numbers {
+        if write!(out, " {number}").is_err() {
+            return false;
+        }
+    }
+    out.push_str(if numbers.is_empty() { " -; " } else { "; " })
         .is_ok()
 }
 
@@ -231,15 +215,15 @@ fn words_could_name_these(rt: HostRuntime) {
 /// The same of rows of several instances.
 const ASKED: &[&str] = &[
     // Statements without words stand between others.
-    "(type t)(roletype object_r t)(role r)(block p (type u))(roletype r t) => object_r: Role object_r; t: Type_ t; r: Role r; t: Type_ t; ",
+    "(type t)(roletype object_r t)(role r)(block p (type u))(roletype r t) => object_r: 0; t: 2; r: 1; t: 2; ",
     // A class word with two candidates: its permissions are those of the first one.
-    "(class c (p))(type t)(block a (class c (q))(block b (allow t self (c (q p))))) => t: Type_ t; c: Class a.c, Class c; q: Class a.c; p: -; ",
+    "(class c (p))(type t)(block a (class c (q))(block b (allow t self (c (q p))))) => t: 3; c: 1 0; q: 1; p: -; ",
     // Arguments that are texts are not looked up, though one of them has the name of a type; the argument between them is. One that
     // is handed on is none either.
-    "(macro m ((name x)(type y)(string z)) (roletype object_r y))(type t)(type u)(call m (u t \"v w\")) => m: Macro m; t: Type_ t; object_r: Role object_r; t: Type_ t; ",
-    "(macro k ((string s)))(macro m ((string p)) (call k (p)))(type t)(call m (t))(call k (\"t\")) => m: Macro m; k: Macro k; k: Macro k; ",
+    "(macro m ((name x)(type y)(string z)) (roletype object_r y))(type t)(type u)(call m (u t \"v w\")) => m: 0; t: 2; object_r: 1; t: 2; ",
+    "(macro k ((string s)))(macro m ((string p)) (call k (p)))(type t)(call m (t))(call k (\"t\")) => m: 1; k: 0; k: 0; ",
     // A statement in an optional.
-    "(class c (p))(type t)(optional o (allow t self (c (p)))) => t: Type_ t; c: Class c; p: Class c; ",
+    "(class c (p))(type t)(optional o (allow t self (c (p)))) => t: 2; c: 0; p: 0; ",
 ];
 
 // A list may be there when its cell has no room.

@@ -33,17 +33,18 @@ impl Read for Failing<'_> {
     }
 }
 
-/// The same of a writer, whose call fails by an error or by taking nothing, or whose flush fails.
+/// The same of a writer, whose call fails by an error or by taking nothing, or whose flush fails. It may tell what was flushed.
 #[derive(Drop)]
-struct Closing {
+struct Closing<'a> {
     taken: Vec<u8>,
     step: usize,
     calls: usize,
     takes_nothing: bool,
     is_stuck: bool,
+    out: Option<&'a Cell<usize>>,
 }
 
-impl Write for Closing {
+impl Write for Closing<'_> {
     fn write(&mut self, bytes: &[u8]) -> io::Result<usize> {
         if self.calls == 0 {
             self.calls = usize::MAX;
@@ -61,10 +62,13 @@ impl Write for Closing {
     }
 
     fn flush(&mut self) -> io::Result<()> {
-        match self.is_stuck {
-            true => Err(io::Error::from(io::ErrorKind::BrokenPipe)),
-            false => Ok(()),
+        if self.is_stuck {
+            return Err(io::Error::from(io::ErrorKind::BrokenPipe));
         }
+        if let Some(out) = self.out {
+            out.set(self.taken.len());
+        }
+        Ok(())
     }
 }
 
@@ -78,13 +82,14 @@ fn make_failing(step: usize, calls: usize) -> Failing<'static> {
     Failing { bytes, step, calls }
 }
 
-fn make_closing(alloc: Global, step: usize, calls: usize, takes_nothing: bool) -> Closing {
+fn make_closing<'a>(alloc: Global, step: usize, calls: usize, nothing: bool) -> Closing<'a> {
     Closing {
         taken: Vec::new(alloc),
         step,
         calls,
-        takes_nothing,
+        takes_nothing: nothing,
         is_stuck: false,
+        out: None,
     }
 }
 
@@ -173,28 +178,7 @@ fn a_writer_may_fail_at_each_call(rt: HostRuntime) {
     }
 }
 
-/// A writer whose bytes come out when they are flushed, and not before.
-#[derive(Drop)]
-struct Held<'a> {
-    bytes: Vec<u8>,
-    out: &'a Cell<usize>,
-}
-
-impl Write for Held<'_> {
-    fn write(&mut self, bytes: &[u8]) -> io::Result<usize> {
-        match self.bytes.extend_from_slice(bytes) {
-            Ok(()) => Ok(bytes.len()),
-            Err(_) => Err(io::Error::from(io::ErrorKind::OutOfMemory)),
-        }
-    }
-
-    fn flush(&mut self) -> io::Result<()> {
-        self.out.set(self.bytes.len());
-        Ok(())
-    }
-}
-
-/// The other side of a `Held`: it sends a part when this many bytes are out, and fails where it is asked before, or behind the last.
+/// A reader that sends a part when this many bytes are flushed, and fails where it is asked before, or behind the last.
 #[derive(Drop)]
 struct Asking<'a> {
     parts: &'a [(usize, &'a [u8])],
@@ -242,41 +226,27 @@ const ASKED: &[(&[Part], &[u8], Served, usize)] = &[
     (&[(0, b"LIST\n"), (5, b"")], b"OK 0\n", Served::End, 0),
     (&[(0, b"")], b"", Served::End, 0),
     // A request that is cut changes nothing: in a line, in a body, and before one. A body that is too long is not asked for.
-    (
-        &[(0, b"LIST\nLI"), (5, b"")],
-        b"OK 0\nERR 83\n",
-        Served::Fault(83),
-        0,
-    ),
-    (&[(0, b"LIST"), (0, b"")], b"ERR 83\n", Served::Fault(83), 0),
-    (
-        &[(0, b"INSTALL 10\n(typ"), (0, b"")],
-        b"ERR 83\n",
-        Served::Fault(83),
-        0,
-    ),
-    (
-        &[(0, b"INSTALL 1\n"), (0, b"")],
-        b"ERR 83\n",
-        Served::Fault(83),
-        0,
-    ),
-    (
-        &[(0, b"INSTALL 67108865\n")],
-        b"ERR 84\n",
-        Served::Fault(84),
-        0,
-    ),
+    (&[(0, b"LIST\nLI"), (5, b"")], b"OK 0\nERR 83\n", CUT, 0),
+    (&[(0, b"LIST"), (0, b"")], b"ERR 83\n", CUT, 0),
+    (&[(0, b"INSTALL 10\n(typ"), (0, b"")], b"ERR 83\n", CUT, 0),
+    (&[(0, b"INSTALL 1\n"), (0, b"")], b"ERR 83\n", CUT, 0),
+    (&[(0, b"INSTALL 67108865\n")], b"ERR 84\n", LONG, 0),
 ];
+
+const CUT: Served = Served::Fault(83);
+
+const LONG: Served = Served::Fault(84);
 
 /// Whether a session with a client that waits for its replies ends so, with all replies out.
 fn answers_so(alloc: Global, parts: &[Part], output: &[u8], ending: (Served, usize)) -> bool {
-    let (bytes, out) = (Vec::new(alloc), Cell::new(0));
+    let out = Cell::new(0);
+    let mut closing = make_closing(alloc, usize::MAX, usize::MAX, false);
+    closing.out = Some(&out);
     let mut reader = Counted::new(Asking { parts, out: &out });
-    let mut writer = Counted::new(Held { bytes, out: &out });
+    let mut writer = Counted::new(closing);
     let (served, found) = serve_new(alloc, &mut reader, &mut writer);
     let written = writer.into_inner();
-    (served, found) == ending && out.get() == output.len() && written.bytes.as_slice() == output
+    (served, found) == ending && out.get() == output.len() && written.taken.as_slice() == output
 }
 
 #[test]

@@ -83,7 +83,6 @@ const OPTIONALS: &str =
 const ENABLED: &[(&[usize], &str)] = &[
     (&[], "()(object_r)(b)() 0 0 0 0 0"),
     (&[0], "()(object_r)(a b)() 0 0 1 0 0"),
-    (&[5], "()(object_r)(b)() 0 0 0 0 0"),
     (&[7], "()(object_r)(b p.a)() 0 1 0 0 0"),
     (&[0, 5, 7], "()(object_r)(a b c p.a)() 0 3 1 2 0"),
     (&[1], "()(object_r)(b c)() 0 0 0 1 0"),
