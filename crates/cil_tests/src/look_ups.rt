@@ -67,7 +67,6 @@ fn rounds(alloc: Global, optionals: &[&[usize]]) -> Option<Vec<Vec<usize>>> {
     Some(rounds)
 }
 
-/// An entry. None where there is no memory.
 fn entry(alloc: Global, declared: &Declared) -> Option<Entry<'static>> {
     let &(space, name, kind, optionals) = declared;
     Some(Entry {
@@ -101,7 +100,6 @@ pub(crate) fn word(bytes: &'static [u8], sign: Sign) -> Word<'static> {
     }
 }
 
-/// The place of a declared name.
 type Found = Option<usize>;
 
 /// What a word means.

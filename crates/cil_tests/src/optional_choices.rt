@@ -173,7 +173,6 @@ fn choices_of_optionals_are_checked(rt: HostRuntime) {
     }
 }
 
-/// Adds two numbers.
 fn show_counts(out: &mut String, removals: u64, lookups: u64) -> bool {
     write!(out, "{removals} {lookups}").is_ok()
 }

@@ -164,6 +164,9 @@ fn show_word<'a>(
 
 /// Adds what the words of a statement mean, if it has two.
 fn show_words(out: &mut String, instances: &Instances, at: usize) -> bool {
+    if at >= instances.len() {
+        return false;
+    }
     let Some(statement) = instances.spaces().statements().get(instances.statement(at)) else {
         return false;
     };
