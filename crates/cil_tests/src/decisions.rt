@@ -96,7 +96,6 @@ const DECISIONS: &[(bool, usize, usize, usize, [u32; 3])] = &[
     (false, 0, 1, 1, [0x8000_0001, 0, 0xFFFF_FFFF]),
     (false, 0, 1, 2, [0, 0, 0]),
     (false, 0, 1, usize::MAX, [0, 0, 0]),
-    // Types that are not there.
     (false, 2, 1, 0, [0, 0, 0b11]),
     (false, 0, 2, 0, [0, 0, 0b11]),
     (false, 2, 2, 0, [0, 0, 0b11]),
@@ -171,17 +170,11 @@ const QUERIES: &[(QueryFault, &str)] = &[
     (QueryFault::NoBoolean, "75 no boolean has this name"),
 ];
 
-/// Whether a fault is printed so.
-fn is_told(alloc: Global, fault: &QueryFault, want: &str) -> bool {
-    match format!(in alloc; "{} {fault}", fault.number()) {
-        Ok(told) => told.as_str() == want,
-        Err(_) => false,
-    }
-}
-
 #[test]
-fn queries_are_refused_by_number_and_sentence(rt: HostRuntime) {
-    for (fault, want) in QUERIES {
-        assert!(rt; is_told(rt.alloc(), fault, want), "{want}");
+fn queries_are_refused_by_number_and_sentence(rt: HostRuntime) -> Result<(), Fail> {
+    for &(fault, want) in QUERIES {
+        let told = format!(in rt.alloc(); "{} {fault}", fault.number())?;
+        assert_eq!(rt; told.as_str(), want);
     }
+    Ok(())
 }

@@ -126,23 +126,36 @@ fn scope_of(alloc: Global, numbers: &[usize]) -> Option<ScopeList> {
     Some(scope)
 }
 
-/// Whether these are the declared names that a word could name in a scope, behind the number 9, where the scope is asked whether it has a
-/// namespace, and in a list of their own.
-fn could(alloc: Global, spaces: &Spaces, names: &Names, row: &Row, want: &[usize]) -> Option<bool>
+/// Whether a word could name these in a scope.
+fn could(alloc: Global, spaces: &Spaces, names: &Names, row: &Row, want: &[usize]) -> bool
     requires { AreOrdered spaces.now names.now }
 {
-    let scope = scope_of(alloc, row.2)?;
-    if !are_numbers(spaces, scope.as_slice()) {
-        return None;
+    if !are_numbers(spaces, row.2) {
+        return false;
     }
+    match names.candidates(alloc, spaces, &word(row.0, row.1), row.2) {
+        Ok(found) => found.as_slice() == want,
+        Err(_) => false,
+    }
+}
+
+/// The same behind the number 9, where the scope is asked whether it has a namespace.
+fn could_in(alloc: Global, spaces: &Spaces, names: &Names, row: &Row, scope: &ScopeList) -> bool
+    requires { AreOrdered spaces.now names.now }
+{
+    let Ask::Could(want) = row.3 else {
+        return false;
+    };
+    let Ok(mut found) = Vec::from_slice(alloc, &[9]) else {
+        return false;
+    };
     let word = word(row.0, row.1);
-    let mut pushed = Vec::from_slice(alloc, &[9]).ok()?;
-    let is_pushed = names.push_candidates(&mut pushed, spaces, &word, &scope);
-    if is_pushed.is_err() || pushed.as_slice() != want {
-        return None;
-    }
-    let found = names.candidates(alloc, spaces, &word, scope.as_slice());
-    Some(found.ok()?.as_slice() == &want[1..])
+    are_numbers(spaces, scope.as_slice())
+        && matches!(
+            names.push_candidates(&mut found, spaces, &word, scope),
+            Ok(())
+        )
+        && found.as_slice() == want
 }
 
 /// What a word names in its scope where these optionals are enabled. None where there is no such scope, or no memory.
@@ -162,20 +175,17 @@ fn is_meant(alloc: Global, spaces: &Spaces, names: &Names, row: &Row) -> bool
 {
     match row.3 {
         Ask::Names(flags, want) => named(alloc, spaces, names, row, flags) == Some(want),
-        Ask::Could(want) => could(alloc, spaces, names, row, want) == Some(true),
+        Ask::Could(want) => match scope_of(alloc, row.2) {
+            Some(scope) => {
+                could(alloc, spaces, names, row, &want[1..])
+                    && could_in(alloc, spaces, names, row, &scope)
+            }
+            None => false,
+        },
         Ask::Everywhere(want) => names.unscoped(&word(row.0, row.1)) == want,
     }
 }
 
-/// The same of declared names.
-fn holds_among(alloc: Global, spaces: &Spaces, declared: &[Declared], row: &Row) -> bool {
-    match names(alloc, spaces, declared) {
-        Some(names) => is_meant(alloc, spaces, &names, row),
-        None => false,
-    }
-}
-
-/// What words name.
 const NAMED: &[Row] = &[
     // The first namespace of the scope that has the name.
     (b"x", Sign::Types, &[1, 2, 0], Ask::Names(&[], Some(3))),
@@ -328,8 +338,11 @@ const TABLES: &[(&[Declared], &[Row])] = &[
 fn words_name_the_first_that_is_declared(rt: HostRuntime) -> Result<(), Fail> {
     let spaces = spaces_of(rt.alloc(), SPACES).ok_or("no memory")?;
     for &(declared, words) in TABLES {
+        let Some(names) = names(rt.alloc(), &spaces, declared) else {
+            return Err(Fail::from("they do not rise"));
+        };
         for row in words {
-            let is_so = holds_among(rt.alloc(), &spaces, declared, row);
+            let is_so = is_meant(rt.alloc(), &spaces, &names, row);
             assert!(rt; is_so, "{:?} {:?} {:?}", row.0, row.1, row.2);
         }
     }

@@ -277,19 +277,14 @@ fn no_request_is_begun_once_the_writer_has_failed(rt: HostRuntime) -> Result<(),
     Ok(())
 }
 
-/// Whether a writer that takes all bytes and cannot hand them on is a failed one, which takes no more.
-fn is_stuck(alloc: Global) -> bool {
-    let mut stuck = make_closing(alloc, 100, 9, false);
+#[test]
+fn a_failed_flush_is_a_failed_write(rt: HostRuntime) {
+    let mut stuck = make_closing(rt.alloc(), 100, 9, false);
     stuck.is_stuck = true;
     let mut reader = Counted::new(b"LIST\nQUIT\n".as_slice());
     let mut writer = Counted::new(stuck);
-    let ending = serve_new(alloc, &mut reader, &mut writer);
+    let ending = serve_new(rt.alloc(), &mut reader, &mut writer);
     let failed = Sink::failed(&writer);
     let written = writer.into_inner();
-    ending == (Served::WriteFailed, 0) && failed == 1 && written.calls == 8
-}
-
-#[test]
-fn a_failed_flush_is_a_failed_write(rt: HostRuntime) {
-    assert!(rt; is_stuck(rt.alloc()));
+    assert!(rt; ending == (Served::WriteFailed, 0) && failed == 1 && written.calls == 8);
 }
