@@ -1,58 +1,129 @@
-//! Module texts that several files use, and what tests ask of all that is placed in modules with blocks and macros.
+//! What tests ask of all that is placed in modules. Each function holds one value that it made or two, since each way out lets go of all.
 
-ghost use Rattle.std.specs.Prelude.{IfOk};
 ghost use Rattle.cil_macros.specs.Items.{items_in, namespaces_in};
 ghost use Rattle.cil_names.specs.Entries.{AreEntries};
 ghost use Rattle.cil_names.specs.Unresolved.{ArePermissions};
 
-use cil_base::NoMemory;
-use cil_blocks::spelled::spelled;
-use cil_blocks::{Namespaces, Spaces, inherit};
+use cil_blocks::{Spaces, inherit};
 use cil_macros::{Instances, expand};
 use cil_modset::ModuleSet;
-use cil_names::{Entry, Names, commons_of, permissions_of};
+use cil_names::{Names, commons_of, declare, permissions_of};
 use cil_syntax::{Bytes, FaultList, Program, render, written};
 use cil_text_tests::set_of;
 use std::alloc::Global;
 
-/// The lines of faults.
-pub(crate) fn lines(alloc: Global, faults: &FaultList) -> Option<String> {
-    String::from_utf8(render(alloc, faults).ok()?).ok()
+/// The words of a text that is a part of another.
+pub(crate) fn text_of(bytes: &[u8]) -> &str {
+    match str::from_utf8(bytes) {
+        Ok(text) => text,
+        Err(_) => "no text",
+    }
+}
+
+/// Adds the lines of faults. False where there is no memory.
+pub(crate) fn show_faults(alloc: Global, faults: &FaultList, out: &mut String) -> bool {
+    match render(alloc, faults) {
+        Ok(lines) => out.push_str(text_of(lines.as_slice())).is_ok(),
+        Err(_) => false,
+    }
 }
 
 /// A question about all that is placed.
 pub(crate) trait Question {
-    /// The answer in words. None where there is no memory.
-    fn answer(&self, alloc: Global, instances: &Instances) -> Option<String>;
+    /// Adds the answer in words. False where there is none, or no memory.
+    fn answer(&self, alloc: Global, instances: &Instances, out: &mut String) -> bool;
 }
 
-/// The answer for what stands in blocks. None where a call is wrong, or there is no memory.
-fn expanded<Q: Question>(alloc: Global, spaces: &Spaces, question: &Q) -> Option<String> {
-    let instances = expand(alloc, spaces).ok()?;
-    question.answer(alloc, &instances)
+/// All that is placed, with its names and the permissions of classes.
+#[derive(Clone, Copy)]
+pub(crate) struct Named<'r, 's, 't, 'a> {
+    pub(crate) instances: &'r Instances<'s, 't, 'a>,
+    pub(crate) names: &'r Names<'a>,
+    pub(crate) permissions: &'r [Vec<Bytes>],
+}
+
+/// A question about that.
+pub(crate) trait NamedQuestion {
+    /// Adds the answer in words. False where there is none, or no memory.
+    fn answer(&self, alloc: Global, all: &Named, out: &mut String) -> bool
+        requires entries { AreEntries (namespaces_in all.now.instances.now) (items_in all.now.instances.now) all.now.names.now }
+        requires permissions { ArePermissions (namespaces_in all.now.instances.now) all.now.names.now (items_in all.now.instances.now) all.now.permissions.now };
+}
+
+/// Such a question about what has no names yet.
+#[derive(Drop)]
+pub(crate) struct ByNames<Q>(pub(crate) Q);
+
+impl<Q: NamedQuestion> Question for ByNames<Q> {
+    fn answer(&self, alloc: Global, instances: &Instances, out: &mut String) -> bool {
+        match declare(alloc, instances) {
+            Ok(names) => ask_by_names(alloc, &*instances, &names, &self.0, out),
+            Err(_) => false,
+        }
+    }
+}
+
+/// Adds the answer to a question by declared names. The permissions of a class are its own and those of its common.
+fn ask_by_names<'r, 'a, Q: NamedQuestion>(
+    alloc: Global,
+    instances: &'r Instances<'_, '_, 'a>,
+    names: &'r Names<'a>,
+    question: &Q,
+    out: &mut String,
+) -> bool
+    requires { AreEntries (namespaces_in instances.now) (items_in instances.now) names.now }
+{
+    let Ok(shared) = commons_of(alloc, names, instances) else {
+        return false;
+    };
+    let Ok(lists) = permissions_of(alloc, names, instances, shared.as_slice()) else {
+        return false;
+    };
+    let permissions = lists.as_slice();
+    let all = Named {
+        instances,
+        names,
+        permissions,
+    };
+    question.answer(alloc, &all, out)
+}
+
+/// Adds the answer for what stands in blocks. False where a call is wrong, or there is no memory.
+fn ask_spaces<Q: Question>(alloc: Global, spaces: &Spaces, ask: &Q, out: &mut String) -> bool {
+    match expand(alloc, spaces) {
+        Ok(instances) => ask.answer(alloc, &instances, out),
+        Err(_) => false,
+    }
 }
 
 /// The same for what is written.
-fn inherited<Q: Question>(alloc: Global, program: &Program, question: &Q) -> Option<String> {
-    let spaces = inherit(alloc, program).ok()?;
-    expanded(alloc, &spaces, question)
+fn ask_program<Q: Question>(alloc: Global, program: &Program, ask: &Q, out: &mut String) -> bool {
+    match inherit(alloc, program) {
+        Ok(spaces) => ask_spaces(alloc, &spaces, ask, out),
+        Err(_) => false,
+    }
 }
 
 /// The same for modules.
-fn answer_of<Q: Question>(alloc: Global, modules: &ModuleSet, question: &Q) -> Option<String> {
-    let program = written(alloc, modules).ok()?;
-    inherited(alloc, &program, question)
+fn ask_modules<Q: Question>(alloc: Global, modules: &ModuleSet, ask: &Q, out: &mut String) -> bool {
+    match written(alloc, modules) {
+        Ok(program) => ask_program(alloc, &program, ask, out),
+        Err(_) => false,
+    }
 }
 
 /// The same for some texts.
-fn answer_to<Q: Question>(alloc: Global, texts: &[&str], ask: &Q) -> Option<String> {
-    let modules = set_of(alloc, texts).ok()?;
-    answer_of(alloc, &modules, ask)
+fn ask_texts<Q: Question>(alloc: Global, texts: &[&str], ask: &Q, out: &mut String) -> bool {
+    match set_of(alloc, texts) {
+        Ok(modules) => ask_modules(alloc, &modules, ask, out),
+        Err(_) => false,
+    }
 }
 
 /// Whether this is the answer for some texts.
 pub(crate) fn is_answer<Q: Question>(alloc: Global, texts: &[&str], ask: &Q, want: &str) -> bool {
-    answer_to(alloc, texts, ask).is_some_and(|got| got.as_str() == want)
+    let mut out = String::new(alloc);
+    ask_texts(alloc, texts, ask, &mut out) && out.as_str() == want
 }
 
 /// Whether a row holds: a text, and behind an arrow the answer for it.
@@ -61,38 +132,6 @@ pub(crate) fn row_holds<Q: Question>(alloc: Global, row: &str, question: &Q) -> 
         Some((text, want)) => is_answer(alloc, &[text], question, want),
         None => false,
     }
-}
-
-/// The permissions of all classes, with those of their commons.
-pub(crate) fn class_permissions(
-    alloc: Global,
-    names: &Names,
-    instances: &Instances,
-) -> Result<Vec<Vec<Bytes>>, NoMemory>
-    requires { AreEntries (namespaces_in instances.now) (items_in instances.now) names.now }
-    ensures { IfOk result (λ lists. ArePermissions (namespaces_in instances.now) names.now (items_in instances.now) lists.items) }
-{
-    let shared = commons_of(alloc, names, instances)?;
-    let permissions = permissions_of(alloc, names, instances, shared.as_slice())?;
-    Ok(permissions)
-}
-
-/// Adds the kind and the qualified name of an entry.
-pub(crate) fn show_entry(
-    alloc: Global,
-    out: &mut String,
-    spaces: &Namespaces,
-    entry: &Entry,
-) -> Option<()> {
-    if entry.space > spaces.len() {
-        return None;
-    }
-    let space = spelled(alloc, spaces, entry.space).ok()?;
-    let space = str::from_utf8(space.as_slice()).ok()?;
-    let dot = if entry.space > 0 { "." } else { "" };
-    let name = str::from_utf8(entry.name.as_slice()).ok()?;
-    let kind = entry.kind;
-    write!(out, "{kind:?} {space}{dot}{name}").ok()
 }
 
 /// A module with a class, a user, a role, two types and a rule: 123 bytes.

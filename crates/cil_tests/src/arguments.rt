@@ -1,68 +1,45 @@
-//! What may be an argument of each kind, also of those that are not supported yet.
+//! What may be an argument of the kinds that are not supported yet, and what the bodies of macros declare.
 
-use cil_macros::is_of_kind;
-use cil_modset::ModuleSet;
-use cil_syntax::{Op, Program, written};
+use crate::answers::{Question, is_answer};
+use cil_macros::{Instances, declared_in_bodies, is_of_kind};
+use cil_syntax::Sign::{
+    Blocks, Classes, Macros, Permission, PlainClass, Roles, Text, Types, Unread, Users,
+};
+use cil_syntax::{Op, Program, Sign, Statement, written};
 use cil_text_tests::set_of;
 use std::alloc::Global;
 use std::test::Fail;
 
 /// Whether the one argument of the call that is the first statement has the form of a kind.
-fn is_argument_in(program: &Program, kind: Op) -> Option<bool> {
-    let arguments = program.statements().first()?.listed_behind_first()?;
+fn is_argument(statements: &[Statement], kind: Op) -> Option<bool> {
+    let arguments = statements.first()?.listed_behind_first()?;
     Some(is_of_kind(kind, arguments.first()?))
 }
 
-fn is_argument_of(alloc: Global, modules: &ModuleSet, kind: Op) -> Option<bool> {
-    let program = written(alloc, modules).ok()?;
-    is_argument_in(&program, kind)
+/// Whether that is so, as the rules have it.
+#[derive(Drop)]
+struct IsArgument(Op, bool);
+
+impl Question for IsArgument {
+    fn answer(&self, _alloc: Global, instances: &Instances, _out: &mut String) -> bool {
+        is_argument(instances.spaces().statements(), self.0) == Some(self.1)
+    }
 }
 
-fn is_argument(alloc: Global, kind: Op, call: &'static str) -> Option<bool> {
-    let modules = set_of(alloc, &[call]).ok()?;
-    is_argument_of(alloc, &modules, kind)
-}
-
-/// The kind of a parameter, a call with an argument, and whether that has the form of the kind.
+/// The kind of a parameter, a call with an argument, and whether that has the form of the kind. Those of supported kinds are in sessions.
 const ARGUMENTS: &[(Op, &str, bool)] = &[
-    // A name: no list, no string, no expression, and no reserved word.
-    (Op::TypeKind, "(call m (a))", true),
-    (Op::TypeKind, "(call m ((a)))", false),
-    (Op::TypeKind, "(call m (all))", false),
-    (Op::TypeKind, "(call m (\"a\"))", false),
-    (Op::BooleanKind, "(call m (b))", true),
-    (Op::BooleanKind, "(call m ((not b)))", false),
-    (Op::BooleanKind, "(call m (not))", false),
-    (Op::ClassMapKind, "(call m (.k.m))", true),
     (Op::SensitivityKind, "(call m (s0))", true),
     (Op::SensitivityKind, "(call m ((s0)))", false),
     (Op::CategoryKind, "(call m (c0))", true),
     (Op::CategoryKind, "(call m ((c0)))", false),
     (Op::CategoryKind, "(call m (all))", false),
-    // A class and a set of its permissions.
-    (Op::ClassPermissionKind, "(call m ((c (p q))))", true),
-    (Op::ClassPermissionKind, "(call m ((c (not p))))", true),
-    (Op::ClassPermissionKind, "(call m ((c all)))", true),
-    (Op::ClassPermissionKind, "(call m ((c (not))))", false),
-    (Op::ClassPermissionKind, "(call m ((c)))", false),
-    (Op::ClassPermissionKind, "(call m ((c (p) (q))))", false),
-    (Op::ClassPermissionKind, "(call m ((c (a.b))))", false),
-    (Op::ClassPermissionKind, "(call m ((c (range p q))))", false),
-    // Or its name.
-    (Op::ClassPermissionKind, "(call m (p))", true),
-    (Op::ClassPermissionKind, "(call m (all))", false),
-    // A set of categories.
     (Op::CategorySetKind, "(call m (c0))", true),
     (Op::CategorySetKind, "(call m (all))", true),
     (Op::CategorySetKind, "(call m (()))", true),
     (Op::CategorySetKind, "(call m ((c0 (c1 c2))))", true),
     (Op::CategorySetKind, "(call m ((range c0 c3)))", true),
     (Op::CategorySetKind, "(call m ((not (c0 c1))))", true),
-    (
-        Op::CategorySetKind,
-        "(call m ((xor c0 (and c1 all))))",
-        true,
-    ),
+    (Op::CategorySetKind, "(call m ((xor c (and d all))))", true),
     (Op::CategorySetKind, "(call m ((range c0)))", false),
     (Op::CategorySetKind, "(call m ((range c0 (c1))))", false),
     (Op::CategorySetKind, "(call m ((range c0 all)))", false),
@@ -70,7 +47,6 @@ const ARGUMENTS: &[(Op, &str, bool)] = &[
     (Op::CategorySetKind, "(call m ((not c0 c1)))", false),
     (Op::CategorySetKind, "(call m ((c0 and c1)))", false),
     (Op::CategorySetKind, "(call m ((c0 \"c1\")))", false),
-    // A level and a range.
     (Op::LevelKind, "(call m (l))", true),
     (Op::LevelKind, "(call m ((s0)))", true),
     (Op::LevelKind, "(call m ((s0 (range c0 c3))))", true),
@@ -80,17 +56,61 @@ const ARGUMENTS: &[(Op, &str, bool)] = &[
     (Op::LevelRangeKind, "(call m ((l (s0))))", true),
     (Op::LevelRangeKind, "(call m ((l)))", false),
     (Op::LevelRangeKind, "(call m ((l l l)))", false),
-    // Any word or string.
-    (Op::NameKind, "(call m (all))", true),
-    (Op::TextKind, "(call m (\"x\"))", true),
-    (Op::NameKind, "(call m ((x)))", false),
 ];
 
 #[test]
-fn arguments_have_the_form_of_their_kinds(rt: HostRuntime) -> Result<(), Fail> {
+fn arguments_have_the_form_of_their_kinds(rt: HostRuntime) {
     for &(kind, call, wanted) in ARGUMENTS {
-        let got = is_argument(rt.alloc(), kind, call);
-        assert_eq!(rt; got, Some(wanted), "{kind:?} {call}");
+        let is_so = is_answer(rt.alloc(), &[call], &IsArgument(kind, wanted), "");
+        assert!(rt; is_so, "{kind:?} {call}");
+    }
+}
+
+/// Two macros that declare one name in two kinds, and a type outside of both. The macros have the numbers 0 and 3.
+const TWO: &str = "(macro m () (type x)(user u))(macro k () (role x))(type y)";
+
+/// What words may want.
+const SIGNS: &[Sign] = &[
+    Types, Roles, Users, Classes, PlainClass, Macros, Blocks, Permission, Text, Unread,
+];
+
+/// The number of a macro, a word, and what its body declares under that name.
+type Row = (usize, &'static str, Option<Sign>);
+
+/// For words of both macros, and some that neither declares.
+const DECLARED: &[Row] = &[
+    (0, "x", Some(Types)),
+    (0, "u", Some(Users)),
+    (3, "x", Some(Roles)),
+    (3, "u", None),
+    // It is declared outside of all bodies, or it is a macro; a name is a whole one.
+    (0, "y", None),
+    (3, "y", None),
+    (0, "m", None),
+    (0, "xx", None),
+    (0, "", None),
+];
+
+/// Whether the word of a row is declared as it says, and as nothing else.
+fn declares(alloc: Global, program: &Program, row: Row) -> bool {
+    let (number, word, want) = row;
+    let Ok(declared) = declared_in_bodies(alloc, program.statements()) else {
+        return false;
+    };
+    for &sign in SIGNS {
+        if declared.has(number, word.as_bytes(), sign) != (want == Some(sign)) {
+            return false;
+        }
+    }
+    true
+}
+
+#[test]
+fn bodies_declare_what_is_written_in_them(rt: HostRuntime) -> Result<(), Fail> {
+    let modules = set_of(rt.alloc(), &[TWO])?;
+    let program = written(rt.alloc(), &modules)?;
+    for &row in DECLARED {
+        assert!(rt; declares(rt.alloc(), &program, row), "{row:?}");
     }
     Ok(())
 }

@@ -1,8 +1,10 @@
-//! What rules cover, by their index and by a plain walk over the rules: for one type, several types and `self` on both sides, and with
-//! each growth refused.
+//! What rules cover, by their index and one by one: for one type, several types and `self` on both sides, and with each growth refused. Each
+//! pair of six types is in `rows/attributes.session`.
 
-use cil_base::NoMemory;
-use cil_conditions::Settings;
+ghost use Rattle.std.specs.List.Sorted.{IsStrictlySortedBy};
+ghost use Rattle.cil_conditions.specs.Order.{branch_cmp};
+
+use cil_conditions::{Branch, Settings};
 use cil_index::{Asked, NamedRules, Sections};
 use cil_rules::{NamedRule, Reach};
 use cil_sets::{Joining, Numbers};
@@ -36,101 +38,90 @@ const ROWS: &[Row] = &[
     ((1, 4), None, u32::MAX, 0x2),
 ];
 
-/// The types that are asked of, and the classes.
-const TYPES: &[usize] = &[0, 1, 2, 3, 4, 5, 6, 69_989, 70_000, 70_009, usize::MAX];
+/// The source, the target and the class that are asked of, and the permissions that the rules cover, also of types and classes that are not
+/// there.
+const COVERED: &[(usize, usize, usize, u32)] = &[
+    (2, 3, 1, 0x4f),
+    (3, 3, 1, 0x2c),
+    (5, 5, 2, 0xC000_0000),
+    (6, 6, 2, 0),
+    (70_000, 69_989, 0, 0),
+    (70_000, 69_990, 0, 0x8),
+    (70_000, 70_009, 0, 0x8),
+    (70_000, 70_010, 0, 0),
+    (69_999, 70_000, 0, 0),
+    (3, 3, 7, 0x1),
+    (3, 3, u32::MAX as usize, 0x2),
+    (3, 3, usize::MAX, 0),
+    (usize::MAX, usize::MAX, 1, 0),
+];
 
-const ASKED: &[usize] = &[0, 1, 2, 3, 7, u32::MAX as usize, usize::MAX];
-
-/// The types of a range. Errors: out of memory.
-fn numbers_of(alloc: Global, range: Range) -> Result<Numbers, NoMemory> {
-    let before = Numbers::below(alloc, range.0)?;
-    let all = Numbers::below(alloc, range.1)?;
-    all.joined(alloc, Joining::Without, &before)
+/// The types of a range. None where there is no memory.
+fn numbers_of(alloc: Global, range: Range) -> Option<Numbers> {
+    let before = Numbers::below(alloc, range.0).ok()?;
+    let all = Numbers::below(alloc, range.1).ok()?;
+    all.joined(alloc, Joining::Without, &before).ok()
 }
 
-/// Adds the types of a range, and answers their number. Errors: out of memory.
-fn push_set(alloc: Global, sets: &mut Vec<Numbers>, range: Range) -> Result<u32, NoMemory> {
+/// Adds the types of a range, and answers their number. None where there is no memory.
+fn push_set(alloc: Global, sets: &mut Vec<Numbers>, range: Range) -> Option<u32> {
     let number = sets.len();
     if number > u32::MAX as usize {
-        return Err(NoMemory);
+        return None;
     }
-    sets.push(numbers_of(alloc, range)?)?;
-    Ok(number as u32)
-}
-
-/// What a row reaches. Errors: out of memory.
-fn reach_of(
-    alloc: Global,
-    sets: &mut Vec<Numbers>,
-    range: Option<Range>,
-) -> Result<Reach, NoMemory> {
-    match range {
-        Some(range) => Ok(Reach::Types(push_set(alloc, sets, range)?)),
-        None => Ok(Reach::Itself),
+    let numbers = numbers_of(alloc, range)?;
+    match sets.push(numbers) {
+        Ok(()) => Some(number as u32),
+        Err(_) => None,
     }
 }
 
-/// The rules of all rows as rules that allow, with their index: the sets of each row have numbers of their own. All count always, since
-/// what conditions do a session shows. Errors: out of memory.
-fn sections_of(alloc: Global, rows: &[Row]) -> Result<Sections, NoMemory> {
-    let mut sets = Vec::new(alloc);
+/// The rule of a row, whose sets have numbers of their own. None where there is no memory.
+fn rule_of(alloc: Global, sets: &mut Vec<Numbers>, row: &Row) -> Option<NamedRule> {
+    let &(source, target, class, mask) = row;
+    let target = match target {
+        Some(range) => Reach::Types(push_set(alloc, &mut *sets, range)?),
+        None => Reach::Itself,
+    };
+    Some(NamedRule {
+        branch: 0,
+        source: push_set(alloc, sets, source)?,
+        target,
+        class,
+        mask,
+    })
+}
+
+/// The rules of all rows, as rules that allow. None where there is no memory.
+fn rules_of(alloc: Global, sets: &mut Vec<Numbers>, rows: &[Row]) -> Option<NamedRules> {
     let mut allow = Vec::new(alloc);
     for row in rows {
-        let source = push_set(alloc, &mut sets, row.0)?;
-        let target = reach_of(alloc, &mut sets, row.1)?;
-        allow.push(NamedRule {
-            branch: 0,
-            source,
-            target,
-            class: row.2,
-            mask: row.3,
-        })?;
+        allow.push(rule_of(alloc, &mut *sets, row)?).ok()?;
     }
-    let rules = NamedRules {
+    Some(NamedRules {
         allow,
         auditallow: Vec::new(alloc),
         dontaudit: Vec::new(alloc),
-    };
-    Sections::of(alloc, &rules, sets.as_slice(), Vec::new(alloc))
+    })
 }
 
-/// Whether a type is in a range.
-fn is_in(range: Range, number: usize) -> bool {
-    range.0 <= number && number < range.1
+/// No branches: all rules count always, since what conditions do a session shows.
+fn no_branches(alloc: Global) -> Vec<Branch>
+    ensures { IsStrictlySortedBy branch_cmp result.items }
+{
+    Vec::new(alloc)
 }
 
-/// Whether a row is on a pair of types and a class.
-fn is_on(row: &Row, source: usize, target: usize, class: usize) -> bool {
-    let reaches = match row.1 {
-        Some(range) => is_in(range, target),
-        None => source == target,
-    };
-    reaches && is_in(row.0, source) && row.2 as usize == class
+/// The rules of all rows with their index. None where there is no memory.
+fn sections_of(alloc: Global, rows: &[Row]) -> Option<Sections> {
+    let mut sets = Vec::new(alloc);
+    let rules = rules_of(alloc, &mut sets, rows)?;
+    Sections::of(alloc, &rules, sets.as_slice(), no_branches(alloc)).ok()
 }
 
-/// The permissions of the rows on a pair of types and a class.
-fn walked(source: usize, target: usize, class: usize) -> u32 {
-    let mut mask = 0;
-    for row in ROWS {
-        if is_on(row, source, target, class) {
-            mask |= row.3;
-        }
-    }
-    mask
-}
-
-/// The permissions that the rules cover, by their index.
-fn covered(sections: &Sections, source: usize, target: usize, class: usize) -> u32 {
-    let asked = Asked {
-        source,
-        target,
-        class,
-    };
-    sections.allowed(&Settings::all_off(), &asked)
-}
-
-/// The same by the rules one by one.
-fn walked_in(sections: &Sections, source: usize, target: usize, class: usize) -> u32 {
+/// The permissions that the rules cover, by their index. None where they are others by the rules one by one.
+fn covered(sections: &Sections, source: usize, target: usize, class: usize) -> Option<u32> {
+    let settings = Settings::all_off();
     let asked = Asked {
         source,
         target,
@@ -138,53 +129,38 @@ fn walked_in(sections: &Sections, source: usize, target: usize, class: usize) ->
     };
     let mut mask = 0;
     for place in 0..sections.allow_len() {
-        mask |= sections.allowed_at(&Settings::all_off(), &asked, place);
+        mask |= sections.allowed_at(&settings, &asked, place);
     }
-    mask
+    if sections.allowed(&settings, &asked) == mask {
+        Some(mask)
+    } else {
+        None
+    }
 }
 
-/// Whether the rules cover on each pair of types with this source what the rows do.
-fn covers_alike(sections: &Sections, source: usize, class: usize) -> bool {
-    for &target in TYPES {
-        let want = walked(source, target, class);
-        if covered(sections, source, target, class) != want
-            || walked_in(sections, source, target, class) != want
-        {
-            return false;
+/// Whether the rules of all rows cover what they have to, each once. None where there is no memory.
+fn is_covered(alloc: Global) -> Option<bool> {
+    let sections = sections_of(alloc, ROWS)?;
+    for &(source, target, class, mask) in COVERED {
+        if covered(&sections, source, target, class) != Some(mask) {
+            return Some(false);
         }
     }
-    true
-}
-
-/// The same on each class and each pair of types.
-fn all_alike(sections: &Sections) -> bool {
-    for &class in ASKED {
-        for &source in TYPES {
-            if !covers_alike(sections, source, class) {
-                return false;
-            }
-        }
-    }
-    true
+    Some(sections.allow_len() == ROWS.len() - 1)
 }
 
 #[test]
-fn rules_cover_what_a_walk_over_them_does(rt: HostRuntime) -> Result<(), Fail> {
-    let sections = sections_of(rt.alloc(), ROWS)?;
-    assert_eq!(rt; sections.allow_len(), ROWS.len() - 1);
-    assert!(rt; all_alike(&sections));
-    assert_eq!(rt; walked(2, 3, 1), 0x4f);
-    assert_eq!(rt; covered(&sections, 2, 3, 1), 0x4f);
-    assert_eq!(rt; covered(&sections, 3, 3, 1), 0x2c);
-    let none = sections_of(rt.alloc(), &[])?;
-    assert_eq!(rt; (none.allow_len(), covered(&none, 0, 0, 0)), (0, 0));
-    Ok(())
+fn a_refused_growth_leaves_no_rule_out(rt: HostRuntime) {
+    let is_so = match is_covered(rt.alloc()) {
+        Some(is_so) => is_so,
+        None => is_covered(rt.alloc()) == Some(true),
+    };
+    assert!(rt; is_so);
 }
 
 #[test]
-fn a_refused_growth_leaves_no_rule_out(rt: HostRuntime) -> Result<(), Fail> {
-    let alloc = rt.alloc();
-    let sections = sections_of(alloc, ROWS).or_else(|_| sections_of(alloc, ROWS))?;
-    assert!(rt; all_alike(&sections));
+fn there_may_be_no_rules(rt: HostRuntime) -> Result<(), Fail> {
+    let none = sections_of(rt.alloc(), &[]).ok_or("no memory")?;
+    assert!(rt; none.allow_len() == 0 && covered(&none, 0, 0, 0) == Some(0));
     Ok(())
 }

@@ -1,9 +1,10 @@
 //! Tests that pass with every growth allowed, and with any one of them refused (`scripts/refuse-growths` does so in turn):
 //! the call that lost it says so and has changed nothing, so each call is tried once more.
 
-use crate::answers::{FIRST, Question, lines, row_holds};
+use crate::answers::{FIRST, Question, row_holds, show_faults};
 use cil_host::{Host, QueryFault};
 use cil_macros::Instances;
+use cil_modset::ModuleSet;
 use cil_server::{Counted, Served, serve};
 use cil_syntax::Failure;
 use cil_tables::compile;
@@ -11,16 +12,24 @@ use cil_text_tests::set_of;
 use std::alloc::Global;
 use std::test::Fail;
 
-/// How many optionals a policy has and how many reasons, or the lines of its faults. None where there is no memory.
-fn compiled(alloc: Global, texts: &[&str]) -> Option<String> {
-    let modules = set_of(alloc, texts).ok()?;
-    match compile(alloc, &modules) {
-        Ok(compiled) => {
-            let (optionals, reasons) = (compiled.optionals.len(), compiled.reasons.len());
-            format!(in alloc; "{optionals} {reasons}").ok()
-        }
-        Err(Failure::Faults(faults)) => lines(alloc, &faults),
-        Err(Failure::NoMemory) => None,
+/// Adds how many optionals a policy has and how many reasons, or the lines of its faults. False where there is no memory.
+fn show_compiled(alloc: Global, modules: &ModuleSet, out: &mut String) -> bool {
+    match compile(alloc, modules) {
+        Ok(found) => write!(out, "{} {}", found.optionals.len(), found.reasons.len()).is_ok(),
+        Err(Failure::Faults(faults)) => show_faults(alloc, &faults, out),
+        Err(Failure::NoMemory) => false,
+    }
+}
+
+/// The same of one text, or of two with a stroke between.
+fn compile_texts(alloc: Global, texts: &str, out: &mut String) -> bool {
+    let made = match texts.split_once(" | ") {
+        Some((first, second)) => set_of(alloc, &[first, second]),
+        None => set_of(alloc, &[texts]),
+    };
+    match made {
+        Ok(modules) => show_compiled(alloc, &modules, out),
+        Err(_) => false,
     }
 }
 
@@ -30,118 +39,52 @@ const PLACED: &[&str] = &[
     "(role r)(type z)(type w)(macro a ((type t)) (type x)(roletype r t))(macro b ((type t)) (call a (t))(type y))(block n (call b (z)))(call b (z))(call a (w)) => 9 10",
 ];
 
-/// Policies, and what they are compiled to, or their faults: of each step.
-const POLICIES: &[(&[&str], &str)] = &[
-    (
-        &[
-            "(class file (open read))(user u)(role r)(type a)(type b)(userrole u r)(roletype r a)(roletype r b)(allow a b (file (read)))",
-        ],
-        "0 0",
-    ),
-    (
-        &[
-            "(class file (open read))(user u)(role r)(type a)(type b)(userrole u r)(roletype r a)(roletype r b)(allow a b (file (read)))",
-            "(optional o (allow b x (file (read))))(optional p (type x)(roletype r nobody))(optional q (allow b a (file (open))))",
-        ],
-        "3 2",
-    ),
-    (
-        &[
-            "(class c (p))(allow a self (c (p)))",
-            "(type 1x)(allow a b)",
-        ],
-        "23 1 9 . allow\n25 1 6 . 1x\n",
-    ),
-    (
-        &[
-            "(block b (blockinherit b)(block x))(blockinherit nob)(macro b ())(block a (blockinherit b)(macro x ()))",
-        ],
-        "31 0 7 . b\n31 0 32 b x\n31 0 60 . b\n31 0 97 a x\n32 0 49 . nob\n33 0 23 b b\n",
-    ),
-    (
-        &["(macro m ((type x)) (call m ()))(call m (t))(block n (call m (t)))"],
-        "34 0 26 . m\n34 0 26 n m\n35 0 26 . m\n35 0 26 n m\n",
-    ),
-    (&["(class w (p))(class w (q))"], "36 0 7 . w\n36 0 20 . w\n"),
+/// Policies, one or two modules each, and behind arrows how many optionals they have and how many reasons, or their faults: of each step.
+const POLICIES: &[&str] = &[
+    "(class file (open read))(user u)(role r)(type a)(type b)(userrole u r)(roletype r a)(roletype r b)(allow a b (file (read))) => 0 0",
+    "(class file (open read))(user u)(role r)(type a)(type b)(userrole u r)(roletype r a)(roletype r b)(allow a b (file (read))) | (optional o (allow b x (file (read))))(optional p (type x)(roletype r nobody))(optional q (allow b a (file (open)))) => 3 2",
+    "(class c (p))(allow a self (c (p))) | (type 1x)(allow a b) => 23 1 9 . allow\n25 1 6 . 1x\n",
+    "(block b (blockinherit b)(block x))(blockinherit nob)(macro b ())(block a (blockinherit b)(macro x ())) => 31 0 7 . b\n31 0 32 b x\n31 0 60 . b\n31 0 97 a x\n32 0 49 . nob\n33 0 23 b b\n",
+    "(macro m ((type x)) (call m ()))(call m (t))(block n (call m (t))) => 34 0 26 . m\n34 0 26 n m\n35 0 26 . m\n35 0 26 n m\n",
+    "(class w (p))(class w (q)) => 36 0 7 . w\n36 0 20 . w\n",
     // Commons and operators; a class with two commons.
-    (
-        &[
-            "(class c (q))(common k (p r))(classcommon c k)(type a)(allow a self (c (and (not q) (xor all (p)))))",
-        ],
-        "0 0",
-    ),
-    (
-        &["(class c ())(common k (x))(common j (x))(classcommon c k)(classcommon c j)"],
-        "56 0 53 . c\n56 0 70 . c\n",
-    ),
+    "(class c (q))(common k (p r))(classcommon c k)(type a)(allow a self (c (and (not q) (xor all (p))))) => 0 0",
+    "(class c ())(common k (x))(common j (x))(classcommon c k)(classcommon c j) => 56 0 53 . c\n56 0 70 . c\n",
     // Aliases and attributes of types, roles and users; an alias without a target, and an attribute in itself.
-    (
-        &[
-            "(class c (p))(role r)(roleattribute ra)(roleattributeset ra (r))(user u)(userattribute ua)(userattributeset ua (u))(userrole ua ra)",
-            "(type a)(type b)(typealias x)(typealiasactual x a)(typeattribute z)(typeattributeset z (and (not (b)) all))(typeattribute y)(typeattributeset y (xor z (b)))(roletype ra y)(allow y z (c (p)))",
-        ],
-        "0 0",
-    ),
-    (
-        &["(typealias x)(typeattribute z)(typeattributeset z (not (z)))"],
-        "51 0 11 . x\n54 0 28 . z\n",
-    ),
+    "(class c (p))(role r)(roleattribute ra)(roleattributeset ra (r))(user u)(userattribute ua)(userattributeset ua (u))(userrole ua ra) | (type a)(type b)(typealias x)(typealiasactual x a)(typeattribute z)(typeattributeset z (and (not (b)) all))(typeattribute y)(typeattributeset y (xor z (b)))(roletype ra y)(allow y z (c (p))) => 0 0",
+    "(typealias x)(typeattribute z)(typeattributeset z (not (z))) => 51 0 11 . x\n54 0 28 . z\n",
     // Class maps and class permissions, two of them on a circle; audit rules.
-    (
-        &[
-            "(class c (p q))(type a)(classmap m (x y))(classpermission n)(classpermissionset n (m (x)))(classmapping m x n)(classmapping m x (c (p)))(classmapping m y (c (not (p))))(classorder (c))(allow a a n)(auditallow a a (m (all)))(dontaudit a self (m (xor all (y))))",
-        ],
-        "0 0",
-    ),
+    "(class c (p q))(type a)(classmap m (x y))(classpermission n)(classpermissionset n (m (x)))(classmapping m x n)(classmapping m x (c (p)))(classmapping m y (c (not (p))))(classorder (c))(allow a a n)(auditallow a a (m (all)))(dontaudit a self (m (xor all (y)))) => 0 0",
     // Class permissions as arguments: lists that are handed on, in rules, a mapping and an optional; one that is misplaced and
     // one of a wrong form; a permission that the class lacks.
-    (
-        &[
-            "(class c (p q))(type a)(classmap m (x))(macro in ((classpermission l)(classpermission n)) (allow a a l)(auditallow a self n)(classmapping m x l)(optional o (dontaudit a a l)))(macro out ((classpermission k)) (call in (k (m (x)))))(call out ((c (and all (not (q))))))(neverallow a a (c (q)))(optional w (call in ((c (r)) (c (p)))))",
-        ],
-        "3 2",
-    ),
-    (
-        &[
-            "(macro k ((classpermission l)) (classpermissionset l (c (p))))(call k ((c (q))))(call k ((c)))",
-        ],
-        "35 0 68 . k\n35 0 86 . k\n",
-    ),
-    (
-        &[
-            "(class c (p))(type a)(macro k ((classpermission l)) (allow a a l)(dontaudit a a l))(call k ((c (not (p q)))))",
-        ],
-        "41 0 103 . q\n",
-    ),
+    "(class c (p q))(type a)(classmap m (x))(macro in ((classpermission l)(classpermission n)) (allow a a l)(auditallow a self n)(classmapping m x l)(optional o (dontaudit a a l)))(macro out ((classpermission k)) (call in (k (m (x)))))(call out ((c (and all (not (q))))))(neverallow a a (c (q)))(optional w (call in ((c (r)) (c (p))))) => 3 2",
+    "(macro k ((classpermission l)) (classpermissionset l (c (p))))(call k ((c (q))))(call k ((c))) => 35 0 68 . k\n35 0 86 . k\n",
+    "(class c (p))(type a)(macro k ((classpermission l)) (allow a a l)(dontaudit a a l))(call k ((c (not (p q))))) => 41 0 103 . q\n",
     // Lists 100 deep, and a branch. Constraints are not supported yet, so their trees are read alone.
-    (
-        &[
-            "(class c (p))(type a)(allow a self (c ((((((((((((((((((((((((((((((((((((((((((((((((((((((((((((((((((((((((((((((((((((((((((((((((((((p))))))))))))))))))))))))))))))))))))))))))))))))))))))))))))))))))))))))))))))))))))))))))))))))))))))",
-        ],
-        "0 0",
-    ),
-    (
-        &[
-            "(constrain (c (p)) (not (not (not (not (not (not (not (not (not (not (not (not (not (not (not (not (not (not (not (not (not (not (not (not (not (not (not (not (not (not (not (not (not (not (not (not (not (not (not (not (not (not (not (not (not (not (not (not (not (not (not (not (not (not (not (not (not (not (not (not (not (not (not (not (not (not (not (not (not (not (not (not (not (not (not (not (not (not (not (not (not (not (not (not (not (not (not (not (not (not (not (not (not (not (not (not (not (not (not (eq u1 u2)))))))))))))))))))))))))))))))))))))))))))))))))))))))))))))))))))))))))))))))))))))))))))))))))))))(booleanif b (true (allow a b (c (d)))) (false (call m)))",
-        ],
-        "22 0 0 . constrain\n",
-    ),
+    "(class c (p))(type a)(allow a self (c ((((((((((((((((((((((((((((((((((((((((((((((((((((((((((((((((((((((((((((((((((((((((((((((((((((p)))))))))))))))))))))))))))))))))))))))))))))))))))))))))))))))))))))))))))))))))))))))))))))))))))))) => 0 0",
+    "(constrain (c (p)) (not (not (not (not (not (not (not (not (not (not (not (not (not (not (not (not (not (not (not (not (not (not (not (not (not (not (not (not (not (not (not (not (not (not (not (not (not (not (not (not (not (not (not (not (not (not (not (not (not (not (not (not (not (not (not (not (not (not (not (not (not (not (not (not (not (not (not (not (not (not (not (not (not (not (not (not (not (not (not (not (not (not (not (not (not (not (not (not (not (not (not (not (not (not (not (not (not (not (not (eq u1 u2)))))))))))))))))))))))))))))))))))))))))))))))))))))))))))))))))))))))))))))))))))))))))))))))))))))(booleanif b (true (allow a b (c (d)))) (false (call m))) => 22 0 0 . constrain\n",
 ];
 
 /// Whether a policy is compiled so, at once or when it is asked again.
-fn is_compiled_so(alloc: Global, texts: &[&str], want: &str) -> bool {
-    let got = compiled(alloc, texts).or_else(|| compiled(alloc, texts));
-    got.is_some_and(|got| got.as_str() == want)
+fn is_compiled_so(alloc: Global, texts: &str, want: &str) -> bool {
+    for _ in 0..2u8 {
+        let mut out = String::new(alloc);
+        if compile_texts(alloc, texts, &mut out) {
+            return out.as_str() == want;
+        }
+    }
+    false
 }
 
 #[test]
 fn a_refused_growth_is_no_fault_of_a_policy(rt: HostRuntime) -> Result<(), Fail> {
-    for &(texts, want) in POLICIES {
-        assert!(rt; is_compiled_so(rt.alloc(), texts, want), "{want}");
+    for row in POLICIES {
+        let (texts, want) = row.split_once(" => ").ok_or("no row")?;
+        assert!(rt; is_compiled_so(rt.alloc(), texts, want), "{row}");
     }
     for row in PLACED {
-        let text = row.split_once(" => ").map_or("", |(text, _)| text);
-        assert!(rt; is_compiled_so(rt.alloc(), &[text], "0 0"), "{text}");
+        let (text, _) = row.split_once(" => ").ok_or("no row")?;
+        assert!(rt; is_compiled_so(rt.alloc(), text, "0 0"), "{text}");
     }
     Ok(())
 }
@@ -150,9 +93,9 @@ fn a_refused_growth_is_no_fault_of_a_policy(rt: HostRuntime) -> Result<(), Fail>
 struct Counts;
 
 impl Question for Counts {
-    fn answer(&self, alloc: Global, instances: &Instances) -> Option<String> {
+    fn answer(&self, _alloc: Global, instances: &Instances, out: &mut String) -> bool {
         let (entries, called) = (instances.spaces().entries().len(), instances.called().len());
-        format!(in alloc; "{entries} {called}").ok()
+        write!(out, "{entries} {called}").is_ok()
     }
 }
 
@@ -200,25 +143,32 @@ fn a_refused_growth_leaves_the_host(rt: HostRuntime) {
     assert!(rt; is_allowed(&mut host, 1));
 }
 
-/// Runs some requests, and once more where a growth was refused. A session that wants memory for its buffers writes nothing.
+/// Serves some requests, and how the session ends.
+fn serve_once(alloc: Global, host: &mut Host<u8>, input: &str, written: &mut Vec<u8>) -> Served {
+    written.clear();
+    let mut reader = Counted::new(input.as_bytes());
+    serve(alloc, host, &mut reader, &mut Counted::new(written))
+}
+
+/// Whether a growth was refused: a session that wants memory for its buffers writes nothing.
+fn is_lost(served: Served, written: &[u8]) -> bool {
+    match served {
+        Served::Fault(0) => written.is_empty(),
+        Served::End => written == b"ERR 0\n".as_slice(),
+        _ => false,
+    }
+}
+
+/// Whether some requests are replied to so, at once or when they are asked again.
 fn replies_at_last(alloc: Global, host: &mut Host<u8>, written: &mut Vec<u8>, row: &str) -> bool {
     let Some((input, output)) = row.split_once(" => ") else {
         return false;
     };
-    for _ in 0..2u8 {
-        written.clear();
-        let mut reader = Counted::new(input.as_bytes());
-        let served = serve(alloc, host, &mut reader, &mut Counted::new(&mut *written));
-        let is_lost = match served {
-            Served::Fault(0) => written.is_empty(),
-            Served::End => written.as_slice() == b"ERR 0\n".as_slice(),
-            _ => false,
-        };
-        if !is_lost {
-            return served == Served::End && written.as_slice() == output.as_bytes();
-        }
+    let mut served = serve_once(alloc, host, input, &mut *written);
+    if is_lost(served, written.as_slice()) {
+        served = serve_once(alloc, host, input, &mut *written);
     }
-    false
+    served == Served::End && written.as_slice() == output.as_bytes()
 }
 
 /// Requests, and behind arrows their replies.

@@ -1,21 +1,12 @@
 //! The tests of the libraries from names up: what neither a clause nor a session says. Each growth refused, devices that fail, wrong choices of
-//! optionals, what is made by hand, and each public call on its happy path. What a session can show is a row in `rows/`.
-//! Expected values come from the rules of the language or from another program, never from this one. They stand in one crate above
-//! all of them, since the test build of a crate proves that crate once more. What is below names is tested in `cil_text_tests`.
+//! optionals, what is made by hand, and each public call on its happy path. What a session can show is a row in `rows/`. Expected values come
+//! from the rules of the language, never from this program. What is below names is tested in `cil_text_tests`.
 #![tactic(auto)]
 
 #[cfg(test)]
 mod answers;
 #[cfg(test)]
 mod arguments;
-#[cfg(test)]
-mod asked_words;
-#[cfg(test)]
-mod bodies;
-#[cfg(test)]
-mod branches;
-#[cfg(test)]
-mod candidates;
 #[cfg(test)]
 mod class_masks;
 #[cfg(test)]

@@ -1,19 +1,35 @@
-//! Look-up of words in scopes of several namespaces.
+//! Look-up of words in scopes of several namespaces: what they name where some optionals are enabled, and what they could name, whatever is
+//! enabled.
 
-use cil_blocks::Namespaces;
+ghost use Rattle.std.specs.Prelude.{IfSome};
+ghost use Rattle.cil_names.specs.Entries.{AreOrdered};
+
+use cil_blocks::{Namespaces, ScopeList};
 use cil_names::{Entry, Names, OptSet, are_numbers};
 use cil_syntax::{Excerpt, Kind, Sign, Spot, Word};
 use std::alloc::Global;
 use std::test::Fail;
 
-/// Namespaces, each by the number of the one round it and its own name: `p` has the number 1, `r` 2 and `p.q` 3.
-const SPACES: &[(usize, &[u8])] = &[(0, b"p"), (0, b"r"), (1, b"q")];
+/// A namespace, by the number of the one round it and its own name, and its number.
+type Space = (usize, &'static [u8], usize);
+
+/// Namespaces: each is added, or is there and has its number. `p` has the number 1, `r` 2 and `p.q` 3.
+const SPACES: &[Space] = &[
+    (0, b"p", 1),
+    (0, b"r", 2),
+    (1, b"q", 3),
+    (0, b"p", 1),
+    (1, b"q", 3),
+    (0, b"q", 4),
+    (1, b"p", 5),
+    (3, b"q", 6),
+];
 
 /// A namespace, a name, its kind, and the optionals round each of its statements; with none it is declared outside all.
-pub(crate) type Declared = (usize, &'static [u8], Kind, &'static [&'static [usize]]);
+type Declared = (usize, &'static [u8], Kind, &'static [&'static [usize]]);
 
 /// Declared names, in order.
-pub(crate) const DECLARED: &[Declared] = &[
+const DECLARED: &[Declared] = &[
     (0, b"o", Kind::Type_, &[]),
     (1, b"o", Kind::Type_, &[&[0]]),
     (0, b"x", Kind::Type_, &[]),
@@ -25,44 +41,55 @@ pub(crate) const DECLARED: &[Declared] = &[
     (3, b"z", Kind::Class, &[]),
 ];
 
-pub(crate) type Spaces = Namespaces<'static>;
-/// The number of a namespace, which is added if it is not there.
-fn number(spaces: &mut Spaces, outer: usize, name: &'static [u8]) -> Result<usize, Fail> {
-    if outer > spaces.len() {
-        return Err(Fail::from("no namespace"));
-    }
-    Ok(spaces.number(outer, name)?)
-}
+type Spaces = Namespaces<'static>;
 
-pub(crate) fn spaces(alloc: Global) -> Result<Spaces, Fail> {
+/// Some namespaces, one after another. None where one does not get its number.
+fn spaces_of(alloc: Global, rows: &[Space]) -> Option<Spaces> {
     let mut spaces = Namespaces::global(alloc);
-    for &(outer, name) in SPACES {
-        number(&mut spaces, outer, name)?;
+    for &(outer, name, want) in rows {
+        if outer > spaces.len() {
+            return None;
+        }
+        match spaces.number(outer, name) {
+            Ok(number) if number == want => {}
+            _ => return None,
+        }
     }
-    Ok(spaces)
+    Some(spaces)
 }
 
-fn rounds(alloc: Global, optionals: &[&[usize]]) -> Result<Vec<Vec<usize>>, Fail> {
+/// The sets of optionals round the statements of a name. None where there is no memory.
+fn rounds(alloc: Global, optionals: &[&[usize]]) -> Option<Vec<Vec<usize>>> {
     let mut rounds = Vec::new(alloc);
     for round in optionals {
-        rounds.push(Vec::from_slice(alloc, round)?)?;
+        rounds.push(Vec::from_slice(alloc, round).ok()?).ok()?;
     }
-    Ok(rounds)
+    Some(rounds)
 }
 
-/// The entries of declared names.
-pub(crate) fn entries(alloc: Global, declared: &[Declared]) -> Result<Vec<Entry<'static>>, Fail> {
+fn entry(alloc: Global, declared: &Declared) -> Option<Entry<'static>> {
+    let &(space, name, kind, optionals) = declared;
+    Some(Entry {
+        space,
+        name: Excerpt::of(name),
+        kind,
+        always: optionals.is_empty(),
+        rounds: rounds(alloc, optionals)?,
+    })
+}
+
+/// Declared names. None where they do not rise, or there is no memory.
+fn names(alloc: Global, spaces: &Spaces, declared: &[Declared]) -> Option<Names<'static>>
+    ensures { IfSome result (λ names. AreOrdered spaces.now names) }
+{
     let mut entries = Vec::new(alloc);
-    for &(space, name, kind, optionals) in declared {
-        entries.push(Entry {
-            space,
-            name: Excerpt::of(name),
-            kind,
-            always: optionals.is_empty(),
-            rounds: rounds(alloc, optionals)?,
-        })?;
+    for one in declared {
+        entries.push(entry(alloc, one)?).ok()?;
     }
-    Ok(entries)
+    match Names::checked(alloc, spaces, entries) {
+        Ok(found) => found,
+        Err(_) => None,
+    }
 }
 
 pub(crate) fn word(bytes: &'static [u8], sign: Sign) -> Word<'static> {
@@ -74,74 +101,146 @@ pub(crate) fn word(bytes: &'static [u8], sign: Sign) -> Word<'static> {
 }
 
 type Found = Option<usize>;
-/// The number of the declared name that a word names in a scope of some namespaces where some optionals are enabled.
-fn named_among(
-    alloc: Global,
-    spaces: &Spaces,
-    declared: &[Declared],
-    word: &Word,
-    scope: &[usize],
-    flags: &[bool],
-) -> Result<Found, Fail> {
-    let names = Names::checked(alloc, spaces, entries(alloc, declared)?)?.ok_or(
-        "they do not rise",
-    )?;
-    let enabled = OptSet::of(Vec::from_slice(alloc, flags)?);
-    if !are_numbers(spaces, scope) {
-        return Err(Fail::from("no namespace"));
+
+/// What a word means.
+#[derive(Clone, Copy)]
+enum Ask {
+    /// The declared name that it names in its scope where these optionals are enabled.
+    Names(&'static [bool], Found),
+    /// All that it could name there, behind the number 9.
+    Could(&'static [usize]),
+    /// The one that it could name in every scope; none where it hangs on the scope, or on dots.
+    Everywhere(Found),
+}
+
+/// A word, what it wants, its scope, and what it means.
+type Row = (&'static [u8], Sign, &'static [usize], Ask);
+
+/// The scope with these namespaces, and with the global one behind them. None where there is no memory.
+fn scope_of(alloc: Global, numbers: &[usize]) -> Option<ScopeList> {
+    let mut scope = ScopeList::new(alloc);
+    for &number in numbers {
+        scope.add(number).ok()?;
     }
-    Ok(names.resolve(spaces, word, scope, &enabled))
+    scope.close().ok()?;
+    Some(scope)
 }
 
-fn named(alloc: Global, word: &Word, scope: &[usize], flags: &[bool]) -> Result<Found, Fail> {
-    named_among(alloc, &spaces(alloc)?, DECLARED, word, scope, flags)
+/// Whether a word could name these in a scope.
+fn could(alloc: Global, spaces: &Spaces, names: &Names, row: &Row, want: &[usize]) -> bool
+    requires { AreOrdered spaces.now names.now }
+{
+    if !are_numbers(spaces, row.2) {
+        return false;
+    }
+    match names.candidates(alloc, spaces, &word(row.0, row.1), row.2) {
+        Ok(found) => found.as_slice() == want,
+        Err(_) => false,
+    }
 }
 
-/// A word, what it wants, its scope, the enabled optionals, and the number of the declared name that it names.
-const NAMED: &[(&[u8], Sign, &[usize], &[bool], Found)] = &[
+/// The same behind the number 9, where the scope is asked whether it has a namespace.
+fn could_in(alloc: Global, spaces: &Spaces, names: &Names, row: &Row, scope: &ScopeList) -> bool
+    requires { AreOrdered spaces.now names.now }
+{
+    let Ask::Could(want) = row.3 else {
+        return false;
+    };
+    let Ok(mut found) = Vec::from_slice(alloc, &[9]) else {
+        return false;
+    };
+    let word = word(row.0, row.1);
+    are_numbers(spaces, scope.as_slice())
+        && matches!(
+            names.push_candidates(&mut found, spaces, &word, scope),
+            Ok(())
+        )
+        && found.as_slice() == want
+}
+
+/// What a word names in its scope where these optionals are enabled. None where there is no such scope, or no memory.
+fn named(alloc: Global, spaces: &Spaces, names: &Names, row: &Row, flags: &[bool]) -> Option<Found>
+    requires { AreOrdered spaces.now names.now }
+{
+    if !are_numbers(spaces, row.2) {
+        return None;
+    }
+    let enabled = OptSet::of(Vec::from_slice(alloc, flags).ok()?);
+    Some(names.resolve(spaces, &word(row.0, row.1), row.2, &enabled))
+}
+
+/// Whether a row holds of some names.
+fn is_meant(alloc: Global, spaces: &Spaces, names: &Names, row: &Row) -> bool
+    requires { AreOrdered spaces.now names.now }
+{
+    match row.3 {
+        Ask::Names(flags, want) => named(alloc, spaces, names, row, flags) == Some(want),
+        Ask::Could(want) => match scope_of(alloc, row.2) {
+            Some(scope) => {
+                could(alloc, spaces, names, row, &want[1..])
+                    && could_in(alloc, spaces, names, row, &scope)
+            }
+            None => false,
+        },
+        Ask::Everywhere(want) => names.unscoped(&word(row.0, row.1)) == want,
+    }
+}
+
+const NAMED: &[Row] = &[
     // The first namespace of the scope that has the name.
-    (b"x", Sign::Types, &[1, 2, 0], &[], Some(3)),
-    (b"x", Sign::Types, &[2, 1, 0], &[], Some(4)),
-    (b"x", Sign::Types, &[3, 1, 0], &[], Some(3)),
-    (b"y", Sign::Roles, &[3, 1, 2, 0], &[], Some(7)),
-    (b"o", Sign::Types, &[2, 0], &[], Some(0)),
-    (b"x", Sign::Types, &[0], &[], Some(2)),
-    (b"y", Sign::Roles, &[1, 0], &[], None),
+    (b"x", Sign::Types, &[1, 2, 0], Ask::Names(&[], Some(3))),
+    (b"x", Sign::Types, &[2, 1, 0], Ask::Names(&[], Some(4))),
+    (b"x", Sign::Types, &[3, 1, 0], Ask::Names(&[], Some(3))),
+    (b"y", Sign::Roles, &[3, 1, 2, 0], Ask::Names(&[], Some(7))),
+    (b"o", Sign::Types, &[2, 0], Ask::Names(&[], Some(0))),
+    (b"x", Sign::Types, &[0], Ask::Names(&[], Some(2))),
+    (b"y", Sign::Roles, &[1, 0], Ask::Names(&[], None)),
     // A leading dot asks the global namespace alone.
-    (b".x", Sign::Types, &[1, 2, 0], &[], Some(2)),
-    (b".y", Sign::Roles, &[2, 0], &[], None),
-    (b".p.x", Sign::Types, &[2, 0], &[], Some(3)),
+    (b".x", Sign::Types, &[1, 2, 0], Ask::Names(&[], Some(2))),
+    (b".y", Sign::Roles, &[2, 0], Ask::Names(&[], None)),
+    (b".p.x", Sign::Types, &[2, 0], Ask::Names(&[], Some(3))),
     // Names before a dot are those of namespaces.
-    (b"p.x", Sign::Types, &[0], &[], Some(3)),
-    (b"r.x", Sign::Types, &[1, 0], &[], Some(4)),
-    (b"q.z", Sign::Classes, &[1, 0], &[], Some(8)),
-    (b"q.z", Sign::Classes, &[2, 0], &[], None),
-    (b"p.q.z", Sign::Classes, &[2, 1, 0], &[], Some(8)),
-    (b"p.r.x", Sign::Types, &[0], &[], None),
-    (b"s.x", Sign::Types, &[1, 2, 0], &[], None),
+    (b"p.x", Sign::Types, &[0], Ask::Names(&[], Some(3))),
+    (b"r.x", Sign::Types, &[1, 0], Ask::Names(&[], Some(4))),
+    (b"q.z", Sign::Classes, &[1, 0], Ask::Names(&[], Some(8))),
+    (b"q.z", Sign::Classes, &[2, 0], Ask::Names(&[], None)),
+    (
+        b"p.q.z",
+        Sign::Classes,
+        &[2, 1, 0],
+        Ask::Names(&[], Some(8)),
+    ),
+    (b"p.r.x", Sign::Types, &[0], Ask::Names(&[], None)),
+    (b"s.x", Sign::Types, &[1, 2, 0], Ask::Names(&[], None)),
     // A name of another name space hides nothing.
-    (b"x", Sign::Roles, &[1, 2, 0], &[], Some(6)),
-    (b"y", Sign::Types, &[2, 0], &[], None),
-    (b"x", Sign::Users, &[1, 2, 0], &[], None),
-    (b"x", Sign::Classes, &[1, 2, 0], &[], None),
-    (b"x", Sign::Permission, &[1, 2, 0], &[], None),
+    (b"x", Sign::Roles, &[1, 2, 0], Ask::Names(&[], Some(6))),
+    (b"y", Sign::Types, &[2, 0], Ask::Names(&[], None)),
+    (b"x", Sign::Users, &[1, 2, 0], Ask::Names(&[], None)),
+    (b"x", Sign::Classes, &[1, 2, 0], Ask::Names(&[], None)),
+    (b"x", Sign::Permission, &[1, 2, 0], Ask::Names(&[], None)),
     // A name in an optional is there where that is enabled.
-    (b"o", Sign::Types, &[1, 0], &[], Some(0)),
-    (b"o", Sign::Types, &[1, 0], &[false], Some(0)),
-    (b"o", Sign::Types, &[1, 0], &[true], Some(1)),
-    (b"q.x", Sign::Types, &[1, 0], &[true, false], None),
-    (b"q.x", Sign::Types, &[1, 0], &[true, true], Some(5)),
-    (b"q.x", Sign::Types, &[1, 0], &[false, false, true], Some(5)),
+    (b"o", Sign::Types, &[1, 0], Ask::Names(&[], Some(0))),
+    (b"o", Sign::Types, &[1, 0], Ask::Names(&[false], Some(0))),
+    (b"o", Sign::Types, &[1, 0], Ask::Names(&[true], Some(1))),
+    (
+        b"q.x",
+        Sign::Types,
+        &[1, 0],
+        Ask::Names(&[true, false], None),
+    ),
+    (
+        b"q.x",
+        Sign::Types,
+        &[1, 0],
+        Ask::Names(&[true, true], Some(5)),
+    ),
+    (
+        b"q.x",
+        Sign::Types,
+        &[1, 0],
+        Ask::Names(&[false, false, true], Some(5)),
+    ),
 ];
-
-#[test]
-fn words_name_the_first_that_is_declared(rt: HostRuntime) -> Result<(), Fail> {
-    for &(bytes, sign, scope, flags, wanted) in NAMED {
-        let got = named(rt.alloc(), &word(bytes, sign), scope, flags)?;
-        assert_eq!(rt; got, wanted, "{bytes:?} {sign:?} {scope:?} {flags:?}");
-    }
-    Ok(())
-}
 
 /// Names of one letter or two whose hashes begin at one of 64 slots, more than have room there.
 const ALIKE: &[Declared] = &[
@@ -156,130 +255,120 @@ const ALIKE: &[Declared] = &[
 
 const ONE: &[Declared] = &[(1, b"x", Kind::Type_, &[&[0]])];
 
-/// Declared names, a word for types, its scope, and the number of the declared name that it names where optional 0 is enabled.
-const NAMED_AMONG: &[(&[Declared], &[u8], &[usize], Found)] = &[
-    (&[], b"x", &[1, 0], None),
-    // One name, in a namespace that is in the scope or is not.
-    (ONE, b"x", &[3, 1, 0], Some(0)),
-    (ONE, b"x", &[2, 0], None),
-    (ONE, b".x", &[1, 0], None),
-    (ONE, b"p.x", &[2, 0], Some(0)),
-    (ONE, b"y", &[1, 0], None),
-    // The first name and the last one, and those that find no room for a guess.
-    (ALIKE, b"bp", &[1, 0], Some(0)),
-    (ALIKE, b"gs", &[0], Some(3)),
-    (ALIKE, b"i", &[0], Some(4)),
-    (ALIKE, b"iq", &[1, 0], Some(5)),
-    (ALIKE, b"jh", &[1, 0], Some(6)),
-    (ALIKE, b"nd", &[1, 0], None),
-    (ALIKE, b"jh", &[1], None),
+/// Words among these, and one in a namespace that is in the scope or is not.
+const AMONG_ONE: &[Row] = &[
+    (b"x", Sign::Types, &[3, 1, 0], Ask::Names(&[true], Some(0))),
+    (b"x", Sign::Types, &[2, 0], Ask::Names(&[true], None)),
+    (b".x", Sign::Types, &[1, 0], Ask::Names(&[true], None)),
+    (b"p.x", Sign::Types, &[2, 0], Ask::Names(&[true], Some(0))),
+    (b"y", Sign::Types, &[1, 0], Ask::Names(&[true], None)),
+];
+
+/// The first name and the last one, and those that find no room for a guess.
+const AMONG_ALIKE: &[Row] = &[
+    (b"bp", Sign::Types, &[1, 0], Ask::Names(&[true], Some(0))),
+    (b"gs", Sign::Types, &[0], Ask::Names(&[true], Some(3))),
+    (b"i", Sign::Types, &[0], Ask::Names(&[true], Some(4))),
+    (b"iq", Sign::Types, &[1, 0], Ask::Names(&[true], Some(5))),
+    (b"jh", Sign::Types, &[1, 0], Ask::Names(&[true], Some(6))),
+    (b"nd", Sign::Types, &[1, 0], Ask::Names(&[true], None)),
+    (b"jh", Sign::Types, &[1], Ask::Names(&[true], None)),
+];
+
+/// The names that a word could name, whatever is enabled.
+const CANDIDATES: &[Row] = &[
+    (b"x", Sign::Types, &[1, 2, 0], Ask::Could(&[9, 3, 4, 2])),
+    (
+        b"x",
+        Sign::Types,
+        &[3, 2, 1, 0],
+        Ask::Could(&[9, 5, 4, 3, 2]),
+    ),
+    (b".x", Sign::Types, &[1, 2, 0], Ask::Could(&[9, 2])),
+    (b"o", Sign::Types, &[1, 0], Ask::Could(&[9, 1, 0])),
+    (b"p.q.x", Sign::Types, &[1, 0], Ask::Could(&[9, 5])),
+    (b"x", Sign::Roles, &[1, 2, 0], Ask::Could(&[9, 6])),
+    (b"x", Sign::Permission, &[1, 2, 0], Ask::Could(&[9])),
+    // A name that is declared once: in the scope, outside of it, of another kind, behind dots.
+    (b"y", Sign::Roles, &[1, 2, 0], Ask::Could(&[9, 7])),
+    (b"y", Sign::Roles, &[1, 3, 0], Ask::Could(&[9])),
+    (b"y", Sign::Types, &[2, 0], Ask::Could(&[9])),
+    (b"r.y", Sign::Roles, &[1, 0], Ask::Could(&[9, 7])),
+    (b".y", Sign::Roles, &[2, 0], Ask::Could(&[9])),
+    (b"n", Sign::Types, &[2, 0], Ask::Could(&[9])),
+];
+
+/// Names in the global namespace, in another one, in both, in an optional, and of two name spaces.
+const PLACED: &[Declared] = &[
+    (0, b"g", Kind::Type_, &[]),
+    (1, b"k", Kind::Type_, &[]),
+    (0, b"o", Kind::Type_, &[&[0]]),
+    (0, b"s", Kind::Type_, &[]),
+    (0, b"s", Kind::Role, &[]),
+    (0, b"w", Kind::Type_, &[]),
+    (1, b"w", Kind::Type_, &[]),
+];
+
+const UNSCOPED: &[Row] = &[
+    (b"g", Sign::Types, &[], Ask::Everywhere(Some(0))),
+    (b"g", Sign::Roles, &[], Ask::Everywhere(None)),
+    (b"k", Sign::Types, &[], Ask::Everywhere(None)),
+    (b"p.k", Sign::Types, &[], Ask::Everywhere(None)),
+    (b"o", Sign::Types, &[], Ask::Everywhere(Some(2))),
+    (b"s", Sign::Types, &[], Ask::Everywhere(Some(3))),
+    (b"s", Sign::Roles, &[], Ask::Everywhere(Some(4))),
+    (b"w", Sign::Types, &[], Ask::Everywhere(None)),
+    (b"n", Sign::Types, &[], Ask::Everywhere(None)),
+];
+
+/// Declared names, and words.
+const TABLES: &[(&[Declared], &[Row])] = &[
+    (DECLARED, NAMED),
+    (DECLARED, CANDIDATES),
+    (PLACED, UNSCOPED),
+    (ONE, AMONG_ONE),
+    (ALIKE, AMONG_ALIKE),
+    (
+        &[],
+        &[(b"x", Sign::Types, &[1, 0], Ask::Names(&[true], None))],
+    ),
 ];
 
 #[test]
-fn few_names_and_names_of_one_hash(rt: HostRuntime) -> Result<(), Fail> {
-    let alloc = rt.alloc();
-    for &(declared, bytes, scope, wanted) in NAMED_AMONG {
-        let word = word(bytes, Sign::Types);
-        let got = named_among(alloc, &spaces(alloc)?, declared, &word, scope, &[true])?;
-        assert_eq!(rt; got, wanted, "{bytes:?} {scope:?}");
-    }
-    Ok(())
-}
-
-/// A hundred namespaces in one another, whose numbers rise.
-fn nested(alloc: Global) -> Result<Spaces, Fail> {
-    let mut spaces = Namespaces::global(alloc);
-    for outer in 0..100 {
-        number(&mut spaces, outer, b"q")?;
-    }
-    Ok(spaces)
-}
-
-/// The number of the type `x` that a word names in a scope, where each of these namespaces and the global one has a type and a
-/// role `x`: those of types come first, by their namespaces.
-fn named_in_each(alloc: Global, scope: &[usize], sign: Sign) -> Result<Found, Fail> {
-    let spaces = nested(alloc)?;
-    let mut declared = Vec::new(alloc);
-    for kind in [Kind::Type_, Kind::Role] {
-        for space in 0..101 {
-            let one: Declared = (space, b"x", kind, &[]);
-            declared.push(one)?;
+fn words_name_the_first_that_is_declared(rt: HostRuntime) -> Result<(), Fail> {
+    let spaces = spaces_of(rt.alloc(), SPACES).ok_or("no memory")?;
+    for &(declared, words) in TABLES {
+        let Some(names) = names(rt.alloc(), &spaces, declared) else {
+            return Err(Fail::from("they do not rise"));
+        };
+        for row in words {
+            let is_so = is_meant(rt.alloc(), &spaces, &names, row);
+            assert!(rt; is_so, "{:?} {:?} {:?}", row.0, row.1, row.2);
         }
     }
-    named_among(
-        alloc,
-        &spaces,
-        declared.as_slice(),
-        &word(b"x", sign),
-        scope,
-        &[],
-    )
-}
-
-/// A scope, what a word wants, and the number of what it names.
-const IN_EACH: &[(&[usize], Sign, usize)] = &[
-    (&[57, 56, 0], Sign::Types, 57),
-    (&[100, 0], Sign::Types, 100),
-    (&[0, 100], Sign::Types, 0),
-    (&[1, 0], Sign::Roles, 102),
-    (&[100, 0], Sign::Roles, 201),
-];
-
-#[test]
-fn one_name_in_a_hundred_namespaces(rt: HostRuntime) -> Result<(), Fail> {
-    for &(scope, sign, wanted) in IN_EACH {
-        let got = named_in_each(rt.alloc(), scope, sign)?;
-        assert_eq!(rt; got, Some(wanted), "{scope:?}");
-    }
     Ok(())
 }
 
-/// A namespace that is there or is added, and its number.
-const NUMBERED: &[(usize, &[u8], usize)] = &[
-    (0, b"p", 1),
-    (0, b"r", 2),
-    (1, b"q", 3),
-    (0, b"q", 4),
-    (1, b"p", 4),
-    (3, b"q", 4),
-];
-
-#[test]
-fn each_namespace_has_one_number(rt: HostRuntime) -> Result<(), Fail> {
-    for &(outer, name, wanted) in NUMBERED {
-        let mut spaces = spaces(rt.alloc())?;
-        let got = number(&mut spaces, outer, name)?;
-        assert_eq!(rt; got, wanted, "{outer} {name:?}");
-    }
-    Ok(())
-}
-
-/// One more class, and whether the declared names rise with it at their end.
+/// A class behind the class `z` of the namespace 3, and whether both rise.
 const ONE_MORE_NAME: &[(usize, &[u8], bool)] = &[
     (3, b"zz", true),
     (0, b"zz", true),
-    (4, b"zz", false),
+    (7, b"zz", false),
     (3, b"z", false),
     (2, b"z", false),
     (3, b"y", false),
 ];
 
-fn with_name(alloc: Global, space: usize, name: &'static [u8]) -> Result<bool, Fail> {
-    let mut entries = entries(alloc, DECLARED)?;
-    entries.push(Entry {
-        space,
-        name: Excerpt::of(name),
-        kind: Kind::Class,
-        always: true,
-        rounds: Vec::new(alloc),
-    })?;
-    Ok(Names::checked(alloc, &spaces(alloc)?, entries)?.is_some())
-}
-
 #[test]
 fn names_have_to_rise(rt: HostRuntime) -> Result<(), Fail> {
+    let spaces = spaces_of(rt.alloc(), SPACES).ok_or("no memory")?;
     for &(space, name, is_made) in ONE_MORE_NAME {
-        assert_eq!(rt; with_name(rt.alloc(), space, name)?, is_made, "{space}");
+        let declared: [Declared; 2] = [
+            (3, b"z", Kind::Class, &[]),
+            (space, name, Kind::Class, &[]),
+        ];
+        let is_so = names(rt.alloc(), &spaces, &declared).is_some() == is_made;
+        assert!(rt; is_so, "{space} {name:?}");
     }
     Ok(())
 }

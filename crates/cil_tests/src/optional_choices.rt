@@ -1,8 +1,11 @@
 //! Choices of optionals, right and wrong: what `check` says of them, and that what is chosen is right.
 
-use crate::answers::{FIRST, Question, class_permissions, is_answer, lines};
-use cil_macros::Instances;
-use cil_names::{OptSet, declare};
+ghost use Rattle.cil_macros.specs.Items.{items_in, namespaces_in};
+ghost use Rattle.cil_names.specs.Entries.{AreEntries};
+ghost use Rattle.cil_names.specs.Unresolved.{ArePermissions};
+
+use crate::answers::{ByNames, FIRST, Named, NamedQuestion, is_answer, show_faults};
+use cil_names::OptSet;
 use cil_optionals::guesses::guess;
 use cil_optionals::laws::greatest_in_rounds;
 use cil_optionals::{Chosen, Reason, base_faults, check, greatest_counted};
@@ -91,9 +94,9 @@ const CHOICES: &[(&str, &[Row])] = &[
     (NONE, &[("one is out", &[], &[(0, None)])]),
 ];
 
-/// What `check` says of a choice.
+/// A choice, and whether it is right.
 #[derive(Drop)]
-struct Checked(&'static [usize], &'static [Why]);
+struct Checked(&'static [usize], &'static [Why], bool);
 
 /// More flags than the policies have statements.
 const FLAGS: usize = 32;
@@ -109,44 +112,54 @@ fn reason(optional: u32, why: Option<(u32, u32)>) -> Reason {
     }
 }
 
-/// A choice. None where there is no memory.
-fn choice(alloc: Global, enabled: &[usize], reasons: &[Why]) -> Option<Chosen> {
-    let mut flags = Vec::new(alloc);
-    for number in 0..FLAGS {
-        flags.push(enabled.iter().any(|one| *one == number)).ok()?;
+/// Flags for the optionals that are in. None where there is no memory.
+pub(crate) fn flags(alloc: Global, enabled: &[usize]) -> Option<OptSet> {
+    let mut flags = vec![in alloc; false; FLAGS].ok()?;
+    for &number in enabled {
+        if number < flags.len() {
+            flags[number] = true;
+        }
     }
-    let mut listed = Vec::new(alloc);
-    for &(optional, why) in reasons {
-        listed.push(reason(optional, why)).ok()?;
-    }
-    Some(Chosen {
-        enabled: OptSet::of(flags),
-        reasons: listed,
-    })
+    Some(OptSet::of(flags))
 }
 
-impl Question for Checked {
-    fn answer(&self, alloc: Global, instances: &Instances) -> Option<String> {
-        let Ok(names) = declare(alloc, instances) else {
+/// A choice. None where there is no memory.
+fn choice(alloc: Global, enabled: &[usize], whys: &[Why]) -> Option<Chosen> {
+    let mut reasons = Vec::new(alloc);
+    for &(optional, why) in whys {
+        if reasons.push(reason(optional, why)).is_err() {
             return None;
-        };
-        let Ok(permissions) = class_permissions(alloc, &names, instances) else {
-            return None;
-        };
-        let permissions = permissions.as_slice();
-        let chosen = choice(alloc, self.0, self.1)?;
-        let is_right = check(alloc, &*instances, &names, permissions, &chosen).ok()?;
-        let mut out = String::new(alloc);
-        write!(out, "{is_right}").ok()?;
-        Some(out)
+        }
+    }
+    let enabled = flags(alloc, enabled)?;
+    Some(Chosen { enabled, reasons })
+}
+
+/// Whether `check` says this of a choice.
+fn is_checked(alloc: Global, all: &Named, chosen: &Chosen, want: bool) -> bool
+    requires entries { AreEntries (namespaces_in all.now.instances.now) (items_in all.now.instances.now) all.now.names.now }
+    requires permissions { ArePermissions (namespaces_in all.now.instances.now) all.now.names.now (items_in all.now.instances.now) all.now.permissions.now }
+{
+    match check(alloc, all.instances, all.names, all.permissions, chosen) {
+        Ok(is_right) => is_right == want,
+        Err(_) => false,
+    }
+}
+
+impl NamedQuestion for Checked {
+    fn answer(&self, alloc: Global, all: &Named, _out: &mut String) -> bool {
+        match choice(alloc, self.0, self.1) {
+            Some(chosen) => is_checked(alloc, all, &chosen, self.2),
+            None => false,
+        }
     }
 }
 
 /// Whether `check` says of each choice for a module what it has to.
-fn are_judged(alloc: Global, text: &str, choices: &[Row]) -> bool {
+fn are_judged(alloc: Global, text: &str, choices: &'static [Row]) -> bool {
     for &(about, enabled, reasons) in choices {
-        let want = if about == "right" { "true" } else { "false" };
-        if !is_answer(alloc, &[FIRST, text], &Checked(enabled, reasons), want) {
+        let question = ByNames(Checked(enabled, reasons, about == "right"));
+        if !is_answer(alloc, &[FIRST, text], &question, "") {
             return false;
         }
     }
@@ -160,68 +173,51 @@ fn choices_of_optionals_are_checked(rt: HostRuntime) {
     }
 }
 
-/// How many optionals what is chosen leaves out, and the look-ups it took. None where it is not right.
+fn show_counts(out: &mut String, removals: u64, lookups: u64) -> bool {
+    write!(out, "{removals} {lookups}").is_ok()
+}
+
+/// How many optionals what is chosen leaves out, and the look-ups it took. No answer where it is not right.
 struct Picked;
 
-impl Question for Picked {
-    fn answer(&self, alloc: Global, instances: &Instances) -> Option<String> {
-        let Ok(names) = declare(alloc, instances) else {
-            return None;
-        };
-        let Ok(permissions) = class_permissions(alloc, &names, instances) else {
-            return None;
-        };
-        let permissions = permissions.as_slice();
-        let counted = greatest_counted(alloc, &*instances, &names, permissions).ok()?;
-        let is_right = check(alloc, &*instances, &names, permissions, &counted.chosen).ok()?;
-        count_line(alloc, is_right, counted.removals, counted.lookups)
+impl NamedQuestion for Picked {
+    fn answer(&self, alloc: Global, all: &Named, out: &mut String) -> bool {
+        match greatest_counted(alloc, all.instances, all.names, all.permissions) {
+            Ok(found) => {
+                show_counts(out, found.removals, found.lookups)
+                    && is_checked(alloc, all, &found.chosen, true)
+            }
+            Err(_) => false,
+        }
     }
 }
 
 /// The same of what is guessed.
 struct Guessed;
 
-impl Question for Guessed {
-    fn answer(&self, alloc: Global, instances: &Instances) -> Option<String> {
-        let Ok(names) = declare(alloc, instances) else {
-            return None;
-        };
-        let Ok(permissions) = class_permissions(alloc, &names, instances) else {
-            return None;
-        };
-        let permissions = permissions.as_slice();
-        let walk = guess(alloc, &*instances, &names, permissions).ok()?;
-        let is_right = check(alloc, &*instances, &names, permissions, &walk.chosen).ok()?;
-        let left_out = walk.chosen.reasons.len();
-        count_line(alloc, is_right, left_out as u64, walk.lookups as u64)
+impl NamedQuestion for Guessed {
+    fn answer(&self, alloc: Global, all: &Named, out: &mut String) -> bool {
+        match guess(alloc, all.instances, all.names, all.permissions) {
+            Ok(found) => {
+                let removals = found.chosen.reasons.len();
+                show_counts(out, removals as u64, found.lookups as u64)
+                    && is_checked(alloc, all, &found.chosen, true)
+            }
+            Err(_) => false,
+        }
     }
 }
 
 /// How many optionals are left out in rounds.
 struct InRounds;
 
-impl Question for InRounds {
-    fn answer(&self, alloc: Global, instances: &Instances) -> Option<String> {
-        let Ok(names) = declare(alloc, instances) else {
-            return None;
-        };
-        let Ok(permissions) = class_permissions(alloc, &names, instances) else {
-            return None;
-        };
-        let rounds = greatest_in_rounds(alloc, &*instances, &names, permissions.as_slice()).ok()?;
-        number_line(alloc, rounds.reasons.len() as u64)
+impl NamedQuestion for InRounds {
+    fn answer(&self, alloc: Global, all: &Named, out: &mut String) -> bool {
+        match greatest_in_rounds(alloc, all.instances, all.names, all.permissions) {
+            Ok(chosen) => write!(out, "{}", chosen.reasons.len()).is_ok(),
+            Err(_) => false,
+        }
     }
-}
-
-fn count_line(alloc: Global, is_right: bool, removals: u64, lookups: u64) -> Option<String> {
-    if !is_right {
-        return None;
-    }
-    format!(in alloc; "{removals} {lookups}").ok()
-}
-
-fn number_line(alloc: Global, number: u64) -> Option<String> {
-    format!(in alloc; "{number}").ok()
 }
 
 /// Whether the choice and the guess are right, leave out so many optionals, as rounds do, and take so many look-ups.
@@ -229,9 +225,9 @@ fn is_chosen_so(alloc: Global, text: &str, want: &str) -> bool {
     let Some((removals, _)) = want.split_once(' ') else {
         return false;
     };
-    is_answer(alloc, &[FIRST, text], &Picked, want)
-        && is_answer(alloc, &[FIRST, text], &Guessed, want)
-        && is_answer(alloc, &[FIRST, text], &InRounds, removals)
+    is_answer(alloc, &[FIRST, text], &ByNames(Picked), want)
+        && is_answer(alloc, &[FIRST, text], &ByNames(Guessed), want)
+        && is_answer(alloc, &[FIRST, text], &ByNames(InRounds), removals)
 }
 
 /// Modules behind the first policy, and behind arrows how many optionals are left out, and how many look-ups that takes.
@@ -272,44 +268,43 @@ fn what_is_chosen_is_right(rt: HostRuntime) -> Result<(), Fail> {
     Ok(())
 }
 
-/// 1,000 optionals, each of which declares a type and wants that of the next, the last one that of this number.
-fn long_chain(alloc: Global, last: u32) -> Option<String> {
-    let mut text = String::new(alloc);
+/// Adds 1,000 optionals, each of which declares a type and wants that of the next, the last one that of this number.
+fn add_chain(text: &mut String, last: u32) -> bool {
     for at in 0..1000_u32 {
         let next = if at == 999 { last } else { at + 1 };
-        write!(text, "(optional o{at} (type x{at})(roletype r x{next}))").ok()?;
+        if write!(text, "(optional o{at} (type x{at})(roletype r x{next}))").is_err() {
+            return false;
+        }
     }
-    Some(text)
+    true
+}
+
+/// Whether as many of these are left out, and as many look-ups taken.
+fn is_chain_chosen_so(alloc: Global, last: u32, want: &str) -> bool {
+    let mut text = String::new(alloc);
+    add_chain(&mut text, last) && is_chosen_so(alloc, text.as_str(), want)
 }
 
 #[test]
-fn a_chain_takes_a_look_up_for_each_type_and_each_word(rt: HostRuntime) -> Result<(), Fail> {
+fn a_chain_takes_a_look_up_for_each_type_and_each_word(rt: HostRuntime) {
     // All are out: 1,000 types, and 999 words, since nothing declares the last.
-    for &(last, want) in &[(1000, "1000 1999"), (0, "0 0")] {
-        let text = long_chain(rt.alloc(), last).ok_or("no memory")?;
-        assert!(rt; is_chosen_so(rt.alloc(), text.as_str(), want), "{last}");
-    }
-    Ok(())
+    assert!(rt; is_chain_chosen_so(rt.alloc(), 1000, "1000 1999"));
+    assert!(rt; is_chain_chosen_so(rt.alloc(), 0, "0 0"));
 }
 
 /// The faults of words outside all optionals, where these are in force.
 #[derive(Drop)]
 struct Judged(&'static [usize]);
 
-impl Question for Judged {
-    fn answer(&self, alloc: Global, instances: &Instances) -> Option<String> {
-        let Ok(names) = declare(alloc, instances) else {
-            return None;
+impl NamedQuestion for Judged {
+    fn answer(&self, alloc: Global, all: &Named, out: &mut String) -> bool {
+        let Some(chosen) = choice(alloc, self.0, &[]) else {
+            return false;
         };
-        let Ok(permissions) = class_permissions(alloc, &names, instances) else {
-            return None;
-        };
-        let permissions = permissions.as_slice();
-        let chosen = choice(alloc, self.0, &[])?;
-        match base_faults(alloc, &*instances, &names, permissions, &chosen) {
-            Ok(()) => Some(String::new(alloc)),
-            Err(Failure::Faults(faults)) => lines(alloc, &faults),
-            Err(Failure::NoMemory) => None,
+        match base_faults(alloc, all.instances, all.names, all.permissions, &chosen) {
+            Ok(()) => true,
+            Err(Failure::Faults(faults)) => show_faults(alloc, &faults, out),
+            Err(Failure::NoMemory) => false,
         }
     }
 }
@@ -327,8 +322,12 @@ const BASE: &[(&[usize], &str)] = &[
 #[test]
 fn words_outside_optionals_are_judged_by_any_choice(rt: HostRuntime) {
     for &(enabled, want) in BASE {
-        let question = Judged(enabled);
-        let is_so = is_answer(rt.alloc(), &[FIRST, OUTSIDE], &question, want);
+        let is_so = is_answer(
+            rt.alloc(),
+            &[FIRST, OUTSIDE],
+            &ByNames(Judged(enabled)),
+            want,
+        );
         assert!(rt; is_so, "{enabled:?}");
     }
 }

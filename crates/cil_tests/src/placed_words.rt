@@ -1,255 +1,238 @@
 //! What placed words name, and the entries that they could name, whatever is enabled.
 
 ghost use Rattle.cil_macros.specs.Items.{items_in, namespaces_in};
-ghost use Rattle.cil_macros.specs.Items.{items_in};
 ghost use Rattle.cil_names.specs.Entries.{AreEntries};
+ghost use Rattle.cil_names.specs.Unresolved.{ArePermissions};
 ghost use Rattle.std.specs.Prelude.{◌<◌, length};
 
-use crate::answers::{Question, class_permissions, is_answer, lines, row_holds, show_entry};
+use crate::answers::{ByNames, Named, NamedQuestion, is_answer, row_holds, text_of};
 use crate::look_ups::word;
-use cil_blocks::Namespaces;
 use cil_macros::Instances;
-use cil_names::{Meaning, Names, OptSet, Words, are_numbers, declare, word_asked};
-use cil_syntax::{Failure, Sign};
+use cil_names::{Meaning, OptSet, Words, are_numbers, word_asked};
+use cil_syntax::Sign;
 use cil_words::{Asks, asks_of, judged, settled};
 use std::alloc::Global;
 
-/// What the words of modules without optionals name, or all faults. None where it cannot be shown, for want of memory.
-fn named(alloc: Global, instances: &Instances) -> Result<Option<String>, Failure> {
-    let names = declare(alloc, instances)?;
-    let permissions = class_permissions(alloc, &names, instances)?;
+/// What the words of the statement at a place name, in a module without optionals.
+#[derive(Drop)]
+struct NamedWords(usize);
+
+impl NamedQuestion for NamedWords {
+    fn answer(&self, alloc: Global, all: &Named, out: &mut String) -> bool {
+        let Some(words) = words_of(alloc, all) else {
+            return false;
+        };
+        match asks_of(alloc, all.names, all.permissions, all.instances) {
+            Ok(asks) => show_row(out, &asks, self.0, words.row(self.0)),
+            Err(_) => false,
+        }
+    }
+}
+
+/// What words name. None where one names nothing, or there is no memory.
+fn words_of(alloc: Global, all: &Named) -> Option<Words>
+    requires entries { AreEntries (namespaces_in all.now.instances.now) (items_in all.now.instances.now) all.now.names.now }
+    requires permissions { ArePermissions (namespaces_in all.now.instances.now) all.now.names.now (items_in all.now.instances.now) all.now.permissions.now }
+{
     let enabled = OptSet::of(Vec::new(alloc));
-    let asks = asks_of(alloc, &names, permissions.as_slice(), &*instances)?;
-    judged(alloc, &*instances, &names, &asks, &enabled)?;
-    let words = settled(alloc, &names, asks, &enabled)?;
-    let asks = asks_of(alloc, &names, permissions.as_slice(), &*instances)?;
-    Ok(shown(alloc, instances, &names, &asks, &words))
-}
-
-/// The same, or the lines of the faults.
-struct NamedWords;
-
-impl Question for NamedWords {
-    fn answer(&self, alloc: Global, instances: &Instances) -> Option<String> {
-        match named(alloc, instances) {
-            Ok(shown) => shown,
-            Err(Failure::Faults(faults)) => lines(alloc, &faults),
-            Err(Failure::NoMemory) => None,
-        }
+    let asks = asks_of(alloc, all.names, all.permissions, all.instances).ok()?;
+    if judged(alloc, all.instances, all.names, &asks, &enabled).is_err() {
+        return None;
     }
+    settled(alloc, all.names, asks, &enabled).ok()
 }
 
-/// For each statement with words, in order, the entries that these name, or the numbers of permissions, or `-`, in brackets with
-/// commas between.
-fn shown(
-    alloc: Global,
-    instances: &Instances,
-    names: &Names,
-    asks: &Asks,
-    words: &Words,
-) -> Option<String> {
-    let spaces = instances.namespaces();
-    let mut out = String::new(alloc);
-    for at in 0..instances.len() {
-        show_row(alloc, &mut out, spaces, names, asks, at, words.row(at))?;
-    }
-    Some(out)
-}
-
-/// Adds what the words of one statement mean, if it has some.
-fn show_row(
-    alloc: Global,
-    out: &mut String,
-    spaces: &Namespaces,
-    names: &Names,
-    asks: &Asks,
-    at: usize,
-    row: &[Meaning],
-) -> Option<()> {
+/// Adds the number of the entry that each word names, or that of its permission behind a letter.
+fn show_row(out: &mut String, asks: &Asks, at: usize, row: &[Meaning]) -> bool {
     for (i, word) in row.iter().enumerate() {
-        write!(out, "{}", if i > 0 { ", " } else { "[" }).ok()?;
-        match word.entry() {
-            Some(value) => {
-                if asks.number(at, i).is_some() {
-                    write!(out, "{value}").ok()?;
-                } else {
-                    show_entry(alloc, out, spaces, names.entries().get(value)?)?;
-                }
-            }
-            None => write!(out, "-").ok()?,
+        let front = if i > 0 { " " } else { "[" };
+        let letter = if asks.number(at, i).is_some() {
+            "p"
+        } else {
+            ""
+        };
+        let Some(value) = word.entry() else {
+            return false;
+        };
+        if write!(out, " {letter}{value}").is_err() {
+            return false;
         }
     }
-    if !row.is_empty() {
-        write!(out, "]").ok()?;
-    }
-    Some(())
+    true
 }
 
-/// Texts, and behind arrows what their words name, or the faults: of declarations that differ, and of words that name nothing.
-const NAMED: &[&str] = &[
-    "(class c (q p))(macro m ((type x)) (allow x self (c (p q))))(type a)(call m (a)) => [Macro m, Type_ a][Type_ a, Class c, 0, 1]",
-    // A class has the permissions of the commons that are joined to it.
-    "(class c (q))(common c (x))(classcommon c c)(type a)(allow a self (c (q x))) => [Class c, Common c][Type_ a, Class c, 0, 1]",
-    "(class c (q))(common c (x))(type a)(allow a self (c (q x))) => 41 0 55 . x\n",
-    "(class w (p))(class w (q)) => 36 0 7 . w\n36 0 20 . w\n",
-    // A permission comes again, also of another class, which has it under another number.
-    "(class c (p q))(class d (q))(type a)(allow a self (c (p q)))(allow a a (c (q p)))(allow a a (d (q))) => [Type_ a, Class c, 0, 1][Type_ a, Type_ a, Class c, 1, 0][Type_ a, Type_ a, Class d, 0]",
-    "(class c (p))(class d (q))(type a)(allow a self (c (p)))(allow a self (d (p))) => 41 0 74 . p\n",
-    // These 13 names are noted in one place of the guesses, which has room for four.
-    "(class c (ach atz dfp dnx drt egz glh pcu pzh rvm ucd vvz wko))(type a)(allow a self (c (wko ach pcu ach vvz ucd rvm pzh glh egz drt dnx dfp atz wko)))(allow a a (c (ach wko drt))) => [Type_ a, Class c, 12, 0, 7, 0, 11, 10, 9, 8, 6, 5, 4, 3, 2, 1, 12][Type_ a, Type_ a, Class c, 0, 12, 4]",
-    // Operators say nothing by themselves, however deep.
-    "(class c (p q))(type a)(allow a self (c (and (p (q)) (not (xor (q) p))))) => [Type_ a, Class c, 0, 1, 1, 0]",
-    // A name of several namespaces is that of the innermost one.
-    "(class c (p))(type t)(block b (type t)(allow t self (c (p))))(block d (allow t self (c (p))))(block e (type t))(allow t e.t (c (p))) => [Type_ t, Type_ e.t, Class c, 0][Type_ b.t, Class c, 0][Type_ t, Class c, 0]",
-    // The same of a name that many namespaces have.
-    "(class c (p))(type t)(block a (type t))(block b (type t))(block d (type t))(block e (type t))(block f (type t))(block g (type t))(block h (type t))(block i (type t))(block j (type t)(allow t self (c (p))))(block k (allow t self (c (p)))) => [Type_ j.t, Class c, 0][Type_ t, Class c, 0]",
-    "(class c (q))(macro m ((type x)) (allow x self (c (p))))(block p (call m (b))) => 41 0 51 p p\n41 0 74 p b\n",
+/// A place, and a text with behind an arrow what the words there name: in calls, and in operators, which say nothing by themselves. More are
+/// in `rows/names.session`.
+const NAMED: &[(usize, &str)] = &[
+    (
+        3,
+        "(class c (q p))(macro m ((type x)) (allow x self (c (p q))))(type a)(call m (a)) =>  2 0",
+    ),
+    (
+        4,
+        "(class c (q p))(macro m ((type x)) (allow x self (c (p q))))(type a)(call m (a)) =>  0 1 p0 p1",
+    ),
+    (
+        2,
+        "(class c (p q))(type a)(allow a self (c (and (p (q)) (not (xor (q) p))))) =>  0 1 p0 p1 p1 p0",
+    ),
 ];
 
 #[test]
-fn words_name_entries_or_are_reported(rt: HostRuntime) {
-    for row in NAMED {
-        assert!(rt; row_holds(rt.alloc(), row, &NamedWords), "{row}");
+fn words_name_entries(rt: HostRuntime) {
+    for &(at, row) in NAMED {
+        assert!(rt;
+            row_holds(rt.alloc(), row, &ByNames(NamedWords(at))),
+            "{row}"
+        );
     }
 }
 
-/// A class word, a permission word, the namespaces of their scope, and the class that is named, or `-`.
-type Row = (&'static [u8], &'static [u8], &'static [usize], &'static str);
+/// A class word, a permission word, the namespaces of their scope, and the number of the class that is named.
+type Row = (
+    &'static [u8],
+    &'static [u8],
+    &'static [usize],
+    Option<usize>,
+);
 
-/// Three namespaces, which have the numbers in the order in which they are reached: `p` the number 1, `r` 2.
+/// Three namespaces, which have the numbers in the order in which they are reached: `p` the number 1, `r` 2. The classes are the entries 0
+/// and 1.
 const TEXT: &str = "(class c (q))(block p (class c (p)))(block r (type x))";
 
 /// The class of a permission is the first one of the scope. Others are rows of `rows/names.session`.
 const PERMISSIONS: &[Row] = &[
-    (b"c", b".p", &[1, 0], "-"),
-    (b"c", b"p", &[2, 1, 0], "Class p.c"),
-    (b".p.c", b"p", &[2, 0], "Class p.c"),
+    (b"c", b".p", &[1, 0], None),
+    (b"c", b"p", &[2, 1, 0], Some(1)),
+    (b".p.c", b"p", &[2, 0], Some(1)),
 ];
 
-/// What the permission word of a row names: the kind and the qualified name of the class, or `-`.
+/// Whether that is so.
 #[derive(Drop)]
 struct PermissionWord(Row);
 
-impl Question for PermissionWord {
-    fn answer(&self, alloc: Global, instances: &Instances) -> Option<String> {
-        let names = declare(alloc, instances).ok()?;
-        let mut out = String::new(alloc);
-        match class_named(alloc, &names, instances, self.0)? {
-            Some(d) => {
-                let entry = names.entries().get(d)?;
-                show_entry(alloc, &mut out, instances.namespaces(), entry)?;
-            }
-            None => write!(out, "-").ok()?,
-        }
-        Some(out)
+impl NamedQuestion for PermissionWord {
+    fn answer(&self, _alloc: Global, all: &Named, _out: &mut String) -> bool {
+        let (class, permission, scope, want) = self.0;
+        let (names, spaces) = (all.names, all.instances.namespaces());
+        let class = word(class, Sign::Classes);
+        let permission = word(permission, Sign::Permission);
+        are_numbers(spaces, scope)
+            && names.resolve_permission(spaces, all.permissions, &class, &permission, scope) == want
     }
-}
-
-/// The number of the class that the permission word of a row names. None where there is no memory, or no such namespace.
-fn class_named(
-    alloc: Global,
-    names: &Names,
-    instances: &Instances,
-    row: Row,
-) -> Option<Option<usize>>
-    requires { AreEntries (namespaces_in instances.now) (items_in instances.now) names.now }
-{
-    let (class, permission, scope, _) = row;
-    let spaces = instances.namespaces();
-    if !are_numbers(spaces, scope) {
-        return None;
-    }
-    let permissions = class_permissions(alloc, names, instances).ok()?;
-    let class = word(class, Sign::Classes);
-    let permission = word(permission, Sign::Permission);
-    Some(names.resolve_permission(spaces, permissions.as_slice(), &class, &permission, scope))
 }
 
 #[test]
 fn permission_words_name_the_class_that_has_them(rt: HostRuntime) {
     for &row in PERMISSIONS {
-        let question = PermissionWord(row);
-        assert!(rt; is_answer(rt.alloc(), &[TEXT], &question, row.3), "{row:?}");
+        let is_so = is_answer(rt.alloc(), &[TEXT], &ByNames(PermissionWord(row)), "");
+        assert!(rt; is_so, "{row:?}");
     }
 }
 
-/// A text, and behind an arrow each word of its statements with the entries that it could name.
+/// A text, and behind an arrow each word of its statements with the numbers of the entries that it could name: these are in the order of
+/// their names, and then of their namespaces.
 const LISTED: &[&str] = &[
-    "(type t)(block p (type t)(role r)(roletype r t)) => r: Role p.r; t: Type_ p.t, Type_ t; ",
-    "(type t)(block p (type t)(roletype object_r .t)) => object_r: Role object_r; .t: Type_ t; ",
-    "(class t (p))(roletype object_r t) => object_r: Role object_r; t: -; ",
+    "(type t)(block p (type t)(role r)(roletype r t)) => r: 1; t: 3 2; ",
+    "(type t)(block p (type t)(roletype object_r .t)) => object_r: 0; .t: 1; ",
+    "(class t (p))(roletype object_r t) => object_r: 0; t: -; ",
     // A class word, and then its permissions: they are those of the first class that it names.
-    "(type t)(class c (r))(block p (class c (w))(allow t self (c (r w)))) => t: Type_ t; c: Class p.c, Class c; r: -; w: Class p.c; ",
-    "(type t)(allow t self (c (r))) => t: Type_ t; c: -; r: -; ",
-    "(class c (r))(common k (x))(classcommon c .k)(allow r c (c (r x))) => c: Class c; .k: Common k; r: -; c: -; c: Class c; r: Class c; x: Class c; ",
+    "(type t)(class c (r))(block p (class c (w))(allow t self (c (r w)))) => t: 3; c: 1 0; r: -; w: 1; ",
+    "(type t)(allow t self (c (r))) => t: 1; c: -; r: -; ",
+    "(class c (r))(common k (x))(classcommon c .k)(allow r c (c (r x))) => c: 0; .k: 1; r: -; c: -; c: 0; r: 0; x: 0; ",
     // A call, and a statement of the body: an argument is looked up where the call stands.
-    "(macro m ((type x)) (roletype object_r x))(type t)(block p (type t)(call m (t))) => m: Macro m; t: Type_ p.t, Type_ t; object_r: Role object_r; t: Type_ p.t, Type_ t; ",
+    "(macro m ((type x)) (roletype object_r x))(type t)(block p (type t)(call m (t))) => m: 0; t: 3 2; object_r: 1; t: 3 2; ",
     "(block a (type t))(block b (blockinherit a)) => ",
 ];
 
 /// Which words are asked for, and what they could name.
-pub(crate) struct Listed;
+struct Listed;
 
-impl Question for Listed {
-    fn answer(&self, alloc: Global, instances: &Instances) -> Option<String> {
-        let Ok(names) = declare(alloc, instances) else {
-            return None;
-        };
-        let Ok(permissions) = class_permissions(alloc, &names, instances) else {
-            return None;
-        };
-        let Ok(asks) = asks_of(alloc, &names, permissions.as_slice(), &*instances) else {
-            return None;
-        };
-        list(alloc, &*instances, &names, &asks)
+impl NamedQuestion for Listed {
+    fn answer(&self, alloc: Global, all: &Named, out: &mut String) -> bool {
+        match asks_of(alloc, all.names, all.permissions, all.instances) {
+            Ok(asks) => show_lists(alloc, out, all.instances, &asks),
+            Err(_) => false,
+        }
     }
 }
 
-/// Each word of all statements with its candidates. None where there is no memory, or as many words as lists.
-fn list(alloc: Global, instances: &Instances, names: &Names, asks: &Asks) -> Option<String> {
-    let mut out = String::new(alloc);
+/// Adds each word of all statements with its candidates. False where there is no memory, or as many words as lists.
+fn show_lists(alloc: Global, out: &mut String, instances: &Instances, asks: &Asks) -> bool {
     for at in 0..instances.len() {
-        show_statement(alloc, &mut out, instances, names, at, asks)?;
+        if !show_statement(alloc, out, instances, asks, at) {
+            return false;
+        }
     }
-    Some(out)
+    true
 }
 
-/// Adds each word of a statement with its candidates. None where there is no memory, or as many words as lists.
+/// The same of one statement.
 fn show_statement(
     alloc: Global,
     out: &mut String,
     instances: &Instances,
-    names: &Names,
-    at: usize,
     asks: &Asks,
-) -> Option<()>
+    at: usize,
+) -> bool
     requires { at < length (items_in instances.now) }
 {
     for number in 0..asks.count(at) {
-        let word = word_asked(alloc, instances, at, number).ok()??;
-        let bytes = str::from_utf8(word.word.bytes.as_slice()).ok()?;
-        write!(out, "{bytes}: ").ok()?;
-        let list = asks.word(at, number);
-        for (i, d) in list.iter().enumerate() {
-            write!(out, "{}", if i > 0 { ", " } else { "" }).ok()?;
-            show_entry(
-                alloc,
-                out,
-                instances.namespaces(),
-                names.entries().get(*d as usize)?,
-            )?;
+        let Ok(Some(found)) = word_asked(alloc, instances, at, number) else {
+            return false;
+        };
+        let bytes = text_of(found.word.bytes.as_slice());
+        if write!(out, "{bytes}:").is_err() || !show_entries(out, asks.word(at, number)) {
+            return false;
         }
-        write!(out, "{}", if list.is_empty() { "-; " } else { "; " }).ok()?;
     }
-    match word_asked(alloc, instances, at, asks.count(at)).ok()? {
-        Some(_) => None,
-        None => Some(()),
+    matches!(word_asked(alloc, instances, at, asks.count(at)), Ok(None))
+}
+
+/// Adds some numbers, or `-`.
+fn show_entries(out: &mut String, numbers: &[u32]) -> bool {
+    for number in numbers {
+        if write!(out, " {number}").is_err() {
+            return false;
+        }
     }
+    out.push_str(if numbers.is_empty() { " -; " } else { "; " })
+        .is_ok()
+}
+
+/// Whether these are the candidates of a row.
+fn is_listed(alloc: Global, row: &str) -> bool {
+    row_holds(alloc, row, &ByNames(Listed))
 }
 
 #[test]
 fn words_could_name_these(rt: HostRuntime) {
     for row in LISTED {
-        assert!(rt; row_holds(rt.alloc(), row, &Listed), "{row}");
+        assert!(rt; is_listed(rt.alloc(), row), "{row}");
+    }
+}
+
+/// The same of rows of several instances.
+const ASKED: &[&str] = &[
+    // Statements without words stand between others.
+    "(type t)(roletype object_r t)(role r)(block p (type u))(roletype r t) => object_r: 0; t: 2; r: 1; t: 2; ",
+    // A class word with two candidates: its permissions are those of the first one.
+    "(class c (p))(type t)(block a (class c (q))(block b (allow t self (c (q p))))) => t: 3; c: 1 0; q: 1; p: -; ",
+    // Arguments that are texts are not looked up, though one of them has the name of a type; the argument between them is. One that
+    // is handed on is none either.
+    "(macro m ((name x)(type y)(string z)) (roletype object_r y))(type t)(type u)(call m (u t \"v w\")) => m: 0; t: 2; object_r: 1; t: 2; ",
+    "(macro k ((string s)))(macro m ((string p)) (call k (p)))(type t)(call m (t))(call k (\"t\")) => m: 1; k: 0; k: 0; ",
+    // A statement in an optional.
+    "(class c (p))(type t)(optional o (allow t self (c (p)))) => t: 2; c: 0; p: 0; ",
+];
+
+// A list may be there when its cell has no room.
+#[test]
+fn a_refused_growth_of_the_table(rt: HostRuntime) {
+    for row in ASKED {
+        assert!(rt;
+            is_listed(rt.alloc(), row) || is_listed(rt.alloc(), row),
+            "{row}"
+        );
     }
 }

@@ -1,10 +1,11 @@
-//! Where statements are, in which scopes their words are looked up, and what these mean: arguments, or themselves.
+//! Where statements are, in which scopes their words are looked up, and what these mean: arguments, or themselves; and in which branch of
+//! which booleanif they are.
 
-use crate::answers::{Question, row_holds};
+use crate::answers::{Question, row_holds, text_of};
 use cil_blocks::spelled::spelled;
 use cil_blocks::{Namespaces, ScopeList, Spaces};
 use cil_macros::{Instances, Meaning};
-use cil_syntax::{Statement, Word};
+use cil_syntax::Word;
 use std::alloc::Global;
 
 /// A module, and behind an arrow a line for each statement that is there by blocks, in order: its number, behind a stroke the place in this list of
@@ -41,59 +42,81 @@ const PLACES: &[&str] = &[
 struct Placed;
 
 impl Question for Placed {
-    fn answer(&self, alloc: Global, instances: &Instances) -> Option<String> {
-        let mut out = String::new(alloc);
-        show_standing(alloc, &mut out, instances.spaces())?;
-        for (i, one) in instances.called().iter().enumerate() {
-            let (statement, opener) = (one.statement, one.opener);
-            let bar = if i > 0 { "" } else { "|" };
-            write!(out, "{bar} {statement}/{opener}").ok()?;
-        }
-        if !instances.called().is_empty() {
-            write!(out, "\n").ok()?;
-        }
-        Some(out)
+    fn answer(&self, alloc: Global, instances: &Instances, out: &mut String) -> bool {
+        show_standing(alloc, out, instances.spaces()) && show_called(out, instances)
     }
+}
+
+/// Adds a line for what calls bring, if they bring something.
+fn show_called(out: &mut String, instances: &Instances) -> bool {
+    for (i, one) in instances.called().iter().enumerate() {
+        let (statement, opener) = (one.statement, one.opener);
+        let bar = if i > 0 { "" } else { "|" };
+        if write!(out, "{bar} {statement}/{opener}").is_err() {
+            return false;
+        }
+    }
+    instances.called().is_empty() || out.push_str("\n").is_ok()
 }
 
 /// Adds a line for each statement that is there by blocks.
-fn show_standing(alloc: Global, out: &mut String, spaces: &Spaces) -> Option<()> {
+fn show_standing(alloc: Global, out: &mut String, spaces: &Spaces) -> bool {
     for (rank, entry) in spaces.entries().iter().enumerate() {
-        let statement = entry.statement;
-        write!(out, "{statement}").ok()?;
-        if let Some(opener) = entry.opener {
-            write!(out, "/{opener}").ok()?;
+        if !show_opener(out, entry.statement, entry.opener)
+            || !show_place(alloc, out, spaces, rank)
+        {
+            return false;
         }
-        show_place(alloc, out, spaces, rank)?;
     }
-    Some(())
+    true
+}
+
+/// Adds the number of a statement, and the place of what opened it.
+fn show_opener(out: &mut String, statement: u32, opener: Option<u32>) -> bool {
+    match opener {
+        Some(opener) => write!(out, "{statement}/{opener} ").is_ok(),
+        None => write!(out, "{statement} ").is_ok(),
+    }
 }
 
 /// Adds the namespace and the scope of an entry.
-fn show_place(alloc: Global, out: &mut String, spaces: &Spaces, rank: usize) -> Option<()> {
-    write!(out, " ").ok()?;
-    show_space(alloc, out, spaces.namespaces(), spaces.space(rank)?)?;
-    write!(out, ":").ok()?;
+fn show_place(alloc: Global, out: &mut String, spaces: &Spaces, rank: usize) -> bool {
+    let Some(number) = spaces.space(rank) else {
+        return false;
+    };
+    show_space(alloc, out, spaces.namespaces(), number) && show_scope(alloc, out, spaces, rank)
+}
+
+/// Adds the scope of an entry.
+fn show_scope(alloc: Global, out: &mut String, spaces: &Spaces, rank: usize) -> bool {
     let mut scope = ScopeList::new(alloc);
-    spaces.scope_into(alloc, rank, &mut scope).ok()?;
-    for number in scope.as_slice() {
-        write!(out, " ").ok()?;
-        show_space(alloc, out, spaces.namespaces(), *number)?;
+    spaces.scope_into(alloc, rank, &mut scope).is_ok()
+        && out.push_str(":").is_ok()
+        && show_spaces(alloc, out, spaces.namespaces(), scope.as_slice())
+}
+
+/// Adds some namespaces, with a blank before each.
+fn show_spaces(alloc: Global, out: &mut String, spaces: &Namespaces, numbers: &[usize]) -> bool {
+    for &number in numbers {
+        if out.push_str(" ").is_err() || !show_space(alloc, out, spaces, number) {
+            return false;
+        }
     }
-    write!(out, "\n").ok()
+    out.push_str("\n").is_ok()
 }
 
 /// Adds the namespace of a number.
-fn show_space(alloc: Global, out: &mut String, spaces: &Namespaces, number: usize) -> Option<()> {
-    if number == 0 || number > spaces.len() {
-        return if number == 0 {
-            write!(out, ".").ok()
-        } else {
-            None
-        };
+fn show_space(alloc: Global, out: &mut String, spaces: &Namespaces, number: usize) -> bool {
+    if number == 0 {
+        return out.push_str(".").is_ok();
     }
-    let bytes = spelled(alloc, spaces, number).ok()?;
-    write!(out, "{}", str::from_utf8(bytes.as_slice()).ok()?).ok()
+    if number > spaces.len() {
+        return false;
+    }
+    match spelled(alloc, spaces, number) {
+        Ok(space) => out.push_str(text_of(space.as_slice())).is_ok(),
+        Err(_) => false,
+    }
 }
 
 #[test]
@@ -103,16 +126,20 @@ fn all_that_is_placed_has_its_namespace_and_its_scope(rt: HostRuntime) {
     }
 }
 
-/// A module, and behind an arrow a line for each placed statement of two words, in order: its place, and what its words mean. Behind the sign `@`
-/// stands the place in whose scope a word is looked up.
+/// A module, and behind an arrow for each placed statement of two words, in order, its place and what its words mean, with the place in
+/// whose scope a word is looked up behind the sign `@`; and for each statement in a branch the place of the booleanif and the value of the
+/// branch. What is at the top, in an optional, in a block or in a body is in none; what a call in a branch brings is in that of the call.
 const MEANINGS: &[&str] = &[
+    " => ",
     "(roletype r a) => 0: r@0 a@0\n",
     // An argument is looked up where its call is, other words at their own place; a parameter serves words of its own kind.
     "(macro m ((role x)(type y)) (roletype x y)(roletype r x))(call m (s t)) => 2: s@1 t@1\n3: r@3 x@3\n",
     // One that is handed on, and what a body declares: that is looked up where the outermost call is.
     "(macro a ((type y)) (type q)(roletype r y)(roletype r q))(macro b ((type x)) (call a (x)))(call b (t)) => 5: r@5 t@2\n6: r@6 q@2\n",
     // A call in a template keeps the scope of the place where the template is inherited.
-    "(block lib (type p)(macro m ((type arg)) (allow arg a (file (open)))))(block tpl (blockabstract tpl)(type p)(call lib.m (p)))(block n (blockinherit tpl)) => 9: p@8 a@9\n",
+    "(block lib (type p)(macro m ((type arg)) (roletype a arg)))(block tpl (blockabstract tpl)(type p)(call lib.m (p)))(block n (blockinherit tpl)) => 9: a@9 p@8\n",
+    "(type a)(optional o (type b))(block n (type c))(macro m () (type d)(optional p (type e)))(call m) => ",
+    "(boolean b true)(macro m () (allow a a (c (p))))(booleanif b (true (allow a a (c (p)))(call m)) (false (auditallow a a (c (p))))) => 3 in 2 true\n4 in 2 true\n5 in 2 false\n6 in 2 true\n",
 ];
 
 /// Adds what a word means at a place.
@@ -121,64 +148,56 @@ fn show_word<'a>(
     instances: &Instances<'_, '_, 'a>,
     at: usize,
     word: &Word<'a>,
-) -> Option<()> {
+) -> bool {
     if at >= instances.len() {
-        return None;
+        return false;
     }
     let Meaning::Plain(meant) = instances.meaning(at, word) else {
-        return None;
+        return false;
     };
-    let bytes = str::from_utf8(meant.bytes.as_slice()).ok()?;
-    write!(out, " {bytes}").ok()?;
-    if let Some(scope) = meant.scope {
-        write!(out, "@{scope}").ok()?;
+    let bytes = text_of(meant.bytes.as_slice());
+    match meant.scope {
+        Some(scope) => write!(out, " {bytes}@{scope}").is_ok(),
+        None => write!(out, " {bytes}").is_ok(),
     }
-    Some(())
 }
 
-/// Adds a line for what two words mean at a place.
-fn show_words<'a>(
-    out: &mut String,
-    instances: &Instances<'_, '_, 'a>,
-    at: usize,
-    first: &Word<'a>,
-    second: &Word<'a>,
-) -> Option<()> {
-    write!(out, "{at}:").ok()?;
-    show_word(out, instances, at, first)?;
-    show_word(out, instances, at, second)?;
-    write!(out, "\n").ok()
+/// Adds what the words of a statement mean, if it has two.
+fn show_words(out: &mut String, instances: &Instances, at: usize) -> bool {
+    if at >= instances.len() {
+        return false;
+    }
+    let Some(statement) = instances.spaces().statements().get(instances.statement(at)) else {
+        return false;
+    };
+    let Some(words) = statement.two_words() else {
+        return true;
+    };
+    write!(out, "{at}:").is_ok()
+        && show_word(out, instances, at, &words.first)
+        && show_word(out, instances, at, &words.second)
+        && out.push_str("\n").is_ok()
 }
 
-/// Adds a line for the statement at a place, if it has two words, or a source and a target.
-fn show_statement<'a>(
-    out: &mut String,
-    instances: &Instances<'_, '_, 'a>,
-    at: usize,
-    statement: &Statement<'a>,
-) -> Option<()> {
-    if let Some(words) = statement.two_words() {
-        return show_words(out, instances, at, &words.first, &words.second);
+/// Adds the branch in which a statement is, if it is in one.
+fn show_branch(out: &mut String, instances: &Instances, at: usize) -> bool {
+    match instances.branch(at) {
+        Some(branch) => write!(out, "{at} in {} {}\n", branch.at, branch.value).is_ok(),
+        None => true,
     }
-    if let Some(rule) = statement.rule_parts() {
-        let target = rule.target.word(statement.at.module)?;
-        return show_words(out, instances, at, &rule.source, &target);
-    }
-    Some(())
 }
 
-/// What the words of all placed statements mean.
+/// What the words of all placed statements mean, and in which branches these are.
 struct Meanings;
 
 impl Question for Meanings {
-    fn answer(&self, alloc: Global, instances: &Instances) -> Option<String> {
-        let mut out = String::new(alloc);
+    fn answer(&self, _alloc: Global, instances: &Instances, out: &mut String) -> bool {
         for at in 0..instances.len() {
-            let number = instances.statement(at);
-            let statement = instances.spaces().statements().get(number)?;
-            show_statement(&mut out, instances, at, statement)?;
+            if !show_words(out, instances, at) || !show_branch(out, instances, at) {
+                return false;
+            }
         }
-        Some(out)
+        true
     }
 }
 

@@ -1,5 +1,8 @@
 //! Readers and writers that move few bytes at a time, that wait for each other, and that fail.
 
+ghost use Rattle.std.specs.Prelude.{◌<◌};
+ghost use Rattle.cil_server.specs.Devices.{most_failures};
+
 use cil_host::Host;
 use cil_server::{Counted, Served, Sink, Source, serve};
 use std::alloc::Global;
@@ -30,16 +33,18 @@ impl Read for Failing<'_> {
     }
 }
 
-/// The same of a writer, whose call fails by an error or by taking nothing.
+/// The same of a writer, whose call fails by an error or by taking nothing, or whose flush fails. It may tell what was flushed.
 #[derive(Drop)]
-struct Closing {
+struct Closing<'a> {
     taken: Vec<u8>,
     step: usize,
     calls: usize,
     takes_nothing: bool,
+    is_stuck: bool,
+    out: Option<&'a Cell<usize>>,
 }
 
-impl Write for Closing {
+impl Write for Closing<'_> {
     fn write(&mut self, bytes: &[u8]) -> io::Result<usize> {
         if self.calls == 0 {
             self.calls = usize::MAX;
@@ -57,6 +62,12 @@ impl Write for Closing {
     }
 
     fn flush(&mut self) -> io::Result<()> {
+        if self.is_stuck {
+            return Err(io::Error::from(io::ErrorKind::BrokenPipe));
+        }
+        if let Some(out) = self.out {
+            out.set(self.taken.len());
+        }
         Ok(())
     }
 }
@@ -71,38 +82,59 @@ fn make_failing(step: usize, calls: usize) -> Failing<'static> {
     Failing { bytes, step, calls }
 }
 
-fn make_closing(alloc: Global, step: usize, calls: usize, takes_nothing: bool) -> Closing {
-    let taken = Vec::new(alloc);
+fn make_closing<'a>(alloc: Global, step: usize, calls: usize, nothing: bool) -> Closing<'a> {
     Closing {
-        taken,
+        taken: Vec::new(alloc),
         step,
         calls,
-        takes_nothing,
+        takes_nothing: nothing,
+        is_stuck: false,
+        out: None,
     }
 }
 
-/// How many modules a host has.
-fn modules_of(alloc: Global, host: &Host<u8>) -> usize {
-    host.list(alloc).map_or(99, |lines| lines.len())
+/// How a session ends, and how many modules the host has then.
+fn serve_on<R: Source, W: Sink>(
+    alloc: Global,
+    host: &mut Host<u8>,
+    reader: &mut R,
+    writer: &mut W,
+) -> (Served, usize)
+    requires reader { R.failed reader.old < most_failures }
+    requires writer { W.failed writer.old < most_failures }
+{
+    let served = serve(alloc, &mut *host, reader, writer);
+    match host.list(alloc) {
+        Ok(lines) => (served, lines.len()),
+        Err(_) => (served, 99),
+    }
+}
+
+/// The same with a new host.
+fn serve_new<R: Source, W: Sink>(alloc: Global, reader: &mut R, writer: &mut W) -> (Served, usize)
+    requires reader { R.failed reader.old < most_failures }
+    requires writer { W.failed writer.old < most_failures }
+{
+    let mut host: Host<u8> = Host::new(alloc, 512, 0);
+    serve_on(alloc, &mut host, reader, writer)
 }
 
 /// Whether a session ends as it has to whose reader gives one byte a call, of the first of the input, and then fails.
 fn fails_to_read(alloc: Global, given: usize) -> bool {
-    let (replied, modules, ending) = match given {
-        0..5 => (0, 0, Served::ReadFailed),
-        5..23 => (5, 0, Served::ReadFailed),
-        23..28 => (12, 1, Served::ReadFailed),
-        _ => (15, 1, Served::Quit),
+    let (replied, modules, ending, fails) = match given {
+        0..5 => (0, 0, Served::ReadFailed, 1),
+        5..23 => (5, 0, Served::ReadFailed, 1),
+        23..28 => (12, 1, Served::ReadFailed, 1),
+        _ => (15, 1, Served::Quit, 0),
     };
-    let mut host: Host<u8> = Host::new(alloc, 512, 0);
     let mut reader = Counted::new(make_failing(1, given));
     let mut writer = Counted::new(Vec::new(alloc));
-    let served = serve(alloc, &mut host, &mut reader, &mut writer);
-    let failed = Source::failed(&reader);
+    let (served, found) = serve_new(alloc, &mut reader, &mut writer);
+    let written = writer.into_inner();
     served == ending
-        && writer.into_inner().as_slice() == &OUTPUT[..replied]
-        && modules_of(alloc, &host) == modules
-        && (failed == 1) == (ending == Served::ReadFailed)
+        && found == modules
+        && Source::failed(&reader) == fails
+        && written.as_slice() == &OUTPUT[..replied]
 }
 
 #[test]
@@ -114,9 +146,9 @@ fn a_reader_may_fail_at_each_call(rt: HostRuntime) {
 
 /// Whether a session ends as it has to whose reader gives this many bytes a call, and whose writer takes one a call and then fails.
 fn fails_to_write(alloc: Global, step: usize, taken: usize, takes_nothing: bool) -> bool {
-    let ending = match taken {
-        0..15 => Served::WriteFailed,
-        _ => Served::Quit,
+    let (ending, fails) = match taken {
+        0..15 => (Served::WriteFailed, 1),
+        _ => (Served::Quit, 0),
     };
     // Byte by byte, each reply is written before the next request is read; where all come at once, behind the last.
     let (read, modules) = match (step, taken) {
@@ -124,16 +156,16 @@ fn fails_to_write(alloc: Global, step: usize, taken: usize, takes_nothing: bool)
         (1, 5..12) => (23, 1),
         _ => (28, 1),
     };
-    let mut host: Host<u8> = Host::new(alloc, 512, 0);
     let mut reader = Counted::new(make_failing(step, 28));
     let mut writer = Counted::new(make_closing(alloc, 1, taken, takes_nothing));
-    let served = serve(alloc, &mut host, &mut reader, &mut writer);
+    let (served, found) = serve_new(alloc, &mut reader, &mut writer);
     let failed = Sink::failed(&writer);
+    let written = writer.into_inner();
     served == ending
-        && writer.into_inner().taken.as_slice() == &OUTPUT[..taken.min(15)]
-        && modules_of(alloc, &host) == modules
+        && found == modules
+        && failed == fails
         && reader.into_inner().bytes.len() == 28 - read
-        && (failed == 1) == (ending == Served::WriteFailed)
+        && written.taken.as_slice() == &OUTPUT[..taken.min(15)]
 }
 
 #[test]
@@ -146,28 +178,7 @@ fn a_writer_may_fail_at_each_call(rt: HostRuntime) {
     }
 }
 
-/// A writer whose bytes come out when they are flushed, and not before.
-#[derive(Drop)]
-struct Held<'a> {
-    bytes: Vec<u8>,
-    out: &'a Cell<usize>,
-}
-
-impl Write for Held<'_> {
-    fn write(&mut self, bytes: &[u8]) -> io::Result<usize> {
-        match self.bytes.extend_from_slice(bytes) {
-            Ok(()) => Ok(bytes.len()),
-            Err(_) => Err(io::Error::from(io::ErrorKind::OutOfMemory)),
-        }
-    }
-
-    fn flush(&mut self) -> io::Result<()> {
-        self.out.set(self.bytes.len());
-        Ok(())
-    }
-}
-
-/// The other side of a `Held`: it sends a part when this many bytes are out, and fails where it is asked before, or behind the last.
+/// A reader that sends a part when this many bytes are flushed, and fails where it is asked before, or behind the last.
 #[derive(Drop)]
 struct Asking<'a> {
     parts: &'a [(usize, &'a [u8])],
@@ -191,8 +202,8 @@ impl Read for Asking<'_> {
 /// What comes in by a call, behind as many bytes of replies as have to be out before it.
 type Part = (usize, &'static [u8]);
 
-/// What comes in call by call, all replies, and how the session ends.
-const ASKED: &[(&[Part], &[u8], Served)] = &[
+/// What comes in call by call, all replies, how the session ends, and how many modules the host has then.
+const ASKED: &[(&[Part], &[u8], Served, usize)] = &[
     // Each reply is out before more is read: behind a whole request, within a line, within a body, behind a body.
     (
         &[
@@ -206,100 +217,74 @@ const ASKED: &[(&[Part], &[u8], Served)] = &[
         ],
         b"OK 0\nOK 0\nOK 0\nOK new\nOK known\nERR 81\nOK\n",
         Served::Quit,
+        1,
     ),
     // Nothing is asked for behind QUIT, though more could come.
-    (&[(0, b"QUIT\n")], b"OK\n", Served::Quit),
-    (&[(0, b"QUIT\nLIST\n")], b"OK\n", Served::Quit),
+    (&[(0, b"QUIT\n")], b"OK\n", Served::Quit, 0),
+    (&[(0, b"QUIT\nLIST\n")], b"OK\n", Served::Quit, 0),
     // An empty part is the end of the input: nothing is asked for behind it.
-    (&[(0, b"LIST\n"), (5, b"")], b"OK 0\n", Served::End),
-    (&[(0, b"")], b"", Served::End),
-    (CUT_IN_A_LINE, b"OK 0\nERR 83\n", Served::Fault(83)),
-    (TOO_LONG, b"ERR 84\n", Served::Fault(84)),
+    (&[(0, b"LIST\n"), (5, b"")], b"OK 0\n", Served::End, 0),
+    (&[(0, b"")], b"", Served::End, 0),
+    // A request that is cut changes nothing: in a line, in a body, and before one. A body that is too long is not asked for.
+    (&[(0, b"LIST\nLI"), (5, b"")], b"OK 0\nERR 83\n", CUT, 0),
+    (&[(0, b"LIST"), (0, b"")], b"ERR 83\n", CUT, 0),
+    (&[(0, b"INSTALL 10\n(typ"), (0, b"")], b"ERR 83\n", CUT, 0),
+    (&[(0, b"INSTALL 1\n"), (0, b"")], b"ERR 83\n", CUT, 0),
+    (&[(0, b"INSTALL 67108865\n")], b"ERR 84\n", LONG, 0),
 ];
 
-const CUT_IN_A_LINE: &[Part] = &[(0, b"LIST\nLI"), (5, b"")];
+const CUT: Served = Served::Fault(83);
 
-const TOO_LONG: &[Part] = &[(0, b"INSTALL 67108865\n")];
+const LONG: Served = Served::Fault(84);
 
 /// Whether a session with a client that waits for its replies ends so, with all replies out.
-fn answers_so(alloc: Global, parts: &[Part], output: &[u8], ending: Served) -> bool {
-    let (bytes, out) = (Vec::new(alloc), Cell::new(0));
-    let mut host: Host<u8> = Host::new(alloc, 512, 0);
+fn answers_so(alloc: Global, parts: &[Part], output: &[u8], ending: (Served, usize)) -> bool {
+    let out = Cell::new(0);
+    let mut closing = make_closing(alloc, usize::MAX, usize::MAX, false);
+    closing.out = Some(&out);
     let mut reader = Counted::new(Asking { parts, out: &out });
-    let mut writer = Counted::new(Held { bytes, out: &out });
-    let served = serve(alloc, &mut host, &mut reader, &mut writer);
-    let is_out = out.get() == output.len();
-    served == ending && is_out && writer.into_inner().bytes.as_slice() == output
+    let mut writer = Counted::new(closing);
+    let (served, found) = serve_new(alloc, &mut reader, &mut writer);
+    let written = writer.into_inner();
+    (served, found) == ending && out.get() == output.len() && written.taken.as_slice() == output
 }
 
 #[test]
 fn each_reply_is_out_before_more_is_asked_for(rt: HostRuntime) {
-    for &(parts, output, ending) in ASKED {
-        assert!(rt; answers_so(rt.alloc(), parts, output, ending), "{output:?}");
+    for &(parts, output, served, modules) in ASKED {
+        let is_so = answers_so(rt.alloc(), parts, output, (served, modules));
+        assert!(rt; is_so, "{output:?}");
     }
 }
 
 /// Whether the writer fails in a long reply, and the request that came with it is not begun.
-fn stops_in_a_long_reply(alloc: Global) -> Result<bool, Fail> {
-    let mut host: Host<u8> = Host::new(alloc, 512, 0);
-    let body = vec![in alloc; b' '; 70_000]?;
-    host.install(alloc, body.as_slice())?;
+fn stops_in_a_long_reply(alloc: Global, host: &mut Host<u8>) -> bool {
     let mut reader = Counted::new(b"EXPORT\nINSTALL 8\n(type a)QUIT\n".as_slice());
     let mut writer = Counted::new(make_closing(alloc, 10, 3, false));
-    let served = serve(alloc, &mut host, &mut reader, &mut writer);
-    let is_front = writer.into_inner().taken.as_slice()
-        == b"OK 70021\nCILB\x01\0\0\0\0\0\0\0\x01\0\0\0\0\0\x01\x11".as_slice();
-    Ok(served == Served::WriteFailed && is_front && modules_of(alloc, &host) == 1)
+    let ending = serve_on(alloc, host, &mut reader, &mut writer);
+    let written = writer.into_inner();
+    let want = b"OK 70021\nCILB\x01\0\0\0\0\0\0\0\x01\0\0\0\0\0\x01\x11".as_slice();
+    ending == (Served::WriteFailed, 1) && written.taken.as_slice() == want
 }
 
 #[test]
 fn no_request_is_begun_once_the_writer_has_failed(rt: HostRuntime) -> Result<(), Fail> {
-    assert!(rt; stops_in_a_long_reply(rt.alloc())?);
+    let alloc = rt.alloc();
+    let body = vec![in alloc; b' '; 70_000]?;
+    let mut host: Host<u8> = Host::new(alloc, 512, 0);
+    assert!(rt; host.install(alloc, body.as_slice()).is_ok());
+    assert!(rt; stops_in_a_long_reply(alloc, &mut host));
     Ok(())
-}
-
-/// A writer that takes all bytes and cannot hand them on.
-#[derive(Drop)]
-struct Stuck {
-    calls: usize,
-}
-
-impl Write for Stuck {
-    fn write(&mut self, bytes: &[u8]) -> io::Result<usize> {
-        self.calls = self.calls.saturating_add(1);
-        Ok(bytes.len())
-    }
-
-    fn flush(&mut self) -> io::Result<()> {
-        Err(io::Error::from(io::ErrorKind::BrokenPipe))
-    }
 }
 
 #[test]
 fn a_failed_flush_is_a_failed_write(rt: HostRuntime) {
-    let alloc = rt.alloc();
-    let mut host: Host<u8> = Host::new(alloc, 512, 0);
+    let mut stuck = make_closing(rt.alloc(), 100, 9, false);
+    stuck.is_stuck = true;
     let mut reader = Counted::new(b"LIST\nQUIT\n".as_slice());
-    let mut writer = Counted::new(Stuck { calls: 0 });
-    let served = serve(alloc, &mut host, &mut reader, &mut writer);
-    assert_eq!(rt; served, Served::WriteFailed);
-    assert_eq!(rt; Sink::failed(&writer), 1);
-    assert_eq!(rt; writer.into_inner().calls, 1);
-}
-
-/// Inputs that end in a request: in a line, in a body, and before one.
-const CUT: &[&[u8]] = &[b"LIST", b"INSTALL 10\n(typ", b"INSTALL 1\n"];
-
-#[test]
-fn a_request_that_is_cut_changes_nothing(rt: HostRuntime) {
-    let alloc = rt.alloc();
-    let mut host: Host<u8> = Host::new(alloc, 512, 0);
-    for &input in CUT {
-        let mut reader = Counted::new(input);
-        let mut writer = Counted::new(Vec::new(alloc));
-        let served = serve(alloc, &mut host, &mut reader, &mut writer);
-        assert_eq!(rt; served, Served::Fault(83));
-        assert_eq!(rt; writer.into_inner().as_slice(), b"ERR 83\n".as_slice());
-        assert_eq!(rt; modules_of(alloc, &host), 0);
-    }
+    let mut writer = Counted::new(stuck);
+    let ending = serve_new(rt.alloc(), &mut reader, &mut writer);
+    let failed = Sink::failed(&writer);
+    let written = writer.into_inner();
+    assert!(rt; ending == (Served::WriteFailed, 0) && failed == 1 && written.calls == 8);
 }

@@ -1,139 +1,103 @@
 //! The numbers of declared symbols.
 
-use crate::look_ups::{Declared, entries, spaces};
-use cil_names::{Lookup, Names, Numbering, OptSet, numbered};
+ghost use Rattle.cil_macros.specs.Items.{items_in, namespaces_in};
+ghost use Rattle.cil_names.specs.Entries.{AreEntries};
+
+use crate::answers::{ByNames, Named, NamedQuestion, is_answer, row_holds, text_of};
+use crate::optional_choices::flags;
+use cil_names::{Lookup, Numbering, OptSet, numbered};
 use cil_syntax::{Bytes, Kind};
 use std::alloc::Global;
-use std::test::Fail;
 
-/// Adds some names, with blanks between and in parentheses.
-fn show_names(out: &mut String, names: &[Bytes]) -> Option<()> {
-    write!(out, "(").ok()?;
-    for (i, name) in names.iter().enumerate() {
-        let name = str::from_utf8(name.as_slice()).ok()?;
-        let blank = if i > 0 { " " } else { "" };
-        write!(out, "{blank}{name}").ok()?;
+/// The users, roles, types and classes, and the number of each entry, where these optionals are enabled.
+#[derive(Drop)]
+struct Numbers(&'static [usize]);
+
+impl NamedQuestion for Numbers {
+    fn answer(&self, alloc: Global, all: &Named, out: &mut String) -> bool {
+        match flags(alloc, self.0) {
+            Some(enabled) => show_numbered(alloc, all, &enabled, out),
+            None => false,
+        }
     }
-    write!(out, ")").ok()
 }
 
-/// The users, roles, types and classes, and the number of each entry.
-fn show_numbers(alloc: Global, numbering: &Numbering) -> Result<String, Fail> {
-    let mut out = String::new(alloc);
+fn show_numbered(alloc: Global, all: &Named, enabled: &OptSet, out: &mut String) -> bool
+    requires { AreEntries (namespaces_in all.now.instances.now) (items_in all.now.instances.now) all.now.names.now }
+{
+    let lookup = Lookup {
+        namespaces: all.instances.namespaces(),
+        names: &*all.names,
+        enabled,
+    };
+    match numbered(alloc, &lookup) {
+        Ok(numbering) => show_numbers(&numbering, out),
+        Err(_) => false,
+    }
+}
+
+fn show_numbers(numbering: &Numbering, out: &mut String) -> bool {
     for kind in [Kind::User, Kind::Role, Kind::Type_, Kind::Class] {
-        show_names(&mut out, numbering.sections.names(kind)).ok_or("no names")?;
+        if !show_names(out, numbering.sections.names(kind)) {
+            return false;
+        }
     }
     for number in numbering.numbers.as_slice() {
-        write!(out, " {number}")?;
+        if write!(out, " {number}").is_err() {
+            return false;
+        }
     }
-    Ok(out)
+    true
 }
 
-/// The numbers of declared names where some optionals are enabled.
-fn numbers(alloc: Global, declared: &[Declared], flags: &[bool]) -> Result<String, Fail> {
-    let spaces = spaces(alloc)?;
-    let names = Names::checked(alloc, &spaces, entries(alloc, declared)?)?.ok_or(
-        "they do not rise",
-    )?;
-    let enabled = OptSet::of(Vec::from_slice(alloc, flags)?);
-    let lookup = Lookup {
-        namespaces: &spaces,
-        names: &names,
-        enabled: &enabled,
-    };
-    show_numbers(alloc, &numbered(alloc, &lookup)?)
+/// Adds some names, with blanks between and in parentheses.
+fn show_names(out: &mut String, names: &[Bytes]) -> bool {
+    for (i, name) in names.iter().enumerate() {
+        let front = if i > 0 { " " } else { "(" };
+        if out.push_str(front).is_err() || out.push_str(text_of(name.as_slice())).is_err() {
+            return false;
+        }
+    }
+    out.push_str(if names.is_empty() { "()" } else { ")" })
+        .is_ok()
 }
 
-const KINDS: &str = "(p.q.u u)(object_r p.r r.a z)(p.q.t)(c p.c) 2 0 1 0 1 0 1 0 3";
+/// A module, and behind an arrow its symbols and the numbers of its entries, by their names, name spaces and namespaces.
+const NUMBERED: &[&str] = &[
+    " => ()(object_r)()() 0",
+    // Each kind in a section of its own.
+    "(class c ())(user u)(role z)(block p (class c ())(role r)(block q (type t)(user u)))(block r (role a)) => (p.q.u u)(object_r p.r r.a z)(p.q.t)(c p.c) 2 0 1 0 1 0 1 0 3",
+    // Qualified names are in byte order. A hyphen comes before the dot, digits and letters come behind it.
+    "(type p)(type p-x)(type p0)(type pa)(type q)(block p (type X)(type x)(block q (type x)))(block r (type a)) => ()(object_r)(p p-x p.X p.q.x p.x p0 pa q r.a)() 2 8 0 0 1 5 6 7 4 3",
+    // Aliases, attributes, class maps and macros have no section.
+    "(typeattribute a)(type b)(roleattribute b)(userattribute b)(classmap b (x))(typealias c)(macro c ())(type d) => ()(object_r)(b d)() 0 0 0 0 0 0 0 1 0",
+    // A type and a role of one name.
+    "(role a)(type x)(role x) => ()(a object_r x)(x)() 0 1 0 2",
+];
 
-const IN_ORDER: &str = "()()(p p-x p.X p.q.x p.x p0 pa q r.a)() 2 8 0 1 5 6 7 4 3";
+/// Optionals with the numbers 0, 1, 5, in the first one, and 7: they have the types `a`, `c`, `c` and `p.a`.
+const OPTIONALS: &str =
+    "(optional o (type a)(optional q (type c)))(optional s (type c))(type b)(block p (optional t (type a)))";
 
-/// Some sets of optionals, the users, roles, types and classes there, and the number of each name.
-type Sets = &'static [(&'static [bool], &'static str)];
-
-/// What a row is about, the declared names by name, name space and namespace, and what they are by sets of optionals.
-const NUMBERED: &[(&str, &[Declared], Sets)] = &[
-    ("nothing", &[], &[(&[], "()()()()")]),
-    (
-        "each kind in a section of its own",
-        &[
-            (2, b"a", Kind::Role, &[]),
-            (0, b"c", Kind::Class, &[]),
-            (1, b"c", Kind::Class, &[]),
-            (0, b"object_r", Kind::Role, &[]),
-            (1, b"r", Kind::Role, &[]),
-            (3, b"t", Kind::Type_, &[]),
-            (0, b"u", Kind::User, &[]),
-            (3, b"u", Kind::User, &[]),
-            (0, b"z", Kind::Role, &[]),
-        ],
-        &[(&[], KINDS)],
-    ),
-    (
-        // A hyphen comes before the dot, digits and letters come behind it.
-        "qualified names in byte order",
-        &[
-            (1, b"X", Kind::Type_, &[]),
-            (2, b"a", Kind::Type_, &[]),
-            (0, b"p", Kind::Type_, &[]),
-            (0, b"p-x", Kind::Type_, &[]),
-            (0, b"p0", Kind::Type_, &[]),
-            (0, b"pa", Kind::Type_, &[]),
-            (0, b"q", Kind::Type_, &[]),
-            (1, b"x", Kind::Type_, &[]),
-            (3, b"x", Kind::Type_, &[]),
-        ],
-        &[(&[], IN_ORDER)],
-    ),
-    (
-        "aliases, attributes, class maps, blocks and macros have no section",
-        &[
-            (0, b"a", Kind::TypeAttribute, &[]),
-            (0, b"b", Kind::Type_, &[]),
-            (0, b"b", Kind::RoleAttribute, &[]),
-            (0, b"b", Kind::UserAttribute, &[]),
-            (0, b"b", Kind::ClassMap, &[]),
-            (0, b"b", Kind::Block, &[]),
-            (0, b"c", Kind::TypeAlias, &[]),
-            (0, b"c", Kind::Macro, &[]),
-            (0, b"d", Kind::Type_, &[]),
-        ],
-        &[(&[], "()()(b d)() 0 0 0 0 0 0 0 0 1")],
-    ),
-    (
-        "a type and a role of one name",
-        &[
-            (0, b"a", Kind::Role, &[]),
-            (0, b"x", Kind::Type_, &[]),
-            (0, b"x", Kind::Role, &[]),
-        ],
-        &[(&[], "()(a x)(x)() 0 0 1")],
-    ),
-    (
-        "names in optionals, where these are enabled",
-        &[
-            (0, b"a", Kind::Type_, &[&[0]]),
-            (1, b"a", Kind::Type_, &[&[1]]),
-            (0, b"b", Kind::Type_, &[]),
-            (0, b"c", Kind::Type_, &[&[1, 0], &[2]]),
-        ],
-        &[
-            (&[], "()()(b)() 0 0 0 0"),
-            (&[true], "()()(a b)() 0 0 1 0"),
-            (&[false, true], "()()(b p.a)() 0 1 0 0"),
-            (&[true, true], "()()(a b c p.a)() 0 3 1 2"),
-            (&[false, false, true], "()()(b c)() 0 0 0 1"),
-        ],
-    ),
+/// Which of these are enabled, and the numbers then.
+const ENABLED: &[(&[usize], &str)] = &[
+    (&[], "()(object_r)(b)() 0 0 0 0 0"),
+    (&[0], "()(object_r)(a b)() 0 0 1 0 0"),
+    (&[7], "()(object_r)(b p.a)() 0 1 0 0 0"),
+    (&[0, 5, 7], "()(object_r)(a b c p.a)() 0 3 1 2 0"),
+    (&[1], "()(object_r)(b c)() 0 0 0 1 0"),
 ];
 
 #[test]
-fn symbols_are_numbered_by_their_names(rt: HostRuntime) -> Result<(), Fail> {
-    for &(name, declared, rows) in NUMBERED {
-        for &(flags, wanted) in rows {
-            let got = numbers(rt.alloc(), declared, flags)?;
-            assert_eq!(rt; got.as_str(), wanted, "{name}");
-        }
+fn symbols_are_numbered_by_their_names(rt: HostRuntime) {
+    for row in NUMBERED {
+        assert!(rt; row_holds(rt.alloc(), row, &ByNames(Numbers(&[]))), "{row}");
     }
-    Ok(())
+    for &(enabled, want) in ENABLED {
+        let question = ByNames(Numbers(enabled));
+        assert!(rt;
+            is_answer(rt.alloc(), &[OPTIONALS], &question, want),
+            "{enabled:?}"
+        );
+    }
 }
