@@ -167,7 +167,6 @@ fn show_lists(alloc: Global, out: &mut String, instances: &Instances, asks: &Ask
     true
 }
 
-/// The same of one statement.
 fn show_statement(
     alloc: Global,
     out: &mut String,
@@ -200,7 +199,6 @@ fn show_entries(out: &mut String, numbers: &[u32]) -> bool {
         .is_ok()
 }
 
-/// Whether these are the candidates of a row.
 fn is_listed(alloc: Global, row: &str) -> bool {
     row_holds(alloc, row, &ByNames(Listed))
 }
