@@ -47,7 +47,6 @@ const POLICIES: &[&str] = &[
     "(block b (blockinherit b)(block x))(blockinherit nob)(macro b ())(block a (blockinherit b)(macro x ())) => 31 0 7 . b\n31 0 32 b x\n31 0 60 . b\n31 0 97 a x\n32 0 49 . nob\n33 0 23 b b\n",
     "(macro m ((type x)) (call m ()))(call m (t))(block n (call m (t))) => 34 0 26 . m\n34 0 26 n m\n35 0 26 . m\n35 0 26 n m\n",
     "(class w (p))(class w (q)) => 36 0 7 . w\n36 0 20 . w\n",
-    // What is placed above.
     "(block p (blockabstract p)(block x (type y))(macro m ()))(block q (blockinherit p)(block k (blockinherit .p.x)))(block n (blockinherit p)(blockinherit q.k)) => 0 0",
     "(role r)(type z)(type w)(macro a ((type t)) (type x)(roletype r t))(macro b ((type t)) (call a (t))(type y))(block n (call b (z)))(call b (z))(call a (w)) => 0 0",
     // Commons and operators; a class with two commons.

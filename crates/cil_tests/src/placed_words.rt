@@ -188,7 +188,6 @@ fn show_statement(
     matches!(word_asked(alloc, instances, at, asks.count(at)), Ok(None))
 }
 
-/// Adds some numbers, or `-`.
 fn show_entries(out: &mut String, numbers: &[u32]) -> bool {
     for number in numbers {
         if write!(out, " {number}").is_err() {
