@@ -50,7 +50,6 @@ pub(crate) trait NamedQuestion {
         requires permissions { ArePermissions (namespaces_in all.now.instances.now) all.now.names.now (items_in all.now.instances.now) all.now.permissions.now };
 }
 
-/// Such a question about what has no names yet.
 #[derive(Drop)]
 pub(crate) struct ByNames<Q>(pub(crate) Q);
 
@@ -96,7 +95,6 @@ fn ask_spaces<Q: Question>(alloc: Global, spaces: &Spaces, ask: &Q, out: &mut St
     }
 }
 
-/// The same for what is written.
 fn ask_program<Q: Question>(alloc: Global, program: &Program, ask: &Q, out: &mut String) -> bool {
     match inherit(alloc, program) {
         Ok(spaces) => ask_spaces(alloc, &spaces, ask, out),
@@ -104,7 +102,6 @@ fn ask_program<Q: Question>(alloc: Global, program: &Program, ask: &Q, out: &mut
     }
 }
 
-/// The same for modules.
 fn ask_modules<Q: Question>(alloc: Global, modules: &ModuleSet, ask: &Q, out: &mut String) -> bool {
     match written(alloc, modules) {
         Ok(program) => ask_program(alloc, &program, ask, out),
@@ -112,7 +109,6 @@ fn ask_modules<Q: Question>(alloc: Global, modules: &ModuleSet, ask: &Q, out: &m
     }
 }
 
-/// The same for some texts.
 fn ask_texts<Q: Question>(alloc: Global, texts: &[&str], ask: &Q, out: &mut String) -> bool {
     match set_of(alloc, texts) {
         Ok(modules) => ask_modules(alloc, &modules, ask, out),

@@ -30,7 +30,6 @@ fn nodes(alloc: Global) -> Result<Vec<Node>, NoMemory>
     Ok(nodes)
 }
 
-/// What they have. Errors: out of memory.
 fn given(alloc: Global) -> Result<GivenPermissions, NoMemory>
     ensures { IfOk result (λ given. IsStrictlySortedBy node_cmp given.nodes.items) }
 {
@@ -92,7 +91,6 @@ fn are_masks(alloc: Global, known: &Known, given: &GivenPermissions, want: &Give
     }
 }
 
-/// What `p` has, and what `q` has.
 const P: &[(ClassId, u32)] = &[
     (ClassId { number: 0 }, 0x5),
     (ClassId { number: 7 }, 0x8000_0001),

@@ -40,81 +40,89 @@ fn context(kind: usize) -> Context {
     Context { user, role, kind }
 }
 
-/// Contexts, the last four with bytes that no request can hold in one, and the number of the type; the user is 0, the role 1.
-const CONTEXTS: &[(&[u8], Option<usize>)] = &[
-    (b"u:r:a", Some(0)),
-    (b"u:r:b", Some(1)),
-    (b"", None),
-    (b"u:r:a ", None),
-    (b" u:r:a", None),
-    (b"u:r:a\n", None),
-];
-
-/// The number of a class, a bit, and the permission there: also a bit too many, and a class that is not there.
-const PERMISSIONS: &[(usize, u32, Option<&[u8]>)] = &[
-    (0, 0, Some(b"open")),
-    (0, 1, Some(b"read")),
-    (0, 2, None),
-    (0, u32::MAX, None),
-    (1, 0, Some(b"p00")),
-    (1, 31, Some(b"p31")),
-    (1, 32, None),
-    (2, 0, None),
-];
-
-#[test]
-fn names_are_found(rt: HostRuntime) -> Result<(), Fail> {
-    let tables = tables(rt.alloc()).ok_or("no tables")?;
-    for &(text, kind) in CONTEXTS {
-        let is_so = parse_context(&tables, text) == kind.map(context);
-        assert!(rt; is_so, "{text:?}");
-    }
-    for &(number, bit, want) in PERMISSIONS {
-        let is_so = permission_at(&tables, class_id(number), bit) == want;
-        assert!(rt; is_so, "{number} {bit}");
-    }
-    assert!(rt; permission_named(&tables, class_id(1), b"p31") == Some(31));
-    assert!(rt; permission_named(&tables, class_id(0), b"reads").is_none());
-    assert!(rt; permission_named(&tables, class_id(0), b"").is_none());
-    assert!(rt; permission_named(&tables, class_id(2), b"read").is_none());
-    assert!(rt; class_named(&tables, b"wide") == Some(class_id(1)));
-    assert!(rt; class_named(&tables, b"").is_none());
-    assert!(rt; boolean_named(&tables, b"late") == Some(0));
-    assert!(rt; boolean_named(&tables, b"net.open") == Some(1));
-    assert!(rt; boolean_named(&tables, b"open").is_none());
-    assert!(rt; boolean_named(&tables, b"").is_none());
-    Ok(())
+/// What is asked of the tables.
+enum Ask {
+    /// A context, and the number of its type; its user is 0 and its role 1.
+    Context(&'static [u8], Option<usize>),
+    /// The number of a class, a bit, and the permission there.
+    Permission(usize, u32, Option<&'static [u8]>),
+    /// The number of a class, the name of a permission, and its bit.
+    Bit(usize, &'static [u8], Option<u32>),
+    /// The name of a class or of a boolean, and its number.
+    Class(&'static [u8], Option<usize>),
+    Boolean(&'static [u8], Option<u32>),
+    /// Whether the second boolean is turned; the source, the target and the class, and what is allowed, recorded, and recorded when it is
+    /// denied.
+    Decision(bool, usize, usize, usize, [u32; 3]),
 }
 
-/// Whether the second boolean is turned; the source, the target, and the number of the class, which may not be there; what is allowed,
-/// what is recorded, and what is recorded when it is denied.
-const DECISIONS: &[(bool, usize, usize, usize, [u32; 3])] = &[
-    (false, 0, 1, 0, [0b10, 0, 0b11]),
-    (false, 1, 0, 0, [0, 0b10, 0b11]),
-    (true, 0, 1, 0, [0b11, 0, 0b11]),
-    (true, 1, 0, 0, [0, 0, 0b11]),
-    (false, 0, 1, 1, [0x8000_0001, 0, 0xFFFF_FFFF]),
-    (false, 0, 1, 2, [0, 0, 0]),
-    (false, 0, 1, usize::MAX, [0, 0, 0]),
-    (false, 2, 1, 0, [0, 0, 0b11]),
-    (false, 0, 2, 0, [0, 0, 0b11]),
-    (false, 2, 2, 0, [0, 0, 0b11]),
+/// Also of contexts with bytes that no request can hold in one, of bits and classes that are not there, and of types that are not.
+const ASKED: &[Ask] = &[
+    Ask::Context(b"u:r:a", Some(0)),
+    Ask::Context(b"", None),
+    Ask::Context(b"u:r:a ", None),
+    Ask::Context(b" u:r:a", None),
+    Ask::Context(b"u:r:a\n", None),
+    Ask::Permission(0, 0, Some(b"open")),
+    Ask::Permission(0, 2, None),
+    Ask::Permission(0, u32::MAX, None),
+    Ask::Permission(1, 31, Some(b"p31")),
+    Ask::Permission(1, 32, None),
+    Ask::Permission(2, 0, None),
+    Ask::Bit(1, b"p31", Some(31)),
+    Ask::Bit(0, b"reads", None),
+    Ask::Bit(0, b"", None),
+    Ask::Bit(2, b"read", None),
+    Ask::Class(b"wide", Some(1)),
+    Ask::Class(b"", None),
+    Ask::Boolean(b"late", Some(0)),
+    Ask::Boolean(b"open", None),
+    Ask::Boolean(b"", None),
+    Ask::Decision(false, 0, 1, 0, [0b10, 0, 0b11]),
+    Ask::Decision(true, 0, 1, 0, [0b11, 0, 0b11]),
+    Ask::Decision(false, 0, 1, 2, [0, 0, 0]),
+    Ask::Decision(false, 0, 1, usize::MAX, [0, 0, 0]),
+    Ask::Decision(false, 2, 1, 0, [0, 0, 0b11]),
+    Ask::Decision(false, 0, 2, 0, [0, 0, 0b11]),
+    Ask::Decision(false, 2, 2, 0, [0, 0, 0b11]),
 ];
 
-#[test]
-fn decides_by_the_rules(rt: HostRuntime) -> Result<(), Fail> {
-    let tables = tables(rt.alloc()).ok_or("no tables")?;
-    let mut settings = defaults(&tables);
-    assert!(rt; settings.get(0) && !settings.get(1) && !settings.get(2));
-    assert_eq!(rt; tables.rules().allow_len(), 3);
-    for &(is_on, source, target, number, want) in DECISIONS {
+/// What is decided, with the second boolean turned or not.
+fn decided(tables: &Tables, is_on: bool, source: usize, target: usize, class: usize) -> [u32; 3] {
+    let mut settings = defaults(tables);
+    if settings.get(0) && !settings.get(1) && !settings.get(2) {
         settings.set(1, is_on);
-        let (from, onto) = (context(source), context(target));
-        let found = decide(&tables, &settings, &from, &onto, class_id(number));
-        let got = [found.allowed, found.auditallow, found.auditdeny];
-        assert!(rt; got == want, "{is_on} {source} {target} {number}");
     }
-    Ok(())
+    let (from, onto) = (context(source), context(target));
+    let found = decide(tables, &settings, &from, &onto, class_id(class));
+    [found.allowed, found.auditallow, found.auditdeny]
+}
+
+fn answer_so(tables: &Tables, ask: &Ask) -> bool {
+    match *ask {
+        Ask::Context(text, kind) => parse_context(tables, text) == kind.map(context),
+        Ask::Permission(class, bit, want) => permission_at(tables, class_id(class), bit) == want,
+        Ask::Bit(class, name, want) => permission_named(tables, class_id(class), name) == want,
+        Ask::Class(name, want) => class_named(tables, name) == want.map(class_id),
+        Ask::Boolean(name, want) => boolean_named(tables, name) == want,
+        Ask::Decision(is_on, source, target, class, want) => {
+            decided(tables, is_on, source, target, class) == want
+        }
+    }
+}
+
+fn is_so(alloc: Global, ask: &Ask) -> bool {
+    match tables(alloc) {
+        Some(tables) => tables.rules().allow_len() == 3 && answer_so(&tables, ask),
+        None => false,
+    }
+}
+
+#[test]
+fn tables_answer(rt: HostRuntime) {
+    for (row, ask) in ASKED.iter().enumerate() {
+        assert!(rt; is_so(rt.alloc(), ask), "row {row}");
+    }
 }
 
 /// What becomes of a boolean of the loaded policy, and whether the first type may open the second then.
@@ -123,25 +131,34 @@ fn turned(host: &mut Host<u8>, name: &[u8], value: bool) -> Result<bool, QueryFa
     host.check(b"u:r:a", b"u:r:b", b"file", b"open")
 }
 
+fn loads(alloc: Global, host: &mut Host<u8>) -> bool {
+    host.install(alloc, FIRST.as_bytes()).is_ok()
+        && host.install(alloc, SWITCHED.as_bytes()).is_ok()
+        && host.load(alloc).is_ok()
+}
+
+/// Whether a host answers nothing before it has a policy, and by the policy then.
+fn host_answers(alloc: Global, host: &mut Host<u8>) -> bool {
+    host.permission(b"file", 0).is_none()
+        && turned(host, b"late", true) == Err(QueryFault::NoPolicy)
+        && loads(alloc, host)
+        && turned(host, b"net.open", true) == Ok(true)
+        && turned(host, b"net", true) == Err(QueryFault::NoBoolean)
+        && turned(host, b"late", false) == Ok(false)
+        && host.permission(b"file", 1) == Some(b"read".as_slice())
+        && host.permission(b"file", 2).is_none()
+        && host.permission(b"file", u32::MAX).is_none()
+        && host.permission(b"dir", 0).is_none()
+        && host.permission(b".file", 0).is_none()
+}
+
 #[test]
 fn a_host_answers(rt: HostRuntime) {
     let mut host: Host<u8> = Host::new(rt.alloc(), 512, 0);
-    assert!(rt; host.permission(b"file", 0).is_none());
-    assert!(rt; turned(&mut host, b"late", true) == Err(QueryFault::NoPolicy));
-    assert!(rt; host.install(rt.alloc(), FIRST.as_bytes()).is_ok());
-    assert!(rt; host.install(rt.alloc(), SWITCHED.as_bytes()).is_ok());
-    assert!(rt; host.load(rt.alloc()).is_ok());
-    assert!(rt; turned(&mut host, b"net.open", true) == Ok(true));
-    assert!(rt; turned(&mut host, b"net", true) == Err(QueryFault::NoBoolean));
-    assert!(rt; turned(&mut host, b"late", false) == Ok(false));
-    assert!(rt; host.permission(b"file", 1) == Some(b"read".as_slice()));
-    assert!(rt; host.permission(b"file", 2).is_none());
-    assert!(rt; host.permission(b"file", u32::MAX).is_none());
-    assert!(rt; host.permission(b"dir", 0).is_none());
-    assert!(rt; host.permission(b".file", 0).is_none());
+    let is_so = host_answers(rt.alloc(), &mut host);
+    assert!(rt; is_so);
 }
 
-/// Whether names are kept as they are given.
 fn are_kept(alloc: Global) -> Option<bool> {
     let name = Bytes::from_vec(Vec::from_slice(alloc, b"read").ok()?);
     let copy = Bytes::copy_of(alloc, name.as_slice()).ok()?;

@@ -102,14 +102,12 @@ pub(crate) fn word(bytes: &'static [u8], sign: Sign) -> Word<'static> {
 
 type Found = Option<usize>;
 
-/// What a word means.
+/// What a word means: the declared name that it names in its scope where these optionals are enabled; all that it could name there, behind
+/// the number 9; or the one that it could name in every scope, and none where it hangs on the scope, or on dots.
 #[derive(Clone, Copy)]
 enum Ask {
-    /// The declared name that it names in its scope where these optionals are enabled.
     Names(&'static [bool], Found),
-    /// All that it could name there, behind the number 9.
     Could(&'static [usize]),
-    /// The one that it could name in every scope; none where it hangs on the scope, or on dots.
     Everywhere(Found),
 }
 

@@ -34,7 +34,6 @@ const NESTED: &str = "(optional A (roletype r nobody)(optional B (type z)))";
 
 const OUTER_OUT: Why = (9, Some((10, 1)));
 
-/// A module without optionals, and a number of nothing.
 const NONE: &str = "(type z)";
 
 const NO: u32 = u32::MAX;
@@ -98,7 +97,6 @@ const CHOICES: &[(&str, &[Row])] = &[
 #[derive(Drop)]
 struct Checked(&'static [usize], &'static [Why], bool);
 
-/// More flags than the policies have statements.
 const FLAGS: usize = 32;
 
 fn reason(optional: u32, why: Option<(u32, u32)>) -> Reason {
@@ -123,7 +121,6 @@ pub(crate) fn flags(alloc: Global, enabled: &[usize]) -> Option<OptSet> {
     Some(OptSet::of(flags))
 }
 
-/// A choice. None where there is no memory.
 fn choice(alloc: Global, enabled: &[usize], whys: &[Why]) -> Option<Chosen> {
     let mut reasons = Vec::new(alloc);
     for &(optional, why) in whys {
@@ -173,10 +170,6 @@ fn choices_of_optionals_are_checked(rt: HostRuntime) {
     }
 }
 
-fn show_counts(out: &mut String, removals: u64, lookups: u64) -> bool {
-    write!(out, "{removals} {lookups}").is_ok()
-}
-
 /// How many optionals what is chosen leaves out, and the look-ups it took. No answer where it is not right.
 struct Picked;
 
@@ -184,7 +177,7 @@ impl NamedQuestion for Picked {
     fn answer(&self, alloc: Global, all: &Named, out: &mut String) -> bool {
         match greatest_counted(alloc, all.instances, all.names, all.permissions) {
             Ok(found) => {
-                show_counts(out, found.removals, found.lookups)
+                write!(out, "{} {}", found.removals, found.lookups).is_ok()
                     && is_checked(alloc, all, &found.chosen, true)
             }
             Err(_) => false,
@@ -200,7 +193,7 @@ impl NamedQuestion for Guessed {
         match guess(alloc, all.instances, all.names, all.permissions) {
             Ok(found) => {
                 let removals = found.chosen.reasons.len();
-                show_counts(out, removals as u64, found.lookups as u64)
+                write!(out, "{removals} {}", found.lookups).is_ok()
                     && is_checked(alloc, all, &found.chosen, true)
             }
             Err(_) => false,

@@ -167,7 +167,6 @@ fn show_lists(alloc: Global, out: &mut String, instances: &Instances, asks: &Ask
     true
 }
 
-/// The same of one statement.
 fn show_statement(
     alloc: Global,
     out: &mut String,
@@ -189,7 +188,6 @@ fn show_statement(
     matches!(word_asked(alloc, instances, at, asks.count(at)), Ok(None))
 }
 
-/// Adds some numbers, or `-`.
 fn show_entries(out: &mut String, numbers: &[u32]) -> bool {
     for number in numbers {
         if write!(out, " {number}").is_err() {
@@ -200,7 +198,6 @@ fn show_entries(out: &mut String, numbers: &[u32]) -> bool {
         .is_ok()
 }
 
-/// Whether these are the candidates of a row.
 fn is_listed(alloc: Global, row: &str) -> bool {
     row_holds(alloc, row, &ByNames(Listed))
 }

@@ -87,7 +87,6 @@ fn show_place(alloc: Global, out: &mut String, spaces: &Spaces, rank: usize) -> 
     show_space(alloc, out, spaces.namespaces(), number) && show_scope(alloc, out, spaces, rank)
 }
 
-/// Adds the scope of an entry.
 fn show_scope(alloc: Global, out: &mut String, spaces: &Spaces, rank: usize) -> bool {
     let mut scope = ScopeList::new(alloc);
     spaces.scope_into(alloc, rank, &mut scope).is_ok()
@@ -105,7 +104,6 @@ fn show_spaces(alloc: Global, out: &mut String, spaces: &Namespaces, numbers: &[
     out.push_str("\n").is_ok()
 }
 
-/// Adds the namespace of a number.
 fn show_space(alloc: Global, out: &mut String, spaces: &Namespaces, number: usize) -> bool {
     if number == 0 {
         return out.push_str(".").is_ok();

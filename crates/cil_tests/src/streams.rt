@@ -110,7 +110,6 @@ fn serve_on<R: Source, W: Sink>(
     }
 }
 
-/// The same with a new host.
 fn serve_new<R: Source, W: Sink>(alloc: Global, reader: &mut R, writer: &mut W) -> (Served, usize)
     requires reader { R.failed reader.old < most_failures }
     requires writer { W.failed writer.old < most_failures }
@@ -272,8 +271,9 @@ fn no_request_is_begun_once_the_writer_has_failed(rt: HostRuntime) -> Result<(),
     let alloc = rt.alloc();
     let body = vec![in alloc; b' '; 70_000]?;
     let mut host: Host<u8> = Host::new(alloc, 512, 0);
-    assert!(rt; host.install(alloc, body.as_slice()).is_ok());
-    assert!(rt; stops_in_a_long_reply(alloc, &mut host));
+    let is_kept = host.install(alloc, body.as_slice()).is_ok();
+    let is_so = is_kept && stops_in_a_long_reply(alloc, &mut host);
+    assert!(rt; is_so);
     Ok(())
 }
 
