@@ -156,6 +156,19 @@ fn could_in(alloc: Global, spaces: &Spaces, names: &Names, row: &Row, scope: &Sc
         && found.as_slice() == want
 }
 
+/// Both, where these stand behind the number 9.
+fn could_both(alloc: Global, spaces: &Spaces, names: &Names, row: &Row, want: &[usize]) -> bool
+    requires { AreOrdered spaces.now names.now }
+{
+    let Some((_, behind)) = want.split_first() else {
+        return false;
+    };
+    let Some(scope) = scope_of(alloc, row.2) else {
+        return false;
+    };
+    could(alloc, spaces, names, row, behind) && could_in(alloc, spaces, names, row, &scope)
+}
+
 /// What a word names in its scope where these optionals are enabled. None where there is no such scope, or no memory.
 fn named(alloc: Global, spaces: &Spaces, names: &Names, row: &Row, flags: &[bool]) -> Option<Found>
     requires { AreOrdered spaces.now names.now }
@@ -173,13 +186,7 @@ fn is_meant(alloc: Global, spaces: &Spaces, names: &Names, row: &Row) -> bool
 {
     match row.3 {
         Ask::Names(flags, want) => named(alloc, spaces, names, row, flags) == Some(want),
-        Ask::Could(want) => match scope_of(alloc, row.2) {
-            Some(scope) => {
-                could(alloc, spaces, names, row, &want[1..])
-                    && could_in(alloc, spaces, names, row, &scope)
-            }
-            None => false,
-        },
+        Ask::Could(want) => could_both(alloc, spaces, names, row, want),
         Ask::Everywhere(want) => names.unscoped(&word(row.0, row.1)) == want,
     }
 }
