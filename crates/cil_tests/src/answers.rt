@@ -20,6 +20,11 @@ pub(crate) fn text_of(bytes: &[u8]) -> &str {
     }
 }
 
+/// Adds two numbers. What holds values calls it, since to write is dear where they are held.
+pub(crate) fn show_counts(out: &mut String, first: u64, second: u64) -> bool {
+    write!(out, "{first} {second}").is_ok()
+}
+
 /// Adds the lines of faults. False where there is no memory.
 pub(crate) fn show_faults(alloc: Global, faults: &FaultList, out: &mut String) -> bool {
     match render(alloc, faults) {

@@ -107,7 +107,6 @@ const PERMISSIONS: &[Row] = &[
     (b".p.c", b"p", &[2, 0], Some(1)),
 ];
 
-/// Whether that is so.
 #[derive(Drop)]
 struct PermissionWord(Row);
 

@@ -94,7 +94,6 @@ fn show_scope(alloc: Global, out: &mut String, spaces: &Spaces, rank: usize) -> 
         && show_spaces(alloc, out, spaces.namespaces(), scope.as_slice())
 }
 
-/// Adds some namespaces, with a blank before each.
 fn show_spaces(alloc: Global, out: &mut String, spaces: &Namespaces, numbers: &[usize]) -> bool {
     for &number in numbers {
         if out.push_str(" ").is_err() || !show_space(alloc, out, spaces, number) {

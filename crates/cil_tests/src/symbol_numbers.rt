@@ -50,7 +50,6 @@ fn show_numbers(numbering: &Numbering, out: &mut String) -> bool {
     true
 }
 
-/// Adds some names, with blanks between and in parentheses.
 fn show_names(out: &mut String, names: &[Bytes]) -> bool {
     for (i, name) in names.iter().enumerate() {
         let front = if i > 0 { " " } else { "(" };
