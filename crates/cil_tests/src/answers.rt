@@ -47,7 +47,6 @@ pub(crate) struct Named<'r, 's, 't, 'a> {
     pub(crate) permissions: &'r [Vec<Bytes>],
 }
 
-/// A question about that.
 pub(crate) trait NamedQuestion {
     /// Adds the answer in words. False where there is none, or no memory.
     fn answer(&self, alloc: Global, all: &Named, out: &mut String) -> bool

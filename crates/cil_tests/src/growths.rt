@@ -91,7 +91,6 @@ fn a_refused_growth_is_no_fault_of_a_policy(rt: HostRuntime) -> Result<(), Fail>
     Ok(())
 }
 
-/// How many statements are there by blocks, and how many calls bring.
 struct Counts;
 
 impl Question for Counts {

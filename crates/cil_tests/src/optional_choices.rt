@@ -184,7 +184,6 @@ impl NamedQuestion for Picked {
     }
 }
 
-/// The same of what is guessed.
 struct Guessed;
 
 impl NamedQuestion for Guessed {

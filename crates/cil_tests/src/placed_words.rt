@@ -144,7 +144,6 @@ const LISTED: &[&str] = &[
     "(block a (type t))(block b (blockinherit a)) => ",
 ];
 
-/// Which words are asked for, and what they could name.
 struct Listed;
 
 impl NamedQuestion for Listed {

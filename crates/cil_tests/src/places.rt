@@ -79,7 +79,6 @@ fn show_opener(out: &mut String, statement: u32, opener: Option<u32>) -> bool {
     }
 }
 
-/// Adds the namespace and the scope of an entry.
 fn show_place(alloc: Global, out: &mut String, spaces: &Spaces, rank: usize) -> bool {
     let Some(number) = spaces.space(rank) else {
         return false;

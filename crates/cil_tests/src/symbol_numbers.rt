@@ -78,7 +78,6 @@ const NUMBERED: &[&str] = &[
 const OPTIONALS: &str =
     "(optional o (type a)(optional q (type c)))(optional s (type c))(type b)(block p (optional t (type a)))";
 
-/// Which of these are enabled, and the numbers then.
 const ENABLED: &[(&[usize], &str)] = &[
     (&[], "()(object_r)(b)() 0 0 0 0 0"),
     (&[0], "()(object_r)(a b)() 0 0 1 0 0"),
