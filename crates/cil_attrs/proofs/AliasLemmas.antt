@@ -5,23 +5,24 @@ use Rattle.std.proofs.Common.{◌≡◌, ℕ, ◌<◌, List, length, not, sym, �
 use Rattle.cil_faults.specs.declared.code.FaultCode.TheVariants as causes
 use Rattle.cil_faults.specs.declared.fault.Fault.{Fault}
 use Rattle.cil_syntax.specs.declared.kind.Kind.{Kind}
+use Rattle.cil_syntax.specs.declared.kind.Sign.{Sign}
 use Rattle.cil_macros.specs.Items.{Kept, items_in, may_say_lists, says_as_written}
 use Rattle.cil_names.specs.Known.{enabled_in}
 use Rattle.cil_names.specs.Spaces.{Sets, SpaceOf}
 use Rattle.cil_names.specs.declared.known.Known.{Known}
 use Rattle.cil_attrs.specs.declared.giver.SetKind.{SetKind}
-use Rattle.cil_attrs.specs.declared.space.Space.{Space}
+use Rattle.cil_attrs.specs.declared.giver.SpaceKinds.{SpaceKinds}
 use Rattle.cil_attrs.specs.declared.targets.Step.{Step}
 use Rattle.cil_attrs.specs.Givers.{AreSets, IsSets}
+use Rattle.cil_attrs.specs.Laws.{IsSpace}
 use Rattle.cil_attrs.specs.Members.{IsIn}
-use Rattle.cil_attrs.specs.NameSpaces.{kinds_in}
 use Rattle.cil_attrs.specs.SetFaults.{AliasTwice, OpenAlias}
 use Rattle.cil_attrs.specs.Targets.{AreLast, AreSteps, HasOther, IsToldAmong, IsToldIn, SaysTwo}
 use Rattle.cil_attrs.proofs.FaultLemmas.{some_targets, step_says, step_within, targets_told}
 use Rattle.cil_attrs.proofs.SpaceLemmas.{alias_written, one_of_space}
 
-module _ (k : Known) (i : Kept) (r : Space) (names : List (List ℕ)) (sections : Kind → List (List ℕ)) (which : SpaceOf) (policy : IsIn k i r names sections which) (aliases : SetKind)
-    (e : (kinds_in r).aliases ≡ Some aliases) (steps : List Step) (given : (j : Sets) → IsSets aliases j → AreSteps k i (kinds_in r).item j steps) where
+module _ (k : Known) (i : Kept) (r : SpaceKinds) (sign : Sign) (space : IsSpace r sign) (names : List (List ℕ)) (sections : Kind → List (List ℕ)) (which : SpaceOf) (policy : IsIn k i r names sections which)
+    (aliases : SetKind) (e : r.aliases ≡ Some aliases) (steps : List Step) (given : (j : Sets) → IsSets aliases j → AreSteps k i r.item j steps) where
   abbrev sets : (j : Sets) × (which.aliases ≡ Some j) × IsSets aliases j
   sets = some_targets aliases which.aliases (subst (λ o. AreSets o which.aliases) e policy.is_space.aliases)
 
@@ -33,7 +34,7 @@ module _ (k : Known) (i : Kept) (r : Space) (names : List (List ℕ)) (sections 
 
   pub alias_says : (s : Step) → Contains steps s → SaysTwo i s
   alias_says s c = step_says k i which.item sets.0 steps are (λ keyword t.
-      (ap says_as_written ((sets.2.giving keyword).0 t) ∙ (alias_written r aliases e).written, ap may_say_lists ((sets.2.giving keyword).0 t) ∙ (alias_written r aliases e).named)) s c
+      (ap says_as_written ((sets.2.giving keyword).0 t) ∙ (alias_written r sign space aliases e).written, ap may_say_lists ((sets.2.giving keyword).0 t) ∙ (alias_written r sign space aliases e).named)) s c
 
   pub alias_told : (lasts : List (Option ℕ)) → AreLast steps lasts → length lasts ≡ length k.lookup.names.now → (old middle new : List Fault)
       → ((f : Fault) → Contains middle f
@@ -41,7 +42,7 @@ module _ (k : Known) (i : Kept) (r : Space) (names : List (List ℕ)) (sections 
       → ((f : Fault) → Contains new f ↔ (Contains middle f ⊎ IsToldAmong i (HasOther steps lasts) steps f))
       → (f : Fault) → Contains new f ↔ ((Contains old f ⊎ OpenAlias (items_in i) (enabled_in k) which f) ⊎ AliasTwice (items_in i) (enabled_in k) which f)
   alias_told lasts last len old middle new of_open of_twice =
-      targets_told k i policy.known.entries which (one_of_space r which policy.is_space k.lookup.namespaces.now policy.known.namespaces k.lookup.names.now policy.known.entries.ordered) sets.0 sets.1 steps are lasts last
+      targets_told k i policy.known.entries which (one_of_space r sign space which policy.is_space k.lookup.namespaces.now policy.known.namespaces k.lookup.names.now policy.known.entries.ordered) sets.0 sets.1 steps are lasts last
       len old middle new
       (subst
       (λ kind. (f : Fault) → Contains middle f

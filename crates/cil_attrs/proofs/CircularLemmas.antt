@@ -30,7 +30,7 @@ use Rattle.cil_attrs.specs.Begun.{is_sets_kind}
 use Rattle.cil_attrs.specs.Givers.{AreGifts, IsGift, is_giving_as}
 use Rattle.cil_attrs.specs.Holding.{is_kind}
 use Rattle.cil_attrs.specs.Made.{said}
-use Rattle.cil_attrs.specs.Members.{AreBegun, IsInKinds, meaning_there}
+use Rattle.cil_attrs.specs.Members.{AreBegun, IsIn, meaning_there}
 use Rattle.cil_attrs.specs.Order.{Depends, Names, at_once, further, is_set, is_set_at}
 use Rattle.cil_attrs.specs.Plain.{ArePlain}
 use Rattle.cil_attrs.proofs.GiverLemmas.{names_no_set}
@@ -44,7 +44,7 @@ of_sets true c n e = absurd (let f : false ≡ true = e in cc)
 of_sets false true n e = refl
 of_sets false false n e = absurd (let f : false ≡ true = e in cc)
 
-module _ (k : Known) (i : Kept) (r : SpaceKinds) (names : List (List ℕ)) (sections : Kind → List (List ℕ)) (which : SpaceOf) (policy : IsInKinds k i r names sections which) (apart : is_sets_kind r r.item ≡ false)
+module _ (k : Known) (i : Kept) (r : SpaceKinds) (names : List (List ℕ)) (sections : Kind → List (List ℕ)) (which : SpaceOf) (policy : IsIn k i r names sections which) (apart : is_sets_kind r r.item ≡ false)
     (law : MeansWhatItNames) (first : List Held) (are : AreBegun k i r first) (givens : List Given) (gifts : AreGifts k (items_in i) which i (items_in i) givens) (plain : ArePlain givens)
     (one : HasOneEntry k.lookup.namespaces.now k.lookup.names.now which) where
   abbrev pub symbol_at : ℕ → Symbol

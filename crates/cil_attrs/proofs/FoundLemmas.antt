@@ -47,7 +47,7 @@ use Rattle.cil_attrs.specs.Found.{family_of, is_item_entry, is_set_entry, item_p
 use Rattle.cil_attrs.specs.Givers.{AreGifts}
 use Rattle.cil_attrs.specs.Holding.{HoldsAs, IsItem, is_kind, stands}
 use Rattle.cil_attrs.specs.Made.{held_at, is_made_by, said}
-use Rattle.cil_attrs.specs.Members.{AreBegun, AreMade, AreMembers, IsInKinds, meaning_there}
+use Rattle.cil_attrs.specs.Members.{AreBegun, AreMade, AreMembers, IsIn, meaning_there}
 use Rattle.cil_attrs.specs.Order.{FallFor, Names, is_set_at}
 use Rattle.cil_attrs.specs.Order as order
 use Rattle.cil_attrs.specs.Plain.{ArePlain}
@@ -112,7 +112,7 @@ begun_holds r s numbers d v e t = by (is_kind e.kind r.item) (is_declared_in s e
     by false b true p q u = absurd (let f : false ≡ true = u in cc)
     by false b false p q u = absurd (let f : false ≡ true = u in cc)
 
-module _ (k : Known) (i : Kept) (r : SpaceKinds) (names : List (List ℕ)) (sections : Kind → List (List ℕ)) (which : SpaceOf) (policy : IsInKinds k i r names sections which) (apart : is_sets_kind r r.item ≡ false)
+module _ (k : Known) (i : Kept) (r : SpaceKinds) (names : List (List ℕ)) (sections : Kind → List (List ℕ)) (which : SpaceOf) (policy : IsIn k i r names sections which) (apart : is_sets_kind r r.item ≡ false)
     (law : MeansWhatItNames) (first : List Held) (are : AreBegun k i r first) (givens : List Given) (gifts : AreGifts k (items_in i) which i (items_in i) givens) (plain : ArePlain givens)
     (one : HasOneEntry k.lookup.namespaces.now k.lookup.names.now which) (section : has_section which.item ≡ true) (apart_numbers : AreApart k.lookup.names.now (enabled_in k) k.numbers.now)
     (held : List Held) (made : AreMade k i names first givens held) where

@@ -8,7 +8,6 @@ pub mod FaultLemmas
 pub mod FoundLemmas
 pub mod GiverLemmas
 pub mod HoldingLemmas
-pub mod LawLemmas
 pub mod MadeLemmas
 pub mod MembersLemmas
 pub mod OrderLemmas

@@ -35,7 +35,7 @@ use Rattle.cil_attrs.specs.Evaluated.{in_term, is_held}
 use Rattle.cil_attrs.specs.Givers.{AreGifts, IsGift}
 use Rattle.cil_attrs.specs.Holding.{AreAll, HoldsAs, IsItem, is_kind}
 use Rattle.cil_attrs.specs.Made.{held_at, is_made_by, said}
-use Rattle.cil_attrs.specs.Members.{AreBegun, AreMade, IsInKinds, meaning_there}
+use Rattle.cil_attrs.specs.Members.{AreBegun, AreMade, IsIn, meaning_there}
 use Rattle.cil_attrs.proofs.GiverLemmas.{gives_none}
 use Rattle.cil_attrs.proofs.BegunLemmas.{every_item}
 use Rattle.cil_attrs.proofs.HoldingLemmas.{both, pair, value_as_family}
@@ -73,7 +73,7 @@ record SetEntry (k : Known) (which : SpaceOf) (a : Symbol) : Type 0 where
   pub of_sets : any_sets which (λ j. is_kind entry.kind j.kind) ≡ true
   pub symbol : symbol_of k.lookup.namespaces.now entry ≡ a
 
-module _ (k : Known) (i : Kept) (r : SpaceKinds) (names : List (List ℕ)) (sections : Kind → List (List ℕ)) (which : SpaceOf) (of_policy : IsInKinds k i r names sections which) (apart : is_sets_kind r r.item ≡ false)
+module _ (k : Known) (i : Kept) (r : SpaceKinds) (names : List (List ℕ)) (sections : Kind → List (List ℕ)) (which : SpaceOf) (of_policy : IsIn k i r names sections which) (apart : is_sets_kind r r.item ≡ false)
     (law : MeansWhatItNames) (first : List Held) (are_begun : AreBegun k i r first) (givens : List Given) (gifts : AreGifts k (items_in i) which i (items_in i) givens) (held : List Held)
     (made : AreMade k i names first givens held) (m : Family) (as_family : (d : ℕ) → HoldsAs k (items_in i) sections which held m d) where
   every : AreAll k (items_in i) sections which made.all

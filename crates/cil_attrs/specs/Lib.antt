@@ -10,5 +10,6 @@ pub mod NameSpaces
 pub mod Order
 pub mod Plain
 pub mod SetFaults
+pub mod SpaceLaws
 pub mod Standing
 pub mod Targets

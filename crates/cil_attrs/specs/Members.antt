@@ -16,12 +16,10 @@ use Rattle.cil_names.specs.Spaces.{SpaceOf}
 use Rattle.cil_attrs.specs.declared.evaluator.Held.{Held}
 use Rattle.cil_attrs.specs.declared.giver.SpaceKinds.{SpaceKinds}
 use Rattle.cil_attrs.specs.declared.making.Given.{Given}
-use Rattle.cil_attrs.specs.declared.space.Space.{Space}
 use Rattle.cil_attrs.specs.Begun.{begun_as}
 use Rattle.cil_attrs.specs.Givers.{HasKinds}
 use Rattle.cil_attrs.specs.Holding.{HoldsAs}
 use Rattle.cil_attrs.specs.Made.{held_at, is_made_by}
-use Rattle.cil_attrs.specs.NameSpaces.{kinds_in}
 
 -- ---- what is answered
 
@@ -36,13 +34,10 @@ pub record AreMembers (k : Known) (xs : List Item) (sections : Kind → List (Li
   pub within : (d v : ℕ) → held_at held d v ≡ true → v < length (sections which.item)
 
 -- what is known of a policy and of a name space with these kinds, and the names of its items
-pub record IsInKinds (k : Known) (i : Kept) (r : SpaceKinds) (names : List (List ℕ)) (sections : Kind → List (List ℕ)) (which : SpaceOf) : Type 0 where
+pub record IsIn (k : Known) (i : Kept) (r : SpaceKinds) (names : List (List ℕ)) (sections : Kind → List (List ℕ)) (which : SpaceOf) : Type 0 where
   pub known : IsKnown k (items_in i) sections
   pub is_space : HasKinds r which
   pub named : sections which.item ≡ names
-
-abbrev pub IsIn : Known → Kept → Space → List (List ℕ) → (Kind → List (List ℕ)) → SpaceOf → Type 0
-IsIn k i r names sections which = IsInKinds k i (kinds_in r) names sections which
 
 -- ---- what is made. No other crate needs these words
 

@@ -1,6 +1,6 @@
 //! The members of all aliases and attributes of a name space, or exactly what is wrong with them.
 
-ghost use Rattle.std.specs.Prelude.{◌≡◌, IfOk, List, map, ℕ};
+ghost use Rattle.std.specs.Prelude.{◌≡◌, IfOk, List, map, Some, ℕ};
 ghost use Rattle.cil_faults.specs.Refusal.{Answers};
 ghost use Rattle.cil_syntax.specs.declared.kind.Kind as kinds;
 ghost use Rattle.cil_macros.specs.Items.{Kept, items_in, namespaces_in};
@@ -10,11 +10,12 @@ ghost use Rattle.cil_names.specs.Numbers.{AreApart};
 ghost use Rattle.cil_names.specs.Rows.{IsTableOf};
 ghost use Rattle.cil_names.specs.Spaces.{SpaceOf};
 ghost use Rattle.cil_attrs.specs.Givers.{AreGifts, AreWritten, HasKinds};
+ghost use Rattle.cil_attrs.specs.Laws.{IsSpace};
 ghost use Rattle.cil_attrs.specs.Made.{AreSetsAt, HaveMeanings};
 ghost use Rattle.cil_attrs.specs.Members.{AreMade, AreMembers, IsIn, meaning_there};
 ghost use Rattle.cil_attrs.specs.Order.{FallFor};
 ghost use Rattle.cil_attrs.specs.Plain.{ArePlain};
-ghost use Rattle.cil_attrs.specs.SetFaults.{SetFault};
+ghost use Rattle.cil_attrs.specs.SetFaults.{SetFault, limit_of};
 
 use crate::beginning::{all_items, begun};
 use crate::evaluator::Held;
@@ -24,11 +25,11 @@ use crate::held::Members;
 use crate::making::{Given, made};
 use crate::order::{cycles_of_sets, ranked};
 use crate::plain::all_plain;
-use crate::space::Space;
+use crate::space::{Limit, Space};
 use cil_base::{Bytes, NoMemory};
 use cil_macros::Instances;
 use cil_names::{Known, laws};
-use cil_syntax::Failure;
+use cil_syntax::{Failure, Sign};
 use std::alloc::Global;
 
 /// The members of all aliases and attributes of a name space, whose items have these names, or exactly what is wrong with them.
@@ -37,15 +38,45 @@ use std::alloc::Global;
 ///
 /// Errors: aliases without a target or with two different ones, sets that depend on themselves, too many items; or out of memory. An
 /// expression over sets that named permissions would be out of memory too: there is none, since no statement of this kind is read so.
-pub fn members(
+pub fn members<S: Space>(
     alloc: Global,
     known: &Known,
     instances: &Instances,
     names: &[Bytes],
-    space: &Space,
 ) -> Result<Members, Failure>
     requires namespaces { known.now.lookup.namespaces.now ≡ namespaces_in instances.now }
     requires table { IsTableOf (map (row_in known.now) (items_in instances.now)) known.now.words.now }
+    requires known { (sections : kinds.Kind → List (List ℕ)) × (which : SpaceOf) × IsIn known.now instances.now S.kinds names.now sections which }
+    requires apart { AreApart known.now.lookup.names.now (enabled_in known.now) known.now.numbers.now }
+    ensures { (sections : kinds.Kind → List (List ℕ)) (which : SpaceOf) → IsIn known.now instances.now S.kinds names.now sections which
+        → Answers (AreMembers known.now (items_in instances.now) sections which) (SetFault (items_in instances.now) (enabled_in known.now) which) result }
+{
+    let space = S::kinds();
+    members_of(
+        alloc,
+        known,
+        instances,
+        names,
+        &space,
+        S::sign(),
+        S::limit(),
+    )
+}
+
+/// The same for a name space with these kinds, sign and limit.
+fn members_of(
+    alloc: Global,
+    known: &Known,
+    instances: &Instances,
+    names: &[Bytes],
+    space: &SpaceKinds,
+    sign: Sign,
+    limit: Limit,
+) -> Result<Members, Failure>
+    requires namespaces { known.now.lookup.namespaces.now ≡ namespaces_in instances.now }
+    requires table { IsTableOf (map (row_in known.now) (items_in instances.now)) known.now.words.now }
+    requires space { IsSpace space.now sign }
+    requires limit { limit_of space.now.item ≡ Some (limit.most, limit.word.now) }
     requires known { (sections : kinds.Kind → List (List ℕ)) × (which : SpaceOf) × IsIn known.now instances.now space.now names.now sections which }
     requires apart { AreApart known.now.lookup.names.now (enabled_in known.now) known.now.numbers.now }
     ensures { (sections : kinds.Kind → List (List ℕ)) (which : SpaceOf) → IsIn known.now instances.now space.now names.now sections which
@@ -53,11 +84,19 @@ pub fn members(
 {
     // What is known of a word: it means the entry that it names.
     laws::means_what_it_names();
-    let kinds = space.kinds();
-    let first = begun(alloc, known, &kinds)?;
-    let givens = plain_givens(alloc, instances, known, &kinds)?;
+    let first = begun(alloc, known, space)?;
+    let givens = plain_givens(alloc, instances, known, space)?;
     let cycles = cycles_of_sets(alloc, first.as_slice(), givens.as_slice())?;
-    check_sets(alloc, instances, known, names, *space, cycles.on.as_slice())?;
+    check_sets(
+        alloc,
+        instances,
+        known,
+        names,
+        space,
+        sign,
+        limit,
+        cycles.on.as_slice(),
+    )?;
     let held = made_by_ranks(alloc, names, first, givens, cycles.ranks.as_slice())?;
     Ok(Members::of(held))
 }

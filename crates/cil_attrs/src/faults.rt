@@ -16,15 +16,15 @@ ghost use Rattle.cil_names.specs.Rows.{IsTableOf};
 ghost use Rattle.cil_names.specs.Spaces.{Sets, SpaceOf};
 ghost use Rattle.cil_attrs.specs.declared.giver.SetKind.{SetKind as ASetKind};
 ghost use Rattle.cil_attrs.specs.declared.targets.Step.{Step as AStep};
-ghost use Rattle.cil_attrs.specs.Givers.{AreSets, IsSets};
+ghost use Rattle.cil_attrs.specs.Givers.{AreSets, HasKinds, IsSets};
+ghost use Rattle.cil_attrs.specs.Laws.{IsSpace};
 ghost use Rattle.cil_attrs.specs.Members.{IsIn};
-ghost use Rattle.cil_attrs.specs.NameSpaces.{IsSpaceOf, kinds_in};
-ghost use Rattle.cil_attrs.specs.SetFaults.{AliasTwice, CircularSet, IsItemName, OpenAlias, SetFault, TooMany};
+ghost use Rattle.cil_attrs.specs.SetFaults.{AliasTwice, CircularSet, IsItemName, OpenAlias, SetFault, TooMany, limit_of};
 ghost use Rattle.cil_attrs.specs.Targets.{AreCircular, HasOther, IsFlagged, IsToldAmong, IsToldIn, IsToldOf, SaysTwo};
 
 use crate::declared::{Told, is_flagged, push_declared};
-use crate::giver::SetKind;
-use crate::space::Space;
+use crate::giver::{SetKind, SpaceKinds};
+use crate::space::Limit;
 use crate::targets::{Step, lasts_of, open_flags, steps_of, twice_flags};
 use cil_base::{Bytes, NoMemory};
 use cil_blocks::spelled::spelled;
@@ -43,28 +43,30 @@ pub fn check_sets(
     instances: &Instances,
     known: &Known,
     names: &[Bytes],
-    space: Space,
+    space: &SpaceKinds,
+    sign: Sign,
+    limit: Limit,
     circular: &[bool],
 ) -> Result<(), Failure>
     requires namespaces { known.now.lookup.namespaces.now ≡ namespaces_in instances.now }
     requires table { IsTableOf (map (row_in known.now) (items_in instances.now)) known.now.words.now }
-    requires known { (sections : kinds.Kind → List (List ℕ)) × (which : SpaceOf) × IsIn known.now instances.now space names.now sections which }
-    requires circular { (which : SpaceOf) → IsSpaceOf space which → AreCircular known.now (items_in instances.now) which circular.now }
-    ensures { (sections : kinds.Kind → List (List ℕ)) (which : SpaceOf) → IsIn known.now instances.now space names.now sections which
+    requires space { IsSpace space.now sign }
+    requires limit { limit_of space.now.item ≡ Some (limit.most, limit.word.now) }
+    requires known { (sections : kinds.Kind → List (List ℕ)) × (which : SpaceOf) × IsIn known.now instances.now space.now names.now sections which }
+    requires circular { (which : SpaceOf) → HasKinds space.now which → AreCircular known.now (items_in instances.now) which circular.now }
+    ensures { (sections : kinds.Kind → List (List ℕ)) (which : SpaceOf) → IsIn known.now instances.now space.now names.now sections which
         → Answers (λ done. Unit {0}) (SetFault (items_in instances.now) (enabled_in known.now) which) result }
 {
-    let kinds = space.kinds();
-    let sign = space.sign();
     let mut faults = Vec::new(alloc);
-    push_many(alloc, &mut faults, names, space)?;
-    push_targets(alloc, &mut faults, instances, known, space)?;
+    push_many(alloc, &mut faults, names, limit)?;
+    push_targets(alloc, &mut faults, instances, known, space, sign)?;
     push_circular(
         alloc,
         &mut faults,
         instances,
         &known.lookup,
         sign,
-        kinds.aliases,
+        space.aliases,
         circular,
         FaultCode::AliasCycle,
     )?;
@@ -74,7 +76,7 @@ pub fn check_sets(
         instances,
         &known.lookup,
         sign,
-        kinds.attributes,
+        space.attributes,
         circular,
         FaultCode::SetCycle,
     )?;
@@ -86,12 +88,11 @@ fn push_many(
     alloc: Global,
     faults: &mut Vec<Fault>,
     names: &[Bytes],
-    space: Space,
+    limit: Limit,
 ) -> Result<(), NoMemory>
-    ensures { OnOk result ((xs : List Item) (s : OptSet) (which : SpaceOf) → IsSpaceOf space which → Lists text_cmp (IsItemName xs s which.item) names.now
+    ensures { OnOk result ((xs : List Item) (s : OptSet) (which : SpaceOf) → limit_of which.item ≡ Some (limit.most, limit.word.now) → Lists text_cmp (IsItemName xs s which.item) names.now
         → (f : AFault) → Contains faults.new.items f ↔ (Contains faults.old.items f ⊎ TooMany xs s which f)) }
 {
-    let limit = space.limit();
     if names.len() <= limit.most {
         return Ok(());
     }
@@ -111,21 +112,22 @@ fn push_targets(
     faults: &mut Vec<Fault>,
     instances: &Instances,
     known: &Known,
-    space: Space,
+    space: &SpaceKinds,
+    sign: Sign,
 ) -> Result<(), NoMemory>
     requires namespaces { known.now.lookup.namespaces.now ≡ namespaces_in instances.now }
     requires table { IsTableOf (map (row_in known.now) (items_in instances.now)) known.now.words.now }
+    requires space { IsSpace space.now sign }
     requires entries { AreEntries known.now.lookup.namespaces.now (items_in instances.now) known.now.lookup.names.now }
-    requires known { (names : List (List ℕ)) × (sections : kinds.Kind → List (List ℕ)) × (which : SpaceOf) × IsIn known.now instances.now space names sections which }
-    ensures { OnOk result ((names : List (List ℕ)) (sections : kinds.Kind → List (List ℕ)) (which : SpaceOf) → IsIn known.now instances.now space names sections which
+    requires known { (names : List (List ℕ)) × (sections : kinds.Kind → List (List ℕ)) × (which : SpaceOf) × IsIn known.now instances.now space.now names sections which }
+    ensures { OnOk result ((names : List (List ℕ)) (sections : kinds.Kind → List (List ℕ)) (which : SpaceOf) → IsIn known.now instances.now space.now names sections which
         → (f : AFault) → Contains faults.new.items f
         ↔ ((Contains faults.old.items f ⊎ OpenAlias (items_in instances.now) (enabled_in known.now) which f) ⊎ AliasTwice (items_in instances.now) (enabled_in known.now) which f)) }
 {
-    let kinds = space.kinds();
-    let Some(aliases) = kinds.aliases else {
+    let Some(aliases) = space.aliases else {
         return Ok(());
     };
-    push_alias_targets(alloc, faults, instances, known, space, aliases)?;
+    push_alias_targets(alloc, faults, instances, known, space, sign, aliases)?;
     Ok(())
 }
 
@@ -134,21 +136,21 @@ fn push_alias_targets(
     faults: &mut Vec<Fault>,
     instances: &Instances,
     known: &Known,
-    space: Space,
+    space: &SpaceKinds,
+    sign: Sign,
     aliases: SetKind,
 ) -> Result<(), NoMemory>
     requires namespaces { known.now.lookup.namespaces.now ≡ namespaces_in instances.now }
     requires table { IsTableOf (map (row_in known.now) (items_in instances.now)) known.now.words.now }
+    requires space { IsSpace space.now sign }
     requires entries { AreEntries known.now.lookup.namespaces.now (items_in instances.now) known.now.lookup.names.now }
-    requires known { (names : List (List ℕ)) × (sections : kinds.Kind → List (List ℕ)) × (which : SpaceOf) × IsIn known.now instances.now space names sections which }
-    requires aliases { (kinds_in space).aliases ≡ Some aliases }
-    ensures { OnOk result ((names : List (List ℕ)) (sections : kinds.Kind → List (List ℕ)) (which : SpaceOf) → IsIn known.now instances.now space names sections which
+    requires known { (names : List (List ℕ)) × (sections : kinds.Kind → List (List ℕ)) × (which : SpaceOf) × IsIn known.now instances.now space.now names sections which }
+    requires aliases { space.now.aliases ≡ Some aliases }
+    ensures { OnOk result ((names : List (List ℕ)) (sections : kinds.Kind → List (List ℕ)) (which : SpaceOf) → IsIn known.now instances.now space.now names sections which
         → (f : AFault) → Contains faults.new.items f
         ↔ ((Contains faults.old.items f ⊎ OpenAlias (items_in instances.now) (enabled_in known.now) which f) ⊎ AliasTwice (items_in instances.now) (enabled_in known.now) which f)) }
 {
-    let kinds = space.kinds();
-    let sign = space.sign();
-    let steps = steps_of(alloc, instances, known, kinds.item, aliases)?;
+    let steps = steps_of(alloc, instances, known, space.item, aliases)?;
     let lasts = lasts_of(alloc, known.lookup.names.entries().len(), steps.as_slice())?;
     push_open(
         alloc,

@@ -33,5 +33,5 @@ pub use evaluator::{Evaluator, Held};
 pub use faults::check_sets;
 pub use giver::{SetKind, SpaceKinds};
 pub use held::Members;
-pub use space::{Limit, Space};
+pub use space::{Limit, Roles, Space, Types, Users};
 pub use standing::standing_of;

@@ -1,22 +1,15 @@
 //! The name spaces whose words may stand for several symbols, and how many items each may have.
 
-ghost use Rattle.std.specs.Prelude.{◌≡◌, Some};
-ghost use Rattle.cil_attrs.specs.NameSpaces.{kinds_in, sign_in};
+ghost use Rattle.std.specs.Prelude.{◌≡◌, refl, Some, true};
+ghost use Rattle.cil_syntax.specs.declared.kind.Sign.{Sign as ASign};
+ghost use Rattle.cil_names.specs.Numbers.{has_section};
+ghost use Rattle.cil_attrs.specs.declared.giver.SpaceKinds.{SpaceKinds as TheKinds};
+ghost use Rattle.cil_attrs.specs.Givers.{AreWritten};
+ghost use Rattle.cil_attrs.specs.Laws.{AliasesStay, IsSignOf, IsWhole};
 ghost use Rattle.cil_attrs.specs.SetFaults.{limit_of};
 
 use crate::giver::{SetKind, SpaceKinds};
 use cil_syntax::{Keyword, Kind, Sign};
-
-/// A name space whose words may stand for several symbols.
-#[derive(Clone, Copy, Debug, PartialEq, Eq)]
-pub enum Space {
-    /// Types, their aliases and attributes.
-    Types,
-    /// Roles and their attributes.
-    Roles,
-    /// Users and their attributes.
-    Users,
-}
 
 /// How many items a name space may have.
 #[derive(Clone, Copy)]
@@ -27,70 +20,176 @@ pub struct Limit {
     pub word: &'static [u8],
 }
 
-impl Space {
+/// A name space whose words may stand for several symbols. Its laws are what the sets of all such name spaces are made by.
+pub trait Space {
     /// The kind of its items, the kinds of its sets, and the statements that give these their members.
-    pub fn kinds(self) -> SpaceKinds
-        ensures { result ≡ kinds_in self }
-    {
-        match self {
-            Space::Types => SpaceKinds {
-                item: Kind::Type_,
-                aliases: Some(SetKind {
-                    kind: Kind::TypeAlias,
-                    giving: Keyword::TypeAliasActual,
-                }),
-                attributes: Some(SetKind {
-                    kind: Kind::TypeAttribute,
-                    giving: Keyword::TypeAttributeSet,
-                }),
-            },
-            Space::Roles => SpaceKinds {
-                item: Kind::Role,
-                aliases: None,
-                attributes: Some(SetKind {
-                    kind: Kind::RoleAttribute,
-                    giving: Keyword::RoleAttributeSet,
-                }),
-            },
-            Space::Users => SpaceKinds {
-                item: Kind::User,
-                aliases: None,
-                attributes: Some(SetKind {
-                    kind: Kind::UserAttribute,
-                    giving: Keyword::UserAttributeSet,
-                }),
-            },
-        }
-    }
+    ghost kinds: { TheKinds };
 
     /// What a word wants that may name any of its symbols.
-    pub fn sign(self) -> Sign
-        ensures { result ≡ sign_in self }
-    {
-        match self {
-            Space::Types => Sign::Types,
-            Space::Roles => Sign::Roles,
-            Space::Users => Sign::Users,
+    ghost sign: { ASign };
+
+    /// The kind of its items, the kinds of its sets, and the statements that give these their members.
+    fn kinds() -> SpaceKinds
+        ensures { result ≡ kinds };
+
+    /// What a word wants that may name any of its symbols.
+    fn sign() -> Sign
+        ensures { result ≡ sign };
+
+    /// How many items it may have. Aliases and attributes do not count.
+    fn limit() -> Limit
+        ensures { limit_of kinds.item ≡ Some (result.most, result.word.now) };
+
+    /// Each of its symbols is an item, an alias or an attribute, and just one of these.
+    ghost whole: { IsWhole kinds };
+
+    /// The target of an alias is of the name space of the alias.
+    ghost stays: { AliasesStay kinds };
+
+    /// A word of its sign may name each of its symbols, and no other.
+    ghost wanted: { IsSignOf kinds sign };
+
+    /// The statements that give sets their members say what is written.
+    ghost written: { AreWritten kinds };
+
+    /// Its items have numbers.
+    ghost numbered: { has_section kinds.item ≡ true };
+}
+
+/// Types, their aliases and attributes.
+pub struct Types;
+
+/// Roles and their attributes.
+pub struct Roles;
+
+/// Users and their attributes.
+pub struct Users;
+
+impl Space for Types {
+    ghost use Rattle.cil_syntax.specs.declared.kind.Sign.TheVariants as signs;
+    ghost use Rattle.cil_attrs.specs.NameSpaces.{types_kinds};
+    ghost use Rattle.cil_attrs.specs.SpaceLaws.{types_stay, types_wanted, types_whole, types_written};
+
+    ghost kinds = { types_kinds };
+
+    ghost sign = { signs.Types };
+
+    ghost whole = { types_whole };
+
+    ghost stays = { types_stay };
+
+    ghost wanted = { types_wanted };
+
+    ghost written = { types_written };
+
+    ghost numbered = { refl };
+
+    fn kinds() -> SpaceKinds {
+        SpaceKinds {
+            item: Kind::Type_,
+            aliases: Some(SetKind {
+                kind: Kind::TypeAlias,
+                giving: Keyword::TypeAliasActual,
+            }),
+            attributes: Some(SetKind {
+                kind: Kind::TypeAttribute,
+                giving: Keyword::TypeAttributeSet,
+            }),
         }
     }
 
-    /// How many items it may have. Aliases and attributes do not count.
-    pub fn limit(self) -> Limit
-        ensures { limit_of (kinds_in self).item ≡ Some (result.most, result.word.now) }
-    {
-        match self {
-            Space::Types => Limit {
-                most: 65_535,
-                word: b"types",
-            },
-            Space::Roles => Limit {
-                most: 4_096,
-                word: b"roles",
-            },
-            Space::Users => Limit {
-                most: 4_096,
-                word: b"users",
-            },
+    fn sign() -> Sign {
+        Sign::Types
+    }
+
+    fn limit() -> Limit {
+        Limit {
+            most: 65_535,
+            word: b"types",
+        }
+    }
+}
+
+impl Space for Roles {
+    ghost use Rattle.cil_syntax.specs.declared.kind.Sign.TheVariants as signs;
+    ghost use Rattle.cil_attrs.specs.NameSpaces.{roles_kinds};
+    ghost use Rattle.cil_attrs.specs.SpaceLaws.{roles_stay, roles_wanted, roles_whole, roles_written};
+
+    ghost kinds = { roles_kinds };
+
+    ghost sign = { signs.Roles };
+
+    ghost whole = { roles_whole };
+
+    ghost stays = { roles_stay };
+
+    ghost wanted = { roles_wanted };
+
+    ghost written = { roles_written };
+
+    ghost numbered = { refl };
+
+    fn kinds() -> SpaceKinds {
+        SpaceKinds {
+            item: Kind::Role,
+            aliases: None,
+            attributes: Some(SetKind {
+                kind: Kind::RoleAttribute,
+                giving: Keyword::RoleAttributeSet,
+            }),
+        }
+    }
+
+    fn sign() -> Sign {
+        Sign::Roles
+    }
+
+    fn limit() -> Limit {
+        Limit {
+            most: 4_096,
+            word: b"roles",
+        }
+    }
+}
+
+impl Space for Users {
+    ghost use Rattle.cil_syntax.specs.declared.kind.Sign.TheVariants as signs;
+    ghost use Rattle.cil_attrs.specs.NameSpaces.{users_kinds};
+    ghost use Rattle.cil_attrs.specs.SpaceLaws.{users_stay, users_wanted, users_whole, users_written};
+
+    ghost kinds = { users_kinds };
+
+    ghost sign = { signs.Users };
+
+    ghost whole = { users_whole };
+
+    ghost stays = { users_stay };
+
+    ghost wanted = { users_wanted };
+
+    ghost written = { users_written };
+
+    ghost numbered = { refl };
+
+    fn kinds() -> SpaceKinds {
+        SpaceKinds {
+            item: Kind::User,
+            aliases: None,
+            attributes: Some(SetKind {
+                kind: Kind::UserAttribute,
+                giving: Keyword::UserAttributeSet,
+            }),
+        }
+    }
+
+    fn sign() -> Sign {
+        Sign::Users
+    }
+
+    fn limit() -> Limit {
+        Limit {
+            most: 4_096,
+            word: b"users",
         }
     }
 }

@@ -1,14 +1,18 @@
 -- Which sets hold a type, one set after another.
-use Rattle.std.specs.Prelude.{◌↔◌, ◌⊎◌, Contains}
-use Rattle.std.proofs.Common.{◌≡◌, ℕ, zero, suc, ◌+◌, ◌-◌, ◌<◌, ◌≤◌, List, [], ◌∷◌, ◌++◌, length, take, get_or, sym, ◌∙◌, ap, subst, inl, inr, refl, arith}
+use Rattle.std.specs.Int.{w64}
+use Rattle.std.specs.Prelude.{◌↔◌, ◌⊎◌, Contains, IsBitSet, bit_or}
+use Rattle.std.proofs.Common.{◌≡◌, ℕ, zero, suc, ◌+◌, ◌-◌, ◌*◌, ◌%◌, ◌^◌, ◌<◌, ◌≤◌, List, [], ◌∷◌, ◌++◌, length, take, get_or, sym, ◌∙◌, ap, subst, inl, inr, refl, arith}
 use Rattle.std.proofs.Math.ListN.{get_or-append, get_or-eq_default, set}
 use Rattle.std.proofs.Math.Seq.{get_or-append_seam}
 use Rattle.std.proofs.lemmas.Bool.{cases_lt}
-use Rattle.std.proofs.lemmas.List.{get_or-set_other, get_or-set_same, length-append, take_all, take_more}
+use Rattle.std.proofs.lemmas.Nat.Bits.{bit_at_ones, bit_at_set_same}
+use Rattle.std.proofs.lemmas.List.{get_or_append_left, get_or-set_other, get_or-set_same, length-append, take_all, take_more}
 use Rattle.std.proofs.lemmas.List.Elements.{Contains-append_cases, Contains-append_left, Contains-append_right}
 use Rattle.cil_base.specs.Lists.{contains_cases, contains_here, contains_none}
+use Rattle.cil_classes.proofs.BitLemmas.{set_in_either, set_is_one}
+use Rattle.cil_sets.specs.Answers.{IsNextFrom}
 use Rattle.cil_index.specs.declared.memberships.Memberships.{Memberships}
-use Rattle.cil_index.specs.Memberships.{AreMemberships, AreNoted, AreNotedBelow, IsAlone, IsKnownFor, IsNoted, IsNotedIn}
+use Rattle.cil_index.specs.Memberships.{AreFilters, AreMemberships, AreNoted, AreNotedBelow, IsAlone, IsFilter, IsKnownFor, IsNoted, IsNotedIn}
 use Rattle.cil_index.specs.Sets.{all_sets, set_of}
 use Rattle.cil_index.proofs.SetLemmas.{empty_there, in_one, several_there, small_there}
 
@@ -36,7 +40,7 @@ module _ (ones : ℕ) (several sets : List (List ℕ)) (m : Memberships) (is : a
       subst (λ l. Contains l t) (ap (λ k. get_or several k []) same ∙ sym (several_there ones n several (omega (arith, at)))) member
 
   pub noted_all : AreMemberships sets m
-  noted_all = subst (λ l. AreMemberships l m) is (record { known = known_for; noted = noted_for })
+  noted_all = subst (λ l. AreMemberships l m) is (record { known = known_for; noted = noted_for; filtered = noted.filtered })
 
 -- one set more
 pub noted_more : (ones : ℕ) (several : List (List ℕ)) (k : ℕ) (set : List ℕ) (number : ℕ) (old new : List (List ℕ)) → set ≡ get_or several k [] → number ≡ k + ones + 1 → AreNoted ones several k old
@@ -62,10 +66,11 @@ none_noted ones several lists none = record {
 }
 
 -- all below the first large one
-pub noted_below : (ones : ℕ) (several : List (List ℕ)) (k small : ℕ) (m : Memberships) → small ≤ k → m.first_large ≡ small + ones + 1 → AreNoted ones several k m.lists.items → AreNotedBelow ones several m
-noted_below ones several k small m over first noted = record {
+pub noted_below : (ones : ℕ) (several : List (List ℕ)) (k small : ℕ) (m : Memberships) → small ≤ k → m.first_large ≡ small + ones + 1 → AreNoted ones several k m.lists.items → AreFilters m.lists.items m.filters.items → AreNotedBelow ones several m
+noted_below ones several k small m over first noted filtered = record {
   each = λ place t below has. noted.each place t (omega (arith, below, first, over)) has;
   only = noted.only;
+  filtered = filtered;
 }
 
 -- ---- one set
@@ -131,3 +136,57 @@ grown lists more added none made t = ap (λ (l : List (List ℕ)). get_or l t []
     at (inl less) = get_or-append lists ([] ∷ []) [] t less
     at (inr (inl e)) = ap (λ k. get_or (lists ++ [] ∷ []) k []) e ∙ get_or-append_seam lists [] [] [] ∙ sym (get_or-eq_default lists [] (omega (arith, e)))
     at (inr (inr more)) = get_or-eq_default (lists ++ [] ∷ []) [] (let size = length-append lists ([] ∷ []) in omega (arith, size, more)) ∙ sym (get_or-eq_default lists [] (omega (arith, more)))
+
+-- ---- bits
+
+-- the bits have one for each number below one
+abbrev pub IsFilterBelow : List ℕ → ℕ → ℕ → Type 0
+IsFilterBelow numbers start bits = (n : ℕ) → Contains numbers n → n < start → IsBitSet bits (n % 64)
+
+pub filter_none : (numbers : List ℕ) → IsFilterBelow numbers 0 0
+filter_none numbers n has below = absurd (omega (arith, below))
+
+bit_added : (bits n : ℕ) → IsBitSet (bit_or bits (1 * 2 ^ (n % 64) % 2 ^ 64)) (n % 64)
+bit_added bits n = (set_is_one (bit_or bits (1 * 2 ^ (n % 64) % 2 ^ 64)) (n % 64)).1 (bit_at_set_same w64 bits (n % 64) (omega arith))
+
+pub filter_more : (numbers : List ℕ) (start number bits : ℕ) → IsNextFrom numbers start number → IsFilterBelow numbers start bits
+    → IsFilterBelow numbers (number + 1) (bit_or bits (1 * 2 ^ (number % 64) % 2 ^ 64))
+filter_more numbers start number bits next so_far n has below = elim (cases_lt n start) [
+  | inl less ↦ (set_in_either bits (1 * 2 ^ (number % 64) % 2 ^ 64) (n % 64)).1 (inl (so_far n has less))
+  | inr ge ↦ let least = next.least n has ge in
+      let same : number ≡ n = omega (arith, least, below) in
+      subst (λ k. IsBitSet (bit_or bits (1 * 2 ^ (number % 64) % 2 ^ 64)) (k % 64)) same (bit_added bits number)
+]
+
+pub filter_all : (numbers : List ℕ) (start bits : ℕ) → ((v : ℕ) → Contains numbers v → start ≤ v → ⊥) → IsFilterBelow numbers start bits → IsFilter numbers bits
+filter_all numbers start bits none so_far n has = elim (cases_lt n start) [ inl less ↦ so_far n has less | inr ge ↦ absurd (none n has ge) ]
+
+-- all bits pass all numbers
+pub filter_full : (numbers : List ℕ) → IsFilter numbers 18446744073709551615
+filter_full numbers n has = (set_is_one 18446744073709551615 (n % 64)).1 (bit_at_ones 64 (n % 64) (omega arith))
+
+-- the first lists have their bits
+abbrev pub AreFirstFilters : List (List ℕ) → ℕ → List ℕ → Type 0
+AreFirstFilters lists i filters = (length filters ≡ i) × ((t : ℕ) → t < i → IsFilter (get_or lists t []) (get_or filters t 0))
+
+pub no_filters : (lists : List (List ℕ)) (filters : List ℕ) → filters ≡ [] → AreFirstFilters lists 0 filters
+no_filters lists filters e = (ap (λ (z : List ℕ). length z) e, λ t below. absurd (omega (arith, below)))
+
+pub filters_more : (lists : List (List ℕ)) (i : ℕ) (numbers : List ℕ) (bits : ℕ) (old new : List ℕ) → numbers ≡ get_or lists i [] → IsFilter numbers bits → new ≡ old ++ bits ∷ []
+    → AreFirstFilters lists i old → AreFirstFilters lists (i + 1) new
+filters_more lists i numbers bits old new is filter push (size, so_far) = (
+  ap (λ (z : List ℕ). length z) push ∙ length-append old (bits ∷ []) ∙ ap (λ k. k + 1) size,
+  λ t below. elim (cases_lt t i) [
+    | inl less ↦ let at : get_or new t 0 ≡ get_or old t 0 = ap (λ z. get_or z t 0) push ∙ get_or_append_left old (bits ∷ []) 0 t (omega (arith, less, size)) in
+        subst (IsFilter (get_or lists t [])) (sym at) (so_far t less)
+    | inr ge ↦ let same : i ≡ t = omega (arith, ge, below) in
+        let at : get_or new i 0 ≡ bits = ap (λ z. get_or z i 0) push ∙ ap (λ k. get_or (old ++ bits ∷ []) k 0) (sym size) ∙ get_or-append_seam old bits [] 0 in
+        subst (λ k. IsFilter (get_or lists k []) (get_or new k 0)) same (subst (IsFilter (get_or lists i [])) (sym at) (subst (λ l. IsFilter l bits) is filter))
+  ],
+)
+
+pub filters_all : (lists : List (List ℕ)) (i : ℕ) (filters : List ℕ) → length lists ≤ i → AreFirstFilters lists i filters → AreFilters lists filters
+filters_all lists i filters over so_far t n has = elim (cases_lt t (length lists)) [
+  | inl less ↦ so_far.1 t (omega (arith, less, over)) n has
+  | inr past ↦ absurd (contains_none n (subst (λ l. Contains l n) (get_or-eq_default lists [] past) has))
+]

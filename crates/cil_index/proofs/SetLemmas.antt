@@ -9,7 +9,7 @@ use Rattle.std.proofs.Math.Seq.{get_or-append_seam, get_or-append_right}
 use Rattle.std.proofs.lemmas.List.{get_or_default, length-append}
 use Rattle.cil_base.specs.Lists.{contains_here, contains_cases, contains_none}
 use Rattle.cil_index.specs.Sets.{all_sets, small_sets, set_of, AreSeveral}
-use Rattle.cil_index.specs.Entries.{in_key, key_of_set, several}
+use Rattle.cil_index.specs.Entries.{alone_key, key_of_set}
 
 pub length-small : (n : ℕ) → length (small_sets n) ≡ suc n
 unfolding small_sets
@@ -108,23 +108,24 @@ module _ (ones : ℕ) (more sets : List (List ℕ)) (view : all_sets ones more �
       let both = length-append (small_sets ones) more in
       let same = ap (λ (z : List (List ℕ)). length z) view in omega (arith, size, both, same)
 
-  pub key_empty : (n : ℕ) → n ≡ 0 → several ≡ key_of_set (set_of sets n)
-  key_empty n e = ap key_of_set (sym (empty_is n e))
+  module _ (other : ℕ) where
+    pub key_empty : (n : ℕ) → n ≡ 0 → other ≡ key_of_set other (set_of sets n)
+    key_empty n e = ap (key_of_set other) (sym (empty_is n e))
 
-  pub key_one : (n : ℕ) → (n ≡ 0 → ⊥) → n ≤ ones → in_key (n - 1) ≡ key_of_set (set_of sets n)
-  key_one n some within = ap key_of_set (sym (one_is n some within))
+    pub key_one : (n : ℕ) → (n ≡ 0 → ⊥) → n ≤ ones → alone_key (n - 1) ≡ key_of_set other (set_of sets n)
+    key_one n some within = ap (key_of_set other) (sym (one_is n some within))
 
-  pub key_several : (n : ℕ) → ones < n → AreSeveral more → several ≡ key_of_set (set_of sets n)
-  key_several n over many = elim (cases_lt (n - ones - 1) (length more)) [
-    | inl within ↦ let set = get_or more (n - ones - 1) [] in
-        rw (other_is n over) (of_many set (many set (n - ones - 1, within, get_or_default more (n - ones - 1) set [] within)))
-    | inr past ↦ let at : set_of sets n ≡ [] = other_is n over ∙ get_or-eq_default more [] past in ap key_of_set (sym at)
-  ]
-    where
-      of_many : (set : List ℕ) → 2 ≤ length set → several ≡ key_of_set set
-      of_many [] l = absurd (omega (arith, l))
-      of_many (t ∷ []) l = absurd (omega (arith, l))
-      of_many (t ∷ u ∷ rest) l = refl
+    of_many : (set : List ℕ) → 2 ≤ length set → other ≡ key_of_set other set
+    of_many [] l = absurd (omega (arith, l))
+    of_many (t ∷ []) l = absurd (omega (arith, l))
+    of_many (t ∷ u ∷ rest) l = refl
+
+    pub key_several : (n : ℕ) → ones < n → AreSeveral more → other ≡ key_of_set other (set_of sets n)
+    key_several n over many = elim (cases_lt (n - ones - 1) (length more)) [
+      | inl within ↦ let set = get_or more (n - ones - 1) [] in
+          rw (other_is n over) (of_many set (many set (n - ones - 1, within, get_or_default more (n - ones - 1) set [] within)))
+      | inr past ↦ let at : set_of sets n ≡ [] = other_is n over ∙ get_or-eq_default more [] past in ap (key_of_set other) (sym at)
+    ]
 
 pub above : (a b : ℕ) → IsTrue (ltb a b) → a < b
 above a b e = grind (arith, nat_tests)

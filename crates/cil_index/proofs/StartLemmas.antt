@@ -12,7 +12,7 @@ use Rattle.std.proofs.lemmas.List.MinMax.{ranks_by}
 use Rattle.cil_base.specs.Lists.{text_cmp}
 use Rattle.cil_base.specs.Paths.{less_from}
 use Rattle.cil_index.specs.declared.key.Entry.{Entry}
-use Rattle.cil_index.specs.Entries.{AreStarts, aim_of, entry_cmp, entry_total}
+use Rattle.cil_index.specs.Entries.{AreStarts, BeginAt, entry_cmp, entry_total}
 
 ltb_true : (a b : ℕ) → ltb a b ≡ true → a < b
 ltb_true a b e = grind (arith, nat_tests)
@@ -20,34 +20,33 @@ ltb_true a b e = grind (arith, nat_tests)
 ltb_false : (a b : ℕ) → ltb a b ≡ false → b ≤ a
 ltb_false a b e = grind (arith, nat_tests)
 
-pub source_parts : (entries : List Entry) (c i : ℕ) → IsPartitionPoint (λ (e : Entry). ltb e.key.source c ≡ true) (λ (e : Entry). ltb e.key.source c ≡ false) entries i
-    → IsPartitionPoint (λ e. e.key.source < c) (λ e. c ≤ e.key.source) entries i
+pub source_parts : (entries : List Entry) (c i : ℕ) → IsPartitionPoint (λ (e : Entry). ltb e.source c ≡ true) (λ (e : Entry). ltb e.source c ≡ false) entries i
+    → IsPartitionPoint (λ e. e.source < c) (λ e. c ≤ e.source) entries i
 source_parts entries c i p = (λ k d a b. ltb_true _ _ (p.0 k d a b), λ k d a b. ltb_false _ _ (p.1 k d a b))
 
-below_is : (a b : Entry) → a.key.source < b.key.source → is_lt (entry_cmp a b) ≡ true
-below_is a b less = ap (λ o. is_lt (ordering_then o (text_cmp (aim_of a.key ∷ []) (aim_of b.key ∷ [])))) (less_from a.key.source b.key.source less)
+below_is : (a b : Entry) → a.source < b.source → is_lt (entry_cmp a b) ≡ true
+below_is a b less = ap (λ o. is_lt (ordering_then o (text_cmp (a.aim ∷ []) (b.aim ∷ [])))) (less_from a.source b.source less)
 
-pub sources_rise : (entries : List Entry) → IsSorted entry_cmp entries → IsNonDecreasingBy (λ (e : Entry). e.key.source) entries
+pub sources_rise : (entries : List Entry) → IsSorted entry_cmp entries → IsNonDecreasingBy (λ (e : Entry). e.source) entries
 sources_rise entries up i j d le lj =
     let far = sorted_far (λ x y. is_lt (entry_cmp x y)) (ranks_by entry_total (λ (e : Entry). e)) entries up i j d le lj in
-    elim (cases_lt (get_or entries j d).key.source (get_or entries i d).key.source) [
+    elim (cases_lt (get_or entries j d).source (get_or entries i d).source) [
       | inl less ↦ let yes_ = below_is (get_or entries j d) (get_or entries i d) less in absurd cc
       | inr ge ↦ ge
     ]
 
 -- one source more
 pub starts_more : (entries : List Entry) (old new : List ℕ) (n place : ℕ) → length old ≡ n → AreStarts entries old
-    → IsPartitionPoint (λ e. e.key.source < n) (λ e. n ≤ e.key.source) entries place → new ≡ old ++ place ∷ [] → (length new ≡ n + 1) × AreStarts entries new
+    → BeginAt entries n place → new ≡ old ++ place ∷ [] → (length new ≡ n + 1) × AreStarts entries new
 starts_more entries old new n place size are here push =
     let long : length new ≡ n + 1 = ap (λ (z : List ℕ). length z) push ∙ length-append old (place ∷ []) ∙ ap (λ k. k + 1) size in (
       long,
       λ c within. elim (cases_lt c n) [
         | inl less ↦ let at : get_or new c 0 ≡ get_or old c 0 = ap (λ z. get_or z c 0) push ∙ get_or_append_left old (place ∷ []) 0 c (omega (arith, less, size)) in
-            subst (IsPartitionPoint (λ e. e.key.source < c) (λ e. c ≤ e.key.source) entries) (sym at) (are c (omega (arith, less, size)))
+            subst (BeginAt entries c) (sym at) (are c (omega (arith, less, size)))
         | inr ge ↦ let same : n ≡ c = omega (arith, ge, within, long) in
             let at : get_or new n 0 ≡ place = ap (λ z. get_or z n 0) push ∙ ap (λ k. get_or (old ++ place ∷ []) k 0) (sym size) ∙ get_or-append_seam old place [] 0 in
-            subst (λ k. IsPartitionPoint (λ e. e.key.source < k) (λ e. k ≤ e.key.source) entries (get_or new k 0)) same
-            (subst (IsPartitionPoint (λ e. e.key.source < n) (λ e. n ≤ e.key.source) entries) (sym at) here)
+            subst (λ k. BeginAt entries k (get_or new k 0)) same (subst (BeginAt entries n) (sym at) here)
       ],
     )
 

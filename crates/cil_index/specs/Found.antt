@@ -1,11 +1,14 @@
--- What the rule at a place covers.
-use Rattle.std.specs.Prelude.{◌≡◌, ℕ, Bool, true, List, Contains, IsBitSet, Some, slice_get}
+-- What the rule at a place covers, and by which entries the rules that cover something are found.
+use Rattle.std.specs.Prelude.{◌≡◌, ◌⊎◌, ℕ, Bool, true, List, [], Contains, IsBitSet, Some, get_or, slice_get}
 use Rattle.cil_conditions.specs.Active.{is_active}
 use Rattle.cil_rules.specs.Rule.{Rule}
 use Rattle.cil_rules.specs.Covers.{Covers, Reaches}
+use Rattle.cil_index.specs.declared.cover.Aims.{Aims}
 use Rattle.cil_index.specs.declared.cover.Asked.{Asked}
 use Rattle.cil_index.specs.declared.key.Entry.{Entry}
-use Rattle.cil_index.specs.Entries.{IsOf, in_key}
+use Rattle.cil_index.specs.declared.memberships.Memberships.{Memberships}
+use Rattle.cil_index.specs.Entries.{aim_of, alone_key, beyond, in_key, itself, set_key, several}
+use Rattle.cil_index.specs.Memberships.{IsFilter, IsKnownFor}
 
 -- the rule at the place covers the permission
 pub record CoversAt (on : ℕ → Bool) (rules : List Rule) (source target class_ place bit : ℕ) : Type 0 where
@@ -20,8 +23,28 @@ pub record Matches (on : ℕ → Bool) (r : Rule) (source target class_ : ℕ) :
   pub has_target : Reaches r.target source target
   pub of_class : r.class ≡ class_
 
+-- a target that stands so may have the type: it is the type alone, or the source, or a set that is known for the type
+abbrev pub MayReach : Memberships → Asked → ℕ → Type 0
+MayReach m asked key = (key ≡ alone_key asked.target) ⊎ (((key ≡ itself) × (asked.source ≡ asked.target)) ⊎ ((n : ℕ) × (key ≡ set_key n) × IsKnownFor m asked.target n))
+
+-- this is the class, with a target that may have the type
+abbrev pub IsAimed : Memberships → Asked → ℕ → Type 0
+IsAimed m asked aim = (key : ℕ) × (aim ≡ aim_of (in_key asked.class) key) × MayReach m asked key
+
+-- an entry is of this source, of the class, and of a target that may have the type
+pub record IsOf (m : Memberships) (asked : Asked) (source : ℕ) (e : Entry) : Type 0 where
+  pub source_is : e.source ≡ source
+  pub aimed : IsAimed m asked e.aim
+
 -- the mask has what the entries with some of these sources cover on what is asked
-abbrev pub HandOver : (ℕ → Bool) → List Rule → Asked → List Entry → (ℕ → Type 0) → ℕ → Type 0
-HandOver on rules asked entries among mask =
-    (n : ℕ) → among n → (e : Entry) (bit : ℕ) → Contains entries e → IsOf (in_key asked.class) (in_key n) (in_key asked.target) e.key
+abbrev pub HandOver : (ℕ → Bool) → List Rule → Memberships → Asked → List Entry → (ℕ → Type 0) → ℕ → Type 0
+HandOver on rules m asked entries among mask =
+    (n : ℕ) → among n → (e : Entry) (bit : ℕ) → Contains entries e → IsOf m asked (in_key n) e
     → CoversAt on rules asked.source asked.target asked.class e.place bit → IsBitSet mask bit
+
+-- where the entries stand that are searched for, and a test of the sets that may have the target
+pub record AreAims (m : Memberships) (asked : Asked) (aims : Aims) : Type 0 where
+  pub alone_is : aims.alone ≡ aim_of (in_key asked.class) (alone_key asked.target)
+  pub several_is : aims.several ≡ aim_of (in_key asked.class) several
+  pub last_is : aims.last ≡ aim_of (in_key asked.class) beyond
+  pub filtered : IsFilter (get_or m.lists.items asked.target []) aims.filter

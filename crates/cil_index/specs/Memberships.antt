@@ -1,5 +1,5 @@
 -- Which sets have a type.
-use Rattle.std.specs.Prelude.{◌≡◌, ◌⊎◌, ◌<◌, ◌≤◌, ◌+◌, ℕ, suc, List, [], ◌∷◌, Contains, get_or}
+use Rattle.std.specs.Prelude.{◌≡◌, ◌⊎◌, ◌<◌, ◌≤◌, ◌+◌, ◌%◌, ℕ, suc, List, [], ◌∷◌, Contains, IsBitSet, get_or}
 use Rattle.cil_index.specs.declared.memberships.Memberships.{Memberships}
 use Rattle.cil_index.specs.Sets.{set_of}
 
@@ -12,10 +12,18 @@ pub record IsAlone (sets : List (List ℕ)) (set t : ℕ) : Type 0 where
   pub has_number : set ≡ suc t
   pub is_one : set_of sets set ≡ t ∷ []
 
+-- the bits have one for each number, by what 64 leaves of it
+abbrev pub IsFilter : List ℕ → ℕ → Type 0
+IsFilter numbers bits = (n : ℕ) → Contains numbers n → IsBitSet bits (n % 64)
+
+abbrev pub AreFilters : List (List ℕ) → List ℕ → Type 0
+AreFilters lists filters = (t : ℕ) → IsFilter (get_or lists t []) (get_or filters t 0)
+
 -- a set that has a type is that of this type alone, or is known for the type; and one that is noted for a type has it
 pub record AreMemberships (sets : List (List ℕ)) (m : Memberships) : Type 0 where
   pub known : (set t : ℕ) → Contains (set_of sets set) t → IsAlone sets set t ⊎ IsKnownFor m t set
   pub noted : (set t : ℕ) → Contains (get_or m.lists.items t []) set → Contains (set_of sets set) t
+  pub filtered : AreFilters m.lists.items m.filters.items
 
 -- ---- private words
 
@@ -32,6 +40,7 @@ pub record AreNoted (ones : ℕ) (several : List (List ℕ)) (k : ℕ) (lists : 
 pub record AreNotedBelow (ones : ℕ) (several : List (List ℕ)) (m : Memberships) : Type 0 where
   pub each : (place t : ℕ) → place + ones + 1 < m.first_large → Contains (get_or several place []) t → Contains (get_or m.lists.items t []) (place + ones + 1)
   pub only : AreOfTypes ones several m.lists.items
+  pub filtered : AreFilters m.lists.items m.filters.items
 
 -- a number was added to the list of one type, and nothing else was changed
 pub record IsNoted (old : List (List ℕ)) (t number : ℕ) (new : List (List ℕ)) : Type 0 where

@@ -1,29 +1,31 @@
-//! By what a rule is found: the number of the set of its sources, its class, and its target where that is one type.
+//! By what a rule is found: the number of the set of its sources, its class, and its target.
 
 ghost use Rattle.std.specs.Prelude.{◌≡◌, ℕ, refl, suc};
 ghost use Rattle.std.specs.Cmp.{eq_by_cmp_equiv, partial_equiv_from_equiv, partial_order_from_total};
-ghost use Rattle.std.specs.Ordering.{as_partial_cmp, eq_by_cmp, ordering_index};
-ghost use Rattle.cil_index.specs.Entries.{aim_of, entry_cmp, entry_total, in_key, key_cmp};
+ghost use Rattle.std.specs.Ordering.{as_partial_cmp, eq_by_cmp};
+ghost use Rattle.cil_index.specs.Entries.{aim_of, alone_key, entry_cmp, entry_total, in_key, set_key};
 
 use std::cmp::Ordering;
 
-/// What stands in a key for all but one type, and for a number for which a key has no room.
-pub const SEVERAL: u32 = u32::MAX;
+/// What stands in an entry for a number for which it has no room.
+pub const BEYOND: u32 = u32::MAX;
 
-/// A set of sources, a class and a target, by their numbers.
-#[derive(Clone, Copy, Debug)]
-pub struct Key {
-    /// The number of the type, if it is one alone.
-    pub target: u32,
-    pub class: u32,
-    /// The number of the set.
-    pub source: u32,
-}
+/// The target of a rule from several types to themselves.
+pub const ITSELF: u32 = u32::MAX - 1;
+
+/// From here on stand the targets that are not one type: a set by its number behind this one.
+pub const SEVERAL: u32 = 1 << 31;
+
+/// As this one stand the types behind it too.
+const LAST_TYPE: u32 = SEVERAL - 1;
 
 /// A rule in the index.
 #[derive(Clone, Copy, Debug)]
 pub struct Entry {
-    pub key: Key,
+    /// Its class and its target as one number: a search compares them in one step.
+    pub aim: u64,
+    /// The number of the set of its sources.
+    pub source: u32,
     /// Where the rule stands.
     pub place: u32,
 }
@@ -31,51 +33,55 @@ pub struct Entry {
 // Policies have hundreds of thousands of rules.
 const _: () = prove!(size_of::<Entry>() <= 16);
 
-/// What stands in a key for a type, a set or a class: its number, where there is room for it.
+/// What stands in an entry for a set of sources or a class: its number, where there is room for it.
 pub fn number_key(number: usize) -> u32
     ensures { result ≡ in_key number }
 {
-    if number < SEVERAL as usize {
+    if number < BEYOND as usize {
         number as u32
     } else {
-        SEVERAL
+        BEYOND
     }
 }
 
-/// What stands in a key for the number behind another.
+/// What stands in an entry for the number behind another.
 pub fn next_key(number: usize) -> u32
     ensures { result ≡ in_key (suc number) }
 {
-    if number < SEVERAL as usize - 1 {
+    if number < BEYOND as usize - 1 {
         number as u32 + 1
     } else {
-        SEVERAL
+        BEYOND
     }
 }
 
-/// The class and the target of a key as one number: a search compares them in one step.
-fn aim(key: &Key) -> u64
-    ensures { result ≡ aim_of key.now }
+/// What stands in an entry for a target that is one type alone.
+pub fn type_key(number: usize) -> u32
+    ensures { result ≡ alone_key number }
 {
-    key.class as u64 * (1 << 32) + key.target as u64
-}
-
-/// The order of keys: by source, class, target.
-pub fn compare(a: &Key, b: &Key) -> Ordering
-    ensures { result ≡ key_cmp a.now b.now }
-{
-    a.source.cmp(&b.source).then(aim(a).cmp(&aim(b)))
-}
-
-/// How an entry compares with a key: 0 where it is below, 1 where it has the key, 2 where it is above.
-pub fn rank(entry: &Entry, key: &Key) -> u8
-    ensures { result ≡ ordering_index (key_cmp entry.now.key key.now) }
-{
-    match compare(&entry.key, key) {
-        Ordering::Less => 0,
-        Ordering::Equal => 1,
-        Ordering::Greater => 2,
+    if number < LAST_TYPE as usize {
+        number as u32
+    } else {
+        LAST_TYPE
     }
+}
+
+/// What stands in an entry for a target that is a set of several types, or of none.
+pub fn set_key(set: u32) -> u32
+    ensures { result ≡ set_key set }
+{
+    if set < ITSELF - SEVERAL {
+        SEVERAL + set
+    } else {
+        BEYOND
+    }
+}
+
+/// A class and a target as one number.
+pub fn aim(class: u32, target: u32) -> u64
+    ensures { result ≡ aim_of class target }
+{
+    class as u64 * (1 << 32) + target as u64
 }
 
 impl PartialEq for Entry {
@@ -111,7 +117,10 @@ impl Ord for Entry {
 
     ghost matches_eq = { λ a b. refl };
 
+    /// By source, class, target.
     fn cmp(&self, other: &Entry) -> Ordering {
-        compare(&self.key, &other.key)
+        self.source
+            .cmp(&other.source)
+            .then(self.aim.cmp(&other.aim))
     }
 }

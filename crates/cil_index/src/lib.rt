@@ -4,7 +4,8 @@
 //! `allowed`, the permissions that those that allow cover on a class and a pair of types. A rule is kept as a record of numbers (`record.rt`): its sets of types stand
 //! in `sets.rt`, each once, and a set of one type takes no memory. `specs/Sets.antt` says which set has which number, `specs/Kept.antt`
 //! which rule a record keeps, `specs/Order.antt` that records stand in the order of their rules, and `specs/Entries.antt` by which key a rule
-//! is found: by the number of its source set, its class and its target. `memberships.rt` tells which sets have a type.
+//! is found: by the number of its source set, its class and its target, which is a type or the number of a set. `memberships.rt` tells
+//! which sets have a type.
 #![tactic(auto)]
 
 mod cover;

@@ -1,8 +1,9 @@
 //! The sets that have a type: by these the rules are found that have it among several sources, and tested whether they reach it.
 
 ghost use Rattle.std.specs.Prelude.{◌≡◌, ◌≤◌, ◌<◌, ◌↔◌, ℕ, [], Contains, IfOk, IsTrue, MatchOption, OnOk, get_or, length};
-ghost use Rattle.cil_index.specs.Memberships.{AreMemberships, AreNotedBelow, IsNoted, IsNotedIn};
+ghost use Rattle.cil_index.specs.Memberships.{AreFilters, AreMemberships, AreNotedBelow, IsFilter, IsNoted, IsNotedIn};
 
+use crate::key::BEYOND;
 use crate::sets::Sets;
 use cil_base::NoMemory;
 use cil_sets::Numbers;
@@ -12,13 +13,16 @@ use std::alloc::Global;
 /// that are kept for the types of a set are bounded, and a set that has many of them is mostly asked for one of them.
 const MANY: usize = 1_024;
 
-/// The numbers of the sets of several types that have a type. They take 16 bytes for each block of 64 numbers of which a type has some.
+/// The numbers of the sets of several types that have a type. They take 16 bytes for each block of 64 numbers of which a type has some, and
+/// 8 for each type.
 #[derive(Debug, Drop)]
 pub struct Memberships {
     /// The sets from this number on are asked for every type.
     pub first_large: usize,
     /// For each type the numbers of the others that have it.
     lists: Vec<Numbers>,
+    /// For each type a bit for each of these, by what 64 leaves of it: most sets that lack the type are known by it.
+    filters: Vec<u64>,
 }
 
 impl Memberships {
@@ -36,6 +40,16 @@ impl Memberships {
         ensures { MatchOption result (get_or self.now.lists.items number [] ≡ []) (λ numbers. numbers.now ≡ get_or self.now.lists.items number []) }
     {
         self.lists.get(number)
+    }
+
+    /// A bit for each number of the sets that have a type, by what 64 leaves of it.
+    pub fn filter(&self, number: usize) -> u64
+        ensures { result ≡ get_or self.now.filters.items number 0 }
+    {
+        match self.filters.get(number) {
+            Some(filter) => *filter,
+            None => 0,
+        }
     }
 
     /// Whether a set is noted for a type. It costs a search by halving in the numbers of the type: they have few blocks.
@@ -59,8 +73,40 @@ fn noted(alloc: Global, ones: u32, several: &[Numbers]) -> Result<Memberships, N
         let number = place + ones as usize + 1;
         add_set(alloc, &mut lists, &several[place], number)?;
     }
+    let filters = filters_of(alloc, lists.as_slice())?;
     let first_large = small + ones as usize + 1;
-    Ok(Memberships { first_large, lists })
+    Ok(Memberships {
+        first_large,
+        lists,
+        filters,
+    })
+}
+
+/// For each of some lists its bits. Errors: out of memory.
+fn filters_of(alloc: Global, lists: &[Numbers]) -> Result<Vec<u64>, NoMemory>
+    ensures { IfOk result (λ filters. AreFilters lists.now filters.items) }
+{
+    let mut filters = Vec::with_capacity(alloc, lists.len())?;
+    for numbers in lists {
+        filters.push(filter_of(numbers))?;
+    }
+    Ok(filters)
+}
+
+/// A bit for each number, by what 64 leaves of it. It costs a search by halving for each.
+fn filter_of(numbers: &Numbers) -> u64
+    ensures { IsFilter numbers.now result }
+{
+    let mut filter = 0u64;
+    let mut start = 0;
+    while let Some(number) = numbers.next_from(start) {
+        if number >= BEYOND as usize {
+            return u64::MAX;
+        }
+        filter |= 1u64 << (number % 64);
+        start = number + 1;
+    }
+    filter
 }
 
 /// How many sets stand before the first large one.

@@ -6,7 +6,7 @@ ghost use Rattle.cil_sets.specs.Answers.{set_cmp};
 ghost use Rattle.cil_index.specs.Entries.{key_of_set};
 ghost use Rattle.cil_index.specs.Sets.{AreNumbered, IsSmallNumber, all_sets, set_of};
 
-use crate::key::{SEVERAL, number_key};
+use crate::key::type_key;
 use cil_base::NoMemory;
 use cil_sets::Numbers;
 use std::alloc::Global;
@@ -153,18 +153,18 @@ impl Sets {
         }
     }
 
-    /// By what a set is found as a target: by its type, where it has just one.
-    pub fn key(&self, set: u32) -> u32
-        ensures { result ≡ key_of_set (set_of self.now set) }
+    /// What stands for a set as a target: its type, where it has just one, or something else.
+    pub fn key(&self, set: u32, other: u32) -> u32
+        ensures { result ≡ key_of_set other (set_of self.now set) }
     {
         let ones = self.ones;
         if set == 0 {
-            return SEVERAL;
+            return other;
         }
         if set > ones {
-            return SEVERAL;
+            return other;
         }
-        number_key((set - 1) as usize)
+        type_key((set - 1) as usize)
     }
 
     /// The number of a set that is among them. Errors: out of memory, which is the answer if there are more than 4,294,967,295.

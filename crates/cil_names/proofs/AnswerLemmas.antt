@@ -13,7 +13,7 @@ use Rattle.cil_syntax.specs.Scopes.{asked, spaces_asked, ScopedWord}
 use Rattle.std.proofs.Math.Bool.{or-false}
 use Rattle.cil_names.specs.declared.entry.Entry.{Entry}
 use Rattle.cil_blocks.specs.declared.namespaces.Space.{Space}
-use Rattle.cil_names.specs.Entries.{AreEntries, AreOrdered, IsAnswer, IsNamed, candidate, candidates_of, is_declared_at, is_declared_in, is_entry_of, is_in, by_name_cmp, key_of, listed, place_where}
+use Rattle.cil_names.specs.Entries.{AreEntries, AreOrdered, IsAnswer, IsNamed, candidate, candidates_of, is_declared_at, is_declared_in, is_entry_of, by_name_cmp, key_of, listed, place_where}
 use Rattle.cil_syntax.specs.NameSpaces.{rank}
 use Rattle.cil_macros.specs.Item.{Item, OptSet}
 use Rattle.cil_names.specs.Resolves.{found_in, has}
@@ -203,7 +203,3 @@ pub by_place : (s : OptSet) (es : List Entry) (d : ℕ) → get_or (map (is_decl
 by_place s [] d = refl
 by_place s (e ∷ es) zero = refl
 by_place s (e ∷ es) (suc d) = by_place s es d
-
--- with a flag for each entry, what is found is what is found by the optionals
-pub found_flagged : (s : OptSet) (es : List Entry) (flags : List Bool) → flags ≡ map (is_declared_in s) es → (ds : List ℕ) → find (is_in flags) ds ≡ find (is_declared_at s es) ds
-found_flagged s es flags e ds = ap (λ l. find (is_in l) ds) e ∙ (λ i. find (λ d. by_place s es d i) ds)

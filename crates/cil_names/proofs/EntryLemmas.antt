@@ -1,9 +1,9 @@
 -- Entries, by their keys and by what words want.
-use Rattle.std.proofs.Common.{◌≡◌, ℕ, ◌&&◌, ◌==◌, true, false, List, get_or, sym, ◌∙◌, ap, arith}
-use Rattle.std.specs.Prelude.{Some, slice_get}
+use Rattle.std.proofs.Common.{◌≡◌, ℕ, ◌&&◌, ◌==◌, true, false, List, sym, ◌∙◌, ap, arith}
+use Rattle.std.specs.Prelude.{slice_get}
 use Rattle.std.specs.Cmp.Lexicographic.{bytes_decides}
 use Rattle.std.proofs.lemmas.Bool.{and_parts, true≢false}
-use Rattle.std.proofs.lemmas.Option.{same_Some, slice_get-get_or, slice_get_within}
+use Rattle.std.proofs.lemmas.Option.{same_Some}
 use Rattle.std.proofs.lemmas.Bool.Decides.{nat_tests}
 use Rattle.cil_syntax.specs.declared.kind.Kind.{Kind}
 use Rattle.cil_syntax.specs.declared.kind.Sign.{Sign}
@@ -11,6 +11,7 @@ use Rattle.cil_syntax.specs.Spelling.{same_bytes}
 use Rattle.cil_names.specs.declared.entry.Entry.{Entry}
 use Rattle.cil_names.specs.Entries.{HasNoEntry, IsEntryAt, Key, is_entry, key_of}
 use Rattle.cil_syntax.specs.NameSpaces.{rank}
+use Rattle.cil_names.specs.Soles.{IsWantedIn}
 use Rattle.cil_base.specs.Found.{IsFound, IsMissing}
 use Rattle.cil_syntax.specs.Kinds.{is_wanted}
 
@@ -44,26 +45,21 @@ module _ (es : List Entry) (name : List ℕ) (sign : Sign) (k r : ℕ) (of_rank 
   entry_missing none m e at fits = none m e at (has_key e fits)
 
   module _ (d : ℕ) (found : IsFound key_of es (record { space = k; name = name; rank = r }) d) where
-    pub entry_found : (e : Entry) → slice_get es d ≡ Some e → is_wanted sign e.kind ≡ true → IsEntryAt es name sign k d
-    entry_found e at wanted =
+    pub entry_wanted : IsWantedIn es k sign d → IsEntryAt es name sign k d
+    entry_wanted (e, at, space, wanted) =
         let same : found.item ≡ e = same_Some found.item e (sym found.at ∙ at) in
         record {
           entry = e;
           at = at;
-          fits = they_fit name sign k e (ap (λ (e : Entry). e.space) (sym same) ∙ ap (λ (k : Key). k.space) found.has_key) (ap (λ (e : Entry). e.name) (sym same) ∙ ap (λ (k : Key). k.name) found.has_key) wanted;
+          fits = they_fit name sign k e space (ap (λ (e : Entry). e.name) (sym same) ∙ ap (λ (k : Key). k.name) found.has_key) wanted;
           only = λ m x is fits. found.only m x is (has_key x fits);
         }
 
-    pub entry_other : (e : Entry) → slice_get es d ≡ Some e → is_wanted sign e.kind ≡ false → HasNoEntry es name sign k
-    entry_other e at unwanted m x is fits =
-        let same : x ≡ e = same_Some x e (sym is ∙ ap (slice_get es) (found.only m x is (has_key x fits)) ∙ at) in
+    pub entry_unwanted : (IsWantedIn es k sign d → ⊥) → HasNoEntry es name sign k
+    entry_unwanted other m x is fits =
         let (space, named, wanted) = parts_fit name sign k x fits in
-        true≢false (sym wanted ∙ ap (λ (e : Entry). is_wanted sign e.kind) same ∙ unwanted)
+        other (x, ap (slice_get es) (sym (found.only m x is (has_key x fits))) ∙ is, space, wanted)
 
 pub unwanted_missing : (es : List Entry) (name : List ℕ) (sign : Sign) (k : ℕ) → ((kind : Kind) → is_wanted sign kind ≡ false) → HasNoEntry es name sign k
 unwanted_missing es name sign k none m e at fits =
     let (space, named, wanted) = parts_fit name sign k e fits in true≢false (sym wanted ∙ none e.kind)
-
--- an entry at an index
-pub indexed : (es : List Entry) (d : ℕ) (item e : Entry) → slice_get es d ≡ Some item → e ≡ get_or es d e → slice_get es d ≡ Some e
-indexed es d item e at is = slice_get-get_or es d e (slice_get_within es d item at) ∙ ap Some (sym is)

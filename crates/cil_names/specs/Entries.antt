@@ -15,8 +15,6 @@ use Rattle.cil_syntax.specs.Spelling.{same_bytes}
 use Rattle.cil_faults.specs.Namespaces.{Namespace}
 use Rattle.cil_syntax.specs.Scopes.{Scope, asked, same_space, spaces_asked, ScopedWord}
 use Rattle.cil_names.specs.declared.entry.Entry.{Entry}
-use Rattle.cil_names.specs.declared.look.KnownBy.{KnownBy}
-use Rattle.cil_names.specs.declared.look.KnownBy.TheVariants as known
 use Rattle.cil_blocks.specs.declared.namespaces.Space.{Space}
 use Rattle.cil_names.specs.Declarations.{Declaration, IsDeclaration, declared_by}
 use Rattle.cil_macros.specs.Item.{Item, OptSet, everybody}
@@ -59,11 +57,6 @@ is_declared_in s e = e.always || list_any (λ r. list_all s r.items) e.rounds.it
 -- the entry of this number is declared where these optionals are enabled
 abbrev pub is_declared_at : OptSet → List Entry → ℕ → Bool
 is_declared_at s es d = option_map_or (is_declared_in s) (slice_get es d) false
-
--- the entry of this number is declared, as it is known
-abbrev pub is_known : KnownBy → List Entry → ℕ → Bool
-is_known (known.Enabled flags) es d = is_declared_at (is_in flags.now) es d
-is_known (known.Flagged flags) es d = is_in flags.now d
 
 -- the entry is one of a wanted kind, with this name in this namespace
 abbrev pub is_entry : List ℕ → Sign → ℕ → Entry → Bool

@@ -16,7 +16,7 @@ use crate::asked_parts::asked_in_parts;
 use crate::reading::{Reading, behind_two, front_two, is_call, is_mapping, says_as_written};
 use cil_base::NoMemory;
 use cil_macros::{Instances, PlacedWord};
-use cil_syntax::{Excerpt, Term, Word, word_and_terms};
+use cil_syntax::{Term, word_and_terms};
 use std::alloc::Global;
 
 /// The word that is told of what the statement at a place asks for, by its number, counted from 0; none where it does not
@@ -49,7 +49,7 @@ fn told_of<'a>(asked: &[Asked<'a>], number: usize) -> Option<PlacedWord<'a>>
     let mut left = number;
     for one in asked {
         match one.told(left) {
-            Some(word) => return Some(copy_of(word)),
+            Some(word) => return Some(word.copied()),
             None => left -= one.len(),
         }
     }
@@ -91,20 +91,6 @@ impl<'a> Asked<'a> {
                 }
             }
         }
-    }
-}
-
-/// A word once more.
-pub fn copy_of<'a>(word: &PlacedWord<'a>) -> PlacedWord<'a>
-    ensures { result ≡ word.now }
-{
-    PlacedWord {
-        word: Word {
-            at: word.word.at,
-            bytes: Excerpt::of(word.word.bytes.as_slice()),
-            sign: word.word.sign,
-        },
-        scope: word.scope,
     }
 }
 
@@ -177,7 +163,7 @@ impl<'r, 's, 'p, 'a> Reading<'r, 's, 'p, 'a> {
     {
         let words = self.call_words(alloc)?;
         for word in words.as_slice() {
-            asked.push(Asked::Word(copy_of(word)))?;
+            asked.push(Asked::Word(word.copied()))?;
         }
         Ok(())
     }

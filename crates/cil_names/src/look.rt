@@ -5,7 +5,7 @@ ghost use Rattle.std.specs.List.{list_all, list_any};
 ghost use Rattle.std.specs.List.Sorted.{IsStrictlySortedBy};
 ghost use Rattle.std.specs.Ordering.{on};
 ghost use Rattle.cil_syntax.specs.Scopes.{IsDotless, names_backwards};
-ghost use Rattle.cil_names.specs.Entries.{AreOrdered, HasNoEntry, IsEntryAt, candidate, candidates_of, is_declared_in, is_in, is_known, by_name_cmp, key_of, listed, scoped};
+ghost use Rattle.cil_names.specs.Entries.{AreOrdered, HasNoEntry, IsEntryAt, candidate, candidates_of, is_declared_at, is_declared_in, is_in, by_name_cmp, key_of, listed, scoped};
 ghost use Rattle.cil_names.specs.Soles.{AreNamesakes, IsWantedIn};
 ghost use Rattle.cil_base.specs.Found.{IsFound, IsMissing};
 ghost use Rattle.cil_blocks.specs.Namespaces.{space_at};
@@ -13,12 +13,13 @@ ghost use Rattle.cil_blocks.specs.Namespaces.{space_at};
 use crate::entry::Entry;
 use crate::guesses::Guesses;
 use crate::namesakes::{Namesakes, few_named};
-use crate::opt_set::{are_set, is_set};
+use crate::opt_set::are_set;
 use cil_base::NoMemory;
 use cil_blocks::Namespaces;
 use cil_macros::asked::{asked_in, asked_scope};
 use cil_syntax::{Path, Sign, Word, path_of};
 use std::alloc::Global;
+use std::cmp::Ordering;
 
 /// Whether these are numbers of namespaces.
 pub fn are_numbers(namespaces: &Namespaces, numbers: &[usize]) -> bool
@@ -39,14 +40,20 @@ fn place_of(entries: &[Entry], space: usize, name: &[u8], rank: u8) -> Option<us
     ensures { MatchOption result (IsMissing key_of entries.now (record { space = space; name = name.now; rank = rank })) (IsFound key_of entries.now (record { space = space; name = name.now; rank = rank })) }
 {
     entries
-        .binary_search_by(|e| {
-            e.name
-                .as_slice()
-                .cmp(name)
-                .then(e.kind.rank().cmp(&rank))
-                .then(e.space.cmp(&space))
-        })
+        .binary_search_by(|entry| compare_key(entry, space, name, rank))
         .ok()
+}
+
+/// How the key of an entry compares with a key.
+fn compare_key(entry: &Entry, space: usize, name: &[u8], rank: u8) -> Ordering
+    ensures { result ≡ by_name_cmp (key_of entry.now) (record { space = space; name = name.now; rank = rank }) }
+{
+    entry
+        .name
+        .as_slice()
+        .cmp(name)
+        .then(entry.kind.rank().cmp(&rank))
+        .then(entry.space.cmp(&space))
 }
 
 /// The number of the entry of a wanted kind under this name in a namespace. It costs one hash for a name that few entries have,
@@ -61,7 +68,9 @@ pub fn entry_in(
     requires { IsStrictlySortedBy (on key_of by_name_cmp) entries.now }
     ensures { MatchOption result (HasNoEntry entries.now name.now sign space) (IsEntryAt entries.now name.now sign space) }
 {
-    let rank = sign.rank()?;
+    let Some(rank) = sign.rank() else {
+        return None;
+    };
     entry_of(
         entries,
         few_named(entries, guesses, name, rank),
@@ -122,9 +131,11 @@ fn by_halving(entries: &[Entry], space: usize, name: &[u8], sign: Sign) -> Optio
     requires { IsStrictlySortedBy (on key_of by_name_cmp) entries.now }
     ensures { MatchOption result (HasNoEntry entries.now name.now sign space) (IsEntryAt entries.now name.now sign space) }
 {
-    let rank = sign.rank()?;
+    let Some(rank) = sign.rank() else {
+        return None;
+    };
     let place = place_of(entries, space, name, rank)?;
-    if !sign.wants(entries[place].kind) {
+    if !is_wanted_in(entries, place, space, sign) {
         return None;
     }
     Some(place)
@@ -138,7 +149,9 @@ fn namesakes_of(entries: &[Entry], guesses: &Guesses, path: &Path, sign: Sign) -
     if !path.dotless {
         return None;
     }
-    let rank = sign.rank()?;
+    let Some(rank) = sign.rank() else {
+        return None;
+    };
     few_named(entries, guesses, path.names, rank)
 }
 
@@ -207,7 +220,10 @@ pub fn push_candidates(
     let same = namesakes_of(entries, guesses, &path, word.sign);
     for from in asked_scope(path.global, scope) {
         let named = named_in(namespaces, entries, guesses, same, *from, &path, word.sign);
-        push_listed(found, named)?;
+        match push_listed(found, named) {
+            Ok(()) => {}
+            Err(failure) => return Err(failure),
+        }
     }
     Ok(())
 }
@@ -223,29 +239,20 @@ pub fn push_listed(found: &mut Vec<usize>, named: Option<usize>) -> Result<(), N
     Ok(())
 }
 
-/// How it is known which entries are declared.
-#[derive(Clone, Copy)]
-pub enum KnownBy<'r> {
-    /// By the flags of the optionals that are enabled. It costs a step for each statement that declares an entry, until
-    /// one is enabled.
-    Enabled(&'r [bool]),
-    /// By a flag for each entry.
-    Flagged(&'r [bool]),
-}
-
-/// The number of the entry that a word names: the first that it could name and that is declared. A word that wants no kind,
-/// as a permission, costs nothing.
+/// The number of the entry that a word names: the first that it could name and that is declared where these optionals are
+/// enabled. A word that wants no kind, as a permission, costs nothing. Else an entry that it could name costs a step for each
+/// statement that declares it, until one is enabled.
 pub fn resolve(
     namespaces: &Namespaces,
     entries: &[Entry],
     guesses: &Guesses,
-    known: KnownBy<'_>,
+    enabled: &[bool],
     word: &Word,
     scope: &[usize],
 ) -> Option<usize>
     requires entries { AreOrdered namespaces.now entries.now }
     requires within { All (λ k. k ≤ length namespaces.now) scope.now }
-    ensures { result ≡ find (is_known known.entry entries.now) (candidates_of namespaces.now entries.now (scoped namespaces.now scope.now word.now)) }
+    ensures { result ≡ find (is_declared_at (is_in enabled.now) entries.now) (candidates_of namespaces.now entries.now (scoped namespaces.now scope.now word.now)) }
 {
     let Some(_wanted) = word.sign.name_space() else {
         return None;
@@ -254,7 +261,7 @@ pub fn resolve(
     let same = namesakes_of(entries, guesses, &path, word.sign);
     for from in asked_scope(path.global, scope) {
         let named = named_in(namespaces, entries, guesses, same, *from, &path, word.sign);
-        let declared = where_declared(known, entries, named);
+        let declared = where_declared(enabled, entries, named);
         if declared.is_some() {
             return declared;
         }
@@ -289,30 +296,30 @@ pub fn is_declared(enabled: &[bool], entry: &Entry) -> bool
 fn has_one(enabled: &[bool], rounds: &[Vec<usize>]) -> bool
     ensures { result ≡ list_any (λ r. list_all (is_in enabled.now) r.items) rounds.now }
 {
-    rounds
-        .iter()
-        .any(|round| are_set(enabled, round.as_slice()))
+    for round in rounds {
+        if are_set(enabled, round.as_slice()) {
+            return true;
+        }
+    }
+    false
 }
 
 /// Whether the entry of this number is declared.
-fn has_declared(known: KnownBy<'_>, entries: &[Entry], d: usize) -> bool
-    ensures { result ≡ is_known known.entry entries.now d }
+fn has_declared(enabled: &[bool], entries: &[Entry], d: usize) -> bool
+    ensures { result ≡ is_declared_at (is_in enabled.now) entries.now d }
 {
-    match known {
-        KnownBy::Flagged(flags) => is_set(flags, d),
-        KnownBy::Enabled(enabled) => match entries.get(d) {
-            Some(entry) => is_declared(enabled, entry),
-            None => false,
-        },
-    }
+    let Some(entry) = entries.get(d) else {
+        return false;
+    };
+    is_declared(enabled, entry)
 }
 
 /// The number, where its entry is declared.
-fn where_declared(known: KnownBy<'_>, entries: &[Entry], named: Option<usize>) -> Option<usize>
-    ensures { result ≡ find (is_known known.entry entries.now) (listed named) }
+fn where_declared(enabled: &[bool], entries: &[Entry], named: Option<usize>) -> Option<usize>
+    ensures { result ≡ find (is_declared_at (is_in enabled.now) entries.now) (listed named) }
 {
     let d = named?;
-    if has_declared(known, entries, d) {
+    if has_declared(enabled, entries, d) {
         Some(d)
     } else {
         None

@@ -19,7 +19,7 @@ ghost use Rattle.cil_names.specs.Unresolved.{ArePermissions};
 
 use crate::entry::Entry;
 use crate::guesses::Guesses;
-use crate::look::{self, KnownBy};
+use crate::look;
 use crate::opt_set::OptSet;
 use crate::permission_word::class_with;
 use crate::unscoped::{push_in_scope, unscoped_entry};
@@ -195,7 +195,7 @@ impl<'a> Names<'a> {
             namespaces,
             self.entries.as_slice(),
             &self.guesses,
-            KnownBy::Enabled(enabled.as_slice()),
+            enabled.as_slice(),
             word,
             scope,
         )

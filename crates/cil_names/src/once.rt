@@ -18,7 +18,9 @@ pub fn sole(entries: &[Entry], guesses: &Guesses, name: &[u8], rank: u8) -> Opti
 {
     let slot = guesses.slot(name);
     for way in 0..WAYS {
-        let place = guesses.guess(slot, way)?;
+        let Some(place) = guesses.guess(slot, way) else {
+            return None;
+        };
         if is_named(entries, place, name, rank) {
             return alone(entries, place, name, rank);
         }

@@ -22,7 +22,7 @@ ghost use Rattle.cil_names.specs.Unresolved.{ArePermissions, listed_at as listed
 
 use crate::entry::Entry;
 use crate::guesses::Guesses;
-use crate::look::{KnownBy, entry_in, resolve};
+use crate::look::{entry_in, resolve};
 use crate::numbers::{place_among, place_guessed};
 use crate::shared::where_always;
 use cil_blocks::Namespaces;
@@ -42,14 +42,7 @@ pub fn class_named(
     ensures value { result ≡ meant namespaces.now entries.now nobody (scoped namespaces.now scope.now class.now) }
     ensures within { IfSome result (λ d. d < length entries.now) }
 {
-    resolve(
-        namespaces,
-        entries,
-        guesses,
-        KnownBy::Enabled(&[]),
-        class,
-        scope,
-    )
+    resolve(namespaces, entries, guesses, &[], class, scope)
 }
 
 /// The permissions of the class that has the name of an entry, in byte order; none where no class has it. They are given

@@ -26,7 +26,9 @@ pub fn unscoped_entry(entries: &[Entry], guesses: &Guesses, word: &Word) -> Opti
     ensures candidate { IfSome result (λ d. (ss : List Space) (scope : Scope) → EndsGlobally scope → candidates_of ss entries.now (in_scope scope word.now) ≡ d ∷ []) }
     ensures within { IfSome result (λ d. d < length entries.now) }
 {
-    let place = sole_word(entries, guesses, word)?;
+    let Some(place) = sole_word(entries, guesses, word) else {
+        return None;
+    };
     let entry = entries.get(place)?;
     if entry.space != 0 {
         return None;
@@ -78,7 +80,9 @@ fn one_in(
 {
     namespaces.are_namespaces();
     scope.are_apart();
-    let entry = entries.get(place)?;
+    let Some(entry) = entries.get(place) else {
+        return None;
+    };
     let sign = word.sign;
     if !sign.wants(entry.kind) {
         return None;
@@ -101,6 +105,8 @@ fn sole_word(entries: &[Entry], guesses: &Guesses, word: &Word) -> Option<usize>
     if !path.dotless {
         return None;
     }
-    let rank = word.sign.rank()?;
+    let Some(rank) = word.sign.rank() else {
+        return None;
+    };
     sole(entries, guesses, path.names, rank)
 }

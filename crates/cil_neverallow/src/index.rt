@@ -44,7 +44,7 @@ pub fn may_meet(sets: &[Numbers], index: &Sections, rules: &[NamedRule]) -> bool
     false
 }
 
-/// Whether a rule may cover something that one of these rules covers: four searches by halving, if it is of one type a side.
+/// Whether a rule may cover something that one of these rules covers. If it is of one type a side, it costs what `allowed` costs.
 fn rule_may_meet(sets: &[Numbers], index: &Sections, rule: &NamedRule) -> bool
     requires { AreAlways index.now.allow }
     ensures { IsFalse result → (o : AnOverlap) → IsMet (rule_named [] sets.now rule.now) index.now.allow o → ⊥ }

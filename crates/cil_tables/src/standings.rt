@@ -12,7 +12,7 @@ ghost use Rattle.cil_tables.specs.SetsStep.{MembersFault};
 ghost use Rattle.cil_tables.specs.Standings.{AllStand, AreAllMembers};
 
 use crate::both::{Both, together};
-use cil_attrs::{Members, Space, members, standing_of};
+use cil_attrs::{Members, Roles, Types, Users, members, standing_of};
 use cil_base::NoMemory;
 use cil_faults::Failure;
 use cil_macros::Instances;
@@ -75,27 +75,9 @@ fn all_members(
     requires apart { AreApart known.now.lookup.names.now (enabled_in known.now) known.now.numbers.now }
     ensures { Answers (AreAllMembers known.now (items_in instances.now) (names_of sections.now)) (MembersFault (enabled_in known.now) (items_in instances.now)) result }
 {
-    let users = members(
-        alloc,
-        known,
-        instances,
-        sections.users.as_slice(),
-        &Space::Users,
-    );
-    let roles = members(
-        alloc,
-        known,
-        instances,
-        sections.roles.as_slice(),
-        &Space::Roles,
-    );
-    let types = members(
-        alloc,
-        known,
-        instances,
-        sections.types.as_slice(),
-        &Space::Types,
-    );
+    let users = members::<Users>(alloc, known, instances, sections.users.as_slice());
+    let roles = members::<Roles>(alloc, known, instances, sections.roles.as_slice());
+    let types = members::<Types>(alloc, known, instances, sections.types.as_slice());
     let both_roles_types = together(roles, types);
     let Both {
         first: users,

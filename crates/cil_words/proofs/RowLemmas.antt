@@ -1,6 +1,6 @@
 -- The rows of the table: one more, and a word of one.
 use Rattle.std.proofs.Common.{◌≡◌, ℕ, zero, suc, ◌+◌, ◌-◌, ◌<◌, ◌≤◌, Bool, List, [], ◌∷◌, length, get_or, refl, sym, ◌∙◌, ap, arith, drop, map}
-use Rattle.std.specs.Prelude.{Some, Option, slice_get, slice_range}
+use Rattle.std.specs.Prelude.{Some, Option, find, slice_get, slice_range}
 use Rattle.std.specs.Global.{Vec}
 use Rattle.std.specs.Option.{option_map, option_map_or}
 use Rattle.std.proofs.lemmas.List.{get_or-drop, get_or-take, length-drop, length-map, length-take-le}
@@ -12,13 +12,17 @@ use Rattle.cil_macros.specs.Item.{Item, OptSet}
 use Rattle.cil_macros.specs.Items.{Kept, item_at, items_in, namespaces_in}
 use Rattle.cil_macros.proofs.ItemLemmas.{item_got}
 use Rattle.cil_names.specs.declared.entry.Entry.{Entry}
-use Rattle.cil_names.specs.Entries.{candidates_of, is_declared_in, is_in, listed}
+use Rattle.cil_names.specs.Entries.{candidates_of, is_declared_at, is_declared_in, is_in, listed}
 use Rattle.cil_names.specs.PermissionWords.{class_with, meanings, number_with, value_of}
 use Rattle.cil_names.specs.Resolves.{Permission as APermission, Wanted, Word as AWord, words_of}
 use Rattle.cil_names.specs.Unresolved.{ArePermissions}
-use Rattle.cil_names.proofs.AnswerLemmas.{found_flagged}
+use Rattle.cil_names.proofs.AnswerLemmas.{by_place}
 use Rattle.cil_names.proofs.PermissionNumberLemmas.{number_or_nothing}
 use Rattle.cil_words.specs.Table.{AreAsks, AreNumberedAsks, Ask, ask_of, ask_value, asks, could_in, could_of, numbered_asks, word_ask}
+
+-- with a flag for each entry, what is found is what is found by the optionals
+found_flagged : (s : OptSet) (es : List Entry) (flags : List Bool) → flags ≡ map (is_declared_in s) es → (ds : List ℕ) → find (is_in flags) ds ≡ find (is_declared_at s es) ds
+found_flagged s es flags e ds = ap (λ l. find (is_in l) ds) e ∙ (λ i. find (λ d. by_place s es d i) ds)
 
 -- ---- a word of a row
 

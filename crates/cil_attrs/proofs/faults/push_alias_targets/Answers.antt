@@ -3,21 +3,19 @@ use Rattle.std.specs.Option.{is_some}
 use Rattle.std.proofs.Common.{◌<◌, ◌∙◌, ap, length, subst, sym}
 use Rattle.cil_faults.specs.declared.code.FaultCode.TheVariants as causes
 use Rattle.cil_faults.specs.declared.fault.Fault.{Fault}
-use Rattle.cil_syntax.specs.Kinds.{is_wanted}
 use Rattle.cil_macros.specs.Items.{items_in}
 use Rattle.cil_names.specs.declared.entry.Entry.{Entry}
 use Rattle.cil_names.specs.Known.{enabled_in}
-use Rattle.cil_attrs.specs.declared.giver.SpaceKinds.{SpaceKinds}
-use Rattle.cil_attrs.specs.Targets.{AreLast, AreSteps, HasOther, IsToldAmong, IsToldIn}
+use Rattle.cil_attrs.specs.Targets.{AreLast, HasOther, IsToldAmong, IsToldIn}
 use Rattle.cil_attrs.proofs.AliasLemmas.{alias_says, alias_told, alias_within}
 use Rattle.cil_attrs.proofs.SpaceLemmas.{alias_wanted, alias_written}
 use Rattle.cil_attrs.proofs.faults.push_alias_targets.Goals as goal
 
 pub steps_of-requires-clause-written : goal.steps_of-requires-clause-written
-steps_of-requires-clause-written c = alias_written c.args.space c.args.aliases c.requires.aliases
+steps_of-requires-clause-written c = alias_written c.args.space.now c.args.sign c.requires.space c.args.aliases c.requires.aliases
 
 pub push_open-requires-clause-wanted : goal.push_open-requires-clause-wanted
-push_open-requires-clause-wanted c = ap (λ s. is_wanted s c.args.aliases.kind) c.sign-sign.ensures ∙ alias_wanted c.args.space c.args.aliases c.requires.aliases
+push_open-requires-clause-wanted c = alias_wanted c.args.space.now c.args.sign c.requires.space c.args.aliases c.requires.aliases
 
 pub lasts_of-requires : goal.lasts_of-requires
 lasts_of-requires c = λ s d.
@@ -26,8 +24,8 @@ lasts_of-requires c = λ s d.
     let steps = c.in_ok-steps.steps.items in
     let (names, sections, which, policy) = c.requires.known in
     subst (λ (es : List Entry). s.alias < length es) (sym c.entries.ensures.value)
-    (alias_within k i c.args.space names sections which policy c.args.aliases c.requires.aliases steps
-    (λ j is. subst (λ (r : SpaceKinds). AreSteps k i r.item j steps) c.kinds-kinds.ensures (c.in_ok-steps.ensures sections j policy.known is)) s (subst (λ xs. Contains xs s) c.as_slice.ensures.value d))
+    (alias_within k i c.args.space.now c.args.sign c.requires.space names sections which policy c.args.aliases c.requires.aliases steps
+    (λ j is. c.in_ok-steps.ensures sections j policy.known is) s (subst (λ xs. Contains xs s) c.as_slice.ensures.value d))
 
 pub push_twice-requires-clause-within : goal.push_twice-requires-clause-within
 push_twice-requires-clause-within c = λ s d.
@@ -36,8 +34,8 @@ push_twice-requires-clause-within c = λ s d.
     let steps = c.in_ok-steps.steps.items in
     let (names, sections, which, policy) = c.requires.known in
     subst (λ n. s.alias < n) (sym (ap length c.as_slice-4.ensures.value ∙ c.in_ok-lasts.ensures.len ∙ ap length c.entries.ensures.value))
-    (alias_within k i c.args.space names sections which policy c.args.aliases c.requires.aliases steps
-    (λ j is. subst (λ (r : SpaceKinds). AreSteps k i r.item j steps) c.kinds-kinds.ensures (c.in_ok-steps.ensures sections j policy.known is)) s (subst (λ xs. Contains xs s) c.as_slice-3.ensures.value d))
+    (alias_within k i c.args.space.now c.args.sign c.requires.space names sections which policy c.args.aliases c.requires.aliases steps
+    (λ j is. c.in_ok-steps.ensures sections j policy.known is) s (subst (λ xs. Contains xs s) c.as_slice-3.ensures.value d))
 
 pub push_twice-requires-clause-said : goal.push_twice-requires-clause-said
 push_twice-requires-clause-said c = λ s d.
@@ -45,8 +43,8 @@ push_twice-requires-clause-said c = λ s d.
     let i = c.args.instances.now in
     let steps = c.in_ok-steps.steps.items in
     let (names, sections, which, policy) = c.requires.known in
-    alias_says k i c.args.space names sections which policy c.args.aliases c.requires.aliases steps
-    (λ j is. subst (λ (r : SpaceKinds). AreSteps k i r.item j steps) c.kinds-kinds.ensures (c.in_ok-steps.ensures sections j policy.known is)) s (subst (λ xs. Contains xs s) c.as_slice-3.ensures.value d)
+    alias_says k i c.args.space.now c.args.sign c.requires.space names sections which policy c.args.aliases c.requires.aliases steps
+    (λ j is. c.in_ok-steps.ensures sections j policy.known is) s (subst (λ xs. Contains xs s) c.as_slice-3.ensures.value d)
 
 pub returns : goal.returns
 returns c = λ names sections which policy.
@@ -57,8 +55,8 @@ returns c = λ names sections which policy.
     let old = c.args.faults.now.items in
     let middle = c.push_open.new.faults.items in
     let new = c.push_twice.new.faults.items in
-    alias_told k i c.args.space names sections which policy c.args.aliases c.requires.aliases steps
-    (λ j is. subst (λ (r : SpaceKinds). AreSteps k i r.item j steps) c.kinds-kinds.ensures (c.in_ok-steps.ensures sections j policy.known is)) lasts
+    alias_told k i c.args.space.now c.args.sign c.requires.space names sections which policy c.args.aliases c.requires.aliases steps
+    (λ j is. c.in_ok-steps.ensures sections j policy.known is) lasts
     (subst (λ ss. AreLast ss lasts) c.as_slice.ensures.value c.in_ok-lasts.ensures.lasts) (c.in_ok-lasts.ensures.len ∙ ap length c.entries.ensures.value) old middle new
     (subst
     (λ ls. (f : Fault) → Contains middle f

@@ -1,5 +1,4 @@
-use Rattle.cil_attrs.proofs.LawLemmas.{whole}
 use Rattle.cil_attrs.proofs.laws.spaces_are_whole.Goals as goal
 
 pub returns : goal.returns
-returns c = whole
+returns g c = g.met.S.Space.whole

@@ -4,6 +4,9 @@ use Rattle.cil_base.specs.Lists.{contains_none}
 use Rattle.cil_classes.proofs.BitLemmas.{none_set}
 use Rattle.cil_index.proofs.cover.by_own.Goals as goal
 
+pub by_sources-requires-clause-has : goal.by_sources-requires-clause-has
+by_sources-requires-clause-has c = λ n has. c.requires.memberships.noted n c.args.asked.now.source (subst (λ l. Contains l n) c.in-Some.ensures has)
+
 pub returns-in-Some-clause-all : goal.returns-in-Some-clause-all
 returns-in-Some-clause-all c = λ n has. c.by_sources.ensures.all n (rw c.in-Some.ensures has)
 

@@ -5,4 +5,4 @@ use Rattle.cil_index.proofs.CoverLemmas.{IsJoined}
 use Rattle.cil_index.proofs.cover.joined.Given as goal
 
 abbrev pub invariant-loop-entry : goal.invariant-loop-entry
-invariant-loop-entry l = IsJoined (is_on l.settings) (rules_in l.searched) l.asked.source l.asked.target l.asked.class (take l.entry-index l.entries) l.mask
+invariant-loop-entry l = IsJoined (is_on l.settings) (rules_in l.searched) l.searched.memberships.now l.asked (take l.entry-index l.entries) l.mask

@@ -1,5 +1,6 @@
-use Rattle.std.proofs.Common.{[], arith, length, refl, ◌<◌, ◌∙◌}
+use Rattle.std.proofs.Common.{List, [], arith, length, refl, subst, ℕ, ◌<◌, ◌∙◌}
 use Rattle.std.proofs.lemmas.List.{get_or_default}
+use Rattle.cil_index.specs.Memberships.{AreFilters}
 use Rattle.cil_index.proofs.MembershipLemmas.{none_noted, noted_below, noted_more}
 use Rattle.cil_index.proofs.memberships.noted.Goals as goal
 
@@ -15,4 +16,6 @@ loop-place-preserved c =
     (c.index-several-place.is ∙ get_or_default c.args.several.now c.loop-place.place _ [] there) refl c.loop-place.invariant c.in_ok-add_set.ensures
 
 pub returns : goal.returns
-returns c = noted_below c.args.ones c.args.several.now c.loop-place.place c.before_large-small.result _ c.loop-place-test.false refl c.loop-place.invariant
+returns c =
+    noted_below c.args.ones c.args.several.now c.loop-place.place c.before_large-small.result _ c.loop-place-test.false refl c.loop-place.invariant
+    (subst (λ (l : List (List ℕ)). AreFilters l c.in_ok-filters.filters.items) c.as_slice.ensures.value c.in_ok-filters.ensures)

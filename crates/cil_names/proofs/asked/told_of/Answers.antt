@@ -13,7 +13,7 @@ loop-one-init c = λ ps. refl
 pub returns-in-Some : goal.returns-in-Some
 returns-in-Some c = λ ps.
     in_this (wanted_by ps) c.args.asked.now c.args.number c.loop-one.one-index c.loop-one.left (c.loop-one.invariant ps) c.one-item.result c.one-item.result c.loop-one-test.true c.one-item.is
-    told_word _ (c.in-Some.ensures ps) ∙ ap (λ (w : PlacedWord). Some (scoped_by ps w)) (sym c.copy_of.ensures)
+    told_word _ (c.in-Some.ensures ps) ∙ ap (λ (w : PlacedWord). Some (scoped_by ps w)) (sym c.copied.ensures)
 
 pub overflow_sub-left : goal.overflow_sub-left
 overflow_sub-left c =

@@ -10,10 +10,10 @@ loop-from-preserved c =
     let k : ℕ = get_or c.asked_scope-from-items.result.now c.loop-from.from-index 0 in
     let there = asked_there c.args.namespaces.now c.args.entries.now c.args.word.now c.path_of-path.result.global c.path_of-path.result.names.now (search rules) k c.named_in-named.result c.named_in-named.ensures in
     let more : c.push_listed.new.found.items ≡ c.loop-from.found.items ++ could_name c.args.namespaces.now c.args.entries.now c.args.word.now k =
-    c.in_ok-push_listed.ensures.found ∙ ap (λ l. c.loop-from.found.items ++ l) there in (
+    c.in-Ok.ensures.found ∙ ap (λ l. c.loop-from.found.items ++ l) there in (
       rw more (passed_on (could_name c.args.namespaces.now c.args.entries.now c.args.word.now) c.asked_scope-from-items.result.now c.loop-from.from-index k 0 (search (rules, arith)) refl
           c.loop-from.found.items _ c.loop-from.invariant.0),
-      (let a = c.loop-from.invariant.1 in let b = c.in_ok-push_listed.ensures.none_lost in omega (arith, a, b)),
+      (let a = c.loop-from.invariant.1 in let b = c.in-Ok.ensures.none_lost in omega (arith, a, b)),
     )
 
 pub returns-clause-found : goal.returns-clause-found

@@ -5,17 +5,17 @@ use Rattle.cil_names.proofs.unscoped.one_in.Goals as goal
 
 pub returns-then-not-wants : goal.returns-then-not-wants
 returns-then-not-wants c =
-    of_no_kind c.args.entries.now c.args.word.now c.args.place c.requires.sole c.in_ok-entry.entry.now
-    (at_got c.args.entries.now c.args.place c.in_ok-entry.entry.now c.in_ok-entry.ensures.lookup.3.0 c.in_ok-entry.ensures.lookup.1) c.args.namespaces.now c.args.scope.now (search rules)
+    of_no_kind c.args.entries.now c.args.word.now c.args.place c.requires.sole c.in-Some.entry.now
+    (at_got c.args.entries.now c.args.place c.in-Some.entry.now c.in-Some.ensures.lookup.3.0 c.in-Some.ensures.lookup.1) c.args.namespaces.now c.args.scope.now (search rules)
 
 pub returns-then-not-contains : goal.returns-then-not-contains
 returns-then-not-contains c =
-    out_of_scope c.args.entries.now c.args.word.now c.args.place c.requires.sole c.in_ok-entry.entry.now
-    (at_got c.args.entries.now c.args.place c.in_ok-entry.entry.now c.in_ok-entry.ensures.lookup.3.0 c.in_ok-entry.ensures.lookup.1) c.args.namespaces.now c.args.scope.now
+    out_of_scope c.args.entries.now c.args.word.now c.args.place c.requires.sole c.in-Some.entry.now
+    (at_got c.args.entries.now c.args.place c.in-Some.entry.now c.in-Some.ensures.lookup.3.0 c.in-Some.ensures.lookup.1) c.args.namespaces.now c.args.scope.now
     c.are_namespaces.ensures c.requires.entries c.requires.within (search rules)
 
 pub returns : goal.returns
 returns c =
-    found_in_scope c.args.entries.now c.args.word.now c.args.place c.requires.sole c.in_ok-entry.entry.now
-    (at_got c.args.entries.now c.args.place c.in_ok-entry.entry.now c.in_ok-entry.ensures.lookup.3.0 c.in_ok-entry.ensures.lookup.1) c.args.namespaces.now c.args.scope.now
+    found_in_scope c.args.entries.now c.args.word.now c.args.place c.requires.sole c.in-Some.entry.now
+    (at_got c.args.entries.now c.args.place c.in-Some.entry.now c.in-Some.ensures.lookup.3.0 c.in-Some.ensures.lookup.1) c.args.namespaces.now c.args.scope.now
     c.are_namespaces.ensures c.requires.entries c.requires.within c.are_apart.ensures (search rules) (search rules)

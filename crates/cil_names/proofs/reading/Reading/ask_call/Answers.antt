@@ -14,7 +14,7 @@ loop-word-preserved c =
     let r = c.args.self.now in
     one_mapped (λ (w : PlacedWord). AWord (scoped_there r w)) c.as_slice-word-items.result.now c.loop-word.word-index _ _ _ _ _ c.loop-word-test.true c.word-item.is c.loop-word.invariant
     (one_asked (wanted_by (all_placed r.instances.now)) c.loop-word.asked.items _ _ c.in_ok-push.ensures.items
-    ∙ ap (λ (w : PlacedWord). asked_by r c.loop-word.asked.items ++ AWord (scoped_there r w) ∷ []) c.copy_of.ensures)
+    ∙ ap (λ (w : PlacedWord). asked_by r c.loop-word.asked.items ++ AWord (scoped_there r w) ∷ []) c.copied.ensures)
 
 pub returns : goal.returns
 returns c = λ called.

@@ -3,7 +3,7 @@ use Rattle.cil_index.specs.Kept.{rule_of}
 use Rattle.cil_conditions.specs.Bits.{is_on}
 use Rattle.cil_index.specs.Searched.{rules_in}
 use Rattle.cil_index.proofs.CoverLemmas.{at_other, at_rule}
-use Rattle.cil_index.proofs.cover.mask_at.Goals as goal
+use Rattle.cil_index.proofs.cover.mask_known.Goals as goal
 
 pub returns-then-matches : goal.returns-then-matches
 returns-then-matches c =
