@@ -20,6 +20,11 @@ pub(crate) fn text_of(bytes: &[u8]) -> &str {
     }
 }
 
+/// Adds two numbers. What holds values calls it, since to write is dear where they are held.
+pub(crate) fn show_counts(out: &mut String, first: u64, second: u64) -> bool {
+    write!(out, "{first} {second}").is_ok()
+}
+
 /// Adds the lines of faults. False where there is no memory.
 pub(crate) fn show_faults(alloc: Global, faults: &FaultList, out: &mut String) -> bool {
     match render(alloc, faults) {
@@ -42,7 +47,6 @@ pub(crate) struct Named<'r, 's, 't, 'a> {
     pub(crate) permissions: &'r [Vec<Bytes>],
 }
 
-/// A question about that.
 pub(crate) trait NamedQuestion {
     /// Adds the answer in words. False where there is none, or no memory.
     fn answer(&self, alloc: Global, all: &Named, out: &mut String) -> bool

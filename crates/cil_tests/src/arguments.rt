@@ -16,7 +16,6 @@ fn is_argument(statements: &[Statement], kind: Op) -> Option<bool> {
     Some(is_of_kind(kind, arguments.first()?))
 }
 
-/// Whether that is so, as the rules have it.
 #[derive(Drop)]
 struct IsArgument(Op, bool);
 
@@ -69,7 +68,6 @@ fn arguments_have_the_form_of_their_kinds(rt: HostRuntime) {
 /// Two macros that declare one name in two kinds, and a type outside of both. The macros have the numbers 0 and 3.
 const TWO: &str = "(macro m () (type x)(user u))(macro k () (role x))(type y)";
 
-/// What words may want.
 const SIGNS: &[Sign] = &[
     Types, Roles, Users, Classes, PlainClass, Macros, Blocks, Permission, Text, Unread,
 ];
@@ -77,7 +75,6 @@ const SIGNS: &[Sign] = &[
 /// The number of a macro, a word, and what its body declares under that name.
 type Row = (usize, &'static str, Option<Sign>);
 
-/// For words of both macros, and some that neither declares.
 const DECLARED: &[Row] = &[
     (0, "x", Some(Types)),
     (0, "u", Some(Users)),

@@ -56,7 +56,6 @@ const COVERED: &[(usize, usize, usize, u32)] = &[
     (usize::MAX, usize::MAX, 1, 0),
 ];
 
-/// The types of a range. None where there is no memory.
 fn numbers_of(alloc: Global, range: Range) -> Option<Numbers> {
     let before = Numbers::below(alloc, range.0).ok()?;
     let all = Numbers::below(alloc, range.1).ok()?;

@@ -14,7 +14,6 @@ use cil_text_tests::set_of;
 use std::alloc::Global;
 use std::test::Fail;
 
-/// A class of 32 permissions.
 const WIDE: &str = "(class wide (p00 p01 p02 p03 p04 p05 p06 p07 p08 p09 p10 p11 p12 p13 p14 p15 \
     p16 p17 p18 p19 p20 p21 p22 p23 p24 p25 p26 p27 p28 p29 p30 p31))(allow a b (wide (p00 p31)))";
 
@@ -22,7 +21,6 @@ const WIDE: &str = "(class wide (p00 p01 p02 p03 p04 p05 p06 p07 p08 p09 p10 p11
 const SWITCHED: &str = "(boolean late true)(block net (boolean open false))\
     (booleanif (and late net.open) (true (allow a b (file (open)))) (false (auditallow b a (file (read)))))";
 
-/// The tables of the first policy with both.
 fn tables(alloc: Global) -> Option<Tables> {
     let modules = set_of(alloc, &[FIRST, WIDE, SWITCHED]).ok()?;
     match compile(alloc, &modules) {

@@ -1,7 +1,7 @@
 //! Tests that pass with every growth allowed, and with any one of them refused (`scripts/refuse-growths` does so in turn):
 //! the call that lost it says so and has changed nothing, so each call is tried once more.
 
-use crate::answers::{FIRST, Question, row_holds, show_faults};
+use crate::answers::{FIRST, Question, row_holds, show_counts, show_faults};
 use cil_host::{Host, QueryFault};
 use cil_macros::Instances;
 use cil_modset::ModuleSet;
@@ -15,7 +15,11 @@ use std::test::Fail;
 /// Adds how many optionals a policy has and how many reasons, or the lines of its faults. False where there is no memory.
 fn show_compiled(alloc: Global, modules: &ModuleSet, out: &mut String) -> bool {
     match compile(alloc, modules) {
-        Ok(found) => write!(out, "{} {}", found.optionals.len(), found.reasons.len()).is_ok(),
+        Ok(found) => show_counts(
+            out,
+            found.optionals.len() as u64,
+            found.reasons.len() as u64,
+        ),
         Err(Failure::Faults(faults)) => show_faults(alloc, &faults, out),
         Err(Failure::NoMemory) => false,
     }
@@ -87,13 +91,12 @@ fn a_refused_growth_is_no_fault_of_a_policy(rt: HostRuntime) -> Result<(), Fail>
     Ok(())
 }
 
-/// How many statements are there by blocks, and how many calls bring.
 struct Counts;
 
 impl Question for Counts {
     fn answer(&self, _alloc: Global, instances: &Instances, out: &mut String) -> bool {
-        let (entries, called) = (instances.spaces().entries().len(), instances.called().len());
-        write!(out, "{entries} {called}").is_ok()
+        let entries = instances.spaces().entries().len();
+        show_counts(out, entries as u64, instances.called().len() as u64)
     }
 }
 

@@ -102,8 +102,8 @@ pub(crate) fn word(bytes: &'static [u8], sign: Sign) -> Word<'static> {
 
 type Found = Option<usize>;
 
-/// What a word means: the declared name that it names in its scope where these optionals are enabled; all that it could name there, behind
-/// the number 9; or the one that it could name in every scope, and none where it hangs on the scope, or on dots.
+/// What a word means: the declared name that it names in its scope where these optionals are enabled; all that it could name there; or
+/// the one that it could name in every scope, and none where it hangs on the scope, or on dots.
 #[derive(Clone, Copy)]
 enum Ask {
     Names(&'static [bool], Found),
@@ -141,9 +141,6 @@ fn could(alloc: Global, spaces: &Spaces, names: &Names, row: &Row, want: &[usize
 fn could_in(alloc: Global, spaces: &Spaces, names: &Names, row: &Row, scope: &ScopeList) -> bool
     requires { AreOrdered spaces.now names.now }
 {
-    let Ask::Could(want) = row.3 else {
-        return false;
-    };
     let Ok(mut found) = Vec::from_slice(alloc, &[9]) else {
         return false;
     };
@@ -153,20 +150,15 @@ fn could_in(alloc: Global, spaces: &Spaces, names: &Names, row: &Row, scope: &Sc
             names.push_candidates(&mut found, spaces, &word, scope),
             Ok(())
         )
-        && found.as_slice() == want
+        && are_behind_nine(found.as_slice(), row)
 }
 
-/// Both, where these stand behind the number 9.
-fn could_both(alloc: Global, spaces: &Spaces, names: &Names, row: &Row, want: &[usize]) -> bool
-    requires { AreOrdered spaces.now names.now }
-{
-    let Some((_, behind)) = want.split_first() else {
-        return false;
-    };
-    let Some(scope) = scope_of(alloc, row.2) else {
-        return false;
-    };
-    could(alloc, spaces, names, row, behind) && could_in(alloc, spaces, names, row, &scope)
+/// Whether these are the number 9 and what a word could name.
+fn are_behind_nine(found: &[usize], row: &Row) -> bool {
+    match (found, row.3) {
+        ([9, behind @ ..], Ask::Could(want)) => behind == want,
+        _ => false,
+    }
 }
 
 /// What a word names in its scope where these optionals are enabled. None where there is no such scope, or no memory.
@@ -186,7 +178,13 @@ fn is_meant(alloc: Global, spaces: &Spaces, names: &Names, row: &Row) -> bool
 {
     match row.3 {
         Ask::Names(flags, want) => named(alloc, spaces, names, row, flags) == Some(want),
-        Ask::Could(want) => could_both(alloc, spaces, names, row, want),
+        Ask::Could(want) => match scope_of(alloc, row.2) {
+            Some(scope) => {
+                could(alloc, spaces, names, row, want)
+                    && could_in(alloc, spaces, names, row, &scope)
+            }
+            None => false,
+        },
         Ask::Everywhere(want) => names.unscoped(&word(row.0, row.1)) == want,
     }
 }
@@ -282,25 +280,20 @@ const AMONG_ALIKE: &[Row] = &[
 
 /// The names that a word could name, whatever is enabled.
 const CANDIDATES: &[Row] = &[
-    (b"x", Sign::Types, &[1, 2, 0], Ask::Could(&[9, 3, 4, 2])),
-    (
-        b"x",
-        Sign::Types,
-        &[3, 2, 1, 0],
-        Ask::Could(&[9, 5, 4, 3, 2]),
-    ),
-    (b".x", Sign::Types, &[1, 2, 0], Ask::Could(&[9, 2])),
-    (b"o", Sign::Types, &[1, 0], Ask::Could(&[9, 1, 0])),
-    (b"p.q.x", Sign::Types, &[1, 0], Ask::Could(&[9, 5])),
-    (b"x", Sign::Roles, &[1, 2, 0], Ask::Could(&[9, 6])),
-    (b"x", Sign::Permission, &[1, 2, 0], Ask::Could(&[9])),
+    (b"x", Sign::Types, &[1, 2, 0], Ask::Could(&[3, 4, 2])),
+    (b"x", Sign::Types, &[3, 2, 1, 0], Ask::Could(&[5, 4, 3, 2])),
+    (b".x", Sign::Types, &[1, 2, 0], Ask::Could(&[2])),
+    (b"o", Sign::Types, &[1, 0], Ask::Could(&[1, 0])),
+    (b"p.q.x", Sign::Types, &[1, 0], Ask::Could(&[5])),
+    (b"x", Sign::Roles, &[1, 2, 0], Ask::Could(&[6])),
+    (b"x", Sign::Permission, &[1, 2, 0], Ask::Could(&[])),
     // A name that is declared once: in the scope, outside of it, of another kind, behind dots.
-    (b"y", Sign::Roles, &[1, 2, 0], Ask::Could(&[9, 7])),
-    (b"y", Sign::Roles, &[1, 3, 0], Ask::Could(&[9])),
-    (b"y", Sign::Types, &[2, 0], Ask::Could(&[9])),
-    (b"r.y", Sign::Roles, &[1, 0], Ask::Could(&[9, 7])),
-    (b".y", Sign::Roles, &[2, 0], Ask::Could(&[9])),
-    (b"n", Sign::Types, &[2, 0], Ask::Could(&[9])),
+    (b"y", Sign::Roles, &[1, 2, 0], Ask::Could(&[7])),
+    (b"y", Sign::Roles, &[1, 3, 0], Ask::Could(&[])),
+    (b"y", Sign::Types, &[2, 0], Ask::Could(&[])),
+    (b"r.y", Sign::Roles, &[1, 0], Ask::Could(&[7])),
+    (b".y", Sign::Roles, &[2, 0], Ask::Could(&[])),
+    (b"n", Sign::Types, &[2, 0], Ask::Could(&[])),
 ];
 
 /// Names in the global namespace, in another one, in both, in an optional, and of two name spaces.
@@ -326,7 +319,6 @@ const UNSCOPED: &[Row] = &[
     (b"n", Sign::Types, &[], Ask::Everywhere(None)),
 ];
 
-/// Declared names, and words.
 const TABLES: &[(&[Declared], &[Row])] = &[
     (DECLARED, NAMED),
     (DECLARED, CANDIDATES),
@@ -339,19 +331,28 @@ const TABLES: &[(&[Declared], &[Row])] = &[
     ),
 ];
 
+fn is_meant_among(alloc: Global, spaces: &Spaces, declared: &[Declared], row: &Row) -> bool {
+    match names(alloc, spaces, declared) {
+        Some(names) => is_meant(alloc, spaces, &names, row),
+        None => false,
+    }
+}
+
+fn is_meant_here(alloc: Global, declared: &[Declared], row: &Row) -> bool {
+    match spaces_of(alloc, SPACES) {
+        Some(spaces) => is_meant_among(alloc, &spaces, declared, row),
+        None => false,
+    }
+}
+
 #[test]
-fn words_name_the_first_that_is_declared(rt: HostRuntime) -> Result<(), Fail> {
-    let spaces = spaces_of(rt.alloc(), SPACES).ok_or("no memory")?;
+fn words_name_the_first_that_is_declared(rt: HostRuntime) {
     for &(declared, words) in TABLES {
-        let Some(names) = names(rt.alloc(), &spaces, declared) else {
-            return Err(Fail::from("they do not rise"));
-        };
-        for row in words {
-            let is_so = is_meant(rt.alloc(), &spaces, &names, row);
-            assert!(rt; is_so, "{:?} {:?} {:?}", row.0, row.1, row.2);
+        for (i, row) in words.iter().enumerate() {
+            let is_so = is_meant_here(rt.alloc(), declared, row);
+            assert!(rt; is_so, "word {i} of {}", words.len());
         }
     }
-    Ok(())
 }
 
 /// A class behind the class `z` of the namespace 3, and whether both rise.

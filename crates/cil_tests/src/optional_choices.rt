@@ -4,7 +4,7 @@ ghost use Rattle.cil_macros.specs.Items.{items_in, namespaces_in};
 ghost use Rattle.cil_names.specs.Entries.{AreEntries};
 ghost use Rattle.cil_names.specs.Unresolved.{ArePermissions};
 
-use crate::answers::{ByNames, FIRST, Named, NamedQuestion, is_answer, show_faults};
+use crate::answers::{ByNames, FIRST, Named, NamedQuestion, is_answer, show_counts, show_faults};
 use cil_names::OptSet;
 use cil_optionals::guesses::guess;
 use cil_optionals::laws::greatest_in_rounds;
@@ -110,7 +110,6 @@ fn reason(optional: u32, why: Option<(u32, u32)>) -> Reason {
     }
 }
 
-/// Flags for the optionals that are in. None where there is no memory.
 pub(crate) fn flags(alloc: Global, enabled: &[usize]) -> Option<OptSet> {
     let mut flags = vec![in alloc; false; FLAGS].ok()?;
     for &number in enabled {
@@ -177,7 +176,7 @@ impl NamedQuestion for Picked {
     fn answer(&self, alloc: Global, all: &Named, out: &mut String) -> bool {
         match greatest_counted(alloc, all.instances, all.names, all.permissions) {
             Ok(found) => {
-                write!(out, "{} {}", found.removals, found.lookups).is_ok()
+                show_counts(out, found.removals, found.lookups)
                     && is_checked(alloc, all, &found.chosen, true)
             }
             Err(_) => false,
@@ -185,7 +184,6 @@ impl NamedQuestion for Picked {
     }
 }
 
-/// The same of what is guessed.
 struct Guessed;
 
 impl NamedQuestion for Guessed {
@@ -193,7 +191,7 @@ impl NamedQuestion for Guessed {
         match guess(alloc, all.instances, all.names, all.permissions) {
             Ok(found) => {
                 let removals = found.chosen.reasons.len();
-                write!(out, "{removals} {}", found.lookups).is_ok()
+                show_counts(out, removals as u64, found.lookups as u64)
                     && is_checked(alloc, all, &found.chosen, true)
             }
             Err(_) => false,

@@ -107,7 +107,6 @@ const PERMISSIONS: &[Row] = &[
     (b".p.c", b"p", &[2, 0], Some(1)),
 ];
 
-/// Whether that is so.
 #[derive(Drop)]
 struct PermissionWord(Row);
 
@@ -145,7 +144,6 @@ const LISTED: &[&str] = &[
     "(block a (type t))(block b (blockinherit a)) => ",
 ];
 
-/// Which words are asked for, and what they could name.
 struct Listed;
 
 impl NamedQuestion for Listed {

@@ -79,7 +79,6 @@ fn show_opener(out: &mut String, statement: u32, opener: Option<u32>) -> bool {
     }
 }
 
-/// Adds the namespace and the scope of an entry.
 fn show_place(alloc: Global, out: &mut String, spaces: &Spaces, rank: usize) -> bool {
     let Some(number) = spaces.space(rank) else {
         return false;
@@ -94,7 +93,6 @@ fn show_scope(alloc: Global, out: &mut String, spaces: &Spaces, rank: usize) -> 
         && show_spaces(alloc, out, spaces.namespaces(), scope.as_slice())
 }
 
-/// Adds some namespaces, with a blank before each.
 fn show_spaces(alloc: Global, out: &mut String, spaces: &Namespaces, numbers: &[usize]) -> bool {
     for &number in numbers {
         if out.push_str(" ").is_err() || !show_space(alloc, out, spaces, number) {

@@ -50,7 +50,6 @@ fn show_numbers(numbering: &Numbering, out: &mut String) -> bool {
     true
 }
 
-/// Adds some names, with blanks between and in parentheses.
 fn show_names(out: &mut String, names: &[Bytes]) -> bool {
     for (i, name) in names.iter().enumerate() {
         let front = if i > 0 { " " } else { "(" };
@@ -79,7 +78,6 @@ const NUMBERED: &[&str] = &[
 const OPTIONALS: &str =
     "(optional o (type a)(optional q (type c)))(optional s (type c))(type b)(block p (optional t (type a)))";
 
-/// Which of these are enabled, and the numbers then.
 const ENABLED: &[(&[usize], &str)] = &[
     (&[], "()(object_r)(b)() 0 0 0 0 0"),
     (&[0], "()(object_r)(a b)() 0 0 1 0 0"),

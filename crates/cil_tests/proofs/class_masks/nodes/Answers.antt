@@ -1,4 +1,3 @@
-use Rattle.std.proofs.lemmas.Result.{IfOk-from_err}
 use Rattle.cil_classes.proofs.GivensLemmas.{nodes_rise}
 use Rattle.cil_tests.proofs.class_masks.nodes.Goals as goal
 
