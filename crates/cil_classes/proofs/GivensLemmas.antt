@@ -1,4 +1,4 @@
--- The nodes of what statements give something to, and what they give, as lists.
+-- What statements give, as a list.
 use Rattle.std.specs.Prelude.{Contains, IsPermutation, Option, Some, None, slice_get}
 use Rattle.std.specs.List.Retain.{DiffersFromLast, IsFiltered}
 use Rattle.std.specs.List.Sorted.{IsSorted, IsStrictlySortedBy}
@@ -8,7 +8,7 @@ use Rattle.std.specs.Ordering.{eq_by_cmp}
 use Rattle.std.proofs.Common.{◌≡◌, ℕ, true, List, [], refl, sym, ◌∙◌, ap, subst}
 use Rattle.std.proofs.lemmas.Option.{none-some, same_Some}
 use Rattle.cil_base.proofs.SortedLists.{sorted_list}
-use Rattle.cil_base.specs.Lists.{Lists, text_cmp}
+use Rattle.cil_base.specs.Lists.{text_cmp}
 use Rattle.cil_base.specs.declared.bytes.Bytes.{Bytes}
 use Rattle.cil_base.specs.Places.{get_at, get_contains}
 use Rattle.cil_base.specs.Records.{AreRecordsOf, IsRecordOf}
@@ -32,10 +32,10 @@ use Rattle.cil_classes.specs.declared.givens.Giving.{Giving}
 use Rattle.cil_classes.specs.declared.nodes.Node.{Node}
 use Rattle.cil_classes.specs.declared.row.Class.{Class}
 use Rattle.cil_classes.specs.Given.{Holder, IsGiven, by_mapping, by_set, mapped, named}
-use Rattle.cil_classes.specs.Givings.{GivesTo, HaveNodes, IsGivenBy, IsGivenFor, IsGivingOf, IsNodeFor}
+use Rattle.cil_classes.specs.Givings.{GivesTo, HaveNodes, IsGivenBy, IsGivenFor, IsGivingOf}
 use Rattle.cil_classes.specs.NodeOrder.{node_cmp, node_total, one_node, same_node}
 use Rattle.cil_classes.specs.Nodes.{IsBitOf, IsEntryOf, IsNodeIn, StandsAs}
-use Rattle.cil_classes.specs.Parts.{AreNodes, IsPartIn}
+use Rattle.cil_classes.specs.Parts.{IsPartIn}
 use Rattle.cil_classes.specs.Tied.{AreGivens, IsThere}
 use Rattle.cil_classes.proofs.AlikeLemmas.{part_alike}
 use Rattle.cil_classes.proofs.EntryForLemmas.{same_entry}
@@ -85,24 +85,7 @@ module _ (k : Known) (xs : List Item) (names : Kind → List (List ℕ)) (known 
       (((listed_are k.permissions.now n.entry k.lookup.namespaces.now k.lookup.names.now xs known.permissions stands.0.entry stands.0.at (ap (is_wanted signs.Classes) stands.0.of_kind)).members r).0
       (get_contains (listed_at k.permissions.now n.entry) n.number r stands.1))
 
--- ---- the nodes
-
--- one statement
-pub node_recorded : (k : Known) (xs : List Item) (f : Word → ScopedWord) (x : Item) (r : Giving) → IsGivingOf k xs f x r → IsRecordOf (GivesTo xs (enabled_in k)) (IsNodeFor k) x (Some r.node)
-node_recorded k xs f x r is = ((is.gift, is.by), λ g gives. subst (λ j. IsNodeFor k j r.node) (sym (is.only g gives)) is.node)
-
-module _ (k : Known) (xs : List Item) (raw : List Node) (are : AreRecordsOf (GivesTo xs (enabled_in k)) (IsNodeFor k) xs raw) (ys zs : List Node) (moved : IsPermutation raw ys) (sorted : IsSorted node_cmp ys)
-    (kept : IsFiltered (DiffersFromLast (eq_by_cmp node_cmp)) [] ys zs) where
-  list : Lists node_cmp (Contains raw) zs
-  list = sorted_list node_cmp node_total one_node raw ys zs moved sorted kept
-
-  pub they_are_nodes : AreNodes k zs
-  they_are_nodes v n at =
-      let o = are.only n ((list.members n).0 (get_contains zs v n at)) in (o.1.holder, o.4)
-
-  pub they_have_nodes : HaveNodes k xs zs
-  they_have_nodes x g c gives =
-      let e = are.each x g c gives in (e.0, (list.members e.0).1 e.2, e.1)
+-- ---- nodes that are sorted, each once
 
 pub nodes_rise : (raw ys zs : List Node) → IsPermutation raw ys → IsSorted node_cmp ys → IsFiltered (DiffersFromLast (eq_by_cmp node_cmp)) [] ys zs → IsStrictlySortedBy node_cmp zs
 nodes_rise raw ys zs moved sorted kept = (sorted_list node_cmp node_total one_node raw ys zs moved sorted kept).rising

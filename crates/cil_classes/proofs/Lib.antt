@@ -4,6 +4,7 @@ pub mod BitLemmas
 pub mod ClassRowLemmas
 pub mod CommonLemmas
 pub mod EntryForLemmas
+pub mod EntryNodes
 pub mod FormedLemmas
 pub mod GivenLemmas
 pub mod GivensLemmas

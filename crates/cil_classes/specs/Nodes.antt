@@ -1,5 +1,6 @@
 -- Class permissions, permissions of class maps and permissions of classes, by numbers. No other crate needs these words.
-use Rattle.std.specs.Prelude.{◌≡◌, ◌<◌, ◌≤◌, ℕ, List, Some, slice_get}
+use Rattle.std.specs.Prelude.{◌≡◌, ◌↔◌, ◌⊎◌, ◌<◌, ◌≤◌, ℕ, List, Contains, Some, length, slice_get}
+use Rattle.std.specs.List.Sorted.{IsStrictlySortedBy}
 use Rattle.std.specs.Global.{Vec}
 use Rattle.cil_base.specs.declared.bytes.Bytes.{Bytes}
 use Rattle.cil_syntax.specs.declared.kind.Kind.{Kind}
@@ -15,6 +16,7 @@ use Rattle.cil_classes.specs.declared.nodes.Node.{Node}
 use Rattle.cil_classes.specs.declared.nodes.Run.{Run}
 use Rattle.cil_classes.specs.declared.row.Class.{Class}
 use Rattle.cil_classes.specs.Given.{Holder, mapped, named}
+use Rattle.cil_classes.specs.NodeOrder.{node_cmp}
 
 -- the entry of this number is of this kind, and that of this symbol
 pub record IsEntryOf (ss : List Space) (es : List Entry) (kind : Kind) (d : ℕ) (c : Symbol) : Type 0 where
@@ -50,3 +52,26 @@ pub record IsBitOf (xs : List Item) (s : OptSet) (rows : List Class) (class_ bit
 pub record IsRunOf (nodes : List Node) (entry : ℕ) (run : Run) : Type 0 where
   pub of_entry : (v : ℕ) (n : Node) → run.start ≤ v → v < run.end → slice_get nodes v ≡ Some n → n.entry ≡ entry
   pub in_run : (v : ℕ) (n : Node) → slice_get nodes v ≡ Some n → n.entry ≡ entry → (run.start ≤ v) × (v < run.end)
+
+-- ---- the nodes of all entries
+
+-- the entry has a node of this number: a class permission has one, and a class map one for each permission that is listed for it
+pub record HasNode (es : List Entry) (lists : List (Vec Bytes)) (d number : ℕ) : Type 0 where
+  pub entry : Entry
+  pub at : slice_get es d ≡ Some entry
+  pub of_kind : ((entry.kind ≡ kinds.ClassPermission) × (number ≡ 0)) ⊎ ((entry.kind ≡ kinds.ClassMap) × (number < length (listed_at lists d)))
+
+-- these are the nodes of the entries
+pub record AreNodesOf (es : List Entry) (lists : List (Vec Bytes)) (nodes : List Node) : Type 0 where
+  pub rising : IsStrictlySortedBy node_cmp nodes
+  pub members : (n : Node) → Contains nodes n ↔ HasNode es lists n.entry n.number
+
+-- these are the nodes of the entries before this one
+pub record AreNodesBefore (es : List Entry) (lists : List (Vec Bytes)) (d : ℕ) (nodes : List Node) : Type 0 where
+  pub rising : IsStrictlySortedBy node_cmp nodes
+  pub members : (n : Node) → Contains nodes n ↔ ((n.entry < d) × HasNode es lists n.entry n.number)
+
+-- nodes of an entry were put behind those of entries before it: as many as these
+pub record AreWith (d count : ℕ) (old new : List Node) : Type 0 where
+  pub rising : ((n : Node) → Contains old n → n.entry < d) → IsStrictlySortedBy node_cmp old → IsStrictlySortedBy node_cmp new
+  pub members : (n : Node) → Contains new n ↔ (Contains old n ⊎ ((n.entry ≡ d) × (n.number < count)))

@@ -1,5 +1,4 @@
-//! What class permissions and the permissions of class maps are given, as masks. A node stands for one of them; what nobody gives
-//! anything has no node.
+//! What class permissions and the permissions of class maps are given, as masks. A node stands for one of them.
 
 ghost use Rattle.std.specs.Prelude.{◌≡◌, ◌<◌, ◌++◌, All, IfOk, OnOk, length};
 ghost use Rattle.std.specs.List.Sorted.{IsNonDecreasingBy};

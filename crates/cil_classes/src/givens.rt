@@ -32,7 +32,7 @@ use crate::row::Class;
 use crate::widths::listed_count;
 use cil_base::NoMemory;
 use cil_macros::Instances;
-use cil_names::{Known, Meaning, behind_first, laws, meaning_at, same_keyword};
+use cil_names::{Known, Meaning, behind_first, meaning_at, same_keyword};
 use cil_syntax::{Keyword, Kind, Statement, Term};
 use std::alloc::Global;
 
@@ -47,81 +47,6 @@ pub struct Giving<'t, 'a, 's> {
     pub module: u64,
     /// Meanings that begin with those of the words of the term.
     pub words: &'s [Meaning],
-}
-
-/// The nodes of all to which enabled statements give something: rising, each once. A statement costs a few steps; at the end the
-/// nodes are sorted. Error: out of memory.
-pub fn nodes_of(alloc: Global, instances: &Instances, known: &Known) -> Result<Vec<Node>, NoMemory>
-    requires table { IsTableOf (map (row_in known.now) (items_in instances.now)) known.now.words.now }
-    ensures rising { IfOk result (λ nodes. IsStrictlySortedBy node_cmp nodes.items) }
-    ensures nodes { IfOk result (λ nodes. (names : kinds.Kind → List (List ℕ)) → IsKnown known.now (items_in instances.now) names → AreNodes known.now nodes.items) }
-    ensures all { IfOk result (λ nodes. (names : kinds.Kind → List (List ℕ)) → IsKnown known.now (items_in instances.now) names → HaveNodes known.now (items_in instances.now) nodes.items) }
-{
-    let mut nodes = unsorted(alloc, instances, known)?;
-    nodes.sort_unstable();
-    nodes.dedup();
-    Ok(nodes)
-}
-
-/// The same, in the order of the statements.
-fn unsorted(alloc: Global, instances: &Instances, known: &Known) -> Result<Vec<Node>, NoMemory>
-    requires table { IsTableOf (map (row_in known.now) (items_in instances.now)) known.now.words.now }
-    ensures { IfOk result (λ nodes. (names : kinds.Kind → List (List ℕ)) → IsKnown known.now (items_in instances.now) names
-        → AreRecordsOf (GivesTo (items_in instances.now) (enabled_in known.now)) (IsNodeFor known.now) (items_in instances.now) nodes.items) }
-{
-    let mut nodes = Vec::new(alloc);
-    for at in 0..instances.len() {
-        if let Some(node) = node_at(alloc, instances, at, known.words.row(at), known)? {
-            nodes.push(node)?;
-        }
-    }
-    Ok(nodes)
-}
-
-/// To what the statement at a place gives something, if it is an enabled one that does.
-fn node_at(
-    alloc: Global,
-    instances: &Instances,
-    at: usize,
-    words: &[Meaning],
-    known: &Known,
-) -> Result<Option<Node>, NoMemory>
-    requires within { at < length (items_in instances.now) }
-    ensures { IfOk result (λ node. (xs : List Item) (names : kinds.Kind → List (List ℕ)) → IsKnown known.now xs names → words.now ≡ row_in known.now (item_at instances.now at)
-        → IsRecordOf (GivesTo xs (enabled_in known.now)) (IsNodeFor known.now) (item_at instances.now at) node) }
-{
-    if !maps_list(instances, at, known) {
-        return Ok(node_of(giving_at(instances, at, words, known)));
-    }
-    let terms = instances.terms(alloc, at)?;
-    Ok(node_of(mapping_giving(known, terms.as_slice(), 0, words)))
-}
-
-/// The node of what a statement gives, if it gives something.
-fn node_of(giving: Option<Giving<'_, '_, '_>>) -> Option<Node>
-    ensures { (k : Lookups) (xs : List Item) (f : AWord → ScopedWord) (x : Item) → MatchOption giving.entry ((g : Gift) → GivesTo xs (enabled_in k) x g → ⊥) (IsGivingOf k xs f x)
-        → IsRecordOf (GivesTo xs (enabled_in k)) (IsNodeFor k) x result }
-{
-    let Some(giving) = giving else {
-        return None;
-    };
-    Some(giving.node)
-}
-
-/// Whether the statement at a place is an enabled classmapping that may have a list where a word is written.
-fn maps_list(instances: &Instances, at: usize, known: &Known) -> bool
-    requires { at < length (items_in instances.now) }
-    ensures lists { IsTrue result → (item_at instances.now at).keyword ≡ keywords.ClassMapping }
-    ensures enabled { IsTrue result → is_enabled (enabled_in known.now) (item_at instances.now at) ≡ true }
-    ensures words { result ≡ false → is_enabled (enabled_in known.now) (item_at instances.now at) ≡ true → (item_at instances.now at).keyword ≡ keywords.ClassMapping → SaysItsWords instances.now at }
-{
-    if !same_keyword(instances.statement_there(at).keyword, Keyword::ClassMapping) {
-        return false;
-    }
-    if !instances.may_have_list(at) {
-        return false;
-    }
-    known.is_enabled(instances, at)
 }
 
 /// What enabled statements give, in their order, where each to which they give something has a node. Error: out of memory.
@@ -176,15 +101,20 @@ fn given_at(
         → words.now ≡ row_in known.now (item_at instances.now at)
         → IsRecordOf (GivesTo xs (enabled_in known.now)) (IsGivenFor known.now xs classes.now nodes.now) (item_at instances.now at) given) }
 {
-    if !maps_list(instances, at, known) {
-        let giving = giving_at(instances, at, words, known);
-        let given = given_of(alloc, known, classes, nodes, giving)?;
-        return Ok(given);
+    let statement = instances.statement_there(at);
+    if !known.is_enabled(instances, at) {
+        return Ok(None);
+    }
+    if same_keyword(statement.keyword, Keyword::ClassPermissionSet) {
+        let giving = set_giving(known, statement, words);
+        return given_of(alloc, known, classes, nodes, giving);
+    }
+    if !same_keyword(statement.keyword, Keyword::ClassMapping) {
+        return Ok(None);
     }
     let terms = instances.terms(alloc, at)?;
-    let giving = mapping_giving(known, terms.as_slice(), 0, words);
-    let listed = given_of(alloc, known, classes, nodes, giving)?;
-    Ok(listed)
+    let giving = mapping_giving(known, terms.as_slice(), words);
+    given_of(alloc, known, classes, nodes, giving)
 }
 
 /// The same, where this is what a statement gives.
@@ -221,34 +151,6 @@ fn given_of(
     Ok(Some(Given { to, part }))
 }
 
-/// What the statement at a place gives, if it is an enabled one that gives something to a class permission or to a permission that
-/// its class map has. It costs no look-up.
-fn giving_at<'p, 'a, 's>(
-    instances: &Instances<'_, 'p, 'a>,
-    at: usize,
-    words: &'s [Meaning],
-    known: &Known,
-) -> Option<Giving<'p, 'a, 's>>
-    requires within { at < length (items_in instances.now) }
-    requires words { is_enabled (enabled_in known.now) (item_at instances.now at) ≡ true → (item_at instances.now at).keyword ≡ keywords.ClassMapping → SaysItsWords instances.now at }
-    ensures { (xs : List Item) (names : kinds.Kind → List (List ℕ)) → IsKnown known.now xs names → words.now ≡ row_in known.now (item_at instances.now at)
-        → MatchOption result ((g : Gift) → GivesTo xs (enabled_in known.now) (item_at instances.now at) g → ⊥)
-        (IsGivingOf known.now xs (word_at instances.now at) (item_at instances.now at)) }
-{
-    let statement = instances.statement_there(at);
-    if !known.is_enabled(instances, at) {
-        return None;
-    }
-    if same_keyword(statement.keyword, Keyword::ClassPermissionSet) {
-        return set_giving(known, statement, words);
-    }
-    if same_keyword(statement.keyword, Keyword::ClassMapping) {
-        let module = statement.at.module;
-        return mapping_giving(known, statement.args.as_slice(), module, words);
-    }
-    None
-}
-
 /// What a classpermissionset gives.
 fn set_giving<'p, 'a, 's>(
     known: &Known,
@@ -274,15 +176,14 @@ fn set_giving<'p, 'a, 's>(
     })
 }
 
-/// What a classmapping gives that says these terms, or others in whose place they stand.
+/// What a classmapping gives that says these terms, which are written at no place.
 fn mapping_giving<'t, 'a, 's>(
     known: &Known,
     terms: &'t [Term<'a>],
-    module: u64,
     words: &'s [Meaning],
 ) -> Option<Giving<'t, 'a, 's>>
     ensures { (xs : List Item) (names : kinds.Kind → List (List ℕ)) (x : Item) (f : AWord → ScopedWord) → IsKnown known.now xs names → is_enabled (enabled_in known.now) x ≡ true
-        → x.keyword ≡ keywords.ClassMapping → AreAlike (all_across f (all_said «module» terms.now)) x.args → words.now ≡ row_in known.now x
+        → x.keyword ≡ keywords.ClassMapping → AreAlike (all_across f (all_said 0 terms.now)) x.args → words.now ≡ row_in known.now x
         → MatchOption result ((g : Gift) → GivesTo xs (enabled_in known.now) x g → ⊥) (IsGivingOf known.now xs f x) }
 {
     let Some(term) = mapped_term(terms) else {
@@ -300,7 +201,7 @@ fn mapping_giving<'t, 'a, 's>(
     Some(Giving {
         node: Node { entry, number },
         term,
-        module,
+        module: 0,
         words: behind_first(behind_first(words)),
     })
 }

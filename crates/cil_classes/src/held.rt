@@ -17,8 +17,8 @@ ghost use Rattle.cil_classes.specs.Held.{AreHeld, IsAssigned};
 ghost use Rattle.cil_classes.specs.Row.{AreOrderlyRows};
 
 use crate::assigned::{Given, edges_of, masks_of};
-use crate::givens::{givens_of, nodes_of};
-use crate::nodes::Node;
+use crate::givens::givens_of;
+use crate::nodes::{Node, nodes_of};
 use crate::row::Class;
 use cil_base::NoMemory;
 use cil_macros::Instances;
@@ -37,15 +37,16 @@ pub struct ClassMasks {
 /// What enabled statements give to class permissions and to permissions of class maps.
 #[derive(Drop)]
 pub struct GivenPermissions {
-    /// The nodes of all that are given something: rising, each once.
+    /// The nodes of all that may be given something, whether a statement gives them anything or not: rising, each once.
     pub nodes: Vec<Node>,
     /// What they have, for each class of which some statement gives permissions, classes rising.
     pub held: Vec<ClassMasks>,
 }
 
 /// What the enabled statements of a policy give to class permissions and to permissions of class maps: the least that satisfies all
-/// of them. A policy without such statements costs a step for each statement. Each class of which something is given costs a step
-/// for each node and each statement that gives something, and the walk of the masks. Error: out of memory.
+/// of them. A policy without such statements costs a step for each statement, each declared name and each permission of a class map.
+/// Each class of which something is given costs a step for each node and each statement that gives something, and the walk of the
+/// masks. Error: out of memory.
 pub fn given_permissions(
     alloc: Global,
     instances: &Instances,
@@ -58,7 +59,7 @@ pub fn given_permissions(
     requires apart { AreApart known.now.lookup.names.now (enabled_in known.now) known.now.numbers.now }
     ensures { IfOk result (IsAssigned known.now (items_in instances.now) classes.now) }
 {
-    let nodes = nodes_of(alloc, instances, known)?;
+    let nodes = nodes_of(alloc, known.lookup.names.entries(), known.permissions)?;
     let givens = givens_of(alloc, instances, known, classes, nodes.as_slice())?;
     let held = held_of(alloc, givens.as_slice(), nodes.len())?;
     Ok(GivenPermissions { nodes, held })

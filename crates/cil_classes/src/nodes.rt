@@ -1,12 +1,17 @@
 //! Nodes: class permissions and permissions of class maps, by numbers.
 
-ghost use Rattle.std.specs.Prelude.{◌≡◌, ◌≤◌, ◌<◌, ℕ, IfSome, IfNone, Some, length, refl, slice_get};
+ghost use Rattle.std.specs.Prelude.{◌≡◌, ◌↔◌, ◌≤◌, ◌<◌, ℕ, IfOk, IfSome, IfNone, IsTrue, OnOk, Some, length, refl, slice_get};
 ghost use Rattle.std.specs.Cmp.{eq_by_cmp_equiv, partial_equiv_from_equiv, partial_order_from_total};
 ghost use Rattle.std.specs.List.Sorted.{IsNonDecreasingBy, IsPartitionPoint, IsStrictlySortedBy};
 ghost use Rattle.std.specs.Ordering.{as_partial_cmp, eq_by_cmp};
 ghost use Rattle.cil_classes.specs.NodeOrder.{node_cmp, node_total};
-ghost use Rattle.cil_classes.specs.Nodes.{IsRunOf};
+ghost use Rattle.cil_classes.specs.Nodes.{AreNodesOf, AreWith, HasNode, IsRunOf};
 
+use crate::widths::listed_count;
+use cil_base::{Bytes, NoMemory};
+use cil_names::Entry;
+use cil_syntax::Kind;
+use std::alloc::Global;
 use std::cmp::Ordering;
 
 /// What statements give permissions to: a class permission, or a permission of a class map. Nodes are compared by the entry, and
@@ -57,6 +62,55 @@ impl Ord for Node {
             .cmp(&other.entry)
             .then(self.number.cmp(&other.number))
     }
+}
+
+/// The nodes of these entries, where permissions are listed for each that is a class map: one of each class permission, and one of
+/// each permission of a class map, rising. It costs a step for each entry and each node. Error: out of memory.
+pub fn nodes_of(
+    alloc: Global,
+    entries: &[Entry],
+    permissions: &[Vec<Bytes>],
+) -> Result<Vec<Node>, NoMemory>
+    ensures { IfOk result (λ nodes. AreNodesOf entries.now permissions.now nodes.items) }
+{
+    let mut nodes = Vec::new(alloc);
+    for entry in 0..entries.len() {
+        push_nodes(&mut nodes, entry, count_at(entries, permissions, entry))?;
+    }
+    Ok(nodes)
+}
+
+/// How many nodes an entry has.
+fn count_at(entries: &[Entry], permissions: &[Vec<Bytes>], d: usize) -> usize
+    ensures { (number : ℕ) → (number < result) ↔ HasNode entries.now permissions.now d number }
+{
+    let Some(entry) = entries.get(d) else {
+        return 0;
+    };
+    if is_same(entry.kind, Kind::ClassPermission) {
+        return 1;
+    }
+    if is_same(entry.kind, Kind::ClassMap) {
+        return listed_count(permissions, d);
+    }
+    0
+}
+
+/// Whether two kinds are one.
+pub fn is_same(a: Kind, b: Kind) -> bool
+    ensures { IsTrue result ↔ (a ≡ b) }
+{
+    a == b
+}
+
+/// Adds the nodes of an entry that has this many.
+fn push_nodes(nodes: &mut Vec<Node>, entry: usize, count: usize) -> Result<(), NoMemory>
+    ensures { OnOk result (AreWith entry count nodes.old.items nodes.new.items) }
+{
+    for number in 0..count {
+        nodes.push(Node { entry, number })?;
+    }
+    Ok(())
 }
 
 /// Nodes that stand side by side, by their places: from the start on, up to the end.

@@ -23,7 +23,7 @@ ghost use Rattle.cil_classes.specs.Row.{AreOrderlyRows};
 use crate::assigned::Part;
 use crate::expression::holds;
 use crate::given::given_by;
-use crate::nodes::{Node, Run, run_of};
+use crate::nodes::{Node, Run, is_same, run_of};
 use crate::row::Class;
 use cil_base::NoMemory;
 use cil_names::{Known, Meaning, behind_first, laws, meaning_at};
@@ -191,10 +191,4 @@ pub fn entry_of(known: &Known, kind: Kind, meaning: Option<usize>) -> Option<usi
         return None;
     }
     Some(d)
-}
-
-fn is_same(a: Kind, b: Kind) -> bool
-    ensures { IsTrue result ↔ (a ≡ b) }
-{
-    a == b
 }

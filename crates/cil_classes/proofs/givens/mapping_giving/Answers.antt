@@ -9,19 +9,17 @@ use Rattle.cil_classes.proofs.givens.mapping_giving.Goals as goal
 pub returns-in_default : goal.returns-in_default
 returns-in_default c = λ xs names x f known enabled is alike are.
     let k = c.args.known.now in
-    let m = c.args.«module» in
-    let args = all_said m c.args.terms.now in
+    let args = all_said 0 c.args.terms.now in
     let y = with_args x (all_across f args) in
     none_given k xs x y is (like_args x (all_across f args) alike)
-    (gives_no_mapping k xs names known y f args refl is (c.in_default.ensures m))
+    (gives_no_mapping k xs names known y f args refl is (c.in_default.ensures 0))
 
 pub returns-in_default-entry_of : goal.returns-in_default-entry_of
 returns-in_default-entry_of c = λ xs names x f known enabled is alike are.
     let k = c.args.known.now in
-    let m = c.args.«module» in
-    let args = all_said m c.args.terms.now in
-    let t = said_of m c.in-Some.term.now in
-    let form = c.in-Some.ensures m in
+    let args = all_said 0 c.args.terms.now in
+    let t = said_of 0 c.in-Some.term.now in
+    let form = c.in-Some.ensures 0 in
     let y = with_args x (all_across f args) in
     let row = are ∙ row_alike k x (all_across f args) alike in
     none_given k xs x y is (like_args x (all_across f args) alike)
@@ -31,10 +29,9 @@ returns-in_default-entry_of c = λ xs names x f known enabled is alike are.
 pub returns-in_default-meaning_at : goal.returns-in_default-meaning_at
 returns-in_default-meaning_at c = λ xs names x f known enabled is alike are.
     let k = c.args.known.now in
-    let m = c.args.«module» in
-    let args = all_said m c.args.terms.now in
-    let t = said_of m c.in-Some.term.now in
-    let form = c.in-Some.ensures m in
+    let args = all_said 0 c.args.terms.now in
+    let t = said_of 0 c.in-Some.term.now in
+    let form = c.in-Some.ensures 0 in
     let y = with_args x (all_across f args) in
     let row = are ∙ row_alike k x (all_across f args) alike in
     none_given k xs x y is (like_args x (all_across f args) alike)
@@ -45,10 +42,9 @@ returns-in_default-meaning_at c = λ xs names x f known enabled is alike are.
 pub returns-then-number-listed_count : goal.returns-then-number-listed_count
 returns-then-number-listed_count c = λ xs names x f known enabled is alike are.
     let k = c.args.known.now in
-    let m = c.args.«module» in
-    let args = all_said m c.args.terms.now in
-    let t = said_of m c.in-Some.term.now in
-    let form = c.in-Some.ensures m in
+    let args = all_said 0 c.args.terms.now in
+    let t = said_of 0 c.in-Some.term.now in
+    let form = c.in-Some.ensures 0 in
     let y = with_args x (all_across f args) in
     let row = are ∙ row_alike k x (all_across f args) alike in
     none_given k xs x y is (like_args x (all_across f args) alike)
@@ -59,10 +55,9 @@ returns-then-number-listed_count c = λ xs names x f known enabled is alike are.
 pub returns : goal.returns
 returns c = λ xs names x f known enabled is alike are.
     let k = c.args.known.now in
-    let m = c.args.«module» in
-    let args = all_said m c.args.terms.now in
-    let t = said_of m c.in-Some.term.now in
-    let form = c.in-Some.ensures m in
+    let args = all_said 0 c.args.terms.now in
+    let t = said_of 0 c.in-Some.term.now in
+    let form = c.in-Some.ensures 0 in
     let y = with_args x (all_across f args) in
     let row = are ∙ row_alike k x (all_across f args) alike in
     given_like k xs x y is (like_args x (all_across f args) alike) f _
