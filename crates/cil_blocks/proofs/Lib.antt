@@ -3,8 +3,8 @@ pub mod Begun
 pub mod BranchExamples
 pub mod ChainNumbers
 pub mod ContentLemmas
+pub mod CoverLemmas
 pub mod CycleLemmas
-pub mod CycleSearch
 pub mod DoubledLemmas
 pub mod EntryLemmas
 pub mod FaultExamples
@@ -12,12 +12,12 @@ pub mod FirstNamed
 pub mod FlatContents
 pub mod Given
 pub mod GoneUp
+pub mod GraphLemmas
 pub mod InheritLemmas
 pub mod Keeping
 pub mod Kept
 pub mod KnownNumbers
 pub mod LawLemmas
-pub mod MarkLemmas
 pub mod MemberLemmas
 pub mod NameLemmas
 pub mod NamespaceKeys

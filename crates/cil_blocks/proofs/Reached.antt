@@ -82,6 +82,9 @@ module _ {X : Type 0} (eq : X → X → Bool) (same : (x y : X) → eq x y ≡ t
 
 -- ---- the queue
 
+up_to_last : (k n : ℕ) → k < n + 1 → (k < n) ⊎ (k ≡ n)
+up_to_last k n h = grind arith
+
 module _ {X : Type 0} (opens : X → X → Type 0) (start : X) where
   pub record AreSoFar (at : ℕ) (xs : List X) : Type 0 where
     pub reached : (x : X) → Contains xs x → IsReachedBy opens start x
@@ -118,6 +121,20 @@ module _ {X : Type 0} (opens : X → X → Type 0) (start : X) where
       } where
         places : (k n : ℕ) → k < n + 1 → (k < n) ⊎ (k ≡ n)
         places k n h = grind arith
+
+  -- one that opens nothing but what an earlier one opens need not be opened
+  pub one_skipped : (at j : ℕ) (xs : List X) (s c : X) → slice_get xs at ≡ Some s → j < at → slice_get xs j ≡ Some c → ((y : X) → opens s y → opens c y)
+      → AreSoFar at xs → AreSoFar (at + 1) xs
+  one_skipped at j xs s c here early there less so = record {
+    reached = so.reached;
+    begun = so.begun;
+    opened = λ k x y h f o. elim (up_to_last k at h) [
+      | inl below ↦ so.opened k x y below f o
+      | inr last ↦ so.opened j c y early there
+          (less y (subst (λ z. opens z y) (some_same x s (sym f ∙ ap (slice_get xs) last ∙ here)) o))
+    ];
+    within = let h = in_range xs at s here in omega (arith, h);
+  }
 
   -- at the end it has exactly what is reached
   pub all_opened : (at : ℕ) (xs : List X) → length xs ≤ at → AreSoFar at xs → AreThose (IsReachedBy opens start) xs
@@ -178,6 +195,23 @@ module _ {X : Type 0} (opens : X → X → Type 0) (start : X) where
                 (some_same t.teller s (sym t.is_teller ∙ ap (λ zs. slice_get zs t.place) longer ∙ get_in_front xs behind t.place (omega (arith, last, inside)) ∙ ap (slice_get xs) last ∙ here))
                 t.told)
           ]
+
+    pub skip_told : (at j : ℕ) (xs : List X) (s c : X) (found : List ℕ) → slice_get xs at ≡ Some s → j < at → slice_get xs j ≡ Some c
+        → ((i : ℕ) → tells s i → tells c i) → AreThose (IsToldBy at xs) found → AreThose (IsToldBy (at + 1) xs) found
+    skip_told at j xs s c found here early there less are i = (
+      (λ d. let t = (are i).0 d in let h = t.before in
+          record { place = t.place; teller = t.teller; before = omega (arith, h); is_teller = t.is_teller; told = t.told }),
+      (λ t. (are i).1 (elim (up_to_last t.place at t.before) [
+        | inl below ↦ record { place = t.place; teller = t.teller; before = below; is_teller = t.is_teller; told = t.told }
+        | inr last ↦ record {
+          place = j;
+          teller = c;
+          before = early;
+          is_teller = there;
+          told = less i (subst (λ z. tells z i) (some_same t.teller s (sym t.is_teller ∙ ap (slice_get xs) last ∙ here)) t.told);
+        }
+      ])),
+    )
 
     -- at the end exactly what those that are reached tell
     pub all_told : (at : ℕ) (xs : List X) (found : List ℕ) → length xs ≤ at → AreSoFar at xs → AreThose (IsToldBy at xs) found

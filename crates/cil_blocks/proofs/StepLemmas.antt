@@ -1,14 +1,14 @@
 -- Steps between numbers are those of the definition between statements.
-use Rattle.std.proofs.Common.{◌≡◌, ◌⊎◌, ℕ, ◌+◌, ◌<◌, ◌≤◌, Bool, true, false, List, [], ◌∷◌, ◌++◌, length, take, refl, sym, ◌∙◌, ap, subst, inl, inr, arith}
-use Rattle.std.specs.Prelude.{◌↔◌, Contains, IsTrue, Option, Some, None, slice_get}
-use Rattle.std.proofs.lemmas.List.{take_all}
+use Rattle.std.proofs.Common.{◌≡◌, ◌⊎◌, ℕ, ◌+◌, ◌<◌, ◌≤◌, ◌==◌, Bool, true, false, List, [], ◌∷◌, ◌++◌, length, get_or, refl, sym, ◌∙◌, ap, subst, inl, inr, arith}
+use Rattle.std.specs.Prelude.{◌↔◌, Contains, IsTrue}
 use Rattle.std.proofs.lemmas.List.Elements.{Contains-append_left, Contains-append_right, Contains-append_cases}
-use Rattle.cil_base.specs.Lists.{contains_here}
+use Rattle.cil_base.specs.Lists.{contains_cases, contains_here, contains_none}
 use Rattle.cil_syntax.specs.declared.kind.Keyword.{Keyword}
 use Rattle.cil_syntax.specs.declared.kind.Keyword.TheVariants as keywords
 use Rattle.cil_syntax.specs.declared.program.Statement.{Statement}
-use Rattle.cil_syntax.specs.Program.{IsNested, program_of}
-use Rattle.cil_syntax.specs.Written.{Context, Written, written_cmp, written_total}
+use Rattle.cil_syntax.specs.Program.{IsNested, has_body, program_of}
+use Rattle.cil_syntax.specs.Table.{entry_of}
+use Rattle.cil_syntax.specs.Written.{Written, written_cmp, written_total}
 use Rattle.cil_blocks.specs.declared.parts.Parts.{Parts}
 use Rattle.cil_blocks.specs.declared.targets.Targets.{Targets}
 use Rattle.cil_blocks.specs.Contents.{IsIn, Target, is_block, is_inheriting}
@@ -16,13 +16,13 @@ use Rattle.cil_blocks.specs.Entries.{AreParts, nothing, parts_at, statement_at}
 use Rattle.cil_blocks.specs.Leads as leads
 use Rattle.cil_blocks.specs.Leads.{IsOnCycle, Leads, here, nested}
 use Rattle.cil_blocks.specs.Named.{AreAllTargets, targets_in}
-use Rattle.cil_blocks.specs.Steps.{AreOnCycles, IsStep, LeadBack, NeverRise, Reaches, StayBelow, itself, level_at, onward}
+use Rattle.cil_blocks.specs.Steps.{AreFlags, AreOnCycles, ComesBack, Fall, HasTarget, HasWayBack, HaveWayBack, IsStep, NoneComesBack, Reaches, StayBelow, itself, level_at, onward}
 use Rattle.cil_base.specs.MadeLists.{contains_map, from_map}
-use Rattle.cil_base.specs.Places.{get_contains, get_so, in_range, is_there}
+use Rattle.cil_base.specs.Places.{get_contains, is_there}
 use Rattle.cil_base.specs.Rising.{tied_places}
-use Rattle.cil_blocks.proofs.MarkLemmas.{only_one}
 use Rattle.cil_blocks.specs.OneStanding.{first_of_three}
-use Rattle.cil_blocks.proofs.ProgramLemmas.{in_number, stands_under, tied, written_at}
+use Rattle.cil_blocks.proofs.FirstNamed.{nothing_there, some_there}
+use Rattle.cil_blocks.proofs.ProgramLemmas.{in_number, kept_at, tied}
 use Rattle.cil_blocks.proofs.StandingWalk.{in_parts, parts_of}
 
 pub or_last : (i n : ℕ) → i < n + 1 → (i < n) ⊎ (i ≡ n)
@@ -31,57 +31,56 @@ or_last i n h = grind arith
 -- ---- levels
 
 module _ (ps : Parts) (ts : Targets) (n : ℕ) where
-  reach_below : (a k : ℕ) → StayBelow ps ts n → a < n → Reaches ps ts a k → k < n
+  pub reach_below : (a k : ℕ) → StayBelow ps ts n → a < n → Reaches ps ts a k → k < n
   reach_below a k stay h itself = h
   reach_below a k stay h (onward q k' r s) = stay q k s
 
   -- the level does not rise along any number of steps
-  falls : (levels : List ℕ) (a k : ℕ) → StayBelow ps ts n → NeverRise ps ts n levels → a < n → Reaches ps ts a k → level_at levels k ≤ level_at levels a
-  falls levels a k stay never h itself = omega arith
-  falls levels a k stay never h (onward q k' r s) =
-      let one = never q k (reach_below a q stay h r) s in
-      let rest = falls levels a q stay never h r in
+  never_rises : (levels : List ℕ) (a k : ℕ) → StayBelow ps ts n → Fall ps ts n levels → a < n → Reaches ps ts a k → level_at levels k ≤ level_at levels a
+  never_rises levels a k stay fall h itself = omega arith
+  never_rises levels a k stay fall h (onward q k' r s) =
+      let one = fall q k (reach_below a q stay h r) s in
+      let rest = never_rises levels a q stay fall h r in
       omega (arith, one, rest)
 
-  pub too_low : (levels : List ℕ) (a k : ℕ) → StayBelow ps ts n → NeverRise ps ts n levels → a < n → level_at levels a < level_at levels k → Reaches ps ts a k → ⊥
-  too_low levels a k stay never h lower r = let f = falls levels a k stay never h r in omega (arith, f, lower)
-
-  pub none_leads : (numbers : List ℕ) (i to : ℕ) → length numbers ≤ i → ((b : ℕ) → Contains (take i numbers) b → Reaches ps ts b to → ⊥)
-      → LeadBack ps ts numbers (Some to) → ⊥
-  none_leads numbers i to over none back = none back.0 (subst (λ xs. Contains xs back.0) (sym (take_all i numbers over)) back.1) back.2
+  pub none_back : (levels : List ℕ) → StayBelow ps ts n → Fall ps ts n levels → NoneComesBack ps ts n
+  none_back levels stay fall i h c =
+      let one = fall i c.next h c.is_step in
+      let rest = never_rises levels c.next i stay fall (stay i c.next c.is_step) c.further in
+      omega (arith, one, rest)
 
   -- one more statement, with its level, the statements in it and its targets
   pub still_falls : (levels inside named : List ℕ) (level : ℕ) → level ≡ level_at levels n → inside ≡ parts_at ps n → named ≡ targets_in ts n
-      → ((k : ℕ) → Contains inside k → level_at levels k ≤ level) → ((k : ℕ) → Contains named k → level_at levels k ≤ level) → NeverRise ps ts n levels
-      → NeverRise ps ts (n + 1) levels
-  still_falls levels inside named level l p t f g never q k h s =
+      → ((k : ℕ) → Contains inside k → level_at levels k < level) → ((k : ℕ) → Contains named k → level_at levels k < level) → Fall ps ts n levels
+      → Fall ps ts (n + 1) levels
+  still_falls levels inside named level l p t f g fall q k h s =
       elim (or_last q n h) [
-        | inl below ↦ never q k below s
-        | inr same ↦ let last : level_at levels k ≤ level_at levels n = of_last k (subst (λ x. IsStep ps ts x k) same s) in
-            subst (λ x. level_at levels k ≤ level_at levels x) (sym same) last
+        | inl below ↦ fall q k below s
+        | inr same ↦ let last : level_at levels k < level_at levels n = of_last k (subst (λ x. IsStep ps ts x k) same s) in
+            subst (λ x. level_at levels k < level_at levels x) (sym same) last
       ] where
-        of_last : (k : ℕ) → IsStep ps ts n k → level_at levels k ≤ level_at levels n
+        of_last : (k : ℕ) → IsStep ps ts n k → level_at levels k < level_at levels n
         of_last k (inl c) = let h = f k (subst (λ xs. Contains xs k) (sym p) c) in omega (arith, h, l)
         of_last k (inr c) = let h = g k (subst (λ xs. Contains xs k) (sym t) c) in omega (arith, h, l)
 
-block_inherits_not : (k : Keyword) → is_block k ≡ true → is_inheriting k ≡ false
-block_inherits_not keywords.Block e = refl
-block_inherits_not k e = absurd (let f : false ≡ true = e in cc)
+-- ---- the statements that come back
 
--- ---- the blockinherits on cycles among the first so many statements
+one_of : (xs : List ℕ) → (xs ≡ [] → ⊥) → (k : ℕ) × Contains xs k
+one_of [] none = absurd (none refl)
+one_of (x ∷ xs) none = (x, contains_here x xs)
 
-abbrev pub LiesOnCycle : List Written → ℕ → Type 0
-LiesOnCycle ws i = (is_inheriting (statement_at ws i).statement.keyword ≡ true) × IsOnCycle ws (statement_at ws i)
+only_one : (x k : ℕ) → Contains (x ∷ []) k → x ≡ k
+only_one x k c = elim (contains_cases k x [] c) [ inl e ↦ e | inr d ↦ absurd (contains_none k d) ]
 
-abbrev pub AreOnCyclesUpTo : List Written → ℕ → List ℕ → Type 0
-AreOnCyclesUpTo ws n found = (i : ℕ) → Contains found i ↔ ((i < n) × LiesOnCycle ws i)
+module _ (ps : Parts) (ts : Targets) where
+  pub none_found : (found : List ℕ) → found ≡ [] → HaveWayBack ps ts 0 found
+  none_found found e i = ((λ c. absurd (contains_none i (subst (λ xs. Contains xs i) e c))), (λ h. let below = h.0 in absurd (omega (arith, below))))
 
-module _ (ws : List Written) where
-  pub one_cycle : (n : ℕ) (old new : List ℕ) → LiesOnCycle ws n → AreOnCyclesUpTo ws n old → new ≡ old ++ n ∷ [] → AreOnCyclesUpTo ws (n + 1) new
-  one_cycle n old new lies so e i = (
+  pub one_found : (n : ℕ) (old new : List ℕ) → HasWayBack ps ts n → new ≡ old ++ n ∷ [] → HaveWayBack ps ts n old → HaveWayBack ps ts (n + 1) new
+  one_found n old new back e so i = (
     (λ c. elim (Contains-append_cases old (n ∷ []) i (subst (λ xs. Contains xs i) e c)) [
       | inl d ↦ let h = (so i).0 d in let below = h.0 in (omega (arith, below), h.1)
-      | inr d ↦ let same = only_one n i d in (omega (arith, same), subst (LiesOnCycle ws) same lies)
+      | inr d ↦ let same = only_one n i d in (omega (arith, same), subst (HasWayBack ps ts) same back)
     ]),
     (λ h. subst (λ xs. Contains xs i) (sym e) (elim (or_last i n h.0) [
       | inl below ↦ Contains-append_left old (n ∷ []) i ((so i).1 (below, h.1))
@@ -89,20 +88,44 @@ module _ (ws : List Written) where
     ])),
   )
 
-  pub no_cycle : (n : ℕ) (found : List ℕ) → (LiesOnCycle ws n → ⊥) → AreOnCyclesUpTo ws n found → AreOnCyclesUpTo ws (n + 1) found
-  no_cycle n found not so i = (
+  pub none_more : (n : ℕ) (found : List ℕ) → (HasWayBack ps ts n → ⊥) → HaveWayBack ps ts n found → HaveWayBack ps ts (n + 1) found
+  none_more n found not so i = (
     (λ c. let h = (so i).0 c in let below = h.0 in (omega (arith, below), h.1)),
     (λ h. elim (or_last i n h.0) [
       | inl below ↦ (so i).1 (below, h.1)
-      | inr same ↦ absurd (not (subst (LiesOnCycle ws) same h.1))
+      | inr same ↦ absurd (not (subst (HasWayBack ps ts) same h.1))
     ]),
   )
 
-  pub all_cycles : (n : ℕ) (found : List ℕ) → n ≡ length ws → AreOnCyclesUpTo ws n found → AreOnCycles ws found
-  all_cycles n found l so i = (
-    (λ c. let h = (so i).0 c in let below = h.0 in (omega (arith, below, l), h.1.0, h.1.1)),
-    (λ h. let below = h.0 in (so i).1 (omega (arith, below, l), (h.1, h.2))),
-  )
+  -- the flag of a statement that has a target tells whether it comes back
+  pub flagged_back : (n i : ℕ) (flags : List Bool) (b : Bool) → i < n → AreFlags ps ts n flags → b ≡ true
+      → IsTrue b ↔ (HasTarget ts i × (get_or flags i false ≡ true)) → HasWayBack ps ts i
+  flagged_back n i flags b h are t so = let is = so.0 t in (is.0, (are i h).0 is.1)
+
+  pub not_back : (n i : ℕ) (flags : List Bool) (b : Bool) → i < n → AreFlags ps ts n flags → b ≡ false
+      → IsTrue b ↔ (HasTarget ts i × (get_or flags i false ≡ true)) → HasWayBack ps ts i → ⊥
+  not_back n i flags b h are f so back = let t : false ≡ true = sym f ∙ so.1 (back.0, (are i h).1 back.1) in absurd (cc)
+
+pub no_target : (ts : Targets) (i : ℕ) (flags : List Bool) (ks : List ℕ) → ks ≡ targets_in ts i → true ≡ (length ks == 0)
+    → IsTrue false ↔ (HasTarget ts i × (get_or flags i false ≡ true))
+no_target ts i flags ks e t = ((λ x. absurd (let f : false ≡ true = x in cc)), (λ h. absurd (h.0 (sym e ∙ nothing_there ks t))))
+
+pub has_flag : (ts : Targets) (i : ℕ) (flags : List Bool) (ks : List ℕ) (b : Bool) → ks ≡ targets_in ts i → false ≡ (length ks == 0) → b ≡ get_or flags i false
+    → IsTrue b ↔ (HasTarget ts i × (get_or flags i false ≡ true))
+has_flag ts i flags ks b e f is = ((λ t. ((λ none. some_there ks f (e ∙ none)), sym is ∙ t)), (λ h. is ∙ h.1))
+
+block_inherits_not : (k : Keyword) → is_block k ≡ true → is_inheriting k ≡ false
+block_inherits_not keywords.Block e = refl
+block_inherits_not k e = absurd (let f : false ≡ true = e in cc)
+
+-- what is inherited has no body
+inherits_has_none : (k : Keyword) → is_inheriting k ≡ true → has_body (entry_of k).body ≡ true → ⊥
+unfolding entry_of
+inherits_has_none keywords.BlockInherit e t = let f : false ≡ true = t in cc
+inherits_has_none k e t = let f : false ≡ true = e in cc
+
+abbrev LiesOnCycle : List Written → ℕ → Type 0
+LiesOnCycle ws i = (is_inheriting (statement_at ws i).statement.keyword ≡ true) × IsOnCycle ws (statement_at ws i)
 
 -- ---- steps between statements
 
@@ -186,50 +209,54 @@ module _ (ss : List Statement) (ordered : IsNested ss) (ps : Parts) (ts : Target
 
   -- ---- cycles
 
-  led_is_written : (a w : Written) → Contains ws a → Leads ws a w → Contains ws w
-  led_is_written a w c here = c
-  led_is_written a w c (nested q p l d i) = d
-  led_is_written a w c (leads.handed q v p l d i e t) = t.is_written
+  -- nothing is in a blockinherit
+  no_parts : (q k : ℕ) → q < length ws → is_inheriting (statement_at ws q).statement.keyword ≡ true → Contains (parts_at ps q) k → ⊥
+  no_parts q k h e c =
+      let p = part_written q k h c in
+      let below = are_parts.are_numbers q k c in
+      let s = kept_at ss ordered k (statement_at ws k) (is_there ws k nothing below) in
+      let m = in_number ss ordered k s.0 (statement_at ws k) (statement_at ws q) s.1 (is_there ws k nothing below) (there q h) p.1 in
+      let r = kept_at ss ordered m.0 (statement_at ws q) m.3 in
+      let body = ordered.opened s.0 r.0 m.0 (get_contains ss k s.0 s.1) m.1 r.1 in
+      inherits_has_none r.0.keyword (subst (λ (w : Written). is_inheriting w.statement.keyword ≡ true) r.2 e) body
 
-  back_by : (under : Option ℕ) (i : ℕ) (s : Statement) → slice_get ss i ≡ Some s → s.under ≡ under → i < length ws → LiesOnCycle ws i
-      → (r : ℕ) × (under ≡ Some r) × LeadBack ps ts (targets_in ts i) (Some r)
-  back_by under i s e u h (inherits, cycle) =
-      let b = are_targets.all i cycle.target h inherits cycle.is_target in
-      let below = (are_targets.named i b.0 b.1).0 in
-      let n = numbered b.0 cycle.round below (subst (λ (x : Written). Leads ws x cycle.round) (sym b.2) cycle.leads) in
-      let written : Contains ws cycle.round = led_is_written cycle.target cycle.round cycle.is_target.is_written cycle.leads in
-      let k = in_number ss ordered i s (statement_at ws i) cycle.round e (is_there ws i nothing h) written cycle.is_round in
-      let early = k.2 in
-      let same : n.number ≡ k.0 = one_number n.number k.0 n.below (omega (arith, early, h)) (n.same ∙ sym (get_so ws k.0 cycle.round nothing k.3)) in
-      (k.0, sym u ∙ k.1, (b.0, b.1, subst (Reaches ps ts b.0) same n.reached))
-
-  on_cycle_back : (i : ℕ) (s : Statement) → slice_get ss i ≡ Some s → i < length ws → LiesOnCycle ws i → LeadBack ps ts (targets_in ts i) s.under
-  on_cycle_back i s e h c = let b = back_by s.under i s e refl h c in subst (LeadBack ps ts (targets_in ts i)) (sym b.1) b.2
-
-  on_cycle_by : (under : Option ℕ) (i : ℕ) (s : Statement) → slice_get ss i ≡ Some s → s.under ≡ under → i < length ws → LeadBack ps ts (targets_in ts i) under → LiesOnCycle ws i
-  on_cycle_by None i s e u h none = absurd none
-  on_cycle_by (Some r) i s e u h (b, c, reached) =
+  on_cycle_by : (i b : ℕ) → is_inheriting (statement_at ws i).statement.keyword ≡ true → Contains (targets_in ts i) b → Reaches ps ts b i → IsOnCycle ws (statement_at ws i)
+  on_cycle_by i b e c r =
       let is = are_targets.named i b c in
-      let l = led b r is.0 (target_is_block i b c) reached in
-      let p = stands_under ss ordered i r s (statement_at ws i) e (is_there ws i nothing h) u in
-      let same : statement_at ws r ≡ p.0 = get_so ws r p.0 nothing p.1 in (
-        (are_targets.inheriting i b c).1,
-        record {
-          target = statement_at ws b;
-          is_target = is.1;
-          round = statement_at ws r;
-          is_round = ap (λ (x : Context). x.under) p.2 ∙ ap (λ (w : Written). Some w.statement.at) (sym same);
-          leads = l.leads;
-        },
+      let round = (led b i is.0 (target_is_block i b c) r).round e in
+      record { target = statement_at ws b; is_target = is.1; round = round.0; is_round = round.2; leads = round.1 }
+
+  lies : (i : ℕ) → i < length ws → HasTarget ts i → ComesBack ps ts i → LiesOnCycle ws i
+  lies i h some c =
+      let t = one_of (targets_in ts i) some in
+      let e = (are_targets.inheriting i t.0 t.1).1 in (
+        e,
+        elim c.is_step [
+          | inl part ↦ absurd (no_parts i c.next h e part)
+          | inr target ↦ on_cycle_by i c.next e target c.further
+        ],
       )
 
-  -- what is found of a statement is right
-  is_number : (i : ℕ) (s : Statement) → slice_get ss i ≡ Some s → i < length ws
-  is_number i s e = in_range ws i _ (written_at ss ordered i s e)
+  comes_back : (i : ℕ) → i < length ws → LiesOnCycle ws i → HasWayBack ps ts i
+  comes_back i h (e, cycle) =
+      let b = are_targets.all i cycle.target h e cycle.is_target in
+      let below = (are_targets.named i b.0 b.1).0 in
+      let n = numbered b.0 cycle.round below (subst (λ (x : Written). Leads ws x cycle.round) (sym b.2) cycle.leads) in
+      let k = part_number n.number (statement_at ws i) n.below (there i h) (subst (IsIn (statement_at ws i)) (sym n.same) cycle.is_round) in
+      let same : k.0 ≡ i = one_number k.0 i (are_parts.are_numbers n.number k.0 k.1) h k.2 in (
+        (λ none. contains_none b.0 (subst (λ xs. Contains xs b.0) none b.1)),
+        record { next = b.0; is_step = inr b.1; further = subst (Reaches ps ts b.0) same (onward n.number k.0 n.reached (inl k.1)) },
+      )
 
-  pub is_on_cycle : (i : ℕ) (s : Statement) (b : Bool) → slice_get ss i ≡ Some s → b ≡ true → IsTrue b ↔ LeadBack ps ts (targets_in ts i) s.under → LiesOnCycle ws i
-  is_on_cycle i s b e t so = on_cycle_by s.under i s e refl (is_number i s e) (so.0 t)
+  -- what is found among so many statements is right
+  pub cycles_are : (n : ℕ) (found : List ℕ) → n ≡ length ws → HaveWayBack ps ts n found → AreOnCycles ws found
+  cycles_are n found l so i = (
+    (λ c. let h = (so i).0 c in let below = h.0 in let within : i < length ws = omega (arith, below, l) in let it = lies i within h.1.0 h.1.1 in (within, it.0, it.1)),
+    (λ h. let below = h.0 in (so i).1 (omega (arith, below, l), comes_back i h.0 (h.1, h.2))),
+  )
 
-  pub on_no_cycle : (i : ℕ) (s : Statement) (b : Bool) → slice_get ss i ≡ Some s → b ≡ false → IsTrue b ↔ LeadBack ps ts (targets_in ts i) s.under
-      → LiesOnCycle ws i → ⊥
-  on_no_cycle i s b e f so c = let t : false ≡ true = sym f ∙ so.1 (on_cycle_back i s e (is_number i s e) c) in absurd (cc)
+  pub no_cycles : (n : ℕ) (found : List ℕ) → n ≡ length ws → found ≡ [] → NoneComesBack ps ts n → AreOnCycles ws found
+  no_cycles n found l e none i = (
+    (λ c. absurd (contains_none i (subst (λ xs. Contains xs i) e c))),
+    (λ h. let below = h.0 in absurd (none i (omega (arith, below, l)) (comes_back i h.0 (h.1, h.2)).1)),
+  )

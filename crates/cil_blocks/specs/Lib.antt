@@ -5,7 +5,6 @@ pub mod Entries
 pub mod InheritFaults
 pub mod Laws
 pub mod Leads
-pub mod Marks
 pub mod Named
 pub mod Namespaces
 pub mod Numbers

@@ -1,6 +1,6 @@
 -- What the pass over pairs of bodies computes, by numbers. A body is none, for the texts, or the number of a block. A seed is
 -- a body that gives to a namespace by itself; with it go all bodies that are handed to that namespace.
-use Rattle.std.specs.Prelude.{◌≡◌, ℕ, true, false, List, ◌++◌, map, flat_map, Contains, Option, Some, None}
+use Rattle.std.specs.Prelude.{◌≡◌, ◌⊎◌, ℕ, true, false, List, ◌++◌, map, flat_map, Contains, Option, Some, None}
 use Rattle.std.specs.List.Sorted.{IsSortedByKey}
 use Rattle.cil_base.specs.Lists.{text_cmp}
 use Rattle.cil_syntax.specs.Written.{Written}
@@ -118,6 +118,22 @@ pub record IsDoubledBy (ws : List Written) (ps : Parts) (ts : Targets) (p : Pair
 -- it shares its name with another one in some namespace
 abbrev pub StandsTwice : List Written → Parts → Targets → ℕ → Type 0
 StandsTwice ws ps ts i = (p : Pair) × AreSeeds ws ps ts p × IsDoubledBy ws ps ts p i
+
+-- ---- seeds that tell nothing new
+
+-- the pair is of a seed with itself, which is among some bodies
+abbrev pub IsCovered : List (Option ℕ) → Pair → Type 0
+IsCovered covered p = (p.0 ≡ p.1) × Contains covered p.0
+
+-- no more bodies were put in than a seed reaches
+abbrev pub CoversFrom : Parts → Targets → Option ℕ → List (Option ℕ) → List (Option ℕ) → Type 0
+CoversFrom ps ts seed old new = (b : Option ℕ) → Contains new b → Contains old b ⊎ Reaches ps ts seed b
+
+-- no more than the seed of a pair reaches, if it is paired with itself
+abbrev pub Covers : Parts → Targets → Pair → List (Option ℕ) → List (Option ℕ) → Type 0
+Covers ps ts p old new = (b : Option ℕ) → Contains new b → Contains old b ⊎ ((p.0 ≡ p.1) × Reaches ps ts p.0 b)
+
+-- ---- what a pair tells
 
 -- what a pair of seeds tells
 pub record AreMatched (ws : List Written) (ps : Parts) (ts : Targets) (p : Pair) (m : Matched) : Type 0 where

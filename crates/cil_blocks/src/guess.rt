@@ -1,7 +1,6 @@
-//! A guess at levels. Statements are taken away one by one: from below those that lead to none that is left, and from above
-//! those to which none that is left leads. What stays from both sides is on a cycle, or on a way from one cycle to another.
-//! Each costs one pass over the statements and over the targets of all blockinherits, of which there are several for one
-//! only where a name is given twice. Nothing is promised of a guess; `levels.rt` tries it.
+//! A guess at levels. Statements are taken away one by one: those that lead to none that is left. What stays leads to a
+//! cycle, or lies on one. It costs one pass over the statements and over the targets of all blockinherits, of which there
+//! are several for one only where a name is given twice. Nothing is promised of a guess; `levels.rt` tries it.
 
 use crate::levels::Steps;
 use crate::walker::parts_at;
@@ -9,7 +8,7 @@ use cil_base::NoMemory;
 use cil_syntax::Statement;
 use std::alloc::Global;
 
-/// A level for each statement. Those taken away from below have the lowest, those taken away from above the highest.
+/// A level for each statement: the later it was taken away, the higher. What stays has the highest.
 pub(crate) fn guess(
     alloc: Global,
     statements: &[Statement],
@@ -17,61 +16,16 @@ pub(crate) fn guess(
 ) -> Result<Vec<usize>, NoMemory> {
     let naming = naming_of(alloc, steps)?;
     let mut levels = vec![in alloc; steps.count; steps.count]?;
-    guess_above(
-        alloc,
-        statements,
-        steps,
-        naming.as_slice(),
-        levels.as_mut_slice(),
-    )?;
-    guess_below(
-        alloc,
-        statements,
-        steps,
-        naming.as_slice(),
-        levels.as_mut_slice(),
-    )?;
-    Ok(levels)
-}
-
-/// Takes statements away from above: the sooner, the higher is the level.
-fn guess_above(
-    alloc: Global,
-    statements: &[Statement],
-    steps: &Steps,
-    naming: &[Vec<usize>],
-    levels: &mut [usize],
-) -> Result<(), NoMemory> {
-    let mut left = steps_to_each(alloc, statements, steps, naming)?;
-    for at in 0..steps.count {
-        let Some(number) = left.free.get(at).copied() else {
-            return Ok(());
-        };
-        set_level(levels, number, usize::MAX - at);
-        left.leave_all(parts_at(steps.parts, number))?;
-        left.leave_all(steps.targets.at(number))?;
-    }
-    Ok(())
-}
-
-/// Takes statements away from below: the later, the higher is the level.
-fn guess_below(
-    alloc: Global,
-    statements: &[Statement],
-    steps: &Steps,
-    naming: &[Vec<usize>],
-    levels: &mut [usize],
-) -> Result<(), NoMemory> {
     let mut left = steps_from_each(alloc, steps)?;
     for at in 0..steps.count {
         let Some(number) = left.free.get(at).copied() else {
-            return Ok(());
+            return Ok(levels);
         };
-        set_level(levels, number, at);
+        set_level(levels.as_mut_slice(), number, at);
         left.leave(under_at(statements, number))?;
-        left.leave_all(naming_at(naming, number))?;
+        left.leave_all(naming_at(naming.as_slice(), number))?;
     }
-    Ok(())
+    Ok(levels)
 }
 
 fn set_level(levels: &mut [usize], number: usize, level: usize) {
@@ -125,26 +79,10 @@ fn naming_at(naming: &[Vec<usize>], number: usize) -> &[usize] {
 /// What is left while statements are taken away.
 #[derive(Drop)]
 struct Left {
-    /// For each statement how many steps it has from, or to, those that are left.
+    /// For each statement how many steps it has to those that are left.
     steps: Vec<usize>,
     /// Those that have no such step, in the order in which they lost the last one.
     free: Vec<usize>,
-}
-
-/// All are left, and the steps to each are counted.
-fn steps_to_each(
-    alloc: Global,
-    statements: &[Statement],
-    steps: &Steps,
-    naming: &[Vec<usize>],
-) -> Result<Left, NoMemory> {
-    let mut left = no_steps(alloc, steps.count)?;
-    for number in 0..steps.count {
-        let round = usize::from(under_at(statements, number).is_some());
-        let named = naming_at(naming, number).len();
-        left.begin(number, named.saturating_add(round))?;
-    }
-    Ok(left)
 }
 
 /// All are left, and the steps from each are counted.

@@ -1,9 +1,8 @@
-//! Levels of statements. They never rise along a step, from a statement to those in it or from a blockinherit to its
-//! targets, so a statement of a lower level does not lead to one of a higher. Levels are guessed, and then tried on each
-//! step; both cost one pass.
+//! Levels of statements. Where they fall along each step, from a statement to those in it or from a blockinherit to its
+//! targets, no statement leads back to itself. Levels are guessed, and then tried on each step; both cost one pass.
 
-ghost use Rattle.std.specs.Prelude.{◌≡◌, ◌≤◌, ℕ, Contains, IfOk, IsTrue};
-ghost use Rattle.cil_blocks.specs.Steps.{NeverRise, level_at};
+ghost use Rattle.std.specs.Prelude.{◌≡◌, ◌<◌, ℕ, Contains, IfOk, IsTrue};
+ghost use Rattle.cil_blocks.specs.Steps.{Fall, NoneComesBack, StayBelow, level_at};
 
 use crate::guess::guess;
 use crate::parts::Parts;
@@ -24,56 +23,53 @@ pub(crate) struct Steps<'g, 'b> {
     pub(crate) targets: &'g Targets<'b>,
 }
 
+/// Whether levels were found that fall along each step, so that no statement leads back to itself.
+pub(crate) fn all_fall(
+    alloc: Global,
+    statements: &[Statement],
+    steps: &Steps,
+) -> Result<bool, NoMemory>
+    requires { StayBelow steps.now.parts.now steps.now.targets.now steps.now.count }
+    ensures { IfOk result (λ b. IsTrue b → NoneComesBack steps.now.parts.now steps.now.targets.now steps.now.count) }
+{
+    let levels = guess(alloc, statements, steps)?;
+    Ok(each_falls(steps, levels.as_slice()))
+}
+
+/// Whether levels fall along each step.
+fn each_falls(steps: &Steps, levels: &[usize]) -> bool
+    ensures { IsTrue result → Fall steps.now.parts.now steps.now.targets.now steps.now.count levels.now }
+{
+    for number in 0..steps.count {
+        let level = level_at(levels, number);
+        if !are_below(levels, parts_at(steps.parts, number), level) {
+            return false;
+        }
+        if !are_below(levels, steps.targets.at(number), level) {
+            return false;
+        }
+    }
+    true
+}
+
+/// Whether each of some statements has a level below a limit.
+fn are_below(levels: &[usize], numbers: &[usize], limit: usize) -> bool
+    ensures { IsTrue result → (k : ℕ) → Contains numbers.now k → level_at levels.now k < limit }
+{
+    for number in numbers {
+        if level_at(levels, *number) >= limit {
+            return false;
+        }
+    }
+    true
+}
+
 /// The level of a statement; the lowest where it has none.
-pub(crate) fn level_at(levels: &[usize], number: usize) -> usize
+fn level_at(levels: &[usize], number: usize) -> usize
     ensures { result ≡ level_at levels.now number }
 {
     match levels.get(number) {
         None => 0,
         Some(level) => *level,
     }
-}
-
-/// Levels that never rise along a step. They fall along each step but those between statements that lie on cycles, or on
-/// a way from one cycle to another.
-pub(crate) fn levels_of(
-    alloc: Global,
-    statements: &[Statement],
-    steps: &Steps,
-) -> Result<Vec<usize>, NoMemory>
-    ensures { IfOk result (λ levels. NeverRise steps.now.parts.now steps.now.targets.now steps.now.count levels.items) }
-{
-    let levels = guess(alloc, statements, steps)?;
-    if never_rise(steps, levels.as_slice()) {
-        return Ok(levels);
-    }
-    Ok(Vec::new(alloc))
-}
-
-/// Whether levels never rise along a step.
-fn never_rise(steps: &Steps, levels: &[usize]) -> bool
-    ensures { IsTrue result → NeverRise steps.now.parts.now steps.now.targets.now steps.now.count levels.now }
-{
-    for number in 0..steps.count {
-        let level = level_at(levels, number);
-        if !are_within(levels, parts_at(steps.parts, number), level) {
-            return false;
-        }
-        if !are_within(levels, steps.targets.at(number), level) {
-            return false;
-        }
-    }
-    true
-}
-
-/// Whether none of some statements has a level above a limit.
-fn are_within(levels: &[usize], numbers: &[usize], limit: usize) -> bool
-    ensures { IsTrue result → (k : ℕ) → Contains numbers.now k → level_at levels.now k ≤ limit }
-{
-    for number in numbers {
-        if level_at(levels, *number) > limit {
-            return false;
-        }
-    }
-    true
 }

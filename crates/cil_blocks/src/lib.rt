@@ -12,6 +12,7 @@ pub mod contents;
 pub mod cycles;
 pub mod doubled;
 mod entry;
+mod graph;
 mod guess;
 pub mod inheritance;
 pub mod laws;

@@ -53,7 +53,7 @@ pub fn members_of(
 }
 
 /// The seed, and the bodies that are handed to its namespace. The set is its own queue.
-fn reached_from(
+pub fn reached_from(
     alloc: Global,
     parts: &Parts,
     targets: &Targets,
@@ -73,7 +73,8 @@ fn reached_from(
     Ok(reached)
 }
 
-fn insert_bodies(
+/// Puts some bodies behind those of a set, but for those that are there.
+pub fn insert_bodies(
     reached: &mut IndexSet<Option<usize>>,
     more: &[Option<usize>],
 ) -> Result<(), NoMemory>

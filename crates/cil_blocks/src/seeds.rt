@@ -2,21 +2,22 @@
 //! are gone through, from that of the texts with itself: two blocks of one name, one of each seed, are the next pair.
 //!
 //! Where no name is twice, each pair is of a seed with itself, and costs what the seed gives (`reach.rt`), with two searches
-//! by halving for each block and macro. That is at most what stands in the policy: long where blocks that are no templates
-//! inherit one another in a chain, since each of them is a seed and has all that is before it. The bad case are n blocks of
-//! one name in one namespace, each of which is a fault: they are n * n pairs, which are all kept.
+//! by halving for each block and macro. A seed that another one has reached before gives nothing that this one does not, so
+//! it is not looked at by itself: blocks that inherit one another in a ring cost what one of them gives. In a chain it helps
+//! where the heirs come first; where they come last, each of them is a seed and has all that is before it. The bad case are n
+//! blocks of one name in one namespace, each of which is a fault: they are n * n pairs, which are all kept.
 
-ghost use Rattle.std.specs.Prelude.{◌≡◌, ◌↔◌, ◌++◌, ℕ, Contains, IfOk, OnOk, true};
+ghost use Rattle.std.specs.Prelude.{◌≡◌, ◌↔◌, ◌++◌, ℕ, Contains, IfOk, IsTrue, OnOk, true};
 ghost use Rattle.std.specs.List.Sorted.{IsSortedByKey};
 ghost use Rattle.cil_base.specs.Lists.{text_cmp};
 ghost use Rattle.cil_syntax.specs.Program.{IsNested, program_of};
 ghost use Rattle.cil_blocks.specs.Doubled.{AreAlike, AreThose, IsMatched};
 ghost use Rattle.cil_blocks.specs.Entries.{AreParts};
-ghost use Rattle.cil_blocks.specs.Seeds.{AreMatched, AreMatchedOf, IsJoined, IsPaired, StandsTwice, own_name, paired_with};
+ghost use Rattle.cil_blocks.specs.Seeds.{AreMatched, AreMatchedOf, Covers, CoversFrom, IsCovered, IsJoined, IsPaired, StandsTwice, own_name, paired_with};
 
 use crate::doubled::{has_other, push_if};
 use crate::parts::Parts;
-use crate::reach::{Members, compare_own, members_of};
+use crate::reach::{Members, compare_own, insert_bodies, members_of, reached_from};
 use crate::targets::{Targets, from, up_to};
 use cil_base::NoMemory;
 use cil_syntax::Statement;
@@ -44,17 +45,66 @@ pub fn standing_twice(
     ensures { IfOk result (λ found. AreThose (StandsTwice (program_of statements.now) parts.now targets.now) found.items) }
 {
     let mut found = Vec::new(alloc);
+    let mut covered = IndexSet::new(alloc);
     let mut pairs = IndexSet::new(alloc);
     pairs.insert((None, None))?;
     let mut at = 0;
     while at < pairs.len() {
         let pair = pairs.as_slice()[at];
+        at += 1;
+        if is_covered(&covered, pair) {
+            continue;
+        }
         let matched = matched_in(alloc, statements, parts, targets, pair)?;
         found.extend_from_slice(matched.doubled.as_slice())?;
         insert_pairs(&mut pairs, matched.next.as_slice())?;
-        at += 1;
+        cover(alloc, parts, targets, &mut covered, pair)?;
     }
     Ok(found)
+}
+
+/// Whether a pair is of a seed with itself that another one has reached: it tells nothing that this one did not.
+fn is_covered(covered: &IndexSet<Option<usize>>, pair: (Option<usize>, Option<usize>)) -> bool
+    ensures { IsTrue result → IsCovered covered.now.keys pair }
+{
+    let (one, other) = pair;
+    if one == other {
+        return covered.contains(&one);
+    }
+    false
+}
+
+/// Notes what the seed of a pair reaches, where it is paired with itself.
+fn cover(
+    alloc: Global,
+    parts: &Parts,
+    targets: &Targets,
+    covered: &mut IndexSet<Option<usize>>,
+    pair: (Option<usize>, Option<usize>),
+) -> Result<(), NoMemory>
+    ensures { OnOk result (Covers parts.now targets.now pair covered.old.keys covered.new.keys) }
+{
+    let (one, other) = pair;
+    if one == other {
+        cover_from(alloc, parts, targets, covered, one)?;
+        return Ok(());
+    }
+    Ok(())
+}
+
+/// Notes what a seed reaches.
+fn cover_from(
+    alloc: Global,
+    parts: &Parts,
+    targets: &Targets,
+    covered: &mut IndexSet<Option<usize>>,
+    seed: Option<usize>,
+) -> Result<(), NoMemory>
+    ensures { OnOk result (CoversFrom parts.now targets.now seed covered.old.keys covered.new.keys) }
+{
+    let reached = reached_from(alloc, parts, targets, seed)?;
+    insert_bodies(covered, reached.as_slice())?;
+    Ok(())
 }
 
 fn insert_pairs(

@@ -4,7 +4,8 @@ use Rattle.indexmap.specs.IndexSet.{insert_key}
 use Rattle.cil_syntax.specs.Program.{program_of}
 use Rattle.cil_blocks.specs.Seeds.{IsDoubledBy, IsNext, Pair}
 use Rattle.cil_base.specs.Places.{is_there}
-use Rattle.cil_blocks.proofs.Reached.{all_told, at_first, none_told, one_opened, one_told, pair_eq, those_over}
+use Rattle.cil_blocks.proofs.CoverLemmas.{doubled_of, more_covered, next_of, none_covered, still_covered}
+use Rattle.cil_blocks.proofs.Reached.{all_told, at_first, none_told, one_opened, one_skipped, one_told, pair_eq, skip_told, those_over}
 use Rattle.cil_blocks.proofs.seeds.standing_twice.Goals as goal
 
 pub loop-at-init : goal.loop-at-init
@@ -16,6 +17,29 @@ loop-at-init c =
       so = at_first (IsNext ws ps ts) (None, None) c.insert.new.self.keys
           (c.in_ok-insert.ensures.keys ∙ ap (λ (ks : List Pair). insert_key pair_eq ks (None, None)) c.new-pairs.ensures.empty);
       told = none_told (IsNext ws ps ts) (None, None) (IsDoubledBy ws ps ts) c.insert.new.self.keys c.new-found.result.items c.new-found.ensures.items;
+      covered = none_covered ps ts c.insert.new.self.keys c.new-covered.result.keys c.new-covered.ensures.empty;
+    }
+
+pub loop-at-preserved-then-is_covered : goal.loop-at-preserved-then-is_covered
+loop-at-preserved-then-is_covered c =
+    let ws = program_of c.args.statements.now in
+    let ps = c.args.parts.now in
+    let ts = c.args.targets.now in
+    let h = c.loop-at-test.true in
+    let l = c.len.ensures.len in
+    let same = ap length c.as_slice.ensures.keys in
+    let inside : c.loop-at.at < length c.as_slice.result.now = omega (arith, h, l, same) in
+    let pair : Pair = get_or c.as_slice.result.now c.loop-at.at (None, None) in
+    let here =
+    ap (λ (xs : List Pair). slice_get xs c.loop-at.at) (sym c.as_slice.ensures.keys) ∙ is_there c.as_slice.result.now c.loop-at.at (None, None) inside in
+    let is = c.is_covered.ensures c.if-is_covered.true in
+    let by = c.loop-at.invariant.covered pair.0 is.1 in
+    record {
+      so = one_skipped (IsNext ws ps ts) (None, None) c.loop-at.at by.place c.loop-at.pairs.keys pair (by.seed, by.seed) here by.before by.is_pair
+          (λ y n. next_of ws ps ts by.seed pair y is.0 by.reached n) c.loop-at.invariant.so;
+      told = skip_told (IsNext ws ps ts) (None, None) (IsDoubledBy ws ps ts) c.loop-at.at by.place c.loop-at.pairs.keys pair (by.seed, by.seed) c.loop-at.found.items here
+          by.before by.is_pair (λ i d. doubled_of ws ps ts by.seed pair i is.0 by.reached d) c.loop-at.invariant.told;
+      covered = still_covered ps ts c.loop-at.at c.loop-at.pairs.keys c.loop-at.covered.keys c.loop-at.invariant.covered;
     }
 
 pub loop-at-preserved : goal.loop-at-preserved
@@ -37,6 +61,8 @@ loop-at-preserved c =
           c.loop-at.found.items c.as_slice-in-loop-at.result.now c.extend_from_slice.new.self.items here c.in_ok-insert_pairs.ensures.is
           (those_over (IsDoubledBy ws ps ts pair) _ _ c.as_slice-in-loop-at.ensures.value c.in_ok-matched.ensures.doubled) c.loop-at.invariant.told
           c.in_ok-extend_from_slice.ensures.items;
+      covered = more_covered ps ts c.loop-at.at c.loop-at.pairs.keys c.in_ok-insert_pairs.ensures.behind c.insert_pairs.new.pairs.keys pair c.loop-at.covered.keys _ here
+          c.in_ok-insert_pairs.ensures.is c.in_ok-cover.ensures c.loop-at.invariant.covered;
     }
 
 pub returns : goal.returns
