@@ -1,6 +1,8 @@
 -- Entries, by their keys and by what words want.
-use Rattle.std.proofs.Common.{◌≡◌, ℕ, ◌&&◌, ◌==◌, true, false, List, sym, ◌∙◌, ap, arith}
-use Rattle.std.specs.Prelude.{slice_get}
+use Rattle.std.proofs.Common.{◌≡◌, ℕ, ◌&&◌, ◌==◌, Bool, true, false, cond, List, sym, ◌∙◌, ap, arith}
+use Rattle.std.specs.Prelude.{None, Some, find, slice_get}
+use Rattle.std.specs.Option.{option_map_or}
+use Rattle.cil_macros.specs.Item.{OptSet}
 use Rattle.std.specs.Cmp.Lexicographic.{bytes_decides}
 use Rattle.std.proofs.lemmas.Bool.{and_parts, true≢false}
 use Rattle.std.proofs.lemmas.Option.{same_Some}
@@ -9,7 +11,7 @@ use Rattle.cil_syntax.specs.declared.kind.Kind.{Kind}
 use Rattle.cil_syntax.specs.declared.kind.Sign.{Sign}
 use Rattle.cil_syntax.specs.Spelling.{same_bytes}
 use Rattle.cil_names.specs.declared.entry.Entry.{Entry}
-use Rattle.cil_names.specs.Entries.{HasNoEntry, IsEntryAt, Key, is_entry, key_of}
+use Rattle.cil_names.specs.Entries.{HasNoEntry, IsEntryAt, Key, is_declared_at, is_declared_in, is_entry, key_of, listed}
 use Rattle.cil_syntax.specs.NameSpaces.{rank}
 use Rattle.cil_names.specs.Soles.{IsWantedIn}
 use Rattle.cil_base.specs.Found.{IsFound, IsMissing}
@@ -63,3 +65,22 @@ module _ (es : List Entry) (name : List ℕ) (sign : Sign) (k r : ℕ) (of_rank 
 pub unwanted_missing : (es : List Entry) (name : List ℕ) (sign : Sign) (k : ℕ) → ((kind : Kind) → is_wanted sign kind ≡ false) → HasNoEntry es name sign k
 unwanted_missing es name sign k none m e at fits =
     let (space, named, wanted) = parts_fit name sign k e fits in true≢false (sym wanted ∙ none e.kind)
+
+-- ---- whether an entry is declared
+
+module _ (s : OptSet) (es : List Entry) (d : ℕ) where
+  found_so : (b : Bool) → is_declared_at s es d ≡ b → cond b (Some d) None ≡ find (is_declared_at s es) (listed (Some d))
+  found_so b e = ap (λ b. cond b (Some d) None) (sym e)
+
+  pub none_there : slice_get es d ≡ None → None ≡ find (is_declared_at s es) (listed (Some d))
+  none_there gone = found_so false (ap (λ o. option_map_or (is_declared_in s) o false) gone)
+
+  module _ (e : Entry) (at : slice_get es d ≡ Some e) (r : Bool) (is : r ≡ is_declared_in s e) where
+    it_is : is_declared_at s es d ≡ r
+    it_is = ap (λ o. option_map_or (is_declared_in s) o false) at ∙ sym is
+
+    pub not_declared : r ≡ false → None ≡ find (is_declared_at s es) (listed (Some d))
+    not_declared off = found_so false (it_is ∙ off)
+
+    pub declared_there : r ≡ true → Some d ≡ find (is_declared_at s es) (listed (Some d))
+    declared_there on = found_so true (it_is ∙ on)

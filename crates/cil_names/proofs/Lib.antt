@@ -39,6 +39,7 @@ pub mod SharedLemmas
 pub mod SoleLemmas
 pub mod SpelledLemmas
 pub mod UnresolvedLemmas
+pub mod UpToLemmas
 pub mod WordedLemmas
 pub mod StandLemmas
 pub mod StandingLemmas

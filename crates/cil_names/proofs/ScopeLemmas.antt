@@ -9,7 +9,7 @@ use Rattle.std.proofs.lemmas.List.{drop_all}
 use Rattle.cil_base.specs.Places.{drop_at}
 use Rattle.cil_syntax.specs.declared.term.Word.{Word}
 use Rattle.cil_syntax.specs.Scopes.{IsTaken, asked, names_backwards}
-use Rattle.cil_syntax.proofs.AskedLemmas.{is_parted}
+use Rattle.cil_syntax.proofs.AskedLemmas.{is_global, is_parted}
 use Rattle.cil_names.specs.declared.entry.Entry.{Entry}
 use Rattle.cil_blocks.specs.declared.namespaces.Space.{Space}
 use Rattle.cil_macros.specs.Asked.{numbers_asked}
@@ -44,6 +44,12 @@ module _ (ss : List Space) (es : List Entry) (w : Word) where
   whole scope false e =
       ap (λ b. flat_map (λ n. listed (candidate ss es (asked w.bytes).name w.sign n)) (cond b ((asked w.bytes).inner ∷ []) (map (λ n. (asked w.bytes).inner ++ n) (scope_of ss scope)))) e
       ∙ each_name scope
+
+-- the candidates of a word are those in the namespaces that its path asks
+pub candidates_in : (ss : List Space) (es : List Entry) (w : Word) (scope : List ℕ) (global : Bool) (path : List ℕ) → IsTaken w.bytes global path
+    → (ks : List ℕ) → ks ≡ numbers_asked global scope → candidates_of ss es (scoped ss scope w) ≡ flat_map (could_name ss es w) ks
+candidates_in ss es w scope global path taken ks are =
+    whole ss es w scope global (is_global w.bytes global path taken) ∙ ap (flat_map (could_name ss es w)) (sym are)
 
 -- ---- steps over a list
 

@@ -1,16 +1,19 @@
 -- Entries that rise by their names: those of one name stand beside one another, so an entry whose neighbours have other names is the
 -- only one of its name.
-use Rattle.std.proofs.Common.{◌≡◌, ℕ, suc, zero, ◌+◌, ◌<◌, ◌≤◌, List, length, get_or, refl, sym, ◌∙◌, ap, subst, inl, inr, arith, true, ◌⊎◌}
-use Rattle.std.specs.Prelude.{IfSome, Option, Some, None, slice_get}
+use Rattle.std.proofs.Common.{◌≡◌, ℕ, suc, zero, ◌+◌, ◌<◌, ◌≤◌, List, length, get_or, refl, sym, ◌∙◌, ap, subst, inl, inr, arith, Bool, true, false, ◌⊎◌}
+use Rattle.std.specs.Prelude.{◌↔◌, IfSome, IsTrue, Option, Some, None, slice_get}
+use Rattle.std.specs.Cmp.Lexicographic.{bytes_decides}
 use Rattle.std.specs.declared.cmp.Ordering.{Ordering}
 use Rattle.std.specs.declared.cmp.Ordering.TheVariants.{Less, Equal, Greater}
 use Rattle.std.specs.Ordering.{on, ordering_reverse, ordering_then, nat_cmp}
 use Rattle.std.specs.List.Sorted.{IsStrictlySortedBy}
-use Rattle.std.proofs.lemmas.Bool.{cases_lt}
-use Rattle.std.proofs.lemmas.Option.{same_Some, slice_get-get_or, slice_get_within, get_or_from_slice_get}
+use Rattle.std.proofs.lemmas.Bool.{cases_lt, true≢false}
+use Rattle.std.proofs.lemmas.Option.{none-some, same_Some, slice_get-get_or, slice_get_within, get_or_from_slice_get}
 use Rattle.cil_syntax.specs.declared.kind.Kind.{Kind}
 use Rattle.cil_syntax.specs.declared.kind.Sign.{Sign}
 use Rattle.cil_syntax.specs.Kinds.{is_wanted}
+use Rattle.cil_syntax.specs.Spelling.{same_bytes}
+use Rattle.cil_base.proofs.AtPlace.{past_end}
 use Rattle.cil_names.specs.declared.entry.Entry.{Entry}
 use Rattle.cil_names.specs.Entries.{HasNoEntry, IsEntryAt, by_name_cmp, is_entry, key_of}
 use Rattle.cil_names.specs.declared.namesakes.Namesakes.{Namesakes}
@@ -174,6 +177,39 @@ its_name es name r d e at there = ap (λ (k : RankedName). k.name) (name_there e
 pub its_rank : (es : List Entry) (name : List ℕ) (r d : ℕ) (e : Entry) → slice_get es d ≡ Some e → IsNamedAt es (record { name = name; rank = r }) d → rank e.kind ≡ r
 its_rank es name r d e at there = ap (λ (k : RankedName). k.rank) (name_there es (record { name = name; rank = r }) d e at there)
 
+-- ---- what the entry at a place tells
+
+pub wanted_there : (es : List Entry) (k : ℕ) (sign : Sign) (d : ℕ) (e : Entry) → slice_get es d ≡ Some e → IsWantedIn es k sign d → (e.space ≡ k) × (is_wanted sign e.kind ≡ true)
+wanted_there es k sign d e at (x, is, space, wanted) =
+    let same : x ≡ e = same_Some x e (sym is ∙ at) in
+    (ap (λ (e : Entry). e.space) (sym same) ∙ space, ap (λ (e : Entry). is_wanted sign e.kind) (sym same) ∙ wanted)
+
+module _ (es : List Entry) (d : ℕ) where
+  nothing_there : length es ≤ d → (e : Entry) → slice_get es d ≡ Some e → ⊥
+  nothing_there past e at = none-some e (sym (past_end es es d refl past) ∙ at)
+
+  pub none_named : (k : RankedName) → length es ≤ d → IsTrue false ↔ IsNamedAt es k d
+  none_named k past = ((λ t. absurd (true≢false (sym t))), (λ there. absurd (nothing_there past there.0 there.1)))
+
+  pub none_wanted : (k : ℕ) (sign : Sign) → length es ≤ d → IsTrue false ↔ IsWantedIn es k sign d
+  none_wanted k sign past = ((λ t. absurd (true≢false (sym t))), (λ there. absurd (nothing_there past there.0 there.1)))
+
+  module _ (e : Entry) (at : slice_get es d ≡ Some e) where
+    pub other_rank : (name : List ℕ) (r : ℕ) → (rank e.kind ≡ r → ⊥) → IsTrue false ↔ IsNamedAt es (record { name = name; rank = r }) d
+    other_rank name r other = ((λ t. absurd (true≢false (sym t))), (λ there. absurd (other (its_rank es name r d e at there))))
+
+    pub decides_named : (name : List ℕ) (r : ℕ) → rank e.kind ≡ r → (b : Bool) → b ≡ same_bytes e.name name → IsTrue b ↔ IsNamedAt es (record { name = name; rank = r }) d
+    decides_named name r of_rank b is = (
+      (λ t. named_there es name r d e at of_rank ((bytes_decides e.name name).0 (sym is ∙ t))),
+      (λ there. is ∙ (bytes_decides e.name name).1 (its_name es name r d e at there)),
+    )
+
+    pub other_space : (k : ℕ) (sign : Sign) → (e.space ≡ k → ⊥) → IsTrue false ↔ IsWantedIn es k sign d
+    other_space k sign other = ((λ t. absurd (true≢false (sym t))), (λ there. absurd (other (wanted_there es k sign d e at there).0)))
+
+    pub decides_wanted : (k : ℕ) (sign : Sign) → e.space ≡ k → (b : Bool) → b ≡ is_wanted sign e.kind → IsTrue b ↔ IsWantedIn es k sign d
+    decides_wanted k sign space b is = ((λ t. (e, at, space, sym is ∙ t)), (λ there. is ∙ (wanted_there es k sign d e at there).1))
+
 -- ---- the few entries of a name
 
 module _ (es : List Entry) (k : RankedName) (first : ℕ) where
@@ -195,11 +231,6 @@ all_namesakes es name sign r of_rank (Some n) f = record {
   all = λ m e at named wanted. f.all m (named_there es name r m e at (of_rank e.kind wanted) named);
   one_rank = λ a b p q. of_rank a p ∙ sym (of_rank b q);
 }
-
-pub wanted_there : (es : List Entry) (k : ℕ) (sign : Sign) (d : ℕ) (e : Entry) → slice_get es d ≡ Some e → IsWantedIn es k sign d → (e.space ≡ k) × (is_wanted sign e.kind ≡ true)
-wanted_there es k sign d e at (x, is, space, wanted) =
-    let same : x ≡ e = same_Some x e (sym is ∙ at) in
-    (ap (λ (e : Entry). e.space) (sym same) ∙ space, ap (λ (e : Entry). is_wanted sign e.kind) (sym same) ∙ wanted)
 
 module _ (es : List Entry) (name : List ℕ) (sign : Sign) (k : ℕ) where
   same_key : ((a b : Kind) → is_wanted sign a ≡ true → is_wanted sign b ≡ true → rank a ≡ rank b) → (x e : Entry) → is_entry name sign k x ≡ true → is_entry name sign k e ≡ true

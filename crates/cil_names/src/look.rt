@@ -134,7 +134,9 @@ fn by_halving(entries: &[Entry], space: usize, name: &[u8], sign: Sign) -> Optio
     let Some(rank) = sign.rank() else {
         return None;
     };
-    let place = place_of(entries, space, name, rank)?;
+    let Some(place) = place_of(entries, space, name, rank) else {
+        return None;
+    };
     if !is_wanted_in(entries, place, space, sign) {
         return None;
     }
@@ -176,7 +178,9 @@ fn named_in(
     if path.dotless {
         return entry_of(entries, same, from, path.names, sign);
     }
-    let place = asked_in(namespaces, from, path.names)?;
+    let Some(place) = asked_in(namespaces, from, path.names) else {
+        return None;
+    };
     entry_in(entries, guesses, place.space, place.name, sign)
 }
 
@@ -194,8 +198,10 @@ pub fn candidates(
     ensures { IfOk result (λ ds. ds.items ≡ candidates_of namespaces.now entries.now (scoped namespaces.now scope.now word.now)) }
 {
     let mut found = Vec::new(alloc);
-    push_candidates(&mut found, namespaces, entries, guesses, word, scope)?;
-    Ok(found)
+    match push_candidates(&mut found, namespaces, entries, guesses, word, scope) {
+        Ok(()) => Ok(found),
+        Err(failure) => Err(failure),
+    }
 }
 
 /// Adds the numbers of the entries that a word could name, whatever is enabled, in the order of its scope. A word that wants
@@ -304,24 +310,18 @@ fn has_one(enabled: &[bool], rounds: &[Vec<usize>]) -> bool
     false
 }
 
-/// Whether the entry of this number is declared.
-fn has_declared(enabled: &[bool], entries: &[Entry], d: usize) -> bool
-    ensures { result ≡ is_declared_at (is_in enabled.now) entries.now d }
-{
-    let Some(entry) = entries.get(d) else {
-        return false;
-    };
-    is_declared(enabled, entry)
-}
-
 /// The number, where its entry is declared.
 fn where_declared(enabled: &[bool], entries: &[Entry], named: Option<usize>) -> Option<usize>
     ensures { result ≡ find (is_declared_at (is_in enabled.now) entries.now) (listed named) }
 {
-    let d = named?;
-    if has_declared(enabled, entries, d) {
-        Some(d)
-    } else {
-        None
+    let Some(d) = named else {
+        return None;
+    };
+    let Some(entry) = entries.get(d) else {
+        return None;
+    };
+    if !is_declared(enabled, entry) {
+        return None;
     }
+    Some(d)
 }

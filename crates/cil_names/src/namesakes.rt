@@ -27,7 +27,9 @@ pub fn few_named(entries: &[Entry], guesses: &Guesses, name: &[u8], rank: u8) ->
 {
     let slot = guesses.slot(name);
     for way in 0..WAYS {
-        let place = guesses.guess(slot, way)?;
+        let Some(place) = guesses.guess(slot, way) else {
+            return None;
+        };
         if is_named(entries, place, name, rank) {
             return few_from(entries, place, name, rank);
         }
@@ -41,7 +43,9 @@ fn few_from(entries: &[Entry], first: usize, name: &[u8], rank: u8) -> Option<Na
     requires named { IsNamedAt entries.now (record { name = name.now; rank = rank }) first }
     ensures { IfSome result (AreRanked entries.now (record { name = name.now; rank = rank })) }
 {
-    let end = end_from(entries, first, name, rank)?;
+    let Some(end) = end_from(entries, first, name, rank) else {
+        return None;
+    };
     if let Some(before) = first.checked_sub(1) {
         if is_named(entries, before, name, rank) {
             return None;

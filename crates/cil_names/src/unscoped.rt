@@ -29,7 +29,9 @@ pub fn unscoped_entry(entries: &[Entry], guesses: &Guesses, word: &Word) -> Opti
     let Some(place) = sole_word(entries, guesses, word) else {
         return None;
     };
-    let entry = entries.get(place)?;
+    let Some(entry) = entries.get(place) else {
+        return None;
+    };
     if entry.space != 0 {
         return None;
     }
@@ -57,12 +59,10 @@ pub fn push_in_scope(
     let numbers = scope.as_slice();
     if numbers.len() > SHORT_SCOPE {
         if let Some(place) = sole_word(entries, guesses, word) {
-            push_listed(found, one_in(namespaces, entries, place, word, scope))?;
-            return Ok(());
+            return push_listed(found, one_in(namespaces, entries, place, word, scope));
         }
     }
-    push_candidates(found, namespaces, entries, guesses, word, numbers)?;
-    Ok(())
+    push_candidates(found, namespaces, entries, guesses, word, numbers)
 }
 
 /// The number of the entry at a place, which alone has the name of a word, if the word could name it in a scope.

@@ -1,4 +1,5 @@
-use Rattle.std.proofs.Common.{arith, rules}
+use Rattle.std.proofs.Common.{arith, sym, ◌∙◌}
+use Rattle.std.proofs.lemmas.Bool.{true≢false}
 use Rattle.cil_names.proofs.EntryLemmas.{parts_fit}
 use Rattle.cil_names.proofs.SoleLemmas.{later_one, none_among, one_among}
 use Rattle.cil_names.proofs.look.among.Goals as goal
@@ -12,7 +13,7 @@ loop-place-init c = (
 pub loop-place-preserved : goal.loop-place-preserved
 loop-place-preserved c = (
   let h = c.loop-place.invariant.0 in omega (arith, h),
-  later_one c.args.entries.now c.args.name.now c.args.sign c.args.space c.loop-place.place (λ there. let t = c.is_wanted_in.ensures.1 there in search (rules, t)) c.loop-place.invariant.1,
+  later_one c.args.entries.now c.args.name.now c.args.sign c.args.space c.loop-place.place (λ there. true≢false (sym (c.is_wanted_in.ensures.1 there) ∙ c.if-is_wanted_in.false)) c.loop-place.invariant.1,
 )
 
 pub returns : goal.returns

@@ -1,4 +1,5 @@
-use Rattle.std.proofs.Common.{◌≡◌, ◌+◌, arith, rules}
+use Rattle.std.proofs.Common.{◌≡◌, ◌∙◌, ◌+◌, arith, rules, sym}
+use Rattle.std.proofs.lemmas.Bool.{true≢false}
 use Rattle.cil_names.proofs.SoleLemmas.{one_named, one_more_named}
 use Rattle.cil_names.proofs.namesakes.end_from.Goals as goal
 
@@ -16,5 +17,5 @@ pub returns-then-not-is_named : goal.returns-then-not-is_named
 returns-then-not-is_named c = record {
   later = c.loop-end.invariant.0;
   inside = c.loop-end.invariant.1;
-  other = λ there. let t = c.is_named.ensures.1 there in search (rules, t);
+  other = λ there. true≢false (sym (c.is_named.ensures.1 there) ∙ c.if-not-is_named.true);
 }

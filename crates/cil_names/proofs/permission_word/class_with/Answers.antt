@@ -1,4 +1,4 @@
-use Rattle.std.proofs.Common.{rules}
+use Rattle.std.proofs.Common.{sym}
 use Rattle.cil_names.specs.Entries.{scoped}
 use Rattle.cil_names.proofs.PermissionWordLemmas.{class_rises, class_within}
 use Rattle.cil_names.proofs.permission_word.class_with.Goals as goal
@@ -10,7 +10,7 @@ with_permission-requires c =
 pub returns-clause-value : goal.returns-clause-value
 returns-clause-value c = λ xs entries permissions.
     c.with_permission.ensures.value c.args.namespaces.now c.args.entries.now c.args.permissions.now (scoped c.args.namespaces.now c.args.scope.now c.args.class.now)
-    (scoped c.args.namespaces.now c.args.scope.now c.args.permission.now) xs c.class_of-found.ensures (search rules) entries permissions
+    (scoped c.args.namespaces.now c.args.scope.now c.args.permission.now) xs c.class_of-found.ensures (sym c.as_slice.ensures) entries permissions
 
 pub returns-clause-within : goal.returns-clause-within
 returns-clause-within c =
