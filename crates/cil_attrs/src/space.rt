@@ -20,7 +20,7 @@ pub struct Limit {
     pub word: &'static [u8],
 }
 
-/// A name space whose words may stand for several symbols. Its laws are what the sets of all such name spaces are made by.
+/// A name space whose words may stand for several symbols. Each `impl` proves the laws, by which sets are made.
 pub trait Space {
     /// The kind of its items, the kinds of its sets, and the statements that give these their members.
     ghost kinds: { TheKinds };

@@ -1,5 +1,5 @@
 use Rattle.std.specs.Prelude.{◌⊎◌, ◌↔◌, Contains, []}
-use Rattle.std.proofs.Common.{◌∙◌, List, ap, subst, sym}
+use Rattle.std.proofs.Common.{◌∙◌, List, ap, subst}
 use Rattle.cil_base.specs.Lists.{Lists, text_cmp}
 use Rattle.cil_faults.specs.declared.code.FaultCode.TheVariants as causes
 use Rattle.cil_faults.specs.declared.fault.Fault.{Fault}
