@@ -1,8 +1,8 @@
 -- The nodes of all to which a class permission leads.
 use Rattle.std.specs.Prelude.{◌⊎◌, ◌↔◌, Contains, Some, None, slice_get}
 use Rattle.std.specs.List.Sorted.{IsStrictlySortedBy}
-use Rattle.std.proofs.Common.{◌≡◌, ℕ, ◌+◌, ◌<◌, ◌≤◌, Bool, true, List, [], ◌∷◌, ◌++◌, length, refl, sym, ◌∙◌, ap, subst, inl, inr, arith}
-use Rattle.std.proofs.lemmas.Bool.{and_from, and_parts}
+use Rattle.std.proofs.Common.{◌≡◌, ℕ, ◌+◌, ◌<◌, ◌≤◌, Bool, true, false, List, [], ◌∷◌, ◌++◌, length, refl, sym, ◌∙◌, ap, subst, inl, inr, arith}
+use Rattle.std.proofs.lemmas.Bool.{and_from, and_parts, true≢false}
 use Rattle.std.proofs.lemmas.List.Elements.{Contains-append_left, Contains-append_right, Contains-append_cases}
 use Rattle.std.proofs.lemmas.Option.{none-some, same_Some}
 use Rattle.cil_base.specs.Lists.{contains_cases, contains_here, contains_none}
@@ -67,11 +67,14 @@ one_more P run v old new wanted within so sound complete added = record {
     below : (u v : ℕ) → u < v + 1 → (u < v) ⊎ (u ≡ v)
     below u v l = grind arith
 
-pub pushed : (old new : List ℕ) (v : ℕ) → new ≡ old ++ v ∷ [] → (u : ℕ) → Contains new u ↔ (Contains old u ⊎ ((true ≡ true) × (v ≡ u)))
-pushed old new v push u = (
+pub not_pushed : (old : List ℕ) (wanted : Bool) (v : ℕ) → wanted ≡ false → (u : ℕ) → Contains old u ↔ (Contains old u ⊎ ((wanted ≡ true) × (v ≡ u)))
+not_pushed old wanted v off u = (λ c. inl c, λ e. elim e [ inl c ↦ c | inr it ↦ absurd (true≢false (sym it.0 ∙ off)) ])
+
+pub pushed : (old new : List ℕ) (wanted : Bool) (v : ℕ) → wanted ≡ true → new ≡ old ++ v ∷ [] → (u : ℕ) → Contains new u ↔ (Contains old u ⊎ ((wanted ≡ true) × (v ≡ u)))
+pushed old new wanted v on push u = (
   λ c. elim (Contains-append_cases old (v ∷ []) u (subst (λ l. Contains l u) push c)) [
     | inl before ↦ inl before
-    | inr last ↦ elim (contains_cases u v [] last) [ inl same ↦ inr (refl, same) | inr none ↦ absurd (contains_none u none) ]
+    | inr last ↦ elim (contains_cases u v [] last) [ inl same ↦ inr (on, same) | inr none ↦ absurd (contains_none u none) ]
   ],
   λ d. subst (λ l. Contains l u) (sym push) (elim d [
     | inl before ↦ Contains-append_left old (v ∷ []) u before
