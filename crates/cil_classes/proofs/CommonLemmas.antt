@@ -1,20 +1,19 @@
 -- Classes that statements join to two different commons, by the numbers of their entries.
-use Rattle.std.specs.Prelude.{◌⊎◌, ◌↔◌, Contains, None, Some, set, slice_get}
+use Rattle.std.specs.Prelude.{◌⊎◌, ◌↔◌, Contains, MatchOption, None, Option, Some, set, slice_get}
 use Rattle.std.specs.List.Sorted.{IsStrictlySortedBy}
 use Rattle.std.specs.Ordering.{nat_cmp, ordering_then}
 use Rattle.std.specs.declared.cmp.Ordering.{Ordering}
 use Rattle.std.specs.declared.cmp.Ordering.TheVariants.{Less, Equal, Greater}
-use Rattle.std.proofs.Common.{◌≡◌, ℕ, suc, ◌+◌, ◌<◌, ◌≤◌, Bool, true, false, List, [], ◌∷◌, ◌++◌, length, take, get_or, refl, sym, ◌∙◌, ap, subst, inl, inr, arith}
+use Rattle.std.proofs.Common.{◌≡◌, ℕ, suc, ◌+◌, ◌<◌, ◌≤◌, Bool, true, false, List, length, get_or, refl, sym, ◌∙◌, ap, subst, inl, inr, arith}
 use Rattle.std.proofs.lemmas.Bool.{cases_eq, true≢false}
 use Rattle.cil_syntax.specs.declared.kind.Keyword.{Keyword}
 use Rattle.cil_syntax.specs.declared.kind.Keyword.TheVariants as keywords
-use Rattle.cil_macros.specs.Items.{may_say_lists}
-use Rattle.std.proofs.lemmas.Bool.Decides.{nat_tests}
-use Rattle.std.proofs.lemmas.List.{get_or-replicate, get_or-set_other, get_or-set_same, length-replicate, take_all}
+use Rattle.cil_macros.specs.Items.{Kept, item_at, items_in, may_say_lists}
+use Rattle.std.proofs.lemmas.List.{get_or-replicate, get_or-set_other, get_or-set_same, length-replicate}
 use Rattle.std.proofs.Math.ListN.{get_or-eq_default, replicate}
-use Rattle.std.proofs.lemmas.List.Elements.{Contains-append_cases, Contains-append_left, Contains-append_right}
 use Rattle.std.proofs.lemmas.Option.{none-some, same_Some}
-use Rattle.cil_base.specs.Lists.{contains_cases, contains_here, contains_none, not_below_itself}
+use Rattle.cil_base.specs.Lists.{not_below_itself}
+use Rattle.cil_base.specs.Paths.{below_by, same_by}
 use Rattle.cil_base.specs.Places.{get_at, get_contains, in_range, some_at}
 use Rattle.cil_base.specs.Rising.{rises_between}
 use Rattle.cil_blocks.specs.Namespaces.{AreNamespaces}
@@ -22,7 +21,7 @@ use Rattle.cil_blocks.specs.declared.namespaces.Space.{Space}
 use Rattle.cil_faults.specs.Reported.{fault_at}
 use Rattle.cil_faults.specs.declared.code.FaultCode.TheVariants as causes
 use Rattle.cil_faults.specs.declared.fault.Fault.{Fault}
-use Rattle.cil_macros.specs.Item.{Item, all_replaced}
+use Rattle.cil_macros.specs.Item.{Item, OptSet, all_replaced}
 use Rattle.cil_macros.proofs.FormLemmas.{pair_across}
 use Rattle.cil_names.specs.Declarations.{Symbol}
 use Rattle.cil_names.specs.Entries.{AreOrdered}
@@ -41,23 +40,19 @@ use Rattle.cil_syntax.specs.Terms.{Leaf, Terms, cons, nil}
 use Rattle.cil_syntax.specs.declared.term.Word.{Word}
 use Rattle.cil_syntax.specs.declared.kind.Sign.{Sign}
 use Rattle.cil_syntax.specs.declared.kind.Sign.TheVariants as signs
-use Rattle.cil_classes.specs.Commons.{HasTwoCommons, IsBeside, IsFlagged, IsToldTwice, IsTwice}
+use Rattle.cil_classes.specs.declared.commons.Wrong.{Wrong}
+use Rattle.cil_classes.specs.Commons.{HasTwoCommons, IsBeside, IsFirst, IsFlagged, IsTwice}
+use Rattle.cil_classes.specs.Widths.{IsWhatIsWrong, IsWide, IsWideAt, IsWrongAt}
 
 -- ---- neighbours
-
-below_less : (a b : ℕ) → nat_cmp a b ≡ Less → a < b
-below_less a b e = grind (arith, nat_tests)
-
-equal_same : (a b : ℕ) → nat_cmp a b ≡ Equal → a ≡ b
-equal_same a b e = grind (arith, nat_tests)
 
 -- pairs rise by their classes
 class_rises : (a b : Shared) → shared_cmp a b ≡ Less → a.class ≤ b.class
 class_rises a b less = step (nat_cmp a.class b.class) refl less
   where
     step : (o : Ordering) → nat_cmp a.class b.class ≡ o → ordering_then o (nat_cmp a.common b.common) ≡ Less → a.class ≤ b.class
-    step Less e l = let h = below_less a.class b.class e in omega (arith, h)
-    step Equal e l = let h = equal_same a.class b.class e in omega (arith, h)
+    step Less e l = let h = below_by a.class b.class e in omega (arith, h)
+    step Equal e l = let h = same_by a.class b.class e in omega (arith, h)
     step Greater e l = absurd (let f : Greater ≡ Less = l in cc)
 
 module _ (shared : List Shared) (rising : IsStrictlySortedBy shared_cmp shared) where
@@ -280,46 +275,58 @@ says_words xs x f args says first second said = ap two_words (says ∙ ap (all_r
 pub shares_nothing : (xs : List Item) (x : Item) → ((k : Pair) → Shares xs x k → ⊥) → (f : Fault) → HasTwoCommons xs x f → ⊥
 shares_nothing xs x none f t = none t.pair t.shares
 
--- ---- item by item
-
-module _ (xs : List Item) (before : List Fault) where
-  -- beside the faults before, those of these items are told
-  abbrev pub AreToldTwice : List Item → List Fault → Type 0
-  AreToldTwice some faults = (f : Fault) → Contains faults f ↔ (Contains before f ⊎ ((x : Item) × Contains some x × HasTwoCommons xs x f))
-
-  pub none_told : (ys : List Item) → AreToldTwice (take 0 ys) before
-  none_told ys f = (λ c. inl c, λ e. elim e [ inl c ↦ c | inr t ↦ absurd (nobody ys t.0 t.1) ])
-    where
-      nobody : (zs : List Item) (x : Item) → Contains (take 0 zs) x → ⊥
-      nobody [] x c = contains_none x c
-      nobody (z ∷ zs) x c = contains_none x c
-
-  pub more_told : (n : ℕ) (x : Item) (old new : List Fault) → take (n + 1) xs ≡ take n xs ++ x ∷ [] → ((f : Fault) → Contains new f ↔ (Contains old f ⊎ HasTwoCommons xs x f))
-      → AreToldTwice (take n xs) old → AreToldTwice (take (n + 1) xs) new
-  more_told n x old new taken step are f = (
-    λ c. elim ((step f).0 c) [
-      | inl d ↦ elim ((are f).0 d) [
-        | inl b ↦ inl b
-        | inr t ↦ inr (t.0, subst (λ z. Contains z t.0) (sym taken) (Contains-append_left (take n xs) (x ∷ []) t.0 t.1), t.2)
-      ]
-      | inr h ↦ inr (x, subst (λ z. Contains z x) (sym taken) (Contains-append_right (take n xs) (x ∷ []) x (contains_here x [])), h)
-    ],
-    λ e. (step f).1 (elim e [
-      | inl b ↦ inl ((are f).1 (inl b))
-      | inr t ↦ elim (Contains-append_cases (take n xs) (x ∷ []) t.0 (subst (λ z. Contains z t.0) taken t.1)) [
-        | inl d ↦ inl ((are f).1 (inr (t.0, d, t.2)))
-        | inr d ↦ elim (contains_cases t.0 x [] d) [
-          | inl same ↦ inr (subst (λ (y : Item). HasTwoCommons xs y f) (sym same) t.2)
-          | inr n ↦ absurd (contains_none t.0 n)
-        ]
-      ]
-    ]),
-  )
-
-  pub all_told : (n : ℕ) (faults : List Fault) → length xs ≤ n → AreToldTwice (take n xs) faults → (f : Fault) → Contains faults f ↔ (Contains before f ⊎ IsToldTwice xs f)
-  all_told n faults over are = subst (λ ys. AreToldTwice ys faults) (take_all n xs over) are
-
 -- what joins a common to a class has no place for a list
 pub joins_no_lists : (k : Keyword) → is_class_common k ≡ true → may_say_lists k ≡ false
 joins_no_lists keywords.ClassCommon e = refl
 joins_no_lists k e = absurd (true≢false (sym e))
+
+-- ---- what is wrong with the class of a statement
+
+module _ (ss : List Space) (are : AreNamespaces ss) (es : List Entry) (ordered : AreOrdered ss es) (xs : List Item) (shared : List Shared) (given : AreShared ss es xs shared) (x : Item) (k : Pair) (shares : Shares xs x k)
+    (one : Shared) (is : IsPairOf ss es k one) where
+  -- a class that has two commons
+  pub twice_told : IsTwice shared one.class → (r : Option Wrong) → MatchOption r (two_words x.args ≡ None) (λ w. IsFirst (two_words x.args) w.code w.at w.bytes.now)
+      → IsWhatIsWrong (HasTwoCommons xs x) x.space r
+  twice_told twice None nothing = absurd (none-some (shares.class_word, shares.common_word) (sym nothing ∙ shares.says))
+  twice_told twice (Some w) first = λ f. (
+    λ t. (told_twice ss are es ordered xs shared given x k shares one is twice f).0 t ∙ same,
+    λ told. (told_twice ss are es ordered xs shared given x k shares one is twice f).1 (told ∙ sym same),
+  )
+    where
+      word : shares.class_word ≡ first.first
+      word = class_word_is ss are es ordered xs shared given x k shares one is first.first first.second first.are
+
+      same : fault_at causes.CommonTwice shares.class_word.at x.space shares.class_word.bytes ≡ fault_at w.code w.at x.space w.bytes.now
+      same = λ i.
+          fault_at (sym first.cause i) ((ap (λ (v : ScopedWord). v.at) word ∙ sym first.written) i) x.space ((ap (λ (v : ScopedWord). v.bytes) word ∙ sym first.spelled) i)
+
+module _ (i : Kept) (s : OptSet) (at : ℕ) where
+  -- a class that has too many permissions
+  pub wide_wrong : (r : Option Wrong) (w : Wrong) → r ≡ Some w → IsWideAt s i at r → IsWrongAt s i at (Some w)
+  wide_wrong r w same wide = record {
+    is = λ f. (
+      λ e. elim e [
+        | inl v ↦ (is f).0 v
+        | inr t ↦
+            let v = (is (fault_at w.code w.at (item_at i at).space w.bytes.now)).1 refl in
+            absurd (true≢false (sym t.shares.keyword ∙ ap is_class_common v.keyword))
+      ],
+      λ told. inl ((is f).1 told),
+    );
+  }
+    where
+      is : (f : Fault) → IsWide s (items_in i) (item_at i at) f ↔ (f ≡ fault_at w.code w.at (item_at i at).space w.bytes.now)
+      is = subst (IsWhatIsWrong (IsWide s (items_in i) (item_at i at)) (item_at i at).space) same wide.is
+
+  -- one that has not: it has two commons, or nothing is wrong with it
+  pub twice_wrong : (r : Option Wrong) → r ≡ None → IsWideAt s i at r → (twice : Option Wrong) → IsWhatIsWrong (HasTwoCommons (items_in i) (item_at i at)) (item_at i at).space twice → IsWrongAt s i at twice
+  twice_wrong r same wide None t = record { is = λ f e. elim e [ inl v ↦ none f v | inr w ↦ t f w ] }
+    where
+      none : (f : Fault) → IsWide s (items_in i) (item_at i at) f → ⊥
+      none = subst (IsWhatIsWrong (IsWide s (items_in i) (item_at i at)) (item_at i at).space) same wide.is
+  twice_wrong r same wide (Some w) t = record {
+    is = λ f. (λ e. elim e [ inl v ↦ absurd (none f v) | inr h ↦ (t f).0 h ], λ told. inr ((t f).1 told));
+  }
+    where
+      none : (f : Fault) → IsWide s (items_in i) (item_at i at) f → ⊥
+      none = subst (IsWhatIsWrong (IsWide s (items_in i) (item_at i at)) (item_at i at).space) same wide.is

@@ -5,13 +5,13 @@ use Rattle.std.specs.List.Sorted.{IsPermutation, IsSorted, IsStrictlySortedBy}
 use Rattle.std.specs.Ordering.{eq_by_cmp, nat_cmp}
 use Rattle.std.proofs.Common.{◌≡◌, ℕ, ◌+◌, ◌<◌, ◌≤◌, Bool, List, [], ◌∷◌, ◌++◌, get_or, length, map, take, sym, ◌∙◌, ap, subst, inl, inr, arith}
 use Rattle.std.proofs.lemmas.List.{get_or_default, map-append, take_all, take_more}
-use Rattle.std.proofs.lemmas.List.Elements.{Contains-append_cases}
+use Rattle.std.proofs.lemmas.List.Elements.{Contains-append_cases, Contains-append_left, Contains-append_right}
 use Rattle.std.proofs.Math.Dec.{eqb}
 use Rattle.std.proofs.lemmas.Bool.Decides.{nat_tests}
 use Rattle.std.proofs.lemmas.Cmp.{nat_cmp_total}
 use Rattle.cil_base.proofs.SortedLists.{sorted_list}
 use Rattle.cil_base.specs.Paths.{same_by}
-use Rattle.cil_base.specs.Lists.{Lists, contains_cases, contains_none}
+use Rattle.cil_base.specs.Lists.{Lists, contains_cases, contains_here, contains_none}
 use Rattle.cil_base.specs.MadeLists.{from_map}
 use Rattle.cil_base.specs.Places.{in_range}
 use Rattle.cil_base.specs.Records.{AreRecordsOf}
@@ -134,6 +134,12 @@ more_classes givens i g old new within is so kept added h c some =
         | inr none ↦ absurd (contains_none h none)
       ]
     ]
+
+pub class_kept : (old new : List ℕ) (d : ℕ) → new ≡ old ++ d ∷ [] → (other : ℕ) → Contains old other → Contains new other
+class_kept old new d push other there = subst (λ l. Contains l other) (sym push) (Contains-append_left old (d ∷ []) other there)
+
+pub class_added : (old new : List ℕ) (d : ℕ) → new ≡ old ++ d ∷ [] → Contains new d
+class_added old new d push = subst (λ l. Contains l d) (sym push) (Contains-append_right old (d ∷ []) d (contains_here d []))
 
 tests_agree : (a b : ℕ) → eqb a b ≡ eq_by_cmp nat_cmp a b
 tests_agree a b = grind (arith, nat_tests)

@@ -1,7 +1,8 @@
 -- The nodes of all to which a class permission leads.
 use Rattle.std.specs.Prelude.{◌⊎◌, ◌↔◌, Contains, Some, None, slice_get}
-use Rattle.std.proofs.Common.{◌≡◌, ℕ, ◌+◌, ◌<◌, ◌≤◌, Bool, true, List, [], ◌∷◌, ◌++◌, length, refl, sym, ◌∙◌, ap, subst, inl, inr, arith}
-use Rattle.std.proofs.lemmas.Bool.{and_from, and_parts}
+use Rattle.std.specs.List.Sorted.{IsStrictlySortedBy}
+use Rattle.std.proofs.Common.{◌≡◌, ℕ, ◌+◌, ◌<◌, ◌≤◌, Bool, true, false, List, [], ◌∷◌, ◌++◌, length, refl, sym, ◌∙◌, ap, subst, inl, inr, arith}
+use Rattle.std.proofs.lemmas.Bool.{and_from, and_parts, true≢false}
 use Rattle.std.proofs.lemmas.List.Elements.{Contains-append_left, Contains-append_right, Contains-append_cases}
 use Rattle.std.proofs.lemmas.Option.{none-some, same_Some}
 use Rattle.cil_base.specs.Lists.{contains_cases, contains_here, contains_none}
@@ -27,12 +28,14 @@ use Rattle.cil_names.specs.Unresolved.{listed_at}
 use Rattle.cil_classes.specs.declared.nodes.Node.{Node}
 use Rattle.cil_classes.specs.declared.nodes.Run.{Run}
 use Rattle.cil_classes.specs.Given.{Holder, mapped, named}
+use Rattle.cil_classes.specs.NodeOrder.{node_cmp, same_node}
 use Rattle.cil_classes.specs.Nodes.{IsEntryOf, IsNodeIn, IsRunOf, StandsAs}
 use Rattle.cil_classes.specs.Numbers.{IsHeld}
 use Rattle.cil_classes.specs.Parts.{AreAmong, AreLed, AreNodes, AreThoseUpTo, IsEntryFor, IsHeldAt}
 use Rattle.cil_classes.specs.Tied.{Leads, to_mapped, to_named}
 use Rattle.cil_classes.specs.Values.{in_value, in_value_there}
 use Rattle.cil_classes.proofs.EntryForLemmas.{its_permissions, same_entry}
+use Rattle.cil_classes.proofs.NodeLemmas.{one_place}
 use Rattle.cil_classes.proofs.ValueLemmas.{value_there}
 
 -- ---- the places of a run
@@ -64,11 +67,14 @@ one_more P run v old new wanted within so sound complete added = record {
     below : (u v : ℕ) → u < v + 1 → (u < v) ⊎ (u ≡ v)
     below u v l = grind arith
 
-pub pushed : (old new : List ℕ) (v : ℕ) → new ≡ old ++ v ∷ [] → (u : ℕ) → Contains new u ↔ (Contains old u ⊎ ((true ≡ true) × (v ≡ u)))
-pushed old new v push u = (
+pub not_pushed : (old : List ℕ) (wanted : Bool) (v : ℕ) → wanted ≡ false → (u : ℕ) → Contains old u ↔ (Contains old u ⊎ ((wanted ≡ true) × (v ≡ u)))
+not_pushed old wanted v off u = (λ c. inl c, λ e. elim e [ inl c ↦ c | inr it ↦ absurd (true≢false (sym it.0 ∙ off)) ])
+
+pub pushed : (old new : List ℕ) (wanted : Bool) (v : ℕ) → wanted ≡ true → new ≡ old ++ v ∷ [] → (u : ℕ) → Contains new u ↔ (Contains old u ⊎ ((wanted ≡ true) × (v ≡ u)))
+pushed old new wanted v on push u = (
   λ c. elim (Contains-append_cases old (v ∷ []) u (subst (λ l. Contains l u) push c)) [
     | inl before ↦ inl before
-    | inr last ↦ elim (contains_cases u v [] last) [ inl same ↦ inr (refl, same) | inr none ↦ absurd (contains_none u none) ]
+    | inr last ↦ elim (contains_cases u v [] last) [ inl same ↦ inr (on, same) | inr none ↦ absurd (contains_none u none) ]
   ],
   λ d. subst (λ l. Contains l u) (sym push) (elim d [
     | inl before ↦ Contains-append_left old (v ∷ []) u before
@@ -158,10 +164,12 @@ module _ (k : Known) (xs : List Item) (names : Kind → List (List ℕ)) (known 
   entry_itself kind w d for t is = record { entry = for.entry; at = for.at; of_kind = for.of_kind; symbol = sym is }
 
   -- the node of a class permission that a word names
-  module _ (w : ScopedWord) (d : ℕ) (for : IsEntryFor k xs kinds.ClassPermission w d) (run : Run) (of_entry : IsRunOf nodes d run) (within : run.end ≤ length nodes) (from : List ℕ)
-      (all : (v : ℕ) → Contains from v ↔ ((run.start ≤ v) × (v < run.end))) where
-    to_node : (v : ℕ) (h : Holder) → IsNodeIn k nodes v h → Leads xs (enabled_in k) (Leaf w) h → Contains from v
-    to_node v h is leads = elim (parts_of_lead xs (enabled_in k) (Leaf w) h leads) [
+  module _ (w : ScopedWord) (d : ℕ) (for : IsEntryFor k xs kinds.ClassPermission w d) where
+    abbrev named_node : Node
+    named_node = record { entry = d; number = 0 }
+
+    its_named_node : (v : ℕ) (h : Holder) (is : IsNodeIn k nodes v h) → Leads xs (enabled_in k) (Leaf w) h → is.node ≡ named_node
+    its_named_node v h is leads = elim (parts_of_lead xs (enabled_in k) (Leaf w) h leads) [
       | inl by_name ↦
           let stands = subst (λ u. StandsFor xs (enabled_in k) kinds.ClassPermission u by_name.symbol) (sym (same_Some w by_name.word by_name.is)) by_name.stands in
           let one = for.only_symbol by_name.symbol stands in
@@ -169,7 +177,7 @@ module _ (k : Known) (xs : List Item) (names : Kind → List (List ℕ)) (known 
           let same : is.node.entry ≡ d =
           same_entry k.lookup.namespaces.now k.lookup.names.now known.namespaces known.entries.ordered kinds.ClassPermission signs.ClassPermissions refl is.node.entry d by_name.symbol node.0
           (entry_itself kinds.ClassPermission w d for by_name.symbol one) in
-          (all v).1 (of_entry.in_run v is.node is.at same)
+          same_node is.node named_node same node.1
       | inr by_map ↦ absurd (none-some (by_map.word, by_map.expression) by_map.form)
     ]
 
@@ -181,19 +189,28 @@ module _ (k : Known) (xs : List Item) (names : Kind → List (List ℕ)) (known 
         let one : for.entry ≡ stands.0.entry = same_Some for.entry stands.0.entry (sym for.at ∙ ap (slice_get k.lookup.names.now) (sym same) ∙ stands.0.at) in
         absurd (let kinds_differ : kinds.ClassPermission ≡ kinds.ClassMap = sym for.of_kind ∙ ap (λ (x : Entry). x.kind) one ∙ stands.0.of_kind in cc)
 
-    pub led_by_name : AreLed k xs nodes (Leaf w) from
-    led_by_name = record {
-      leads = λ v h is. (
-        to_node v h is,
-        λ c. let m = (all v).0 c in named_by h is.node is.stands (of_entry.of_entry v is.node m.0 m.1 is.at),
+    -- nobody gives it anything
+    pub not_given : (from : List ℕ) → from ≡ [] → ((v : ℕ) → slice_get nodes v ≡ Some named_node → ⊥) → AreLed k xs nodes (Leaf w) from
+    not_given from none never = none_led (Leaf w) from none (λ v h is leads. never v (is.at ∙ ap Some (its_named_node v h is leads)))
+
+    pub led_by_name : IsStrictlySortedBy node_cmp nodes → (v : ℕ) → slice_get nodes v ≡ Some named_node → (from : List ℕ) → from ≡ v ∷ [] → AreLed k xs nodes (Leaf w) from
+    led_by_name rising v at from is_from = record {
+      leads = λ u h is. (
+        λ leads. subst (Contains from) (sym (one_place nodes rising u v named_node (is.at ∙ ap Some (its_named_node u h is leads)) at)) here,
+        λ c.
+            let node = same_Some is.node named_node (sym is.at ∙ ap (slice_get nodes) (only u c) ∙ at) in
+            named_by h is.node is.stands (ap (λ (n : Node). n.entry) node),
       );
-      are_nodes = λ v c.
-          let m = (all v).0 c in
-          let less = m.1 in
-          let (n, at) = some_at nodes v (omega (arith, less, within)) in
-          let (h, stands) = are v n at in
-          (h, record { node = n; at = at; stands = stands });
+      are_nodes = λ u c.
+          let (h, stands) = are v named_node at in
+          (h, record { node = named_node; at = ap (slice_get nodes) (only u c) ∙ at; stands = stands });
     }
+      where
+        here : Contains from v
+        here = subst (λ l. Contains l v) (sym is_from) (contains_here v [])
+
+        only : (u : ℕ) → Contains from u → u ≡ v
+        only u c = elim (contains_cases u v [] (subst (λ l. Contains l u) is_from c)) [ inl same ↦ sym same | inr none ↦ absurd (contains_none u none) ]
 
   -- ---- a list on a class map
 

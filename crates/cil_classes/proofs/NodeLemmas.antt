@@ -8,6 +8,7 @@ use Rattle.std.proofs.Common.{◌≡◌, ℕ, ◌<◌, ◌≤◌, true, false, L
 use Rattle.std.proofs.Math.Dec.{leb, ltb}
 use Rattle.std.proofs.lemmas.Bool.{cases_lt}
 use Rattle.std.proofs.lemmas.Bool.Decides.{nat_tests}
+use Rattle.cil_base.specs.Paths.{below_by, same_by}
 use Rattle.cil_base.specs.Places.{get_so, in_range}
 use Rattle.cil_base.proofs.SearchLemmas.{one_number, rising_at, searched}
 use Rattle.cil_classes.specs.declared.nodes.Node.{Node}
@@ -17,19 +18,13 @@ use Rattle.cil_classes.specs.Nodes.{IsRunOf}
 
 -- ---- the order
 
-below_less : (a b : ℕ) → nat_cmp a b ≡ Less → a < b
-below_less a b e = grind (arith, nat_tests)
-
-equal_same : (a b : ℕ) → nat_cmp a b ≡ Equal → a ≡ b
-equal_same a b e = grind (arith, nat_tests)
-
 -- nodes rise by their entries
 entry_rises : (a b : Node) → node_cmp a b ≡ Less → a.entry ≤ b.entry
 entry_rises a b less = step (nat_cmp a.entry b.entry) refl less
   where
     step : (o : Ordering) → nat_cmp a.entry b.entry ≡ o → ordering_then o (nat_cmp a.number b.number) ≡ Less → a.entry ≤ b.entry
-    step Less e l = let h = below_less a.entry b.entry e in omega (arith, h)
-    step Equal e l = let h = equal_same a.entry b.entry e in omega (arith, h)
+    step Less e l = let h = below_by a.entry b.entry e in omega (arith, h)
+    step Equal e l = let h = same_by a.entry b.entry e in omega (arith, h)
     step Greater e l = absurd (let f : Greater ≡ Less = l in cc)
 
 pub entries_rise : (nodes : List Node) → IsStrictlySortedBy node_cmp nodes → IsNonDecreasingBy (λ (n : Node). n.entry) nodes

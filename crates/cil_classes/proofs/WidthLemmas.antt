@@ -42,10 +42,9 @@ use Rattle.cil_syntax.specs.Kinds.{is_wanted}
 use Rattle.cil_blocks.specs.Namespaces.{space_at}
 use Rattle.cil_names.specs.Unresolved.{ArePermissions, listed_at}
 use Rattle.cil_macros.proofs.ItemsThere.{keyword_there, named_there}
-use Rattle.cil_classes.specs.Commons.{IsToldTwice}
 use Rattle.cil_classes.specs.Faults.{ClassFault, HasManyClasses, too_many, two_commons, wide}
 use Rattle.cil_classes.specs.Row.{most_permissions}
-use Rattle.cil_classes.specs.Widths.{IsWide}
+use Rattle.cil_classes.specs.Widths.{AreToldOf, IsWide, IsWrong}
 use Rattle.std.specs.List.Sorted.{IsStrictlySortedBy}
 use Rattle.std.specs.Option.{option_map_or}
 
@@ -204,13 +203,8 @@ one_more old new g P push told f = (
   ])),
 )
 
-module _ (xs : List Item) (s : OptSet) where
-  -- the faults are those of these items
-  abbrev pub AreToldOf : List Item → List Fault → Type 0
-  AreToldOf some faults =
-      (f : Fault) → (Contains faults f → (x : Item) × Contains some x × IsWide s xs x f) × ((x : Item) × Contains some x × IsWide s xs x f → Contains faults f)
-
-  pub told_none : (faults : List Fault) → faults ≡ [] → AreToldOf (take 0 xs) faults
+module _ (P : Item → Fault → Type 0) (xs : List Item) where
+  pub told_none : (faults : List Fault) → faults ≡ [] → AreToldOf P (take 0 xs) faults
   told_none faults e f = ((λ c. absurd (contains_none f (subst (λ z. Contains z f) e c))), (λ t. absurd (nobody xs t.0 t.1)))
     where
       nobody : (ys : List Item) (x : Item) → Contains (take 0 ys) x → ⊥
@@ -218,8 +212,7 @@ module _ (xs : List Item) (s : OptSet) where
       nobody (y ∷ ys) x c = contains_none x c
 
   pub told_more : (k : ℕ) (x : Item) (old new : List Fault) → take (k + 1) xs ≡ take k xs ++ x ∷ []
-      → ((f : Fault) → (Contains new f → Contains old f ⊎ IsWide s xs x f) × (Contains old f ⊎ IsWide s xs x f → Contains new f))
-      → AreToldOf (take k xs) old → AreToldOf (take (k + 1) xs) new
+      → ((f : Fault) → (Contains new f → Contains old f ⊎ P x f) × (Contains old f ⊎ P x f → Contains new f)) → AreToldOf P (take k xs) old → AreToldOf P (take (k + 1) xs) new
   told_more k x old new taken step are f = (
     (λ c. elim ((step f).0 c) [
       | inl d ↦ let t = (are f).0 d in (t.0, subst (λ z. Contains z t.0) (sym taken) (Contains-append_left (take k xs) (x ∷ []) t.0 t.1), t.2)
@@ -228,33 +221,33 @@ module _ (xs : List Item) (s : OptSet) where
     (λ t. (step f).1 (elim (Contains-append_cases (take k xs) (x ∷ []) t.0 (subst (λ z. Contains z t.0) taken t.1)) [
       | inl d ↦ inl ((are f).1 (t.0, d, t.2))
       | inr d ↦ elim (contains_cases t.0 x [] d) [
-        | inl e ↦ inr (subst (λ (y : Item). IsWide s xs y f) (sym e) t.2)
+        | inl e ↦ inr (subst (λ (y : Item). P y f) (sym e) t.2)
         | inr n ↦ absurd (contains_none t.0 n)
       ]
     ])),
   )
 
-  -- with those of commons they are all
-  module _ (k : ℕ) (wides before faults : List Fault) (over : length xs ≤ k) (are : AreToldOf (take k xs) wides)
-      (more : (f : Fault) → (Contains before f → Contains wides f ⊎ IsToldTwice xs f) × (Contains wides f ⊎ IsToldTwice xs f → Contains before f))
-      (last : (f : Fault) → (Contains faults f → Contains before f ⊎ HasManyClasses s xs f) × (Contains before f ⊎ HasManyClasses s xs f → Contains faults f)) where
-    there_before : (f : Fault) → Contains before f → ClassFault s xs f
-    there_before f c = elim ((more f).0 c) [
-      | inl d ↦
-          let (x, cx, w) = (are f).0 d in
-          subst (ClassFault s xs) (sym w.told) (wide x w.at w.name w.rest w.permissions (subst (λ z. Contains z x) (take_all k xs over) cx) w.enabled w.keyword w.says w.listed w.wide)
-      | inr t ↦ two_commons t.0 f t.1 t.2
-    ]
+  pub told_all : (k : ℕ) (faults : List Fault) → length xs ≤ k → AreToldOf P (take k xs) faults → AreToldOf P xs faults
+  told_all k faults over = subst (λ ys. AreToldOf P ys faults) (take_all k xs over)
 
-    pub fault_there : (f : Fault) → Contains faults f → ClassFault s xs f
-    fault_there f c = elim ((last f).0 c) [ inl d ↦ there_before f d | inr m ↦ too_many f m ]
+-- with that of too many classes they are all
+module _ (xs : List Item) (s : OptSet) (before faults : List Fault) (are : AreToldOf (IsWrong s xs) xs before)
+    (last : (f : Fault) → (Contains faults f → Contains before f ⊎ HasManyClasses s xs f) × (Contains before f ⊎ HasManyClasses s xs f → Contains faults f)) where
+  there_before : (f : Fault) → Contains before f → ClassFault s xs f
+  there_before f c = let (x, cx, wrong) = (are f).0 c in elim wrong [
+    | inl w ↦ subst (ClassFault s xs) (sym w.told) (wide x w.at w.name w.rest w.permissions cx w.enabled w.keyword w.says w.listed w.wide)
+    | inr t ↦ two_commons x f cx t
+  ]
 
-    pub fault_back : (f : Fault) → ClassFault s xs f → Contains faults f
-    fault_back f (wide x at name rest permissions c on keyword says listed big) =
-        (last (fault_at causes.ClassWide at x.space name)).1 (inl ((more (fault_at causes.ClassWide at x.space name)).1 (inl ((are (fault_at causes.ClassWide at x.space name)).1 (
-          x,
-          subst (λ z. Contains z x) (sym (take_all k xs over)) c,
-          record { at = at; name = name; rest = rest; permissions = permissions; enabled = on; keyword = keyword; says = says; listed = listed; wide = big; told = refl },
-        )))))
-    fault_back f (two_commons x g c h) = (last f).1 (inl ((more f).1 (inr (x, c, h))))
-    fault_back f (too_many g m) = (last f).1 (inr m)
+  pub fault_there : (f : Fault) → Contains faults f → ClassFault s xs f
+  fault_there f c = elim ((last f).0 c) [ inl d ↦ there_before f d | inr m ↦ too_many f m ]
+
+  pub fault_back : (f : Fault) → ClassFault s xs f → Contains faults f
+  fault_back f (wide x at name rest permissions c on keyword says listed big) =
+      (last (fault_at causes.ClassWide at x.space name)).1 (inl ((are (fault_at causes.ClassWide at x.space name)).1 (
+        x,
+        c,
+        inl (record { at = at; name = name; rest = rest; permissions = permissions; enabled = on; keyword = keyword; says = says; listed = listed; wide = big; told = refl }),
+      )))
+  fault_back f (two_commons x g c h) = (last f).1 (inl ((are f).1 (x, c, inr h)))
+  fault_back f (too_many g m) = (last f).1 (inr m)

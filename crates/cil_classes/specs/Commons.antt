@@ -1,6 +1,7 @@
 -- Classes that statements join to two different commons. A class has one at most: this project's profile.
 use Rattle.std.specs.Prelude.{◌≡◌, ℕ, suc, Bool, true, false, List, Contains, Option, Some, get_or, slice_get}
 use Rattle.cil_faults.specs.Reported.{fault_at}
+use Rattle.cil_faults.specs.declared.code.FaultCode.{FaultCode}
 use Rattle.cil_faults.specs.declared.code.FaultCode.TheVariants as causes
 use Rattle.cil_faults.specs.declared.fault.Fault.{Fault}
 use Rattle.cil_faults.specs.declared.spot.Spot.{Spot}
@@ -51,8 +52,9 @@ IsFlagged flags d = get_or flags d false ≡ true
 abbrev pub IsToldTwice : List Item → Fault → Type 0
 IsToldTwice xs f = (x : Item) × Contains xs x × HasTwoCommons xs x f
 
--- the first of two words is written here, with these bytes
-pub record IsFirst (words : Option (ScopedWord × ScopedWord)) (at : Spot) (bytes : List ℕ) : Type 0 where
+-- the first of two words is written here, with these bytes: it is where two commons are told
+pub record IsFirst (words : Option (ScopedWord × ScopedWord)) (code : FaultCode) (at : Spot) (bytes : List ℕ) : Type 0 where
+  pub cause : code ≡ causes.CommonTwice
   pub first : ScopedWord
   pub second : ScopedWord
   pub are : words ≡ Some (first, second)

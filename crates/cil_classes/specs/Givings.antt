@@ -58,6 +58,11 @@ pub record GivesTo (xs : List Item) (s : OptSet) (x : Item) (g : Gift) : Type 0 
   pub there : IsThere xs s g.holder
   pub given : IsGivenBy xs s x g.holder g.term
 
+-- an enabled classmapping, which may have a list where a word is written
+pub record IsListed (s : OptSet) (x : Item) : Type 0 where
+  pub enabled : is_enabled s x ≡ true
+  pub keyword : x.keyword ≡ keywords.ClassMapping
+
 -- what the statement gives, by numbers: the node of its holder, its term, whatever the places of its lists, and meanings that begin
 -- with those of the term's words
 pub record IsGivingOf (k : Known) (xs : List Item) (f : Word → ScopedWord) (x : Item) (r : Giving) : Type 0 where

@@ -1,6 +1,6 @@
 //! What the statements of a policy give to class permissions and to permissions of class maps, by numbers.
 
-ghost use Rattle.std.specs.Prelude.{◌≡◌, ◌<◌, ℕ, Contains, IfOk, List, MatchOption, None, Some, length, map, true, false, IsTrue};
+ghost use Rattle.std.specs.Prelude.{◌≡◌, ◌<◌, ℕ, Contains, IfOk, List, MatchOption, None, Some, length, map, true};
 ghost use Rattle.std.specs.List.Sorted.{IsStrictlySortedBy};
 ghost use Rattle.cil_base.specs.Records.{AreRecordsOf, IsRecordOf};
 ghost use Rattle.cil_syntax.specs.declared.kind.Keyword.TheVariants as keywords;
@@ -12,14 +12,14 @@ ghost use Rattle.cil_syntax.specs.Said.{all_said, args_of, said_of};
 ghost use Rattle.cil_syntax.specs.Scopes.{ScopedWord};
 ghost use Rattle.cil_macros.proofs.FormLemmas.{all_across};
 ghost use Rattle.cil_macros.specs.Item.{Item, is_enabled};
-ghost use Rattle.cil_macros.specs.Items.{SaysItsWords, item_at, items_in, word_at};
+ghost use Rattle.cil_macros.specs.Items.{item_at, items_in, word_at};
 ghost use Rattle.cil_macros.specs.ListTerms.{AreAlike};
 ghost use Rattle.cil_names.specs.declared.known.Known.{Known as Lookups};
 ghost use Rattle.cil_names.specs.Known.{IsKnown, enabled_in, row_in};
 ghost use Rattle.cil_names.specs.Numbers.{AreApart};
 ghost use Rattle.cil_names.specs.Rows.{IsTableOf};
 ghost use Rattle.cil_classes.specs.ClassRows.{AreClasses};
-ghost use Rattle.cil_classes.specs.Givings.{Gift, GivesTo, HaveNodes, IsGivenFor, IsGivingOf, IsMapping, IsNoMapping, IsNodeFor, IsSet};
+ghost use Rattle.cil_classes.specs.Givings.{Gift, GivesTo, HaveNodes, IsGivenFor, IsGivingOf, IsListed, IsMapping, IsNoMapping, IsNodeFor, IsSet};
 ghost use Rattle.cil_classes.specs.NodeOrder.{node_cmp};
 ghost use Rattle.cil_classes.specs.Parts.{AreNodes};
 ghost use Rattle.cil_classes.specs.Row.{AreOrderlyRows};
@@ -90,8 +90,8 @@ fn node_at(
     ensures { IfOk result (λ node. (xs : List Item) (names : kinds.Kind → List (List ℕ)) → IsKnown known.now xs names → words.now ≡ row_in known.now (item_at instances.now at)
         → IsRecordOf (GivesTo xs (enabled_in known.now)) (IsNodeFor known.now) (item_at instances.now at) node) }
 {
-    if !maps_list(instances, at, known) {
-        return Ok(node_of(giving_at(instances, at, words, known)));
+    if let Some(giving) = giving_at(instances, at, words, known) {
+        return Ok(node_of(giving));
     }
     let terms = instances.terms(alloc, at)?;
     Ok(node_of(mapping_giving(known, terms.as_slice(), 0, words)))
@@ -106,22 +106,6 @@ fn node_of(giving: Option<Giving<'_, '_, '_>>) -> Option<Node>
         return None;
     };
     Some(giving.node)
-}
-
-/// Whether the statement at a place is an enabled classmapping that may have a list where a word is written.
-fn maps_list(instances: &Instances, at: usize, known: &Known) -> bool
-    requires { at < length (items_in instances.now) }
-    ensures lists { IsTrue result → (item_at instances.now at).keyword ≡ keywords.ClassMapping }
-    ensures enabled { IsTrue result → is_enabled (enabled_in known.now) (item_at instances.now at) ≡ true }
-    ensures words { result ≡ false → is_enabled (enabled_in known.now) (item_at instances.now at) ≡ true → (item_at instances.now at).keyword ≡ keywords.ClassMapping → SaysItsWords instances.now at }
-{
-    if !same_keyword(instances.statement_there(at).keyword, Keyword::ClassMapping) {
-        return false;
-    }
-    if !instances.may_have_list(at) {
-        return false;
-    }
-    known.is_enabled(instances, at)
 }
 
 /// What enabled statements give, in their order, where each to which they give something has a node. Error: out of memory.
@@ -176,15 +160,12 @@ fn given_at(
         → words.now ≡ row_in known.now (item_at instances.now at)
         → IsRecordOf (GivesTo xs (enabled_in known.now)) (IsGivenFor known.now xs classes.now nodes.now) (item_at instances.now at) given) }
 {
-    if !maps_list(instances, at, known) {
-        let giving = giving_at(instances, at, words, known);
-        let given = given_of(alloc, known, classes, nodes, giving)?;
-        return Ok(given);
+    if let Some(giving) = giving_at(instances, at, words, known) {
+        return given_of(alloc, known, classes, nodes, giving);
     }
     let terms = instances.terms(alloc, at)?;
     let giving = mapping_giving(known, terms.as_slice(), 0, words);
-    let listed = given_of(alloc, known, classes, nodes, giving)?;
-    Ok(listed)
+    given_of(alloc, known, classes, nodes, giving)
 }
 
 /// The same, where this is what a statement gives.
@@ -222,31 +203,34 @@ fn given_of(
 }
 
 /// What the statement at a place gives, if it is an enabled one that gives something to a class permission or to a permission that
-/// its class map has. It costs no look-up.
+/// its class map has. It costs no look-up. Not answered is an enabled classmapping that may have a list where a word is written.
 fn giving_at<'p, 'a, 's>(
     instances: &Instances<'_, 'p, 'a>,
     at: usize,
     words: &'s [Meaning],
     known: &Known,
-) -> Option<Giving<'p, 'a, 's>>
+) -> Option<Option<Giving<'p, 'a, 's>>>
     requires within { at < length (items_in instances.now) }
-    requires words { is_enabled (enabled_in known.now) (item_at instances.now at) ≡ true → (item_at instances.now at).keyword ≡ keywords.ClassMapping → SaysItsWords instances.now at }
-    ensures { (xs : List Item) (names : kinds.Kind → List (List ℕ)) → IsKnown known.now xs names → words.now ≡ row_in known.now (item_at instances.now at)
-        → MatchOption result ((g : Gift) → GivesTo xs (enabled_in known.now) (item_at instances.now at) g → ⊥)
-        (IsGivingOf known.now xs (word_at instances.now at) (item_at instances.now at)) }
+    ensures { MatchOption result (IsListed (enabled_in known.now) (item_at instances.now at))
+        (λ giving. (xs : List Item) (names : kinds.Kind → List (List ℕ)) → IsKnown known.now xs names → words.now ≡ row_in known.now (item_at instances.now at)
+        → MatchOption giving ((g : Gift) → GivesTo xs (enabled_in known.now) (item_at instances.now at) g → ⊥)
+        (IsGivingOf known.now xs (word_at instances.now at) (item_at instances.now at))) }
 {
     let statement = instances.statement_there(at);
     if !known.is_enabled(instances, at) {
-        return None;
+        return Some(None);
     }
     if same_keyword(statement.keyword, Keyword::ClassPermissionSet) {
-        return set_giving(known, statement, words);
+        return Some(set_giving(known, statement, words));
     }
-    if same_keyword(statement.keyword, Keyword::ClassMapping) {
-        let module = statement.at.module;
-        return mapping_giving(known, statement.args.as_slice(), module, words);
+    if !same_keyword(statement.keyword, Keyword::ClassMapping) {
+        return Some(None);
     }
-    None
+    if instances.may_have_list(at) {
+        return None;
+    }
+    let module = statement.at.module;
+    Some(mapping_giving(known, statement.args.as_slice(), module, words))
 }
 
 /// What a classpermissionset gives.

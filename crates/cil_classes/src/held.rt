@@ -1,7 +1,7 @@
 //! The permissions of class permissions and of permissions of class maps: masks for each class, made once for all rules.
 
 ghost use Rattle.std.specs.Prelude.{◌≡◌, ◌<◌, ℕ, All, Contains, IfOk, List, OnOk, map};
-ghost use Rattle.std.specs.List.Sorted.{IsStrictlySortedBy};
+ghost use Rattle.std.specs.List.Sorted.{IsNonDecreasingBy, IsStrictlySortedBy};
 ghost use Rattle.std.specs.Ordering.{nat_cmp};
 ghost use Rattle.cil_settle.specs.Settled.{leads_within};
 ghost use Rattle.cil_syntax.specs.declared.kind.Kind as kinds;
@@ -11,7 +11,7 @@ ghost use Rattle.cil_names.specs.Known.{IsKnown, enabled_in, row_in};
 ghost use Rattle.cil_names.specs.Numbers.{AreApart};
 ghost use Rattle.cil_names.specs.Rows.{IsTableOf};
 ghost use Rattle.cil_classes.specs.declared.assigned.Given.{Given as AGiven};
-ghost use Rattle.cil_classes.specs.Assigned.{IsWithin};
+ghost use Rattle.cil_classes.specs.Assigned.{AreEdges, IsWithin};
 ghost use Rattle.cil_classes.specs.ClassRows.{AreClasses};
 ghost use Rattle.cil_classes.specs.Held.{AreHeld, IsAssigned};
 ghost use Rattle.cil_classes.specs.Row.{AreOrderlyRows};
@@ -23,6 +23,7 @@ use crate::row::Class;
 use cil_base::NoMemory;
 use cil_macros::Instances;
 use cil_names::Known;
+use cil_settle::Edge;
 use std::alloc::Global;
 
 /// The permissions of one class that nodes have.
@@ -71,11 +72,31 @@ fn held_of(alloc: Global, givens: &[Given], count: usize) -> Result<Vec<ClassMas
 {
     let edges = edges_of(alloc, givens)?;
     let classes = classes_given(alloc, givens)?;
+    masks_of_each(alloc, givens, edges.as_slice(), classes.as_slice(), count)
+}
+
+/// The masks of each of these classes, which are all of which some statement gives permissions by itself.
+fn masks_of_each(
+    alloc: Global,
+    givens: &[Given],
+    edges: &[Edge],
+    classes: &[usize],
+    count: usize,
+) -> Result<Vec<ClassMasks>, NoMemory>
+    requires sorted { IsNonDecreasingBy (λ e. e.from) edges.now }
+    requires edges { AreEdges givens.now edges.now }
+    requires within { All (IsWithin count) givens.now }
+    requires rising { IsStrictlySortedBy nat_cmp classes.now }
+    requires all { (g : AGiven) → Contains givens.now g → (g.part.mask ≡ 0 → ⊥) → Contains classes.now g.part.class }
+    ensures { IfOk result (λ held. AreHeld givens.now count held.items) }
+{
     let mut held = Vec::new(alloc);
-    for number in 0..classes.len() {
-        let class = classes[number];
-        let masks = masks_of(alloc, givens, edges.as_slice(), class, count)?;
-        held.push(ClassMasks { class, masks })?;
+    for class in classes {
+        let masks = masks_of(alloc, givens, edges, *class, count)?;
+        held.push(ClassMasks {
+            class: *class,
+            masks,
+        })?;
     }
     Ok(held)
 }

@@ -23,7 +23,7 @@ ghost use Rattle.cil_classes.specs.Row.{AreOrderlyRows};
 use crate::assigned::Part;
 use crate::expression::holds;
 use crate::given::given_by;
-use crate::nodes::{Node, Run, run_of};
+use crate::nodes::{Node, Run, place_of, run_of};
 use crate::row::Class;
 use cil_base::NoMemory;
 use cil_names::{Known, Meaning, behind_first, laws, meaning_at};
@@ -47,8 +47,6 @@ pub fn part_of(
         → AreApart known.now.lookup.names.now (enabled_in known.now) known.now.numbers.now → AreClasses xs (enabled_in known.now) (names variants.Class) classes.now → AreNodes known.now nodes.now
         → BeginWith known.now f (said_of «module» term.now) words.now → IsPartIn known.now xs classes.now nodes.now part (term_with f «module» term.now)) }
 {
-    // What is known of a word: it means the entry that it names.
-    laws::means_what_it_names();
     if let Some(given) = given_by(known, classes, term, module, words) {
         return Ok(Part {
             class: given.class,
@@ -98,7 +96,11 @@ fn named_nodes(
     let Some(entry) = entry_of(known, Kind::ClassPermission, meaning_at(words, 0)) else {
         return Ok(Vec::new(alloc));
     };
-    run_nodes(alloc, run_of(nodes, entry))
+    let Some(v) = place_of(nodes, Node { entry, number: 0 }) else {
+        return Ok(Vec::new(alloc));
+    };
+    let from = vec![in alloc; v; 1]?;
+    Ok(from)
 }
 
 /// The nodes of the permissions of a class map that are in the value of an expression.
@@ -114,8 +116,6 @@ fn mapped_nodes(
     ensures { IfOk result (λ from. (xs : List Item) (names : kinds.Kind → List (List ℕ)) (f : AWord → ScopedWord) → IsKnown known.now xs names → AreNodes known.now nodes.now
         → BeginWith known.now f (said_of «module» term.now) words.now → IsForm term.now → AreLed known.now xs nodes.now (term_with f «module» term.now) from.items) }
 {
-    // What is known of a word: it means the entry that it names.
-    laws::means_what_it_names();
     let Some(parts) = term.class_parts(module) else {
         return Ok(Vec::new(alloc));
     };
@@ -128,17 +128,6 @@ fn mapped_nodes(
     }
     let rest = behind_first(words);
     held_nodes(alloc, nodes, run, parts.permissions, rest)
-}
-
-/// The places of a run.
-fn run_nodes(alloc: Global, run: Run) -> Result<Vec<usize>, NoMemory>
-    ensures { IfOk result (λ from. (v : ℕ) → Contains from.items v ↔ ((run.start ≤ v) × (v < run.end))) }
-{
-    let mut from = Vec::new(alloc);
-    for v in run.start..run.end {
-        from.push(v)?;
-    }
-    Ok(from)
 }
 
 /// The places of those nodes of a run whose permissions are in the value of an expression, by numbers that begin with those of

@@ -1,25 +1,24 @@
-//! Classes with more permissions than a mask has bits, and all that is wrong with classes.
+//! Classes with more permissions than a mask has bits, or with two commons.
 
-ghost use Rattle.std.specs.Prelude.{◌≡◌, ◌<◌, ◌↔◌, ◌⊎◌, Contains, MatchOption, OnOk, length};
-ghost use Rattle.cil_faults.specs.declared.fault.Fault.{Fault as AFault};
-ghost use Rattle.cil_faults.specs.declared.code.FaultCode.TheVariants as causes;
+ghost use Rattle.std.specs.Prelude.{◌≡◌, ◌<◌, IfOk, OnOk, length};
 ghost use Rattle.cil_faults.specs.Refusal.{Answers};
-ghost use Rattle.cil_faults.specs.Reported.{fault_at};
-ghost use Rattle.cil_macros.specs.Items.{item_at, items_in, namespaces_in};
+ghost use Rattle.cil_macros.specs.Item.{OptSet as Optionals};
+ghost use Rattle.cil_macros.specs.Items.{items_in, namespaces_in};
+ghost use Rattle.cil_base.specs.Lists.{Lists, text_cmp};
 ghost use Rattle.cil_names.specs.Entries.{AreEntries, is_in};
 ghost use Rattle.cil_names.specs.Shared.{AreShared};
-ghost use Rattle.cil_names.specs.Unresolved.{ArePermissions, listed_at};
-ghost use Rattle.cil_base.specs.Lists.{Lists, text_cmp};
+ghost use Rattle.cil_names.specs.Unresolved.{listed_at};
 ghost use Rattle.cil_classes.specs.Faults.{ClassFault, IsClassName};
-ghost use Rattle.cil_classes.specs.Widths.{IsWide};
+ghost use Rattle.cil_classes.specs.Widths.{AreAsked, AreToldOf, AreTwice, IsPushed, IsWideAt, IsWrong, IsWrongAt};
 
-use crate::commons::push_commons;
+use crate::commons::{Wrong, class_word, flags_of_two};
 use crate::limit::push_many;
 use cil_base::NoMemory;
+use cil_blocks::ScopeList;
 use cil_blocks::spelled::spelled;
 use cil_macros::Instances;
-use cil_names::{Lookup, Shared};
-use cil_syntax::{Bytes, DeclaredName, Failure, Fault, FaultCode, Sign, push_fault_in, refuse};
+use cil_names::{Lookup, Shared, is_set, shared_at};
+use cil_syntax::{Bytes, Failure, Fault, FaultCode, Sign, push_fault_in, refuse};
 use std::alloc::Global;
 
 /// How many permissions a class may have.
@@ -38,66 +37,117 @@ pub fn check_classes(
     instances: &Instances,
     names: &[Bytes],
 ) -> Result<(), Failure>
-    requires namespaces { lookup.now.namespaces.now ≡ namespaces_in instances.now }
-    requires entries { AreEntries lookup.now.namespaces.now (items_in instances.now) lookup.now.names.now }
-    requires permissions { ArePermissions lookup.now.namespaces.now lookup.now.names.now (items_in instances.now) permissions.now }
+    requires asked { AreAsked instances.now lookup.now permissions.now }
     requires shared { AreShared (namespaces_in instances.now) lookup.now.names.now (items_in instances.now) shared.now }
     requires names { Lists text_cmp (IsClassName (is_in lookup.now.enabled.now) (items_in instances.now)) names.now }
     ensures { Answers (λ done. Unit {0}) (ClassFault (is_in lookup.now.enabled.now) (items_in instances.now)) result }
 {
-    let mut faults = Vec::new(alloc);
-    for at in 0..instances.len() {
-        push_wide(alloc, &mut faults, lookup, permissions, instances, at)?;
-    }
-    push_commons(alloc, &mut faults, lookup.names, shared, instances)?;
+    let mut faults = wrong_classes(alloc, lookup, permissions, shared, instances)?;
     push_many(alloc, &mut faults, names)?;
     refuse(faults)
 }
 
-/// Reports the statement at a place, if it declares a class with too many permissions.
-fn push_wide(
+/// Enabled classes with too many permissions, and classes to which two commons are joined.
+fn wrong_classes(
     alloc: Global,
-    faults: &mut Vec<Fault>,
     lookup: &Lookup,
     permissions: &[Vec<Bytes>],
+    shared: &[Shared],
     instances: &Instances,
-    at: usize,
-) -> Result<(), NoMemory>
-    requires namespaces { lookup.now.namespaces.now ≡ namespaces_in instances.now }
-    requires entries { AreEntries lookup.now.namespaces.now (items_in instances.now) lookup.now.names.now }
-    requires permissions { ArePermissions lookup.now.namespaces.now lookup.now.names.now (items_in instances.now) permissions.now }
-    requires within { at < length (items_in instances.now) }
-    ensures { OnOk result ((f : AFault) → Contains faults.new.items f
-        ↔ (Contains faults.old.items f ⊎ IsWide (is_in lookup.now.enabled.now) (items_in instances.now) (item_at instances.now at) f)) }
+) -> Result<Vec<Fault>, NoMemory>
+    requires asked { AreAsked instances.now lookup.now permissions.now }
+    requires shared { AreShared (namespaces_in instances.now) lookup.now.names.now (items_in instances.now) shared.now }
+    ensures { IfOk result (λ faults. AreToldOf (IsWrong (is_in lookup.now.enabled.now) (items_in instances.now)) (items_in instances.now) faults.items) }
 {
-    let Some(name) = wide_class(lookup, permissions, instances, at) else {
-        return Ok(());
-    };
-    let space = spelled(alloc, instances.namespaces(), instances.space(at))?;
-    push_fault_in(
+    // What is known of the numbers of namespaces.
+    lookup.namespaces.are_namespaces();
+    let twice = flags_of_two(alloc, lookup.names.entries().len(), shared)?;
+    let mut scope = ScopeList::new(alloc);
+    wrong_among(
         alloc,
-        faults,
-        FaultCode::ClassWide,
-        name.at,
-        space,
-        name.bytes,
+        lookup,
+        permissions,
+        twice.as_slice(),
+        instances,
+        &mut scope,
     )
 }
 
-/// The name of the enabled class that the statement at a place declares, if it has too many permissions.
+/// The same, where these are the flags of classes to which two commons are joined.
+fn wrong_among(
+    alloc: Global,
+    lookup: &Lookup,
+    permissions: &[Vec<Bytes>],
+    twice: &[bool],
+    instances: &Instances,
+    scope: &mut ScopeList,
+) -> Result<Vec<Fault>, NoMemory>
+    requires asked { AreAsked instances.now lookup.now permissions.now }
+    requires twice { AreTwice (namespaces_in instances.now) lookup.now.names.now (items_in instances.now) twice.now }
+    ensures { IfOk result (λ faults. AreToldOf (IsWrong (is_in lookup.now.enabled.now) (items_in instances.now)) (items_in instances.now) faults.items) }
+{
+    let mut faults = Vec::new(alloc);
+    for at in 0..instances.len() {
+        let wrong = wrong_at(alloc, lookup, permissions, twice, instances, at, scope)?;
+        push_wrong(alloc, &mut faults, instances, at, wrong)?;
+    }
+    Ok(faults)
+}
+
+/// Reports what is wrong with the class of the statement at a place.
+fn push_wrong(
+    alloc: Global,
+    faults: &mut Vec<Fault>,
+    instances: &Instances,
+    at: usize,
+    wrong: Option<Wrong>,
+) -> Result<(), NoMemory>
+    ensures { OnOk result ((s : Optionals) → IsWrongAt s instances.now at wrong.entry → IsPushed s instances.now at faults.old.items faults.new.items) }
+{
+    let Some(wrong) = wrong else {
+        return Ok(());
+    };
+    let space = spelled(alloc, instances.namespaces(), instances.space(at))?;
+    push_fault_in(alloc, faults, wrong.code, wrong.at, space, wrong.bytes)
+}
+
+/// What is wrong with the class of the statement at a place: it has too many permissions, or two commons.
+fn wrong_at<'a>(
+    alloc: Global,
+    lookup: &Lookup,
+    permissions: &[Vec<Bytes>],
+    twice: &[bool],
+    instances: &Instances<'_, '_, 'a>,
+    at: usize,
+    scope: &mut ScopeList,
+) -> Result<Option<Wrong<'a>>, NoMemory>
+    requires asked { AreAsked instances.now lookup.now permissions.now }
+    requires twice { AreTwice (namespaces_in instances.now) lookup.now.names.now (items_in instances.now) twice.now }
+    requires within { at < length (items_in instances.now) }
+    ensures { IfOk result (IsWrongAt (is_in lookup.now.enabled.now) instances.now at) }
+{
+    if let Some(wide) = wide_class(lookup, permissions, instances, at) {
+        return Ok(Some(wide));
+    }
+    let Some(one) = shared_at(alloc, lookup.names, instances, at, scope)? else {
+        return Ok(None);
+    };
+    if !is_set(twice, one.class) {
+        return Ok(None);
+    }
+    Ok(class_word(instances, at))
+}
+
+/// That the enabled class which the statement at a place declares has too many permissions, if it has.
 fn wide_class<'a>(
     lookup: &Lookup,
     permissions: &[Vec<Bytes>],
     instances: &Instances<'_, '_, 'a>,
     at: usize,
-) -> Option<DeclaredName<'a>>
-    requires namespaces { lookup.now.namespaces.now ≡ namespaces_in instances.now }
-    requires entries { AreEntries lookup.now.namespaces.now (items_in instances.now) lookup.now.names.now }
-    requires permissions { ArePermissions lookup.now.namespaces.now lookup.now.names.now (items_in instances.now) permissions.now }
+) -> Option<Wrong<'a>>
+    requires asked { AreAsked instances.now lookup.now permissions.now }
     requires within { at < length (items_in instances.now) }
-    ensures { MatchOption result ((f : AFault) → IsWide (is_in lookup.now.enabled.now) (items_in instances.now) (item_at instances.now at) f → ⊥)
-        (λ name. (f : AFault) → IsWide (is_in lookup.now.enabled.now) (items_in instances.now) (item_at instances.now at) f
-        ↔ (f ≡ fault_at causes.ClassWide name.at (item_at instances.now at).space name.bytes.now)) }
+    ensures { IsWideAt (is_in lookup.now.enabled.now) instances.now at result }
 {
     let statement = instances.statement_there(at);
     let Some(name) = statement.declared_class() else {
@@ -114,7 +164,11 @@ fn wide_class<'a>(
     if listed_count(permissions, class) <= MOST_PERMISSIONS {
         return None;
     }
-    Some(name)
+    Some(Wrong {
+        code: FaultCode::ClassWide,
+        at: name.at,
+        bytes: name.bytes,
+    })
 }
 
 /// How many permissions are listed for an entry.

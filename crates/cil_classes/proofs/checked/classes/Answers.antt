@@ -13,5 +13,11 @@ check_classes-requires-clause-names c =
     (class_names_are c.args.lookup.now.namespaces.now (items_in c.args.instances.now) c.args.lookup.now.names.now c.requires.entries (is_in c.args.lookup.now.enabled.now) c.args.numbering.now.sections.classes.items
     (c.requires.numbers.lists kinds.Class refl))
 
+pub check_classes-requires-clause-asked : goal.check_classes-requires-clause-asked
+check_classes-requires-clause-asked c = record { namespaces = c.requires.namespaces; entries = c.requires.entries; permissions = c.requires.permissions }
+
+pub check_classes-requires-clause-shared : goal.check_classes-requires-clause-shared
+check_classes-requires-clause-shared c = c.requires.shared
+
 pub returns : goal.returns
 returns c = (c.in_ok-rows.ensures, c.in_ok-check_classes.ensures.1)

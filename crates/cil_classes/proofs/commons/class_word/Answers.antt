@@ -1,4 +1,4 @@
-use Rattle.std.proofs.Common.{◌∙◌, ap, sym}
+use Rattle.std.proofs.Common.{◌∙◌, ap, refl, sym}
 use Rattle.cil_syntax.specs.Forms.{two_words}
 use Rattle.cil_syntax.specs.Said.{args_of}
 use Rattle.cil_syntax.specs.Scopes.{ScopedWord}
@@ -28,6 +28,7 @@ returns c = λ joins.
     let says = named_there i c.args.at s is (joins_no_lists s.keyword joins_there) (joins_as_written s.keyword joins_there) in
     let words = c.in-Some.words in
     record {
+      cause = refl;
       first = word_at i c.args.at words.first;
       second = word_at i c.args.at words.second;
       are = says_words (items_in i) (item_at i c.args.at) (word_at i c.args.at) (args_of s) says words.first words.second c.in-Some.ensures;

@@ -23,19 +23,25 @@ returns-then-same_keyword c = λ xs names known are.
     let says = named_there i c.args.at s c.statement_there-statement.ensures.is (ap may_say_lists is) (ap says_as_written is) in
     c.set_giving.ensures xs names (item_at i c.args.at) (word_at i c.args.at) known (sym c.is_enabled.ensures ∙ c.if-not-is_enabled.false) (keyword ∙ is) says are
 
-pub returns-then-same_keyword-2 : goal.returns-then-same_keyword-2
-returns-then-same_keyword-2 c = λ xs names known are.
+pub returns-then-not-same_keyword : goal.returns-then-not-same_keyword
+returns-then-not-same_keyword c = λ xs names known are.
     let i = c.args.instances.now in
-    let s = c.statement_there-statement.result.now in
-    let keyword = keyword_there i c.args.at s c.statement_there-statement.ensures.is in
-    let is = c.same_keyword-2.ensures.0 c.if-same_keyword-2.true in
-    let says = itself_there i c.args.at s c.statement_there-statement.ensures.is (c.requires.words (sym c.is_enabled.ensures ∙ c.if-not-is_enabled.false) (keyword ∙ is)) (ap says_as_written is) in
-    c.mapping_giving.ensures xs names (item_at i c.args.at) (word_at i c.args.at) known (sym c.is_enabled.ensures ∙ c.if-not-is_enabled.false) (keyword ∙ is)
-    (ap (λ ts. all_spotless (all_across (word_at i c.args.at) (all_said s.at.«module» ts))) c.as_slice.ensures.value ∙ ap all_spotless (sym says)) are
+    let there = keyword_there i c.args.at c.statement_there-statement.result.now c.statement_there-statement.ensures.is in
+    other_statement xs (enabled_in c.args.known.now) (item_at i c.args.at) (λ e. true≢false (sym (c.same_keyword.ensures.1 (sym there ∙ e)) ∙ c.if-same_keyword.false))
+    (λ e. true≢false (sym (c.same_keyword-2.ensures.1 (sym there ∙ e)) ∙ c.if-not-same_keyword.true))
+
+pub returns-then-may_have_list : goal.returns-then-may_have_list
+returns-then-may_have_list c = record {
+  enabled = sym c.is_enabled.ensures ∙ c.if-not-is_enabled.false;
+  keyword = keyword_there c.args.instances.now c.args.at c.statement_there-statement.result.now c.statement_there-statement.ensures.is ∙ c.same_keyword-2.ensures.0 c.if-not-same_keyword.false;
+}
 
 pub returns : goal.returns
 returns c = λ xs names known are.
     let i = c.args.instances.now in
-    let there = keyword_there i c.args.at c.statement_there-statement.result.now c.statement_there-statement.ensures.is in
-    other_statement xs (enabled_in c.args.known.now) (item_at i c.args.at) (λ e. true≢false (sym (c.same_keyword.ensures.1 (sym there ∙ e)) ∙ c.if-same_keyword.false))
-    (λ e. true≢false (sym (c.same_keyword-2.ensures.1 (sym there ∙ e)) ∙ c.if-same_keyword-2.false))
+    let s = c.statement_there-statement.result.now in
+    let keyword = keyword_there i c.args.at s c.statement_there-statement.ensures.is in
+    let is = c.same_keyword-2.ensures.0 c.if-not-same_keyword.false in
+    let says = itself_there i c.args.at s c.statement_there-statement.ensures.is (c.may_have_list.ensures.words c.if-may_have_list.false) (ap says_as_written is) in
+    c.mapping_giving.ensures xs names (item_at i c.args.at) (word_at i c.args.at) known (sym c.is_enabled.ensures ∙ c.if-not-is_enabled.false) (keyword ∙ is)
+    (ap (λ ts. all_spotless (all_across (word_at i c.args.at) (all_said s.at.«module» ts))) c.as_slice.ensures.value ∙ ap all_spotless (sym says)) are

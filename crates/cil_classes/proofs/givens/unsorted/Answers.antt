@@ -5,6 +5,7 @@ use Rattle.cil_macros.specs.Items.{item_at, items_in}
 use Rattle.cil_macros.proofs.ItemLemmas.{item_there, items_taken}
 use Rattle.cil_names.specs.Known.{row_in}
 use Rattle.cil_base.proofs.RecordLemmas.{all_records, none_more, record_more}
+use Rattle.std.proofs.lemmas.Result.{IfOk-from_err}
 use Rattle.cil_classes.proofs.givens.unsorted.Goals as goal
 use Rattle.cil_classes.proofs.givens.unsorted.Goals.{in-Some+in_ok-push, in_default}
 
@@ -28,3 +29,9 @@ returns c = λ names known.
     let i = c.args.instances.now in
     let over : length (items_in i) ≤ c.loop-at.at = let t = c.loop-at-test.false in let n = c.len-at-end.ensures.items in omega (arith, t, n) in
     all_records _ _ (items_in i) c.loop-at.at _ (c.loop-at.invariant names known) over
+
+pub returns-in_err-node : goal.returns-in_err-node
+returns-in_err-node c = IfOk-from_err c.from_residual.result _ c.from_residual.ensures.0
+
+pub returns-in_err-push : goal.returns-in_err-push
+returns-in_err-push c = IfOk-from_err c.from_residual-in_err-push.result _ c.from_residual-in_err-push.ensures.0

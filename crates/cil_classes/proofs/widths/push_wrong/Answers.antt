@@ -3,33 +3,32 @@ use Rattle.std.proofs.Common.{◌≡◌, ◌≤◌, List, ◌∷◌, ◌++◌, �
 use Rattle.std.proofs.lemmas.Result.{IfOk-from_err, on_ok_weaker}
 use Rattle.cil_blocks.specs.declared.namespaces.Space.{Space}
 use Rattle.cil_blocks.specs.Namespaces.{space_at}
-use Rattle.cil_faults.specs.declared.code.FaultCode.TheVariants as causes
 use Rattle.cil_faults.specs.Reported.{fault_at, spelled_fault}
 use Rattle.cil_faults.specs.Namespaces.{qualified}
 use Rattle.cil_macros.specs.Items.{item_at, items_in}
-use Rattle.cil_names.specs.Entries.{is_in}
-use Rattle.cil_classes.specs.Widths.{IsWide}
+use Rattle.cil_classes.specs.Widths.{IsWrong}
 use Rattle.cil_classes.proofs.WidthLemmas.{none_more, one_more}
-use Rattle.cil_classes.proofs.widths.push_wide.Goals as goal
+use Rattle.cil_classes.proofs.widths.push_wrong.Goals as goal
 
 pub spelled-requires : goal.spelled-requires
 spelled-requires c = subst (λ ss. c.space.result ≤ length ss) (sym c.namespaces.ensures.value) c.space.ensures.within
 
 pub returns-in_default : goal.returns-in_default
-returns-in_default c =
-    none_more c.args.faults.now.items (IsWide (is_in c.args.lookup.now.enabled.now) (items_in c.args.instances.now) (item_at c.args.instances.now c.args.at)) c.in_default.ensures
+returns-in_default c = λ s wrong. record {
+  is = none_more c.args.faults.now.items (IsWrong s (items_in c.args.instances.now) (item_at c.args.instances.now c.args.at)) (rw c.in_default.is at wrong.is);
+}
 
 pub returns : goal.returns
 returns c =
     let x = item_at c.args.instances.now c.args.at in
-    let name = c.in-Some.name in
+    let w = c.in-Some.wrong in
     let space : c.in_ok-space.space ≡ qualified x.space =
     c.in_ok-space.ensures ∙ ap qualified (ap (λ (ss : List Space). space_at ss c.space.result) c.namespaces.ensures.value ∙ c.space.ensures.is) in
     on_ok_weaker c.push_fault_in.result
-    (λ one.
-    let told : c.push_fault_in.new.faults.items ≡ c.args.faults.now.items ++ fault_at causes.ClassWide name.at x.space name.bytes.now ∷ [] =
-    one ∙ ap (λ s. c.args.faults.now.items ++ spelled_fault causes.ClassWide name.at s name.bytes.now ∷ []) space in
-    one_more c.args.faults.now.items c.push_fault_in.new.faults.items _ (IsWide (is_in c.args.lookup.now.enabled.now) (items_in c.args.instances.now) x) told c.in-Some.ensures)
+    (λ one s wrong.
+    let told : c.push_fault_in.new.faults.items ≡ c.args.faults.now.items ++ fault_at w.code w.at x.space w.bytes.now ∷ [] =
+    one ∙ ap (λ z. c.args.faults.now.items ++ spelled_fault w.code w.at z w.bytes.now ∷ []) space in
+    record { is = one_more c.args.faults.now.items c.push_fault_in.new.faults.items _ (IsWrong s (items_in c.args.instances.now) x) told (rw c.in-Some.is at wrong.is) })
     c.push_fault_in.ensures
 
 pub returns-in_err-space : goal.returns-in_err-space
