@@ -2,7 +2,8 @@
 //! a permission its number among those of its class.
 //!
 //! Start at `asks.rt` (`asks_of`), which makes one table for all instances before optionals are chosen. `specs/Table.antt`
-//! says which rows it has. `walk.rt` walks over the terms of a statement, `cells.rt` keeps nearly all lists in four bytes,
+//! says which rows it has. `walk.rt` walks over the terms of a statement, `word_lists.rt` is the walk at a word and `class_lists.rt`
+//! at a class list. `cells.rt` keeps nearly all lists in four bytes,
 //! `pairs.rt` the permissions, which `hints.rt` helps to find, and `scopes.rt` the scopes that words have asked for.
 //! The table is read by the choice of optionals, a crate above; by `judge.rt`, which reports what names nothing (`judged`); and
 //! by `settled_rows.rt`, which says what each word means (`settled`). What a word could name is found a crate below.
@@ -10,12 +11,14 @@
 
 mod asks;
 mod cells;
+mod class_lists;
 mod hints;
 mod judge;
 mod pairs;
 mod scopes;
 mod settled_rows;
 mod walk;
+mod word_lists;
 
 pub use asks::{Asks, asks_of};
 pub use cells::Cells;
