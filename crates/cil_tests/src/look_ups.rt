@@ -331,18 +331,14 @@ const TABLES: &[(&[Declared], &[Row])] = &[
     ),
 ];
 
-fn is_meant_among(alloc: Global, spaces: &Spaces, declared: &[Declared], row: &Row) -> bool {
-    match names(alloc, spaces, declared) {
-        Some(names) => is_meant(alloc, spaces, &names, row),
-        None => false,
-    }
-}
-
 fn is_meant_here(alloc: Global, declared: &[Declared], row: &Row) -> bool {
-    match spaces_of(alloc, SPACES) {
-        Some(spaces) => is_meant_among(alloc, &spaces, declared, row),
-        None => false,
-    }
+    let Some(spaces) = spaces_of(alloc, SPACES) else {
+        return false;
+    };
+    let Some(names) = names(alloc, &spaces, declared) else {
+        return false;
+    };
+    is_meant(alloc, &spaces, &names, row)
 }
 
 /// The number of the first word of a table that does not mean what the table says.
