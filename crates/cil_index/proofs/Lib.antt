@@ -5,5 +5,6 @@ mod IndexLemmas
 mod KeyLemmas
 mod NumberLemmas
 mod OrderLemmas
+mod RunLemmas
 mod SetLemmas
 mod StartLemmas

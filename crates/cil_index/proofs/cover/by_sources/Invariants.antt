@@ -5,7 +5,7 @@ use Rattle.cil_index.proofs.CoverLemmas.{AreJoined}
 use Rattle.cil_index.proofs.cover.by_sources.Given as goal
 
 abbrev pub invariant-loop-number : goal.invariant-loop-number
-invariant-loop-number l = AreJoined (is_on l.settings) (rules_in l.searched) l.searched.memberships.now l.asked l.index.entries.now l.numbers l.start l.mask
+invariant-loop-number l = AreJoined (is_on l.settings) (rules_in l.searched) l.searched.memberships.now l.asked l.index l.numbers l.start l.mask
 
 abbrev pub decreases-loop-number : goal.decreases-loop-number
 decreases-loop-number l = 18446744073709551616 - l.start
