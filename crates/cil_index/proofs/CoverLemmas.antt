@@ -2,6 +2,7 @@
 use Rattle.std.specs.Prelude.{◌↔◌, ◌⊎◌, Bool, true, false, Contains, IfSome, IsBitSet, IsTrue, Option, Some, None, bit_and, bit_or, map, option_map, slice_get}
 use Rattle.std.proofs.Common.{◌≡◌, ℕ, suc, ◌+◌, ◌/◌, ◌%◌, ◌^◌, ◌<◌, ◌≤◌, List, [], ◌∷◌, length, get_or, sym, ◌∙◌, ap, subst, inl, inr, refl, arith}
 use Rattle.std.proofs.lemmas.Bool.{cases_lt}
+use Rattle.std.proofs.lemmas.List.{get_or_default}
 use Rattle.std.proofs.lemmas.Nat.{bit_set_by_shift}
 use Rattle.std.proofs.lemmas.Option.{slice_get-map}
 use Rattle.cil_base.specs.Lists.{contains_cases, contains_none}
@@ -9,7 +10,6 @@ use Rattle.cil_base.specs.MadeLists.{from_map}
 use Rattle.cil_base.specs.Places.{get_at, get_contains, none_some, some_same}
 use Rattle.cil_classes.proofs.BitLemmas.{none_set, set_in_either}
 use Rattle.cil_conditions.specs.declared.branch.Branch.{Branch}
-use Rattle.cil_sets.specs.Answers.{IsNextFrom}
 use Rattle.cil_rules.specs.declared.rule.Reach.{Reach}
 use Rattle.cil_rules.specs.declared.rule.Reach.TheVariants as reaches
 use Rattle.cil_rules.specs.Kept.{target_named}
@@ -160,34 +160,32 @@ module _ (on : ℕ → Bool) (rules : List Rule) (m : Memberships) (asked : Aske
   none_behind n mask past at bit of = absurd (none_past index.starts.items n at past of)
 
 module _ (on : ℕ → Bool) (rules : List Rule) (m : Memberships) (asked : Asked) (index : Index) (numbers : List ℕ) where
-  -- the mask has what the rules of the sources below a number cover, and nothing that no rule covers
-  pub record AreJoined (start mask : ℕ) : Type 0 where
+  -- a source is one of the first
+  abbrev pub IsAmong : (i n : ℕ) → Type 0
+  IsAmong i n = (k : ℕ) × (k < i) × (get_or numbers k n ≡ n)
+
+  -- the mask has what the rules of the first sources cover, and nothing that no rule covers
+  pub record AreJoined (i mask : ℕ) : Type 0 where
     pub sound : (bit : ℕ) → IsBitSet mask bit → HasCover on rules asked.source asked.target asked.class bit
-    pub all : HandOver on rules m asked index (λ n. Contains numbers n × (n < start)) mask
+    pub all : HandOver on rules m asked index (IsAmong i) mask
 
   pub none_joined : AreJoined 0 0
-  none_joined = record { sound = λ bit set. absurd (none_set bit set); all = λ n (has, below) at bit of aimed covers. absurd (omega (arith, below)) }
+  none_joined = record { sound = λ bit set. absurd (none_set bit set); all = λ n (k, below, is) at bit of aimed covers. absurd (omega (arith, below)) }
 
-  pub joined_source : (start mask more number : ℕ) → IsNextFrom numbers start number → AreJoined start mask
-      → ((bit : ℕ) → IsBitSet more bit → HasCover on rules asked.source asked.target asked.class bit) → Hands on rules m asked index number more → AreJoined (number + 1) (bit_or mask more)
-  joined_source start mask more number next so_far sound all = record {
+  pub joined_source : (i number mask more : ℕ) → i < length numbers → number ≡ get_or numbers i number → AreJoined i mask
+      → ((bit : ℕ) → IsBitSet more bit → HasCover on rules asked.source asked.target asked.class bit) → Hands on rules m asked index number more → AreJoined (i + 1) (bit_or mask more)
+  joined_source i number mask more within here so_far sound all = record {
     sound = λ bit set. elim ((set_in_either mask more bit).0 set) [ inl x ↦ so_far.sound bit x | inr x ↦ sound bit x ];
-    all = λ n (has, below) at bit of aimed covers. (set_in_either mask more bit).1 (elim (cases_lt n start) [
-      | inl before ↦ inl (so_far.all n (has, before) at bit of aimed covers)
-      | inr ge ↦ let least = next.least n has ge in let same : n ≡ number = omega (arith, least, below) in
-          inr (all at bit (subst (λ k. IsOfSource index.starts.items k at) same of) aimed covers)
+    all = λ n (k, below, is) at bit of aimed covers. (set_in_either mask more bit).1 (elim (cases_lt k i) [
+      | inl before ↦ inl (so_far.all n (k, before, is) at bit of aimed covers)
+      | inr ge ↦ let same : k ≡ i = omega (arith, ge, below) in
+          let one : n ≡ number = sym is ∙ ap (λ j. get_or numbers j n) same ∙ get_or_default numbers i n number within ∙ sym here in
+          inr (all at bit (subst (λ j. IsOfSource index.starts.items j at) one of) aimed covers)
     ]);
   }
 
-  -- the sources behind have no rules
-  pub last_source : (start mask number : ℕ) → IsNextFrom numbers start number → length index.starts.items ≤ number → AreJoined start mask → HandOver on rules m asked index (λ n. Contains numbers n) mask
-  last_source start mask number next past so_far n has at bit of aimed covers = elim (cases_lt n start) [
-    | inl before ↦ so_far.all n (has, before) at bit of aimed covers
-    | inr ge ↦ let least = next.least n has ge in none_behind on rules m asked index n mask (omega (arith, least, past)) at bit of aimed covers
-  ]
-
-  pub all_sources : (start mask : ℕ) → AreJoined start mask → ((v : ℕ) → Contains numbers v → start ≤ v → ⊥) → HandOver on rules m asked index (λ n. Contains numbers n) mask
-  all_sources start mask so_far none n has at bit of aimed covers = elim (cases_lt n start) [ inl below ↦ so_far.all n (has, below) at bit of aimed covers | inr ge ↦ absurd (none n has ge) ]
+  pub all_sources : (i mask : ℕ) → length numbers ≤ i → AreJoined i mask → HandOver on rules m asked index (λ n. Contains numbers n) mask
+  all_sources i mask over so_far n (k, within, is) at bit of aimed covers = so_far.all n (k, omega (arith, within, over), is) at bit of aimed covers
 
 -- ---- the sets that are asked for every type, one after another
 
@@ -293,10 +291,6 @@ not_known m t set bits filter small none (inl past) = omega (arith, past, small)
 not_known m t set bits filter small none (inr member) = let one = (bit_set_by_shift bits (set % 64)).1 (filter set member) in omega (arith, one, none)
 
 -- ---- a set that is known to have the source
-
-pub known_as : (o : Option ℕ) (number : ℕ) (P : ℕ → Type 0) → IfSome o (λ k. k ≡ number) → P number → IfSome o P
-known_as (Some k) number P same p = subst P (sym same) p
-known_as None number P same p = tt
 
 pub known_has : (o : Option ℕ) (set : ℕ) (P : ℕ → Type 0) → o ≡ Some set → IfSome o P → P set
 known_has o set P is p = subst (λ (z : Option ℕ). IfSome z P) is p

@@ -5,14 +5,13 @@ use Rattle.std.proofs.Common.{◌≡◌, ℕ, zero, suc, ◌+◌, ◌-◌, ◌*�
 use Rattle.std.proofs.Math.ListN.{get_or-append, get_or-eq_default, set}
 use Rattle.std.proofs.Math.Seq.{get_or-append_seam}
 use Rattle.std.proofs.lemmas.Bool.{cases_lt}
-use Rattle.std.proofs.lemmas.Nat.Bits.{bit_at_ones, bit_at_set_same}
-use Rattle.std.proofs.lemmas.List.{get_or_append_left, get_or-set_other, get_or-set_same, length-append, take_all, take_more}
+use Rattle.std.proofs.lemmas.Nat.Bits.{bit_at_set_same}
+use Rattle.std.proofs.lemmas.List.{get_or_append_left, get_or_default, get_or-set_other, get_or-set_same, length-append, take_all, take_more}
 use Rattle.std.proofs.lemmas.List.Elements.{Contains-append_cases, Contains-append_left, Contains-append_right}
 use Rattle.cil_base.specs.Lists.{contains_cases, contains_here, contains_none}
 use Rattle.cil_classes.proofs.BitLemmas.{set_in_either, set_is_one}
-use Rattle.cil_sets.specs.Answers.{IsNextFrom}
 use Rattle.cil_index.specs.declared.memberships.Memberships.{Memberships}
-use Rattle.cil_index.specs.Memberships.{AreFilters, AreMemberships, AreNoted, AreNotedBelow, IsAlone, IsFilter, IsKnownFor, IsNoted, IsNotedIn}
+use Rattle.cil_index.specs.Memberships.{AreAtMost, AreFilters, AreMemberships, AreNoted, AreNotedBelow, IsAlone, IsFilter, IsKnownFor, IsNoted, IsNotedIn}
 use Rattle.cil_index.specs.Sets.{all_sets, set_of}
 use Rattle.cil_index.proofs.SetLemmas.{empty_there, in_one, several_there, small_there}
 
@@ -42,6 +41,14 @@ module _ (ones : ℕ) (several sets : List (List ℕ)) (m : Memberships) (is : a
   pub noted_all : AreMemberships sets m
   noted_all = subst (λ l. AreMemberships l m) is (record { known = known_for; noted = noted_for; filtered = noted.filtered })
 
+-- ---- the list of a type
+
+pub list_there : (lists slice : List (List ℕ)) (t : ℕ) (list : List ℕ) → slice ≡ lists → t < length slice → list ≡ get_or slice t list → list ≡ get_or lists t []
+list_there lists slice t list same within is = is ∙ get_or_default slice t list [] within ∙ ap (λ (z : List (List ℕ)). get_or z t []) same
+
+pub list_none : (lists slice : List (List ℕ)) (t : ℕ) → slice ≡ lists → length slice ≤ t → get_or lists t [] ≡ []
+list_none lists slice t same past = ap (λ (z : List (List ℕ)). get_or z t []) (sym same) ∙ get_or-eq_default slice [] past
+
 -- one set more
 pub noted_more : (ones : ℕ) (several : List (List ℕ)) (k : ℕ) (set : List ℕ) (number : ℕ) (old new : List (List ℕ)) → set ≡ get_or several k [] → number ≡ k + ones + 1 → AreNoted ones several k old
     → IsNotedIn old set number new → AreNoted ones several (k + 1) new
@@ -56,13 +63,21 @@ noted_more ones several k set number old new is is_number noted step = record {
     | inl d ↦ noted.only n t d
     | inr d ↦ (k, d.1 ∙ is_number, subst (λ l. Contains l t) is d.0)
   ];
+  below = λ t n c. elim (step.only t n c) [
+    | inl d ↦ let le = noted.below t n d in omega (arith, le)
+    | inr d ↦ let same = d.1 in omega (arith, same, is_number)
+  ];
 }
+
+pub at_most_next : (ones k number : ℕ) (lists : List (List ℕ)) → number ≡ k + ones + 1 → AreAtMost (k + ones) lists → AreAtMost number lists
+at_most_next ones k number lists is below t n c = let le = below t n c in omega (arith, le, is)
 
 -- no list has a number
 pub none_noted : (ones : ℕ) (several lists : List (List ℕ)) → lists ≡ [] → AreNoted ones several 0 lists
 none_noted ones several lists none = record {
   each = λ place t below has. absurd (omega (arith, below));
   only = λ n t c. absurd (contains_none n (subst (λ (l : List (List ℕ)). Contains (get_or l t []) n) none c));
+  below = λ t n c. absurd (contains_none n (subst (λ (l : List (List ℕ)). Contains (get_or l t []) n) none c));
 }
 
 -- all below the first large one
@@ -98,6 +113,9 @@ added_more old mid new types i t number within is so_far step = record {
     one_more : take (i + 1) types ≡ take i types ++ t ∷ []
     one_more = take_more types i t within ∙ ap (λ z. take i types ++ z ∷ []) (sym is)
 
+pub at_most_added : (old new : List (List ℕ)) (types : List ℕ) (number : ℕ) → AreAtMost number old → IsNotedIn old types number new → AreAtMost number new
+at_most_added old new types number below step t n c = elim (step.only t n c) [ inl d ↦ below t n d | inr d ↦ let same = d.1 in omega (arith, same) ]
+
 pub added_all : (old new : List (List ℕ)) (types set : List ℕ) (i number : ℕ) → length types ≤ i → types ≡ set → IsNotedIn old (take i types) number new → IsNotedIn old set number new
 added_all old new types set i number over is noted = subst (λ l. IsNotedIn old l number new) (take_all i types over ∙ is) noted
 
@@ -105,6 +123,18 @@ added_all old new types set i number over is noted = subst (λ l. IsNotedIn old 
 
 order : (j at : ℕ) → (j < at) ⊎ ((j ≡ at) ⊎ (at < j))
 order j at = grind arith
+
+pub pushed_is : (xs ys list : List ℕ) (n : ℕ) → ys ≡ xs → list ≡ ys ++ n ∷ [] → (v : ℕ) → Contains list v ↔ (Contains xs v ⊎ (v ≡ n))
+pushed_is xs ys list n same push v = (
+  λ c. elim (Contains-append_cases xs (n ∷ []) v (subst (λ l. Contains l v) (push ∙ ap (λ z. z ++ n ∷ []) same) c)) [
+    | inl d ↦ inl d
+    | inr d ↦ elim (contains_cases v n [] d) [ inl e ↦ inr (sym e) | inr none ↦ absurd (contains_none v none) ]
+  ],
+  λ c. subst (λ l. Contains l v) (sym (push ∙ ap (λ z. z ++ n ∷ []) same)) (elim c [
+    | inl d ↦ Contains-append_left xs (n ∷ []) v d
+    | inr e ↦ Contains-append_right xs (n ∷ []) v (subst (Contains (n ∷ [])) (sym e) (contains_here n []))
+  ]),
+)
 
 pub noted_at : (old mid new : List (List ℕ)) (t number : ℕ) (list : List ℕ) → ((u : ℕ) → get_or mid u [] ≡ get_or old u []) → t < length mid → new ≡ set mid t list
     → ((v : ℕ) → Contains list v ↔ (Contains (get_or mid t []) v ⊎ (v ≡ number))) → IsNoted old t number new
@@ -139,31 +169,28 @@ grown lists more added none made t = ap (λ (l : List (List ℕ)). get_or l t []
 
 -- ---- bits
 
--- the bits have one for each number below one
-abbrev pub IsFilterBelow : List ℕ → ℕ → ℕ → Type 0
-IsFilterBelow numbers start bits = (n : ℕ) → Contains numbers n → n < start → IsBitSet bits (n % 64)
+-- the bits have one for each of the first numbers
+abbrev pub IsFirstFilter : List ℕ → ℕ → ℕ → Type 0
+IsFirstFilter numbers i bits = (k : ℕ) → k < i → IsBitSet bits (get_or numbers k 0 % 64)
 
-pub filter_none : (numbers : List ℕ) → IsFilterBelow numbers 0 0
-filter_none numbers n has below = absurd (omega (arith, below))
+pub filter_none : (numbers : List ℕ) → IsFirstFilter numbers 0 0
+filter_none numbers k below = absurd (omega (arith, below))
 
 bit_added : (bits n : ℕ) → IsBitSet (bit_or bits (1 * 2 ^ (n % 64) % 2 ^ 64)) (n % 64)
 bit_added bits n = (set_is_one (bit_or bits (1 * 2 ^ (n % 64) % 2 ^ 64)) (n % 64)).1 (bit_at_set_same w64 bits (n % 64) (omega arith))
 
-pub filter_more : (numbers : List ℕ) (start number bits : ℕ) → IsNextFrom numbers start number → IsFilterBelow numbers start bits
-    → IsFilterBelow numbers (number + 1) (bit_or bits (1 * 2 ^ (number % 64) % 2 ^ 64))
-filter_more numbers start number bits next so_far n has below = elim (cases_lt n start) [
-  | inl less ↦ (set_in_either bits (1 * 2 ^ (number % 64) % 2 ^ 64) (n % 64)).1 (inl (so_far n has less))
-  | inr ge ↦ let least = next.least n has ge in
-      let same : number ≡ n = omega (arith, least, below) in
-      subst (λ k. IsBitSet (bit_or bits (1 * 2 ^ (number % 64) % 2 ^ 64)) (k % 64)) same (bit_added bits number)
+pub filter_more : (numbers : List ℕ) (i number bits : ℕ) → i < length numbers → number ≡ get_or numbers i number → IsFirstFilter numbers i bits
+    → IsFirstFilter numbers (i + 1) (bit_or bits (1 * 2 ^ (number % 64) % 2 ^ 64))
+filter_more numbers i number bits within is so_far k below = elim (cases_lt k i) [
+  | inl less ↦ (set_in_either bits (1 * 2 ^ (number % 64) % 2 ^ 64) (get_or numbers k 0 % 64)).1 (inl (so_far k less))
+  | inr ge ↦ let same : i ≡ k = omega (arith, ge, below) in
+      let at : number ≡ get_or numbers k 0 = is ∙ get_or_default numbers i number 0 within ∙ ap (λ j. get_or numbers j 0) same in
+      subst (λ v. IsBitSet (bit_or bits (1 * 2 ^ (number % 64) % 2 ^ 64)) (v % 64)) at (bit_added bits number)
 ]
 
-pub filter_all : (numbers : List ℕ) (start bits : ℕ) → ((v : ℕ) → Contains numbers v → start ≤ v → ⊥) → IsFilterBelow numbers start bits → IsFilter numbers bits
-filter_all numbers start bits none so_far n has = elim (cases_lt n start) [ inl less ↦ so_far n has less | inr ge ↦ absurd (none n has ge) ]
-
--- all bits pass all numbers
-pub filter_full : (numbers : List ℕ) → IsFilter numbers 18446744073709551615
-filter_full numbers n has = (set_is_one 18446744073709551615 (n % 64)).1 (bit_at_ones 64 (n % 64) (omega arith))
+pub filter_all : (numbers : List ℕ) (i bits : ℕ) → length numbers ≤ i → IsFirstFilter numbers i bits → IsFilter numbers bits
+filter_all numbers i bits over so_far n (k, within, at) =
+    subst (λ v. IsBitSet bits (v % 64)) (get_or_default numbers k 0 n within ∙ at) (so_far k (omega (arith, within, over)))
 
 -- the first lists have their bits
 abbrev pub AreFirstFilters : List (List ℕ) → ℕ → List ℕ → Type 0

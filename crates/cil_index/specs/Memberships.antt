@@ -31,10 +31,15 @@ pub record AreMemberships (sets : List (List ℕ)) (m : Memberships) : Type 0 wh
 abbrev pub AreOfTypes : (ones : ℕ) (several lists : List (List ℕ)) → Type 0
 AreOfTypes ones several lists = (n t : ℕ) → Contains (get_or lists t []) n → (place : ℕ) × (n ≡ place + ones + 1) × Contains (get_or several place []) t
 
+-- no number that is noted is above one
+abbrev pub AreAtMost : ℕ → List (List ℕ) → Type 0
+AreAtMost number lists = (t n : ℕ) → Contains (get_or lists t []) n → n ≤ number
+
 -- the first k sets of several types are noted for just their types
 pub record AreNoted (ones : ℕ) (several : List (List ℕ)) (k : ℕ) (lists : List (List ℕ)) : Type 0 where
   pub each : (place t : ℕ) → place < k → Contains (get_or several place []) t → Contains (get_or lists t []) (place + ones + 1)
   pub only : AreOfTypes ones several lists
+  pub below : AreAtMost (k + ones) lists
 
 -- the sets of several types that are not asked for every type are noted for just their types
 pub record AreNotedBelow (ones : ℕ) (several : List (List ℕ)) (m : Memberships) : Type 0 where

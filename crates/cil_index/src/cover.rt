@@ -20,7 +20,6 @@ use crate::record::Record;
 use crate::sets::Sets;
 use cil_conditions::{Branch, Settings};
 use cil_rules::Reach;
-use cil_sets::Numbers;
 
 /// The rules that are searched, by their records.
 #[derive(Clone, Copy)]
@@ -139,10 +138,8 @@ fn by_own(
     ensures sound { (bit : ℕ) → IsBitSet result bit → HasCover (is_on settings.now) (rules_in searched.now) asked.now.source asked.now.target asked.now.class bit }
     ensures all { HandOver (is_on settings.now) (rules_in searched.now) searched.now.memberships.now asked.now index.now (λ n. Contains (get_or searched.now.memberships.now.lists.items asked.now.source []) n) result }
 {
-    match searched.memberships.of_type(asked.source) {
-        Some(numbers) => by_sources(searched, index, settings, asked, aims, numbers),
-        None => 0,
-    }
+    let numbers = searched.memberships.of_type(asked.source);
+    by_sources(searched, index, settings, asked, aims, numbers)
 }
 
 /// The permissions of the rules whose sources are one of these sets, which have the source, and that cover what is asked.
@@ -152,7 +149,7 @@ fn by_sources(
     settings: &Settings,
     asked: &Asked,
     aims: &Aims,
-    numbers: &Numbers,
+    numbers: &[u32],
 ) -> u32
     requires has { (n : ℕ) → Contains numbers.now n → Contains (set_of searched.now.sets.now n) asked.now.source }
     requires laid_out { IsLaidOut index.now }
@@ -162,27 +159,18 @@ fn by_sources(
     ensures all { HandOver (is_on settings.now) (rules_in searched.now) searched.now.memberships.now asked.now index.now (λ n. Contains numbers.now n) result }
 {
     let mut mask = 0;
-    let mut start = 0;
-    while let Some(number) = numbers.next_from(start) {
-        if number >= index.sources() {
-            return mask;
-        }
-        let known = known_number(number);
-        mask |= by_source(searched, index, settings, asked, aims, number, known);
-        start = number + 1;
+    for number in numbers {
+        mask |= by_source(
+            searched,
+            index,
+            settings,
+            asked,
+            aims,
+            *number as usize,
+            Some(*number),
+        );
     }
     mask
-}
-
-/// A number in four bytes, where it has room.
-fn known_number(number: usize) -> Option<u32>
-    ensures { IfSome result (λ k. k ≡ number) }
-{
-    if number <= u32::MAX as usize {
-        Some(number as u32)
-    } else {
-        None
-    }
 }
 
 /// The permissions of the rules with the class and a source that cover what is asked: those that reach the target alone, or several types.
@@ -301,20 +289,15 @@ fn may_reach(memberships: &Memberships, asked: &Asked, filter: u64, target: u32)
     if target == ITSELF {
         return asked.source == asked.target;
     }
-    may_have(
-        memberships,
-        asked.target,
-        filter,
-        (target - SEVERAL) as usize,
-    )
+    may_have(memberships, asked.target, filter, target - SEVERAL)
 }
 
 /// Whether a set is noted for a type, or asked for every type.
-fn may_have(memberships: &Memberships, number: usize, filter: u64, set: usize) -> bool
+fn may_have(memberships: &Memberships, number: usize, filter: u64, set: u32) -> bool
     requires { IsFilter (get_or memberships.now.lists.items number []) filter }
     ensures { IsKnownFor memberships.now number set → IsTrue result }
 {
-    if set >= memberships.first_large {
+    if set as usize >= memberships.first_large {
         return true;
     }
     if (filter >> (set % 64)) & 1 == 0 {
@@ -422,9 +405,8 @@ fn holds(searched: &Searched, set: u32, number: usize) -> bool
     requires { AreMemberships searched.now.sets.now searched.now.memberships.now }
     ensures { IsTrue result ↔ Contains (set_of searched.now.sets.now set) number }
 {
-    let place = set as usize;
-    if searched.sets.is_several(set) && place < searched.memberships.first_large {
-        return searched.memberships.has(number, place);
+    if searched.sets.is_several(set) && (set as usize) < searched.memberships.first_large {
+        return searched.memberships.has(number, set);
     }
     searched.sets.has(set, number)
 }

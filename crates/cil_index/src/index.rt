@@ -255,8 +255,8 @@ fn source_start(entries: &[Entry], source: usize) -> usize
     entries.partition_point(|entry| (entry.source as usize) < source)
 }
 
-/// A place in four bytes. Beyond 4,294,967,296 entries it is out of memory.
-fn short(place: usize) -> Result<u32, NoMemory>
+/// A number in four bytes. Beyond 4,294,967,295 it is out of memory.
+pub fn short(place: usize) -> Result<u32, NoMemory>
     ensures { IfOk result (λ n. n ≡ place) }
 {
     if place > u32::MAX as usize {
