@@ -23,7 +23,7 @@ use Rattle.cil_index.specs.declared.memberships.Memberships.{Memberships}
 use Rattle.cil_index.specs.declared.record.Record.{Record}
 use Rattle.cil_index.specs.Entries.{AreBelow, AreBounds, IsIndex, IsOfSource, RiseIn, aim_of, alone_key, in_class, itself, key_of_set, set_key, target_key}
 use Rattle.cil_index.specs.Found.{AreAims, CoversAt, HandOver, Hands, IsAimed, Matches, MayReach}
-use Rattle.cil_index.specs.Memberships.{AreMemberships, IsFilter, IsKnownFor}
+use Rattle.cil_index.specs.Memberships.{AreMemberships, HasBit, IsFilter, IsKnownFor}
 use Rattle.cil_index.specs.Kept.{rule_of}
 use Rattle.cil_index.specs.Sets.{set_of}
 use Rattle.cil_index.proofs.KeyLemmas.{aimed_target, alone_below, reach_cases}
@@ -286,9 +286,9 @@ pub never_aimed : (m : Memberships) (asked : Asked) (aim : ℕ) (answer : Bool) 
 never_aimed m asked aim answer tells not_ aimed = let yes_ = tells (aimed_target m asked aim aimed) in absurd cc
 
 -- a set whose bit is not there is not noted for the type, so it is not known for it unless it is large
-pub not_known : (m : Memberships) (t set bits : ℕ) → IsFilter (get_or m.lists.items t []) bits → set < m.first_large → bit_and (bits / 2 ^ (set % 64)) 1 ≡ 0 → IsKnownFor m t set → ⊥
-not_known m t set bits filter small none (inl past) = omega (arith, past, small)
-not_known m t set bits filter small none (inr member) = let one = (bit_set_by_shift bits (set % 64)).1 (filter set member) in omega (arith, one, none)
+pub not_known : (m : Memberships) (t set : ℕ) (words : List ℕ) (answer : Bool) → IsFilter (get_or m.lists.items t []) words → set < m.first_large → (HasBit words set → IsTrue answer) → answer ≡ false → IsKnownFor m t set → ⊥
+not_known m t set words answer filtered small tells none (inl past) = omega (arith, past, small)
+not_known m t set words answer filtered small tells none (inr member) = let yes_ = tells (filtered set member) in absurd cc
 
 -- ---- a set that is known to have the source
 

@@ -15,7 +15,7 @@ ghost use Rattle.cil_index.specs.Sets.{set_of};
 
 use crate::index::{Bounds, Index, aim_start, near_start};
 use crate::key::{BEYOND, ITSELF, SEVERAL, TARGETS, aim, class_key, type_key};
-use crate::memberships::Memberships;
+use crate::memberships::{Memberships, WORDS, has_bit};
 use crate::record::Record;
 use crate::sets::Sets;
 use cil_conditions::{Branch, Settings};
@@ -39,13 +39,13 @@ pub struct Asked {
 }
 
 /// What is searched for among the aims of a set of sources: the class with the target alone, and from the first to the last those with a target
-/// that is not one type. And a bit for each set that has the target, by what 64 leaves of its number.
+/// that is not one type. And a bit for each set that has the target, by what 512 leaves of its number.
 #[derive(Clone, Copy)]
 pub struct Aims {
     pub alone: u32,
     pub several: u32,
     pub last: u32,
-    pub filter: u64,
+    pub filter: [u64; WORDS],
 }
 
 /// The permissions that the rules cover, by their index. It takes no memory: for each set that has the source, and for each large one, it costs
@@ -272,15 +272,15 @@ fn mask_of(
     ensures all { IsAimed searched.now.memberships.now asked.now (get_or index.now.aims.items at 0) → (bit : ℕ) → CoversAt (is_on settings.now) (rules_in searched.now) asked.now.source asked.now.target asked.now.class (get_or index.now.places.items at 0) bit → IsBitSet result bit }
 {
     let target = index.aims[at] % TARGETS;
-    if !may_reach(searched.memberships, asked, aims.filter, target) {
+    if !may_reach(searched.memberships, asked, &aims.filter, target) {
         return 0;
     }
     mask_known(searched, settings, asked, known, index.places[at] as usize)
 }
 
 /// Whether a target that stands so in an aim may have the type.
-fn may_reach(memberships: &Memberships, asked: &Asked, filter: u64, target: u32) -> bool
-    requires { IsFilter (get_or memberships.now.lists.items asked.now.target []) filter }
+fn may_reach(memberships: &Memberships, asked: &Asked, filter: &[u64; WORDS], target: u32) -> bool
+    requires { IsFilter (get_or memberships.now.lists.items asked.now.target []) filter.now }
     ensures { MayReach memberships.now asked.now target → IsTrue result }
 {
     if target < SEVERAL || target == BEYOND {
@@ -293,17 +293,17 @@ fn may_reach(memberships: &Memberships, asked: &Asked, filter: u64, target: u32)
 }
 
 /// Whether a set is noted for a type, or asked for every type.
-fn may_have(memberships: &Memberships, number: usize, filter: u64, set: u32) -> bool
-    requires { IsFilter (get_or memberships.now.lists.items number []) filter }
+fn may_have(memberships: &Memberships, number: usize, filter: &[u64; WORDS], set: u32) -> bool
+    requires { IsFilter (get_or memberships.now.lists.items number []) filter.now }
     ensures { IsKnownFor memberships.now number set → IsTrue result }
 {
     if set as usize >= memberships.first_large {
         return true;
     }
-    if (filter >> (set % 64)) & 1 == 0 {
-        return false;
+    if has_bit(filter, set) {
+        return memberships.has(number, set);
     }
-    memberships.has(number, set)
+    false
 }
 
 /// The permissions of the rule at a place, where it is on what is asked.

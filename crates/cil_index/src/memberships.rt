@@ -1,7 +1,7 @@
 //! The sets that have a type: by these the rules are found that have it among several sources, and tested whether they reach it.
 
 ghost use Rattle.std.specs.Prelude.{◌≡◌, ◌≤◌, ◌<◌, ◌↔◌, ℕ, [], Contains, IfOk, IsTrue, OnOk, get_or, length};
-ghost use Rattle.cil_index.specs.Memberships.{AreAtMost, AreFilters, AreMemberships, AreNotedBelow, IsFilter, IsNoted, IsNotedIn};
+ghost use Rattle.cil_index.specs.Memberships.{AreAtMost, AreFilters, AreMemberships, AreNotedBelow, HasBit, IsFilter, IsNoted, IsNotedIn};
 
 use crate::index::short;
 use crate::rising::Rising;
@@ -14,15 +14,18 @@ use std::alloc::Global;
 /// that are kept for the types of a set are bounded, and a set that has many of them is mostly asked for one of them.
 const MANY: usize = 1_024;
 
-/// The numbers of the sets of several types that have a type. They take four bytes for each type of each set, and 32 for each type.
+/// So many words of 64 bits has a filter: where a policy has no more sets of several types than bits, each set has a bit of its own.
+pub const WORDS: usize = 8;
+
+/// The numbers of the sets of several types that have a type. They take four bytes for each type of each set, and 88 for each type.
 #[derive(Debug, Drop)]
 pub struct Memberships {
     /// The sets from this number on are asked for every type.
     pub first_large: usize,
     /// For each type the numbers of the others that have it.
     lists: Vec<Rising>,
-    /// For each type a bit for each of these, by what 64 leaves of it: most sets that lack the type are known by it.
-    filters: Vec<u64>,
+    /// For each type a bit for each of these, by what 512 leaves of it: nearly all sets that lack the type are known by it.
+    filters: Vec<[u64; WORDS]>,
 }
 
 impl Memberships {
@@ -45,13 +48,14 @@ impl Memberships {
         }
     }
 
-    /// A bit for each number of the sets that have a type, by what 64 leaves of it.
-    pub fn filter(&self, number: usize) -> u64
-        ensures { result ≡ get_or self.now.filters.items number 0 }
+    /// A bit for each number of the sets that have a type, by what 512 leaves of it.
+    pub fn filter(&self, number: usize) -> [u64; WORDS]
+        requires { AreFilters self.now.lists.items self.now.filters.items }
+        ensures { IsFilter (get_or self.now.lists.items number []) result }
     {
         match self.filters.get(number) {
             Some(filter) => *filter,
-            None => 0,
+            None => [0; WORDS],
         }
     }
 
@@ -86,7 +90,7 @@ fn noted(alloc: Global, ones: u32, several: &[Numbers]) -> Result<Memberships, N
 }
 
 /// For each of some lists its bits. Errors: out of memory.
-fn filters_of(alloc: Global, lists: &[Rising]) -> Result<Vec<u64>, NoMemory>
+fn filters_of(alloc: Global, lists: &[Rising]) -> Result<Vec<[u64; WORDS]>, NoMemory>
     ensures { IfOk result (λ filters. AreFilters lists.now filters.items) }
 {
     let mut filters = Vec::with_capacity(alloc, lists.len())?;
@@ -96,15 +100,32 @@ fn filters_of(alloc: Global, lists: &[Rising]) -> Result<Vec<u64>, NoMemory>
     Ok(filters)
 }
 
-/// A bit for each number, by what 64 leaves of it.
-fn filter_of(numbers: &[u32]) -> u64
+/// A bit for each number, by what 512 leaves of it.
+fn filter_of(numbers: &[u32]) -> [u64; WORDS]
     ensures { IsFilter numbers.now result }
 {
-    let mut filter = 0u64;
+    let mut filter = [0; WORDS];
     for number in numbers {
-        filter |= 1u64 << (*number % 64);
+        add_bit(&mut filter, *number);
     }
     filter
+}
+
+/// Adds the bit of a number.
+fn add_bit(filter: &mut [u64; WORDS], number: u32)
+    ensures added { HasBit filter.new number }
+    ensures stays { (n : ℕ) → HasBit filter.old n → HasBit filter.new n }
+{
+    let place = number as usize / 64 % WORDS;
+    let word = filter[place];
+    filter[place] = word | (1 << (number % 64));
+}
+
+/// Whether the bit of a number is there.
+pub fn has_bit(filter: &[u64; WORDS], number: u32) -> bool
+    ensures { IsTrue result ↔ HasBit filter.now number }
+{
+    filter[number as usize / 64 % WORDS] & (1 << (number % 64)) != 0
 }
 
 /// How many sets stand before the first large one.
