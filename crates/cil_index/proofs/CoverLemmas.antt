@@ -1,10 +1,8 @@
--- The masks of some entries, and by which of them all rules on a class and a pair of types are found.
-use Rattle.std.specs.List.Sorted.{IsNonDecreasingBy}
+-- The masks of some aims, and by which of them all rules on a class and a pair of types are found.
 use Rattle.std.specs.Prelude.{◌↔◌, ◌⊎◌, Bool, true, false, Contains, IfSome, IsBitSet, IsTrue, Option, Some, None, bit_and, bit_or, map, option_map, slice_get}
-use Rattle.std.proofs.Common.{◌≡◌, ℕ, suc, ◌+◌, ◌/◌, ◌%◌, ◌^◌, ◌<◌, ◌≤◌, List, [], ◌∷◌, ◌++◌, length, take, get_or, sym, ◌∙◌, ap, subst, inl, inr, refl, arith}
+use Rattle.std.proofs.Common.{◌≡◌, ℕ, suc, ◌+◌, ◌/◌, ◌%◌, ◌^◌, ◌<◌, ◌≤◌, List, [], ◌∷◌, length, get_or, sym, ◌∙◌, ap, subst, inl, inr, refl, arith}
 use Rattle.std.proofs.lemmas.Bool.{cases_lt}
-use Rattle.std.proofs.lemmas.List.{get_or-take, get_or_default, length-take, take_all, take_more}
-use Rattle.std.proofs.lemmas.List.Elements.{Contains-append_cases}
+use Rattle.std.proofs.lemmas.List.{get_or_default}
 use Rattle.std.proofs.lemmas.Nat.{bit_set_by_shift}
 use Rattle.std.proofs.lemmas.Option.{slice_get-map}
 use Rattle.cil_base.specs.Lists.{contains_cases, contains_none}
@@ -12,7 +10,6 @@ use Rattle.cil_base.specs.MadeLists.{from_map}
 use Rattle.cil_base.specs.Places.{get_at, get_contains, none_some, some_same}
 use Rattle.cil_classes.proofs.BitLemmas.{none_set, set_in_either}
 use Rattle.cil_conditions.specs.declared.branch.Branch.{Branch}
-use Rattle.cil_sets.specs.Answers.{IsNextFrom}
 use Rattle.cil_rules.specs.declared.rule.Reach.{Reach}
 use Rattle.cil_rules.specs.declared.rule.Reach.TheVariants as reaches
 use Rattle.cil_rules.specs.Kept.{target_named}
@@ -20,86 +17,91 @@ use Rattle.cil_rules.specs.Rule.{Rule}
 use Rattle.cil_rules.specs.Covers.{Covers, HasCover, Reaches}
 use Rattle.cil_index.specs.declared.cover.Aims.{Aims}
 use Rattle.cil_index.specs.declared.cover.Asked.{Asked}
-use Rattle.cil_index.specs.declared.key.Entry.{Entry}
+use Rattle.cil_index.specs.declared.index.Bounds.{Bounds}
+use Rattle.cil_index.specs.declared.index.Index.{Index}
 use Rattle.cil_index.specs.declared.memberships.Memberships.{Memberships}
 use Rattle.cil_index.specs.declared.record.Record.{Record}
-use Rattle.cil_index.specs.Entries.{IsIndex, aim_of, alone_key, beyond, entry_of, in_key, itself, key_of_set, set_key, target_key}
-use Rattle.cil_index.specs.Found.{AreAims, CoversAt, HandOver, IsAimed, IsOf, Matches, MayReach}
-use Rattle.cil_index.specs.Memberships.{AreMemberships, IsFilter, IsKnownFor}
+use Rattle.cil_index.specs.Entries.{AreBelow, AreBounds, IsIndex, IsOfSource, RiseIn, aim_of, alone_key, in_class, itself, key_of_set, set_key, target_key}
+use Rattle.cil_index.specs.Found.{AreAims, CoversAt, HandOver, Hands, IsAimed, Matches, MayReach}
+use Rattle.cil_index.specs.Memberships.{AreMemberships, HasBit, IsFilter, IsKnownFor}
 use Rattle.cil_index.specs.Kept.{rule_of}
 use Rattle.cil_index.specs.Sets.{set_of}
-use Rattle.cil_index.proofs.KeyLemmas.{aimed_target, alone_below, in_key_past, reach_cases}
+use Rattle.cil_index.proofs.KeyLemmas.{aimed_target, alone_below, reach_cases}
+use Rattle.cil_index.proofs.RunLemmas.{none_past}
 use Rattle.cil_index.proofs.SetLemmas.{set_within}
 
-module _ (on : ℕ → Bool) (rules : List Rule) (m : Memberships) (asked : Asked) where
-  -- the mask has what the rules of these entries cover, if they are on the class and may reach the target, and nothing that no rule covers
-  pub record IsJoined (entries : List Entry) (mask : ℕ) : Type 0 where
+module _ (on : ℕ → Bool) (rules : List Rule) (m : Memberships) (asked : Asked) (index : Index) where
+  -- the rule that stands here covers the permission
+  abbrev pub CoversThere : (at bit : ℕ) → Type 0
+  CoversThere at bit = CoversAt on rules asked.source asked.target asked.class (get_or index.places.items at 0) bit
+
+  -- the mask has what the rules of these aims cover, if they are on the class and may reach the target, and nothing that no rule covers
+  pub record IsJoined (start end mask : ℕ) : Type 0 where
     pub sound : (bit : ℕ) → IsBitSet mask bit → HasCover on rules asked.source asked.target asked.class bit
-    pub all : (e : Entry) (bit : ℕ) → Contains entries e → IsAimed m asked e.aim → CoversAt on rules asked.source asked.target asked.class e.place bit → IsBitSet mask bit
+    pub all : (at bit : ℕ) → start ≤ at → at < end → IsAimed m asked (get_or index.aims.items at 0) → CoversThere at bit → IsBitSet mask bit
 
   covered_there : (place bit : ℕ) → CoversAt on rules asked.source asked.target asked.class place bit → HasCover on rules asked.source asked.target asked.class bit
   covered_there place bit c = record { rule = c.rule; is_rule = get_contains rules place c.rule c.is_there; covers = c.covers }
 
-  pub joined_all : (entries : List Entry) (i mask : ℕ) → length entries ≤ i → IsJoined (take i entries) mask → (e : Entry) (bit : ℕ) → Contains entries e
-      → IsAimed m asked e.aim → CoversAt on rules asked.source asked.target asked.class e.place bit → IsBitSet mask bit
-  joined_all entries i mask over is e bit has aimed covers = is.all e bit (subst (λ xs. Contains xs e) (sym (take_all i entries over)) has) aimed covers
+  pub joined_none : (start : ℕ) → IsJoined start start 0
+  joined_none start = record { sound = λ bit set. absurd (none_set bit set); all = λ at bit ge less aimed covers. absurd (omega (arith, ge, less)) }
 
-  -- behind an entry past the last aim there is none up to it
-  pub joined_up_to : (entries : List Entry) (i last : ℕ) (entry : Entry) (mask : ℕ) → IsNonDecreasingBy (λ (e : Entry). e.aim) entries → i < length entries → entry ≡ get_or entries i entry
-      → last < entry.aim → IsJoined (take i entries) mask → (e : Entry) (bit : ℕ) → Contains entries e → e.aim ≤ last
-      → IsAimed m asked e.aim → CoversAt on rules asked.source asked.target asked.class e.place bit → IsBitSet mask bit
-  joined_up_to entries i last entry mask up inside is past so_far e bit (j, within, at) before aimed covers = elim (cases_lt j i) [
-    | inl less ↦ so_far.all e bit (j, (let size = length-take i entries in omega (arith, size, less, within)), get_or-take i entries j e less ∙ at) aimed covers
-    | inr ge ↦ let rise = up i j e ge within in
-        let one : (get_or entries i e).aim ≡ entry.aim = ap (λ (z : Entry). z.aim) (get_or_default entries i e entry inside ∙ sym is) in
-        let two : (get_or entries j e).aim ≡ e.aim = ap (λ (z : Entry). z.aim) at in absurd (omega (arith, rise, one, two, past, before))
+  -- behind an aim past the last one there is none up to it
+  pub joined_up_to : (start end i last mask : ℕ) → RiseIn index.aims.items start end → start ≤ i → last < get_or index.aims.items i 0 → IsJoined start i mask
+      → (at bit : ℕ) → start ≤ at → at < end → get_or index.aims.items at 0 ≤ last → IsAimed m asked (get_or index.aims.items at 0) → CoversThere at bit → IsBitSet mask bit
+  joined_up_to start end i last mask up inside past so_far at bit ge less before aimed covers = elim (cases_lt at i) [
+    | inl below ↦ so_far.all at bit ge below aimed covers
+    | inr over ↦ let rise = up i at inside over less in absurd (omega (arith, rise, past, before))
   ]
 
-  -- one entry more adds what its rule covers
-  pub joined_more : (entries : List Entry) (i : ℕ) (entry : Entry) (mask more : ℕ) → i < length entries → entry ≡ get_or entries i entry
-      → ((bit : ℕ) → IsBitSet more bit → CoversAt on rules asked.source asked.target asked.class entry.place bit)
-      → (IsAimed m asked entry.aim → (bit : ℕ) → CoversAt on rules asked.source asked.target asked.class entry.place bit → IsBitSet more bit) → IsJoined (take i entries) mask
-      → IsJoined (take (i + 1) entries) (bit_or mask more)
-  joined_more entries i entry mask more within is sound all so_far = record {
+  pub joined_all : (start end i last mask : ℕ) → end ≤ i → IsJoined start i mask
+      → (at bit : ℕ) → start ≤ at → at < end → get_or index.aims.items at 0 ≤ last → IsAimed m asked (get_or index.aims.items at 0) → CoversThere at bit → IsBitSet mask bit
+  joined_all start end i last mask over so_far at bit ge less before aimed covers = so_far.all at bit ge (omega (arith, less, over)) aimed covers
+
+  -- one aim more adds what its rule covers
+  pub joined_more : (start i mask more : ℕ) → ((bit : ℕ) → IsBitSet more bit → CoversThere i bit)
+      → (IsAimed m asked (get_or index.aims.items i 0) → (bit : ℕ) → CoversThere i bit → IsBitSet more bit) → IsJoined start i mask → IsJoined start (i + 1) (bit_or mask more)
+  joined_more start i mask more sound all so_far = record {
     sound = λ bit set. elim ((set_in_either mask more bit).0 set) [
       | inl t ↦ so_far.sound bit t
-      | inr t ↦ covered_there entry.place bit (sound bit t)
+      | inr t ↦ covered_there (get_or index.places.items i 0) bit (sound bit t)
     ];
-    all = λ e bit has aimed covers. (set_in_either mask more bit).1 (elim (Contains-append_cases (take i entries) (entry ∷ []) e (subst (λ xs. Contains xs e) (one_more i entry within is) has)) [
-      | inl d ↦ inl (so_far.all e bit d aimed covers)
-      | inr d ↦ elim (contains_cases e entry [] d) [
-        | inl same ↦ inr (all (subst (λ (z : Entry). IsAimed m asked z.aim) (sym same) aimed) bit (subst (λ (z : Entry). CoversAt on rules asked.source asked.target asked.class z.place bit) (sym same) covers))
-        | inr none ↦ absurd (contains_none e none)
-      ]
+    all = λ at bit ge less aimed covers. (set_in_either mask more bit).1 (elim (cases_lt at i) [
+      | inl below ↦ inl (so_far.all at bit ge below aimed covers)
+      | inr over ↦ let same : at ≡ i = omega (arith, less, over) in
+          inr (all (subst (λ k. IsAimed m asked (get_or index.aims.items k 0)) same aimed) bit (subst (λ k. CoversThere k bit) same covers))
     ]);
   }
-    where
-      one_more : (i : ℕ) (entry : Entry) → i < length entries → entry ≡ get_or entries i entry → take (i + 1) entries ≡ take i entries ++ entry ∷ []
-      one_more i entry within is = take_more entries i entry within ∙ ap (λ (r : Entry). take i entries ++ r ∷ []) (sym is)
 
-  -- what the entries up to the last of an aim hand over
-  abbrev pub Hands : List Entry → ℕ → ℕ → Type 0
-  Hands entries last mask = (e : Entry) (bit : ℕ) → Contains entries e → e.aim ≤ last → IsAimed m asked e.aim
-      → CoversAt on rules asked.source asked.target asked.class e.place bit → IsBitSet mask bit
+  -- what the aims up to the last one hand over
+  abbrev pub HandsIn : (start end last mask : ℕ) → Type 0
+  HandsIn start end last mask = (at bit : ℕ) → start ≤ at → at < end → get_or index.aims.items at 0 ≤ last → IsAimed m asked (get_or index.aims.items at 0)
+      → CoversThere at bit → IsBitSet mask bit
 
-  -- an entry of a source that may reach the target stands at one of two places
-  pub two_runs : (part one two : List Entry) (aims : Aims) (x y : ℕ) → AreAims m asked aims → ((e : Entry) → Contains part e → aims.alone ≤ e.aim → Contains one e)
-      → ((e : Entry) → Contains one e → aims.several ≤ e.aim → Contains two e) → Hands one aims.alone x → Hands two aims.last y
-      → (e : Entry) (bit : ℕ) → Contains part e → IsAimed m asked e.aim → CoversAt on rules asked.source asked.target asked.class e.place bit → IsBitSet (bit_or x y) bit
-  two_runs part one two aims x y are in_one in_two has_x has_y e bit has aimed covers =
+  -- an aim of a source that may reach the target stands at one of two places
+  pub two_runs : (source : ℕ) (b : Bounds) (one two : ℕ) (aims : Aims) (x y : ℕ) → AreAims m asked aims → AreBounds index source b → AreBelow index.aims.items b.start one aims.alone
+      → AreBelow index.aims.items one two aims.several → HandsIn one b.to aims.alone x → HandsIn two b.to aims.last y → Hands on rules m asked index source (bit_or x y)
+  two_runs source b one two aims x y are bounds below_one below_two has_x has_y at bit of aimed covers =
       let is = aimed.1 in
+      let inside = bounds.all at of in
       let first = are.alone_is in
       let second = are.several_is in
       let third = are.last_is in
       (set_in_either x y bit).1 (elim (reach_cases m asked aimed.0 aimed.2) [
-        | inl same ↦ let at : e.aim ≡ aims.alone = is ∙ ap (aim_of (in_key asked.class)) same ∙ sym first in
-            inl (has_x e bit (in_one e has (omega (arith, at))) (omega (arith, at)) aimed covers)
+        | inl same ↦ let here : get_or index.aims.items at 0 ≡ aims.alone = is ∙ ap (aim_of (in_class asked.class)) same ∙ sym first in
+            inl (has_x at bit (from_one at inside.0 (omega (arith, here))) inside.1 (omega (arith, here)) aimed covers)
         | inr w ↦ let low = w.0 in let high = w.1 in
             let less = alone_below asked.target in
-            inr (has_y e bit (in_two e (in_one e has (omega (arith, is, first, low, less))) (omega (arith, is, second, low))) (omega (arith, is, third, high)) aimed covers)
+            inr (has_y at bit (from_two at inside.0 (omega (arith, is, first, low, less)) (omega (arith, is, second, low))) inside.1 (omega (arith, is, third, high)) aimed covers)
       ])
+    where
+      from_one : (at : ℕ) → b.start ≤ at → aims.alone ≤ get_or index.aims.items at 0 → one ≤ at
+      from_one at ge above = elim (cases_lt at one) [ inl less ↦ let r = below_one at ge less in absurd (omega (arith, r, above)) | inr over ↦ over ]
 
--- ---- what stands in the entry of a rule that covers
+      from_two : (at : ℕ) → b.start ≤ at → aims.alone ≤ get_or index.aims.items at 0 → aims.several ≤ get_or index.aims.items at 0 → two ≤ at
+      from_two at ge above over = elim (cases_lt at two) [ inl less ↦ let r = below_two at (from_one at ge above) less in absurd (omega (arith, r, over)) | inr past ↦ past ]
+
+-- ---- what stands in the aim of a rule that covers
 
 -- a set with a type stands as the type, or has several
 key_cases : (other : ℕ) (set : List ℕ) (t : ℕ) → Contains set t → (key_of_set other set ≡ alone_key t) ⊎ ((key_of_set other set ≡ other) × (set ≡ t ∷ [] → ⊥))
@@ -120,120 +122,111 @@ target_reached sets m asked hold reaches.Itself source c r = elim (key_cases its
 
 -- ---- the record of a rule that covers
 
--- it has an entry of the class, and may reach the target
-pub record IsFound (on : ℕ → Bool) (branches : List Branch) (sets : List (List ℕ)) (records : List Record) (entries : List Entry) (m : Memberships) (asked : Asked) (bit : ℕ) : Type 0 where
+-- its aim stands among those of its source, is of the class, and may reach the target
+pub record IsFound (on : ℕ → Bool) (branches : List Branch) (sets : List (List ℕ)) (records : List Record) (index : Index) (m : Memberships) (asked : Asked) (bit : ℕ) : Type 0 where
   pub kept : Record
-  pub entry : Entry
-  pub is_entry : Contains entries entry
-  pub is_of : IsOf m asked (in_key kept.source) entry
+  pub at : ℕ
+  pub of_source : IsOfSource index.starts.items kept.source at
+  pub aimed : IsAimed m asked (get_or index.aims.items at 0)
   pub has_source : Contains (set_of sets kept.source) asked.source
-  pub covers : CoversAt on (map (rule_of branches sets) records) asked.source asked.target asked.class entry.place bit
+  pub covers : CoversAt on (map (rule_of branches sets) records) asked.source asked.target asked.class (get_or index.places.items at 0) bit
 
-pub found_by : (on : ℕ → Bool) (branches : List Branch) (sets : List (List ℕ)) (records : List Record) (entries : List Entry) → IsIndex sets records entries → (m : Memberships) → AreMemberships sets m
-    → (asked : Asked) (bit : ℕ) → HasCover on (map (rule_of branches sets) records) asked.source asked.target asked.class bit → IsFound on branches sets records entries m asked bit
-found_by on branches sets records entries index m hold asked bit covered =
+pub found_by : (on : ℕ → Bool) (branches : List Branch) (sets : List (List ℕ)) (records : List Record) (index : Index) → IsIndex sets records index → (m : Memberships) → AreMemberships sets m
+    → (asked : Asked) (bit : ℕ) → HasCover on (map (rule_of branches sets) records) asked.source asked.target asked.class bit → IsFound on branches sets records index m asked bit
+found_by on branches sets records index is m hold asked bit covered =
     let (k, is_kept, made) = from_map (rule_of branches sets) records covered.rule covered.is_rule in
     let at = get_at records k is_kept in
+    let found = is.each at.0 k at.2 in
     let covers : Covers on (rule_of branches sets k) asked.source asked.target asked.class bit = subst (λ (r : Rule). Covers on r asked.source asked.target asked.class bit) (sym made) covered.covers in
     record {
       kept = k;
-      entry = entry_of sets k at.0;
-      is_entry = index.each at.0 k at.2;
-      is_of = record {
-        source_is = refl;
-        aimed = (
-          target_key sets k.target k.source,
-          ap (λ (c : ℕ). aim_of (in_key c) (target_key sets k.target k.source)) covers.of_class,
-          target_reached sets m asked hold k.target k.source covers.has_source covers.has_target,
-        );
-      };
+      at = found.at;
+      of_source = found.of_source;
+      aimed = (
+        target_key sets k.target k.source,
+        found.aim_is ∙ ap (λ (c : ℕ). aim_of (in_class c) (target_key sets k.target k.source)) covers.of_class,
+        target_reached sets m asked hold k.target k.source covers.has_source covers.has_target,
+      );
       has_source = covers.has_source;
-      covers = record { rule = rule_of branches sets k; is_there = slice_get-map (rule_of branches sets) records at.0 ∙ ap (option_map (rule_of branches sets)) at.2; covers = covers };
+      covers = subst (λ p. CoversAt on (map (rule_of branches sets) records) asked.source asked.target asked.class p bit) (sym found.place_is)
+          (record { rule = rule_of branches sets k; is_there = slice_get-map (rule_of branches sets) records at.0 ∙ ap (option_map (rule_of branches sets)) at.2; covers = covers });
     }
 
 -- ---- sources, one after another
 
-module _ (on : ℕ → Bool) (rules : List Rule) (m : Memberships) (asked : Asked) (part : List Entry) (numbers : List ℕ) where
-  -- the mask has what the rules of the sources below a number cover, and nothing that no rule covers
-  pub record AreJoined (start mask : ℕ) : Type 0 where
+module _ (on : ℕ → Bool) (rules : List Rule) (m : Memberships) (asked : Asked) (index : Index) where
+  -- a source behind the last one with a start has no rules
+  pub none_behind : (n mask : ℕ) → length index.starts.items ≤ n + 1 → Hands on rules m asked index n mask
+  none_behind n mask past at bit of = absurd (none_past index.starts.items n at past of)
+
+module _ (on : ℕ → Bool) (rules : List Rule) (m : Memberships) (asked : Asked) (index : Index) (numbers : List ℕ) where
+  -- a source is one of the first
+  abbrev pub IsAmong : (i n : ℕ) → Type 0
+  IsAmong i n = (k : ℕ) × (k < i) × (get_or numbers k n ≡ n)
+
+  -- the mask has what the rules of the first sources cover, and nothing that no rule covers
+  pub record AreJoined (i mask : ℕ) : Type 0 where
     pub sound : (bit : ℕ) → IsBitSet mask bit → HasCover on rules asked.source asked.target asked.class bit
-    pub all : HandOver on rules m asked part (λ n. Contains numbers n × (n < start)) mask
+    pub all : HandOver on rules m asked index (IsAmong i) mask
 
   pub none_joined : AreJoined 0 0
-  none_joined = record { sound = λ bit set. absurd (none_set bit set); all = λ n (has, below) e bit c of covers. absurd (omega (arith, below)) }
+  none_joined = record { sound = λ bit set. absurd (none_set bit set); all = λ n (k, below, is) at bit of aimed covers. absurd (omega (arith, below)) }
 
-  module _ (start mask more number source : ℕ) (next : IsNextFrom numbers start number) (is_source : source ≡ in_key number) (so_far : AreJoined start mask)
-      (sound : (bit : ℕ) → IsBitSet more bit → HasCover on rules asked.source asked.target asked.class bit)
-      (all : (e : Entry) (bit : ℕ) → Contains part e → IsOf m asked source e → CoversAt on rules asked.source asked.target asked.class e.place bit → IsBitSet more bit) where
-    pub either_sound : (bit : ℕ) → IsBitSet (bit_or mask more) bit → HasCover on rules asked.source asked.target asked.class bit
-    either_sound bit set = elim ((set_in_either mask more bit).0 set) [ inl x ↦ so_far.sound bit x | inr x ↦ sound bit x ]
-
-    -- a source with the same key is asked with it
-    with_it : (n : ℕ) → Contains numbers n → (start ≤ n → in_key n ≡ in_key number) → (e : Entry) (bit : ℕ) → Contains part e → IsOf m asked (in_key n) e
-        → CoversAt on rules asked.source asked.target asked.class e.place bit → IsBitSet (bit_or mask more) bit
-    with_it n has same e bit there of covers = (set_in_either mask more bit).1 (elim (cases_lt n start) [
-      | inl below ↦ inl (so_far.all n (has, below) e bit there of covers)
-      | inr ge ↦ inr (all e bit there (record { source_is = of.source_is ∙ same ge ∙ sym is_source; aimed = of.aimed }) covers)
-    ])
-
-    pub joined_source : AreJoined (number + 1) (bit_or mask more)
-    joined_source = record {
-      sound = either_sound;
-      all = λ n (has, below) e bit there of covers. with_it n has (λ ge. let least = next.least n has ge in let same : n ≡ number = omega (arith, least, below) in ap in_key same) e bit there of covers;
-    }
-
-    -- the sources behind have no keys of their own where this one has none
-    pub last_source : beyond ≤ number → HandOver on rules m asked part (λ n. Contains numbers n) (bit_or mask more)
-    last_source past n has e bit there of covers =
-        with_it n has (λ ge. let least = next.least n has ge in in_key_past n (omega (arith, least, past)) ∙ sym (in_key_past number past)) e bit there of covers
-
-  pub all_sources : (start mask : ℕ) → AreJoined start mask → ((v : ℕ) → Contains numbers v → start ≤ v → ⊥) → HandOver on rules m asked part (λ n. Contains numbers n) mask
-  all_sources start mask so_far none n has e bit there of covers = elim (cases_lt n start) [ inl below ↦ so_far.all n (has, below) e bit there of covers | inr ge ↦ absurd (none n has ge) ]
-
--- ---- the sets that are asked for every type, one after another
-
-module _ (on : ℕ → Bool) (rules : List Rule) (m : Memberships) (asked : Asked) (entries : List Entry) (first : ℕ) where
-  -- the mask has what the rules of the sources from the first on and below a number cover, and nothing that no rule covers
-  pub record AreJoinedFrom (number mask : ℕ) : Type 0 where
-    pub sound : (bit : ℕ) → IsBitSet mask bit → HasCover on rules asked.source asked.target asked.class bit
-    pub all : HandOver on rules m asked entries (λ n. (first ≤ n) × (n < number)) mask
-
-  pub none_joined_from : AreJoinedFrom first 0
-  none_joined_from = record { sound = λ bit set. absurd (none_set bit set); all = λ n (ge, below) e bit c of covers. absurd (omega (arith, ge, below)) }
-
-  pub joined_next : (mask more number source : ℕ) → source ≡ in_key number → AreJoinedFrom number mask
-      → ((bit : ℕ) → IsBitSet more bit → HasCover on rules asked.source asked.target asked.class bit)
-      → ((e : Entry) (bit : ℕ) → Contains entries e → IsOf m asked source e → CoversAt on rules asked.source asked.target asked.class e.place bit → IsBitSet more bit)
-      → AreJoinedFrom (number + 1) (bit_or mask more)
-  joined_next mask more number source is_source so_far sound all = record {
+  pub joined_source : (i number mask more : ℕ) → i < length numbers → number ≡ get_or numbers i number → AreJoined i mask
+      → ((bit : ℕ) → IsBitSet more bit → HasCover on rules asked.source asked.target asked.class bit) → Hands on rules m asked index number more → AreJoined (i + 1) (bit_or mask more)
+  joined_source i number mask more within here so_far sound all = record {
     sound = λ bit set. elim ((set_in_either mask more bit).0 set) [ inl x ↦ so_far.sound bit x | inr x ↦ sound bit x ];
-    all = λ n (ge, below) e bit there of covers. (set_in_either mask more bit).1 (elim (cases_lt n number) [
-      | inl before ↦ inl (so_far.all n (ge, before) e bit there of covers)
-      | inr past ↦ let same : n ≡ number = omega (arith, below, past) in
-          inr (all e bit there (record { source_is = of.source_is ∙ ap in_key same ∙ sym is_source; aimed = of.aimed }) covers)
+    all = λ n (k, below, is) at bit of aimed covers. (set_in_either mask more bit).1 (elim (cases_lt k i) [
+      | inl before ↦ inl (so_far.all n (k, before, is) at bit of aimed covers)
+      | inr ge ↦ let same : k ≡ i = omega (arith, ge, below) in
+          let one : n ≡ number = sym is ∙ ap (λ j. get_or numbers j n) same ∙ get_or_default numbers i n number within ∙ sym here in
+          inr (all at bit (subst (λ j. IsOfSource index.starts.items j at) one of) aimed covers)
     ]);
   }
 
-  pub joined_to : (number end mask : ℕ) → end ≤ number → AreJoinedFrom number mask → HandOver on rules m asked entries (λ n. (first ≤ n) × (n < end)) mask
+  pub all_sources : (i mask : ℕ) → length numbers ≤ i → AreJoined i mask → HandOver on rules m asked index (λ n. Contains numbers n) mask
+  all_sources i mask over so_far n (k, within, is) at bit of aimed covers = so_far.all n (k, omega (arith, within, over), is) at bit of aimed covers
+
+-- ---- the sets that are asked for every type, one after another
+
+module _ (on : ℕ → Bool) (rules : List Rule) (m : Memberships) (asked : Asked) (index : Index) (first : ℕ) where
+  -- the mask has what the rules of the sources from the first on and below a number cover, and nothing that no rule covers
+  pub record AreJoinedFrom (number mask : ℕ) : Type 0 where
+    pub sound : (bit : ℕ) → IsBitSet mask bit → HasCover on rules asked.source asked.target asked.class bit
+    pub all : HandOver on rules m asked index (λ n. (first ≤ n) × (n < number)) mask
+
+  pub none_joined_from : AreJoinedFrom first 0
+  none_joined_from = record { sound = λ bit set. absurd (none_set bit set); all = λ n (ge, below) at bit of aimed covers. absurd (omega (arith, ge, below)) }
+
+  pub joined_next : (mask more number : ℕ) → AreJoinedFrom number mask → ((bit : ℕ) → IsBitSet more bit → HasCover on rules asked.source asked.target asked.class bit)
+      → Hands on rules m asked index number more → AreJoinedFrom (number + 1) (bit_or mask more)
+  joined_next mask more number so_far sound all = record {
+    sound = λ bit set. elim ((set_in_either mask more bit).0 set) [ inl x ↦ so_far.sound bit x | inr x ↦ sound bit x ];
+    all = λ n (ge, below) at bit of aimed covers. (set_in_either mask more bit).1 (elim (cases_lt n number) [
+      | inl before ↦ inl (so_far.all n (ge, before) at bit of aimed covers)
+      | inr past ↦ let same : n ≡ number = omega (arith, below, past) in
+          inr (all at bit (subst (λ k. IsOfSource index.starts.items k at) same of) aimed covers)
+    ]);
+  }
+
+  pub joined_to : (number end mask : ℕ) → end ≤ number → AreJoinedFrom number mask → HandOver on rules m asked index (λ n. (first ≤ n) × (n < end)) mask
   joined_to number end mask over so_far n (ge, below) = so_far.all n (ge, omega (arith, below, over))
 
 -- what is covered is found by the set of the source alone, by a large set or by one that is noted for the source
-module _ (on : ℕ → Bool) (branches : List Branch) (sets : List (List ℕ)) (records : List Record) (entries : List Entry) (index : IsIndex sets records entries) (asked : Asked)
-    (m : Memberships) (hold : AreMemberships sets m) (source : ℕ) (is_source : source ≡ in_key (suc asked.source))
+module _ (on : ℕ → Bool) (branches : List Branch) (sets : List (List ℕ)) (records : List Record) (index : Index) (is : IsIndex sets records index) (asked : Asked)
+    (m : Memberships) (hold : AreMemberships sets m)
     (alone large own : ℕ)
-    (by_alone : (e : Entry) (bit : ℕ) → Contains entries e → IsOf m asked source e
-    → CoversAt on (map (rule_of branches sets) records) asked.source asked.target asked.class e.place bit → IsBitSet alone bit)
-    (by_large : HandOver on (map (rule_of branches sets) records) m asked entries (λ n. (m.first_large ≤ n) × (n < length sets)) large)
-    (by_own : HandOver on (map (rule_of branches sets) records) m asked entries (λ n. Contains (get_or m.lists.items asked.source []) n) own) where
+    (by_alone : HandOver on (map (rule_of branches sets) records) m asked index (λ n. n ≡ suc asked.source) alone)
+    (by_large : HandOver on (map (rule_of branches sets) records) m asked index (λ n. (m.first_large ≤ n) × (n < length sets)) large)
+    (by_own : HandOver on (map (rule_of branches sets) records) m asked index (λ n. Contains (get_or m.lists.items asked.source []) n) own) where
   pub in_one_of : (bit : ℕ) → HasCover on (map (rule_of branches sets) records) asked.source asked.target asked.class bit → IsBitSet (bit_or (bit_or alone large) own) bit
   in_one_of bit covered =
-      let f = found_by on branches sets records entries index m hold asked bit covered in
+      let f = found_by on branches sets records index is m hold asked bit covered in
       (set_in_either (bit_or alone large) own bit).1 (elim (hold.known f.kept.source asked.source f.has_source) [
-        | inl one ↦ inl ((set_in_either alone large bit).1 (inl (by_alone f.entry bit f.is_entry
-            (record { source_is = f.is_of.source_is ∙ ap in_key one.has_number ∙ sym is_source; aimed = f.is_of.aimed }) f.covers)))
+        | inl one ↦ inl ((set_in_either alone large bit).1 (inl (by_alone f.kept.source one.has_number f.at bit f.of_source f.aimed f.covers)))
         | inr known ↦ elim known [
-          | inl past ↦ inl ((set_in_either alone large bit).1 (inr (by_large f.kept.source (past, set_within sets f.kept.source asked.source f.has_source) f.entry bit f.is_entry f.is_of f.covers)))
-          | inr member ↦ inr (by_own f.kept.source member f.entry bit f.is_entry f.is_of f.covers)
+          | inl past ↦ inl ((set_in_either alone large bit).1 (inr (by_large f.kept.source (past, set_within sets f.kept.source asked.source f.has_source) f.at bit f.of_source f.aimed f.covers)))
+          | inr member ↦ inr (by_own f.kept.source member f.at bit f.of_source f.aimed f.covers)
         ]
       ])
 
@@ -286,22 +279,18 @@ held_as_noted sets m set t answer are several_types small tells = (
   ],
 )
 
--- ---- the target of an entry
+-- ---- the target of an aim
 
--- an entry whose target cannot have the type is not of the class, or does not reach it
-pub never_aimed : (m : Memberships) (asked : Asked) (aim : ℕ) (answer : Bool) → (MayReach m asked (aim % 4294967296) → IsTrue answer) → answer ≡ false → IsAimed m asked aim → ⊥
+-- an aim whose target cannot have the type is not of the class, or does not reach it
+pub never_aimed : (m : Memberships) (asked : Asked) (aim : ℕ) (answer : Bool) → (MayReach m asked (aim % 4194304) → IsTrue answer) → answer ≡ false → IsAimed m asked aim → ⊥
 never_aimed m asked aim answer tells not_ aimed = let yes_ = tells (aimed_target m asked aim aimed) in absurd cc
 
 -- a set whose bit is not there is not noted for the type, so it is not known for it unless it is large
-pub not_known : (m : Memberships) (t set bits : ℕ) → IsFilter (get_or m.lists.items t []) bits → set < m.first_large → bit_and (bits / 2 ^ (set % 64)) 1 ≡ 0 → IsKnownFor m t set → ⊥
-not_known m t set bits filter small none (inl past) = omega (arith, past, small)
-not_known m t set bits filter small none (inr member) = let one = (bit_set_by_shift bits (set % 64)).1 (filter set member) in omega (arith, one, none)
+pub not_known : (m : Memberships) (t set : ℕ) (words : List ℕ) (answer : Bool) → IsFilter (get_or m.lists.items t []) words → set < m.first_large → (HasBit words set → IsTrue answer) → answer ≡ false → IsKnownFor m t set → ⊥
+not_known m t set words answer filtered small tells none (inl past) = omega (arith, past, small)
+not_known m t set words answer filtered small tells none (inr member) = let yes_ = tells (filtered set member) in absurd cc
 
 -- ---- a set that is known to have the source
-
-pub known_as : (o : Option ℕ) (number : ℕ) (P : ℕ → Type 0) → IfSome o (λ k. k ≡ number) → P number → IfSome o P
-known_as (Some k) number P same p = subst P (sym same) p
-known_as None number P same p = tt
 
 pub known_has : (o : Option ℕ) (set : ℕ) (P : ℕ → Type 0) → o ≡ Some set → IfSome o P → P set
 known_has o set P is p = subst (λ (z : Option ℕ). IfSome z P) is p

@@ -5,5 +5,7 @@ mod IndexLemmas
 mod KeyLemmas
 mod NumberLemmas
 mod OrderLemmas
+mod RisingLemmas
+mod RunLemmas
 mod SetLemmas
 mod StartLemmas

@@ -1,18 +1,17 @@
 -- Which sets hold a type, one set after another.
 use Rattle.std.specs.Int.{w64}
 use Rattle.std.specs.Prelude.{◌↔◌, ◌⊎◌, Contains, IsBitSet, bit_or}
-use Rattle.std.proofs.Common.{◌≡◌, ℕ, zero, suc, ◌+◌, ◌-◌, ◌*◌, ◌%◌, ◌^◌, ◌<◌, ◌≤◌, List, [], ◌∷◌, ◌++◌, length, take, get_or, sym, ◌∙◌, ap, subst, inl, inr, refl, arith}
+use Rattle.std.proofs.Common.{◌≡◌, ℕ, zero, suc, ◌+◌, ◌-◌, ◌*◌, ◌/◌, ◌%◌, ◌^◌, ◌<◌, ◌≤◌, List, [], ◌∷◌, ◌++◌, length, take, get_or, sym, ◌∙◌, ap, subst, inl, inr, refl, arith}
 use Rattle.std.proofs.Math.ListN.{get_or-append, get_or-eq_default, set}
 use Rattle.std.proofs.Math.Seq.{get_or-append_seam}
-use Rattle.std.proofs.lemmas.Bool.{cases_lt}
-use Rattle.std.proofs.lemmas.Nat.Bits.{bit_at_ones, bit_at_set_same}
-use Rattle.std.proofs.lemmas.List.{get_or_append_left, get_or-set_other, get_or-set_same, length-append, take_all, take_more}
+use Rattle.std.proofs.lemmas.Bool.{cases_eq, cases_lt}
+use Rattle.std.proofs.lemmas.Nat.Bits.{bit_at_set_same}
+use Rattle.std.proofs.lemmas.List.{get_or_append_left, get_or_default, get_or-set_other, get_or-set_same, length-append, take_all, take_more}
 use Rattle.std.proofs.lemmas.List.Elements.{Contains-append_cases, Contains-append_left, Contains-append_right}
 use Rattle.cil_base.specs.Lists.{contains_cases, contains_here, contains_none}
-use Rattle.cil_classes.proofs.BitLemmas.{set_in_either, set_is_one}
-use Rattle.cil_sets.specs.Answers.{IsNextFrom}
+use Rattle.cil_classes.proofs.BitLemmas.{none_set, set_in_either, set_is_one}
 use Rattle.cil_index.specs.declared.memberships.Memberships.{Memberships}
-use Rattle.cil_index.specs.Memberships.{AreFilters, AreMemberships, AreNoted, AreNotedBelow, IsAlone, IsFilter, IsKnownFor, IsNoted, IsNotedIn}
+use Rattle.cil_index.specs.Memberships.{AreAtMost, AreFilters, AreMemberships, AreNoted, AreNotedBelow, IsAlone, HasBit, IsFilter, IsKnownFor, IsNoted, IsNotedIn}
 use Rattle.cil_index.specs.Sets.{all_sets, set_of}
 use Rattle.cil_index.proofs.SetLemmas.{empty_there, in_one, several_there, small_there}
 
@@ -42,6 +41,14 @@ module _ (ones : ℕ) (several sets : List (List ℕ)) (m : Memberships) (is : a
   pub noted_all : AreMemberships sets m
   noted_all = subst (λ l. AreMemberships l m) is (record { known = known_for; noted = noted_for; filtered = noted.filtered })
 
+-- ---- the list of a type
+
+pub list_there : (lists slice : List (List ℕ)) (t : ℕ) (list : List ℕ) → slice ≡ lists → t < length slice → list ≡ get_or slice t list → list ≡ get_or lists t []
+list_there lists slice t list same within is = is ∙ get_or_default slice t list [] within ∙ ap (λ (z : List (List ℕ)). get_or z t []) same
+
+pub list_none : (lists slice : List (List ℕ)) (t : ℕ) → slice ≡ lists → length slice ≤ t → get_or lists t [] ≡ []
+list_none lists slice t same past = ap (λ (z : List (List ℕ)). get_or z t []) (sym same) ∙ get_or-eq_default slice [] past
+
 -- one set more
 pub noted_more : (ones : ℕ) (several : List (List ℕ)) (k : ℕ) (set : List ℕ) (number : ℕ) (old new : List (List ℕ)) → set ≡ get_or several k [] → number ≡ k + ones + 1 → AreNoted ones several k old
     → IsNotedIn old set number new → AreNoted ones several (k + 1) new
@@ -56,13 +63,21 @@ noted_more ones several k set number old new is is_number noted step = record {
     | inl d ↦ noted.only n t d
     | inr d ↦ (k, d.1 ∙ is_number, subst (λ l. Contains l t) is d.0)
   ];
+  below = λ t n c. elim (step.only t n c) [
+    | inl d ↦ let le = noted.below t n d in omega (arith, le)
+    | inr d ↦ let same = d.1 in omega (arith, same, is_number)
+  ];
 }
+
+pub at_most_next : (ones k number : ℕ) (lists : List (List ℕ)) → number ≡ k + ones + 1 → AreAtMost (k + ones) lists → AreAtMost number lists
+at_most_next ones k number lists is below t n c = let le = below t n c in omega (arith, le, is)
 
 -- no list has a number
 pub none_noted : (ones : ℕ) (several lists : List (List ℕ)) → lists ≡ [] → AreNoted ones several 0 lists
 none_noted ones several lists none = record {
   each = λ place t below has. absurd (omega (arith, below));
   only = λ n t c. absurd (contains_none n (subst (λ (l : List (List ℕ)). Contains (get_or l t []) n) none c));
+  below = λ t n c. absurd (contains_none n (subst (λ (l : List (List ℕ)). Contains (get_or l t []) n) none c));
 }
 
 -- all below the first large one
@@ -98,6 +113,9 @@ added_more old mid new types i t number within is so_far step = record {
     one_more : take (i + 1) types ≡ take i types ++ t ∷ []
     one_more = take_more types i t within ∙ ap (λ z. take i types ++ z ∷ []) (sym is)
 
+pub at_most_added : (old new : List (List ℕ)) (types : List ℕ) (number : ℕ) → AreAtMost number old → IsNotedIn old types number new → AreAtMost number new
+at_most_added old new types number below step t n c = elim (step.only t n c) [ inl d ↦ below t n d | inr d ↦ let same = d.1 in omega (arith, same) ]
+
 pub added_all : (old new : List (List ℕ)) (types set : List ℕ) (i number : ℕ) → length types ≤ i → types ≡ set → IsNotedIn old (take i types) number new → IsNotedIn old set number new
 added_all old new types set i number over is noted = subst (λ l. IsNotedIn old l number new) (take_all i types over ∙ is) noted
 
@@ -105,6 +123,18 @@ added_all old new types set i number over is noted = subst (λ l. IsNotedIn old 
 
 order : (j at : ℕ) → (j < at) ⊎ ((j ≡ at) ⊎ (at < j))
 order j at = grind arith
+
+pub pushed_is : (xs ys list : List ℕ) (n : ℕ) → ys ≡ xs → list ≡ ys ++ n ∷ [] → (v : ℕ) → Contains list v ↔ (Contains xs v ⊎ (v ≡ n))
+pushed_is xs ys list n same push v = (
+  λ c. elim (Contains-append_cases xs (n ∷ []) v (subst (λ l. Contains l v) (push ∙ ap (λ z. z ++ n ∷ []) same) c)) [
+    | inl d ↦ inl d
+    | inr d ↦ elim (contains_cases v n [] d) [ inl e ↦ inr (sym e) | inr none ↦ absurd (contains_none v none) ]
+  ],
+  λ c. subst (λ l. Contains l v) (sym (push ∙ ap (λ z. z ++ n ∷ []) same)) (elim c [
+    | inl d ↦ Contains-append_left xs (n ∷ []) v d
+    | inr e ↦ Contains-append_right xs (n ∷ []) v (subst (Contains (n ∷ [])) (sym e) (contains_here n []))
+  ]),
+)
 
 pub noted_at : (old mid new : List (List ℕ)) (t number : ℕ) (list : List ℕ) → ((u : ℕ) → get_or mid u [] ≡ get_or old u []) → t < length mid → new ≡ set mid t list
     → ((v : ℕ) → Contains list v ↔ (Contains (get_or mid t []) v ⊎ (v ≡ number))) → IsNoted old t number new
@@ -139,53 +169,67 @@ grown lists more added none made t = ap (λ (l : List (List ℕ)). get_or l t []
 
 -- ---- bits
 
--- the bits have one for each number below one
-abbrev pub IsFilterBelow : List ℕ → ℕ → ℕ → Type 0
-IsFilterBelow numbers start bits = (n : ℕ) → Contains numbers n → n < start → IsBitSet bits (n % 64)
-
-pub filter_none : (numbers : List ℕ) → IsFilterBelow numbers 0 0
-filter_none numbers n has below = absurd (omega (arith, below))
-
 bit_added : (bits n : ℕ) → IsBitSet (bit_or bits (1 * 2 ^ (n % 64) % 2 ^ 64)) (n % 64)
 bit_added bits n = (set_is_one (bit_or bits (1 * 2 ^ (n % 64) % 2 ^ 64)) (n % 64)).1 (bit_at_set_same w64 bits (n % 64) (omega arith))
 
-pub filter_more : (numbers : List ℕ) (start number bits : ℕ) → IsNextFrom numbers start number → IsFilterBelow numbers start bits
-    → IsFilterBelow numbers (number + 1) (bit_or bits (1 * 2 ^ (number % 64) % 2 ^ 64))
-filter_more numbers start number bits next so_far n has below = elim (cases_lt n start) [
-  | inl less ↦ (set_in_either bits (1 * 2 ^ (number % 64) % 2 ^ 64) (n % 64)).1 (inl (so_far n has less))
-  | inr ge ↦ let least = next.least n has ge in
-      let same : number ≡ n = omega (arith, least, below) in
-      subst (λ k. IsBitSet (bit_or bits (1 * 2 ^ (number % 64) % 2 ^ 64)) (k % 64)) same (bit_added bits number)
+pub bit_there : (words : List ℕ) (number word : ℕ) → number / 64 % 8 < length words → HasBit (set words (number / 64 % 8) (bit_or word (1 * 2 ^ (number % 64) % 2 ^ 64))) number
+bit_there words number word within =
+    subst (λ k. IsBitSet k (number % 64)) (sym (get_or-set_same words (number / 64 % 8) (bit_or word (1 * 2 ^ (number % 64) % 2 ^ 64)) 0 within)) (bit_added word number)
+
+pub bit_stays : (words : List ℕ) (number word : ℕ) → word ≡ get_or words (number / 64 % 8) 0 → number / 64 % 8 < length words
+    → (n : ℕ) → HasBit words n → HasBit (set words (number / 64 % 8) (bit_or word (1 * 2 ^ (number % 64) % 2 ^ 64))) n
+bit_stays words number word is within n has = elim (cases_eq (n / 64 % 8) (number / 64 % 8)) [
+  | inl same ↦ subst (λ k. IsBitSet (get_or (set words (number / 64 % 8) (bit_or word (1 * 2 ^ (number % 64) % 2 ^ 64))) k 0) (n % 64)) (sym same)
+      (subst (λ k. IsBitSet k (n % 64)) (sym (get_or-set_same words (number / 64 % 8) (bit_or word (1 * 2 ^ (number % 64) % 2 ^ 64)) 0 within))
+      ((set_in_either word (1 * 2 ^ (number % 64) % 2 ^ 64) (n % 64)).1 (inl (subst (λ k. IsBitSet k (n % 64)) (ap (λ k. get_or words k 0) same ∙ sym is) has))))
+  | inr other ↦ subst (λ k. IsBitSet k (n % 64)) (sym (get_or-set_other words (number / 64 % 8) (n / 64 % 8) (bit_or word (1 * 2 ^ (number % 64) % 2 ^ 64)) 0 other)) has
 ]
 
-pub filter_all : (numbers : List ℕ) (start bits : ℕ) → ((v : ℕ) → Contains numbers v → start ≤ v → ⊥) → IsFilterBelow numbers start bits → IsFilter numbers bits
-filter_all numbers start bits none so_far n has = elim (cases_lt n start) [ inl less ↦ so_far n has less | inr ge ↦ absurd (none n has ge) ]
+-- the words have the bit of each of the first numbers
+abbrev pub IsFirstFilter : List ℕ → ℕ → List ℕ → Type 0
+IsFirstFilter numbers i words = (k : ℕ) → k < i → HasBit words (get_or numbers k 0)
 
--- all bits pass all numbers
-pub filter_full : (numbers : List ℕ) → IsFilter numbers 18446744073709551615
-filter_full numbers n has = (set_is_one 18446744073709551615 (n % 64)).1 (bit_at_ones 64 (n % 64) (omega arith))
+pub filter_more : (numbers : List ℕ) (i number : ℕ) (old new : List ℕ) → i < length numbers → number ≡ get_or numbers i number → HasBit new number → ((n : ℕ) → HasBit old n → HasBit new n)
+    → IsFirstFilter numbers i old → IsFirstFilter numbers (i + 1) new
+filter_more numbers i number old new within is added stays so_far k below = elim (cases_lt k i) [
+  | inl less ↦ stays (get_or numbers k 0) (so_far k less)
+  | inr ge ↦ let same : i ≡ k = omega (arith, ge, below) in
+      subst (HasBit new) (is ∙ get_or_default numbers i number 0 within ∙ ap (λ j. get_or numbers j 0) same) added
+]
+
+pub filter_all : (numbers : List ℕ) (i : ℕ) (words : List ℕ) → length numbers ≤ i → IsFirstFilter numbers i words → IsFilter numbers words
+filter_all numbers i words over so_far n (k, within, at) =
+    subst (HasBit words) (get_or_default numbers k 0 n within ∙ at) (so_far k (omega (arith, within, over)))
+
+-- a filter that is not there has no number
+pub filter_there : (lists filters : List (List ℕ)) (t : ℕ) (words : List ℕ) → AreFilters lists filters → words ≡ get_or filters t words → t < length filters → IsFilter (get_or lists t []) words
+filter_there lists filters t words are is within = subst (IsFilter (get_or lists t [])) (sym (is ∙ get_or_default filters t words [] within)) (are t)
+
+pub filter_past : (lists filters : List (List ℕ)) (t : ℕ) (words : List ℕ) → AreFilters lists filters → length filters ≤ t → IsFilter (get_or lists t []) words
+filter_past lists filters t words are past n has =
+    absurd (none_set (n % 64) (subst (λ (l : List ℕ). HasBit l n) (get_or-eq_default filters [] past) (are t n has)))
 
 -- the first lists have their bits
-abbrev pub AreFirstFilters : List (List ℕ) → ℕ → List ℕ → Type 0
-AreFirstFilters lists i filters = (length filters ≡ i) × ((t : ℕ) → t < i → IsFilter (get_or lists t []) (get_or filters t 0))
+abbrev pub AreFirstFilters : List (List ℕ) → ℕ → List (List ℕ) → Type 0
+AreFirstFilters lists i filters = (length filters ≡ i) × ((t : ℕ) → t < i → IsFilter (get_or lists t []) (get_or filters t []))
 
-pub no_filters : (lists : List (List ℕ)) (filters : List ℕ) → filters ≡ [] → AreFirstFilters lists 0 filters
-no_filters lists filters e = (ap (λ (z : List ℕ). length z) e, λ t below. absurd (omega (arith, below)))
+pub no_filters : (lists filters : List (List ℕ)) → filters ≡ [] → AreFirstFilters lists 0 filters
+no_filters lists filters e = (ap (λ (z : List (List ℕ)). length z) e, λ t below. absurd (omega (arith, below)))
 
-pub filters_more : (lists : List (List ℕ)) (i : ℕ) (numbers : List ℕ) (bits : ℕ) (old new : List ℕ) → numbers ≡ get_or lists i [] → IsFilter numbers bits → new ≡ old ++ bits ∷ []
+pub filters_more : (lists : List (List ℕ)) (i : ℕ) (numbers words : List ℕ) (old new : List (List ℕ)) → numbers ≡ get_or lists i [] → IsFilter numbers words → new ≡ old ++ words ∷ []
     → AreFirstFilters lists i old → AreFirstFilters lists (i + 1) new
-filters_more lists i numbers bits old new is filter push (size, so_far) = (
-  ap (λ (z : List ℕ). length z) push ∙ length-append old (bits ∷ []) ∙ ap (λ k. k + 1) size,
+filters_more lists i numbers words old new is filter push (size, so_far) = (
+  ap (λ (z : List (List ℕ)). length z) push ∙ length-append old (words ∷ []) ∙ ap (λ k. k + 1) size,
   λ t below. elim (cases_lt t i) [
-    | inl less ↦ let at : get_or new t 0 ≡ get_or old t 0 = ap (λ z. get_or z t 0) push ∙ get_or_append_left old (bits ∷ []) 0 t (omega (arith, less, size)) in
+    | inl less ↦ let at : get_or new t [] ≡ get_or old t [] = ap (λ z. get_or z t []) push ∙ get_or_append_left old (words ∷ []) [] t (omega (arith, less, size)) in
         subst (IsFilter (get_or lists t [])) (sym at) (so_far t less)
     | inr ge ↦ let same : i ≡ t = omega (arith, ge, below) in
-        let at : get_or new i 0 ≡ bits = ap (λ z. get_or z i 0) push ∙ ap (λ k. get_or (old ++ bits ∷ []) k 0) (sym size) ∙ get_or-append_seam old bits [] 0 in
-        subst (λ k. IsFilter (get_or lists k []) (get_or new k 0)) same (subst (IsFilter (get_or lists i [])) (sym at) (subst (λ l. IsFilter l bits) is filter))
+        let at : get_or new i [] ≡ words = ap (λ z. get_or z i []) push ∙ ap (λ k. get_or (old ++ words ∷ []) k []) (sym size) ∙ get_or-append_seam old words [] [] in
+        subst (λ k. IsFilter (get_or lists k []) (get_or new k [])) same (subst (IsFilter (get_or lists i [])) (sym at) (subst (λ l. IsFilter l words) is filter))
   ],
 )
 
-pub filters_all : (lists : List (List ℕ)) (i : ℕ) (filters : List ℕ) → length lists ≤ i → AreFirstFilters lists i filters → AreFilters lists filters
+pub filters_all : (lists : List (List ℕ)) (i : ℕ) (filters : List (List ℕ)) → length lists ≤ i → AreFirstFilters lists i filters → AreFilters lists filters
 filters_all lists i filters over so_far t n has = elim (cases_lt t (length lists)) [
   | inl less ↦ so_far.1 t (omega (arith, less, over)) n has
   | inr past ↦ absurd (contains_none n (subst (λ l. Contains l n) (get_or-eq_default lists [] past) has))

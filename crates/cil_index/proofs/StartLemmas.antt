@@ -1,18 +1,20 @@
 -- Where the entries of each source begin.
 use Rattle.std.specs.List.Sorted.{IsNonDecreasingBy, IsPartitionPoint, IsSorted}
 use Rattle.std.specs.Ordering.{is_lt, ordering_then}
-use Rattle.std.proofs.Common.{◌≡◌, ℕ, ◌+◌, ◌<◌, ◌≤◌, true, false, List, [], ◌∷◌, ◌++◌, length, get_or, sym, ◌∙◌, ap, subst, inl, inr, arith}
+use Rattle.std.specs.Prelude.{Contains, None, Some, slice_get}
+use Rattle.std.proofs.Common.{◌≡◌, ℕ, ◌+◌, ◌-◌, ◌<◌, ◌≤◌, true, false, List, [], ◌∷◌, ◌++◌, length, get_or, sym, ◌∙◌, ap, subst, inl, inr, arith}
 use Rattle.std.proofs.Math.Dec.{ltb}
 use Rattle.std.proofs.lemmas.Bool.{cases_lt}
 use Rattle.std.proofs.lemmas.Bool.Decides.{nat_tests}
-use Rattle.std.proofs.lemmas.List.{get_or_append_left, length-append}
+use Rattle.std.proofs.lemmas.List.{get_or_append_left, get_or_default, length-append}
 use Rattle.std.proofs.Math.Seq.{get_or-append_seam}
 use Rattle.std.proofs.lemmas.List.Sorted.{sorted_far}
 use Rattle.std.proofs.lemmas.List.MinMax.{ranks_by}
 use Rattle.cil_base.specs.Lists.{text_cmp}
 use Rattle.cil_base.specs.Paths.{less_from}
+use Rattle.cil_base.specs.Places.{get_so, is_there, none_some}
 use Rattle.cil_index.specs.declared.key.Entry.{Entry}
-use Rattle.cil_index.specs.Entries.{AreStarts, BeginAt, entry_cmp, entry_total}
+use Rattle.cil_index.specs.Entries.{AreAllStarts, AreStarts, BeginAt, entry_cmp, entry_total}
 
 ltb_true : (a b : ℕ) → ltb a b ≡ true → a < b
 ltb_true a b e = grind (arith, nat_tests)
@@ -35,6 +37,19 @@ sources_rise entries up i j d le lj =
       | inr ge ↦ ge
     ]
 
+-- no source is behind the last one
+pub last_room : (entries : List Entry) (last : Entry) → IsSorted entry_cmp entries → slice_get entries (length entries - 1) ≡ Some last → (e : Entry) → Contains entries e → e.source + 1 < last.source + 2
+last_room entries last up is e (k, within, there) =
+    let rise = sources_rise entries up k (length entries - 1) last (omega (arith, within)) (omega (arith, within)) in
+    let one : (get_or entries k last).source ≡ e.source = ap (λ (z : Entry). z.source) (get_or_default entries k last e within ∙ there) in
+    let two : (get_or entries (length entries - 1) last).source ≡ last.source = ap (λ (z : Entry). z.source) (get_so entries (length entries - 1) last last is) in
+    omega (arith, rise, one, two)
+
+pub no_entry : (entries : List Entry) → slice_get entries (length entries - 1) ≡ None → (e : Entry) → Contains entries e → ⊥
+no_entry entries none e (k, within, there) =
+    let within_last : length entries - 1 < length entries = omega (arith, within) in
+    none_some (get_or entries (length entries - 1) e) (sym none ∙ is_there entries (length entries - 1) e within_last)
+
 -- one source more
 pub starts_more : (entries : List Entry) (old new : List ℕ) (n place : ℕ) → length old ≡ n → AreStarts entries old
     → BeginAt entries n place → new ≡ old ++ place ∷ [] → (length new ≡ n + 1) × AreStarts entries new
@@ -54,5 +69,6 @@ pub no_starts : (entries : List Entry) (starts : List ℕ) → starts ≡ [] →
 no_starts entries starts e =
     let size : length starts ≡ 0 = ap (λ (z : List ℕ). length z) e in (size, λ c within. absurd (omega (arith, within, size)))
 
-pub starts_as : (entries same : List Entry) (starts alike : List ℕ) → entries ≡ same → starts ≡ alike → AreStarts same alike → AreStarts entries starts
-starts_as entries same starts alike e f are = subst (λ z. AreStarts z starts) (sym e) (subst (AreStarts same) (sym f) are)
+pub all_starts : (entries : List Entry) (starts : List ℕ) (n sources : ℕ) → sources ≤ n → ((e : Entry) → Contains entries e → e.source + 1 < sources)
+    → (length starts ≡ n) × AreStarts entries starts → AreAllStarts entries starts
+all_starts entries starts n sources over room (size, are) = record { begin = are; each = λ e has. let less = room e has in omega (arith, less, over, size) }

@@ -1,5 +1,5 @@
--- The index of rules: an entry for each record, by the number of its source set, its class and its target.
-use Rattle.std.specs.Prelude.{◌≡◌, ◌<◌, ◌≤◌, ◌+◌, ◌*◌, ℕ, cond, nat_lt, length, get_or, List, [], ◌∷◌, Contains, Some, slice_get}
+-- The index of rules: each record is found by the number of its source set, its class and its target.
+use Rattle.std.specs.Prelude.{◌≡◌, ◌⊎◌, ◌<◌, ◌≤◌, ◌+◌, ◌*◌, ℕ, cond, nat_lt, length, get_or, List, [], ◌∷◌, Contains, Some, slice_get}
 use Rattle.std.specs.List.Sorted.{IsPartitionPoint, IsSorted}
 use Rattle.std.specs.Cmp.{IsTotalOrder}
 use Rattle.std.proofs.lemmas.Cmp.{on_total, nat_list_cmp_total}
@@ -7,31 +7,36 @@ use Rattle.std.specs.Ordering.{on}
 use Rattle.std.specs.declared.cmp.Ordering.{Ordering}
 use Rattle.cil_base.specs.Lists.{text_cmp}
 use Rattle.cil_index.specs.declared.index.Bounds.{Bounds}
+use Rattle.cil_index.specs.declared.index.Index.{Index}
 use Rattle.cil_index.specs.declared.key.Entry.{Entry}
 use Rattle.cil_index.specs.declared.record.Record.{Record}
 use Rattle.cil_rules.specs.declared.rule.Reach.{Reach}
 use Rattle.cil_rules.specs.declared.rule.Reach.TheVariants as reaches
 use Rattle.cil_index.specs.Sets.{set_of}
 
--- what stands for a number for which there is no room
-abbrev pub beyond : ℕ
-beyond = 4294967295
+-- as this one stand the classes behind it too
+abbrev pub last_class : ℕ
+last_class = 1023
 
--- what stands for a set of sources or a class
-abbrev pub in_key : ℕ → ℕ
-in_key n = cond (nat_lt n beyond) n beyond
+-- what stands for a class
+abbrev pub in_class : ℕ → ℕ
+in_class n = cond (nat_lt n last_class) n last_class
+
+-- the target that stands for a set for whose number there is no room
+abbrev pub beyond : ℕ
+beyond = 4194303
 
 -- the target of a rule from several types to themselves
 abbrev pub itself : ℕ
-itself = 4294967294
+itself = 4194302
 
 -- from here on stand the targets that are not one type
 abbrev pub several : ℕ
-several = 2147483648
+several = 2097152
 
 -- as this one stand the types behind it too
 abbrev pub last_type : ℕ
-last_type = 2147483647
+last_type = 2097151
 
 -- what stands for a target that is one type alone
 abbrev pub alone_key : ℕ → ℕ
@@ -39,7 +44,7 @@ alone_key t = cond (nat_lt t last_type) t last_type
 
 -- what stands for a target that is the set of this number, of several types or none
 abbrev pub set_key : ℕ → ℕ
-set_key n = cond (nat_lt n 2147483646) (several + n) beyond
+set_key n = cond (nat_lt n 2097150) (several + n) beyond
 
 -- a set stands as its type, where it has just one
 abbrev pub key_of_set : ℕ → List ℕ → ℕ
@@ -54,15 +59,46 @@ target_key sets reaches.Itself source = key_of_set itself (set_of sets source)
 
 -- a class and a target as one number
 abbrev pub aim_of : ℕ → ℕ → ℕ
-aim_of class_ target = class_ * 4294967296 + target
+aim_of class_ target = class_ * 4194304 + target
 
 -- the class and the target of a record
 abbrev pub aim_of_record : List (List ℕ) → Record → ℕ
-aim_of_record sets k = aim_of (in_key k.class) (target_key sets k.target k.source)
+aim_of_record sets k = aim_of (in_class k.class) (target_key sets k.target k.source)
+
+-- ---- the index: aims, the places of their records, and where the aims of each set of sources begin
+
+-- the aims of a source and of no other stand here
+pub record IsOfSource (starts : List ℕ) (source at : ℕ) : Type 0 where
+  pub begins : get_or starts source 0 ≤ at
+  pub ends : at < get_or starts (source + 1) 0
+
+-- a record with this source and this aim is found: it stands at the place
+pub record IsFoundAt (index : Index) (source aim place : ℕ) : Type 0 where
+  pub at : ℕ
+  pub of_source : IsOfSource index.starts.items source at
+  pub aim_is : get_or index.aims.items at 0 ≡ aim
+  pub place_is : get_or index.places.items at 0 ≡ place
+
+-- these aims rise from one place on and up to another
+abbrev pub RiseIn : List ℕ → ℕ → ℕ → Type 0
+RiseIn aims start end = (i j : ℕ) → start ≤ i → i ≤ j → j < end → get_or aims i 0 ≤ get_or aims j 0
+
+-- each aim has its place, and those of each source rise
+pub record IsLaidOut (index : Index) : Type 0 where
+  pub long : length index.places.items ≡ length index.aims.items
+  pub within : (source : ℕ) → get_or index.starts.items source 0 ≤ length index.aims.items
+  pub rising : (source : ℕ) → RiseIn index.aims.items (get_or index.starts.items source 0) (get_or index.starts.items (source + 1) 0)
+
+-- and each record is found
+pub record IsIndex (sets : List (List ℕ)) (records : List Record) (index : Index) : Type 0 where
+  pub laid_out : IsLaidOut index
+  pub each : (place : ℕ) (k : Record) → slice_get records place ≡ Some k → IsFoundAt index k.source (aim_of_record sets k) place
+
+-- ---- private words: entries, by which the index is made
 
 -- the entry of the record at a place
 abbrev pub entry_of : List (List ℕ) → Record → ℕ → Entry
-entry_of sets k place = record { aim = aim_of_record sets k; source = in_key k.source; place = place }
+entry_of sets k place = record { source = k.source; aim = aim_of_record sets k; place = place }
 
 abbrev pub entry_fields : Entry → List ℕ
 entry_fields e = e.source ∷ e.aim ∷ []
@@ -79,7 +115,7 @@ abbrev pub HasEntries : List (List ℕ) → List Record → List Entry → Type 
 HasEntries sets records entries = (place : ℕ) (k : Record) → slice_get records place ≡ Some k → Contains entries (entry_of sets k place)
 
 -- and the entries are sorted
-pub record IsIndex (sets : List (List ℕ)) (records : List Record) (entries : List Entry) : Type 0 where
+pub record AreEntries (sets : List (List ℕ)) (records : List Record) (entries : List Entry) : Type 0 where
   pub sorted : IsSorted entry_cmp entries
   pub each : HasEntries sets records entries
 
@@ -92,15 +128,32 @@ pub record BeginAt (entries : List Entry) (source place : ℕ) : Type 0 where
 abbrev pub AreStarts : List Entry → List ℕ → Type 0
 AreStarts entries starts = (s : ℕ) → s < length starts → BeginAt entries s (get_or starts s 0)
 
--- ---- private words
+-- and those of the next one, for each source of an entry
+pub record AreAllStarts (entries : List Entry) (starts : List ℕ) : Type 0 where
+  pub begin : AreStarts entries starts
+  pub each : (e : Entry) → Contains entries e → e.source + 1 < length starts
 
--- what is written of a source and of the next one
-pub record AreKnown (starts : List ℕ) (s : ℕ) (b : Bounds) : Type 0 where
-  pub within : s + 1 < length starts
-  pub from_is : b.from ≡ get_or starts s 0
-  pub to_is : b.to ≡ get_or starts (s + 1) 0
+-- a number of each entry, in their order
+pub record IsColumn (number : Entry → ℕ) (entries : List Entry) (column : List ℕ) : Type 0 where
+  pub long : length column ≡ length entries
+  pub each : (k : ℕ) (d : Entry) → k < length entries → get_or column k 0 ≡ number (get_or entries k d)
 
--- where the entries of a source begin and end
-pub record AreBounds (entries : List Entry) (s : ℕ) (b : Bounds) : Type 0 where
-  pub begin : BeginAt entries s b.from
-  pub end : BeginAt entries (s + 1) b.to
+-- the index has what these entries have
+pub record HasAll (entries : List Entry) (index : Index) : Type 0 where
+  pub aims : IsColumn (λ e. e.aim) entries index.aims.items
+  pub places : IsColumn (λ e. e.place) entries index.places.items
+  pub starts : AreAllStarts entries index.starts.items
+
+-- where the aims of a source begin and end
+pub record AreBounds (index : Index) (source : ℕ) (b : Bounds) : Type 0 where
+  pub within : b.to ≤ length index.aims.items
+  pub rising : RiseIn index.aims.items b.start b.to
+  pub all : (at : ℕ) → IsOfSource index.starts.items source at → (b.start ≤ at) × (at < b.to)
+
+-- each aim before a place, from the start on, is below an aim
+abbrev pub AreBelow : List ℕ → (start end aim : ℕ) → Type 0
+AreBelow aims start end aim = (i : ℕ) → start ≤ i → i < end → get_or aims i 0 < aim
+
+-- the later of two places if the aim there is below an aim, or else the other one
+abbrev pub IsLater : List ℕ → (low middle aim place : ℕ) → Type 0
+IsLater aims low middle aim place = ((place ≡ middle) × (get_or aims middle 0 < aim)) ⊎ (place ≡ low)

@@ -1,13 +1,13 @@
--- What the rule at a place covers, and by which entries the rules that cover something are found.
+-- What the rule at a place covers, and by which aims the rules that cover something are found.
 use Rattle.std.specs.Prelude.{◌≡◌, ◌⊎◌, ℕ, Bool, true, List, [], Contains, IsBitSet, Some, get_or, slice_get}
 use Rattle.cil_conditions.specs.Active.{is_active}
 use Rattle.cil_rules.specs.Rule.{Rule}
 use Rattle.cil_rules.specs.Covers.{Covers, Reaches}
 use Rattle.cil_index.specs.declared.cover.Aims.{Aims}
 use Rattle.cil_index.specs.declared.cover.Asked.{Asked}
-use Rattle.cil_index.specs.declared.key.Entry.{Entry}
+use Rattle.cil_index.specs.declared.index.Index.{Index}
 use Rattle.cil_index.specs.declared.memberships.Memberships.{Memberships}
-use Rattle.cil_index.specs.Entries.{aim_of, alone_key, beyond, in_key, itself, set_key, several}
+use Rattle.cil_index.specs.Entries.{IsOfSource, aim_of, alone_key, beyond, in_class, itself, set_key, several}
 use Rattle.cil_index.specs.Memberships.{IsFilter, IsKnownFor}
 
 -- the rule at the place covers the permission
@@ -29,22 +29,21 @@ MayReach m asked key = (key ≡ alone_key asked.target) ⊎ (((key ≡ itself) �
 
 -- this is the class, with a target that may have the type
 abbrev pub IsAimed : Memberships → Asked → ℕ → Type 0
-IsAimed m asked aim = (key : ℕ) × (aim ≡ aim_of (in_key asked.class) key) × MayReach m asked key
+IsAimed m asked aim = (key : ℕ) × (aim ≡ aim_of (in_class asked.class) key) × MayReach m asked key
 
--- an entry is of this source, of the class, and of a target that may have the type
-pub record IsOf (m : Memberships) (asked : Asked) (source : ℕ) (e : Entry) : Type 0 where
-  pub source_is : e.source ≡ source
-  pub aimed : IsAimed m asked e.aim
+-- the mask has what the rules of this source cover on what is asked
+abbrev pub Hands : (ℕ → Bool) → List Rule → Memberships → Asked → Index → (source mask : ℕ) → Type 0
+Hands on rules m asked index source mask =
+    (at bit : ℕ) → IsOfSource index.starts.items source at → IsAimed m asked (get_or index.aims.items at 0)
+    → CoversAt on rules asked.source asked.target asked.class (get_or index.places.items at 0) bit → IsBitSet mask bit
 
--- the mask has what the entries with some of these sources cover on what is asked
-abbrev pub HandOver : (ℕ → Bool) → List Rule → Memberships → Asked → List Entry → (ℕ → Type 0) → ℕ → Type 0
-HandOver on rules m asked entries among mask =
-    (n : ℕ) → among n → (e : Entry) (bit : ℕ) → Contains entries e → IsOf m asked (in_key n) e
-    → CoversAt on rules asked.source asked.target asked.class e.place bit → IsBitSet mask bit
+-- and of some sources
+abbrev pub HandOver : (ℕ → Bool) → List Rule → Memberships → Asked → Index → (ℕ → Type 0) → ℕ → Type 0
+HandOver on rules m asked index among mask = (n : ℕ) → among n → Hands on rules m asked index n mask
 
--- where the entries stand that are searched for, and a test of the sets that may have the target
+-- what is searched for, and a test of the sets that may have the target
 pub record AreAims (m : Memberships) (asked : Asked) (aims : Aims) : Type 0 where
-  pub alone_is : aims.alone ≡ aim_of (in_key asked.class) (alone_key asked.target)
-  pub several_is : aims.several ≡ aim_of (in_key asked.class) several
-  pub last_is : aims.last ≡ aim_of (in_key asked.class) beyond
+  pub alone_is : aims.alone ≡ aim_of (in_class asked.class) (alone_key asked.target)
+  pub several_is : aims.several ≡ aim_of (in_class asked.class) several
+  pub last_is : aims.last ≡ aim_of (in_class asked.class) beyond
   pub filtered : IsFilter (get_or m.lists.items asked.target []) aims.filter

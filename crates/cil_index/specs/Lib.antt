@@ -3,6 +3,7 @@ pub mod Found
 pub mod Memberships
 pub mod Kept
 pub mod Order
+pub mod Rising
 pub mod Searched
 pub mod Sections
 pub mod Sets

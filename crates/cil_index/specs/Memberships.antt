@@ -1,5 +1,5 @@
 -- Which sets have a type.
-use Rattle.std.specs.Prelude.{◌≡◌, ◌⊎◌, ◌<◌, ◌≤◌, ◌+◌, ◌%◌, ℕ, suc, List, [], ◌∷◌, Contains, IsBitSet, get_or}
+use Rattle.std.specs.Prelude.{◌≡◌, ◌⊎◌, ◌<◌, ◌≤◌, ◌+◌, ◌/◌, ◌%◌, ℕ, suc, List, [], ◌∷◌, Contains, IsBitSet, get_or}
 use Rattle.cil_index.specs.declared.memberships.Memberships.{Memberships}
 use Rattle.cil_index.specs.Sets.{set_of}
 
@@ -12,12 +12,16 @@ pub record IsAlone (sets : List (List ℕ)) (set t : ℕ) : Type 0 where
   pub has_number : set ≡ suc t
   pub is_one : set_of sets set ≡ t ∷ []
 
--- the bits have one for each number, by what 64 leaves of it
-abbrev pub IsFilter : List ℕ → ℕ → Type 0
-IsFilter numbers bits = (n : ℕ) → Contains numbers n → IsBitSet bits (n % 64)
+-- the bit of the number is there: the words have 512 bits
+abbrev pub HasBit : List ℕ → ℕ → Type 0
+HasBit words n = IsBitSet (get_or words (n / 64 % 8) 0) (n % 64)
 
-abbrev pub AreFilters : List (List ℕ) → List ℕ → Type 0
-AreFilters lists filters = (t : ℕ) → IsFilter (get_or lists t []) (get_or filters t 0)
+-- the words have the bit of each number
+abbrev pub IsFilter : List ℕ → List ℕ → Type 0
+IsFilter numbers words = (n : ℕ) → Contains numbers n → HasBit words n
+
+abbrev pub AreFilters : List (List ℕ) → List (List ℕ) → Type 0
+AreFilters lists filters = (t : ℕ) → IsFilter (get_or lists t []) (get_or filters t [])
 
 -- a set that has a type is that of this type alone, or is known for the type; and one that is noted for a type has it
 pub record AreMemberships (sets : List (List ℕ)) (m : Memberships) : Type 0 where
@@ -31,10 +35,15 @@ pub record AreMemberships (sets : List (List ℕ)) (m : Memberships) : Type 0 wh
 abbrev pub AreOfTypes : (ones : ℕ) (several lists : List (List ℕ)) → Type 0
 AreOfTypes ones several lists = (n t : ℕ) → Contains (get_or lists t []) n → (place : ℕ) × (n ≡ place + ones + 1) × Contains (get_or several place []) t
 
+-- no number that is noted is above one
+abbrev pub AreAtMost : ℕ → List (List ℕ) → Type 0
+AreAtMost number lists = (t n : ℕ) → Contains (get_or lists t []) n → n ≤ number
+
 -- the first k sets of several types are noted for just their types
 pub record AreNoted (ones : ℕ) (several : List (List ℕ)) (k : ℕ) (lists : List (List ℕ)) : Type 0 where
   pub each : (place t : ℕ) → place < k → Contains (get_or several place []) t → Contains (get_or lists t []) (place + ones + 1)
   pub only : AreOfTypes ones several lists
+  pub below : AreAtMost (k + ones) lists
 
 -- the sets of several types that are not asked for every type are noted for just their types
 pub record AreNotedBelow (ones : ℕ) (several : List (List ℕ)) (m : Memberships) : Type 0 where

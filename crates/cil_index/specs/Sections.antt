@@ -3,7 +3,7 @@ use Rattle.std.specs.Prelude.{List, map}
 use Rattle.cil_conditions.specs.declared.branch.Branch.{Branch}
 use Rattle.cil_rules.specs.Rule.{Rule}
 use Rattle.cil_index.specs.declared.section.Indexed.{Indexed}
-use Rattle.cil_index.specs.Entries.{AreStarts, IsIndex}
+use Rattle.cil_index.specs.Entries.{IsIndex}
 use Rattle.cil_index.specs.Kept.{rule_of}
 use Rattle.std.specs.Prelude.{ℕ}
 
@@ -17,6 +17,6 @@ pub record RuleSections : Type 0 where
 abbrev pub rules_of : List Branch → List (List ℕ) → Indexed → List Rule
 rules_of branches sets r = map (rule_of branches sets) r.records.items
 
--- their entries find them
+-- their index finds them
 abbrev pub IsIndexed : List (List ℕ) → Indexed → Type 0
-IsIndexed sets r = IsIndex sets r.records.items r.entries.items × AreStarts r.entries.items r.starts.items
+IsIndexed sets r = IsIndex sets r.records.items r.index

@@ -1,116 +1,179 @@
-//! The index of rules: sorted entries, searched by halving.
+//! The index of rules: aims, searched by halving.
 
-ghost use Rattle.std.specs.Prelude.{◌≡◌, ◌≤◌, ◌<◌, Contains, IfOk, IfSome, Some, length, slice_get};
-ghost use Rattle.std.specs.List.Sorted.{IsNonDecreasingBy, IsPartitionPoint, IsSorted};
+ghost use Rattle.std.specs.Prelude.{◌≡◌, ◌≤◌, ◌<◌, ◌+◌, Contains, IfOk, Some, get_or, length, slice_get};
+ghost use Rattle.std.specs.List.Sorted.{IsSorted};
 ghost use Rattle.cil_index.specs.declared.key.Entry.{Entry as AnEntry};
-ghost use Rattle.cil_index.specs.Entries.{AreBounds, AreKnown, AreStarts, BeginAt, HasEntries, IsIndex, aim_of_record, entry_cmp, entry_of, target_key};
+ghost use Rattle.cil_index.specs.Entries.{AreAllStarts, AreBelow, AreBounds, AreEntries, BeginAt, HasAll, HasEntries, IsColumn, IsIndex, IsLaidOut, IsLater, RiseIn, aim_of_record, beyond, entry_cmp, entry_of, target_key};
 ghost use Rattle.cil_index.specs.declared.record.Record.{Record as ARecord};
 
-use crate::key::{Entry, ITSELF, aim, number_key, set_key};
+use crate::key::{Entry, ITSELF, aim, class_key, set_key};
 use crate::record::Record;
 use crate::sets::Sets;
 use cil_base::NoMemory;
 use cil_rules::Reach;
 use std::alloc::Global;
 
-/// The place of the first entry that is not below an aim.
-fn aim_start(entries: &[Entry], aim: u64) -> usize
-    requires { IsNonDecreasingBy (λ e. e.aim) entries.now }
-    ensures bound { result ≤ length entries.now }
-    ensures parts { IsPartitionPoint (λ e. e.aim < aim) (λ e. aim ≤ e.aim) entries.now result }
-{
-    entries.partition_point(|entry| entry.aim < aim)
+/// The aims of rules, by the sets of their sources, and in their order within each; the places of these rules; and where the aims of each set
+/// begin. A search reads the aims alone: four bytes for each rule.
+#[derive(Debug, Drop)]
+pub struct Index {
+    pub aims: Vec<u32>,
+    pub places: Vec<u32>,
+    starts: Vec<u32>,
 }
 
-/// The entries of one source from the first on that is not below an aim. It costs a search by halving, of a comparison of numbers a step.
-pub fn from_aim(entries: &[Entry], aim: u64) -> &[Entry]
-    requires { IsNonDecreasingBy (λ e. e.aim) entries.now }
-    ensures rising { IsNonDecreasingBy (λ e. e.aim) result.now }
-    ensures all { (e : AnEntry) → Contains entries.now e → aim ≤ e.aim → Contains result.now e }
-{
-    &entries[aim_start(entries, aim)..]
-}
-
-/// So many entries are searched first where an aim is expected near.
-const NEAR: usize = 16;
-
-/// The place of the first entry that is not below an aim, where it is expected near.
-fn near_start(entries: &[Entry], aim: u64) -> usize
-    requires { IsNonDecreasingBy (λ e. e.aim) entries.now }
-    ensures bound { result ≤ length entries.now }
-    ensures parts { IsPartitionPoint (λ e. e.aim < aim) (λ e. aim ≤ e.aim) entries.now result }
-{
-    if entries.len() <= NEAR || entries[NEAR].aim < aim {
-        return aim_start(entries, aim);
-    }
-    let near = aim_start(&entries[..NEAR], aim);
-    near
-}
-
-/// The same as `from_aim`. It costs a search among a few entries, where the aim is near.
-pub fn near_aim(entries: &[Entry], aim: u64) -> &[Entry]
-    requires { IsNonDecreasingBy (λ e. e.aim) entries.now }
-    ensures rising { IsNonDecreasingBy (λ e. e.aim) result.now }
-    ensures all { (e : AnEntry) → Contains entries.now e → aim ≤ e.aim → Contains result.now e }
-{
-    &entries[near_start(entries, aim)..]
-}
-
-/// The entries of a set of sources, in the order of their aims. It costs no search where the place of the set is known.
-pub fn source_part<'s>(entries: &'s [Entry], starts: &[u32], source: u32) -> &'s [Entry]
-    requires sorted { IsSorted entry_cmp entries.now }
-    requires starts { AreStarts entries.now starts.now }
-    ensures all { (e : AnEntry) → Contains entries.now e → e.source ≡ source → Contains result.now e }
-    ensures rising { IsNonDecreasingBy (λ e. e.aim) result.now }
-{
-    let bounds = bounds_of(entries, starts, source);
-    &entries[bounds.from..bounds.to]
-}
-
-/// Where a part of a list begins and ends.
+/// Where a part of the aims begins and ends.
 #[derive(Clone, Copy)]
 pub struct Bounds {
-    pub from: usize,
+    pub start: usize,
     pub to: usize,
 }
 
-/// Where the entries of a source begin and end.
-fn bounds_of(entries: &[Entry], starts: &[u32], source: u32) -> Bounds
-    requires sorted { IsSorted entry_cmp entries.now }
-    requires starts { AreStarts entries.now starts.now }
-    ensures bounds { AreBounds entries.now source result }
-    ensures order { result.from ≤ result.to }
-    ensures within { result.to ≤ length entries.now }
-{
-    match known_bounds(starts, source) {
-        Some(bounds) => bounds,
-        None => {
-            let from = source_start(entries, source as usize);
-            let to = source_start(entries, source as usize + 1);
-            Bounds { from, to }
+impl Index {
+    /// Where the aims of a set of sources stand. It costs no search.
+    pub fn bounds(&self, source: usize) -> Bounds
+        requires { IsLaidOut self.now }
+        ensures { AreBounds self.now source result }
+    {
+        if source >= self.starts.len() {
+            return Bounds { start: 0, to: 0 };
         }
+        Bounds {
+            start: start_at(&self.starts, source),
+            to: start_at(&self.starts, source + 1),
+        }
+    }
+
+    /// How many starts there are: the sets of sources from this number on have no rules.
+    pub fn sources(&self) -> usize
+        ensures { result ≡ length self.now.starts.items }
+    {
+        self.starts.len()
     }
 }
 
-/// Where the entries of a source begin and end, where that is known.
-fn known_bounds(starts: &[u32], source: u32) -> Option<Bounds>
-    ensures { IfSome result (λ b. AreKnown starts.now source b) }
+/// Where the aims of a set of sources begin.
+fn start_at(starts: &Vec<u32>, source: usize) -> usize
+    ensures { result ≡ get_or starts.now.items source 0 }
 {
-    let from = starts.get(source as usize)?;
-    let to = starts.get(source as usize + 1)?;
-    Some(Bounds {
-        from: *from as usize,
-        to: *to as usize,
-    })
+    match starts.get(source) {
+        Some(start) => *start as usize,
+        None => 0,
+    }
 }
 
-/// The index of some records: an entry for each, sorted. Errors: out of memory.
-pub fn index_of(alloc: Global, sets: &Sets, records: &[Record]) -> Result<Vec<Entry>, NoMemory>
-    ensures { IfOk result (λ index. IsIndex sets.now records.now index.items) }
+/// The first of some rising aims that is not below an aim. It costs a search by halving, of a comparison of numbers a step.
+pub fn aim_start(aims: &Vec<u32>, start: usize, end: usize, aim: u32) -> usize
+    requires within { end ≤ length aims.now.items }
+    requires rising { RiseIn aims.now.items start end }
+    ensures behind { start ≤ result }
+    ensures below { AreBelow aims.now.items start result aim }
+{
+    if end <= start {
+        return start;
+    }
+    let mut low = start;
+    let mut size = end - start;
+    while size > 1 {
+        let half = size / 2;
+        low = later(aims, low, low + half, aim);
+        size -= half;
+    }
+    if aims[low] < aim {
+        return low + 1;
+    }
+    low
+}
+
+/// The later of two places where the aim there is below an aim.
+fn later(aims: &Vec<u32>, low: usize, middle: usize, aim: u32) -> usize
+    requires { middle < length aims.now.items }
+    ensures { IsLater aims.now.items low middle aim result }
+{
+    if aims[middle] < aim { middle } else { low }
+}
+
+/// So many aims are searched first where an aim is expected near.
+const NEAR: usize = 16;
+
+/// The same as `aim_start`. It costs a search among a few aims, where the aim is near.
+pub fn near_start(aims: &Vec<u32>, start: usize, end: usize, aim: u32) -> usize
+    requires within { end ≤ length aims.now.items }
+    requires rising { RiseIn aims.now.items start end }
+    ensures behind { start ≤ result }
+    ensures below { AreBelow aims.now.items start result aim }
+{
+    let near = near_end(aims, start, end, aim);
+    aim_start(aims, start, near, aim)
+}
+
+/// The place a few behind another where the aim there is not below an aim, or the end.
+fn near_end(aims: &Vec<u32>, start: usize, end: usize, aim: u32) -> usize
+    requires { end ≤ length aims.now.items }
+    ensures { result ≤ end }
+{
+    if end <= start || end - start <= NEAR {
+        return end;
+    }
+    if aims[start + NEAR] < aim {
+        return end;
+    }
+    start + NEAR
+}
+
+/// The index of some records. Errors: out of memory.
+pub fn index_of(alloc: Global, sets: &Sets, records: &[Record]) -> Result<Index, NoMemory>
+    ensures { IfOk result (IsIndex sets.now records.now) }
+{
+    let entries = entries_of(alloc, sets, records)?;
+    let index = parted(alloc, entries.as_slice())?;
+    Ok(index)
+}
+
+/// An entry for each record, sorted. Errors: out of memory.
+fn entries_of(alloc: Global, sets: &Sets, records: &[Record]) -> Result<Vec<Entry>, NoMemory>
+    ensures { IfOk result (λ entries. AreEntries sets.now records.now entries.items) }
 {
     let mut entries = unsorted(alloc, sets, records)?;
     entries.sort_unstable();
     Ok(entries)
+}
+
+/// The index that has these entries. Errors: out of memory.
+fn parted(alloc: Global, entries: &[Entry]) -> Result<Index, NoMemory>
+    requires { IsSorted entry_cmp entries.now }
+    ensures { IfOk result (HasAll entries.now) }
+{
+    let aims = aims_in(alloc, entries)?;
+    let places = places_in(alloc, entries)?;
+    let starts = starts_of(alloc, entries)?;
+    Ok(Index {
+        aims,
+        places,
+        starts,
+    })
+}
+
+/// The aims of entries. Errors: out of memory.
+fn aims_in(alloc: Global, entries: &[Entry]) -> Result<Vec<u32>, NoMemory>
+    ensures { IfOk result (λ column. IsColumn (λ e. e.aim) entries.now column.items) }
+{
+    let mut aims = Vec::with_capacity(alloc, entries.len())?;
+    for entry in entries {
+        aims.push(entry.aim)?;
+    }
+    Ok(aims)
+}
+
+/// The places of entries. Errors: out of memory.
+fn places_in(alloc: Global, entries: &[Entry]) -> Result<Vec<u32>, NoMemory>
+    ensures { IfOk result (λ column. IsColumn (λ e. e.place) entries.now column.items) }
+{
+    let mut places = Vec::with_capacity(alloc, entries.len())?;
+    for entry in entries {
+        places.push(entry.place)?;
+    }
+    Ok(places)
 }
 
 /// An entry for each record, in their order.
@@ -134,22 +197,25 @@ fn entry_at(sets: &Sets, records: &[Record], place: usize) -> Result<Entry, NoMe
     }
     let kept = &records[place];
     Ok(Entry {
+        source: kept.source,
         aim: aim_of(sets, kept),
-        source: number_key(kept.source as usize),
         place: place as u32,
     })
 }
 
 /// The class and the target of a record.
-fn aim_of(sets: &Sets, kept: &Record) -> u64
+fn aim_of(sets: &Sets, kept: &Record) -> u32
     ensures { result ≡ aim_of_record sets.now kept.now }
 {
-    aim(number_key(kept.class as usize), target_of(sets, kept))
+    let class = class_key(kept.class as usize);
+    let target = target_of(sets, kept);
+    aim(class, target)
 }
 
 /// What stands for the target of a record.
 fn target_of(sets: &Sets, kept: &Record) -> u32
-    ensures { result ≡ target_key sets.now kept.now.target kept.now.source }
+    ensures key { result ≡ target_key sets.now kept.now.target kept.now.source }
+    ensures room { result ≤ beyond }
 {
     match kept.target {
         Reach::Types(set) => sets.key(set, set_key(set)),
@@ -157,16 +223,28 @@ fn target_of(sets: &Sets, kept: &Record) -> u32
     }
 }
 
-/// Where the entries of the first sets of sources begin, so many of them. Errors: out of memory.
-pub fn starts_of(alloc: Global, entries: &[Entry], sources: usize) -> Result<Vec<u32>, NoMemory>
+/// Where the entries of each set of sources begin, and of the one behind. Errors: out of memory.
+fn starts_of(alloc: Global, entries: &[Entry]) -> Result<Vec<u32>, NoMemory>
     requires { IsSorted entry_cmp entries.now }
-    ensures { IfOk result (λ starts. AreStarts entries.now starts.items) }
+    ensures { IfOk result (λ starts. AreAllStarts entries.now starts.items) }
 {
+    let sources = sources_of(entries);
     let mut starts = Vec::with_capacity(alloc, sources)?;
     for source in 0..sources {
         starts.push(short(source_start(entries, source))?)?;
     }
     Ok(starts)
+}
+
+/// So many numbers are there up to the one behind the last source.
+fn sources_of(entries: &[Entry]) -> usize
+    requires { IsSorted entry_cmp entries.now }
+    ensures { (e : AnEntry) → Contains entries.now e → e.source + 1 < result }
+{
+    match entries.last() {
+        Some(entry) => entry.source as usize + 2,
+        None => 0,
+    }
 }
 
 /// The place of the first entry of a source or a later one.
@@ -177,8 +255,8 @@ fn source_start(entries: &[Entry], source: usize) -> usize
     entries.partition_point(|entry| (entry.source as usize) < source)
 }
 
-/// A place in four bytes. Beyond 4,294,967,296 entries it is out of memory.
-fn short(place: usize) -> Result<u32, NoMemory>
+/// A number in four bytes. Beyond 4,294,967,295 it is out of memory.
+pub fn short(place: usize) -> Result<u32, NoMemory>
     ensures { IfOk result (λ n. n ≡ place) }
 {
     if place > u32::MAX as usize {

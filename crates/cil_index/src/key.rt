@@ -1,61 +1,57 @@
 //! By what a rule is found: the number of the set of its sources, its class, and its target.
 
-ghost use Rattle.std.specs.Prelude.{◌≡◌, ℕ, refl, suc};
+ghost use Rattle.std.specs.Prelude.{◌≡◌, ◌≤◌, refl};
 ghost use Rattle.std.specs.Cmp.{eq_by_cmp_equiv, partial_equiv_from_equiv, partial_order_from_total};
 ghost use Rattle.std.specs.Ordering.{as_partial_cmp, eq_by_cmp};
-ghost use Rattle.cil_index.specs.Entries.{aim_of, alone_key, entry_cmp, entry_total, in_key, set_key};
+ghost use Rattle.cil_index.specs.Entries.{aim_of, alone_key, beyond, entry_cmp, entry_total, in_class, last_class, set_key};
 
 use std::cmp::Ordering;
 
-/// What stands in an entry for a number for which it has no room.
-pub const BEYOND: u32 = u32::MAX;
+/// An aim has a target in so many of its values, and a class in the ten bits above them.
+pub const TARGETS: u32 = 1 << 22;
+
+/// The target that stands for a set for whose number an aim has no room.
+pub const BEYOND: u32 = TARGETS - 1;
 
 /// The target of a rule from several types to themselves.
-pub const ITSELF: u32 = u32::MAX - 1;
+pub const ITSELF: u32 = BEYOND - 1;
 
 /// From here on stand the targets that are not one type: a set by its number behind this one.
-pub const SEVERAL: u32 = 1 << 31;
+pub const SEVERAL: u32 = 1 << 21;
+
+/// As this one stand the classes behind it too.
+const LAST_CLASS: u32 = (1 << 10) - 1;
 
 /// As this one stand the types behind it too.
 const LAST_TYPE: u32 = SEVERAL - 1;
 
-/// A rule in the index.
+/// A rule while the index is made.
 #[derive(Clone, Copy, Debug)]
 pub struct Entry {
-    /// Its class and its target as one number: a search compares them in one step.
-    pub aim: u64,
     /// The number of the set of its sources.
     pub source: u32,
+    /// Its class and its target as one number: a search compares them in one step.
+    pub aim: u32,
     /// Where the rule stands.
     pub place: u32,
 }
 
 // Policies have hundreds of thousands of rules.
-const _: () = prove!(size_of::<Entry>() <= 16);
+const _: () = prove!(size_of::<Entry>() <= 12);
 
-/// What stands in an entry for a set of sources or a class: its number, where there is room for it.
-pub fn number_key(number: usize) -> u32
-    ensures { result ≡ in_key number }
+/// What stands in an aim for a class: its number, where there is room for it.
+pub fn class_key(class: usize) -> u32
+    ensures key { result ≡ in_class class }
+    ensures room { result ≤ last_class }
 {
-    if number < BEYOND as usize {
-        number as u32
+    if class < LAST_CLASS as usize {
+        class as u32
     } else {
-        BEYOND
+        LAST_CLASS
     }
 }
 
-/// What stands in an entry for the number behind another.
-pub fn next_key(number: usize) -> u32
-    ensures { result ≡ in_key (suc number) }
-{
-    if number < BEYOND as usize - 1 {
-        number as u32 + 1
-    } else {
-        BEYOND
-    }
-}
-
-/// What stands in an entry for a target that is one type alone.
+/// What stands in an aim for a target that is one type alone.
 pub fn type_key(number: usize) -> u32
     ensures { result ≡ alone_key number }
 {
@@ -66,7 +62,7 @@ pub fn type_key(number: usize) -> u32
     }
 }
 
-/// What stands in an entry for a target that is a set of several types, or of none.
+/// What stands in an aim for a target that is a set of several types, or of none.
 pub fn set_key(set: u32) -> u32
     ensures { result ≡ set_key set }
 {
@@ -78,10 +74,12 @@ pub fn set_key(set: u32) -> u32
 }
 
 /// A class and a target as one number.
-pub fn aim(class: u32, target: u32) -> u64
+pub fn aim(class: u32, target: u32) -> u32
+    requires class { class ≤ last_class }
+    requires target { target ≤ beyond }
     ensures { result ≡ aim_of class target }
 {
-    class as u64 * (1 << 32) + target as u64
+    class * TARGETS + target
 }
 
 impl PartialEq for Entry {

@@ -13,6 +13,7 @@ mod index;
 mod key;
 mod memberships;
 mod record;
+mod rising;
 mod section;
 mod sets;
 

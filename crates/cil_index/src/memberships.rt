@@ -1,9 +1,10 @@
 //! The sets that have a type: by these the rules are found that have it among several sources, and tested whether they reach it.
 
-ghost use Rattle.std.specs.Prelude.{◌≡◌, ◌≤◌, ◌<◌, ◌↔◌, ℕ, [], Contains, IfOk, IsTrue, MatchOption, OnOk, get_or, length};
-ghost use Rattle.cil_index.specs.Memberships.{AreFilters, AreMemberships, AreNotedBelow, IsFilter, IsNoted, IsNotedIn};
+ghost use Rattle.std.specs.Prelude.{◌≡◌, ◌≤◌, ◌<◌, ◌↔◌, ℕ, [], Contains, IfOk, IsTrue, OnOk, get_or, length};
+ghost use Rattle.cil_index.specs.Memberships.{AreAtMost, AreFilters, AreMemberships, AreNotedBelow, HasBit, IsFilter, IsNoted, IsNotedIn};
 
-use crate::key::BEYOND;
+use crate::index::short;
+use crate::rising::Rising;
 use crate::sets::Sets;
 use cil_base::NoMemory;
 use cil_sets::Numbers;
@@ -13,20 +14,22 @@ use std::alloc::Global;
 /// that are kept for the types of a set are bounded, and a set that has many of them is mostly asked for one of them.
 const MANY: usize = 1_024;
 
-/// The numbers of the sets of several types that have a type. They take 16 bytes for each block of 64 numbers of which a type has some, and
-/// 8 for each type.
+/// So many words of 64 bits has a filter: where a policy has no more sets of several types than bits, each set has a bit of its own.
+pub const WORDS: usize = 8;
+
+/// The numbers of the sets of several types that have a type. They take four bytes for each type of each set, and 88 for each type.
 #[derive(Debug, Drop)]
 pub struct Memberships {
     /// The sets from this number on are asked for every type.
     pub first_large: usize,
     /// For each type the numbers of the others that have it.
-    lists: Vec<Numbers>,
-    /// For each type a bit for each of these, by what 64 leaves of it: most sets that lack the type are known by it.
-    filters: Vec<u64>,
+    lists: Vec<Rising>,
+    /// For each type a bit for each of these, by what 512 leaves of it: nearly all sets that lack the type are known by it.
+    filters: Vec<[u64; WORDS]>,
 }
 
 impl Memberships {
-    /// Those of some sets. It costs a search by halving for each type of each set of several, but for large ones. Errors: out of memory.
+    /// Those of some sets. It costs a step for each type of each set of several, but for large ones. Errors: out of memory.
     pub fn of(alloc: Global, sets: &Sets) -> Result<Memberships, NoMemory>
         ensures { IfOk result (AreMemberships sets.now) }
     {
@@ -36,28 +39,32 @@ impl Memberships {
     }
 
     /// The numbers of the sets that have a type, and that are not large; none for a type that is in no such set.
-    pub fn of_type(&self, number: usize) -> Option<&Numbers>
-        ensures { MatchOption result (get_or self.now.lists.items number [] ≡ []) (λ numbers. numbers.now ≡ get_or self.now.lists.items number []) }
+    pub fn of_type(&self, number: usize) -> &[u32]
+        ensures { result.now ≡ get_or self.now.lists.items number [] }
     {
-        self.lists.get(number)
-    }
-
-    /// A bit for each number of the sets that have a type, by what 64 leaves of it.
-    pub fn filter(&self, number: usize) -> u64
-        ensures { result ≡ get_or self.now.filters.items number 0 }
-    {
-        match self.filters.get(number) {
-            Some(filter) => *filter,
-            None => 0,
+        match self.lists.get(number) {
+            Some(numbers) => numbers.as_slice(),
+            None => &[],
         }
     }
 
-    /// Whether a set is noted for a type. It costs a search by halving in the numbers of the type: they have few blocks.
-    pub fn has(&self, number: usize, set: usize) -> bool
+    /// A bit for each number of the sets that have a type, by what 512 leaves of it.
+    pub fn filter(&self, number: usize) -> [u64; WORDS]
+        requires { AreFilters self.now.lists.items self.now.filters.items }
+        ensures { IsFilter (get_or self.now.lists.items number []) result }
+    {
+        match self.filters.get(number) {
+            Some(filter) => *filter,
+            None => [0; WORDS],
+        }
+    }
+
+    /// Whether a set is noted for a type. It costs a search by halving in the numbers of the type.
+    pub fn has(&self, number: usize, set: u32) -> bool
         ensures { IsTrue result ↔ Contains (get_or self.now.lists.items number []) set }
     {
-        match self.of_type(number) {
-            Some(numbers) => numbers.contains(set),
+        match self.lists.get(number) {
+            Some(numbers) => numbers.has(set),
             None => false,
         }
     }
@@ -70,7 +77,7 @@ fn noted(alloc: Global, ones: u32, several: &[Numbers]) -> Result<Memberships, N
     let mut lists = Vec::new(alloc);
     let small = before_large(several);
     for place in 0..small {
-        let number = place + ones as usize + 1;
+        let number = short(place + ones as usize + 1)?;
         add_set(alloc, &mut lists, &several[place], number)?;
     }
     let filters = filters_of(alloc, lists.as_slice())?;
@@ -83,30 +90,42 @@ fn noted(alloc: Global, ones: u32, several: &[Numbers]) -> Result<Memberships, N
 }
 
 /// For each of some lists its bits. Errors: out of memory.
-fn filters_of(alloc: Global, lists: &[Numbers]) -> Result<Vec<u64>, NoMemory>
+fn filters_of(alloc: Global, lists: &[Rising]) -> Result<Vec<[u64; WORDS]>, NoMemory>
     ensures { IfOk result (λ filters. AreFilters lists.now filters.items) }
 {
     let mut filters = Vec::with_capacity(alloc, lists.len())?;
     for numbers in lists {
-        filters.push(filter_of(numbers))?;
+        filters.push(filter_of(numbers.as_slice()))?;
     }
     Ok(filters)
 }
 
-/// A bit for each number, by what 64 leaves of it. It costs a search by halving for each.
-fn filter_of(numbers: &Numbers) -> u64
+/// A bit for each number, by what 512 leaves of it.
+fn filter_of(numbers: &[u32]) -> [u64; WORDS]
     ensures { IsFilter numbers.now result }
 {
-    let mut filter = 0u64;
-    let mut start = 0;
-    while let Some(number) = numbers.next_from(start) {
-        if number >= BEYOND as usize {
-            return u64::MAX;
-        }
-        filter |= 1u64 << (number % 64);
-        start = number + 1;
+    let mut filter = [0; WORDS];
+    for number in numbers {
+        add_bit(&mut filter, *number);
     }
     filter
+}
+
+/// Adds the bit of a number.
+fn add_bit(filter: &mut [u64; WORDS], number: u32)
+    ensures added { HasBit filter.new number }
+    ensures stays { (n : ℕ) → HasBit filter.old n → HasBit filter.new n }
+{
+    let place = number as usize / 64 % WORDS;
+    let word = filter[place];
+    filter[place] = word | (1 << (number % 64));
+}
+
+/// Whether the bit of a number is there.
+pub fn has_bit(filter: &[u64; WORDS], number: u32) -> bool
+    ensures { IsTrue result ↔ HasBit filter.now number }
+{
+    filter[number as usize / 64 % WORDS] & (1 << (number % 64)) != 0
 }
 
 /// How many sets stand before the first large one.
@@ -124,10 +143,11 @@ fn before_large(several: &[Numbers]) -> usize
 /// Adds the number of a set to the list of each of its types. Errors: out of memory.
 fn add_set(
     alloc: Global,
-    lists: &mut Vec<Numbers>,
+    lists: &mut Vec<Rising>,
     set: &Numbers,
-    number: usize,
+    number: u32,
 ) -> Result<(), NoMemory>
+    requires { AreAtMost number lists.now.items }
     ensures { OnOk result (IsNotedIn lists.old.items set.now number lists.new.items) }
 {
     let types = set.to_vec(alloc)?;
@@ -140,24 +160,25 @@ fn add_set(
 /// Adds the number of a set to the list of a type. Errors: out of memory.
 fn add_to(
     alloc: Global,
-    lists: &mut Vec<Numbers>,
+    lists: &mut Vec<Rising>,
     of_type: usize,
-    number: usize,
+    number: u32,
 ) -> Result<(), NoMemory>
+    requires { AreAtMost number lists.now.items }
     ensures { OnOk result (IsNoted lists.old.items of_type number lists.new.items) }
 {
     grow(alloc, lists, of_type)?;
-    lists[of_type].add(number)?;
+    lists[of_type].push(number)?;
     Ok(())
 }
 
 /// Makes room for the list of a type. Errors: out of memory.
-fn grow(alloc: Global, lists: &mut Vec<Numbers>, of_type: usize) -> Result<(), NoMemory>
+fn grow(alloc: Global, lists: &mut Vec<Rising>, of_type: usize) -> Result<(), NoMemory>
     ensures there { OnOk result (of_type < length lists.new.items) }
     ensures same { OnOk result ((t : ℕ) → get_or lists.new.items t [] ≡ get_or lists.old.items t []) }
 {
     while lists.len() <= of_type {
-        lists.push(Numbers::new(alloc))?;
+        lists.push(Rising::new(alloc))?;
     }
     Ok(())
 }

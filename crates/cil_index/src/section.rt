@@ -14,9 +14,8 @@ ghost use Rattle.cil_index.specs.Memberships.{AreMemberships};
 ghost use Rattle.cil_index.specs.Sections.{IsIndexed, rules_of};
 ghost use Rattle.cil_index.specs.Sets.{AreNumbered};
 
-use crate::cover::{Asked, Index, Searched, covered, mask_at};
-use crate::index::{index_of, starts_of};
-use crate::key::Entry;
+use crate::cover::{Asked, Searched, covered, mask_at};
+use crate::index::{Index, index_of};
 use crate::memberships::Memberships;
 use crate::record::{Record, records_of};
 use crate::sets::{Sets, numbers_of};
@@ -27,15 +26,14 @@ use cil_sets::Numbers;
 use std::alloc::Global;
 use std::marker::Model;
 
-/// Rules of one kind: their records in their order, an entry for each, and where the entries of each set of sources begin.
+/// Rules of one kind: their records in their order, and by what these are found.
 #[derive(Debug, Drop)]
 struct Indexed {
     records: Vec<Record>,
-    entries: Vec<Entry>,
-    starts: Vec<u32>,
+    index: Index,
 }
 
-/// The rules of a policy, by kind. Contracts see them as their lists. A rule takes 40 bytes, however many types its sets have and however
+/// The rules of a policy, by kind. Contracts see them as their lists. A rule takes 32 bytes, however many types its sets have and however
 /// long its condition is; each set of several types, the numbers of those that have a type, and each branch are kept once for all kinds.
 #[derive(Debug, Drop)]
 pub struct Sections {
@@ -184,11 +182,7 @@ fn covered_in(
         memberships,
         records: rules.records.as_slice(),
     };
-    let index = Index {
-        entries: rules.entries.as_slice(),
-        starts: rules.starts.as_slice(),
-    };
-    covered(&searched, &index, settings, asked)
+    covered(&searched, &rules.index, settings, asked)
 }
 
 /// Rules of one kind with their index. Errors: out of memory.
@@ -206,12 +200,6 @@ fn index_rules(
 {
     let branches = branches.as_slice();
     let records = records_of(alloc, branches, numbers.as_slice(), rules.as_slice())?;
-    let entries = index_of(alloc, sets, records.as_slice())?;
-    // Where the entries of a source end is where those of the next begin.
-    let starts = starts_of(alloc, entries.as_slice(), sets.count().saturating_add(1))?;
-    Ok(Indexed {
-        records,
-        entries,
-        starts,
-    })
+    let index = index_of(alloc, sets, records.as_slice())?;
+    Ok(Indexed { records, index })
 }

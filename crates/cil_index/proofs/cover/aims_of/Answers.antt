@@ -1,12 +1,11 @@
-use Rattle.std.proofs.Common.{subst, sym, ap, ◌∙◌, [], get_or}
+use Rattle.std.proofs.Common.{ap, ◌∙◌, [], get_or}
 use Rattle.cil_index.specs.Entries.{aim_of, several, beyond}
-use Rattle.cil_index.specs.Memberships.{IsFilter}
 use Rattle.cil_index.proofs.cover.aims_of.Goals as goal
 
 pub returns : goal.returns
 returns c = record {
-  alone_is = c.aim.ensures ∙ ap (λ k. aim_of k c.type_key.result) c.number_key-class.ensures ∙ ap (aim_of _) c.type_key.ensures;
-  several_is = c.aim-2.ensures ∙ ap (λ k. aim_of k several) c.number_key-class.ensures;
-  last_is = c.aim-3.ensures ∙ ap (λ k. aim_of k beyond) c.number_key-class.ensures;
-  filtered = subst (IsFilter (get_or c.args.memberships.now.lists.items c.args.asked.now.target [])) (sym c.filter.ensures) (c.requires c.args.asked.now.target);
+  alone_is = c.aim.ensures ∙ ap (λ k. aim_of k c.type_key.result) c.class_key-class.ensures.key ∙ ap (aim_of _) c.type_key.ensures;
+  several_is = c.aim-2.ensures ∙ ap (λ k. aim_of k several) c.class_key-class.ensures.key;
+  last_is = c.aim-3.ensures ∙ ap (λ k. aim_of k beyond) c.class_key-class.ensures.key;
+  filtered = c.filter.ensures;
 }

@@ -1,33 +1,24 @@
+use Rattle.std.proofs.Common.{get_or}
+use Rattle.std.proofs.lemmas.List.{get_or_default}
 use Rattle.cil_conditions.specs.Bits.{is_on}
 use Rattle.cil_index.specs.Searched.{rules_in}
-use Rattle.std.specs.Prelude.{ℕ, Contains}
-use Rattle.cil_index.specs.Sets.{set_of}
-use Rattle.cil_index.proofs.CoverLemmas.{all_sources, either_sound, joined_source, known_as, last_source, none_joined}
+use Rattle.cil_index.proofs.CoverLemmas.{all_sources, joined_source, none_joined}
 use Rattle.cil_index.proofs.cover.by_sources.Goals as goal
 
 pub by_source-mask-requires-clause-known : goal.by_source-mask-requires-clause-known
 by_source-mask-requires-clause-known c =
-    known_as c.known_number-known.result c.in-Some.number (λ (k : ℕ). Contains (set_of c.args.searched.now.sets.now k) c.args.asked.now.source) c.known_number-known.ensures
-    (c.requires.has c.in-Some.number c.in-Some.ensures.member)
+    c.requires.has (get_or c.args.numbers.now c.loop-number.number-index 0) (c.loop-number.number-index, c.loop-number-test.true, get_or_default _ _ _ _ c.loop-number-test.true)
 
 pub loop-number-init : goal.loop-number-init
-loop-number-init c = none_joined (is_on c.args.settings.now) (rules_in c.args.searched.now) c.args.searched.now.memberships.now c.args.asked.now c.args.index.now.entries.now c.args.numbers.now
+loop-number-init c = none_joined (is_on c.args.settings.now) (rules_in c.args.searched.now) c.args.searched.now.memberships.now c.args.asked.now c.args.index.now c.args.numbers.now
 
 pub loop-number-preserved : goal.loop-number-preserved
 loop-number-preserved c =
-    joined_source (is_on c.args.settings.now) (rules_in c.args.searched.now) c.args.searched.now.memberships.now c.args.asked.now c.args.index.now.entries.now c.args.numbers.now c.loop-number.start c.loop-number.mask c.by_source-mask.result c.in-Some.number c.number_key.result c.in-Some.ensures
-    c.number_key.ensures c.loop-number.invariant c.by_source-mask.ensures.sound c.by_source-mask.ensures.all
+    joined_source (is_on c.args.settings.now) (rules_in c.args.searched.now) c.args.searched.now.memberships.now c.args.asked.now c.args.index.now c.args.numbers.now c.loop-number.number-index _ c.loop-number.mask c.by_source-mask.result c.loop-number-test.true (get_or_default _ _ _ _ c.loop-number-test.true)
+    c.loop-number.invariant c.by_source-mask.ensures.sound c.by_source-mask.ensures.all
 
-pub returns-then-number-clause-sound : goal.returns-then-number-clause-sound
-returns-then-number-clause-sound c =
-    either_sound (is_on c.args.settings.now) (rules_in c.args.searched.now) c.args.searched.now.memberships.now c.args.asked.now c.args.index.now.entries.now c.args.numbers.now c.loop-number.start c.loop-number.mask c.by_source-mask.result c.in-Some.number c.number_key.result c.in-Some.ensures
-    c.number_key.ensures c.loop-number.invariant c.by_source-mask.ensures.sound c.by_source-mask.ensures.all
-
-pub returns-then-number-clause-all : goal.returns-then-number-clause-all
-returns-then-number-clause-all c =
-    last_source (is_on c.args.settings.now) (rules_in c.args.searched.now) c.args.searched.now.memberships.now c.args.asked.now c.args.index.now.entries.now c.args.numbers.now c.loop-number.start c.loop-number.mask c.by_source-mask.result c.in-Some.number c.number_key.result c.in-Some.ensures
-    c.number_key.ensures c.loop-number.invariant c.by_source-mask.ensures.sound c.by_source-mask.ensures.all c.if-number.true
+pub returns-clause-sound : goal.returns-clause-sound
+returns-clause-sound c = c.loop-number.invariant.sound
 
 pub returns-clause-all : goal.returns-clause-all
-returns-clause-all c =
-    all_sources (is_on c.args.settings.now) (rules_in c.args.searched.now) c.args.searched.now.memberships.now c.args.asked.now c.args.index.now.entries.now c.args.numbers.now c.loop-number.start c.loop-number.mask c.loop-number.invariant c.in_default.ensures
+returns-clause-all c = all_sources (is_on c.args.settings.now) (rules_in c.args.searched.now) c.args.searched.now.memberships.now c.args.asked.now c.args.index.now c.args.numbers.now c.loop-number.number-index c.loop-number.mask c.loop-number-test.false c.loop-number.invariant

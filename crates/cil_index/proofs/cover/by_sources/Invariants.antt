@@ -1,11 +1,7 @@
-use Rattle.std.proofs.Common.{◌-◌}
 use Rattle.cil_conditions.specs.Bits.{is_on}
 use Rattle.cil_index.specs.Searched.{rules_in}
 use Rattle.cil_index.proofs.CoverLemmas.{AreJoined}
 use Rattle.cil_index.proofs.cover.by_sources.Given as goal
 
 abbrev pub invariant-loop-number : goal.invariant-loop-number
-invariant-loop-number l = AreJoined (is_on l.settings) (rules_in l.searched) l.searched.memberships.now l.asked l.index.entries.now l.numbers l.start l.mask
-
-abbrev pub decreases-loop-number : goal.decreases-loop-number
-decreases-loop-number l = 18446744073709551616 - l.start
+invariant-loop-number l = AreJoined (is_on l.settings) (rules_in l.searched) l.searched.memberships.now l.asked l.index l.numbers l.number-index l.mask

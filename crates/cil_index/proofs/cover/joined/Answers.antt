@@ -1,23 +1,35 @@
+use Rattle.std.proofs.Common.{arith, get_or, ◌≡◌, ◌∙◌, ◌<◌}
 use Rattle.std.proofs.lemmas.List.{get_or_default}
 use Rattle.cil_conditions.specs.Bits.{is_on}
 use Rattle.cil_index.specs.Searched.{rules_in}
-use Rattle.cil_index.proofs.CoverLemmas.{joined_all, joined_more, joined_up_to}
+use Rattle.cil_index.proofs.CoverLemmas.{joined_all, joined_more, joined_none, joined_up_to}
 use Rattle.cil_index.proofs.cover.joined.Goals as goal
 
-pub loop-entry-preserved : goal.loop-entry-preserved
-loop-entry-preserved c =
-    joined_more (is_on c.args.settings.now) (rules_in c.args.searched.now) c.args.searched.now.memberships.now c.args.asked.now c.args.entries.now c.loop-entry.entry-index _ c.loop-entry.mask
-    c.mask_of-mask.result c.loop-entry-test.true (get_or_default _ _ _ _ c.loop-entry-test.true) c.mask_of-mask.ensures.sound c.mask_of-mask.ensures.all c.loop-entry.invariant
+pub loop-at-init : goal.loop-at-init
+loop-at-init c = joined_none (is_on c.args.settings.now) (rules_in c.args.searched.now) c.args.searched.now.memberships.now c.args.asked.now c.args.index.now c.args.bounds.start
 
-pub returns-then-entry-last-clause-sound : goal.returns-then-entry-last-clause-sound
-returns-then-entry-last-clause-sound c = c.loop-entry.invariant.sound
+pub loop-at-preserved : goal.loop-at-preserved
+loop-at-preserved c =
+    joined_more (is_on c.args.settings.now) (rules_in c.args.searched.now) c.args.searched.now.memberships.now c.args.asked.now c.args.index.now c.args.bounds.start c.loop-at.at c.loop-at.mask
+    c.mask_of-mask.result c.mask_of-mask.ensures.sound c.mask_of-mask.ensures.all c.loop-at.invariant
 
-pub returns-then-entry-last-clause-all : goal.returns-then-entry-last-clause-all
-returns-then-entry-last-clause-all c =
-    joined_up_to (is_on c.args.settings.now) (rules_in c.args.searched.now) c.args.searched.now.memberships.now c.args.asked.now c.args.entries.now c.loop-entry.entry-index c.args.last _ c.loop-entry.mask
-    c.requires.rising c.loop-entry-test.true (get_or_default _ _ _ _ c.loop-entry-test.true) c.if-entry-last.true c.loop-entry.invariant
+pub returns-then-aim-last-clause-sound : goal.returns-then-aim-last-clause-sound
+returns-then-aim-last-clause-sound c = c.loop-at.invariant.sound
+
+pub returns-then-aim-last-clause-all : goal.returns-then-aim-last-clause-all
+returns-then-aim-last-clause-all c =
+    let before = c.loop-at-test.true in
+    let within = c.requires.within in
+    let past = c.if-aim-last.true in
+    let there : c.index-aim.result.now ≡ get_or c.args.index.now.aims.items c.loop-at.at 0 =
+    c.index-aim.ensures ∙ get_or_default c.args.index.now.aims.items c.loop-at.at _ 0 (omega (arith, before, within)) in
+    let over : c.args.last < get_or c.args.index.now.aims.items c.loop-at.at 0 = omega (arith, past, there) in
+    joined_up_to (is_on c.args.settings.now) (rules_in c.args.searched.now) c.args.searched.now.memberships.now c.args.asked.now c.args.index.now c.args.bounds.start c.args.bounds.to c.loop-at.at c.args.last c.loop-at.mask
+    c.requires.rising c.loop-at.auto.at over c.loop-at.invariant
+
+pub returns-clause-sound : goal.returns-clause-sound
+returns-clause-sound c = c.loop-at.invariant.sound
 
 pub returns-clause-all : goal.returns-clause-all
-returns-clause-all c = λ e bit has before.
-    joined_all (is_on c.args.settings.now) (rules_in c.args.searched.now) c.args.searched.now.memberships.now c.args.asked.now c.args.entries.now c.loop-entry.entry-index c.loop-entry.mask
-    c.loop-entry-test.false c.loop-entry.invariant e bit has
+returns-clause-all c =
+    joined_all (is_on c.args.settings.now) (rules_in c.args.searched.now) c.args.searched.now.memberships.now c.args.asked.now c.args.index.now c.args.bounds.start c.args.bounds.to c.loop-at.at c.args.last c.loop-at.mask c.loop-at-test.false c.loop-at.invariant

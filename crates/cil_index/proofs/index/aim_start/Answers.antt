@@ -1,12 +1,14 @@
-use Rattle.std.proofs.Common.{rules}
-use Rattle.std.proofs.Math.Dec.{ltb}
-use Rattle.std.proofs.lemmas.List.Sorted.{IsPartitionPoint-from_clause, IsPartitionedBy-ltb}
-use Rattle.cil_index.specs.declared.key.Entry.{Entry}
-use Rattle.cil_index.proofs.KeyLemmas.{aim_parts}
+use Rattle.std.proofs.Common.{arith, ◌-◌, ◌/◌}
+use Rattle.cil_index.proofs.RunLemmas.{searched_first, searched_half}
 use Rattle.cil_index.proofs.index.aim_start.Goals as goal
 
-pub returns-clause-parts : goal.returns-clause-parts
-returns-clause-parts c =
-    aim_parts c.args.entries.now c.args.aim c.partition_point.result
-    (IsPartitionPoint-from_clause (λ (e : Entry). ltb e.aim c.args.aim) c.args.entries.now c.partition_point.result c.partition_point.ensures.partitioned
-    (IsPartitionedBy-ltb (λ (e : Entry). e.aim) c.args.entries.now c.args.aim c.requires) (λ a r f' k. search rules))
+pub loop-size-init : goal.loop-size-init
+loop-size-init c =
+    let less = c.if-end-start.false in
+    searched_first c.args.aims.now.items c.args.start c.args.end c.args.aim less (c.args.end - c.args.start) (omega (arith, less))
+
+pub loop-size-preserved : goal.loop-size-preserved
+loop-size-preserved c =
+    let some = c.loop-size-test.true in
+    searched_half c.args.aims.now.items c.args.start c.args.end c.args.aim c.loop-size.low c.loop-size.size (c.loop-size.size / 2) c.later-low.result (c.loop-size.size - c.loop-size.size / 2)
+    c.requires.rising c.loop-size.invariant (omega (arith, some)) (omega (arith, some)) (omega (arith, some)) c.later-low.ensures

@@ -1,10 +1,13 @@
 use Rattle.std.proofs.Common.{◌∙◌}
 use Rattle.std.proofs.lemmas.List.{get_or_default}
-use Rattle.cil_index.proofs.MembershipLemmas.{added_all, added_more, none_added}
+use Rattle.cil_index.proofs.MembershipLemmas.{added_all, added_more, at_most_added, none_added}
 use Rattle.cil_index.proofs.memberships.add_set.Goals as goal
 
 pub loop-of_type-init : goal.loop-of_type-init
 loop-of_type-init c = none_added c.args.lists.now.items c.args.number
+
+pub add_to-requires : goal.add_to-requires
+add_to-requires c = at_most_added c.args.lists.now.items c.loop-of_type.lists.items _ c.args.number c.requires c.loop-of_type.invariant
 
 pub loop-of_type-preserved : goal.loop-of_type-preserved
 loop-of_type-preserved c =

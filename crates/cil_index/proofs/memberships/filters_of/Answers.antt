@@ -1,4 +1,5 @@
-use Rattle.std.proofs.Common.{[], ◌∙◌}
+use Rattle.std.proofs.Common.{[], subst, ◌∙◌}
+use Rattle.cil_index.specs.Memberships.{IsFilter}
 use Rattle.std.proofs.lemmas.List.{get_or_default}
 use Rattle.cil_index.proofs.MembershipLemmas.{filters_all, filters_more, no_filters}
 use Rattle.cil_index.proofs.memberships.filters_of.Goals as goal
@@ -8,7 +9,7 @@ loop-numbers-init c = no_filters c.args.lists.now _ c.in_ok-filters.ensures.item
 
 pub loop-numbers-preserved : goal.loop-numbers-preserved
 loop-numbers-preserved c =
-    filters_more c.args.lists.now c.loop-numbers.numbers-index _ c.filter_of.result _ _ (c.numbers-item.is ∙ get_or_default c.args.lists.now c.loop-numbers.numbers-index _ [] c.loop-numbers-test.true) c.filter_of.ensures c.in_ok-push.ensures.items
+    filters_more c.args.lists.now c.loop-numbers.numbers-index _ c.filter_of.result _ _ (c.numbers-item.is ∙ get_or_default c.args.lists.now c.loop-numbers.numbers-index _ [] c.loop-numbers-test.true) (subst (λ l. IsFilter l c.filter_of.result) c.as_slice.ensures c.filter_of.ensures) c.in_ok-push.ensures.items
     c.loop-numbers.invariant
 
 pub returns : goal.returns

@@ -1,26 +1,18 @@
 use Rattle.std.proofs.Common.{List, map, subst, sym}
 use Rattle.std.specs.Prelude.{Contains}
-use Rattle.std.specs.List.Sorted.{IsSorted}
 use Rattle.cil_base.specs.Lists.{Lists}
 use Rattle.cil_conditions.specs.declared.branch.Branch.{Branch}
 use Rattle.cil_rules.specs.declared.rule.NamedRule.{NamedRule}
 use Rattle.cil_rules.specs.Kept.{rule_named}
 use Rattle.cil_rules.specs.Order.{rule_cmp}
-use Rattle.cil_index.specs.declared.key.Entry.{Entry}
 use Rattle.cil_index.specs.declared.record.Record.{Record}
-use Rattle.cil_index.specs.Entries.{AreStarts, IsIndex, entry_cmp}
+use Rattle.cil_index.specs.Entries.{IsIndex}
 use Rattle.cil_index.specs.Kept.{rule_of}
 use Rattle.cil_index.specs.Sets.{AreNumbered}
 use Rattle.cil_index.proofs.section.index_rules.Goals as goal
 
-pub starts_of-requires : goal.starts_of-requires
-starts_of-requires c = subst (IsSorted entry_cmp) (sym c.as_slice-4.ensures.value) c.in_ok-entries.ensures.sorted
-
 pub returns-clause-index : goal.returns-clause-index
-returns-clause-index c = (
-  subst (λ (rs : List Record). IsIndex c.args.sets.now rs c.in_ok-entries.entries.items) c.as_slice-3.ensures.value c.in_ok-entries.ensures,
-  subst (λ (es : List Entry). AreStarts es c.in_ok-starts.starts.items) c.as_slice-4.ensures.value c.in_ok-starts.ensures,
-)
+returns-clause-index c = subst (λ (rs : List Record). IsIndex c.args.sets.now rs c.in_ok-index.index) c.as_slice-3.ensures.value c.in_ok-index.ensures
 
 pub returns-clause-rules : goal.returns-clause-rules
 returns-clause-rules c = λ named rising are.
