@@ -5,7 +5,7 @@ use Rattle.cil_macros.specs.Items.{all_placed, items_in, scope_by}
 use Rattle.cil_names.specs.Entries.{candidates_of}
 use Rattle.cil_names.specs.Soles.{in_scope}
 use Rattle.cil_words.specs.Walks.{spaces_by}
-use Rattle.cil_words.proofs.word_lists.Walk.unscoped.Goals as goal
+use Rattle.cil_words.proofs.walk.Walk.unscoped.Goals as goal
 
 pub returns-clause-candidate : goal.returns-clause-candidate
 returns-clause-candidate c =

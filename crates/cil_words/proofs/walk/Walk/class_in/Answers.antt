@@ -4,7 +4,7 @@ use Rattle.cil_syntax.specs.Scopes.{ScopedWord}
 use Rattle.cil_names.specs.Classes.{IsClassFor}
 use Rattle.cil_names.specs.Readings.{scoped_there}
 use Rattle.cil_names.proofs.ReadingLemmas.{numbers_within, scoped_so}
-use Rattle.cil_words.proofs.class_lists.Walk.class_in.Goals as goal
+use Rattle.cil_words.proofs.walk.Walk.class_in.Goals as goal
 
 pub class_of-requires-clause-within : goal.class_of-requires-clause-within
 class_of-requires-clause-within c =

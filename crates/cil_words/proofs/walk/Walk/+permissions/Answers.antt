@@ -8,7 +8,7 @@ use Rattle.cil_names.specs.Resolves.{Permission as APermission}
 use Rattle.cil_names.proofs.AskedLemmas.{all_words_at, words_at}
 use Rattle.cil_words.proofs.WalkLemmas.{each_all, each_one, form_each, leaf_each, more_each, name_each, none_each}
 use Rattle.cil_names.proofs.UnresolvedLemmas.{walked_all, walked_on}
-use Rattle.cil_words.proofs.class_lists.Walk.+permissions.Goals as goal
+use Rattle.cil_words.proofs.walk.Walk.+permissions.Goals as goal
 
 pub permission-returns-in_ok-placed_permission-in-Leaf : goal.permission-returns-in_ok-placed_permission-in-Leaf
 permission-returns-in_ok-placed_permission-in-Leaf t c = λ w is xs entries permissions.

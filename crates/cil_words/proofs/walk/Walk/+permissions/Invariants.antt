@@ -9,7 +9,7 @@ use Rattle.cil_names.specs.Readings.{module_of, word_read}
 use Rattle.cil_names.specs.Resolves.{Permission as APermission}
 use Rattle.cil_names.specs.Unresolved.{ArePermissions}
 use Rattle.cil_words.proofs.WalkLemmas.{each_all}
-use Rattle.cil_words.proofs.class_lists.Walk.+permissions.Given as goal
+use Rattle.cil_words.proofs.walk.Walk.+permissions.Given as goal
 
 abbrev pub invariant-permissions-loop-term : goal.invariant-permissions-loop-term
 invariant-permissions-loop-term l =

@@ -5,7 +5,7 @@ use Rattle.cil_names.specs.Resolves.{Permission as APermission, Word as AWord}
 use Rattle.cil_names.proofs.PermissionWordLemmas.{class_rises}
 use Rattle.cil_words.specs.Table.{ask_of}
 use Rattle.cil_words.specs.Walks.{spaces_by}
-use Rattle.cil_words.proofs.class_lists.Walk.class_permissions.Goals as goal
+use Rattle.cil_words.proofs.walk.Walk.class_permissions.Goals as goal
 
 pub placed_permissions-requires-clause-rising : goal.placed_permissions-requires-clause-rising
 placed_permissions-requires-clause-rising c =

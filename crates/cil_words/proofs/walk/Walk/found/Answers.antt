@@ -5,7 +5,7 @@ use Rattle.cil_names.specs.Entries.{candidates_of, scoped}
 use Rattle.cil_names.specs.Readings.{scoped_there}
 use Rattle.cil_names.proofs.ReadingLemmas.{numbers_within, scoped_so}
 use Rattle.cil_words.specs.Table.{word_ask}
-use Rattle.cil_words.proofs.word_lists.Walk.found.Goals as goal
+use Rattle.cil_words.proofs.walk.Walk.found.Goals as goal
 
 pub push_candidates-requires-clause-within : goal.push_candidates-requires-clause-within
 push_candidates-requires-clause-within c =

@@ -8,7 +8,7 @@ use Rattle.cil_names.specs.Resolves.{Permission as APermission, Word as AWord}
 use Rattle.cil_names.specs.Unresolved.{terms_with}
 use Rattle.cil_names.proofs.PermissionWordLemmas.{class_rises}
 use Rattle.cil_names.proofs.UnresolvedLemmas.{class_list_words, no_class_list}
-use Rattle.cil_words.proofs.class_lists.Walk.class_list.Goals as goal
+use Rattle.cil_words.proofs.walk.Walk.class_list.Goals as goal
 
 pub permissions-requires-clause-rising : goal.permissions-requires-clause-rising
 permissions-requires-clause-rising c =

@@ -2,7 +2,7 @@ use Rattle.std.proofs.Common.{rules, ◌++◌, ◌∷◌, [], ap, ◌∙◌}
 use Rattle.cil_names.specs.Readings.{scoped_there}
 use Rattle.cil_words.specs.Walks.{spaces_by}
 use Rattle.cil_words.proofs.WalkLemmas.{permission_asks}
-use Rattle.cil_words.proofs.class_lists.Walk.placed_permission.Goals as goal
+use Rattle.cil_words.proofs.walk.Walk.placed_permission.Goals as goal
 
 pub returns : goal.returns
 returns c = λ w is xs entries permissions.

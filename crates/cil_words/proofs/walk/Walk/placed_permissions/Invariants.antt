@@ -8,7 +8,7 @@ use Rattle.cil_names.specs.Unresolved.{ArePermissions}
 use Rattle.cil_syntax.specs.Scopes.{ScopedWord}
 use Rattle.cil_words.specs.Table.{ask_of}
 use Rattle.cil_words.specs.Walks.{spaces_by}
-use Rattle.cil_words.proofs.class_lists.Walk.placed_permissions.Given as goal
+use Rattle.cil_words.proofs.walk.Walk.placed_permissions.Given as goal
 
 abbrev pub invariant-loop-permission : goal.invariant-loop-permission
 invariant-loop-permission l =

@@ -6,7 +6,7 @@ use Rattle.cil_names.specs.Readings.{scoped_there}
 use Rattle.cil_names.specs.Resolves.{Permission as APermission}
 use Rattle.cil_words.specs.Table.{ask_of}
 use Rattle.cil_words.specs.Walks.{spaces_by}
-use Rattle.cil_words.proofs.class_lists.Walk.placed_permissions.Goals as goal
+use Rattle.cil_words.proofs.walk.Walk.placed_permissions.Goals as goal
 
 pub loop-permission-preserved : goal.loop-permission-preserved
 loop-permission-preserved c = λ w is xs entries permissions.
