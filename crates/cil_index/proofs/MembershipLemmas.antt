@@ -201,13 +201,9 @@ pub filter_all : (numbers : List ℕ) (i : ℕ) (words : List ℕ) → length nu
 filter_all numbers i words over so_far n (k, within, at) =
     subst (HasBit words) (get_or_default numbers k 0 n within ∙ at) (so_far k (omega (arith, within, over)))
 
--- a filter that is not there has no number
-pub filter_there : (lists filters : List (List ℕ)) (t : ℕ) (words : List ℕ) → AreFilters lists filters → words ≡ get_or filters t words → t < length filters → IsFilter (get_or lists t []) words
-filter_there lists filters t words are is within = subst (IsFilter (get_or lists t [])) (sym (is ∙ get_or_default filters t words [] within)) (are t)
-
-pub filter_past : (lists filters : List (List ℕ)) (t : ℕ) (words : List ℕ) → AreFilters lists filters → length filters ≤ t → IsFilter (get_or lists t []) words
-filter_past lists filters t words are past n has =
-    absurd (none_set (n % 64) (subst (λ (l : List ℕ). HasBit l n) (get_or-eq_default filters [] past) (are t n has)))
+-- a type whose filter is not there is in no set
+pub no_filter : (lists filters : List (List ℕ)) (t : ℕ) (words : List ℕ) → AreFilters lists filters → get_or filters t [] ≡ [] → IsFilter (get_or lists t []) words
+no_filter lists filters t words are none n has = absurd (none_set (n % 64) (subst (λ (l : List ℕ). HasBit l n) none (are t n has)))
 
 -- the first lists have their bits
 abbrev pub AreFirstFilters : List (List ℕ) → ℕ → List (List ℕ) → Type 0
