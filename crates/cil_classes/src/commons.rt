@@ -2,16 +2,20 @@
 
 ghost use Rattle.std.specs.Prelude.{◌≡◌, ◌↔◌, ◌<◌, ◌⊎◌, Contains, IfOk, MatchOption, None, length, true, ℕ};
 ghost use Rattle.std.specs.List.Sorted.{IsStrictlySortedBy};
+ghost use Rattle.cil_base.specs.Records.{IsRecordOf};
 ghost use Rattle.cil_syntax.specs.Forms.{two_words};
-ghost use Rattle.cil_macros.specs.Items.{item_at, items_in};
+ghost use Rattle.cil_macros.specs.Items.{item_at, items_in, namespaces_in};
+ghost use Rattle.cil_names.specs.Entries.{AreEntries};
 ghost use Rattle.cil_names.specs.Resolves.{is_class_common};
+ghost use Rattle.cil_names.specs.Shared.{IsPairOf, Shares};
 ghost use Rattle.cil_names.specs.SharedOrder.{shared_cmp};
 ghost use Rattle.cil_names.specs.declared.shared.Shared.{Shared as APair};
 ghost use Rattle.cil_classes.specs.Commons.{IsBeside, IsFirst, IsFlagged, IsTwice};
 
 use cil_base::NoMemory;
+use cil_blocks::ScopeList;
 use cil_macros::Instances;
-use cil_names::Shared;
+use cil_names::{Names, Shared, shared_at};
 use cil_syntax::{FaultCode, Spot};
 use std::alloc::Global;
 
@@ -42,6 +46,21 @@ pub fn class_word<'a>(instances: &Instances<'_, '_, 'a>, at: usize) -> Option<Wr
         at: said.word.at,
         bytes: said.word.bytes.as_slice(),
     })
+}
+
+/// The class and the common that the statement at a place joins, if it is a classcommon statement whose words name both.
+pub fn joined_at(
+    alloc: Global,
+    names: &Names,
+    instances: &Instances,
+    at: usize,
+) -> Result<Option<Shared>, NoMemory>
+    requires entries { AreEntries (namespaces_in instances.now) (items_in instances.now) names.now }
+    requires within { at < length (items_in instances.now) }
+    ensures { IfOk result (IsRecordOf (Shares (items_in instances.now)) (IsPairOf (namespaces_in instances.now) names.now) (item_at instances.now at)) }
+{
+    let mut scope = ScopeList::new(alloc);
+    shared_at(alloc, names, instances, at, &mut scope)
 }
 
 /// For each entry whether it is that of a class to which two commons are joined. Pairs of one class are neighbours.

@@ -9,8 +9,14 @@ use Rattle.cil_classes.proofs.widths.wrong_at.Goals as goal
 pub wide_class-requires-clause-asked : goal.wide_class-requires-clause-asked
 wide_class-requires-clause-asked c = c.requires.asked
 
-pub shared_at-requires-clause-entries : goal.shared_at-requires-clause-entries
-shared_at-requires-clause-entries c = c.requires.twice.entries
+pub joined_at-requires-clause-entries : goal.joined_at-requires-clause-entries
+joined_at-requires-clause-entries c = c.requires.twice.entries
+
+pub joined_at-requires-clause-within : goal.joined_at-requires-clause-within
+joined_at-requires-clause-within c = c.requires.within
+
+pub wide_class-requires-clause-within : goal.wide_class-requires-clause-within
+wide_class-requires-clause-within c = c.requires.within
 
 pub returns-in-Some : goal.returns-in-Some
 returns-in-Some c = wide_wrong c.args.instances.now (is_in c.args.lookup.now.enabled.now) c.args.at _ _ c.in-Some.is c.wide_class.ensures
