@@ -309,7 +309,7 @@ module _ (k : Known) (xs : List Item) (names : Kind → List (List ℕ)) (known 
           let both = assigned.all led.holder c p (led_is_there xs (enabled_in k) cp led.holder led.leads) led.holds in
           let held = both.1 in
           let (m, cm, same) = unions.all held.masks held.bit held.among (its_node held.masks held.bit c p held.among held.is_bit pair) in
-          record { mask = m; row = held.is_bit.row; there = cm; is_row = ap (slice_get rows) same ∙ held.is_bit.is_row; named = held.is_bit.named };
+          record { mask = m; row = held.is_bit.row; there = cm; is_row = ap (slice_get rows) {x = m.0.number} same ∙ held.is_bit.is_row; named = held.is_bit.named };
     }
 
 -- what was put behind nothing
