@@ -52,6 +52,11 @@ IsFlagged flags d = get_or flags d false ≡ true
 abbrev pub IsToldTwice : List Item → Fault → Type 0
 IsToldTwice xs f = (x : Item) × Contains xs x × HasTwoCommons xs x f
 
+-- the fault that is told of a class: it has too many permissions, or two commons
+abbrev pub cause_of : Bool → FaultCode
+cause_of true = causes.ClassWide
+cause_of false = causes.CommonTwice
+
 -- the first of two words is written here, with these bytes: it is where two commons are told
 pub record IsFirst (words : Option (ScopedWord × ScopedWord)) (code : FaultCode) (at : Spot) (bytes : List ℕ) : Type 0 where
   pub cause : code ≡ causes.CommonTwice

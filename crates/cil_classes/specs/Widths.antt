@@ -22,7 +22,7 @@ use Rattle.cil_names.specs.declared.entry.Entry.{Entry}
 use Rattle.cil_names.specs.declared.shared.Shared.{Shared}
 use Rattle.cil_names.specs.declared.table.Lookup.{Lookup}
 use Rattle.cil_classes.specs.declared.commons.Wrong.{Wrong}
-use Rattle.cil_classes.specs.Commons.{HasTwoCommons, IsFlagged, IsTwice}
+use Rattle.cil_classes.specs.Commons.{HasTwoCommons, IsFlagged, IsTwice, cause_of}
 use Rattle.cil_classes.specs.Row.{most_permissions}
 
 -- an item declares an enabled class that has more permissions than a mask has bits
@@ -44,7 +44,7 @@ IsWrong s xs x f = IsWide s xs x f ⊎ HasTwoCommons xs x f
 
 -- this is what is wrong with a statement of the namespace
 abbrev pub IsWhatIsWrong : (Fault → Type 0) → List (List ℕ) → Option Wrong → Type 0
-IsWhatIsWrong P space wrong = MatchOption wrong ((f : Fault) → P f → ⊥) (λ w. (f : Fault) → P f ↔ (f ≡ fault_at w.code w.at space w.bytes.now))
+IsWhatIsWrong P space wrong = MatchOption wrong ((f : Fault) → P f → ⊥) (λ w. (f : Fault) → P f ↔ (f ≡ fault_at (cause_of w.wide) w.at space w.bytes.now))
 
 -- what is looked up is of these items
 pub record AreAsked (i : Kept) (l : Lookup) (lists : List (Vec Bytes)) : Type 0 where

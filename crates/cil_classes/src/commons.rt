@@ -10,7 +10,7 @@ ghost use Rattle.cil_names.specs.Resolves.{is_class_common};
 ghost use Rattle.cil_names.specs.Shared.{IsPairOf, Shares};
 ghost use Rattle.cil_names.specs.SharedOrder.{shared_cmp};
 ghost use Rattle.cil_names.specs.declared.shared.Shared.{Shared as APair};
-ghost use Rattle.cil_classes.specs.Commons.{IsBeside, IsFirst, IsFlagged, IsTwice};
+ghost use Rattle.cil_classes.specs.Commons.{IsBeside, IsFirst, IsFlagged, IsTwice, cause_of};
 
 use cil_base::NoMemory;
 use cil_blocks::ScopeList;
@@ -22,19 +22,30 @@ use std::alloc::Global;
 /// What is wrong with the class of a statement, and the word at which it is told.
 #[derive(Clone, Copy)]
 pub struct Wrong<'a> {
-    /// What is wrong.
-    pub code: FaultCode,
+    /// It has too many permissions; else it has two commons.
+    pub wide: bool,
     /// Where the word is written.
     pub at: Spot,
     /// The word.
     pub bytes: &'a [u8],
 }
 
+/// The fault that is told of a class.
+pub fn cause_of(wide: bool) -> FaultCode
+    ensures { result ≡ cause_of wide }
+{
+    if wide {
+        FaultCode::ClassWide
+    } else {
+        FaultCode::CommonTwice
+    }
+}
+
 /// That the class which the first of two words names has two commons, told of the statement at a place, if it joins a common to it.
 pub fn class_word<'a>(instances: &Instances<'_, '_, 'a>, at: usize) -> Option<Wrong<'a>>
     requires { at < length (items_in instances.now) }
     ensures { is_class_common (item_at instances.now at).keyword ≡ true → MatchOption result (two_words (item_at instances.now at).args ≡ None)
-        (λ word. IsFirst (two_words (item_at instances.now at).args) word.code word.at word.bytes.now) }
+        (λ word. IsFirst (two_words (item_at instances.now at).args) (cause_of word.wide) word.at word.bytes.now) }
 {
     let statement = instances.statement_there(at);
     let Some(words) = statement.two_words() else {
@@ -42,7 +53,7 @@ pub fn class_word<'a>(instances: &Instances<'_, '_, 'a>, at: usize) -> Option<Wr
     };
     let said = instances.word(at, &words.first);
     Some(Wrong {
-        code: FaultCode::CommonTwice,
+        wide: false,
         at: said.word.at,
         bytes: said.word.bytes.as_slice(),
     })

@@ -10,13 +10,13 @@ ghost use Rattle.cil_names.specs.Unresolved.{listed_at};
 ghost use Rattle.cil_classes.specs.Faults.{ClassFault, IsClassName};
 ghost use Rattle.cil_classes.specs.Widths.{AreAsked, AreToldOf, AreTwice, IsPushed, IsWideAt, IsWrong, IsWrongAt};
 
-use crate::commons::{Wrong, class_word, flags_of_two, joined_at};
+use crate::commons::{Wrong, cause_of, class_word, flags_of_two, joined_at};
 use crate::limit::push_many;
 use cil_base::NoMemory;
 use cil_blocks::spelled::spelled;
 use cil_macros::Instances;
 use cil_names::{Lookup, Shared, is_set};
-use cil_syntax::{Bytes, Failure, Fault, FaultCode, Sign, push_fault_in, refuse};
+use cil_syntax::{Bytes, Failure, Fault, Sign, push_fault_in, refuse};
 use std::alloc::Global;
 
 /// How many permissions a class may have.
@@ -109,7 +109,8 @@ fn push_wrong(
         return Ok(());
     };
     let space = spelled(alloc, instances.namespaces(), instances.space(at))?;
-    push_fault_in(alloc, faults, wrong.code, wrong.at, space, wrong.bytes)
+    let code = cause_of(wrong.wide);
+    push_fault_in(alloc, faults, code, wrong.at, space, wrong.bytes)
 }
 
 /// What is wrong with the class of the statement at a place: it has too many permissions, or two commons.
@@ -165,7 +166,7 @@ fn wide_class<'a>(
         return None;
     }
     Some(Wrong {
-        code: FaultCode::ClassWide,
+        wide: true,
         at: name.at,
         bytes: name.bytes,
     })

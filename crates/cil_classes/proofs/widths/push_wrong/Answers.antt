@@ -7,6 +7,7 @@ use Rattle.cil_faults.specs.Reported.{fault_at, spelled_fault}
 use Rattle.cil_faults.specs.Namespaces.{qualified}
 use Rattle.cil_macros.specs.Items.{item_at, items_in}
 use Rattle.cil_names.specs.Entries.{is_in}
+use Rattle.cil_classes.specs.Commons.{cause_of}
 use Rattle.cil_classes.specs.Widths.{IsWrong}
 use Rattle.cil_classes.proofs.WidthLemmas.{none_more, one_more}
 use Rattle.cil_classes.proofs.widths.push_wrong.Goals as goal
@@ -37,8 +38,9 @@ returns c =
     c.in_ok-space.ensures ∙ ap qualified (ap (λ (ss : List Space). space_at ss c.space.result) c.namespaces.ensures.value ∙ c.space.ensures.is) in
     on_ok_weaker c.push_fault_in.result
     (λ one.
-    let told : c.push_fault_in.new.faults.items ≡ c.args.faults.now.items ++ fault_at w.code w.at x.space w.bytes.now ∷ [] =
-    one ∙ ap (λ z. c.args.faults.now.items ++ spelled_fault w.code w.at z w.bytes.now ∷ []) space in
+    let told : c.push_fault_in.new.faults.items ≡ c.args.faults.now.items ++ fault_at (cause_of w.wide) w.at x.space w.bytes.now ∷ [] =
+    one ∙ ap (λ z. c.args.faults.now.items ++ spelled_fault c.cause_of-code.result w.at z w.bytes.now ∷ []) space
+    ∙ ap (λ k. c.args.faults.now.items ++ fault_at k w.at x.space w.bytes.now ∷ []) c.cause_of-code.ensures in
     record { is = one_more c.args.faults.now.items c.push_fault_in.new.faults.items _ (IsWrong s (items_in c.args.instances.now) x) told (rw c.in-Some.is at c.in_ok-wrong.ensures.is) })
     c.push_fault_in.ensures
 
