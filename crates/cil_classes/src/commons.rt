@@ -2,15 +2,13 @@
 
 ghost use Rattle.std.specs.Prelude.{◌≡◌, ◌↔◌, ◌<◌, ◌⊎◌, Contains, IfOk, MatchOption, None, length, true, ℕ};
 ghost use Rattle.std.specs.List.Sorted.{IsStrictlySortedBy};
-ghost use Rattle.cil_base.specs.Records.{IsRecordOf};
 ghost use Rattle.cil_syntax.specs.Forms.{two_words};
 ghost use Rattle.cil_macros.specs.Items.{item_at, items_in, namespaces_in};
 ghost use Rattle.cil_names.specs.Entries.{AreEntries};
 ghost use Rattle.cil_names.specs.Resolves.{is_class_common};
-ghost use Rattle.cil_names.specs.Shared.{IsPairOf, Shares};
 ghost use Rattle.cil_names.specs.SharedOrder.{shared_cmp};
 ghost use Rattle.cil_names.specs.declared.shared.Shared.{Shared as APair};
-ghost use Rattle.cil_classes.specs.Commons.{IsBeside, IsFirst, IsFlagged, IsTwice, cause_of};
+ghost use Rattle.cil_classes.specs.Commons.{IsBeside, IsFirst, IsFlagged, IsJoinedAt, IsTwice, cause_of};
 
 use cil_base::NoMemory;
 use cil_blocks::ScopeList;
@@ -68,7 +66,7 @@ pub fn joined_at(
 ) -> Result<Option<Shared>, NoMemory>
     requires entries { AreEntries (namespaces_in instances.now) (items_in instances.now) names.now }
     requires within { at < length (items_in instances.now) }
-    ensures { IfOk result (IsRecordOf (Shares (items_in instances.now)) (IsPairOf (namespaces_in instances.now) names.now) (item_at instances.now at)) }
+    ensures { IfOk result (IsJoinedAt instances.now names.now at) }
 {
     let mut scope = ScopeList::new(alloc);
     shared_at(alloc, names, instances, at, &mut scope)

@@ -72,7 +72,7 @@ fn wrong_among(
     instances: &Instances,
 ) -> Result<Vec<Fault>, NoMemory>
     requires asked { AreAsked instances.now lookup.now permissions.now }
-    requires twice { AreTwice (namespaces_in instances.now) lookup.now.names.now (items_in instances.now) twice.now }
+    requires twice { AreTwice instances.now lookup.now.names.now twice.now }
     ensures { IfOk result (λ faults. AreToldOf (IsWrong (is_in lookup.now.enabled.now) (items_in instances.now)) (items_in instances.now) faults.items) }
 {
     let mut faults = Vec::new(alloc);
@@ -101,7 +101,7 @@ fn push_wrong(
     at: usize,
 ) -> Result<(), NoMemory>
     requires asked { AreAsked instances.now lookup.now permissions.now }
-    requires twice { AreTwice (namespaces_in instances.now) lookup.now.names.now (items_in instances.now) twice.now }
+    requires twice { AreTwice instances.now lookup.now.names.now twice.now }
     requires within { at < length (items_in instances.now) }
     ensures { OnOk result (IsPushed (is_in lookup.now.enabled.now) instances.now at faults.old.items faults.new.items) }
 {
@@ -123,7 +123,7 @@ fn wrong_at<'a>(
     at: usize,
 ) -> Result<Option<Wrong<'a>>, NoMemory>
     requires asked { AreAsked instances.now lookup.now permissions.now }
-    requires twice { AreTwice (namespaces_in instances.now) lookup.now.names.now (items_in instances.now) twice.now }
+    requires twice { AreTwice instances.now lookup.now.names.now twice.now }
     requires within { at < length (items_in instances.now) }
     ensures { IfOk result (IsWrongAt (is_in lookup.now.enabled.now) instances.now at) }
 {
