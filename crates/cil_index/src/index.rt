@@ -1,6 +1,6 @@
 //! The index of rules: aims, searched by halving.
 
-ghost use Rattle.std.specs.Prelude.{◌≡◌, ◌≤◌, ◌<◌, ◌+◌, Contains, IfOk, Some, get_or, length, slice_get};
+ghost use Rattle.std.specs.Prelude.{◌≡◌, ◌≤◌, ◌<◌, ◌+◌, Contains, IfOk, IsTrue, Some, get_or, length, slice_get};
 ghost use Rattle.std.specs.List.Sorted.{IsSorted};
 ghost use Rattle.cil_index.specs.declared.key.Entry.{Entry as AnEntry};
 ghost use Rattle.cil_index.specs.Entries.{AreAllStarts, AreBelow, AreBounds, AreEntries, BeginAt, HasAll, HasEntries, IsColumn, IsIndex, IsLaidOut, IsLater, RiseIn, aim_of_record, beyond, entry_cmp, entry_of, target_key};
@@ -10,7 +10,6 @@ use crate::key::{Entry, ITSELF, aim, class_key, set_key};
 use crate::record::Record;
 use crate::sets::Sets;
 use cil_base::NoMemory;
-use cil_rules::Reach;
 use std::alloc::Global;
 
 /// The aims of rules, by the sets of their sources, and in their order within each; the places of these rules; and where the aims of each set
@@ -42,6 +41,13 @@ impl Index {
             start: start_at(&self.starts, source),
             to: start_at(&self.starts, source + 1),
         }
+    }
+
+    /// Whether there are no rules.
+    pub fn is_empty(&self) -> bool
+        ensures { IsTrue result → length self.now.aims.items ≡ 0 }
+    {
+        self.aims.len() == 0
     }
 
     /// How many starts there are: the sets of sources from this number on have no rules.
@@ -217,10 +223,10 @@ fn target_of(sets: &Sets, kept: &Record) -> u32
     ensures key { result ≡ target_key sets.now kept.now.target kept.now.source }
     ensures room { result ≤ beyond }
 {
-    match kept.target {
-        Reach::Types(set) => sets.key(set, set_key(set)),
-        Reach::Itself => sets.key(kept.source, ITSELF),
+    if sets.is_number(kept.target) {
+        return sets.key(kept.target, set_key(kept.target));
     }
+    sets.key(kept.source, ITSELF)
 }
 
 /// Where the entries of each set of sources begin, and of the one behind. Errors: out of memory.
