@@ -1,6 +1,6 @@
 -- The languages of expressions: what their lists say is told by the words at their heads. CIL Reference Guide, the
 -- sections on expressions of sets, of conditionals and of constraints; what is not taken is this project's profile.
-use Rattle.std.specs.Prelude.{ℕ, ◌==◌, Bool, true, false, ◌&&◌, ◌||◌, not, if◌then◌else◌, List, [], ◌∷◌, ◌++◌, codes, find, Option}
+use Rattle.std.specs.Prelude.{ℕ, Bool, true, false, ◌&&◌, if◌then◌else◌, List, [], ◌∷◌, ◌++◌, codes, find, Option}
 use Rattle.cil_syntax.specs.declared.kind.Language.{Language}
 use Rattle.cil_syntax.specs.declared.kind.Language.TheVariants as languages
 use Rattle.cil_syntax.specs.declared.kind.Sign.{Sign}
@@ -98,6 +98,11 @@ abbrev pub level_heads : List Head
 level_heads =
     level_comparisons (codes "eq") ops.Equal ++ level_comparisons (codes "neq") ops.Unequal ++ level_comparisons (codes "dom") ops.Dominates
     ++ level_comparisons (codes "domby") ops.DominatedBy ++ level_comparisons (codes "incomp") ops.Incomparable
+
+-- the comparisons of levels that a language has
+abbrev pub levels_compared : Language → List Head
+levels_compared languages.LevelConstraints = level_heads
+levels_compared language = []
 
 -- what the lists of a language say by their first words
 unfoldable pub heads : Language → List Head
