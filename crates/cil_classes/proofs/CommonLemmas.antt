@@ -41,7 +41,7 @@ use Rattle.cil_syntax.specs.declared.term.Word.{Word}
 use Rattle.cil_syntax.specs.declared.kind.Sign.{Sign}
 use Rattle.cil_syntax.specs.declared.kind.Sign.TheVariants as signs
 use Rattle.cil_classes.specs.declared.commons.Wrong.{Wrong}
-use Rattle.cil_classes.specs.Commons.{HasTwoCommons, IsBeside, IsFirst, IsFlagged, IsTwice}
+use Rattle.cil_classes.specs.Commons.{HasTwoCommons, IsBeside, IsFirst, IsFlagged, IsTwice, cause_of}
 use Rattle.cil_classes.specs.Widths.{IsWhatIsWrong, IsWide, IsWideAt, IsWrongAt}
 
 -- ---- neighbours
@@ -285,7 +285,7 @@ joins_no_lists k e = absurd (true≢false (sym e))
 module _ (ss : List Space) (are : AreNamespaces ss) (es : List Entry) (ordered : AreOrdered ss es) (xs : List Item) (shared : List Shared) (given : AreShared ss es xs shared) (x : Item) (k : Pair) (shares : Shares xs x k)
     (one : Shared) (is : IsPairOf ss es k one) where
   -- a class that has two commons
-  pub twice_told : IsTwice shared one.class → (r : Option Wrong) → MatchOption r (two_words x.args ≡ None) (λ w. IsFirst (two_words x.args) w.code w.at w.bytes.now)
+  pub twice_told : IsTwice shared one.class → (r : Option Wrong) → MatchOption r (two_words x.args ≡ None) (λ w. IsFirst (two_words x.args) (cause_of w.wide) w.at w.bytes.now)
       → IsWhatIsWrong (HasTwoCommons xs x) x.space r
   twice_told twice None nothing = absurd (none-some (shares.class_word, shares.common_word) (sym nothing ∙ shares.says))
   twice_told twice (Some w) first = λ f. (
@@ -296,7 +296,7 @@ module _ (ss : List Space) (are : AreNamespaces ss) (es : List Entry) (ordered :
       word : shares.class_word ≡ first.first
       word = class_word_is ss are es ordered xs shared given x k shares one is first.first first.second first.are
 
-      same : fault_at causes.CommonTwice shares.class_word.at x.space shares.class_word.bytes ≡ fault_at w.code w.at x.space w.bytes.now
+      same : fault_at causes.CommonTwice shares.class_word.at x.space shares.class_word.bytes ≡ fault_at (cause_of w.wide) w.at x.space w.bytes.now
       same = λ i.
           fault_at (sym first.cause i) ((ap (λ (v : ScopedWord). v.at) word ∙ sym first.written) i) x.space ((ap (λ (v : ScopedWord). v.bytes) word ∙ sym first.spelled) i)
 
@@ -308,14 +308,14 @@ module _ (i : Kept) (s : OptSet) (at : ℕ) where
       λ e. elim e [
         | inl v ↦ (is f).0 v
         | inr t ↦
-            let v = (is (fault_at w.code w.at (item_at i at).space w.bytes.now)).1 refl in
+            let v = (is (fault_at (cause_of w.wide) w.at (item_at i at).space w.bytes.now)).1 refl in
             absurd (true≢false (sym t.shares.keyword ∙ ap is_class_common v.keyword))
       ],
       λ told. inl ((is f).1 told),
     );
   }
     where
-      is : (f : Fault) → IsWide s (items_in i) (item_at i at) f ↔ (f ≡ fault_at w.code w.at (item_at i at).space w.bytes.now)
+      is : (f : Fault) → IsWide s (items_in i) (item_at i at) f ↔ (f ≡ fault_at (cause_of w.wide) w.at (item_at i at).space w.bytes.now)
       is = subst (IsWhatIsWrong (IsWide s (items_in i) (item_at i at)) (item_at i at).space) same wide.is
 
   -- one that has not: it has two commons, or nothing is wrong with it

@@ -1,5 +1,5 @@
 -- The masks of a class permission: those of a list on a class, or the unions of the masks of some nodes.
-use Rattle.std.specs.Prelude.{Contains, IsBitSet, Some, bit_or, slice_get}
+use Rattle.std.specs.Prelude.{Option, Contains, IsBitSet, Some, bit_or, slice_get}
 use Rattle.std.specs.List.Sorted.{IsStrictlySortedBy}
 use Rattle.std.specs.Ordering.{nat_cmp, on}
 use Rattle.std.specs.declared.cmp.Ordering.TheVariants.{Less}
@@ -298,6 +298,9 @@ module _ (k : Known) (xs : List Item) (names : Kind → List (List ℕ)) (known 
     same_mask : (m : ClassId × ℕ) (n : ℕ) → m.0.number ≡ n → ◌≡◌ {A = ClassId × ℕ} (record { number = n }, m.1) m
     same_mask m n is = λ i. (record { number = sym is i }, m.1)
 
+    same_row : (m : ClassId × ℕ) (d : ℕ) (row : Option Class) → m.0.number ≡ d → slice_get rows d ≡ row → slice_get rows m.0.number ≡ row
+    same_row m d row same at = ap (slice_get rows) same ∙ at
+
     pub led_masks : (masks : List (ClassId × ℕ)) → AreUnions a.held.items part.from.items masks → AreMasksOf xs (enabled_in k) rows cp masks
     led_masks masks unions = record {
       rising = unions.rising assigned.rising;
@@ -309,7 +312,7 @@ module _ (k : Known) (xs : List Item) (names : Kind → List (List ℕ)) (known 
           let both = assigned.all led.holder c p (led_is_there xs (enabled_in k) cp led.holder led.leads) led.holds in
           let held = both.1 in
           let (m, cm, same) = unions.all held.masks held.bit held.among (its_node held.masks held.bit c p held.among held.is_bit pair) in
-          record { mask = m; row = held.is_bit.row; there = cm; is_row = ap (slice_get rows) same ∙ held.is_bit.is_row; named = held.is_bit.named };
+          record { mask = m; row = held.is_bit.row; there = cm; is_row = same_row m held.masks.class _ same held.is_bit.is_row; named = held.is_bit.named };
     }
 
 -- what was put behind nothing

@@ -1,6 +1,7 @@
 -- What each statement gives, to which class permission or permission of a class map. No other crate needs these words.
-use Rattle.std.specs.Prelude.{◌≡◌, ◌⊎◌, true, List, Contains, None}
+use Rattle.std.specs.Prelude.{◌≡◌, ◌⊎◌, ℕ, true, List, Contains, MatchOption, None, Option}
 use Rattle.cil_syntax.specs.declared.kind.Keyword.TheVariants as keywords
+use Rattle.cil_syntax.specs.declared.kind.Kind.{Kind}
 use Rattle.cil_syntax.specs.declared.kind.Kind.TheVariants as kinds
 use Rattle.cil_syntax.specs.declared.term.Word.{Word}
 use Rattle.cil_syntax.specs.Forms.{leaf_of, rule_form}
@@ -8,9 +9,10 @@ use Rattle.cil_syntax.specs.Said.{said_of}
 use Rattle.cil_syntax.specs.Scopes.{ScopedWord}
 use Rattle.cil_syntax.specs.Terms.{Term, Leaf, Terms, nil, cons}
 use Rattle.cil_macros.specs.Item.{Item, OptSet, is_enabled}
+use Rattle.cil_macros.specs.Items.{Kept, item_at, word_at}
 use Rattle.cil_macros.specs.ListTerms.{IsAlike}
 use Rattle.cil_names.specs.declared.known.Known.{Known}
-use Rattle.cil_names.specs.Known.{BeginWith, enabled_in}
+use Rattle.cil_names.specs.Known.{BeginWith, IsKnown, enabled_in, row_in}
 use Rattle.cil_names.specs.Members.{StandsFor}
 use Rattle.cil_names.specs.Unresolved.{term_with}
 use Rattle.cil_classes.specs.declared.assigned.Given.{Given}
@@ -72,6 +74,12 @@ pub record IsGivingOf (k : Known) (xs : List Item) (f : Word → ScopedWord) (x 
   pub node : StandsAs k.lookup.namespaces.now k.lookup.names.now k.permissions.now r.node gift.holder
   pub term : IsAlike gift.term (term_with f r.«module» r.term.now)
   pub begin : BeginWith k f (said_of r.«module» r.term.now) r.words.now
+
+-- what the statement at a place gives, if it gives something, where the words mean what its own do. It is a record, so that a
+-- contract does not write out what the statement is
+pub record IsGivingAt (k : Known) (i : Kept) (at : ℕ) (words : List (Option ℕ)) (giving : Option Giving) : Type 0 where
+  pub is : (xs : List Item) (names : Kind → List (List ℕ)) → IsKnown k xs names → words ≡ row_in k (item_at i at)
+      → MatchOption giving ((g : Gift) → GivesTo xs (enabled_in k) (item_at i at) g → ⊥) (IsGivingOf k xs (word_at i at) (item_at i at))
 
 -- the node is that of the holder
 abbrev pub IsNodeFor : Known → Gift → Node → Type 0

@@ -3,6 +3,7 @@ use Rattle.std.specs.Prelude.{◌≡◌, ◌↔◌, ◌⊎◌, ◌++◌, ◌∷�
 use Rattle.std.specs.Ordering.{nat_cmp, on}
 use Rattle.std.specs.List.Sorted.{IsStrictlySortedBy}
 use Rattle.cil_settle.specs.Spread.{mask_at}
+use Rattle.cil_classes.specs.declared.assigned.Part.{Part}
 use Rattle.cil_classes.specs.declared.held.ClassMasks.{ClassMasks}
 use Rattle.cil_classes.specs.declared.row.ClassId.{ClassId}
 
@@ -33,3 +34,7 @@ pub record ArePushed (held : List ClassMasks) (from : List ℕ) (old new : List 
   pub masks : List (ClassId × ℕ)
   pub are : AreUnions held from masks
   pub behind : new ≡ old ++ masks
+
+-- what a part gives was put behind others: its own permissions, or those of its nodes
+abbrev pub IsPartPushed : List ClassMasks → Part → (old new : List (ClassId × ℕ)) → Type 0
+IsPartPushed held part old new = ((part.mask ≡ 0) × ArePushed held part.from.items old new) ⊎ ((part.mask ≡ 0 → ⊥) × (new ≡ old ++ (record { number = part.class }, part.mask) ∷ []))

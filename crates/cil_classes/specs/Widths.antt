@@ -3,7 +3,6 @@ use Rattle.std.specs.Prelude.{◌≡◌, ◌↔◌, ◌⊎◌, ◌<◌, ℕ, Boo
 use Rattle.std.specs.Global.{Vec}
 use Rattle.cil_base.specs.declared.bytes.Bytes.{Bytes}
 use Rattle.cil_blocks.specs.Namespaces.{AreNamespaces}
-use Rattle.cil_blocks.specs.declared.namespaces.Space.{Space}
 use Rattle.cil_base.specs.Lists.{Lists, text_cmp}
 use Rattle.cil_faults.specs.declared.code.FaultCode.TheVariants as causes
 use Rattle.cil_faults.specs.declared.fault.Fault.{Fault}
@@ -22,7 +21,7 @@ use Rattle.cil_names.specs.declared.entry.Entry.{Entry}
 use Rattle.cil_names.specs.declared.shared.Shared.{Shared}
 use Rattle.cil_names.specs.declared.table.Lookup.{Lookup}
 use Rattle.cil_classes.specs.declared.commons.Wrong.{Wrong}
-use Rattle.cil_classes.specs.Commons.{HasTwoCommons, IsFlagged, IsTwice}
+use Rattle.cil_classes.specs.Commons.{HasTwoCommons, IsFlagged, IsTwice, cause_of}
 use Rattle.cil_classes.specs.Row.{most_permissions}
 
 -- an item declares an enabled class that has more permissions than a mask has bits
@@ -44,7 +43,7 @@ IsWrong s xs x f = IsWide s xs x f ⊎ HasTwoCommons xs x f
 
 -- this is what is wrong with a statement of the namespace
 abbrev pub IsWhatIsWrong : (Fault → Type 0) → List (List ℕ) → Option Wrong → Type 0
-IsWhatIsWrong P space wrong = MatchOption wrong ((f : Fault) → P f → ⊥) (λ w. (f : Fault) → P f ↔ (f ≡ fault_at w.code w.at space w.bytes.now))
+IsWhatIsWrong P space wrong = MatchOption wrong ((f : Fault) → P f → ⊥) (λ w. (f : Fault) → P f ↔ (f ≡ fault_at (cause_of w.wide) w.at space w.bytes.now))
 
 -- what is looked up is of these items
 pub record AreAsked (i : Kept) (l : Lookup) (lists : List (Vec Bytes)) : Type 0 where
@@ -53,11 +52,11 @@ pub record AreAsked (i : Kept) (l : Lookup) (lists : List (Vec Bytes)) : Type 0 
   pub permissions : ArePermissions l.namespaces.now l.names.now (items_in i) lists
 
 -- the flags are those of the classes to which two commons are joined
-pub record AreTwice (ss : List Space) (es : List Entry) (xs : List Item) (flags : List Bool) : Type 0 where
-  pub namespaces : AreNamespaces ss
-  pub entries : AreEntries ss xs es
+pub record AreTwice (i : Kept) (es : List Entry) (flags : List Bool) : Type 0 where
+  pub namespaces : AreNamespaces (namespaces_in i)
+  pub entries : AreEntries (namespaces_in i) (items_in i) es
   pub pairs : List Shared
-  pub shared : AreShared ss es xs pairs
+  pub shared : AreShared (namespaces_in i) es (items_in i) pairs
   pub flagged : (d : ℕ) → IsFlagged flags d ↔ IsTwice pairs d
 
 -- what is wrong with the statement at a place: the class that it declares has too many permissions; or that, or it has two commons.

@@ -12,14 +12,14 @@ ghost use Rattle.cil_syntax.specs.Said.{all_said, args_of, said_of};
 ghost use Rattle.cil_syntax.specs.Scopes.{ScopedWord};
 ghost use Rattle.cil_macros.proofs.FormLemmas.{all_across};
 ghost use Rattle.cil_macros.specs.Item.{Item, is_enabled};
-ghost use Rattle.cil_macros.specs.Items.{item_at, items_in, word_at};
+ghost use Rattle.cil_macros.specs.Items.{item_at, items_in};
 ghost use Rattle.cil_macros.specs.ListTerms.{AreAlike};
 ghost use Rattle.cil_names.specs.declared.known.Known.{Known as Lookups};
 ghost use Rattle.cil_names.specs.Known.{IsKnown, enabled_in, row_in};
 ghost use Rattle.cil_names.specs.Numbers.{AreApart};
 ghost use Rattle.cil_names.specs.Rows.{IsTableOf};
 ghost use Rattle.cil_classes.specs.ClassRows.{AreClasses};
-ghost use Rattle.cil_classes.specs.Givings.{Gift, GivesTo, HaveNodes, IsGivenFor, IsGivingOf, IsListed, IsMapping, IsNoMapping, IsNodeFor, IsSet};
+ghost use Rattle.cil_classes.specs.Givings.{Gift, GivesTo, HaveNodes, IsGivenFor, IsGivingAt, IsGivingOf, IsListed, IsMapping, IsNoMapping, IsNodeFor, IsSet};
 ghost use Rattle.cil_classes.specs.NodeOrder.{node_cmp};
 ghost use Rattle.cil_classes.specs.Parts.{AreNodes};
 ghost use Rattle.cil_classes.specs.Row.{AreOrderlyRows};
@@ -212,9 +212,7 @@ fn giving_at<'p, 'a, 's>(
 ) -> Option<Option<Giving<'p, 'a, 's>>>
     requires within { at < length (items_in instances.now) }
     ensures { MatchOption result (IsListed (enabled_in known.now) (item_at instances.now at))
-        (λ giving. (xs : List Item) (names : kinds.Kind → List (List ℕ)) → IsKnown known.now xs names → words.now ≡ row_in known.now (item_at instances.now at)
-        → MatchOption giving ((g : Gift) → GivesTo xs (enabled_in known.now) (item_at instances.now at) g → ⊥)
-        (IsGivingOf known.now xs (word_at instances.now at) (item_at instances.now at))) }
+        (IsGivingAt known.now instances.now at words.now) }
 {
     let statement = instances.statement_there(at);
     if !known.is_enabled(instances, at) {

@@ -15,9 +15,10 @@ ghost use Rattle.cil_classes.specs.ClassRows.{AreClasses};
 ghost use Rattle.cil_classes.specs.Held.{IsAssigned};
 ghost use Rattle.cil_classes.specs.NodeOrder.{node_cmp};
 ghost use Rattle.cil_classes.specs.Perms.{AreAdded, AreMasksOf};
-ghost use Rattle.cil_classes.specs.Pushed.{ArePushed, IsPushed, IsUnionOf};
+ghost use Rattle.cil_classes.specs.Pushed.{ArePushed, IsPartPushed, IsPushed, IsUnionOf};
 ghost use Rattle.cil_classes.specs.Row.{AreOrderlyRows};
 
+use crate::assigned::Part;
 use crate::held::{ClassMasks, GivenPermissions};
 use crate::parts::part_of;
 use crate::row::{Class, ClassId};
@@ -56,12 +57,7 @@ pub fn push_perms(
         module,
         words,
     )?;
-    if part.mask == 0 {
-        return push_held(out, given.held.as_slice(), part.from.as_slice());
-    }
-    let class = ClassId { number: part.class };
-    out.push((class, part.mask))?;
-    Ok(())
+    push_part(out, given.held.as_slice(), &part)
 }
 
 /// The same masks in a list of their own. Error: out of memory.
@@ -86,6 +82,22 @@ pub fn expand_perms(
         alloc, &mut masks, known, classes, given, term, module, words,
     )?;
     Ok(masks)
+}
+
+/// Adds a class with the permissions that are given of it, or the masks of the nodes that give them.
+fn push_part(
+    out: &mut Vec<(ClassId, u32)>,
+    held: &[ClassMasks],
+    part: &Part,
+) -> Result<(), NoMemory>
+    ensures { OnOk result (IsPartPushed held.now part.now out.old.items out.new.items) }
+{
+    if part.mask == 0 {
+        return push_held(out, held, part.from.as_slice());
+    }
+    let class = ClassId { number: part.class };
+    out.push((class, part.mask))?;
+    Ok(())
 }
 
 /// Adds the masks of all classes of which some of these nodes has permissions.

@@ -1,6 +1,6 @@
 //! The rows of the classes: each has the permissions that are listed for its declared name.
 
-ghost use Rattle.std.specs.Prelude.{◌≡◌, ◌+◌, ◌<◌, IfOk, get_or, length};
+ghost use Rattle.std.specs.Prelude.{◌≡◌, ◌+◌, ◌<◌, ◌++◌, IfOk, OnOk, get_or, length};
 ghost use Rattle.cil_names.specs.Entries.{is_in};
 ghost use Rattle.cil_names.specs.Numbers.{AreApart, AreNumbers, names_of};
 ghost use Rattle.cil_names.specs.Unresolved.{listed_at};
@@ -97,17 +97,25 @@ fn permissions_at(alloc: Global, permissions: &[Vec<Bytes>], d: usize) -> Result
     ensures { IfOk result (λ names. names ≡ listed_at permissions.now d) }
 {
     match permissions.get(d) {
-        Some(list) => Ok(Names::from_vec(copied_all(alloc, list.as_slice())?)),
+        Some(list) => copied_all(alloc, list.as_slice()),
         None => Ok(Names::from_vec(Vec::new(alloc))),
     }
 }
 
-fn copied_all(alloc: Global, names: &[Bytes]) -> Result<Vec<Bytes>, NoMemory>
-    ensures { IfOk result (λ copies. copies.items ≡ names.now) }
+fn copied_all(alloc: Global, names: &[Bytes]) -> Result<Names, NoMemory>
+    ensures { IfOk result (λ copies. copies ≡ names.now) }
 {
     let mut copies = Vec::new(alloc);
+    push_copies(alloc, &mut copies, names)?;
+    Ok(Names::from_vec(copies))
+}
+
+/// Adds copies of some names.
+fn push_copies(alloc: Global, copies: &mut Vec<Bytes>, names: &[Bytes]) -> Result<(), NoMemory>
+    ensures { OnOk result (copies.new.items ≡ copies.old.items ++ names.now) }
+{
     for name in names {
         copies.push(Bytes::copy_of(alloc, name.as_slice())?)?;
     }
-    Ok(copies)
+    Ok(())
 }

@@ -2,7 +2,6 @@
 
 ghost use Rattle.std.specs.Prelude.{◌≡◌, ◌<◌, IfOk, OnOk, length};
 ghost use Rattle.cil_faults.specs.Refusal.{Answers};
-ghost use Rattle.cil_macros.specs.Item.{OptSet as Optionals};
 ghost use Rattle.cil_macros.specs.Items.{items_in, namespaces_in};
 ghost use Rattle.cil_base.specs.Lists.{Lists, text_cmp};
 ghost use Rattle.cil_names.specs.Entries.{AreEntries, is_in};
@@ -11,14 +10,13 @@ ghost use Rattle.cil_names.specs.Unresolved.{listed_at};
 ghost use Rattle.cil_classes.specs.Faults.{ClassFault, IsClassName};
 ghost use Rattle.cil_classes.specs.Widths.{AreAsked, AreToldOf, AreTwice, IsPushed, IsWideAt, IsWrong, IsWrongAt};
 
-use crate::commons::{Wrong, class_word, flags_of_two};
+use crate::commons::{Wrong, cause_of, class_word, flags_of_two, joined_at};
 use crate::limit::push_many;
 use cil_base::NoMemory;
-use cil_blocks::ScopeList;
 use cil_blocks::spelled::spelled;
 use cil_macros::Instances;
-use cil_names::{Lookup, Shared, is_set, shared_at};
-use cil_syntax::{Bytes, Failure, Fault, FaultCode, Sign, push_fault_in, refuse};
+use cil_names::{Lookup, Shared, is_set};
+use cil_syntax::{Bytes, Failure, Fault, Sign, push_fault_in, refuse};
 use std::alloc::Global;
 
 /// How many permissions a class may have.
@@ -62,15 +60,7 @@ fn wrong_classes(
     // What is known of the numbers of namespaces.
     lookup.namespaces.are_namespaces();
     let twice = flags_of_two(alloc, lookup.names.entries().len(), shared)?;
-    let mut scope = ScopeList::new(alloc);
-    wrong_among(
-        alloc,
-        lookup,
-        permissions,
-        twice.as_slice(),
-        instances,
-        &mut scope,
-    )
+    wrong_among(alloc, lookup, permissions, twice.as_slice(), instances)
 }
 
 /// The same, where these are the flags of classes to which two commons are joined.
@@ -80,16 +70,22 @@ fn wrong_among(
     permissions: &[Vec<Bytes>],
     twice: &[bool],
     instances: &Instances,
-    scope: &mut ScopeList,
 ) -> Result<Vec<Fault>, NoMemory>
     requires asked { AreAsked instances.now lookup.now permissions.now }
-    requires twice { AreTwice (namespaces_in instances.now) lookup.now.names.now (items_in instances.now) twice.now }
+    requires twice { AreTwice instances.now lookup.now.names.now twice.now }
     ensures { IfOk result (λ faults. AreToldOf (IsWrong (is_in lookup.now.enabled.now) (items_in instances.now)) (items_in instances.now) faults.items) }
 {
     let mut faults = Vec::new(alloc);
     for at in 0..instances.len() {
-        let wrong = wrong_at(alloc, lookup, permissions, twice, instances, at, scope)?;
-        push_wrong(alloc, &mut faults, instances, at, wrong)?;
+        push_wrong(
+            alloc,
+            &mut faults,
+            lookup,
+            permissions,
+            twice,
+            instances,
+            at,
+        )?;
     }
     Ok(faults)
 }
@@ -98,17 +94,23 @@ fn wrong_among(
 fn push_wrong(
     alloc: Global,
     faults: &mut Vec<Fault>,
+    lookup: &Lookup,
+    permissions: &[Vec<Bytes>],
+    twice: &[bool],
     instances: &Instances,
     at: usize,
-    wrong: Option<Wrong>,
 ) -> Result<(), NoMemory>
-    ensures { OnOk result ((s : Optionals) → IsWrongAt s instances.now at wrong.entry → IsPushed s instances.now at faults.old.items faults.new.items) }
+    requires asked { AreAsked instances.now lookup.now permissions.now }
+    requires twice { AreTwice instances.now lookup.now.names.now twice.now }
+    requires within { at < length (items_in instances.now) }
+    ensures { OnOk result (IsPushed (is_in lookup.now.enabled.now) instances.now at faults.old.items faults.new.items) }
 {
-    let Some(wrong) = wrong else {
+    let Some(wrong) = wrong_at(alloc, lookup, permissions, twice, instances, at)? else {
         return Ok(());
     };
     let space = spelled(alloc, instances.namespaces(), instances.space(at))?;
-    push_fault_in(alloc, faults, wrong.code, wrong.at, space, wrong.bytes)
+    let code = cause_of(wrong.wide);
+    push_fault_in(alloc, faults, code, wrong.at, space, wrong.bytes)
 }
 
 /// What is wrong with the class of the statement at a place: it has too many permissions, or two commons.
@@ -119,17 +121,16 @@ fn wrong_at<'a>(
     twice: &[bool],
     instances: &Instances<'_, '_, 'a>,
     at: usize,
-    scope: &mut ScopeList,
 ) -> Result<Option<Wrong<'a>>, NoMemory>
     requires asked { AreAsked instances.now lookup.now permissions.now }
-    requires twice { AreTwice (namespaces_in instances.now) lookup.now.names.now (items_in instances.now) twice.now }
+    requires twice { AreTwice instances.now lookup.now.names.now twice.now }
     requires within { at < length (items_in instances.now) }
     ensures { IfOk result (IsWrongAt (is_in lookup.now.enabled.now) instances.now at) }
 {
     if let Some(wide) = wide_class(lookup, permissions, instances, at) {
         return Ok(Some(wide));
     }
-    let Some(one) = shared_at(alloc, lookup.names, instances, at, scope)? else {
+    let Some(one) = joined_at(alloc, lookup.names, instances, at)? else {
         return Ok(None);
     };
     if !is_set(twice, one.class) {
@@ -165,7 +166,7 @@ fn wide_class<'a>(
         return None;
     }
     Some(Wrong {
-        code: FaultCode::ClassWide,
+        wide: true,
         at: name.at,
         bytes: name.bytes,
     })

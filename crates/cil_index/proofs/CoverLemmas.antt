@@ -1,9 +1,8 @@
 -- The masks of some aims, and by which of them all rules on a class and a pair of types are found.
-use Rattle.std.specs.Prelude.{◌↔◌, ◌⊎◌, Bool, true, false, Contains, IfSome, IsBitSet, IsTrue, Option, Some, None, bit_and, bit_or, map, option_map, slice_get}
-use Rattle.std.proofs.Common.{◌≡◌, ℕ, suc, ◌+◌, ◌/◌, ◌%◌, ◌^◌, ◌<◌, ◌≤◌, List, [], ◌∷◌, length, get_or, sym, ◌∙◌, ap, subst, inl, inr, refl, arith}
+use Rattle.std.specs.Prelude.{◌↔◌, ◌⊎◌, Bool, true, false, Contains, IfSome, IsBitSet, IsTrue, Option, Some, None, bit_or, map, option_map, slice_get}
+use Rattle.std.proofs.Common.{◌≡◌, ℕ, suc, ◌+◌, ◌%◌, ◌<◌, ◌≤◌, List, [], ◌∷◌, length, get_or, sym, ◌∙◌, ap, subst, inl, inr, refl, arith}
 use Rattle.std.proofs.lemmas.Bool.{cases_lt}
 use Rattle.std.proofs.lemmas.List.{get_or_default}
-use Rattle.std.proofs.lemmas.Nat.{bit_set_by_shift}
 use Rattle.std.proofs.lemmas.Option.{slice_get-map}
 use Rattle.cil_base.specs.Lists.{contains_cases, contains_none}
 use Rattle.cil_base.specs.MadeLists.{from_map}
@@ -21,7 +20,7 @@ use Rattle.cil_index.specs.declared.index.Bounds.{Bounds}
 use Rattle.cil_index.specs.declared.index.Index.{Index}
 use Rattle.cil_index.specs.declared.memberships.Memberships.{Memberships}
 use Rattle.cil_index.specs.declared.record.Record.{Record}
-use Rattle.cil_index.specs.Entries.{AreBelow, AreBounds, IsIndex, IsOfSource, RiseIn, aim_of, alone_key, in_class, itself, key_of_set, set_key, target_key}
+use Rattle.cil_index.specs.Entries.{AreBelow, AreBounds, IsIndex, IsLaidOut, IsOfSource, RiseIn, aim_of, alone_key, in_class, itself, key_of_set, set_key, target_key}
 use Rattle.cil_index.specs.Found.{AreAims, CoversAt, HandOver, Hands, IsAimed, Matches, MayReach}
 use Rattle.cil_index.specs.Memberships.{AreMemberships, HasBit, IsFilter, IsKnownFor}
 use Rattle.cil_index.specs.Kept.{rule_of}
@@ -155,6 +154,14 @@ found_by on branches sets records index is m hold asked bit covered =
 -- ---- sources, one after another
 
 module _ (on : ℕ → Bool) (rules : List Rule) (m : Memberships) (asked : Asked) (index : Index) where
+  -- a set without aims hands nothing over
+  pub none_within : (n mask : ℕ) (b : Bounds) → AreBounds index n b → b.to ≤ b.start → Hands on rules m asked index n mask
+  none_within n mask b are none at bit of = absurd (let inside = are.all at of in let low = inside.0 in let high = inside.1 in omega (arith, low, high, none))
+
+  -- and where there are no aims, no set does
+  pub none_at_all : (among : ℕ → Type 0) (mask : ℕ) → IsLaidOut index → length index.aims.items ≡ 0 → HandOver on rules m asked index among mask
+  none_at_all among mask laid none n is at bit of = absurd (let past = laid.within (n + 1) in let high = of.ends in omega (arith, past, high, none))
+
   -- a source behind the last one with a start has no rules
   pub none_behind : (n mask : ℕ) → length index.starts.items ≤ n + 1 → Hands on rules m asked index n mask
   none_behind n mask past at bit of = absurd (none_past index.starts.items n at past of)

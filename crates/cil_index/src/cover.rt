@@ -55,6 +55,9 @@ pub fn covered(searched: &Searched, index: &Index, settings: &Settings, asked: &
     requires memberships { AreMemberships searched.now.sets.now searched.now.memberships.now }
     ensures { (bit : ℕ) → IsBitSet result bit ↔ HasCover (is_on settings.now) (rules_in searched.now) asked.now.source asked.now.target asked.now.class bit }
 {
+    if index.is_empty() {
+        return 0;
+    }
     let aims = aims_of(searched.memberships, asked);
     by_alone(searched, index, settings, asked, &aims)
         | by_large(searched, index, settings, asked, &aims)
@@ -192,9 +195,12 @@ fn by_source(
     ensures all { Hands (is_on settings.now) (rules_in searched.now) searched.now.memberships.now asked.now index.now source result }
 {
     let bounds = index.bounds(source);
+    if bounds.to <= bounds.start {
+        return 0;
+    }
     let one = aim_start(&index.aims, bounds.start, bounds.to, aims.alone);
     let several = near_start(&index.aims, one, bounds.to, aims.several);
-    joined(
+    found(
         searched,
         index,
         settings,
@@ -206,7 +212,7 @@ fn by_source(
             to: bounds.to,
         },
         aims.alone,
-    ) | joined(
+    ) | found(
         searched,
         index,
         settings,
@@ -221,7 +227,47 @@ fn by_source(
     )
 }
 
-/// The permissions of the rules of some aims, up to the last one, that cover what is asked. Mostly there are none.
+/// The permissions of the rules of some aims, up to the last one, that cover what is asked. Where there are none, as mostly, it costs a
+/// comparison.
+fn found(
+    searched: &Searched,
+    index: &Index,
+    settings: &Settings,
+    asked: &Asked,
+    aims: &Aims,
+    known: Option<u32>,
+    bounds: Bounds,
+    last: u32,
+) -> u32
+    requires known { IfSome known (λ k. Contains (set_of searched.now.sets.now k) asked.now.source) }
+    requires within { bounds.to ≤ length index.now.aims.items }
+    requires rising { RiseIn index.now.aims.items bounds.start bounds.to }
+    requires laid_out { IsLaidOut index.now }
+    requires memberships { AreMemberships searched.now.sets.now searched.now.memberships.now }
+    requires aims { AreAims searched.now.memberships.now asked.now aims.now }
+    ensures sound { (bit : ℕ) → IsBitSet result bit → HasCover (is_on settings.now) (rules_in searched.now) asked.now.source asked.now.target asked.now.class bit }
+    ensures all { (at bit : ℕ) → bounds.start ≤ at → at < bounds.to → get_or index.now.aims.items at 0 ≤ last → IsAimed searched.now.memberships.now asked.now (get_or index.now.aims.items at 0)
+        → CoversAt (is_on settings.now) (rules_in searched.now) asked.now.source asked.now.target asked.now.class (get_or index.now.places.items at 0) bit → IsBitSet result bit }
+{
+    if is_any_to(&index.aims, bounds, last) {
+        return joined(searched, index, settings, asked, aims, known, bounds, last);
+    }
+    0
+}
+
+/// Whether some of these rising aims is not behind an aim.
+fn is_any_to(aims: &Vec<u32>, bounds: Bounds, last: u32) -> bool
+    requires within { bounds.to ≤ length aims.now.items }
+    requires rising { RiseIn aims.now.items bounds.start bounds.to }
+    ensures { (at : ℕ) → bounds.start ≤ at → at < bounds.to → get_or aims.now.items at 0 ≤ last → IsTrue result }
+{
+    if bounds.to <= bounds.start {
+        return false;
+    }
+    aims[bounds.start] <= last
+}
+
+/// The permissions of the rules of some aims, up to the last one, that cover what is asked.
 fn joined(
     searched: &Searched,
     index: &Index,

@@ -1,6 +1,6 @@
 //! The index of rules: aims, searched by halving.
 
-ghost use Rattle.std.specs.Prelude.{◌≡◌, ◌≤◌, ◌<◌, ◌+◌, Contains, IfOk, Some, get_or, length, slice_get};
+ghost use Rattle.std.specs.Prelude.{◌≡◌, ◌≤◌, ◌<◌, ◌+◌, Contains, IfOk, IsTrue, Some, get_or, length, slice_get};
 ghost use Rattle.std.specs.List.Sorted.{IsSorted};
 ghost use Rattle.cil_index.specs.declared.key.Entry.{Entry as AnEntry};
 ghost use Rattle.cil_index.specs.Entries.{AreAllStarts, AreBelow, AreBounds, AreEntries, BeginAt, HasAll, HasEntries, IsColumn, IsIndex, IsLaidOut, IsLater, RiseIn, aim_of_record, beyond, entry_cmp, entry_of, target_key};
@@ -42,6 +42,13 @@ impl Index {
             start: start_at(&self.starts, source),
             to: start_at(&self.starts, source + 1),
         }
+    }
+
+    /// Whether there are no rules.
+    pub fn is_empty(&self) -> bool
+        ensures { IsTrue result → length self.now.aims.items ≡ 0 }
+    {
+        self.aims.len() == 0
     }
 
     /// How many starts there are: the sets of sources from this number on have no rules.

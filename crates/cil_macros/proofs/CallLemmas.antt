@@ -3,19 +3,17 @@ use Rattle.std.proofs.Common.{◌≡◌, ℕ, ◌+◌, ◌<◌, Bool, true, fals
 use Rattle.std.specs.Prelude.{Contains, Option, Some, None, is_some, slice_get}
 use Rattle.cil_base.specs.Places.{in_range, some_at, some_same}
 use Rattle.cil_syntax.specs.declared.program.Statement.{Statement}
-use Rattle.cil_syntax.specs.Program.{IsNested, program_of}
+use Rattle.cil_syntax.specs.Program.{statement_of}
 use Rattle.cil_syntax.specs.Said.{args_of}
 use Rattle.cil_faults.specs.Namespaces.{Namespace}
-use Rattle.cil_syntax.specs.Terms.{Terms}
-use Rattle.cil_syntax.specs.declared.term.Word.{Word}
+use Rattle.cil_syntax.specs.Written as written
 use Rattle.cil_syntax.specs.Written.{Written, is_macro}
 use Rattle.cil_blocks.specs.declared.entry.Entry.{Entry}
 use Rattle.cil_blocks.specs.Contents.{Standing}
-use Rattle.cil_blocks.specs.Entries.{standings_of, statement_at}
+use Rattle.cil_blocks.specs.Entries.{nothing, standings_of, statement_at}
 use Rattle.cil_blocks.specs.Namespaces.{IsNumber}
 use Rattle.cil_blocks.specs.Places.{Standings, entries_in, spaces_in}
 use Rattle.cil_blocks.proofs.EntryLemmas.{standings_length}
-use Rattle.cil_blocks.proofs.NameLemmas.{args_some, at_none}
 use Rattle.cil_macros.specs.declared.entry.Body.{Body}
 use Rattle.cil_macros.specs.declared.entry.Called.{Called}
 use Rattle.cil_macros.specs.Calls.{Unfolded, bounds_of_call, called_macro, is_call, is_repeated, unfolded, unfolded_by, unfolded_with}
@@ -85,26 +83,21 @@ module _ (s : Standings) (cs : List Called) where
 
 -- ---- arguments
 
-module _ (ss : List Statement) (nested : IsNested ss) (standings : List Standing) (p : Placed) (m : Standing) (called : called_macro standings p ≡ Some m) where
-  pub call_there : (n : ℕ) → p.standing.statement ≡ statement_at (program_of ss) n → slice_get ss n ≡ None → ⊥
-  call_there n e none =
-      let f : is_call (statement_at (program_of ss) n).statement.keyword ≡ true = ap (λ (w : Written). is_call w.statement.keyword) (sym e) ∙ (names_macro (program_of ss) standings p m called).0 in
-      let g = sym (ap (λ (w : Written). is_call w.statement.keyword) (at_none ss nested n none)) ∙ f in cc
+module _ (ws : List Written) (standings : List Standing) (p : Placed) (m : Standing) (called : called_macro standings p ≡ Some m) where
+  -- the statements of both are there
+  pub call_there : p.standing.statement ≡ nothing → ⊥
+  call_there e = let f : false ≡ true = ap (λ (w : Written). is_call w.statement.keyword) (sym e) ∙ (names_macro ws standings p m called).0 in cc
 
-  pub macro_there : (k : ℕ) → m.statement ≡ statement_at (program_of ss) k → slice_get ss k ≡ None → ⊥
-  macro_there k e none =
-      let f : is_macro (statement_at (program_of ss) k).statement.keyword ≡ true = ap (λ (w : Written). is_macro w.statement.keyword) (sym e) ∙ (names_macro (program_of ss) standings p m called).2 in
-      let g = sym (ap (λ (w : Written). is_macro w.statement.keyword) (at_none ss nested k none)) ∙ f in cc
+  pub macro_there : m.statement ≡ nothing → ⊥
+  macro_there e = let f : false ≡ true = ap (λ (w : Written). is_macro w.statement.keyword) (sym e) ∙ (names_macro ws standings p m called).2 in cc
 
-module _ (ss : List Statement) (nested : IsNested ss) (p : Placed) (m : Standing) (n k : ℕ)
-    (is_call_at : p.standing.statement ≡ statement_at (program_of ss) n) (is_macro_at : m.statement ≡ statement_at (program_of ss) k) where
-  pub fits_bound : (call macro : Statement) (b : Bool) → slice_get ss n ≡ Some call → slice_get ss k ≡ Some macro
-      → b ≡ fits (macro_parameters (args_of macro)) (call_arguments (args_of call)) → b ≡ is_some (bounds_of_call (program_of ss) p m)
-  fits_bound call macro b e f g =
-      g
-      ∙ ap (λ (t : Terms Word). fits (macro_parameters t) (call_arguments (args_of call))) (sym (args_some ss nested k macro f) ∙ ap (λ (w : Written). w.statement.args) (sym is_macro_at))
-      ∙ ap (λ (t : Terms Word). fits (macro_parameters m.statement.statement.args) (call_arguments t)) (sym (args_some ss nested n call e) ∙ ap (λ (w : Written). w.statement.args) (sym is_call_at))
-      ∙ fits_when (program_of ss) p (macro_parameters m.statement.statement.args) (call_arguments p.standing.statement.statement.args)
+pub fits_bound : (ws : List Written) (p : Placed) (m : Standing) (call macro : Statement) (b : Bool) → p.standing.statement.statement ≡ statement_of call
+    → m.statement.statement ≡ statement_of macro → b ≡ fits (macro_parameters (args_of macro)) (call_arguments (args_of call)) → b ≡ is_some (bounds_of_call ws p m)
+fits_bound ws p m call macro b e f g =
+    g
+    ∙ ap (λ (s : written.Statement). fits (macro_parameters s.args) (call_arguments (args_of call))) (sym f)
+    ∙ ap (λ (s : written.Statement). fits (macro_parameters m.statement.statement.args) (call_arguments s.args)) (sym e)
+    ∙ fits_when ws p (macro_parameters m.statement.statement.args) (call_arguments p.standing.statement.statement.args)
 
 -- ---- whether a call is unfolded
 

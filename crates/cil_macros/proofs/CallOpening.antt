@@ -3,14 +3,13 @@ use Rattle.std.proofs.Common.{◌≡◌, ◌⊎◌, inl, inr, ℕ, zero, suc, �
 use Rattle.std.specs.Prelude.{Option, Some, None, slice_get}
 use Rattle.cil_base.specs.Places.{in_range, none_some, some_same}
 use Rattle.cil_syntax.specs.declared.program.Statement.{Statement}
-use Rattle.cil_syntax.specs.Program.{IsNested, program_of}
+use Rattle.cil_syntax.specs.Program.{statement_of}
 use Rattle.cil_syntax.specs.Said.{args_of}
 use Rattle.cil_syntax.specs.Written.{Written}
 use Rattle.cil_blocks.specs.Contents.{Standing}
-use Rattle.cil_blocks.specs.Entries.{statement_at}
+use Rattle.cil_blocks.specs.Entries.{nothing}
 use Rattle.cil_blocks.specs.Places.{entries_in}
 use Rattle.cil_blocks.proofs.EntryLemmas.{standings_length}
-use Rattle.cil_blocks.proofs.NameLemmas.{args_some}
 use Rattle.cil_macros.specs.declared.entry.Body as code
 use Rattle.cil_macros.specs.declared.openings.Opening.{Opening}
 use Rattle.cil_macros.specs.declared.scene.Scene.{Scene}
@@ -49,23 +48,17 @@ module _ (ws : List Written) (ss : List Standing) (p : Placed) (u : Unfolded) wh
       (ap (unfolded_by ws p) (sym (unfolded_of ws ss p (called_macro ss p) u e)) ∙ e)
 
 -- the same, by the statements of both
-module _ (ss : List Statement) (nested : IsNested ss) (standings : List Standing) (p : Placed) (u : Unfolded) (is : unfolded (program_of ss) standings p ≡ Some u) where
-  pub no_call_there : (n : ℕ) → p.standing.statement ≡ statement_at (program_of ss) n → slice_get ss n ≡ None → ⊥
-  no_call_there n e none = call_there ss nested standings p u.macro (macro_of_call (program_of ss) standings p u is) n e none
+module _ (ws : List Written) (ss : List Standing) (p : Placed) (u : Unfolded) (is : unfolded ws ss p ≡ Some u) where
+  pub no_call_there : p.standing.statement ≡ nothing → ⊥
+  no_call_there = call_there ws ss p u.macro (macro_of_call ws ss p u is)
 
-  pub no_macro_there : (k : ℕ) → u.macro.statement ≡ statement_at (program_of ss) k → slice_get ss k ≡ None → ⊥
-  no_macro_there k e none = macro_there ss nested standings p u.macro (macro_of_call (program_of ss) standings p u is) k e none
+  pub no_macro_there : u.macro.statement ≡ nothing → ⊥
+  no_macro_there = macro_there ws ss p u.macro (macro_of_call ws ss p u is)
 
-  module _ (n k : ℕ) (call macro : Statement) (is_call_at : p.standing.statement ≡ statement_at (program_of ss) n) (is_macro_at : u.macro.statement ≡ statement_at (program_of ss) k)
-      (there : slice_get ss n ≡ Some call) (here : slice_get ss k ≡ Some macro) where
-    pub macro_terms : args_of macro ≡ u.macro.statement.statement.args
-    macro_terms = sym (ap (λ (w : Written). w.statement.args) is_macro_at ∙ args_some ss nested k macro here)
-
-    call_terms : args_of call ≡ p.standing.statement.statement.args
-    call_terms = sym (ap (λ (w : Written). w.statement.args) is_call_at ∙ args_some ss nested n call there)
-
-    pub bound_there : bound (program_of ss) p (macro_parameters (args_of macro)) (call_arguments (args_of call)) ≡ Some u.bounds
-    bound_there = (λ i. bound (program_of ss) p (macro_parameters (macro_terms i)) (call_arguments (call_terms i))) ∙ bounds_of_opened (program_of ss) standings p u is
+  pub bound_there : (call macro : Statement) → p.standing.statement.statement ≡ statement_of call → u.macro.statement.statement ≡ statement_of macro
+      → bound ws p (macro_parameters (args_of macro)) (call_arguments (args_of call)) ≡ Some u.bounds
+  bound_there call macro e f =
+      let a = sym e in let b = sym f in (λ i. bound ws p (macro_parameters (b i).args) (call_arguments (a i).args)) ∙ bounds_of_opened ws ss p u is
 
 -- ---- body by body
 

@@ -14,16 +14,16 @@ use Rattle.cil_faults.specs.declared.spot.Spot.{Spot}
 use Rattle.cil_syntax.specs.declared.term.Term as rust
 use Rattle.cil_syntax.specs.declared.term.Word.{Word}
 use Rattle.cil_syntax.specs.Forms.{parameter_form}
-use Rattle.cil_syntax.specs.Program.{IsNested, program_of}
+use Rattle.cil_syntax.specs.Program.{statement_of}
 use Rattle.cil_syntax.specs.Said.{all_said, args_of, said_of}
 use Rattle.cil_syntax.specs.Scopes.{ScopedWord}
 use Rattle.cil_syntax.specs.Terms.{Terms, cons}
+use Rattle.cil_syntax.specs.Written as written
 use Rattle.cil_syntax.specs.Written.{Named, Written}
 use Rattle.cil_blocks.specs.Contents.{Standing, first_word}
-use Rattle.cil_blocks.specs.Entries.{statement_at}
-use Rattle.cil_blocks.specs.Places.{entries_in, statements_in}
+use Rattle.cil_blocks.specs.Entries.{nothing}
+use Rattle.cil_blocks.specs.Places.{entries_in}
 use Rattle.cil_blocks.proofs.EntryLemmas.{standings_length}
-use Rattle.cil_blocks.proofs.NameLemmas.{args_some, at_none}
 use Rattle.cil_macros.specs.declared.entry.Body.{Body}
 use Rattle.cil_macros.specs.declared.listed.Listed.{Listed}
 use Rattle.cil_macros.specs.declared.meant.Argument.{Argument}
@@ -36,10 +36,11 @@ use Rattle.cil_macros.specs.Calls.{Unfolded, is_call, unfolded}
 use Rattle.cil_macros.specs.Instances.{AreInstances, AreMeant}
 use Rattle.cil_macros.specs.Items.{Kept, all_placed, argument_words, call_says, call_words, is_text, item_at, items_in, leaves, listed_unless, macro_words, placed_at, says, scoped_by, unfolded_values, unfolded_words, with_macro, word_in_argument}
 use Rattle.cil_macros.specs.Macros.{all_standing}
-use Rattle.cil_macros.specs.Meant.{bounds_by, kind_sign, meant_in, meant_term, scope_there, value_there}
+use Rattle.cil_macros.specs.Meant.{AreArguments, bounds_by, kind_sign, meant_in, meant_term, scope_there, value_there}
 use Rattle.cil_macros.specs.Parameters.{Parameter, macro_parameters, parameters_in}
 use Rattle.cil_macros.specs.Placed.{Placed}
 use Rattle.cil_macros.specs.Scene.{IsOpened, placed_of_scene}
+use Rattle.cil_macros.specs.Unfoldings.{IsUnfolding}
 use Rattle.cil_macros.specs.Walks.{HasNoBody, IsBodyOf, written_in}
 use Rattle.cil_macros.proofs.ArgumentLemmas.{first_left, one_parameter}
 use Rattle.cil_macros.proofs.CallOpening.{no_macro_there}
@@ -62,14 +63,6 @@ module _ (ps : List Placed) (at : ℕ) (p : Placed) (here : slice_get ps at ≡ 
       ∙ map-append (scoped_by ps) old ((record { word = w; scope = Some at }) ∷ [])
       ∙ ap (λ (x : Option Placed). map (scoped_by ps) old ++ (record { at = w.at; bytes = w.bytes; sign = w.sign; scope = scope_there x }) ∷ []) here
       ∙ ap (λ x. map (scoped_by ps) old ++ macro_words p x) (sym e)
-
--- the first word of a statement, by its number
-module _ (ss : List Statement) (nested : IsNested ss) (p : Placed) (n : ℕ) (stated : p.standing.statement ≡ statement_at (program_of ss) n) where
-  pub first_of_none : slice_get ss n ≡ None → first_word p.standing.statement.statement.args ≡ None
-  first_of_none e = ap (λ (w : Written). first_word w.statement.args) (stated ∙ at_none ss nested n e)
-
-  pub first_of : (call : Statement) → slice_get ss n ≡ Some call → first_word p.standing.statement.statement.args ≡ first_word (args_of call)
-  first_of call e = ap (λ (w : Written). first_word w.statement.args) stated ∙ ap first_word (args_some ss nested n call e)
 
 -- ---- one argument
 
@@ -214,10 +207,6 @@ module _ (s : Scene) (os : List Opening) (are : IsOpened s os) (at : ℕ) (p : P
   pub not_opened : HasNoBody s.brought.now.bodies.items at → unfolded ws ss p ≡ None
   not_opened none = none_or (unfolded ws ss p) (λ u e. let x = are.in_turn.all at p u within here e in none x.0 x.1)
 
-  pub adds_nothing : HasNoBody s.brought.now.bodies.items at → (old : List PlacedWord)
-      → map (scoped_by (placed_of_scene s)) old ≡ map (scoped_by (placed_of_scene s)) old ++ unfolded_words (unfolded ws ss p)
-  adds_nothing none old = sym (append-nil (map (scoped_by (placed_of_scene s)) old)) ∙ ap (λ o. map (scoped_by (placed_of_scene s)) old ++ unfolded_words o) (sym (not_opened none))
-
   -- what is not unfolded says no argument
   pub says_no_argument : HasNoBody s.brought.now.bodies.items at → unfolded_values (unfolded ws ss p) ≡ leaves (unfolded_words (unfolded ws ss p))
   unfolding leaves
@@ -231,13 +220,6 @@ module _ (s : Scene) (os : List Opening) (are : IsOpened s os) (at : ℕ) (p : P
         let same = some_same b.call p (sym b.is_call ∙ ap (slice_get (placed_of_scene s)) x.by_call ∙ here) in
         (b.opened, ap (unfolded ws ss) (sym same) ∙ b.is_opened, b.is_macro)
 
-    pub macro_below : x.body.macro_rank < length (entries_in s.spaces.now)
-    macro_below =
-        let u = opened_there in
-        let h = in_range ss x.body.macro_rank u.0.macro u.2 in
-        let l = standings_length ws (entries_in s.spaces.now) in
-        omega (arith, h, l)
-
     -- arguments that are no lists are words
     pub says_word_arguments : (o : Opening) → slice_get os number ≡ Some o → o.lists ≡ false → unfolded_values (unfolded ws ss p) ≡ leaves (unfolded_words (unfolded ws ss p))
     says_word_arguments o e none =
@@ -248,30 +230,33 @@ module _ (s : Scene) (os : List Opening) (are : IsOpened s os) (at : ℕ) (p : P
         (subst IfUnfolded (sym u.1)
         (subst AreNoLists (sym arguments.so) (plain_bounds (placed_of_scene s) (macro_parameters u.0.macro.statement.statement.args) o.arguments.items (sym opening.lists ∙ none))))
 
-    module _ (k : ℕ) (stated : (m : Standing) → slice_get ss x.body.macro_rank ≡ Some m → m.statement ≡ statement_at ws k) where
-      pub macro_missing : slice_get (statements_in s.spaces.now) k ≡ None → ⊥
-      macro_missing none =
-          let u = opened_there in
-          no_macro_there (statements_in s.spaces.now) are.scene.standings.contents.nested ss p u.0 u.1 k (stated u.0.macro u.2) none
+    pub macro_missing : ((m : Standing) → slice_get ss x.body.macro_rank ≡ Some m → m.statement ≡ nothing) → ⊥
+    macro_missing none = let u = opened_there in no_macro_there ws ss p u.0 u.1 (none u.0.macro u.2)
 
-      pub its_arguments : (called : Statement) → slice_get (statements_in s.spaces.now) k ≡ Some called → (o : Opening) → slice_get os number ≡ Some o
-          → unfolded_words (unfolded ws ss p) ≡ argument_words (bounds_by (placed_of_scene s) (macro_parameters (args_of called)) o.arguments.items)
-      its_arguments called there o e =
-          let u = opened_there in
-          let arguments = (are.opened number x.body o x.is e).arguments p u.0 (ap (slice_get (placed_of_scene s)) x.by_call ∙ here) u.1 in
-          ap unfolded_words u.1
-          ∙ ap argument_words arguments.so
-          ∙ ap (λ (w : Written). argument_words (bounds_by (placed_of_scene s) (macro_parameters w.statement.args) o.arguments.items)) (stated u.0.macro u.2)
-          ∙ ap (λ ts. argument_words (bounds_by (placed_of_scene s) (macro_parameters ts) o.arguments.items)) (args_some (statements_in s.spaces.now) are.scene.standings.contents.nested k called there)
+    pub unfolding_there : (called : Statement) → ((m : Standing) → slice_get ss x.body.macro_rank ≡ Some m → m.statement.statement ≡ statement_of called)
+        → (o : Opening) → slice_get os number ≡ Some o → IsUnfolding s p called o.arguments.items
+    unfolding_there called there o e =
+        let u = opened_there in
+        let same : u.0.macro.statement.statement.args ≡ args_of called = ap (λ (y : written.Statement). y.args) (there u.0.macro u.2) in
+        record {
+          opened = u.0;
+          is = u.1;
+          same = sym same;
+          bound = subst (λ ts. AreArguments (placed_of_scene s) (macro_parameters ts) u.0.bounds o.arguments.items) same
+              ((are.opened number x.body o x.is e).arguments p u.0 (ap (slice_get (placed_of_scene s)) x.by_call ∙ here) u.1);
+        }
 
--- where all is known of a program, all is known of its calls
-pub all_opened : (s : Scene) (os : List Opening) → AreInstances s.spaces.now s.brought.now → AreMeant s.spaces.now s.brought.now s.declared.now os → IsOpened s os
-all_opened s os are meant = record {
-  scene = record { standings = are.standings; brought = are.brought; declared = meant.declared };
-  in_turn = are.in_turn;
-  opened = meant.openings;
-  many = meant.many;
-}
+-- the words of the arguments of a call
+module _ (s : Scene) (p : Placed) where
+  abbrev what : Option Unfolded
+  what = unfolded (written_in s.spaces.now) (all_standing s.spaces.now) p
+
+  pub adds_nothing : what ≡ None → (old : List PlacedWord) → map (scoped_by (placed_of_scene s)) old ≡ map (scoped_by (placed_of_scene s)) old ++ unfolded_words what
+  adds_nothing none old = sym (append-nil (map (scoped_by (placed_of_scene s)) old)) ∙ ap (λ o. map (scoped_by (placed_of_scene s)) old ++ unfolded_words o) (sym none)
+
+  pub its_arguments : (called : Statement) (ms : List Argument) → IsUnfolding s p called ms
+      → argument_words (bounds_by (placed_of_scene s) (macro_parameters (args_of called)) ms) ≡ unfolded_words what
+  its_arguments called ms u = ap argument_words (sym u.bound.so) ∙ ap unfolded_words (sym u.is)
 
 -- ---- what a call says
 

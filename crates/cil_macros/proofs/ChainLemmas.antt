@@ -27,12 +27,6 @@ module _ (ss : List Statement) (nested : IsNested ss) (es : List Entry) (at : �
       let m = mapped_at (program_of ss) (standings_of (program_of ss) es) es at d (statements_from (program_of ss) [] es) within in
       ap (λ (x : Standing). x.statement) (some_same s m.0 (sym here ∙ m.1)) ∙ m.2
 
-  pub spot_none : slice_get ss (get_or es at d).statement ≡ None → record { «module» = 0; at = 0 } ≡ s.statement.statement.at
-  spot_none e = sym (ap (λ (w : Written). w.statement.at) (stated ∙ at_none ss nested (get_or es at d).statement e))
-
-  pub spot_some : (x : Statement) → slice_get ss (get_or es at d).statement ≡ Some x → x.at ≡ s.statement.statement.at
-  spot_some x e = sym (ap (λ (w : Written). w.statement.at) (stated ∙ at_some ss nested (get_or es at d).statement x e))
-
 -- ---- the body of what a call brought
 
 module _ (ws : List Written) (ss : List Standing) (cs : List Called) (bs : List Body) where

@@ -52,11 +52,9 @@ pub nothing_told : (p : Placed) (x : Wrong) (faults : List Fault) → first_word
     → faults ≡ faults ++ told p.standing.space x (first_word p.standing.statement.statement.args)
 nothing_told p x faults e = sym (append-nil faults) ∙ ap (λ o. faults ++ told p.standing.space x o) (sym e)
 
-pub all_causes_told : (p : Placed) (x : Wrong) (old again unfit new : List Fault) (space : Namespace) (w : Word) → space ≡ p.standing.space
-    → first_word p.standing.statement.statement.args ≡ Some w → again ≡ old ++ told_if x.again causes.CallCycle space w
-    → unfit ≡ again ++ told_if x.unfit causes.CallArguments space w → new ≡ unfit ++ told_if x.misplaced causes.CallPlace space w
-    → new ≡ old ++ told p.standing.space x (first_word p.standing.statement.statement.args)
-all_causes_told p x old again unfit new space w f g a u m =
+pub causes_told : (x : Wrong) (old again unfit new : List Fault) (space : Namespace) (w : Word) → again ≡ old ++ told_if x.again causes.CallCycle space w
+    → unfit ≡ again ++ told_if x.unfit causes.CallArguments space w → new ≡ unfit ++ told_if x.misplaced causes.CallPlace space w → new ≡ old ++ told space x (Some w)
+causes_told x old again unfit new space w a u m =
     let first = told_if x.again causes.CallCycle space w in
     let second = told_if x.unfit causes.CallArguments space w in
     let third = told_if x.misplaced causes.CallPlace space w in
@@ -64,8 +62,10 @@ all_causes_told p x old again unfit new space w f g a u m =
     ∙ ap (λ ys. ys ++ third) (u ∙ ap (λ ys. ys ++ second) a ∙ append_assoc old first second)
     ∙ append_assoc old (first ++ second) third
     ∙ ap (λ ys. old ++ ys) (append_assoc first second third)
-    ∙ ap (λ n. old ++ told n x (Some w)) f
-    ∙ ap (λ o. old ++ told p.standing.space x o) (sym g)
+
+pub told_there : (p : Placed) (x : Wrong) (old new : List Fault) (space : Namespace) (w : Word) → space ≡ p.standing.space → first_word p.standing.statement.statement.args ≡ Some w
+    → new ≡ old ++ told space x (Some w) → new ≡ old ++ told p.standing.space x (first_word p.standing.statement.statement.args)
+told_there p x old new space w f g so = so ∙ ap (λ n. old ++ told n x (Some w)) f ∙ ap (λ o. old ++ told p.standing.space x o) (sym g)
 
 pub nothing_wrong : (ws : List Written) (ss : List Standing) (mark list : Bool) (p : Placed) (b c : Bool) → called_macro ss p ≡ None → b ≡ list
     → c ≡ (mark && is_call_in_branch p.standing.statement) → record { again = false; unfit = b; misplaced = c } ≡ wrong_of ws ss mark list p

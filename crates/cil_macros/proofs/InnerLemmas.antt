@@ -20,14 +20,6 @@ module _ (s : Standings) (cs : List Called) (at : ℕ) where
   pub stands_there : at < length (entries_in s) → OpensAsCall s cs at
   stands_there h p here = let m = stood_at s cs at h p here in standing_opens (written_in s) (all_standing s) p (ap (λ (q : Placed). q.body) m.2)
 
-  -- beyond all places
-  pub none_there : length (entries_in s) + length cs ≤ at → OpensAsCall s cs at
-  none_there h p here =
-      let r = in_range (placed_in s cs) at p here in
-      let l = placed_length (written_in s) (all_standing s) cs in
-      let m = standings_length (written_in s) (entries_in s) in
-      absurd (omega (arith, h, r, l, m))
-
   -- where the statement is neither
   pub plain_there : (j : ℕ) (c : Called) → at ≡ length (entries_in s) + j → slice_get cs j ≡ Some c
       → false ≡ keeps_place (statement_at (written_in s) c.statement).statement.keyword → OpensAsCall s cs at

@@ -1,3 +1,4 @@
+pub mod AnyLemmas
 mod ArgumentExamples
 pub mod ArgumentLemmas
 pub mod ArgumentValues

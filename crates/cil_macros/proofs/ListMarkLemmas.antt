@@ -10,11 +10,11 @@ use Rattle.cil_syntax.specs.Said.{args_of}
 use Rattle.cil_syntax.specs.Terms.{Terms}
 use Rattle.cil_syntax.specs.Written.{Written}
 use Rattle.cil_blocks.specs.Contents.{Standing}
-use Rattle.cil_blocks.specs.Entries.{statement_at}
-use Rattle.cil_blocks.specs.Places.{entries_in, statements_in}
-use Rattle.cil_blocks.proofs.NameLemmas.{args_some, at_none}
+use Rattle.cil_blocks.specs.Entries.{nothing}
+use Rattle.cil_blocks.specs.Places.{entries_in}
 use Rattle.cil_macros.specs.declared.entry.Body.{Body}
 use Rattle.cil_macros.specs.declared.entry.Called.{Called}
+use Rattle.cil_macros.specs.declared.meant.Argument.{Argument}
 use Rattle.cil_macros.specs.declared.openings.Opening.{Opening}
 use Rattle.cil_macros.specs.declared.scene.Scene.{Scene}
 use Rattle.cil_macros.specs.Calls.{bound, is_call, unfolded}
@@ -27,12 +27,12 @@ use Rattle.cil_macros.specs.Openings.{IsNumbered}
 use Rattle.cil_macros.specs.Parameters.{call_arguments, macro_parameters}
 use Rattle.cil_macros.specs.Placed.{Bound, Placed}
 use Rattle.cil_macros.specs.Scene.{IsKnown, IsOpened, placed_of_scene}
-use Rattle.cil_macros.specs.Walks.{HasNoBody, IsBodyOf, written_in}
+use Rattle.cil_macros.specs.Unfoldings.{IsUnfolding}
+use Rattle.cil_macros.specs.Walks.{written_in}
 use Rattle.cil_macros.proofs.BodyMeaning.{no_lists_in_body, numbered_body}
 use Rattle.cil_macros.proofs.BringsLemmas.{unmarked_at}
 use Rattle.cil_macros.proofs.CallLemmas.{placed_there}
 use Rattle.cil_macros.proofs.CallOpening.{bounds_of_opened}
-use Rattle.cil_macros.proofs.CallWordLemmas.{not_opened, opened_there}
 use Rattle.cil_macros.proofs.WordValues.{meaning_so, no_list_right}
 
 never : true ≡ false → ⊥
@@ -91,33 +91,25 @@ module _ (s : Scene) (os : List Opening) (are : IsOpened s os) where
   -- ---- the words of one statement
 
   module _ (at : ℕ) (p : Placed) (here : slice_get ps at ≡ Some p) (within : at < standing + length cs) where
-    pub nothing_judged : HasNoBody bs at → (args : Terms Word) → false ≡ list_any (is_wrong_word ws p) (unfolded_places args (unfolded ws ss p))
-    nothing_judged none args = ap (λ o. list_any (is_wrong_word ws p) (unfolded_places args o)) (sym (not_opened s os are at p here within none))
+    pub nothing_judged : unfolded ws ss p ≡ None → (args : Terms Word) → false ≡ list_any (is_wrong_word ws p) (unfolded_places args (unfolded ws ss p))
+    nothing_judged none args = ap (λ o. list_any (is_wrong_word ws p) (unfolded_places args o)) (sym none)
 
-    pub call_judged : (number : ℕ) → IsBodyOf bs at number → (body : Body) → slice_get bs number ≡ Some body → (k : ℕ)
-        → ((m : Standing) → slice_get ss body.macro_rank ≡ Some m → m.statement ≡ statement_at ws k) → (called : Statement)
-        → slice_get (statements_in s.spaces.now) k ≡ Some called → (args : Terms Word) → args ≡ p.standing.statement.statement.args → (b : Bool)
+    pub call_judged : (called : Statement) (ms : List Argument) → IsUnfolding s p called ms → (args : Terms Word) → args ≡ p.standing.statement.statement.args → (b : Bool)
         → ((bounds : List Bound) → bound ws p (macro_parameters (args_of called)) (call_arguments args) ≡ Some bounds
         → b ≡ list_any (is_wrong_word ws p) (asked_words (macro_parameters (args_of called)) (call_arguments args)))
         → b ≡ list_any (is_wrong_word ws p) (unfolded_places args (unfolded ws ss p))
-    call_judged number x body there k stated called is args same b judged =
-        let u = opened_there s os are at p here within number x in
-        let one = some_same x.body body (sym x.is ∙ there) in
-        let macro_terms : args_of called ≡ u.0.macro.statement.statement.args =
-        sym (ap (λ (w : Written). w.statement.args) (stated u.0.macro (ap (λ (y : Body). slice_get ss y.macro_rank) (sym one) ∙ u.2))
-        ∙ args_some (statements_in s.spaces.now) are.scene.standings.contents.nested k called is) in
-        judged u.0.bounds ((λ i. bound ws p (macro_parameters (macro_terms i)) (call_arguments (same i))) ∙ bounds_of_opened ws ss p u.0 u.1)
-        ∙ ap (λ ts. list_any (is_wrong_word ws p) (asked_words (macro_parameters ts) (call_arguments args))) macro_terms
-        ∙ ap (λ o. list_any (is_wrong_word ws p) (unfolded_places args o)) (sym u.1)
+    call_judged called ms u args same b judged =
+        judged u.opened.bounds ((λ i. bound ws p (macro_parameters (u.same i)) (call_arguments (same i))) ∙ bounds_of_opened ws ss p u.opened u.is)
+        ∙ ap (λ ts. list_any (is_wrong_word ws p) (asked_words (macro_parameters ts) (call_arguments args))) u.same
+        ∙ ap (λ o. list_any (is_wrong_word ws p) (unfolded_places args o)) (sym u.is)
 
     -- those of the statement, if this is what is placed there
     abbrev words_by : Written → List Word
     words_by w = if is_call w.statement.keyword then unfolded_places w.statement.args (unfolded ws ss p) else all_words_in w.statement.args
 
-    pub wrong_nowhere : (n : ℕ) → p.standing.statement ≡ statement_at ws n → slice_get (statements_in s.spaces.now) n ≡ None → false ≡ has_wrong_word ws ss p
+    pub wrong_nowhere : p.standing.statement ≡ nothing → false ≡ has_wrong_word ws ss p
     unfolding all_words_in
-    wrong_nowhere n stated none =
-        ap (λ w. list_any (is_wrong_word ws p) (words_by w)) (sym (stated ∙ at_none (statements_in s.spaces.now) are.scene.standings.contents.nested n none))
+    wrong_nowhere none = ap (λ w. list_any (is_wrong_word ws p) (words_by w)) (sym none)
 
     pub wrong_call : is_call p.standing.statement.statement.keyword ≡ true → (args : Terms Word) → args ≡ p.standing.statement.statement.args → (b : Bool)
         → b ≡ list_any (is_wrong_word ws p) (unfolded_places args (unfolded ws ss p)) → b ≡ has_wrong_word ws ss p

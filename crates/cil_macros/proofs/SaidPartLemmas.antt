@@ -18,7 +18,7 @@ use Rattle.cil_syntax.specs.Scopes.{ScopedWord}
 use Rattle.cil_syntax.specs.Terms.{Term, Terms, cons}
 use Rattle.cil_syntax.specs.Written.{Named, Written}
 use Rattle.cil_blocks.specs.Contents.{Standing, first_word}
-use Rattle.cil_blocks.specs.Entries.{statement_at}
+use Rattle.cil_blocks.specs.Entries.{nothing}
 use Rattle.cil_blocks.specs.Places.{entries_in, statements_in}
 use Rattle.cil_blocks.proofs.NameLemmas.{args_some, at_none}
 use Rattle.cil_macros.specs.declared.listed.Listed.{Listed}
@@ -41,10 +41,10 @@ use Rattle.cil_macros.specs.Meant.{AreArguments, AreWhole, IsWhole, bounds_by, k
 use Rattle.cil_macros.specs.Parameters.{Parameter, is_text as is_text_op, macro_parameters, parameters_in}
 use Rattle.cil_macros.specs.Placed.{Placed, all_filled, meaning}
 use Rattle.cil_macros.specs.SaidParts.{macro_parts, value_parts}
-use Rattle.cil_macros.specs.Scene.{IsOpened, placed_of_scene}
-use Rattle.cil_macros.specs.Walks.{HasNoBody, IsBodyOf, written_in}
+use Rattle.cil_macros.specs.Scene.{placed_of_scene}
+use Rattle.cil_macros.specs.Unfoldings.{IsUnfolding}
+use Rattle.cil_macros.specs.Walks.{written_in}
 use Rattle.cil_macros.proofs.ArgumentLemmas.{first_left, one_parameter}
-use Rattle.cil_macros.proofs.CallWordLemmas.{not_opened, opened_there}
 use Rattle.cil_macros.proofs.PartLemmas.{behind_there}
 use Rattle.cil_macros.proofs.ServingLemmas.{no_parameter}
 
@@ -209,40 +209,19 @@ module _ (m : ℕ) (terms : List rust.Term) (values : List Argument) (old : List
 
 -- ---- a call
 
-module _ (s : Scene) (os : List Opening) (are : IsOpened s os) (at : ℕ) (p : Placed) (here : slice_get (placed_of_scene s) at ≡ Some p)
-    (within : at < length (entries_in s.spaces.now) + length s.brought.now.entries.items) where
-  abbrev ws : List Written
-  ws = written_in s.spaces.now
-
-  abbrev ss : List Standing
-  ss = all_standing s.spaces.now
-
+module _ (s : Scene) (p : Placed) where
   abbrev ps : List Placed
   ps = placed_of_scene s
 
-  pub pushes_nothing : HasNoBody s.brought.now.bodies.items at → (old : List Part)
-      → parts_there ps old ≡ parts_there ps old ++ all_parts_of (unfolded_values (unfolded ws ss p))
+  abbrev what : Option Unfolded
+  what = unfolded (written_in s.spaces.now) (all_standing s.spaces.now) p
+
+  pub pushes_nothing : what ≡ None → (old : List Part) → parts_there ps old ≡ parts_there ps old ++ all_parts_of (unfolded_values what)
   unfolding parts_of
-  pushes_nothing none old = sym (append-nil (parts_there ps old)) ∙ ap (λ o. parts_there ps old ++ all_parts_of (unfolded_values o)) (sym (not_opened s os are at p here within none))
+  pushes_nothing none old = sym (append-nil (parts_there ps old)) ∙ ap (λ o. parts_there ps old ++ all_parts_of (unfolded_values o)) (sym none)
 
-  module _ (number : ℕ) (x : IsBodyOf s.brought.now.bodies.items at number) (k : ℕ) (stated : (m : Standing) → slice_get ss x.body.macro_rank ≡ Some m → m.statement ≡ statement_at ws k)
-      (called : Statement) (there : slice_get (statements_in s.spaces.now) k ≡ Some called) (o : Opening) (e : slice_get os number ≡ Some o) where
-    its : (u : Unfolded) × (unfolded ws ss p ≡ Some u) × AreArguments ps (macro_parameters u.macro.statement.statement.args) u.bounds o.arguments.items
-        × (u.macro.statement.statement.args ≡ args_of called)
-    its =
-        let u = opened_there s os are at p here within number x in (
-          u.0,
-          u.1,
-          (are.opened number x.body o x.is e).arguments p u.0 (ap (slice_get ps) x.by_call ∙ here) u.1,
-          ap (λ (w : Written). w.statement.args) (stated u.0.macro u.2) ∙ args_some (statements_in s.spaces.now) are.scene.standings.contents.nested k called there,
-        )
-
-    pub its_whole : AreWhole ps o.arguments.items
-    its_whole = its.2.whole
-
-    pub its_values : values_of (bounds_by ps (macro_parameters (args_of called)) o.arguments.items) ≡ unfolded_values (unfolded ws ss p)
-    its_values =
-        ap (λ ts. values_of (bounds_by ps (macro_parameters ts) o.arguments.items)) (sym its.3) ∙ ap values_of (sym its.2.so) ∙ ap unfolded_values (sym its.1)
+  pub its_values : (called : Statement) (ms : List Argument) → IsUnfolding s p called ms → values_of (bounds_by ps (macro_parameters (args_of called)) ms) ≡ unfolded_values what
+  its_values called ms u = ap values_of (sym u.bound.so) ∙ ap unfolded_values (sym u.is)
 
 -- the word of the macro, and then the arguments
 macro_first : (p : Placed) (o : Option Word) (ts : Terms ScopedWord) → all_parts_of (with_macro p o ts) ≡ macro_parts p o ++ all_parts_of ts
@@ -281,9 +260,9 @@ module _ (ws : List Written) (ss : List Standing) (p : Placed) where
   abbrev all_of : Written → Terms ScopedWord
   all_of w = says ws ss p w.statement.keyword w.statement.args
 
-  pub nothing_said : (sts : List Statement) → IsNested sts → ws ≡ program_of sts → (n : ℕ) → p.standing.statement ≡ statement_at ws n → slice_get sts n ≡ None → [] ≡ all_parts_of (all_of p.standing.statement)
+  pub nothing_said : p.standing.statement ≡ nothing → [] ≡ all_parts_of (all_of p.standing.statement)
   unfolding says parts_of
-  nothing_said sts nested same n stated none = ap (λ w. all_parts_of (all_of w)) (sym (stated ∙ ap (λ (vs : List Written). statement_at vs n) same ∙ at_none sts nested n none))
+  nothing_said none = ap (λ w. all_parts_of (all_of w)) (sym none)
 
   pub call_said : (xs : List lists.Part) → is_call p.standing.statement.statement.keyword ≡ true → xs ≡ all_parts_of (call_says ws ss p p.standing.statement.statement.args)
       → xs ≡ all_parts_of (all_of p.standing.statement)

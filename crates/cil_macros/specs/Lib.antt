@@ -31,4 +31,5 @@ pub mod Puts
 pub mod Rounds
 pub mod SaidParts
 pub mod Scene
+pub mod Unfoldings
 pub mod Walks

@@ -13,7 +13,8 @@ ghost use Rattle.cil_macros.specs.InBranches.{SaysBranch, SaysItsBranch};
 ghost use Rattle.cil_macros.specs.Placed.{Placed};
 ghost use Rattle.cil_macros.specs.Walks.{AreBrought, placed_in, written_in};
 
-use crate::chain::{Brought, statement_at};
+use crate::calls::stated_at;
+use crate::chain::Brought;
 use crate::nesting::opener_at;
 use cil_blocks::Spaces;
 use cil_syntax::{Keyword, Op, Spot, Statement, Term};
@@ -53,15 +54,25 @@ fn value_under(spaces: &Spaces, brought: &Brought, opener: usize, at: usize) -> 
     ensures { (q p : Placed) → slice_get (placed_in spaces.now brought.now.entries.items) opener ≡ Some q → slice_get (placed_in spaces.now brought.now.entries.items) at ≡ Some p
         → SaysItsBranch (written_in spaces.now) q p result }
 {
-    let statements = spaces.statements();
-    let entries = spaces.entries();
-    let brought = brought.entries.as_slice();
-    let round = statements.get(statement_at(entries, brought, opener))?;
+    let Some(round) = stated_at(spaces, brought, opener) else {
+        return None;
+    };
     if !is_conditional(round.keyword) {
         return None;
     }
-    let position = position_of(statements, statement_at(entries, brought, at));
-    Some(branch_value(round, position))
+    Some(branch_value(round, spot_at(spaces, brought, at)))
+}
+
+/// Where the statement at a place is written.
+fn spot_at(spaces: &Spaces, brought: &Brought, at: usize) -> Spot
+    requires standings { AreStandings spaces.now }
+    requires within { at < length (entries_in spaces.now) + length brought.now.entries.items }
+    ensures { (p : Placed) → slice_get (placed_in spaces.now brought.now.entries.items) at ≡ Some p → result ≡ p.standing.statement.statement.at }
+{
+    match stated_at(spaces, brought, at) {
+        None => Spot { module: 0, at: 0 },
+        Some(statement) => statement.at,
+    }
 }
 
 /// Whether a statement has branches.
@@ -69,16 +80,6 @@ pub fn is_conditional(keyword: Keyword) -> bool
     ensures { result ≡ is_conditional keyword }
 {
     matches!(keyword, Keyword::BooleanIf)
-}
-
-/// Where the statement of a number is written; the first position of all where there is none.
-fn position_of(statements: &[Statement], number: usize) -> Spot
-    ensures { IsNested statements.now → result ≡ (statement_at (program_of statements.now) number).statement.at }
-{
-    match statements.get(number) {
-        None => Spot { module: 0, at: 0 },
-        Some(statement) => statement.at,
-    }
 }
 
 /// The value of the branch of a booleanif in which something is written. It costs a step for the condition and each branch.

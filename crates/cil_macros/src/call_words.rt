@@ -1,7 +1,7 @@
 //! The words of a call: that of its macro, and its arguments that are looked up. The body of a call is found by a search by
 //! halving among all bodies; its words cost a step for each argument.
 
-ghost use Rattle.std.specs.Prelude.{◌≡◌, ◌+◌, ◌<◌, ◌++◌, IfOk, IfSome, IsTrue, List, MatchOption, OnOk, Some, length, map, slice_get};
+ghost use Rattle.std.specs.Prelude.{◌≡◌, ◌+◌, ◌<◌, ◌++◌, IfOk, IfSome, IsTrue, List, MatchOption, None, OnOk, Some, length, map, slice_get};
 ghost use Rattle.cil_syntax.specs.Said.{args_of};
 ghost use Rattle.cil_blocks.specs.Contents.{first_word};
 ghost use Rattle.cil_blocks.specs.Places.{entries_in};
@@ -12,17 +12,18 @@ ghost use Rattle.cil_macros.specs.Meant.{bounds_by, kind_sign, meant_term, value
 ghost use Rattle.cil_macros.specs.Parameters.{macro_parameters};
 ghost use Rattle.cil_macros.specs.Placed.{Placed};
 ghost use Rattle.cil_macros.specs.Scene.{IsOpened, IsScene, placed_of_scene};
+ghost use Rattle.cil_macros.specs.Unfoldings.{IsUnfolding};
 ghost use Rattle.cil_macros.specs.Walks.{AreCallsRising, HasNoBody, IsBodyOf, written_in};
 
 use crate::arguments::{listed, sign_of};
-use crate::chain::{standing_statement, statement_at};
+use crate::calls::{front_at, standing_at};
 use crate::entry::Body;
 use crate::meant::{Argument, Meant};
 use crate::openings::Opening;
-use crate::placed_word::PlacedWord;
+use crate::placed_word::{PlacedWord, asked_word};
 use crate::scene::Scene;
 use cil_base::NoMemory;
-use cil_syntax::{Excerpt, Op, Sign, Statement, Word, word_and_terms};
+use cil_syntax::{Op, Sign, Statement};
 use std::alloc::Global;
 
 /// The words of the call at a place: that of its macro and, where the call is unfolded, its arguments that are looked up.
@@ -54,18 +55,10 @@ fn add_macro<'a>(
     ensures { OnOk result ((p : Placed) → slice_get (placed_of_scene scene.now) at ≡ Some p
         → map (scoped_by (placed_of_scene scene.now)) words.new.items ≡ map (scoped_by (placed_of_scene scene.now)) words.old.items ++ macro_words p (first_word p.standing.statement.statement.args)) }
 {
-    let spaces = scene.spaces;
-    let number = statement_at(spaces.entries(), scene.brought.entries.as_slice(), at);
-    let Some(call) = spaces.statements().get(number) else {
+    let Some(front) = front_at(scene.spaces, scene.brought, at) else {
         return Ok(());
     };
-    let Some(front) = word_and_terms(call.args.as_slice(), call.at.module) else {
-        return Ok(());
-    };
-    words.push(PlacedWord {
-        word: front.word,
-        scope: Some(at),
-    })?;
+    words.push(front)?;
     Ok(())
 }
 
@@ -82,17 +75,45 @@ fn add_arguments<'a>(
         → map (scoped_by (placed_of_scene scene.now)) words.new.items ≡ map (scoped_by (placed_of_scene scene.now)) words.old.items
         ++ unfolded_words (unfolded (written_in scene.now.spaces.now) (all_standing scene.now.spaces.now) p)) }
 {
-    let spaces = scene.spaces;
+    let Some(unfolding) = unfolding_at(scene, openings, at) else {
+        return Ok(());
+    };
+    add_looked_up(unfolding.called, unfolding.arguments, words)?;
+    Ok(())
+}
+
+/// A call that is unfolded: its macro, and what its arguments are.
+#[derive(Clone, Copy)]
+pub struct Unfolding<'o, 'p, 'a> {
+    /// The macro.
+    pub called: &'p Statement<'a>,
+    /// What its arguments are, one for each parameter.
+    pub arguments: &'o [Argument<'a>],
+}
+
+/// The call at a place, if it is unfolded.
+pub(crate) fn unfolding_at<'o, 'p, 'a>(
+    scene: &Scene<'_, 'p, 'a>,
+    openings: &'o [Opening<'a>],
+    at: usize,
+) -> Option<Unfolding<'o, 'p, 'a>>
+    requires opened { IsOpened scene.now openings.now }
+    requires within { at < length (entries_in scene.now.spaces.now) + length scene.now.brought.now.entries.items }
+    ensures { (p : Placed) → slice_get (placed_of_scene scene.now) at ≡ Some p
+        → MatchOption result (unfolded (written_in scene.now.spaces.now) (all_standing scene.now.spaces.now) p ≡ None) (λ u. IsUnfolding scene.now p u.called.now u.arguments.now) }
+{
     let bodies = scene.brought.bodies.as_slice();
     let Some(number) = body_of(bodies, at) else {
-        return Ok(());
+        return None;
     };
-    let called = standing_statement(spaces.entries(), scene.brought.bodies[number].macro_rank);
-    let Some(called) = spaces.statements().get(called) else {
-        return Ok(());
+    let rank = scene.brought.bodies[number].macro_rank;
+    let Some(called) = standing_at(scene.spaces, rank) else {
+        return None;
     };
-    add_looked_up(called, openings[number].arguments.as_slice(), words)?;
-    Ok(())
+    Some(Unfolding {
+        called,
+        arguments: openings[number].arguments.as_slice(),
+    })
 }
 
 /// The number of the body of the call at a place, if it has one.
@@ -177,14 +198,7 @@ fn add_word<'a>(
     let Some(place) = meant.scope else {
         return Ok(());
     };
-    words.push(PlacedWord {
-        word: Word {
-            at: meant.at,
-            bytes: Excerpt::of(meant.bytes.as_slice()),
-            sign,
-        },
-        scope: Some(place),
-    })?;
+    words.push(asked_word(sign, meant, place))?;
     Ok(())
 }
 

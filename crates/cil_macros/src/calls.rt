@@ -1,21 +1,73 @@
 //! What is known of the statement at a place: where it is, which macro it calls, and whether the call is unfolded.
 
-ghost use Rattle.std.specs.Prelude.{◌≡◌, ◌+◌, ◌<◌, ◌≤◌, IfOk, IfSome, IsTrue, MatchOption, OnOk, Some, is_some, length, slice_get};
-ghost use Rattle.cil_blocks.specs.Contents.{Standing};
+ghost use Rattle.std.specs.Prelude.{◌≡◌, ◌+◌, ◌<◌, ◌≤◌, IfOk, IfSome, IsTrue, MatchOption, None, OnOk, Some, is_some, length, slice_get};
+ghost use Rattle.cil_syntax.specs.Program.{statement_of};
+ghost use Rattle.cil_blocks.specs.Contents.{Standing, first_word};
+ghost use Rattle.cil_blocks.specs.Entries.{nothing};
 ghost use Rattle.cil_blocks.specs.Namespaces.{AreNamespaces, IsNumber};
 ghost use Rattle.cil_blocks.specs.Places.{AreStandings, entries_in, spaces_in};
 ghost use Rattle.cil_macros.specs.Calls.{bounds_of_call, called_macro, is_repeated};
 ghost use Rattle.cil_macros.specs.Macros.{all_standing};
 ghost use Rattle.cil_macros.specs.Placed.{Placed};
+ghost use Rattle.cil_macros.specs.Unfoldings.{IsFront};
 ghost use Rattle.cil_macros.specs.Walks.{AreBrought, HasScope, HaveOneScope, IsScope, IsScopePlace, IsSource, SaysMeant, SaysUnfolded, placed_in, written_in};
 
 use crate::arguments::arguments_fit;
-use crate::chain::{Brought, is_repeated, spot_of, standing_statement, statement_at};
+use crate::chain::{Brought, is_repeated, statement_at};
 use crate::macros::{is_call_at, macro_called};
+use crate::nearest::{spot_of, stated};
+use crate::placed_word::PlacedWord;
 use crate::source::Source;
 use cil_base::NoMemory;
 use cil_blocks::{ScopeList, Spaces};
+use cil_syntax::{Statement, word_and_terms};
 use std::alloc::Global;
+
+/// The statement at a place.
+pub fn stated_at<'p, 'a>(
+    spaces: &Spaces<'p, 'a>,
+    brought: &Brought,
+    at: usize,
+) -> Option<&'p Statement<'a>>
+    requires standings { AreStandings spaces.now }
+    requires within { at < length (entries_in spaces.now) + length brought.now.entries.items }
+    ensures { (p : Placed) → slice_get (placed_in spaces.now brought.now.entries.items) at ≡ Some p
+        → MatchOption result (p.standing.statement ≡ nothing) (λ x. p.standing.statement.statement ≡ statement_of x.now) }
+{
+    let number = statement_at(spaces.entries(), brought.entries.as_slice(), at);
+    let Some(statement) = spaces.statements().get(number) else {
+        return None;
+    };
+    Some(statement)
+}
+
+/// The statement that stands at a rank.
+pub fn standing_at<'p, 'a>(spaces: &Spaces<'p, 'a>, rank: usize) -> Option<&'p Statement<'a>>
+    requires { AreStandings spaces.now }
+    ensures { (m : Standing) → slice_get (all_standing spaces.now) rank ≡ Some m
+        → MatchOption result (m.statement ≡ nothing) (λ x. m.statement.statement ≡ statement_of x.now) }
+{
+    stated(spaces.statements(), spaces.entries(), rank)
+}
+
+/// The first word of the statement at a place: of a call that of its macro. It is looked up where the call is.
+pub fn front_at<'a>(spaces: &Spaces<'_, 'a>, brought: &Brought, at: usize) -> Option<PlacedWord<'a>>
+    requires standings { AreStandings spaces.now }
+    requires within { at < length (entries_in spaces.now) + length brought.now.entries.items }
+    ensures { (p : Placed) → slice_get (placed_in spaces.now brought.now.entries.items) at ≡ Some p
+        → MatchOption result (first_word p.standing.statement.statement.args ≡ None) (IsFront at p) }
+{
+    let Some(statement) = stated_at(spaces, brought, at) else {
+        return None;
+    };
+    let Some(front) = word_and_terms(statement.args.as_slice(), statement.at.module) else {
+        return None;
+    };
+    Some(PlacedWord {
+        word: front.word,
+        scope: Some(at),
+    })
+}
 
 /// The number of the namespace in which the statement of a rank stands.
 fn standing_space(spaces: &Spaces, rank: usize) -> usize
@@ -207,12 +259,10 @@ pub fn has_arguments(source: &Source, brought: &Brought, at: usize, called: usiz
         → slice_get (all_standing source.now.spaces.now) called ≡ Some m → called_macro (all_standing source.now.spaces.now) p ≡ Some m
         → result ≡ is_some (bounds_of_call (written_in source.now.spaces.now) p m) }
 {
-    let statements = source.spaces.statements();
-    let entries = source.spaces.entries();
-    let Some(call) = statements.get(statement_at(entries, brought.entries.as_slice(), at)) else {
+    let Some(call) = stated_at(source.spaces, brought, at) else {
         return false;
     };
-    let Some(called) = statements.get(standing_statement(entries, called)) else {
+    let Some(called) = standing_at(source.spaces, called) else {
         return false;
     };
     arguments_fit(called, call)

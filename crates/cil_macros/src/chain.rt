@@ -12,6 +12,7 @@ ghost use Rattle.cil_macros.specs.Firsts.{AreFirsts, IsFirstKept};
 ghost use Rattle.cil_macros.specs.Placed.{Placed};
 
 use crate::entry::{Body, Called};
+use crate::nearest::spot_of;
 use cil_base::NoMemory;
 use cil_blocks::Entry;
 use cil_syntax::{Spot, Statement};
@@ -61,18 +62,6 @@ pub fn is_repeated(
         place = body.call;
     }
     false
-}
-
-/// Where the statement is written that stands at a place among all that stands.
-pub fn spot_of(statements: &[Statement], entries: &[Entry], at: usize) -> Spot
-    requires nested { IsNested statements.now }
-    requires within { at < length entries.now }
-    ensures { (s : Standing) → slice_get (standings_of (program_of statements.now) entries.now) at ≡ Some s → result ≡ s.statement.statement.at }
-{
-    match statements.get(entries[at].statement as usize) {
-        None => Spot { module: 0, at: 0 },
-        Some(statement) => statement.at,
-    }
 }
 
 /// Whether two positions are one.

@@ -13,7 +13,7 @@ pub struct Called {
 }
 
 /// The body of a macro at a call.
-#[derive(Clone, Copy, Debug)]
+#[derive(Clone, Copy)]
 pub struct Body {
     /// The place of the call among all that is placed.
     pub call: usize,

@@ -7,9 +7,9 @@ ghost use Rattle.cil_blocks.specs.InheritFaults.{most_instances};
 ghost use Rattle.cil_blocks.specs.Places.{entries_in};
 ghost use Rattle.cil_macros.specs.Calls.{IsPlaced, placed_cmp};
 ghost use Rattle.cil_macros.specs.ExpandFaults.{ExpandStep};
-ghost use Rattle.cil_macros.specs.Expansion.{AreOpened, IsLawful};
+ghost use Rattle.cil_macros.specs.Expansion.{AreAllBrought, AreJudged, AreOpened, IsLawful};
 ghost use Rattle.cil_macros.specs.Macros.{all_standing};
-ghost use Rattle.cil_macros.specs.Scene.{IsOpened, placed_of_scene};
+ghost use Rattle.cil_macros.specs.Scene.{IsOpened, IsScene, placed_of_scene};
 ghost use Rattle.cil_macros.specs.Walks.{IsSource, written_in};
 
 use crate::brings::marks_of;
@@ -74,22 +74,59 @@ fn opened_by<'a>(alloc: Global, spaces: &Spaces<'_, 'a>) -> Result<Opened<'a>, F
         macros: &macros,
         parts: &parts,
     };
-    let Some(brought) = walk(alloc, &source, MOST_INSTANCES)? else {
+    opened_from(alloc, &source)
+}
+
+/// The same, by the macros that stand and what is directly in each statement.
+fn opened_from<'a>(alloc: Global, source: &Source<'_, '_, 'a>) -> Result<Opened<'a>, Failure>
+    requires { IsSource source.now }
+    ensures { Answers (AreOpened source.now.spaces.now) (ExpandStep (written_in source.now.spaces.now) (all_standing source.now.spaces.now)) result }
+{
+    let Some(brought) = walk(alloc, source, MOST_INSTANCES)? else {
         return Err(Failure::Faults(over_the_limit(alloc)?));
     };
-    let declared = declared_in_bodies(alloc, spaces.statements())?;
+    opened_with(alloc, source, brought)
+}
+
+/// The same of what calls bring.
+fn opened_with<'a>(
+    alloc: Global,
+    source: &Source<'_, '_, 'a>,
+    brought: Brought,
+) -> Result<Opened<'a>, Failure>
+    requires source { IsSource source.now }
+    requires all { AreAllBrought source.now.spaces.now most_instances brought }
+    ensures { Answers (AreOpened source.now.spaces.now) (ExpandStep (written_in source.now.spaces.now) (all_standing source.now.spaces.now)) result }
+{
+    let declared = declared_in_bodies(alloc, source.spaces.statements())?;
     let scene = Scene {
-        spaces,
+        spaces: source.spaces,
         brought: &brought,
         declared: &declared,
     };
-    let openings = openings_of(alloc, &scene)?;
-    judge(alloc, &source, &scene, openings.as_slice())?;
+    let openings = judged_openings(alloc, source, &scene)?;
     Ok(Opened {
         brought,
         declared,
         openings,
     })
+}
+
+/// What the bodies of macros have from their calls, where nothing is wrong with these.
+fn judged_openings<'a>(
+    alloc: Global,
+    source: &Source,
+    scene: &Scene<'_, '_, 'a>,
+) -> Result<Vec<Opening<'a>>, Failure>
+    requires source { IsSource source.now }
+    requires same { source.now.spaces.now ≡ scene.now.spaces.now }
+    requires scene { IsScene scene.now }
+    requires all { AreAllBrought scene.now.spaces.now most_instances scene.now.brought.now }
+    ensures { Answers (λ os. AreJudged scene.now os.items) (ExpandStep (written_in scene.now.spaces.now) (all_standing scene.now.spaces.now)) result }
+{
+    let openings = openings_of(alloc, scene)?;
+    judge(alloc, source, scene, openings.as_slice())?;
+    Ok(openings)
 }
 
 /// Judges the calls of all that is placed.

@@ -8,7 +8,7 @@ ghost use Rattle.cil_blocks.specs.Entries.{statement_at};
 ghost use Rattle.cil_blocks.specs.Namespaces.{space_at};
 ghost use Rattle.cil_blocks.specs.Places.{AreStandings, entries_in};
 ghost use Rattle.cil_macros.specs.Brings.{is_marked};
-ghost use Rattle.cil_macros.specs.CallFaults.{SaysWrong, faults_from, told, told_if};
+ghost use Rattle.cil_macros.specs.CallFaults.{SaysWrong, faults_from, faults_of, told, told_if};
 ghost use Rattle.cil_macros.specs.CallPlaces.{is_call_in_branch, is_in_branch};
 ghost use Rattle.cil_macros.specs.Macros.{all_standing};
 ghost use Rattle.cil_macros.specs.Placed.{Placed};
@@ -16,14 +16,14 @@ ghost use Rattle.cil_macros.specs.Walks.{AreBrought, IsSource, placed_in, writte
 
 use crate::branches::is_conditional;
 use crate::brings::has_mark;
-use crate::calls::{comes_again, has_arguments, macro_at, space_at};
+use crate::calls::{comes_again, front_at, has_arguments, macro_at, space_at};
 use crate::chain::{Brought, statement_at};
 use crate::macros::is_call_at;
 use crate::source::Source;
 use cil_base::NoMemory;
 use cil_blocks::spelled::spelled;
 use cil_blocks::{Namespaces, ScopeList, Spaces};
-use cil_syntax::{Bytes, Fault, FaultCode, Statement, Word, word_and_terms};
+use cil_syntax::{Bytes, Fault, FaultCode, Statement, Word};
 use std::alloc::Global;
 
 /// What is wrong with a call. More than one may be.
@@ -61,13 +61,42 @@ pub fn call_faults(
     let mut faults = Vec::new(alloc);
     let mut scope = ScopeList::new(alloc);
     for at in 0..source.spaces.entries().len() + brought.entries.len() {
-        let wrong = wrong_at(alloc, source, brought, marks, lists, at, &mut scope)?;
-        report(alloc, &mut faults, source, brought, at, wrong)?;
+        judge_at(
+            alloc,
+            &mut faults,
+            source,
+            brought,
+            marks,
+            lists,
+            at,
+            &mut scope,
+        )?;
     }
     Ok(faults)
 }
 
-/// Tells what is wrong with the statement at a place.
+/// Tells what is wrong with the statement at a place, where it is marked or not.
+fn judge_at(
+    alloc: Global,
+    faults: &mut Vec<Fault>,
+    source: &Source,
+    brought: &Brought,
+    marks: &[bool],
+    lists: &[bool],
+    at: usize,
+    scope: &mut ScopeList,
+) -> Result<(), NoMemory>
+    requires source { IsSource source.now }
+    requires brought { AreBrought source.now.spaces.now brought.now }
+    requires within { at < length (entries_in source.now.spaces.now) + length brought.now.entries.items }
+    ensures { OnOk result ((p : Placed) → slice_get (placed_in source.now.spaces.now brought.now.entries.items) at ≡ Some p
+        → faults.new.items ≡ faults.old.items ++ faults_of (written_in source.now.spaces.now) (all_standing source.now.spaces.now) (is_marked marks.now at) (is_marked lists.now at) p) }
+{
+    let wrong = wrong_at(alloc, source, brought, marks, lists, at, scope)?;
+    report(alloc, faults, source, brought, at, wrong)
+}
+
+/// Tells this of the statement at a place.
 fn report(
     alloc: Global,
     faults: &mut Vec<Fault>,
@@ -82,11 +111,7 @@ fn report(
     ensures { OnOk result ((p : Placed) → slice_get (placed_in source.now.spaces.now brought.now.entries.items) at ≡ Some p
         → faults.new.items ≡ faults.old.items ++ told p.standing.space wrong (first_word p.standing.statement.statement.args)) }
 {
-    let number = statement_at(source.spaces.entries(), brought.entries.as_slice(), at);
-    let Some(statement) = source.spaces.statements().get(number) else {
-        return Ok(());
-    };
-    let Some(front) = word_and_terms(statement.args.as_slice(), statement.at.module) else {
+    let Some(front) = front_at(source.spaces, brought, at) else {
         return Ok(());
     };
     let site = Site {
@@ -94,9 +119,22 @@ fn report(
         space: space_at(source.spaces, brought, at),
         word: &front.word,
     };
-    report_if(alloc, faults, wrong.again, FaultCode::CallCycle, &site)?;
-    report_if(alloc, faults, wrong.unfit, FaultCode::CallArguments, &site)?;
-    report_if(alloc, faults, wrong.misplaced, FaultCode::CallPlace, &site)?;
+    report_causes(alloc, faults, wrong, &site)
+}
+
+/// Tells each cause at a site.
+fn report_causes(
+    alloc: Global,
+    faults: &mut Vec<Fault>,
+    wrong: Wrong,
+    site: &Site,
+) -> Result<(), NoMemory>
+    requires { site.now.space ≤ length site.now.namespaces.now }
+    ensures { OnOk result (faults.new.items ≡ faults.old.items ++ told (space_at site.now.namespaces.now site.now.space) wrong (Some site.now.word.now)) }
+{
+    report_if(alloc, faults, wrong.again, FaultCode::CallCycle, site)?;
+    report_if(alloc, faults, wrong.unfit, FaultCode::CallArguments, site)?;
+    report_if(alloc, faults, wrong.misplaced, FaultCode::CallPlace, site)?;
     Ok(())
 }
 

@@ -18,6 +18,7 @@ pub mod declared_names;
 pub mod entry;
 pub mod expansion;
 pub mod faults;
+mod instance_words;
 pub mod instances;
 pub mod laws;
 pub mod list_arguments;
@@ -36,6 +37,7 @@ pub mod placed_word;
 mod said_parts;
 pub mod scene;
 pub mod source;
+mod term_parts;
 pub mod walk;
 
 pub use arguments::{arguments_fit, is_of_kind};

@@ -1,9 +1,10 @@
 //! Arguments that are lists, part by part, as their parameters ask: each word as it is written, with the sign that it has there. That an
-//! argument has the form of its kind was asked before (`list_arguments.rt`), so of other forms nothing counts. And statements, part
-//! by part. Costs a step for each part.
+//! argument has the form of its kind was asked before (`list_arguments.rt`), so of other forms nothing counts. Costs a step for each
+//! part.
 
-ghost use Rattle.std.specs.Prelude.{◌≡◌, ◌&&◌, IfOk, OnOk, ℕ, codes, drop};
+ghost use Rattle.std.specs.Prelude.{◌≡◌, ◌&&◌, IfOk, None, OnOk, ℕ, codes, drop};
 ghost use Rattle.cil_faults.specs.declared.spot.Spot.{Spot as ASpot};
+ghost use Rattle.cil_faults.specs.Spots.{spot_at};
 ghost use Rattle.cil_syntax.specs.declared.kind.Language.TheVariants as languages;
 ghost use Rattle.cil_syntax.specs.declared.kind.Sign.TheVariants as signs;
 ghost use Rattle.cil_syntax.specs.Readings.{read_expression};
@@ -14,13 +15,13 @@ ghost use Rattle.cil_syntax.specs.Table.{level};
 ghost use Rattle.cil_macros.specs.Fits.{all_read_as, read_as};
 ghost use Rattle.cil_macros.specs.ListForms.{kept_cells, two_code};
 ghost use Rattle.cil_macros.specs.Parameters.{argument_kind, read_argument, sound};
-ghost use Rattle.cil_macros.specs.Puts.{AsksInside, AsksTerm, AsksTerms, IsJoinedBy, WritesTerm, WritesTerms, is_of_sets, list_cell};
+ghost use Rattle.cil_macros.specs.Puts.{AsksInside, AsksTerm, AsksTerms, IsJoinedBy, is_of_sets, list_cell};
 
 use crate::list_arguments::{SetHead, set_head, word_in_front};
-use crate::listed::Part;
+use crate::listed::{Part, push_part};
 use crate::placed_word::PlacedWord;
 use cil_base::NoMemory;
-use cil_syntax::{Excerpt, Op, Sign, Spot, Term, Word};
+use cil_syntax::{Excerpt, LookedUp, Op, Sign, Spot, Term, Word};
 
 /// Whether a word is the set of everything.
 fn is_all(word: &[u8]) -> bool
@@ -74,20 +75,24 @@ fn push_word<'a>(
     ensures { OnOk result (AsksTerm (read_as (looked_up sign) (said_of «module» argument.now)) parts.old.items parts.new.items) }
 {
     match argument {
-        Term::Leaf(word) => {
-            parts.push(Part::Word(PlacedWord {
-                word: Word {
-                    at: Spot::of(module, word.at),
-                    bytes: Excerpt::of(word.bytes.as_slice()),
-                    sign,
-                },
-                scope: None,
-            }))?;
-        }
-        Term::Name(_, _) => {}
-        Term::Form(_, _, _) => {}
+        Term::Leaf(word) => push_part(parts, Part::Word(written_word(module, sign, word))),
+        Term::Name(_, _) => Ok(()),
+        Term::Form(_, _, _) => Ok(()),
     }
-    Ok(())
+}
+
+/// A word as it is written, which wants what this sign does.
+pub(crate) fn written_word<'a>(module: u64, sign: Sign, word: &LookedUp<'a>) -> PlacedWord<'a>
+    ensures { result ≡ record { word = record { at = spot_at «module» word.now.at; bytes = word.now.bytes; sign = sign }; scope = None } }
+{
+    PlacedWord {
+        word: Word {
+            at: Spot::of(module, word.at),
+            bytes: Excerpt::of(word.bytes.as_slice()),
+            sign,
+        },
+        scope: None,
+    }
 }
 
 /// Adds the words of a sign behind so many items.
@@ -119,21 +124,19 @@ fn push_set<'a>(
     match argument {
         Term::Leaf(word) => {
             if is_all(word.bytes.as_slice()) {
-                parts.push(Part::Opens(Spot::of(module, word.at), Op::All))?;
-                parts.push(Part::Closes)?;
-                return Ok(());
+                push_part(parts, Part::Opens(Spot::of(module, word.at), Op::All))?;
+                return push_part(parts, Part::Closes);
             }
-            push_word(parts, module, sign, argument)?;
+            push_word(parts, module, sign, argument)
         }
-        Term::Name(_, _) => {}
+        Term::Name(_, _) => Ok(()),
         Term::Form(_, at, items) => {
             let op = set_op(sign, items.as_slice());
-            parts.push(Part::Opens(Spot::of(module, *at), op))?;
+            push_part(parts, Part::Opens(Spot::of(module, *at), op))?;
             push_set_items(parts, module, sign, items.as_slice())?;
-            parts.push(Part::Closes)?;
+            push_part(parts, Part::Closes)
         }
     }
-    Ok(())
 }
 
 /// Adds what a set joins, by the word in front.
@@ -148,16 +151,14 @@ fn push_set_items<'a>(
         parts.old.items parts.new.items) }
 {
     let Some(word) = word_in_front(items) else {
-        push_sets(parts, module, sign, items, 0)?;
-        return Ok(());
+        return push_sets(parts, module, sign, items, 0);
     };
     match set_head(sign, word) {
-        SetHead::One => push_sets(parts, module, sign, items, 1)?,
-        SetHead::Two => push_sets(parts, module, sign, items, 1)?,
-        SetHead::Range => push_words(parts, module, Sign::Categories, items, 1)?,
-        SetHead::Union => push_sets(parts, module, sign, items, 0)?,
+        SetHead::One => push_sets(parts, module, sign, items, 1),
+        SetHead::Two => push_sets(parts, module, sign, items, 1),
+        SetHead::Range => push_words(parts, module, Sign::Categories, items, 1),
+        SetHead::Union => push_sets(parts, module, sign, items, 0),
     }
-    Ok(())
 }
 
 /// Adds the sets behind so many items.
@@ -205,15 +206,14 @@ fn push_level<'a>(
     ensures { OnOk result (AsksTerm (read_as level (said_of «module» argument.now)) parts.old.items parts.new.items) }
 {
     match argument {
-        Term::Leaf(_) => push_word(parts, module, Sign::Levels, argument)?,
-        Term::Name(_, _) => {}
+        Term::Leaf(_) => push_word(parts, module, Sign::Levels, argument),
+        Term::Name(_, _) => Ok(()),
         Term::Form(_, at, items) => {
-            parts.push(Part::Opens(Spot::of(module, *at), Op::Level))?;
+            push_part(parts, Part::Opens(Spot::of(module, *at), Op::Level))?;
             push_level_items(parts, module, items.as_slice())?;
-            parts.push(Part::Closes)?;
+            push_part(parts, Part::Closes)
         }
     }
-    Ok(())
 }
 
 /// Adds a sensitivity, and its categories if there are more items.
@@ -283,44 +283,4 @@ pub(crate) fn push_items<'a>(
         }
         _ => Ok(Op::Listed),
     }
-}
-
-// ---- statements
-
-/// Adds some terms of a statement, as they are written. It costs a step for each part.
-#[cycle(terms)]
-pub(crate) fn push_terms<'a>(
-    parts: &mut Vec<Part<'a>>,
-    module: u64,
-    terms: &[Term<'a>],
-) -> Result<(), NoMemory>
-    ensures { OnOk result (WritesTerms (all_said «module» terms.now) parts.old.items parts.new.items) }
-{
-    for term in terms {
-        push_term(parts, module, term)?;
-    }
-    Ok(())
-}
-
-#[cycle(terms)]
-fn push_term<'a>(parts: &mut Vec<Part<'a>>, module: u64, term: &Term<'a>) -> Result<(), NoMemory>
-    ensures { OnOk result (WritesTerm (said_of «module» term.now) parts.old.items parts.new.items) }
-{
-    match term {
-        Term::Leaf(word) => {
-            parts.push(Part::Word(PlacedWord {
-                word: word.in_module(module),
-                scope: None,
-            }))?;
-        }
-        Term::Name(at, bytes) => {
-            parts.push(Part::Text(Spot::of(module, *at), Excerpt::of(bytes.as_slice())))?;
-        }
-        Term::Form(op, at, items) => {
-            parts.push(Part::Opens(Spot::of(module, *at), *op))?;
-            push_terms(parts, module, items.as_slice())?;
-            parts.push(Part::Closes)?;
-        }
-    }
-    Ok(())
 }

@@ -10,16 +10,17 @@ ghost use Rattle.cil_macros.specs.Placed.{takes_lists};
 ghost use Rattle.cil_macros.specs.Scene.{IsOpened};
 
 use crate::arguments::{is_text_op, listed, may_be_list, sign_of};
-use crate::call_words::body_of;
-use crate::chain::{standing_statement, statement_at};
-use crate::list_parts::{is_every, push_items, push_terms};
+use crate::call_words::unfolding_at;
+use crate::calls::stated_at;
+use crate::list_parts::{is_every, push_items};
 use crate::list_values::Caller;
 use crate::listed::Part;
-use crate::macros::is_call_at;
+use crate::macros::is_call;
 use crate::meaning::meaning_at;
 use crate::meant::Meaning;
 use crate::openings::Opening;
 use crate::scene::Scene;
+use crate::term_parts::push_terms;
 use cil_base::NoMemory;
 use cil_syntax::{Excerpt, Op, Sign, Spot, Statement, Term, Word};
 use std::alloc::Global;
@@ -97,9 +98,7 @@ fn is_wrong_at<'a>(
     requires within { at < length (entries_in scene.now.spaces.now) + length scene.now.brought.now.entries.items }
     ensures { IfOk result (SaysWrong scene.now at) }
 {
-    let statements = scene.spaces.statements();
-    let number = statement_at(scene.spaces.entries(), scene.brought.entries.as_slice(), at);
-    let Some(statement) = statements.get(number) else {
+    let Some(statement) = stated_at(scene.spaces, scene.brought, at) else {
         return Ok(false);
     };
     let caller = Caller {
@@ -108,12 +107,10 @@ fn is_wrong_at<'a>(
         at,
         module: statement.at.module,
     };
-    if is_call_at(statements, number) {
-        let wrong = caller.has_wrong_argument(alloc, statement)?;
-        return Ok(wrong);
+    if is_call(statement.keyword) {
+        return caller.has_wrong_argument(alloc, statement);
     }
-    let wrong = caller.has_wrong_word(alloc, statement.args.as_slice())?;
-    Ok(wrong)
+    caller.has_wrong_word(alloc, statement.args.as_slice())
 }
 
 /// Whether a list may stand where a word of a sign does.
@@ -208,20 +205,10 @@ impl<'c, 's, 'p, 'a> Caller<'c, 's, 'p, 'a> {
             → b ≡ list_any (is_wrong_word (written_in self.now.scene.now.spaces.now) p)
             (unfolded_places (args_of call.now) (unfolded (written_in self.now.scene.now.spaces.now) (all_standing self.now.scene.now.spaces.now) p))) }
     {
-        let spaces = self.scene.spaces;
-        let bodies = self.scene.brought.bodies.as_slice();
-        let Some(number) = body_of(bodies, self.at) else {
+        let Some(unfolding) = unfolding_at(self.scene, self.openings, self.at) else {
             return Ok(false);
         };
-        let called = standing_statement(
-            spaces.entries(),
-            self.scene.brought.bodies[number].macro_rank,
-        );
-        let Some(called) = spaces.statements().get(called) else {
-            return Ok(false);
-        };
-        let wrong = self.is_wrong_call(alloc, called, call)?;
-        Ok(wrong)
+        self.is_wrong_call(alloc, unfolding.called, call)
     }
 
     /// The same, where this macro is called.

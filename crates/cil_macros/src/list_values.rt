@@ -9,11 +9,11 @@ ghost use Rattle.cil_macros.specs.Placed.{Placed, put};
 ghost use Rattle.cil_macros.specs.Puts.{is_mapped, text_parts};
 
 use crate::list_parts::push_items;
-use crate::listed::{Listed, Part, push_parts};
+use crate::listed::{Listed, Part, push_copy, push_part, push_parts};
 use crate::meaning::meaning_at;
 use crate::meant::{Meaning, Meant};
 use crate::openings::Opening;
-use crate::placed_word::PlacedWord;
+use crate::placed_word::{PlacedWord, asked_word};
 use crate::scene::Scene;
 use cil_base::NoMemory;
 use cil_syntax::{Excerpt, Op, Sign, Spot, Term, Word};
@@ -38,28 +38,21 @@ fn push_meant<'a>(parts: &mut Vec<Part<'a>>, sign: Sign, meant: &Meant<'a>) -> R
     ensures { OnOk result ((ps : List Placed) → parts_there ps parts.new.items ≡ parts_there ps parts.old.items ++ parts_of (meant_term ps sign meant.now)) }
 {
     match meant.scope {
-        None => push_text(parts, meant)?,
-        Some(place) => {
-            parts.push(Part::Word(PlacedWord {
-                word: Word {
-                    at: meant.at,
-                    bytes: Excerpt::of(meant.bytes.as_slice()),
-                    sign,
-                },
-                scope: Some(place),
-            }))?;
-        }
+        None => push_text(parts, meant),
+        Some(place) => push_part(parts, Part::Word(asked_word(sign, meant, place))),
     }
-    Ok(())
 }
 
 /// Adds a string.
 fn push_text<'a>(parts: &mut Vec<Part<'a>>, meant: &Meant<'a>) -> Result<(), NoMemory>
     ensures { OnOk result (parts.new.items ≡ parts.old.items ++ text_parts meant.now.at meant.now.bytes) }
 {
-    parts.push(Part::Opens(meant.at, Op::UnreadText))?;
-    parts.push(Part::Text(meant.at, Excerpt::of(meant.bytes.as_slice())))?;
-    parts.push(Part::Closes)?;
+    push_part(parts, Part::Opens(meant.at, Op::UnreadText))?;
+    push_part(
+        parts,
+        Part::Text(meant.at, Excerpt::of(meant.bytes.as_slice())),
+    )?;
+    push_part(parts, Part::Closes)?;
     Ok(())
 }
 
@@ -67,9 +60,9 @@ fn push_text<'a>(parts: &mut Vec<Part<'a>>, meant: &Meant<'a>) -> Result<(), NoM
 pub(crate) fn push_list<'a>(parts: &mut Vec<Part<'a>>, list: &Listed<'a>) -> Result<(), NoMemory>
     ensures { OnOk result ((ps : List Placed) → IsWholeList ps list.now → parts_there ps parts.new.items ≡ parts_there ps parts.old.items ++ parts_of (list_there ps list.now)) }
 {
-    parts.push(Part::Opens(list.at, list.op))?;
+    push_part(parts, Part::Opens(list.at, list.op))?;
     push_parts(parts, list.parts.as_slice())?;
-    parts.push(Part::Closes)?;
+    push_part(parts, Part::Closes)?;
     Ok(())
 }
 
@@ -103,9 +96,9 @@ fn push_mapped<'a>(parts: &mut Vec<Part<'a>>, list: &Listed<'a>) -> Result<(), N
     ensures { OnOk result ((ps : List Placed) → IsWholeList ps list.now
         → parts_there ps parts.new.items ≡ parts_there ps parts.old.items ++ parts_of (put signs.MappedPermissions (list_there ps list.now))) }
 {
-    parts.push(Part::Opens(list.at, list.op))?;
+    push_part(parts, Part::Opens(list.at, list.op))?;
     push_plain(parts, list.parts.as_slice())?;
-    parts.push(Part::Closes)?;
+    push_part(parts, Part::Closes)?;
     Ok(())
 }
 
@@ -116,7 +109,7 @@ fn push_plain<'a>(parts: &mut Vec<Part<'a>>, more: &[Part<'a>]) -> Result<(), No
     match more {
         [] => {}
         [first, rest @ ..] => {
-            parts.push(plain(first))?;
+            push_part(parts, plain(first))?;
             push_parts(parts, rest)?;
         }
     }
@@ -156,10 +149,9 @@ impl<'c, 's, 'p, 'a> Caller<'c, 's, 'p, 'a> {
         ensures { OnOk result (PutsMeaning self.now.scene.now self.now.at word.now parts.old.items parts.new.items) }
     {
         match meaning_at(self.scene, self.openings, self.at, word) {
-            Meaning::Plain(meant) => push_meant(parts, word.sign, &meant)?,
-            Meaning::List(list) => push_for(parts, word.sign, list)?,
+            Meaning::Plain(meant) => push_meant(parts, word.sign, &meant),
+            Meaning::List(list) => push_for(parts, word.sign, list),
         }
-        Ok(())
     }
 
     /// Adds a part: a word as what it means where the call is, anything else as it is.
@@ -168,12 +160,11 @@ impl<'c, 's, 'p, 'a> Caller<'c, 's, 'p, 'a> {
         ensures { OnOk result (PutsPart meaning self.now.scene.now self.now.at asked.now parts.old.items parts.new.items) }
     {
         match asked {
-            Part::Word(word) => self.push_meaning(parts, &word.word)?,
-            Part::Text(_, _) => parts.push(asked.copied())?,
-            Part::Opens(_, _) => parts.push(asked.copied())?,
-            Part::Closes => parts.push(asked.copied())?,
+            Part::Word(word) => self.push_meaning(parts, &word.word),
+            Part::Text(_, _) => push_copy(parts, asked),
+            Part::Opens(_, _) => push_copy(parts, asked),
+            Part::Closes => push_copy(parts, asked),
         }
-        Ok(())
     }
 
     /// Adds parts as they are written, each word as what it means where the call is.

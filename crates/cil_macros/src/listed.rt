@@ -1,7 +1,7 @@
 //! An argument that is a list, as it is kept: its parts one after another. So no pass over it calls itself, however many macros
 //! handed it on, and it is dropped without a walk.
 
-ghost use Rattle.std.specs.Prelude.{◌≡◌, ◌++◌, List, OnOk};
+ghost use Rattle.std.specs.Prelude.{◌≡◌, ◌++◌, ◌∷◌, [], List, OnOk};
 
 use crate::placed_word::PlacedWord;
 use cil_base::NoMemory;
@@ -49,12 +49,27 @@ impl<'a> Listed<'a> {
     }
 }
 
+/// Adds a part.
+pub(crate) fn push_part<'a>(parts: &mut Vec<Part<'a>>, part: Part<'a>) -> Result<(), NoMemory>
+    ensures { OnOk result (parts.new.items ≡ parts.old.items ++ part.entry ∷ []) }
+{
+    parts.push(part)?;
+    Ok(())
+}
+
+/// Adds a part once more.
+pub(crate) fn push_copy<'a>(parts: &mut Vec<Part<'a>>, part: &Part<'a>) -> Result<(), NoMemory>
+    ensures { OnOk result (parts.new.items ≡ parts.old.items ++ part.now ∷ []) }
+{
+    push_part(parts, part.copied())
+}
+
 /// Adds some parts.
 pub(crate) fn push_parts<'a>(parts: &mut Vec<Part<'a>>, more: &[Part<'a>]) -> Result<(), NoMemory>
     ensures { OnOk result (parts.new.items ≡ parts.old.items ++ more.now) }
 {
     for part in more {
-        parts.push(part.copied())?;
+        push_copy(parts, part)?;
     }
     Ok(())
 }

@@ -35,8 +35,8 @@ pub fn macros_of<'a>(alloc: Global, spaces: &Spaces<'_, 'a>) -> Result<Macros<'a
     let mut macros = Macros {
         table: IndexMap::new(alloc),
     };
-    // `get` is called for its clause that each namespace is there once, which the proof cites.
-    let _ = spaces.namespaces().get(0);
+    // Each namespace is there once.
+    spaces.namespaces().are_namespaces();
     let mut rank = spaces.entries().len();
     while rank > 0 {
         rank -= 1;

@@ -5,13 +5,14 @@ ghost use Rattle.std.specs.Prelude.{◌≡◌, ◌+◌, ◌<◌, IsTrue, List, M
 ghost use Rattle.cil_syntax.specs.Program.{IsNested, program_of};
 ghost use Rattle.cil_syntax.specs.Terms.{Leaf};
 ghost use Rattle.cil_syntax.specs.Written.{Written};
+ghost use Rattle.cil_syntax.specs.declared.kind.Sign.{Sign};
 ghost use Rattle.cil_syntax.specs.declared.term.Word.{Word as AWord};
 ghost use Rattle.cil_blocks.specs.Contents.{Standing};
 ghost use Rattle.cil_blocks.specs.Entries.{statement_at};
 ghost use Rattle.cil_blocks.specs.Places.{entries_in};
 ghost use Rattle.cil_macros.specs.Entries.{AreBodies, placed_of};
 ghost use Rattle.cil_macros.specs.Macros.{all_standing};
-ghost use Rattle.cil_macros.specs.Meant.{AreArguments, IsWholeMeaning, meaning_there};
+ghost use Rattle.cil_macros.specs.Meant.{AreArguments, IsWholeMeaning, meaning_there, meant_in};
 ghost use Rattle.cil_macros.specs.Items.{said_by, word_of};
 ghost use Rattle.cil_macros.specs.Openings.{IsNumbered};
 ghost use Rattle.cil_macros.specs.Parameters.{macro_parameters};
@@ -40,7 +41,7 @@ pub fn meaning_at<'o, 'a>(
 {
     let standing = scene.spaces.entries().len();
     let Some(number) = body_number(scene.brought, standing, at) else {
-        return Meaning::Plain(Meant::word(word.at, word.bytes.as_slice(), at));
+        return itself(word, at);
     };
     let opening = &openings[number];
     let called = standing_statement(
@@ -51,9 +52,17 @@ pub fn meaning_at<'o, 'a>(
         return argument.meaning();
     }
     if scene.declared.has(called, word.bytes.as_slice(), word.sign) {
-        return Meaning::Plain(Meant::word(word.at, word.bytes.as_slice(), opening.home));
+        return itself(word, opening.home);
     }
-    Meaning::Plain(Meant::word(word.at, word.bytes.as_slice(), at))
+    itself(word, at)
+}
+
+/// What a word means that means itself, in the scope of what is placed somewhere.
+fn itself<'o, 'a>(word: &Word<'a>, scope: usize) -> Meaning<'o, 'a>
+    ensures says { (ps : List Placed) (sign : Sign) → meaning_there ps sign result ≡ meant_in ps sign word.now.at word.now.bytes (Some scope) }
+    ensures whole { (ps : List Placed) → IsWholeMeaning ps result }
+{
+    Meaning::Plain(Meant::word(word.at, word.bytes.as_slice(), scope))
 }
 
 /// Whether each word of the statement at a place says a word there: no argument of its body is a list. It costs one step.

@@ -6,7 +6,7 @@ use cil_syntax::{Excerpt, Spot, Word};
 use std::alloc::Global;
 
 /// What a word means where it is placed, or what an argument is.
-#[derive(Debug, Drop)]
+#[derive(Drop)]
 pub struct Meant<'a> {
     /// Where it is written.
     pub at: Spot,

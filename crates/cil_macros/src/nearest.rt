@@ -101,8 +101,12 @@ pub fn opener_of(entries: &[Entry], at: usize) -> Option<usize>
     ensures lower { IfSome result (λ k. k < at) }
     ensures opened { (ws : List Written) (s : Standing) → slice_get (standings_of ws entries.now) at ≡ Some s → IsOpenedBy ws (standings_of ws entries.now) s result }
 {
-    let entry = entries.get(at)?;
-    let opener = entry.opener?;
+    let Some(entry) = entries.get(at) else {
+        return None;
+    };
+    let Some(opener) = entry.opener else {
+        return None;
+    };
     if opener as usize >= at {
         return None;
     }
@@ -121,7 +125,7 @@ fn is_inherit(statements: &[Statement], entries: &[Entry], at: usize) -> bool
 }
 
 /// Where the statement is written that stands at a rank.
-fn spot_of(statements: &[Statement], entries: &[Entry], at: usize) -> Spot
+pub fn spot_of(statements: &[Statement], entries: &[Entry], at: usize) -> Spot
     requires { IsNested statements.now }
     ensures { (s : Standing) → slice_get (standings_of (program_of statements.now) entries.now) at ≡ Some s → result ≡ s.statement.statement.at }
 {
@@ -132,7 +136,7 @@ fn spot_of(statements: &[Statement], entries: &[Entry], at: usize) -> Spot
 }
 
 /// The statement that stands at a rank.
-fn stated<'s, 'a>(
+pub fn stated<'s, 'a>(
     statements: &'s [Statement<'a>],
     entries: &[Entry],
     at: usize,
@@ -141,8 +145,12 @@ fn stated<'s, 'a>(
     ensures { (s : Standing) → slice_get (standings_of (program_of statements.now) entries.now) at ≡ Some s
         → MatchOption result (s.statement ≡ nothing) (λ x. s.statement.statement ≡ statement_of x.now) }
 {
-    let entry = entries.get(at)?;
-    let statement = statements.get(entry.statement as usize)?;
+    let Some(entry) = entries.get(at) else {
+        return None;
+    };
+    let Some(statement) = statements.get(entry.statement as usize) else {
+        return None;
+    };
     Some(statement)
 }
 

@@ -11,11 +11,11 @@ ghost use Rattle.cil_macros.specs.Meant.{AreArguments, is_list, scope_there};
 ghost use Rattle.cil_macros.specs.Openings.{AreOpenings, IsOpening};
 ghost use Rattle.cil_macros.specs.Parameters.{macro_parameters, string_in};
 ghost use Rattle.cil_macros.specs.Placed.{Placed};
-ghost use Rattle.cil_macros.specs.Scene.{IsScene, placed_of_scene};
+ghost use Rattle.cil_macros.specs.Scene.{IsKnown, IsScene, placed_of_scene};
 ghost use Rattle.cil_macros.specs.Walks.{placed_in, written_in};
 
 use crate::arguments::{listed, may_be_list, sign_of};
-use crate::chain::{standing_statement, statement_at};
+use crate::calls::{standing_at, stated_at};
 use crate::entry::Body;
 use crate::list_parts::is_every;
 use crate::list_values::Caller;
@@ -80,13 +80,26 @@ fn opening_of<'a>(
         openings,
         at: body.call,
     };
+    let home = home_at(scene, openings, body.call);
     let arguments = call.arguments(alloc, body.macro_rank)?;
     let lists = has_list(arguments.as_slice());
     Ok(Opening {
-        home: call.home(),
+        home,
         arguments,
         lists,
     })
+}
+
+/// The place of the outermost call: the place itself, of a call that stands in no body.
+fn home_at(scene: &Scene, openings: &[Opening], at: usize) -> usize
+    requires { IsKnown scene.now openings.now at }
+    ensures { (p : Placed) → slice_get (placed_of_scene scene.now) at ≡ Some p → scope_there (slice_get (placed_of_scene scene.now) result) ≡ home_of p.standing.scope p.body }
+{
+    let standing = scene.spaces.entries().len();
+    match body_number(scene.brought, standing, at) {
+        None => at,
+        Some(number) => openings[number].home,
+    }
 }
 
 /// Whether an argument is a list.
@@ -116,19 +129,6 @@ impl<'c, 's, 'p, 'a> Call<'c, 's, 'p, 'a> {
     ghost use Rattle.cil_macros.specs.Placed.{Bound, Placed};
     ghost use Rattle.cil_macros.specs.Walks.{placed_in, written_in};
 
-    /// The place of the outermost call.
-    fn home(&self) -> usize
-        requires { IsKnown self.now.scene.now self.now.openings.now self.now.at }
-        ensures { (p : Placed) → slice_get (placed_of_scene self.now.scene.now) self.now.at ≡ Some p
-            → scope_there (slice_get (placed_of_scene self.now.scene.now) result) ≡ home_of p.standing.scope p.body }
-    {
-        let standing = self.scene.spaces.entries().len();
-        match body_number(self.scene.brought, standing, self.at) {
-            None => self.at,
-            Some(number) => self.openings[number].home,
-        }
-    }
-
     /// What the arguments mean, where the macro of a rank is called.
     fn arguments(&self, alloc: Global, called: usize) -> Result<Vec<Argument<'a>>, NoMemory>
         requires call { IsKnown self.now.scene.now self.now.openings.now self.now.at }
@@ -137,21 +137,13 @@ impl<'c, 's, 'p, 'a> Call<'c, 's, 'p, 'a> {
             → unfolded (written_in self.now.scene.now.spaces.now) (all_standing self.now.scene.now.spaces.now) p ≡ Some u → slice_get (all_standing self.now.scene.now.spaces.now) called ≡ Some u.macro
             → AreArguments (placed_of_scene self.now.scene.now) (macro_parameters u.macro.statement.statement.args) u.bounds ms.items) }
     {
-        let spaces = self.scene.spaces;
-        let entries = spaces.entries();
-        let brought = self.scene.brought.entries.as_slice();
-        let Some(macro_statement) = spaces.statements().get(standing_statement(entries, called))
-        else {
+        let Some(called) = standing_at(self.scene.spaces, called) else {
             return Ok(Vec::new(alloc));
         };
-        let Some(call) = spaces
-            .statements()
-            .get(statement_at(entries, brought, self.at))
-        else {
+        let Some(call) = stated_at(self.scene.spaces, self.scene.brought, self.at) else {
             return Ok(Vec::new(alloc));
         };
-        let meanings = self.meanings(alloc, macro_statement, call)?;
-        Ok(meanings)
+        self.meanings(alloc, called, call)
     }
 
     /// What the arguments of a call mean, one for each parameter of its macro.
@@ -192,17 +184,13 @@ impl<'c, 's, 'p, 'a> Call<'c, 's, 'p, 'a> {
         ensures { IfOk result (SaysValue self.now.scene.now self.now.at kind (said_of «module» argument.now)) }
     {
         match argument {
-            Term::Leaf(word) => {
-                let value = self.word_value(alloc, kind, &word.in_module(module))?;
-                Ok(value)
-            }
+            Term::Leaf(word) => { self.word_value(alloc, kind, &word.in_module(module)) }
             Term::Name(at, bytes) => Ok(Argument::Plain(Meant::string(
                 Spot::of(module, *at),
                 bytes.as_slice(),
             ))),
             Term::Form(_, at, parts) => {
-                let value = self.form_value(alloc, kind, *at, parts.as_slice(), module)?;
-                Ok(value)
+                self.form_value(alloc, kind, *at, parts.as_slice(), module)
             }
         }
     }
@@ -226,8 +214,7 @@ impl<'c, 's, 'p, 'a> Call<'c, 's, 'p, 'a> {
             sign: sign_of(kind),
         };
         let meaning = meaning_at(self.scene, self.openings, self.at, &own);
-        let value = meaning.as_argument(alloc)?;
-        Ok(value)
+        meaning.as_argument(alloc)
     }
 
     /// What an argument is that joins some parts: a list where its kind has lists, and otherwise a string.

@@ -1,6 +1,6 @@
 //! A word of a statement that takes part in a policy.
 
-ghost use Rattle.std.specs.Prelude.{◌≡◌, List};
+ghost use Rattle.std.specs.Prelude.{◌≡◌, List, Some};
 ghost use Rattle.cil_macros.specs.Items.{IsWholeSaid, as_word, said_as, said_there, scoped_by, unasked};
 ghost use Rattle.cil_macros.specs.Meant.{IsWholeMeaning, meaning_there, meant_term};
 ghost use Rattle.cil_macros.specs.Placed.{Placed};
@@ -8,11 +8,11 @@ ghost use Rattle.cil_macros.specs.Placed.{Placed};
 use crate::arguments::is_text_op;
 use crate::listed::Listed;
 use crate::meant::{Meaning, Meant};
-use cil_syntax::{Excerpt, Word};
+use cil_syntax::{Excerpt, Sign, Word};
 
 /// A word as it takes part in a policy: what is looked up, and the place, among all that is placed, in whose scope that is
 /// done. Of a string, which is not looked up, there is no place.
-#[derive(Debug, Drop)]
+#[derive(Drop)]
 pub struct PlacedWord<'a> {
     /// Where it is written, its bytes, and what it wants.
     pub word: Word<'a>,
@@ -52,22 +52,22 @@ pub(crate) fn placed_word<'a>(word: &Word<'a>, meant: &Meant<'a>) -> PlacedWord<
     ensures { (ps : List Placed) → scoped_by ps result ≡ as_word word.now (meant_term ps word.now.sign meant.now) }
 {
     match meant.scope {
-        None => PlacedWord {
-            word: Word {
-                at: word.at,
-                bytes: Excerpt::of(word.bytes.as_slice()),
-                sign: word.sign,
-            },
-            scope: None,
+        None => unasked(word),
+        Some(place) => asked_word(word.sign, meant, place),
+    }
+}
+
+/// What is meant, as a word of a sign that is looked up in the scope of a place.
+pub(crate) fn asked_word<'a>(sign: Sign, meant: &Meant<'a>, place: usize) -> PlacedWord<'a>
+    ensures { result ≡ record { word = record { at = meant.now.at; bytes = meant.now.bytes; sign = sign }; scope = Some place } }
+{
+    PlacedWord {
+        word: Word {
+            at: meant.at,
+            bytes: Excerpt::of(meant.bytes.as_slice()),
+            sign,
         },
-        Some(place) => PlacedWord {
-            word: Word {
-                at: meant.at,
-                bytes: Excerpt::of(meant.bytes.as_slice()),
-                sign: word.sign,
-            },
-            scope: Some(place),
-        },
+        scope: Some(place),
     }
 }
 

@@ -17,19 +17,19 @@ ghost use Rattle.cil_macros.specs.Scene.{IsOpened, IsScene, placed_of_scene};
 ghost use Rattle.cil_macros.specs.Walks.{written_in};
 
 use crate::arguments::{is_text_op, listed, sign_of};
-use crate::call_words::{body_of, is_text};
-use crate::chain::{standing_statement, statement_at};
-use crate::list_parts::push_terms;
+use crate::call_words::{is_text, unfolding_at};
+use crate::calls::{front_at, stated_at};
 use crate::list_values::{Caller, push_for, push_list};
-use crate::listed::Part;
-use crate::macros::is_call_at;
+use crate::listed::{Part, push_copy, push_part};
+use crate::macros::is_call;
 use crate::meaning::meaning_at;
 use crate::meant::{Argument, Meant};
 use crate::openings::Opening;
-use crate::placed_word::{PlacedWord, Said, said_of_meaning};
+use crate::placed_word::{Said, asked_word, said_of_meaning};
 use crate::scene::Scene;
+use crate::term_parts::push_terms;
 use cil_base::NoMemory;
-use cil_syntax::{Excerpt, Op, Statement, Term, Word, word_and_terms};
+use cil_syntax::{Op, Statement, Term, Word};
 use std::alloc::Global;
 
 /// What the statement at a place says, part by part, if it is one that may say lists.
@@ -43,14 +43,11 @@ pub(crate) fn said_parts_at<'a>(
     requires within { at < length (entries_in scene.now.spaces.now) + length scene.now.brought.now.entries.items }
     ensures { IfOk result (λ parts. SaysParts scene.now at parts.items) }
 {
-    let statements = scene.spaces.statements();
-    let number = statement_at(scene.spaces.entries(), scene.brought.entries.as_slice(), at);
-    let Some(statement) = statements.get(number) else {
+    let Some(statement) = stated_at(scene.spaces, scene.brought, at) else {
         return Ok(Vec::new(alloc));
     };
-    if is_call_at(statements, number) {
-        let parts = call_parts(alloc, scene, openings, at)?;
-        return Ok(parts);
+    if is_call(statement.keyword) {
+        return call_parts(alloc, scene, openings, at);
     }
     let caller = Caller {
         scene,
@@ -58,8 +55,7 @@ pub(crate) fn said_parts_at<'a>(
         at,
         module: statement.at.module,
     };
-    let parts = caller.said_parts(alloc, statement.args.as_slice())?;
-    Ok(parts)
+    caller.said_parts(alloc, statement.args.as_slice())
 }
 
 impl<'c, 's, 'p, 'a> Caller<'c, 's, 'p, 'a> {
@@ -79,10 +75,9 @@ impl<'c, 's, 'p, 'a> Caller<'c, 's, 'p, 'a> {
     {
         let meaning = meaning_at(self.scene, self.openings, self.at, word);
         match said_of_meaning(word, meaning) {
-            Said::Word(said) => parts.push(Part::Word(said))?,
-            Said::List(list) => push_for(parts, word.sign, list)?,
+            Said::Word(said) => push_part(parts, Part::Word(said)),
+            Said::List(list) => push_for(parts, word.sign, list),
         }
-        Ok(())
     }
 
     /// Adds a part: a word as what it says where the statement is, anything else as it is.
@@ -91,12 +86,11 @@ impl<'c, 's, 'p, 'a> Caller<'c, 's, 'p, 'a> {
         ensures { OnOk result (PutsPart said_by self.now.scene.now self.now.at asked.now parts.old.items parts.new.items) }
     {
         match asked {
-            Part::Word(word) => self.push_said(parts, &word.word)?,
-            Part::Text(_, _) => parts.push(asked.copied())?,
-            Part::Opens(_, _) => parts.push(asked.copied())?,
-            Part::Closes => parts.push(asked.copied())?,
+            Part::Word(word) => self.push_said(parts, &word.word),
+            Part::Text(_, _) => push_copy(parts, asked),
+            Part::Opens(_, _) => push_copy(parts, asked),
+            Part::Closes => push_copy(parts, asked),
         }
-        Ok(())
     }
 
     /// Adds parts as they are written, each word as what it says where the statement is.
@@ -155,18 +149,10 @@ fn push_macro<'a>(
     ensures { OnOk result ((p : Placed) → slice_get (placed_of_scene scene.now) at ≡ Some p
         → parts_there (placed_of_scene scene.now) parts.new.items ≡ parts_there (placed_of_scene scene.now) parts.old.items ++ macro_parts p (first_word p.standing.statement.statement.args)) }
 {
-    let spaces = scene.spaces;
-    let number = statement_at(spaces.entries(), scene.brought.entries.as_slice(), at);
-    let Some(call) = spaces.statements().get(number) else {
+    let Some(front) = front_at(scene.spaces, scene.brought, at) else {
         return Ok(());
     };
-    let Some(front) = word_and_terms(call.args.as_slice(), call.at.module) else {
-        return Ok(());
-    };
-    parts.push(Part::Word(PlacedWord {
-        word: front.word,
-        scope: Some(at),
-    }))?;
+    push_part(parts, Part::Word(front))?;
     Ok(())
 }
 
@@ -183,16 +169,10 @@ fn push_arguments<'a>(
         → parts_there (placed_of_scene scene.now) parts.new.items ≡ parts_there (placed_of_scene scene.now) parts.old.items
         ++ all_parts_of (unfolded_values (unfolded (written_in scene.now.spaces.now) (all_standing scene.now.spaces.now) p))) }
 {
-    let spaces = scene.spaces;
-    let bodies = scene.brought.bodies.as_slice();
-    let Some(number) = body_of(bodies, at) else {
+    let Some(unfolding) = unfolding_at(scene, openings, at) else {
         return Ok(());
     };
-    let called = standing_statement(spaces.entries(), scene.brought.bodies[number].macro_rank);
-    let Some(called) = spaces.statements().get(called) else {
-        return Ok(());
-    };
-    push_values(called, openings[number].arguments.as_slice(), parts)?;
+    push_values(unfolding.called, unfolding.arguments, parts)?;
     Ok(())
 }
 
@@ -251,13 +231,6 @@ fn push_word<'a>(kind: Op, meant: &Meant<'a>, parts: &mut Vec<Part<'a>>) -> Resu
     let Some(place) = meant.scope else {
         return Ok(());
     };
-    parts.push(Part::Word(PlacedWord {
-        word: Word {
-            at: meant.at,
-            bytes: Excerpt::of(meant.bytes.as_slice()),
-            sign,
-        },
-        scope: Some(place),
-    }))?;
+    push_part(parts, Part::Word(asked_word(sign, meant, place)))?;
     Ok(())
 }

@@ -12,8 +12,9 @@ ghost use Rattle.cil_macros.specs.Walks.{AreBrought, AreInTurn, IsSource, called
 
 use crate::body_scope::body_scope;
 use crate::calls::{space_at, unfolded_at};
-use crate::chain::{Brought, keep_first, spot_of, standing_statement, statement_at};
+use crate::chain::{Brought, keep_first, standing_statement, statement_at};
 use crate::entry::{Body, Called};
+use crate::nearest::spot_of;
 use crate::source::Source;
 use cil_base::NoMemory;
 use cil_blocks::ScopeList;
@@ -31,33 +32,52 @@ pub fn walk(alloc: Global, source: &Source, limit: usize) -> Result<Option<Broug
     ensures few { IfOk result (λ o. IfSome o (λ b. length (entries_in source.now.spaces.now) + length b.entries.items ≤ limit)) }
     ensures many { IfOk result (λ o. IfNone o (IsOver placed_cmp (IsPlaced (written_in source.now.spaces.now) (all_standing source.now.spaces.now)) limit)) }
 {
-    let standing = source.spaces.entries().len();
     let mut brought = Brought {
         entries: Vec::new(alloc),
         bodies: Vec::new(alloc),
         firsts: IndexMap::new(alloc),
     };
-    let mut scope = ScopeList::new(alloc);
-    let mut own = ScopeList::new(alloc);
-    let mut at = 0;
-    while at < standing + brought.entries.len() {
-        if standing + brought.entries.len() > limit {
-            return Ok(None);
-        }
-        brought.open(alloc, source, at, &mut scope, &mut own)?;
-        at += 1;
+    let all = brought.open_all(alloc, source, limit)?;
+    if !all {
+        return Ok(None);
     }
     Ok(Some(brought))
 }
 
 impl Brought {
-    ghost use Rattle.std.specs.Prelude.{◌≡◌, ◌+◌, ◌<◌, ◌++◌, MatchOption, OnOk, Some, length, map, slice_get};
+    ghost use Rattle.std.specs.Prelude.{◌≡◌, ◌+◌, ◌<◌, ◌++◌, [], IfOk, MatchOption, OnOk, Some, false, length, map, slice_get, true};
+    ghost use Rattle.cil_base.specs.Rising.{IsOver};
     ghost use Rattle.cil_blocks.specs.Places.{entries_in};
+    ghost use Rattle.cil_macros.specs.Calls.{IsPlaced, placed_cmp};
     ghost use Rattle.cil_macros.specs.Entries.{IsInnerOf};
+    ghost use Rattle.cil_macros.specs.Expansion.{AreAllBrought};
     ghost use Rattle.cil_macros.specs.Macros.{all_standing};
     ghost use Rattle.cil_macros.specs.Opens.{opens_placed};
     ghost use Rattle.cil_macros.specs.Placed.{Placed};
     ghost use Rattle.cil_macros.specs.Walks.{AreBrought, AreInTurn, IsSource, OpensAsCall, called_by, placed_in, written_in};
+
+    /// Adds all that calls bring, and tells whether that is, with what stands, within the limit. Otherwise it ends one body after the limit.
+    fn open_all(&mut self, alloc: Global, source: &Source, limit: usize) -> Result<bool, NoMemory>
+        requires source { IsSource source.now }
+        requires brought { AreBrought source.now.spaces.now self.old }
+        requires empty { self.old.entries.items ≡ [] }
+        requires bodiless { self.old.bodies.items ≡ [] }
+        ensures all { IfOk result (λ all. all ≡ true → AreAllBrought source.now.spaces.now limit self.new) }
+        ensures many { IfOk result (λ all. all ≡ false → IsOver placed_cmp (IsPlaced (written_in source.now.spaces.now) (all_standing source.now.spaces.now)) limit) }
+    {
+        let standing = source.spaces.entries().len();
+        let mut scope = ScopeList::new(alloc);
+        let mut own = ScopeList::new(alloc);
+        let mut at = 0;
+        while at < standing + self.entries.len() {
+            if standing + self.entries.len() > limit {
+                return Ok(false);
+            }
+            self.open(alloc, source, at, &mut scope, &mut own)?;
+            at += 1;
+        }
+        Ok(true)
+    }
 
     /// Adds what the statement at a place opens: where it is an optional or a booleanif that a call brings, the statements directly in it;
     /// where it is a call that is unfolded, those directly in its macro.
@@ -149,17 +169,20 @@ impl Brought {
 
     /// The body to which the statement at a place belongs, where that is an optional or a booleanif that a call brings.
     fn inner_body(&self, source: &Source, at: usize) -> Option<usize>
-        requires { IsSource source.now }
+        requires source { IsSource source.now }
+        requires within { at < length (entries_in source.now.spaces.now) + length self.now.entries.items }
         ensures { MatchOption result (OpensAsCall source.now.spaces.now self.now.entries.items at)
             (IsInnerOf (written_in source.now.spaces.now) self.now.entries.items (length (all_standing source.now.spaces.now)) at) }
     {
-        let before = at.checked_sub(source.spaces.entries().len())?;
-        let called = self.entries.get(before)?;
-        if keeps_place_at(source.spaces.statements(), called.statement) {
-            Some(called.body)
-        } else {
-            None
+        let standing = source.spaces.entries().len();
+        if at < standing {
+            return None;
         }
+        let called = self.entries[at - standing];
+        if !keeps_place_at(source.spaces.statements(), called.statement) {
+            return None;
+        }
+        Some(called.body)
     }
 }
 

@@ -1,4 +1,4 @@
-use Rattle.std.proofs.Common.{◌+◌, ◌<◌, get_or, length, refl, rules}
+use Rattle.std.proofs.Common.{◌+◌, ◌<◌, get_or, length, refl, subst, sym, ℕ}
 use Rattle.cil_names.specs.declared.shared.Shared.{Shared}
 use Rattle.std.proofs.lemmas.List.{length-set}
 use Rattle.cil_base.proofs.AtPlace.{at_place, past_end}
@@ -28,7 +28,7 @@ index_mut-requires c =
     let one : Shared = get_or c.args.shared.now c.args.at (record { class = 0; common = 0 }) in
     let h : one.class < length c.args.flags.now.items =
     c.requires.within one (get_contains c.args.shared.now c.args.at one (is_there c.args.shared.now c.args.at (record { class = 0; common = 0 }) c.requires.here)) in
-    search (rules, h)
+    subst (λ (n : ℕ). one.class < n) (sym c.args.flags.now.ok.0) h
 
 pub returns : goal.returns
 returns c =

@@ -14,7 +14,7 @@ pub returns-in-Some : goal.returns-in-Some
 returns-in-Some c =
     IfOk-weaker c.given_of.result _ _
     (λ given of xs names known apart classes nodes all among are.
-    of xs names known apart classes nodes all (item_at c.args.instances.now c.args.at) (word_at c.args.instances.now c.args.at) among (c.in-Some.ensures xs names known are))
+    of xs names known apart classes nodes all (item_at c.args.instances.now c.args.at) (word_at c.args.instances.now c.args.at) among (c.in-Some.ensures.is xs names known are))
     c.given_of.ensures
 
 pub returns : goal.returns

@@ -12,7 +12,7 @@ terms-requires-clause-lists c = ap says_lists c.in_default.ensures.keyword
 
 pub returns-in-Some : goal.returns-in-Some
 returns-in-Some c = λ xs names known are.
-    c.node_of.ensures c.args.known.now xs (word_at c.args.instances.now c.args.at) (item_at c.args.instances.now c.args.at) (c.in-Some.ensures xs names known are)
+    c.node_of.ensures c.args.known.now xs (word_at c.args.instances.now c.args.at) (item_at c.args.instances.now c.args.at) (c.in-Some.ensures.is xs names known are)
 
 pub returns : goal.returns
 returns c = λ xs names known are.

@@ -1,5 +1,5 @@
 use Rattle.std.specs.Prelude.{Some, slice_get}
-use Rattle.std.proofs.Common.{◌≡◌, ◌∙◌, ◌+◌, ◌<◌, ℕ, List, ap, get_or, length, rules, set, subst, sym}
+use Rattle.std.proofs.Common.{◌≡◌, ◌∙◌, ◌+◌, ◌<◌, ℕ, List, ap, get_or, length, set, subst, sym}
 use Rattle.std.proofs.lemmas.Option.{slice_get_read}
 use Rattle.cil_names.specs.declared.entry.Entry.{Entry}
 use Rattle.cil_names.specs.Entries.{is_in}
@@ -25,7 +25,7 @@ index_mut-requires c =
     subst (λ (j : ℕ). j < length c.args.places.now.items) (sym number)
     (class_within c.args.lookup.now.namespaces.now c.args.lookup.now.names.now (is_in c.args.lookup.now.enabled.now) c.args.numbering.now.sections c.args.numbering.now.numbers.items
     c.requires.numbers c.args.places.now.items c.args.d c.index-entries-d.result at (sym c.is_declared_as.ensures ∙ c.if-not-is_declared_as.false) c.requires.len) in
-    search (rules, h)
+    subst (λ (n : ℕ). c.number_at-number.result < n) (sym c.args.places.now.ok.0) h
 
 pub returns-clause-noted : goal.returns-clause-noted
 returns-clause-noted c =

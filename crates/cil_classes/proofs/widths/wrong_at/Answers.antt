@@ -9,8 +9,14 @@ use Rattle.cil_classes.proofs.widths.wrong_at.Goals as goal
 pub wide_class-requires-clause-asked : goal.wide_class-requires-clause-asked
 wide_class-requires-clause-asked c = c.requires.asked
 
-pub shared_at-requires-clause-entries : goal.shared_at-requires-clause-entries
-shared_at-requires-clause-entries c = c.requires.twice.entries
+pub joined_at-requires-clause-entries : goal.joined_at-requires-clause-entries
+joined_at-requires-clause-entries c = c.requires.twice.entries
+
+pub joined_at-requires-clause-within : goal.joined_at-requires-clause-within
+joined_at-requires-clause-within c = c.requires.within
+
+pub wide_class-requires-clause-within : goal.wide_class-requires-clause-within
+wide_class-requires-clause-within c = c.requires.within
 
 pub returns-in-Some : goal.returns-in-Some
 returns-in-Some c = wide_wrong c.args.instances.now (is_in c.args.lookup.now.enabled.now) c.args.at _ _ c.in-Some.is c.wide_class.ensures
@@ -18,13 +24,13 @@ returns-in-Some c = wide_wrong c.args.instances.now (is_in c.args.lookup.now.ena
 pub returns-in_default-2 : goal.returns-in_default-2
 returns-in_default-2 c =
     let i = c.args.instances.now in
-    twice_wrong i (is_in c.args.lookup.now.enabled.now) c.args.at _ c.in_default.is c.wide_class.ensures _ (shares_nothing (items_in i) (item_at i c.args.at) (rw c.in_default-2.is at c.in_ok-one.ensures))
+    twice_wrong i (is_in c.args.lookup.now.enabled.now) c.args.at _ c.in_default.is c.wide_class.ensures _ (shares_nothing (items_in i) (item_at i c.args.at) (rw c.in_default-2.is at c.in_ok-one.ensures.is))
 
 pub returns-then-not-is_set : goal.returns-then-not-is_set
 returns-then-not-is_set c =
     let i = c.args.instances.now in
     let t = c.requires.twice in
-    let shares = rw c.in-Some-2.is at c.in_ok-one.ensures in
+    let shares = rw c.in-Some-2.is at c.in_ok-one.ensures.is in
     twice_wrong i (is_in c.args.lookup.now.enabled.now) c.args.at _ c.in_default.is c.wide_class.ensures _
     (not_twice (namespaces_in i) t.namespaces c.args.lookup.now.names.now t.entries.ordered (items_in i) t.pairs t.shared (item_at i c.args.at) shares.0.0 shares.0.1 c.in-Some-2.one (shares.1 shares.0.0 shares.0.1)
     (λ w. true≢false (sym ((t.flagged c.in-Some-2.one.class).1 w) ∙ sym c.is_set.ensures ∙ c.if-not-is_set.true)))
@@ -33,7 +39,7 @@ pub returns : goal.returns
 returns c =
     let i = c.args.instances.now in
     let t = c.requires.twice in
-    let shares = rw c.in-Some-2.is at c.in_ok-one.ensures in
+    let shares = rw c.in-Some-2.is at c.in_ok-one.ensures.is in
     twice_wrong i (is_in c.args.lookup.now.enabled.now) c.args.at _ c.in_default.is c.wide_class.ensures c.class_word.result
     (twice_told (namespaces_in i) t.namespaces c.args.lookup.now.names.now t.entries.ordered (items_in i) t.pairs t.shared (item_at i c.args.at) shares.0.0 shares.0.1 c.in-Some-2.one (shares.1 shares.0.0 shares.0.1)
     ((t.flagged c.in-Some-2.one.class).0 (sym c.is_set.ensures ∙ c.if-not-is_set.false)) c.class_word.result (c.class_word.ensures shares.0.1.keyword))

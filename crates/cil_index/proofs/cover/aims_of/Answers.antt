@@ -1,4 +1,4 @@
-use Rattle.std.proofs.Common.{ap, ◌∙◌, [], get_or}
+use Rattle.std.proofs.Common.{ap, ◌∙◌}
 use Rattle.cil_index.specs.Entries.{aim_of, several, beyond}
 use Rattle.cil_index.proofs.cover.aims_of.Goals as goal
 

@@ -1,17 +1,24 @@
 use Rattle.std.proofs.Common.{inl, inr}
-use Rattle.cil_classes.proofs.BitLemmas.{set_in_either}
+use Rattle.cil_classes.proofs.BitLemmas.{none_set, set_in_either}
 use Rattle.cil_conditions.specs.Bits.{is_on}
 use Rattle.cil_index.specs.Searched.{rules_in}
-use Rattle.cil_index.proofs.CoverLemmas.{two_runs}
+use Rattle.cil_index.proofs.CoverLemmas.{none_within, two_runs}
 use Rattle.cil_index.proofs.cover.by_source.Goals as goal
 
 pub aim_start-one-requires-clause-rising : goal.aim_start-one-requires-clause-rising
 aim_start-one-requires-clause-rising c = c.bounds-bounds.ensures.rising
 
 pub returns-clause-sound : goal.returns-clause-sound
-returns-clause-sound c = λ bit set. elim ((set_in_either c.joined.result c.joined-2.result bit).0 set) [ inl x ↦ c.joined.ensures.sound bit x | inr x ↦ c.joined-2.ensures.sound bit x ]
+returns-clause-sound c = λ bit set. elim ((set_in_either c.found.result c.found-2.result bit).0 set) [ inl x ↦ c.found.ensures.sound bit x | inr x ↦ c.found-2.ensures.sound bit x ]
 
 pub returns-clause-all : goal.returns-clause-all
 returns-clause-all c =
     two_runs (is_on c.args.settings.now) (rules_in c.args.searched.now) c.args.searched.now.memberships.now c.args.asked.now c.args.index.now c.args.source c.bounds-bounds.result c.aim_start-one.result c.near_start-several.result c.args.aims.now
-    c.joined.result c.joined-2.result c.requires.aims c.bounds-bounds.ensures c.aim_start-one.ensures.below c.near_start-several.ensures.below c.joined.ensures.all c.joined-2.ensures.all
+    c.found.result c.found-2.result c.requires.aims c.bounds-bounds.ensures c.aim_start-one.ensures.below c.near_start-several.ensures.below c.found.ensures.all c.found-2.ensures.all
+
+pub returns-then-bounds-clause-sound : goal.returns-then-bounds-clause-sound
+returns-then-bounds-clause-sound c = λ bit set. absurd (none_set bit set)
+
+pub returns-then-bounds-clause-all : goal.returns-then-bounds-clause-all
+returns-then-bounds-clause-all c =
+    none_within (is_on c.args.settings.now) (rules_in c.args.searched.now) c.args.searched.now.memberships.now c.args.asked.now c.args.index.now c.args.source 0 c.bounds-bounds.result c.bounds-bounds.ensures c.if-bounds.true

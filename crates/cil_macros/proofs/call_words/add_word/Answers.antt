@@ -15,5 +15,5 @@ pub returns : goal.returns
 returns c =
     let m = c.args.meant.now in
     adds_word c.args.kind m c.args.words.now.items c.in-Some.place c.in-Some.is (ap is_text (sym c.sign_of-sign.ensures) ∙ sym c.if-is_text.ensures) _
-    (λ i. record { word = record { at = m.at; bytes = (c.of.ensures ∙ c.as_slice.ensures) i; sign = c.sign_of-sign.ensures i }; scope = Some c.in-Some.place })
+    (c.asked_word.ensures ∙ (λ i. record { word = record { at = m.at; bytes = m.bytes; sign = c.sign_of-sign.ensures i }; scope = Some c.in-Some.place }))
     c.push.new.self.items c.in_ok-push.ensures.items

@@ -8,15 +8,6 @@ use Rattle.cil_macros.proofs.ChainLemmas.{came_before, came_here}
 use Rattle.cil_macros.proofs.FirstLemmas.{never_came}
 use Rattle.cil_macros.proofs.chain.is_repeated.Goals as goal
 
-pub spot_of-requires-clause-within : goal.spot_of-requires-clause-within
-spot_of-requires-clause-within c =
-    let ws = program_of c.args.statements.now in
-    let ss = standings_of ws c.args.entries.now in
-    let l = standings_length ws c.args.entries.now in
-    let b = c.in-Some.ensures ws ss l c.requires.bodies in
-    let h = in_range ss c.in-Some.body.now.macro_rank b.so.opened.macro b.so.is_macro in
-    omega (arith, h, l)
-
 pub returns-then-is_same_spot : goal.returns-then-is_same_spot
 returns-then-is_same_spot c =
     let ws = program_of c.args.statements.now in

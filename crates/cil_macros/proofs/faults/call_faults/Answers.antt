@@ -24,9 +24,8 @@ loop-at-preserved c =
     let m = c.len.ensures in
     let n = c.args.brought.now.entries.ok.0 in
     let p = placed_there s cs c.loop-at.at (omega (arith, h, l, m, n)) in
-    one_told (written_in s) (all_standing s) c.args.marks.now c.args.lists.now (placed_in s cs) c.loop-at.at p.0 c.loop-at.faults.items c.report.new.faults.items _ p.1
-    (c.in_ok-report.ensures p.0 p.1
-    ∙ ap (λ x. c.loop-at.faults.items ++ told p.0.standing.space x (first_word p.0.standing.statement.statement.args)) (c.in_ok-wrong.ensures p.0 p.1)) c.loop-at.invariant
+    one_told (written_in s) (all_standing s) c.args.marks.now c.args.lists.now (placed_in s cs) c.loop-at.at p.0 c.loop-at.faults.items c.judge_at.new.faults.items _ p.1
+    (c.in_ok-judge_at.ensures p.0 p.1) c.loop-at.invariant
 
 pub returns : goal.returns
 returns c =

@@ -1,17 +1,15 @@
-use Rattle.std.proofs.Common.{◌∙◌}
-use Rattle.std.specs.Prelude.{None}
-use Rattle.cil_macros.specs.Fits.{read_as}
 use Rattle.cil_syntax.specs.Said.{said_of}
 use Rattle.cil_syntax.specs.Shapes.{looked_up}
+use Rattle.cil_syntax.proofs.NodesJudged.{on_ok}
+use Rattle.cil_macros.specs.Fits.{read_as}
 use Rattle.cil_macros.proofs.ArgumentLemmas.{form_no_word, name_no_word}
 use Rattle.cil_macros.proofs.AskLemmas.{puts_word, term_unread}
 use Rattle.cil_macros.proofs.list_parts.push_word.Goals as goal
 
-pub returns-in_ok-push-in-Leaf : goal.returns-in_ok-push-in-Leaf
-returns-in_ok-push-in-Leaf c =
-    puts_word c.args.sign c.args.«module» c.args.argument.now c.in-Leaf.word c.in-Leaf.is _
-    (λ i. record { word = record { at = c.of.ensures i; bytes = (c.of-in-Leaf.ensures ∙ c.as_slice.ensures) i; sign = c.args.sign }; scope = None })
-    c.args.parts.now.items c.push.new.self.items c.in_ok-push-in-Leaf.ensures.items
+pub returns-in-Leaf : goal.returns-in-Leaf
+returns-in-Leaf c =
+    on_ok c.push_part.result _ _
+    (puts_word c.args.sign c.args.«module» c.args.argument.now c.in-Leaf.word c.in-Leaf.is _ c.written_word.ensures c.args.parts.now.items c.push_part.new.parts.items) c.push_part.ensures
 
 pub returns-in-Name : goal.returns-in-Name
 returns-in-Name c =

@@ -5,5 +5,5 @@ use Rattle.cil_macros.proofs.list_values.push_mapped.Goals as goal
 
 pub returns : goal.returns
 returns c = λ ps whole.
-    mapped_between ps c.args.list.now c.args.parts.now.items c.push.new.self.items c.push_plain.new.parts.items c.push-2.new.self.items c.in_ok-push.ensures.items
-    (c.in_ok-push_plain.ensures ps ∙ ap (λ xs. parts_there ps c.push.new.self.items ++ plain_first (parts_there ps xs)) c.as_slice.ensures.value) c.in_ok-push-2.ensures.items whole
+    mapped_between ps c.args.list.now c.args.parts.now.items c.push_part.new.parts.items c.push_plain.new.parts.items c.push_part-2.new.parts.items c.in_ok-push_part.ensures
+    (c.in_ok-push_plain.ensures ps ∙ ap (λ xs. parts_there ps c.push_part.new.parts.items ++ plain_first (parts_there ps xs)) c.as_slice.ensures.value) c.in_ok-push_part-2.ensures whole

@@ -1,14 +1,12 @@
-use Rattle.std.proofs.Common.{◌∙◌}
-use Rattle.std.specs.Prelude.{Some}
+use Rattle.cil_syntax.proofs.NodesJudged.{on_ok}
 use Rattle.cil_macros.proofs.PutLemmas.{text_put, word_put}
 use Rattle.cil_macros.proofs.list_values.push_meant.Goals as goal
 
-pub returns-in_ok-push_text-in-None : goal.returns-in_ok-push_text-in-None
-returns-in_ok-push_text-in-None c = λ ps. text_put ps c.args.sign c.args.meant.now c.in-None.is c.args.parts.now.items c.push_text.new.parts.items c.in_ok-push_text-in-None.ensures
+pub returns-in-None : goal.returns-in-None
+returns-in-None c =
+    on_ok c.push_text.result _ _ (λ so ps. text_put ps c.args.sign c.args.meant.now c.in-None.is c.args.parts.now.items c.push_text.new.parts.items so) c.push_text.ensures
 
-pub returns-in_ok-push-in-Some : goal.returns-in_ok-push-in-Some
-returns-in_ok-push-in-Some c = λ ps.
-    let m = c.args.meant.now in
-    word_put ps c.args.sign m c.in-Some.place c.in-Some.is _
-    (λ i. record { word = record { at = m.at; bytes = (c.of.ensures ∙ c.as_slice.ensures) i; sign = c.args.sign }; scope = Some c.in-Some.place })
-    c.args.parts.now.items c.push.new.self.items c.in_ok-push-in-Some.ensures.items
+pub returns-in-Some : goal.returns-in-Some
+returns-in-Some c =
+    on_ok c.push_part.result _ _
+    (λ so ps. word_put ps c.args.sign c.args.meant.now c.in-Some.place c.in-Some.is _ c.asked_word.ensures c.args.parts.now.items c.push_part.new.parts.items so) c.push_part.ensures

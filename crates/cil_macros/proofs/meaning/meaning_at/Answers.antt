@@ -4,12 +4,11 @@ use Rattle.cil_blocks.specs.Entries.{statement_at}
 use Rattle.cil_blocks.specs.Places.{entries_in}
 use Rattle.cil_blocks.proofs.EntryLemmas.{standings_length}
 use Rattle.cil_macros.specs.Macros.{all_standing}
-use Rattle.cil_macros.specs.Meant.{meant_term}
 use Rattle.cil_macros.specs.Openings.{IsNumbered}
 use Rattle.cil_macros.specs.Placed.{declares}
 use Rattle.cil_macros.specs.Scene.{placed_of_scene}
 use Rattle.cil_macros.specs.Walks.{written_in}
-use Rattle.cil_macros.proofs.BodyMeaning.{argument_word, arguments_here, home_word, macro_below, macro_here, number_below, place_word, same_word, standing_word}
+use Rattle.cil_macros.proofs.BodyMeaning.{argument_word, arguments_here, home_word, macro_below, macro_here, number_below, place_word, standing_word}
 use Rattle.cil_macros.proofs.CallLemmas.{placed_there, stands_by}
 use Rattle.cil_macros.proofs.meaning.meaning_at.Goals as goal
 
@@ -17,7 +16,7 @@ pub returns-in_default-clause-says : goal.returns-in_default-clause-says
 returns-in_default-clause-says c = λ p here.
     let l = ap length c.entries-standing.ensures.same in
     let below = c.in_default.ensures in
-    ap (meant_term (placed_of_scene c.args.scene.now) c.args.word.now.sign) (same_word c.args.word.now c.args.at c.word.result _ c.word.ensures c.as_slice.ensures)
+    c.itself.ensures.says (placed_of_scene c.args.scene.now) c.args.word.now.sign
     ∙ standing_word c.args.scene.now c.args.openings.now c.args.at c.requires p here c.args.word.now (omega (arith, l, below))
 
 pub index-requires : goal.index-requires
@@ -92,11 +91,10 @@ returns-then-has-clause-says c = λ p here.
     let are = arguments_here s c.args.openings.now c.args.at c.requires p here c.in-Some.number n c.index.result.now b c.index-openings-number.result o called stated in
     let so = rw c.statements.ensures at c.in_default-argument_for.ensures in
     let below = macro_below s c.args.openings.now c.args.at c.requires p here c.in-Some.number n c.index.result.now b c.index-openings-number.result o called stated in
-    ap (meant_term (placed_of_scene s) c.args.word.now.sign)
-    (same_word c.args.word.now c.index-openings-number.result.home c.word-then-has.result _ c.word-then-has.ensures c.as_slice-then-has.ensures)
+    c.itself-then-has.ensures.says (placed_of_scene s) c.args.word.now.sign
     ∙ home_word s c.args.openings.now c.args.at c.requires p here c.in-Some.number n c.index.result.now b c.index-openings-number.result o called stated
     c.args.word.now (so (placed_of_scene s) p.bounds are)
-    (c.if-has.ensures (written_in s.spaces.now) c.requires.scene.declared below ∙ ap (λ bytes. declares (written_in s.spaces.now) (statement_at (written_in s.spaces.now) called) bytes c.args.word.now.sign) c.as_slice-2.ensures)
+    (c.if-has.ensures (written_in s.spaces.now) c.requires.scene.declared below ∙ ap (λ bytes. declares (written_in s.spaces.now) (statement_at (written_in s.spaces.now) called) bytes c.args.word.now.sign) c.as_slice.ensures)
 
 pub returns-clause-says : goal.returns-clause-says
 returns-clause-says c = λ p here.
@@ -112,7 +110,16 @@ returns-clause-says c = λ p here.
     let are = arguments_here s c.args.openings.now c.args.at c.requires p here c.in-Some.number n c.index.result.now b c.index-openings-number.result o called stated in
     let so = rw c.statements.ensures at c.in_default-argument_for.ensures in
     let below = macro_below s c.args.openings.now c.args.at c.requires p here c.in-Some.number n c.index.result.now b c.index-openings-number.result o called stated in
-    ap (meant_term (placed_of_scene s) c.args.word.now.sign) (same_word c.args.word.now c.args.at c.word-2.result _ c.word-2.ensures c.as_slice-3.ensures)
+    c.itself-2.ensures.says (placed_of_scene s) c.args.word.now.sign
     ∙ place_word s c.args.openings.now c.args.at c.requires p here c.in-Some.number n c.index.result.now b c.index-openings-number.result o called stated
     c.args.word.now (so (placed_of_scene s) p.bounds are)
-    (c.if-has.ensures (written_in s.spaces.now) c.requires.scene.declared below ∙ ap (λ bytes. declares (written_in s.spaces.now) (statement_at (written_in s.spaces.now) called) bytes c.args.word.now.sign) c.as_slice-2.ensures)
+    (c.if-has.ensures (written_in s.spaces.now) c.requires.scene.declared below ∙ ap (λ bytes. declares (written_in s.spaces.now) (statement_at (written_in s.spaces.now) called) bytes c.args.word.now.sign) c.as_slice.ensures)
+
+pub returns-in_default-clause-whole : goal.returns-in_default-clause-whole
+returns-in_default-clause-whole c = c.itself.ensures.whole (placed_of_scene c.args.scene.now)
+
+pub returns-then-has-clause-whole : goal.returns-then-has-clause-whole
+returns-then-has-clause-whole c = c.itself-then-has.ensures.whole (placed_of_scene c.args.scene.now)
+
+pub returns-clause-whole : goal.returns-clause-whole
+returns-clause-whole c = c.itself-2.ensures.whole (placed_of_scene c.args.scene.now)

@@ -1,19 +1,12 @@
-use Rattle.std.proofs.Common.{◌∙◌, List, ap, refl, sym}
-use Rattle.std.specs.Prelude.{slice_get}
-use Rattle.cil_base.specs.Places.{not_there, there_as}
-use Rattle.cil_syntax.specs.declared.program.Statement.{Statement}
-use Rattle.cil_syntax.specs.Program.{program_of}
+use Rattle.std.proofs.Common.{◌∙◌, ap, sym}
 use Rattle.cil_syntax.specs.Said.{all_said}
-use Rattle.cil_syntax.specs.Written.{Written}
-use Rattle.cil_blocks.specs.Entries.{statement_at}
-use Rattle.cil_blocks.specs.Places.{statements_in}
-use Rattle.cil_blocks.proofs.NameLemmas.{args_some}
+use Rattle.cil_syntax.specs.Written as written
+use Rattle.cil_blocks.proofs.DoubledLemmas.{if_ok}
 use Rattle.cil_macros.specs.Calls.{is_call}
 use Rattle.cil_macros.specs.Listed.{parts_there}
 use Rattle.cil_macros.specs.Macros.{all_standing}
 use Rattle.cil_macros.specs.Scene.{placed_of_scene}
 use Rattle.cil_macros.specs.Walks.{written_in}
-use Rattle.cil_macros.proofs.CallLemmas.{stated_by}
 use Rattle.cil_macros.proofs.ListMarkLemmas.{known_at}
 use Rattle.cil_macros.proofs.SaidPartLemmas.{call_said, nothing_said, words_said}
 use Rattle.cil_macros.proofs.said_parts.said_parts_at.Goals as goal
@@ -21,36 +14,29 @@ use Rattle.cil_macros.proofs.said_parts.said_parts_at.Goals as goal
 pub returns-in_default : goal.returns-in_default
 returns-in_default c = λ p here lists.
     let s = c.args.scene.now in
-    let n = c.statement_at-number.result in
-    let stated = stated_by s.spaces.now s.brought.now.entries.items c.entries.result.now c.as_slice.result.now c.args.at n c.entries.ensures.same c.as_slice.ensures.value c.statement_at-number.ensures p here in
-    ap (parts_there (placed_of_scene s)) c.new.ensures.items
-    ∙ nothing_said (written_in s.spaces.now) (all_standing s.spaces.now) p (statements_in s.spaces.now) c.requires.opened.scene.standings.contents.nested refl n stated
-    (ap (λ ys. slice_get ys n) (sym c.statements-statements.ensures) ∙ not_there c.statements-statements.result.now n c.in_default.ensures.lookup.3)
+    ap (parts_there (placed_of_scene s)) c.new.ensures.items ∙ nothing_said (written_in s.spaces.now) (all_standing s.spaces.now) p (c.in_default.ensures p here)
 
-pub returns-then-is_call_at : goal.returns-then-is_call_at
-returns-then-is_call_at c = λ p here lists.
+pub returns-then-is_call : goal.returns-then-is_call
+returns-then-is_call c =
     let s = c.args.scene.now in
-    let n = c.statement_at-number.result in
-    let stated = stated_by s.spaces.now s.brought.now.entries.items c.entries.result.now c.as_slice.result.now c.args.at n c.entries.ensures.same c.as_slice.ensures.value c.statement_at-number.ensures p here in
-    call_said (written_in s.spaces.now) (all_standing s.spaces.now) p (parts_there (placed_of_scene s) c.in_ok-parts.parts.items)
-    (ap (λ (w : Written). is_call w.statement.keyword) stated
-    ∙ ap (λ (ss : List Statement). is_call (statement_at (program_of ss) n).statement.keyword) (sym c.statements-statements.ensures)
-    ∙ sym c.is_call_at.ensures ∙ c.if-is_call_at.true)
-    (c.in_ok-parts.ensures p here)
+    if_ok _ _ c.call_parts.result
+    (λ parts says p here lists.
+    call_said (written_in s.spaces.now) (all_standing s.spaces.now) p (parts_there (placed_of_scene s) parts.items)
+    (ap (λ (y : written.Statement). is_call y.keyword) (c.in-Some.ensures p here) ∙ sym c.is_call.ensures ∙ c.if-is_call.true)
+    (says p here))
+    c.call_parts.ensures
 
 pub said_parts-requires : goal.said_parts-requires
 said_parts-requires c = known_at c.args.scene.now c.args.openings.now c.requires.opened c.args.at c.requires.within
 
 pub returns : goal.returns
-returns c = λ p here lists.
+returns c =
     let s = c.args.scene.now in
-    let n = c.statement_at-number.result in
-    let statement = c.in-Some.statement.now in
-    let stated = stated_by s.spaces.now s.brought.now.entries.items c.entries.result.now c.as_slice.result.now c.args.at n c.entries.ensures.same c.as_slice.ensures.value c.statement_at-number.ensures p here in
-    let there = ap (λ ys. slice_get ys n) (sym c.statements-statements.ensures) ∙ there_as c.statements-statements.result.now n statement c.in-Some.ensures.lookup.3.0 c.in-Some.ensures.lookup.1 in
-    let same = sym (ap (λ (w : Written). w.statement.args) stated ∙ args_some (statements_in s.spaces.now) c.requires.opened.scene.standings.contents.nested n statement there) in
-    words_said (written_in s.spaces.now) (all_standing s.spaces.now) p (parts_there (placed_of_scene s) c.in_ok-parts-2.parts.items) lists
-    (ap (λ (w : Written). is_call w.statement.keyword) stated
-    ∙ ap (λ (ss : List Statement). is_call (statement_at (program_of ss) n).statement.keyword) (sym c.statements-statements.ensures)
-    ∙ sym c.is_call_at.ensures ∙ c.if-is_call_at.false)
-    (all_said statement.at.«module» c.as_slice-2.result.now) (ap (all_said statement.at.«module») c.as_slice-2.ensures.value ∙ same) (c.in_ok-parts-2.ensures p here)
+    let x = c.in-Some.statement.now in
+    if_ok _ _ c.said_parts.result
+    (λ parts says p here lists.
+    let so = c.in-Some.ensures p here in
+    words_said (written_in s.spaces.now) (all_standing s.spaces.now) p (parts_there (placed_of_scene s) parts.items) lists
+    (ap (λ (y : written.Statement). is_call y.keyword) so ∙ sym c.is_call.ensures ∙ c.if-is_call.false)
+    (all_said x.at.«module» c.as_slice.result.now) (ap (all_said x.at.«module») c.as_slice.ensures.value ∙ sym (ap (λ (y : written.Statement). y.args) so)) (says p here))
+    c.said_parts.ensures

@@ -33,14 +33,6 @@ standing_statement-number-requires c =
     let l = ap length c.entries-entries.ensures.same in
     omega (arith, h, l)
 
-pub spot_of-spot-requires-clause-within : goal.spot_of-spot-requires-clause-within
-spot_of-spot-requires-clause-within c =
-    let s = c.args.source.now.spaces.now in
-    let p = placed_there s c.args.self.now.entries.items c.args.at c.requires.within in
-    let h = unfolded_below s p.0 c.in-Some.called (unfolded_is s c.args.self.now.entries.items c.args.at c.in_ok-called.field-0 c.in-Some.called c.in-Some.is c.in_ok-called.ensures.unfolded p.0 p.1) in
-    let l = ap length c.entries-entries.ensures.same in
-    omega (arith, h, l)
-
 pub returns-clause-brought : goal.returns-clause-brought
 returns-clause-brought c =
     let s = c.args.source.now.spaces.now in

@@ -6,6 +6,7 @@ use Rattle.cil_syntax.specs.Spelling.{same_bytes}
 use Rattle.cil_macros.specs.declared.listed.Listed.{Listed}
 use Rattle.cil_macros.specs.Puts.{is_of_sets}
 use Rattle.cil_macros.specs.Scene.{placed_of_scene}
+use Rattle.cil_macros.proofs.AnyLemmas.{both_ok}
 use Rattle.cil_macros.proofs.ArgumentValues.{every_says, word_says}
 use Rattle.cil_macros.proofs.openings.Call.word_value.Goals as goal
 
@@ -20,8 +21,11 @@ pub returns : goal.returns
 returns c =
     let call = c.args.self.now in
     let own : Word = record { at = c.args.word.now.at; bytes = c.of.result; sign = c.sign_of.result } in
+    both_ok _ _ _ c.as_argument.result
+    (λ value says whole.
     word_says call.scene.now call.at c.args.kind c.args.word.now own
     (sym c.if-is_every.false ∙ c.is_every.ensures ∙ ap (λ b. is_of_sets c.args.kind && same_bytes b (codes "all")) c.as_slice.ensures)
-    refl (c.of.ensures ∙ c.as_slice-2.ensures) c.sign_of.ensures c.in_ok-value.value
-    (λ p here. c.in_ok-value.ensures.says (placed_of_scene call.scene.now) _ ∙ c.meaning_at-meaning.ensures.says p here)
-    (c.in_ok-value.ensures.whole (placed_of_scene call.scene.now) c.meaning_at-meaning.ensures.whole)
+    refl (c.of.ensures ∙ c.as_slice-2.ensures) c.sign_of.ensures value
+    (λ p here. says (placed_of_scene call.scene.now) _ ∙ c.meaning_at-meaning.ensures.says p here)
+    (whole (placed_of_scene call.scene.now) c.meaning_at-meaning.ensures.whole))
+    c.as_argument.ensures.says c.as_argument.ensures.whole
