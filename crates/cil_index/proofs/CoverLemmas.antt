@@ -1,17 +1,16 @@
 -- The masks of some aims, and by which of them all rules on a class and a pair of types are found.
 use Rattle.std.specs.Prelude.{◌↔◌, ◌⊎◌, Bool, true, false, Contains, IfSome, IsBitSet, IsTrue, Option, Some, None, bit_or, map, option_map, slice_get}
 use Rattle.std.proofs.Common.{◌≡◌, ℕ, suc, ◌+◌, ◌%◌, ◌<◌, ◌≤◌, List, [], ◌∷◌, length, get_or, sym, ◌∙◌, ap, subst, inl, inr, refl, arith}
+use Rattle.std.proofs.Math.Dec.{eqb}
 use Rattle.std.proofs.lemmas.Bool.{cases_lt}
+use Rattle.std.proofs.lemmas.Bool.Decides.{eqb_tells}
 use Rattle.std.proofs.lemmas.List.{get_or_default}
 use Rattle.std.proofs.lemmas.Option.{slice_get-map}
 use Rattle.cil_base.specs.Lists.{contains_cases, contains_none}
 use Rattle.cil_base.specs.MadeLists.{from_map}
-use Rattle.cil_base.specs.Places.{get_at, get_contains, none_some, some_same}
+use Rattle.cil_base.specs.Places.{get_at, get_contains, get_so, is_there, none_some, not_there, some_same}
 use Rattle.cil_classes.proofs.BitLemmas.{none_set, set_in_either}
 use Rattle.cil_conditions.specs.declared.branch.Branch.{Branch}
-use Rattle.cil_rules.specs.declared.rule.Reach.{Reach}
-use Rattle.cil_rules.specs.declared.rule.Reach.TheVariants as reaches
-use Rattle.cil_rules.specs.Kept.{target_named}
 use Rattle.cil_rules.specs.Rule.{Rule}
 use Rattle.cil_rules.specs.Covers.{Covers, HasCover, Reaches}
 use Rattle.cil_index.specs.declared.cover.Aims.{Aims}
@@ -20,14 +19,14 @@ use Rattle.cil_index.specs.declared.index.Bounds.{Bounds}
 use Rattle.cil_index.specs.declared.index.Index.{Index}
 use Rattle.cil_index.specs.declared.memberships.Memberships.{Memberships}
 use Rattle.cil_index.specs.declared.record.Record.{Record}
-use Rattle.cil_index.specs.Entries.{AreBelow, AreBounds, IsIndex, IsLaidOut, IsOfSource, RiseIn, aim_of, alone_key, in_class, itself, key_of_set, set_key, target_key}
+use Rattle.cil_index.specs.Entries.{AreBelow, AreBounds, IsIndex, IsLaidOut, IsOfSource, RiseIn, aim_of, alone_key, in_class, itself, key_of_set, reached_key, set_key, target_key}
 use Rattle.cil_index.specs.Found.{AreAims, CoversAt, HandOver, Hands, IsAimed, Matches, MayReach}
 use Rattle.cil_index.specs.Memberships.{AreMemberships, HasBit, IsFilter, IsKnownFor}
-use Rattle.cil_index.specs.Kept.{rule_of}
+use Rattle.cil_index.specs.Kept.{reached, rule_of, target_at}
 use Rattle.cil_index.specs.Sets.{set_of}
 use Rattle.cil_index.proofs.KeyLemmas.{aimed_target, alone_below, reach_cases}
 use Rattle.cil_index.proofs.RunLemmas.{none_past}
-use Rattle.cil_index.proofs.SetLemmas.{set_within}
+use Rattle.cil_index.proofs.SetLemmas.{none_is, set_within}
 
 module _ (on : ℕ → Bool) (rules : List Rule) (m : Memberships) (asked : Asked) (index : Index) where
   -- the rule that stands here covers the permission
@@ -108,16 +107,38 @@ key_cases other [] t c = absurd (contains_none t c)
 key_cases other (u ∷ []) t c = elim (contains_cases t u [] c) [ inl e ↦ inl (ap alone_key e) | inr d ↦ absurd (contains_none t d) ]
 key_cases other (u ∷ v ∷ rest) t c = inr (refl, λ e. let size : suc (suc (length rest)) ≡ 1 = ap (λ (z : List ℕ). length z) e in absurd (omega (arith, size)))
 
-target_reached : (sets : List (List ℕ)) (m : Memberships) (asked : Asked) → AreMemberships sets m → (reach : Reach) (source : ℕ) → Contains (set_of sets source) asked.source
-    → Reaches (target_named sets reach) asked.source asked.target → MayReach m asked (target_key sets reach source)
-target_reached sets m asked hold (reaches.Types n) source c r = elim (key_cases (set_key n) (set_of sets n) asked.target r) [
-  | inl e ↦ inl e
-  | inr e ↦ elim (hold.known n asked.target r) [ inl one ↦ absurd (e.1 one.is_one) | inr known ↦ inr (inr (n, e.0, known)) ]
-]
-target_reached sets m asked hold reaches.Itself source c r = elim (key_cases itself (set_of sets source) asked.source c) [
-  | inl e ↦ inl (e ∙ ap alone_key r)
-  | inr e ↦ inr (inl (e.0, r))
-]
+target_reached : (sets : List (List ℕ)) (m : Memberships) (asked : Asked) → AreMemberships sets m → (target source : ℕ) → Contains (set_of sets source) asked.source
+    → Reaches (target_at sets target) asked.source asked.target → MayReach m asked (target_key sets target source)
+target_reached sets m asked hold target source c reach = by_case (slice_get sets target) refl reach
+  where
+    by_case : (found : Option (List ℕ)) → slice_get sets target ≡ found → Reaches (reached found) asked.source asked.target → MayReach m asked (reached_key found target (set_of sets source))
+    by_case (Some set) at r =
+        let same : set_of sets target ≡ set = get_so sets target set [] at in
+        elim (key_cases (set_key target) set asked.target r) [
+          | inl e ↦ inl e
+          | inr e ↦ elim (hold.known target asked.target (subst (λ (s : List ℕ). Contains s asked.target) (sym same) r)) [
+            | inl one ↦ absurd (e.1 (sym same ∙ one.is_one))
+            | inr known ↦ inr (inr (target, e.0, known))
+          ]
+        ]
+    by_case None at r = elim (key_cases itself (set_of sets source) asked.source c) [
+      | inl e ↦ inl (e ∙ ap alone_key r)
+      | inr e ↦ inr (inl (e.0, r))
+    ]
+
+-- ---- whether a record reaches the target
+
+-- where its number is that of a set, that is asked
+pub reaches_set : (sets : List (List ℕ)) (n s t : ℕ) (answer : Bool) → n < length sets → IsTrue answer ↔ Contains (set_of sets n) t → IsTrue answer ↔ Reaches (target_at sets n) s t
+reaches_set sets n s t answer less tells = subst (λ x. IsTrue answer ↔ Reaches (reached x) s t) (sym (is_there sets n [] less)) tells
+
+-- and else the source
+pub reaches_itself : (sets : List (List ℕ)) (n s t : ℕ) (found : Bool) → (n < length sets → IsTrue found) → found ≡ false → IsTrue (eqb s t) ↔ Reaches (target_at sets n) s t
+reaches_itself sets n s t found tells none =
+    subst (λ x. IsTrue (eqb s t) ↔ Reaches (reached x) s t) (sym (not_there sets n (none_is sets n found tells none))) (elim (eqb_tells s t) [
+      | inl e ↦ (λ yes_. e.1, λ same. e.0)
+      | inr e ↦ (λ yes_. let no_ = e.0 in absurd cc, λ same. absurd (e.1 same))
+    ])
 
 -- ---- the record of a rule that covers
 

@@ -1,13 +1,16 @@
 -- What stands in aims.
-use Rattle.std.specs.Prelude.{◌⊎◌, ◌%◌, cond, nat_lt}
-use Rattle.std.proofs.Common.{◌≡◌, ℕ, Bool, ◌+◌, ◌-◌, ◌<◌, ◌≤◌, true, false, List, [], ◌∷◌, refl, sym, ◌∙◌, subst, inl, inr, arith}
+use Rattle.std.specs.Prelude.{◌⊎◌, ◌%◌, IsTrue, cond, nat_lt}
+use Rattle.std.proofs.Common.{◌≡◌, ℕ, Bool, ◌+◌, ◌-◌, ◌<◌, ◌≤◌, true, false, List, [], ◌∷◌, length, refl, sym, ◌∙◌, ap, subst, inl, inr, arith}
 use Rattle.std.proofs.Math.Dec.{ltb}
 use Rattle.std.proofs.lemmas.Bool.Decides.{nat_tests}
 use Rattle.cil_index.specs.declared.cover.Asked.{Asked}
 use Rattle.cil_index.specs.declared.memberships.Memberships.{Memberships}
-use Rattle.cil_index.specs.Entries.{aim_of, alone_key, beyond, in_class, itself, key_of_set, last_type, set_key, several}
+use Rattle.cil_base.specs.Places.{is_there, not_there}
+use Rattle.cil_index.specs.Entries.{aim_of, alone_key, beyond, in_class, itself, key_of_set, last_type, reached_key, set_key, several, target_key}
 use Rattle.cil_index.specs.Found.{IsAimed, MayReach}
 use Rattle.cil_index.specs.Memberships.{IsKnownFor}
+use Rattle.cil_index.specs.Sets.{set_of}
+use Rattle.cil_index.proofs.SetLemmas.{none_is}
 
 ltb_true : (a b : ℕ) → ltb a b ≡ true → a < b
 ltb_true a b e = grind (arith, nat_tests)
@@ -41,6 +44,17 @@ pub key_room : (other : ℕ) (set : List ℕ) → other ≤ beyond → key_of_se
 key_room other [] le = le
 key_room other (t ∷ []) le = let less = alone_below t in omega (arith, less)
 key_room other (t ∷ u ∷ rest) le = le
+
+-- ---- what stands for the target of a record
+
+-- the number of a set stands for it
+pub key_of_number : (sets : List (List ℕ)) (target source other key : ℕ) → target < length sets → other ≡ set_key target → key ≡ key_of_set other (set_of sets target) → key ≡ target_key sets target source
+key_of_number sets target source other key less stands is =
+    is ∙ ap (λ k. key_of_set k (set_of sets target)) stands ∙ sym (ap (λ o. reached_key o target (set_of sets source)) (is_there sets target [] less))
+
+-- and where there is none the sources stand for themselves
+pub key_of_itself : (sets : List (List ℕ)) (target source key : ℕ) (answer : Bool) → (target < length sets → IsTrue answer) → answer ≡ false → key ≡ key_of_set itself (set_of sets source) → key ≡ target_key sets target source
+key_of_itself sets target source key answer tells none is = is ∙ sym (ap (λ o. reached_key o target (set_of sets source)) (not_there sets target (none_is sets target answer tells none)))
 
 module _ (m : Memberships) (asked : Asked) where
   -- a target that may have the type is the type alone, or stands among those of several

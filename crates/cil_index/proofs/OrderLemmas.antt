@@ -1,5 +1,5 @@
 -- Rules by numbers stand in the order of the rules.
-use Rattle.std.specs.Prelude.{zero, suc, Contains, None, Some, slice_get}
+use Rattle.std.specs.Prelude.{zero, suc, Contains, Option, None, Some, slice_get}
 use Rattle.std.specs.Cmp.{IsTotalOrder}
 use Rattle.std.specs.Ordering.{eq_by_cmp, nat_cmp, ordering_reverse, ordering_then}
 use Rattle.std.specs.declared.cmp.Ordering.{Ordering}
@@ -13,24 +13,23 @@ use Rattle.std.proofs.lemmas.Cmp.{nat_cmp_total}
 use Rattle.std.proofs.lemmas.List.{get_or-map, get_or_default, length-map, map-append, take_all, take_more}
 use Rattle.std.proofs.lemmas.List.Elements.{Contains-append_cases}
 use Rattle.std.proofs.lemmas.Map.Keys.{Less-from_sorted}
-use Rattle.std.proofs.lemmas.Map.Lookups.{exact_bytes}
 use Rattle.cil_base.proofs.SortedLists.{sorted_list}
 use Rattle.cil_base.specs.Lists.{Lists, contains_cases, contains_here, contains_later, contains_none, text_cmp}
 use Rattle.cil_base.specs.MadeLists.{contains_map, from_map}
 use Rattle.cil_base.specs.Paths.{both_equal, equal_from, its_own, less_from, same_by}
-use Rattle.cil_base.specs.Places.{cons_head, cons_tail, get_so, in_range, is_there}
+use Rattle.cil_base.specs.Places.{get_so, in_range, is_there, not_there}
 use Rattle.cil_conditions.specs.declared.branch.Branch.{Branch}
 use Rattle.cil_conditions.specs.Order.{branch_cmp, branch_total}
 use Rattle.cil_rules.specs.Order.{in_branch_cmp, in_branch_total, rule_cmp, same_rules, some_branch, target_fields}
 use Rattle.cil_rules.specs.declared.rule.NamedRule.{NamedRule}
-use Rattle.cil_rules.specs.Rule.{Rule, Types}
+use Rattle.cil_rules.specs.Rule.{Rule, Itself}
 use Rattle.cil_sets.specs.Answers.{set_cmp, set_total}
 use Rattle.cil_index.specs.declared.record.Record.{Record}
 use Rattle.cil_rules.specs.declared.rule.Reach.{Reach}
 use Rattle.cil_rules.specs.declared.rule.Reach.TheVariants as reaches
 use Rattle.cil_rules.specs.Kept.{branch_named, rule_named, target_named}
-use Rattle.cil_index.specs.Kept.{rule_of}
-use Rattle.cil_index.specs.Order.{AreWithin, IsReachWithin, IsWithin, reach_fields, record_cmp, record_total}
+use Rattle.cil_index.specs.Kept.{reached, rule_of, target_at}
+use Rattle.cil_index.specs.Order.{AreWithin, IsWithin, record_cmp, record_total}
 use Rattle.cil_index.specs.Sets.{AreNumbered, set_of}
 
 -- numbers of a rising list compare as what they stand for
@@ -94,17 +93,28 @@ module _ (branches : List Branch) (branches_rise : IsStrictlySortedBy branch_cmp
   source_cmp : (i j : ℕ) → i < length sets → j < length sets → nat_cmp i j ≡ set_cmp (set_of sets i) (set_of sets j)
   source_cmp i j li lj = number_cmp set_cmp set_total sets rise i j [] [] li lj
 
-  reaches_cmp : (a b : Reach) → IsReachWithin sets a → IsReachWithin sets b
-      → text_cmp (reach_fields a) (reach_fields b) ≡ text_cmp (target_fields (target_named sets a)) (target_fields (target_named sets b))
-  reaches_cmp (reaches.Types i) (reaches.Types j) wa wb = then_equal (nat_cmp i j) ∙ source_cmp i j wa wb
-  reaches_cmp (reaches.Types i) reaches.Itself wa wb = refl
-  reaches_cmp reaches.Itself (reaches.Types j) wa wb = refl
-  reaches_cmp reaches.Itself reaches.Itself wa wb = refl
+  -- what is reached by two numbers, where these are the sets there
+  reached_cmp : (a b : ℕ) (x y : Option (List ℕ)) → slice_get sets a ≡ x → slice_get sets b ≡ y → nat_cmp a b ≡ text_cmp (target_fields (reached x)) (target_fields (reached y))
+      → nat_cmp a b ≡ text_cmp (target_fields (target_at sets a)) (target_fields (target_at sets b))
+  reached_cmp a b x y at_a at_b same = same ∙ sym (λ k. text_cmp (target_fields (reached (at_a k))) (target_fields (reached (at_b k))))
+
+  -- sets stand before the source itself
+  targets_cmp : (a b : ℕ) → a ≤ length sets → b ≤ length sets → nat_cmp a b ≡ text_cmp (target_fields (target_at sets a)) (target_fields (target_at sets b))
+  targets_cmp a b wa wb = elim (cases_lt a (length sets)) [
+    | inl la ↦ elim (cases_lt b (length sets)) [
+      | inl lb ↦ reached_cmp a b _ _ (is_there sets a [] la) (is_there sets b [] lb) (source_cmp a b la lb)
+      | inr gb ↦ reached_cmp a b _ _ (is_there sets a [] la) (not_there sets b gb) (less_from a b (omega (arith, la, gb)))
+    ]
+    | inr ga ↦ elim (cases_lt b (length sets)) [
+      | inl lb ↦ reached_cmp a b _ _ (not_there sets a ga) (is_there sets b [] lb) (nat_cmp_total.antisymm a b ∙ ap ordering_reverse (less_from b a (omega (arith, lb, ga))))
+      | inr gb ↦ reached_cmp a b _ _ (not_there sets a ga) (not_there sets b gb) (equal_from a b (omega (arith, wa, wb, ga, gb)))
+    ]
+  ]
 
   -- records compare as their rules
   pub records_cmp : (a b : Record) → IsWithin branches sets a → IsWithin branches sets b → record_cmp a b ≡ rule_cmp (rule_of branches sets a) (rule_of branches sets b)
   records_cmp a b wa wb = λ i.
-      ordering_then (ordering_then (ordering_then (ordering_then (numbers_cmp branches branches_rise a.branch b.branch wa.branch wb.branch i) (source_cmp a.source b.source wa.source wb.source i)) (reaches_cmp a.target b.target wa.target wb.target i)) (nat_cmp a.class b.class))
+      ordering_then (ordering_then (ordering_then (ordering_then (numbers_cmp branches branches_rise a.branch b.branch wa.branch wb.branch i) (source_cmp a.source b.source wa.source wb.source i)) (targets_cmp a.target b.target wa.target wb.target i)) (nat_cmp a.class b.class))
       (nat_cmp a.mask b.mask)
 
   all_below : (r : Record) (rs : List Record) → AreWithin branches sets (r ∷ rs) → AllByRecursion (λ q. record_cmp r q ≡ Less) rs
@@ -143,12 +153,6 @@ module _ (branches : List Branch) (branches_rise : IsStrictlySortedBy branch_cmp
       one_record : (a b : Record) → a.branch ≡ b.branch → a.source ≡ b.source → a.target ≡ b.target → a.class ≡ b.class → a.mask ≡ b.mask → a ≡ b
       one_record a b o s t c m = λ i. record { branch = o i; source = s i; target = t i; class = c i; mask = m i }
 
-      one_reach : (a b : Reach) → reach_fields a ≡ reach_fields b → a ≡ b
-      one_reach (reaches.Types i) (reaches.Types j) e = ap reaches.Types (cons_head _ _ _ _ (cons_tail _ _ _ _ e))
-      one_reach (reaches.Types i) reaches.Itself e = absurd (let f : 0 ≡ 1 = cons_head _ _ _ _ e in omega (arith, f))
-      one_reach reaches.Itself (reaches.Types j) e = absurd (let f : 1 ≡ 0 = cons_head _ _ _ _ e in omega (arith, f))
-      one_reach reaches.Itself reaches.Itself e = refl
-
       -- two records that tie are one
       exact_records : (a b : Record) → record_cmp a b ≡ Equal → a ≡ b
       exact_records a b e =
@@ -156,7 +160,7 @@ module _ (branches : List Branch) (branches_rise : IsStrictlySortedBy branch_cmp
           let class_ = both_equal _ _ mask.0 in
           let target = both_equal _ _ class_.0 in
           let source = both_equal _ _ target.0 in
-          one_record a b (same_by _ _ source.0) (same_by _ _ source.1) (one_reach a.target b.target (exact_bytes _ _ target.1)) (same_by _ _ class_.1) (same_by _ _ mask.1)
+          one_record a b (same_by _ _ source.0) (same_by _ _ source.1) (same_by _ _ target.1) (same_by _ _ class_.1) (same_by _ _ mask.1)
 
 -- ---- records, one by one
 
@@ -179,19 +183,23 @@ module _ (branches : List Branch) (sets : List (List ℕ)) where
   pub no_record : (rules : List Rule) (records : List Record) → records ≡ [] → (map (rule_of branches sets) records ≡ take 0 rules) × AreWithin branches sets records
   no_record rules records none = (ap (map (rule_of branches sets)) none, λ x c. absurd (contains_none x (subst (λ (z : List Record). Contains z x) none c)))
 
+-- the number behind all sets stands for the source itself
+pub itself_is : (distinct : List (List ℕ)) (n : ℕ) → n ≡ length distinct → (target_at distinct n ≡ Itself) × (n ≤ length distinct)
+itself_is distinct n is = (ap reached (not_there distinct n (omega (arith, is))), omega (arith, is))
+
 -- a rule by the numbers of sets is the one by declared names
 module _ (branches : List Branch) (distinct named : List (List ℕ)) (numbers : List ℕ) (are : AreNumbered distinct named numbers) where
   at_number : (n d : ℕ) → n ≡ get_or numbers d 0 → slice_get distinct n ≡ Some (set_of named d)
   at_number n d is = ap (slice_get distinct) is ∙ are d
 
-  pub reach_is : (n d : ℕ) → n ≡ get_or numbers d 0 → (target_named distinct (reaches.Types n) ≡ target_named named (reaches.Types d)) × IsReachWithin distinct (reaches.Types n)
-  reach_is n d is = (ap Types (get_so distinct n (set_of named d) [] (at_number n d is)), in_range distinct n (set_of named d) (at_number n d is))
+  pub reach_is : (n d : ℕ) → n ≡ get_or numbers d 0 → (target_at distinct n ≡ target_named named (reaches.Types d)) × (n ≤ length distinct)
+  reach_is n d is = (ap reached (at_number n d is), let less = in_range distinct n (set_of named d) (at_number n d is) in omega (arith, less))
 
-  pub kept_is : (r : NamedRule) (b n : ℕ) (reach : Reach) → branch_named branches b ≡ branch_named branches r.branch → b ≤ length branches → n ≡ get_or numbers r.source 0
-      → (target_named distinct reach ≡ target_named named r.target) × IsReachWithin distinct reach
-      → (rule_of branches distinct (record { branch = b; source = n; target = reach; class = r.class; mask = r.mask }) ≡ rule_named branches named r)
-      × IsWithin branches distinct (record { branch = b; source = n; target = reach; class = r.class; mask = r.mask })
-  kept_is r b n reach same within is reaches = (
+  pub kept_is : (r : NamedRule) (b n t : ℕ) → branch_named branches b ≡ branch_named branches r.branch → b ≤ length branches → n ≡ get_or numbers r.source 0
+      → (target_at distinct t ≡ target_named named r.target) × (t ≤ length distinct)
+      → (rule_of branches distinct (record { branch = b; source = n; target = t; class = r.class; mask = r.mask }) ≡ rule_named branches named r)
+      × IsWithin branches distinct (record { branch = b; source = n; target = t; class = r.class; mask = r.mask })
+  kept_is r b n t same within is reaches = (
     same_rules _ (rule_named branches named r) same (get_so distinct n (set_of named r.source) [] (at_number n r.source is)) reaches.0 refl refl,
     record { branch = within; source = in_range distinct n (set_of named r.source) (at_number n r.source is); target = reaches.1 },
   )

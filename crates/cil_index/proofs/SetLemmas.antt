@@ -49,6 +49,10 @@ several_there ones n more l =
     let at : n - length (small_sets ones) ≡ n - ones - 1 = omega (arith, size, l) in
     get_or-append_right (small_sets ones) more n [] (omega (arith, l, size)) ∙ ap (λ k. get_or more k []) at
 
+-- a number that is not told to be one is behind all sets
+pub none_is : (sets : List (List ℕ)) (n : ℕ) (answer : Bool) → (n < length sets → IsTrue answer) → answer ≡ false → length sets ≤ n
+none_is sets n answer tells none = elim (cases_lt n (length sets)) [ inl less ↦ let yes_ = tells less in absurd cc | inr ge ↦ ge ]
+
 pub in_one : (n t : ℕ) → Contains (n ∷ []) t ↔ (n ≡ t)
 in_one n t = (
   λ c. elim (contains_cases t n [] c) [ inl e ↦ e | inr d ↦ absurd (contains_none t d) ],

@@ -1,5 +1,5 @@
 -- The index of rules: each record is found by the number of its source set, its class and its target.
-use Rattle.std.specs.Prelude.{◌≡◌, ◌⊎◌, ◌<◌, ◌≤◌, ◌+◌, ◌*◌, ℕ, cond, nat_lt, length, get_or, List, [], ◌∷◌, Contains, Some, slice_get}
+use Rattle.std.specs.Prelude.{◌≡◌, ◌⊎◌, ◌<◌, ◌≤◌, ◌+◌, ◌*◌, ℕ, cond, nat_lt, length, get_or, List, [], ◌∷◌, Contains, Option, None, Some, slice_get}
 use Rattle.std.specs.List.Sorted.{IsPartitionPoint, IsSorted}
 use Rattle.std.specs.Cmp.{IsTotalOrder}
 use Rattle.std.proofs.lemmas.Cmp.{on_total, nat_list_cmp_total}
@@ -10,8 +10,6 @@ use Rattle.cil_index.specs.declared.index.Bounds.{Bounds}
 use Rattle.cil_index.specs.declared.index.Index.{Index}
 use Rattle.cil_index.specs.declared.key.Entry.{Entry}
 use Rattle.cil_index.specs.declared.record.Record.{Record}
-use Rattle.cil_rules.specs.declared.rule.Reach.{Reach}
-use Rattle.cil_rules.specs.declared.rule.Reach.TheVariants as reaches
 use Rattle.cil_index.specs.Sets.{set_of}
 
 -- as this one stand the classes behind it too
@@ -52,10 +50,14 @@ key_of_set other [] = other
 key_of_set other (t ∷ []) = alone_key t
 key_of_set other (t ∷ u ∷ rest) = other
 
--- what stands for the target of a record, where these are the sets. One with one source that reaches itself reaches one type
-abbrev pub target_key : List (List ℕ) → Reach → ℕ → ℕ
-target_key sets (reaches.Types n) source = key_of_set (set_key n) (set_of sets n)
-target_key sets reaches.Itself source = key_of_set itself (set_of sets source)
+-- what stands for what is reached: the set of a number, or these sources themselves. One source that reaches itself reaches one type
+abbrev pub reached_key : Option (List ℕ) → ℕ → List ℕ → ℕ
+reached_key (Some set) number sources = key_of_set (set_key number) set
+reached_key None number sources = key_of_set itself sources
+
+-- what stands for the target of a record, where these are the sets
+abbrev pub target_key : List (List ℕ) → ℕ → ℕ → ℕ
+target_key sets target source = reached_key (slice_get sets target) target (set_of sets source)
 
 -- a class and a target as one number
 abbrev pub aim_of : ℕ → ℕ → ℕ

@@ -7,8 +7,8 @@ ghost use Rattle.cil_index.specs.Entries.{IsIndex, IsLaidOut, RiseIn};
 ghost use Rattle.cil_index.specs.Memberships.{AreFilters, AreMemberships, IsFilter, IsKnownFor};
 ghost use Rattle.cil_conditions.specs.Active.{is_active};
 ghost use Rattle.cil_conditions.specs.Bits.{is_on};
-ghost use Rattle.cil_rules.specs.Kept.{branch_named, target_named};
-ghost use Rattle.cil_index.specs.Kept.{rule_of};
+ghost use Rattle.cil_rules.specs.Kept.{branch_named};
+ghost use Rattle.cil_index.specs.Kept.{rule_of, target_at};
 ghost use Rattle.cil_index.specs.Found.{AreAims, CoversAt, HandOver, Hands, IsAimed, Matches, MayReach};
 ghost use Rattle.cil_index.specs.Searched.{rules_in};
 ghost use Rattle.cil_index.specs.Sets.{set_of};
@@ -19,7 +19,6 @@ use crate::memberships::{Memberships, WORDS, has_bit};
 use crate::record::Record;
 use crate::sets::Sets;
 use cil_conditions::{Branch, Settings};
-use cil_rules::Reach;
 
 /// The rules that are searched, by their records.
 #[derive(Clone, Copy)]
@@ -414,14 +413,14 @@ fn is_active(branches: &[Branch], settings: &Settings, number: u32) -> bool
 }
 
 /// Whether a rule reaches the target.
-fn reaches(searched: &Searched, target: Reach, asked: &Asked) -> bool
+fn reaches(searched: &Searched, target: u32, asked: &Asked) -> bool
     requires { AreMemberships searched.now.sets.now searched.now.memberships.now }
-    ensures { IsTrue result ↔ Reaches (target_named searched.now.sets.now target) asked.now.source asked.now.target }
+    ensures { IsTrue result ↔ Reaches (target_at searched.now.sets.now target) asked.now.source asked.now.target }
 {
-    match target {
-        Reach::Itself => asked.source == asked.target,
-        Reach::Types(set) => holds(searched, set, asked.target),
+    if searched.sets.is_number(target) {
+        return holds(searched, target, asked.target);
     }
+    asked.source == asked.target
 }
 
 /// Whether a set has the source, where the set of a number is known to have it.

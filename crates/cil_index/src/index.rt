@@ -10,7 +10,6 @@ use crate::key::{Entry, ITSELF, aim, class_key, set_key};
 use crate::record::Record;
 use crate::sets::Sets;
 use cil_base::NoMemory;
-use cil_rules::Reach;
 use std::alloc::Global;
 
 /// The aims of rules, by the sets of their sources, and in their order within each; the places of these rules; and where the aims of each set
@@ -224,10 +223,10 @@ fn target_of(sets: &Sets, kept: &Record) -> u32
     ensures key { result ≡ target_key sets.now kept.now.target kept.now.source }
     ensures room { result ≤ beyond }
 {
-    match kept.target {
-        Reach::Types(set) => sets.key(set, set_key(set)),
-        Reach::Itself => sets.key(kept.source, ITSELF),
+    if sets.is_number(kept.target) {
+        return sets.key(kept.target, set_key(kept.target));
     }
+    sets.key(kept.source, ITSELF)
 }
 
 /// Where the entries of each set of sources begin, and of the one behind. Errors: out of memory.

@@ -4,13 +4,13 @@ ghost use Rattle.std.specs.Prelude.{◌≡◌, ◌≤◌, Contains, IfOk, List, 
 ghost use Rattle.std.specs.Cmp.{eq_by_cmp_equiv, partial_equiv_from_equiv, partial_order_from_total};
 ghost use Rattle.std.specs.Ordering.{as_partial_cmp, eq_by_cmp};
 ghost use Rattle.std.specs.List.Sorted.{IsStrictlySortedBy};
-ghost use Rattle.cil_base.specs.Lists.{Lists, text_cmp};
+ghost use Rattle.cil_base.specs.Lists.{Lists};
 ghost use Rattle.cil_conditions.specs.Order.{branch_cmp};
 ghost use Rattle.cil_rules.specs.Kept.{branch_named, rule_named, target_named};
 ghost use Rattle.cil_rules.specs.Order.{rule_cmp};
 ghost use Rattle.cil_sets.specs.Answers.{set_cmp};
-ghost use Rattle.cil_index.specs.Kept.{rule_of};
-ghost use Rattle.cil_index.specs.Order.{AreWithin, IsReachWithin, IsWithin, reach_fields, record_cmp, record_total};
+ghost use Rattle.cil_index.specs.Kept.{rule_of, target_at};
+ghost use Rattle.cil_index.specs.Order.{AreWithin, IsWithin, record_cmp, record_total};
 ghost use Rattle.cil_index.specs.Sets.{AreNumbered};
 
 use cil_base::NoMemory;
@@ -26,8 +26,8 @@ pub struct Record {
     pub branch: u32,
     /// The number of the set of its source types.
     pub source: u32,
-    /// What it reaches.
-    pub target: Reach,
+    /// The number of the set of types that it reaches, or the number behind all sets for the source itself.
+    pub target: u32,
     /// The number of its class.
     pub class: u32,
     /// Its permissions: bit i is the i-th of the class.
@@ -35,7 +35,7 @@ pub struct Record {
 }
 
 // Policies have hundreds of thousands of rules.
-const _: () = prove!(size_of::<Record>() <= 24);
+const _: () = prove!(size_of::<Record>() <= 20);
 
 impl PartialEq for Record {
     ghost eq = { eq_by_cmp record_cmp };
@@ -74,37 +74,26 @@ impl Ord for Record {
         self.branch
             .cmp(&other.branch)
             .then(self.source.cmp(&other.source))
-            .then(compare_reaches(self.target, other.target))
+            .then(self.target.cmp(&other.target))
             .then(self.class.cmp(&other.class))
             .then(self.mask.cmp(&other.mask))
     }
 }
 
-/// Types come before the source itself.
-fn compare_reaches(a: Reach, b: Reach) -> Ordering
-    ensures { result ≡ text_cmp (reach_fields a) (reach_fields b) }
-{
-    match (a, b) {
-        (Reach::Types(a), Reach::Types(b)) => a.cmp(&b),
-        (Reach::Types(_), Reach::Itself) => Ordering::Less,
-        (Reach::Itself, Reach::Types(_)) => Ordering::Greater,
-        (Reach::Itself, Reach::Itself) => Ordering::Equal,
-    }
-}
-
-/// The records of rules, in the order of the rules, each once, by the numbers of the sets of declared names. A rule costs what sorting
-/// costs, by numbers alone. Errors: out of memory.
+/// The records of rules, in the order of the rules, each once, by the numbers of the sets of declared names and the number that stands for
+/// the source itself. A rule costs what sorting costs, by numbers alone. Errors: out of memory.
 pub fn records_of(
     alloc: Global,
     branches: &[Branch],
     numbers: &[u32],
+    itself: u32,
     rules: &[NamedRule],
 ) -> Result<Vec<Record>, NoMemory>
     requires { IsStrictlySortedBy branch_cmp branches.now }
-    ensures { IfOk result (λ records. (distinct named : List (List ℕ)) → IsStrictlySortedBy set_cmp distinct → AreNumbered distinct named numbers.now
+    ensures { IfOk result (λ records. (distinct named : List (List ℕ)) → IsStrictlySortedBy set_cmp distinct → itself ≡ length distinct → AreNumbered distinct named numbers.now
         → Lists rule_cmp (Contains (map (rule_named branches.now named) rules.now)) (map (rule_of branches.now distinct) records.items)) }
 {
-    let mut records = unsorted(alloc, branches, numbers, rules)?;
+    let mut records = unsorted(alloc, branches, numbers, itself, rules)?;
     records.sort_unstable();
     records.dedup();
     Ok(records)
@@ -115,27 +104,28 @@ fn unsorted(
     alloc: Global,
     branches: &[Branch],
     numbers: &[u32],
+    itself: u32,
     rules: &[NamedRule],
 ) -> Result<Vec<Record>, NoMemory>
-    ensures { IfOk result (λ records. (distinct named : List (List ℕ)) → AreNumbered distinct named numbers.now
+    ensures { IfOk result (λ records. (distinct named : List (List ℕ)) → itself ≡ length distinct → AreNumbered distinct named numbers.now
         → (map (rule_of branches.now distinct) records.items ≡ map (rule_named branches.now named) rules.now) × AreWithin branches.now distinct records.items) }
 {
     let mut records = Vec::with_capacity(alloc, rules.len())?;
     for rule in rules {
-        records.push(record_of(branches, numbers, rule))?;
+        records.push(record_of(branches, numbers, itself, rule))?;
     }
     Ok(records)
 }
 
 /// The record of a rule.
-fn record_of(branches: &[Branch], numbers: &[u32], rule: &NamedRule) -> Record
-    ensures { (distinct named : List (List ℕ)) → AreNumbered distinct named numbers.now
+fn record_of(branches: &[Branch], numbers: &[u32], itself: u32, rule: &NamedRule) -> Record
+    ensures { (distinct named : List (List ℕ)) → itself ≡ length distinct → AreNumbered distinct named numbers.now
         → (rule_of branches.now distinct result ≡ rule_named branches.now named rule.now) × IsWithin branches.now distinct result }
 {
     Record {
         branch: branch_of(branches, rule.branch),
         source: number_at(numbers, rule.source),
-        target: reach_of(numbers, rule.target),
+        target: target_of(numbers, itself, rule.target),
         class: rule.class,
         mask: rule.mask,
     }
@@ -152,13 +142,14 @@ fn branch_of(branches: &[Branch], number: u32) -> u32
     number
 }
 
-/// What a rule reaches, by the number of a set.
-fn reach_of(numbers: &[u32], target: Reach) -> Reach
-    ensures { (distinct named : List (List ℕ)) → AreNumbered distinct named numbers.now → (target_named distinct result ≡ target_named named target) × IsReachWithin distinct result }
+/// The number of what a rule reaches.
+fn target_of(numbers: &[u32], itself: u32, target: Reach) -> u32
+    ensures { (distinct named : List (List ℕ)) → itself ≡ length distinct → AreNumbered distinct named numbers.now
+        → (target_at distinct result ≡ target_named named target) × (result ≤ length distinct) }
 {
     match target {
-        Reach::Types(d) => Reach::Types(number_at(numbers, d)),
-        Reach::Itself => Reach::Itself,
+        Reach::Types(d) => number_at(numbers, d),
+        Reach::Itself => itself,
     }
 }
 

@@ -15,7 +15,7 @@ ghost use Rattle.cil_index.specs.Sections.{IsIndexed, rules_of};
 ghost use Rattle.cil_index.specs.Sets.{AreNumbered};
 
 use crate::cover::{Asked, Searched, covered, mask_at};
-use crate::index::{Index, index_of};
+use crate::index::{Index, index_of, short};
 use crate::memberships::Memberships;
 use crate::record::{Record, records_of};
 use crate::sets::{Sets, numbers_of};
@@ -33,7 +33,7 @@ struct Indexed {
     index: Index,
 }
 
-/// The rules of a policy, by kind. Contracts see them as their lists. A rule takes 32 bytes, however many types its sets have and however
+/// The rules of a policy, by kind. Contracts see them as their lists. A rule takes 28 bytes, however many types its sets have and however
 /// long its condition is; each set of several types, the numbers of those that have a type, and each branch are kept once for all kinds.
 #[derive(Debug, Drop)]
 pub struct Sections {
@@ -199,7 +199,14 @@ fn index_rules(
         → Lists rule_cmp (Contains (map (rule_named branches.now.items named) rules.now.items)) (rules_of branches.now.items sets.now r)) }
 {
     let branches = branches.as_slice();
-    let records = records_of(alloc, branches, numbers.as_slice(), rules.as_slice())?;
+    let itself = short(sets.count())?;
+    let records = records_of(
+        alloc,
+        branches,
+        numbers.as_slice(),
+        itself,
+        rules.as_slice(),
+    )?;
     let index = index_of(alloc, sets, records.as_slice())?;
     Ok(Indexed { records, index })
 }

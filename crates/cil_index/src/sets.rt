@@ -135,6 +135,13 @@ impl Sets {
         self.several.len() + self.ones as usize + 1
     }
 
+    /// Whether there is a set of this number.
+    pub fn is_number(&self, set: u32) -> bool
+        ensures { IsTrue result ↔ (set < length self.now) }
+    {
+        (set as usize) < self.count()
+    }
+
     /// Whether a set stands behind those of one type alone.
     pub fn is_several(&self, set: u32) -> bool
         ensures { IsTrue result → (t : ℕ) → set_of self.now set ≡ t ∷ [] → ⊥ }

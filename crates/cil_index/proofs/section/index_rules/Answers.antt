@@ -1,4 +1,4 @@
-use Rattle.std.proofs.Common.{List, map, subst, sym}
+use Rattle.std.proofs.Common.{List, map, subst, sym, ◌∙◌}
 use Rattle.std.specs.Prelude.{Contains}
 use Rattle.cil_base.specs.Lists.{Lists}
 use Rattle.cil_conditions.specs.declared.branch.Branch.{Branch}
@@ -20,4 +20,4 @@ returns-clause-rules c = λ named rising are.
     let records = c.in_ok-records.records.items in
     subst (λ (bs : List Branch). Lists rule_cmp (Contains (map (rule_named bs named) c.args.rules.now.items)) (map (rule_of bs sets) records)) c.as_slice-branches.ensures.value
     (subst (λ (rs : List NamedRule). Lists rule_cmp (Contains (map (rule_named c.as_slice-branches.result.now named) rs)) (map (rule_of c.as_slice-branches.result.now sets) records)) c.as_slice-2.ensures.value
-    (c.in_ok-records.ensures sets named rising (subst (AreNumbered sets named) (sym c.as_slice.ensures.value) are)))
+    (c.in_ok-records.ensures sets named rising (c.in_ok-itself.ensures ∙ c.count.ensures) (subst (AreNumbered sets named) (sym c.as_slice.ensures.value) are)))
