@@ -3,7 +3,7 @@ use Rattle.std.proofs.Common.{◌≡◌, ℕ, ◌+◌, ◌<◌, ◌≤◌, List,
 use Rattle.std.proofs.lemmas.List.{map-append, take_more, take_all}
 use Rattle.sha2.specs.Sha256.{sha256}
 use Rattle.cil_modset.specs.Modules.{module_of}
-use Rattle.cil_host.specs.declared.host.ListLine.{ListLine}
+use Rattle.cil_host.specs.declared.listing.ListLine.{ListLine}
 use Rattle.cil_host.specs.Listed.{line_of}
 
 same_line : (digest : List ℕ) (count : ℕ) (text : List ℕ) → digest ≡ sha256 text → count ≡ length text → record { digest = digest; length = count } ≡ line_of text

@@ -1,7 +1,7 @@
 -- How modules are listed. This project's profile.
 use Rattle.std.specs.Prelude.{ℕ, List, length}
 use Rattle.sha2.specs.Sha256.{sha256}
-use Rattle.cil_host.specs.declared.host.ListLine.{ListLine}
+use Rattle.cil_host.specs.declared.listing.ListLine.{ListLine}
 
 -- the digest of a text, and its length
 abbrev pub line_of : List ℕ → ListLine

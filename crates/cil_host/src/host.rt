@@ -12,6 +12,7 @@ ghost use Rattle.cil_host.specs.Sets.{Sets};
 
 use crate::fault::{HostError, QueryFault};
 use crate::lines::{copied_optionals, copied_reasons};
+use crate::listing::{ListLine, lines_of};
 use cil_base::{Bytes, NoMemory};
 use cil_decide::{
     Decision, Settings, boolean_named, class_named, decide, defaults, laws, parse_context,
@@ -278,25 +279,4 @@ impl<S: Drop> Host<S> {
         };
         permission_named(&policy.compiled.tables, class, permission)
     }
-}
-
-/// A module in the listing of a host.
-#[derive(Clone, Copy, Debug, PartialEq, Eq)]
-pub struct ListLine {
-    /// The SHA-256 digest of the text.
-    pub digest: [u8; 32],
-    /// The length of the text in bytes.
-    pub length: u64,
-}
-
-fn lines_of(alloc: Global, modules: &ModuleSet) -> Result<Vec<ListLine>, NoMemory>
-    ensures { IfOk result (λ lines. lines.items ≡ map line_of modules.now) }
-{
-    let mut lines = Vec::new(alloc);
-    for number in 0..modules.len() {
-        let length = modules.get(number).len() as u64;
-        let digest = modules.digest(number);
-        lines.push(ListLine { digest, length })?;
-    }
-    Ok(lines)
 }

@@ -7,6 +7,8 @@
 mod fault;
 mod host;
 mod lines;
+mod listing;
 
 pub use fault::{HostError, QueryFault};
-pub use host::{Host, ListLine, Loaded};
+pub use host::{Host, Loaded};
+pub use listing::ListLine;

@@ -13,8 +13,8 @@ use Rattle.cil_classes.proofs.BitLemmas.{none_set, set_in_either}
 use Rattle.cil_conditions.specs.declared.branch.Branch.{Branch}
 use Rattle.cil_rules.specs.Rule.{Rule}
 use Rattle.cil_rules.specs.Covers.{Covers, HasCover, Reaches}
-use Rattle.cil_index.specs.declared.cover.Aims.{Aims}
-use Rattle.cil_index.specs.declared.cover.Asked.{Asked}
+use Rattle.cil_index.specs.declared.asked.Aims.{Aims}
+use Rattle.cil_index.specs.declared.asked.Asked.{Asked}
 use Rattle.cil_index.specs.declared.index.Bounds.{Bounds}
 use Rattle.cil_index.specs.declared.index.Index.{Index}
 use Rattle.cil_index.specs.declared.memberships.Memberships.{Memberships}

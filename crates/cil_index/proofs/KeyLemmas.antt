@@ -3,7 +3,7 @@ use Rattle.std.specs.Prelude.{◌⊎◌, ◌%◌, IsTrue, cond, nat_lt}
 use Rattle.std.proofs.Common.{◌≡◌, ℕ, Bool, ◌+◌, ◌-◌, ◌<◌, ◌≤◌, true, false, List, [], ◌∷◌, length, refl, sym, ◌∙◌, ap, subst, inl, inr, arith}
 use Rattle.std.proofs.Math.Dec.{ltb}
 use Rattle.std.proofs.lemmas.Bool.Decides.{nat_tests}
-use Rattle.cil_index.specs.declared.cover.Asked.{Asked}
+use Rattle.cil_index.specs.declared.asked.Asked.{Asked}
 use Rattle.cil_index.specs.declared.memberships.Memberships.{Memberships}
 use Rattle.cil_base.specs.Places.{is_there, not_there}
 use Rattle.cil_index.specs.Entries.{aim_of, alone_key, beyond, in_class, itself, key_of_set, last_type, reached_key, set_key, several, target_key}

@@ -3,8 +3,8 @@ use Rattle.std.specs.Prelude.{◌≡◌, ◌⊎◌, ℕ, Bool, true, List, [], C
 use Rattle.cil_conditions.specs.Active.{is_active}
 use Rattle.cil_rules.specs.Rule.{Rule}
 use Rattle.cil_rules.specs.Covers.{Covers, Reaches}
-use Rattle.cil_index.specs.declared.cover.Aims.{Aims}
-use Rattle.cil_index.specs.declared.cover.Asked.{Asked}
+use Rattle.cil_index.specs.declared.asked.Aims.{Aims}
+use Rattle.cil_index.specs.declared.asked.Asked.{Asked}
 use Rattle.cil_index.specs.declared.index.Index.{Index}
 use Rattle.cil_index.specs.declared.memberships.Memberships.{Memberships}
 use Rattle.cil_index.specs.Entries.{IsOfSource, aim_of, alone_key, beyond, in_class, itself, set_key, several}

@@ -1,7 +1,7 @@
 -- Private words: the rules that are searched.
 use Rattle.std.specs.Prelude.{List, map}
 use Rattle.cil_rules.specs.Rule.{Rule}
-use Rattle.cil_index.specs.declared.cover.Searched.{Searched}
+use Rattle.cil_index.specs.declared.asked.Searched.{Searched}
 use Rattle.cil_index.specs.Kept.{rule_of}
 
 abbrev pub rules_in : Searched → List Rule

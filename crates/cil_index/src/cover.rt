@@ -1,51 +1,19 @@
 //! What rules cover, by the index.
 
 ghost use Rattle.std.specs.Prelude.{◌≡◌, ◌≤◌, ◌<◌, ◌↔◌, ℕ, suc, [], get_or, length, IfSome, IsBitSet, IsTrue, Contains, Some};
-ghost use Rattle.cil_rules.specs.Covers.{HasCover, Reaches};
-ghost use Rattle.cil_rules.specs.Rule.{Rule as ARule};
+ghost use Rattle.cil_rules.specs.Covers.{HasCover};
 ghost use Rattle.cil_index.specs.Entries.{IsIndex, IsLaidOut, RiseIn};
-ghost use Rattle.cil_index.specs.Memberships.{AreFilters, AreMemberships, IsFilter, IsKnownFor};
-ghost use Rattle.cil_conditions.specs.Active.{is_active};
+ghost use Rattle.cil_index.specs.Memberships.{AreMemberships};
 ghost use Rattle.cil_conditions.specs.Bits.{is_on};
-ghost use Rattle.cil_rules.specs.Kept.{branch_named};
-ghost use Rattle.cil_index.specs.Kept.{rule_of, target_at};
-ghost use Rattle.cil_index.specs.Found.{AreAims, CoversAt, HandOver, Hands, IsAimed, Matches, MayReach};
+ghost use Rattle.cil_index.specs.Found.{AreAims, CoversAt, HandOver, Hands, IsAimed};
 ghost use Rattle.cil_index.specs.Searched.{rules_in};
 ghost use Rattle.cil_index.specs.Sets.{set_of};
 
+use crate::asked::{Aims, Asked, Searched, aims_of};
 use crate::index::{Bounds, Index, aim_start, near_start};
-use crate::key::{BEYOND, ITSELF, SEVERAL, TARGETS, aim, class_key, type_key};
-use crate::memberships::{Memberships, WORDS, has_bit};
-use crate::record::Record;
-use crate::sets::Sets;
-use cil_conditions::{Branch, Settings};
-
-/// The rules that are searched, by their records.
-#[derive(Clone, Copy)]
-pub struct Searched<'s> {
-    pub branches: &'s [Branch],
-    pub sets: &'s Sets,
-    pub memberships: &'s Memberships,
-    pub records: &'s [Record],
-}
-
-/// What is asked: a pair of types and a class.
-#[derive(Clone, Copy)]
-pub struct Asked {
-    pub source: usize,
-    pub target: usize,
-    pub class: usize,
-}
-
-/// What is searched for among the aims of a set of sources: the class with the target alone, and from the first to the last those with a target
-/// that is not one type. And a bit for each set that has the target, by what 512 leaves of its number.
-#[derive(Clone, Copy)]
-pub struct Aims {
-    pub alone: u32,
-    pub several: u32,
-    pub last: u32,
-    pub filter: [u64; WORDS],
-}
+use crate::key::TARGETS;
+use crate::matches::{mask_known, may_reach};
+use cil_conditions::Settings;
 
 /// The permissions that the rules cover, by their index. It takes no memory: for each set that has the source, and for each large one, it costs
 /// two searches by halving among the aims of this set, and a test of each that may reach the target.
@@ -61,20 +29,6 @@ pub fn covered(searched: &Searched, index: &Index, settings: &Settings, asked: &
     by_alone(searched, index, settings, asked, &aims)
         | by_large(searched, index, settings, asked, &aims)
         | by_own(searched, index, settings, asked, &aims)
-}
-
-/// What is searched for.
-fn aims_of(memberships: &Memberships, asked: &Asked) -> Aims
-    requires { AreFilters memberships.now.lists.items memberships.now.filters.items }
-    ensures { AreAims memberships.now asked.now result }
-{
-    let class = class_key(asked.class);
-    Aims {
-        alone: aim(class, type_key(asked.target)),
-        several: aim(class, SEVERAL),
-        last: aim(class, BEYOND),
-        filter: memberships.filter(asked.target),
-    }
 }
 
 /// The permissions of the rules whose source is just this type, and that cover what is asked.
@@ -321,137 +275,4 @@ fn mask_of(
         return 0;
     }
     mask_known(searched, settings, asked, known, index.places[at] as usize)
-}
-
-/// Whether a target that stands so in an aim may have the type.
-fn may_reach(memberships: &Memberships, asked: &Asked, filter: &[u64; WORDS], target: u32) -> bool
-    requires { IsFilter (get_or memberships.now.lists.items asked.now.target []) filter.now }
-    ensures { MayReach memberships.now asked.now target → IsTrue result }
-{
-    if target < SEVERAL || target == BEYOND {
-        return true;
-    }
-    if target == ITSELF {
-        return asked.source == asked.target;
-    }
-    may_have(memberships, asked.target, filter, target - SEVERAL)
-}
-
-/// Whether a set is noted for a type, or asked for every type.
-fn may_have(memberships: &Memberships, number: usize, filter: &[u64; WORDS], set: u32) -> bool
-    requires { IsFilter (get_or memberships.now.lists.items number []) filter.now }
-    ensures { IsKnownFor memberships.now number set → IsTrue result }
-{
-    if set as usize >= memberships.first_large {
-        return true;
-    }
-    if has_bit(filter, set) {
-        return memberships.has(number, set);
-    }
-    false
-}
-
-/// The permissions of the rule at a place, where it is on what is asked.
-pub fn mask_at(searched: &Searched, settings: &Settings, asked: &Asked, place: usize) -> u32
-    requires memberships { AreMemberships searched.now.sets.now searched.now.memberships.now }
-    ensures { (bit : ℕ) → IsBitSet result bit ↔ CoversAt (is_on settings.now) (rules_in searched.now) asked.now.source asked.now.target asked.now.class place bit }
-{
-    mask_known(searched, settings, asked, None, place)
-}
-
-/// The permissions of the rule at a place, where it is on what is asked, and the set of a number is known to have the source.
-fn mask_known(
-    searched: &Searched,
-    settings: &Settings,
-    asked: &Asked,
-    known: Option<u32>,
-    place: usize,
-) -> u32
-    requires memberships { AreMemberships searched.now.sets.now searched.now.memberships.now }
-    requires known { IfSome known (λ k. Contains (set_of searched.now.sets.now k) asked.now.source) }
-    ensures { (bit : ℕ) → IsBitSet result bit ↔ CoversAt (is_on settings.now) (rules_in searched.now) asked.now.source asked.now.target asked.now.class place bit }
-{
-    let Some(kept) = searched.records.get(place) else {
-        return 0;
-    };
-    if matches(searched, settings, asked, known, kept) {
-        kept.mask
-    } else {
-        0
-    }
-}
-
-/// Whether a rule counts, and is on what is asked. Its condition is asked last.
-fn matches(
-    searched: &Searched,
-    settings: &Settings,
-    asked: &Asked,
-    known: Option<u32>,
-    kept: &Record,
-) -> bool
-    requires memberships { AreMemberships searched.now.sets.now searched.now.memberships.now }
-    requires known { IfSome known (λ k. Contains (set_of searched.now.sets.now k) asked.now.source) }
-    ensures { IsTrue result ↔ Matches (is_on settings.now) (rule_of searched.now.branches.now searched.now.sets.now kept.now) asked.now.source asked.now.target asked.now.class }
-{
-    kept.class as usize == asked.class
-        && reaches(searched, kept.target, asked)
-        && has_source(searched, asked, known, kept.source)
-        && is_active(searched.branches, settings, kept.branch)
-}
-
-/// Whether the rules of a branch count. It costs a step for each part of the condition.
-fn is_active(branches: &[Branch], settings: &Settings, number: u32) -> bool
-    ensures { result ≡ is_active (is_on settings.now) (branch_named branches.now number) }
-{
-    if number == 0 {
-        return true;
-    }
-    match branches.get((number - 1) as usize) {
-        Some(branch) => branch.condition.eval(settings) == branch.value,
-        None => true,
-    }
-}
-
-/// Whether a rule reaches the target.
-fn reaches(searched: &Searched, target: u32, asked: &Asked) -> bool
-    requires { AreMemberships searched.now.sets.now searched.now.memberships.now }
-    ensures { IsTrue result ↔ Reaches (target_at searched.now.sets.now target) asked.now.source asked.now.target }
-{
-    if searched.sets.is_number(target) {
-        return holds(searched, target, asked.target);
-    }
-    asked.source == asked.target
-}
-
-/// Whether a set has the source, where the set of a number is known to have it.
-fn has_source(searched: &Searched, asked: &Asked, known: Option<u32>, set: u32) -> bool
-    requires memberships { AreMemberships searched.now.sets.now searched.now.memberships.now }
-    requires known { IfSome known (λ k. Contains (set_of searched.now.sets.now k) asked.now.source) }
-    ensures { IsTrue result ↔ Contains (set_of searched.now.sets.now set) asked.now.source }
-{
-    if is_known(known, set) {
-        return true;
-    }
-    holds(searched, set, asked.source)
-}
-
-/// Whether this is the number.
-fn is_known(known: Option<u32>, set: u32) -> bool
-    ensures { IsTrue result → known ≡ Some set }
-{
-    match known {
-        Some(number) => number == set,
-        None => false,
-    }
-}
-
-/// Whether a set has a type. That of several types is sought among those of the type, which are few.
-fn holds(searched: &Searched, set: u32, number: usize) -> bool
-    requires { AreMemberships searched.now.sets.now searched.now.memberships.now }
-    ensures { IsTrue result ↔ Contains (set_of searched.now.sets.now set) number }
-{
-    if searched.sets.is_several(set) && (set as usize) < searched.memberships.first_large {
-        return searched.memberships.has(number, set);
-    }
-    searched.sets.has(set, number)
 }

@@ -8,14 +8,16 @@
 //! which sets have a type.
 #![tactic(auto)]
 
+mod asked;
 mod cover;
 mod index;
 mod key;
+mod matches;
 mod memberships;
 mod record;
 mod rising;
 mod section;
 mod sets;
 
-pub use cover::Asked;
+pub use asked::Asked;
 pub use section::{NamedRules, Sections};

@@ -14,8 +14,10 @@ ghost use Rattle.cil_index.specs.Memberships.{AreMemberships};
 ghost use Rattle.cil_index.specs.Sections.{IsIndexed, rules_of};
 ghost use Rattle.cil_index.specs.Sets.{AreNumbered};
 
-use crate::cover::{Asked, Searched, covered, mask_at};
+use crate::asked::{Asked, Searched};
+use crate::cover::covered;
 use crate::index::{Index, index_of, short};
+use crate::matches::mask_at;
 use crate::memberships::Memberships;
 use crate::record::{Record, records_of};
 use crate::sets::{Sets, numbers_of};

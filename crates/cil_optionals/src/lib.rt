@@ -14,6 +14,7 @@ pub mod chosen;
 mod counts;
 mod declared;
 mod first;
+mod graph;
 pub mod guesses;
 pub mod laws;
 mod lines;

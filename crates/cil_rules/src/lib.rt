@@ -6,8 +6,10 @@
 //! crate above.
 #![tactic(auto)]
 
+mod branch_number;
 mod rule;
 mod rules;
+mod sides;
 
 pub use rule::{NamedRule, Reach};
 pub use rules::{push_rules, rules_of};

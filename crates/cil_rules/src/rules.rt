@@ -3,45 +3,40 @@
 //! costs what the masks of these cost, and a record for each class of which they give permissions. One of whose words stands for a list
 //! costs a step more for each part of what it says.
 
-ghost use Rattle.std.specs.Prelude.{◌≡◌, ◌↔◌, ◌<◌, ◌++◌, ◌∷◌, ℕ, [], IfOk, IsTrue, List, true, false, MatchOption, OnOk, length, map, suc};
+ghost use Rattle.std.specs.Prelude.{◌≡◌, ◌<◌, ◌++◌, ◌∷◌, [], IfOk, List, true, false, OnOk, length, map};
 ghost use Rattle.std.specs.List.Sorted.{IsStrictlySortedBy};
 ghost use Rattle.cil_base.specs.Records.{AreRecordsOf};
 ghost use Rattle.cil_conditions.specs.Numbered.{AreBranchesOf};
-ghost use Rattle.cil_conditions.specs.Spelled.{IsBranchOf};
-ghost use Rattle.cil_conditions.specs.Conditions.{IsSaid};
 ghost use Rattle.cil_conditions.specs.declared.branch.Branch.{Branch as ABranch};
-ghost use Rattle.cil_syntax.specs.declared.kind.Kind as kinds;
 ghost use Rattle.cil_syntax.specs.declared.kind.Kind.TheVariants as variants;
-ghost use Rattle.cil_syntax.specs.declared.term.Op.TheVariants as ops;
 ghost use Rattle.cil_syntax.specs.declared.term.Word.{Word as AWord};
-ghost use Rattle.cil_syntax.specs.Said.{args_of, said_of};
+ghost use Rattle.cil_syntax.specs.Said.{args_of};
 ghost use Rattle.cil_syntax.specs.Scopes.{ScopedWord};
-ghost use Rattle.cil_macros.specs.Item.{Item, OptSet};
+ghost use Rattle.cil_macros.specs.Item.{Item};
 ghost use Rattle.cil_macros.proofs.FormLemmas.{all_across};
 ghost use Rattle.cil_macros.specs.Items.{item_at, items_in, says_as_written, says_lists};
 ghost use Rattle.cil_macros.specs.ListTerms.{AreAlike};
-ghost use Rattle.cil_names.specs.declared.known.Known.{Known as Lookups};
-ghost use Rattle.cil_names.specs.Known.{AreStanding, BeginWith, IsKnown, enabled_in, row_in, set_meant};
+ghost use Rattle.cil_names.specs.Known.{enabled_in, row_in};
 ghost use Rattle.cil_names.specs.Resolves.{is_mapping};
 ghost use Rattle.cil_names.specs.Rows.{IsTableOf};
-ghost use Rattle.cil_names.specs.Unresolved.{term_with};
 ghost use Rattle.cil_classes.specs.NodeOrder.{node_cmp};
 ghost use Rattle.cil_classes.specs.Row.{AreOrderlyRows};
 ghost use Rattle.cil_rules.specs.Added.{AddsRules};
 ghost use Rattle.cil_rules.specs.Behind.{AreBehind, rule_with};
-ghost use Rattle.cil_rules.specs.declared.rule.Reach.TheVariants as reaches;
 ghost use Rattle.cil_rules.specs.ForNames.{ForNames};
-ghost use Rattle.cil_rules.specs.Kept.{branch_named, rule_named, set_named, target_named};
-ghost use Rattle.cil_rules.specs.Records.{Branching, CaseBy, HasTarget, IsPut, IsRuleOf, IsTaken, IsTargetOf, spelled};
+ghost use Rattle.cil_rules.specs.Kept.{branch_named, rule_named};
+ghost use Rattle.cil_rules.specs.Records.{Branching, CaseBy, IsPut, IsRuleOf, IsTaken, spelled};
 
+use crate::branch_number::branch_number;
 use crate::rule::{NamedRule, Reach};
+use crate::sides::{short, some_at, target_of};
 use cil_base::NoMemory;
 use cil_classes::{Class, ClassId, GivenPermissions, push_perms};
 use cil_conditions::Branches;
 use cil_macros::Instances;
 use cil_names::{Known, Meaning, behind, behind_first, meaning_at, same_keyword};
 use cil_sets::Numbers;
-use cil_syntax::{Keyword, Op, Statement, Term};
+use cil_syntax::{Keyword, Statement};
 use std::alloc::Global;
 
 /// The rules of the enabled statements with this first word, in the order of these, where the words of each declared name stand for these
@@ -119,37 +114,6 @@ fn push_in_branch(
         alloc, out, masks, instances, at, words, known, types, classes, given, branch, keyword,
     )?;
     Ok(())
-}
-
-/// The number of the branch in which the statement at a place is, from 1 on; 0 where it is in none. None where a word of the condition
-/// names no boolean.
-fn branch_number(
-    instances: &Instances,
-    branches: &Branches,
-    at: usize,
-) -> Result<Option<u32>, NoMemory>
-    requires { at < length (items_in instances.now) }
-    ensures { IfOk result (λ n. (s : OptSet) (booleans : List (List ℕ)) → AreBranchesOf instances.now s booleans branches.now
-        → MatchOption n (IsSaid (items_in instances.now) s (item_at instances.now at).branch → ⊥)
-        (λ number. IsBranchOf (items_in instances.now) s booleans (item_at instances.now at).branch (branch_named branches.now.rows number))) }
-{
-    let Some(branch) = instances.branch(at) else {
-        return Ok(Some(0));
-    };
-    let Some(number) = branches.number(branch.at, branch.value) else {
-        return Ok(None);
-    };
-    Ok(Some(counted(number)?))
-}
-
-/// A place as a number from 1 on, in four bytes.
-fn counted(place: usize) -> Result<u32, NoMemory>
-    ensures { IfOk result (λ number. number ≡ suc place) }
-{
-    if place >= u32::MAX as usize {
-        return Err(NoMemory);
-    }
-    Ok(place as u32 + 1)
 }
 
 /// Adds the rules of the statement at a place, if it is an enabled one with this first word, by what its words mean; none where it covers
@@ -314,73 +278,4 @@ fn push_one(
         mask: one.1,
     })?;
     Ok(())
-}
-
-/// The declared name that a word means, if its set has members.
-fn some_at(sets: &[Numbers], meaning: Option<usize>) -> Option<usize>
-    ensures { MatchOption result (set_meant sets.now meaning ≡ []) (λ d. (set_named sets.now d ≡ set_meant sets.now meaning) × (set_named sets.now d ≡ [] → ⊥)) }
-{
-    match meaning {
-        Some(d) => unless_empty(sets, d),
-        None => None,
-    }
-}
-
-/// The declared name of this number, if its set has members.
-fn unless_empty(sets: &[Numbers], d: usize) -> Option<usize>
-    ensures { MatchOption result (set_named sets.now d ≡ []) (λ same. (same ≡ d) × (set_named sets.now d ≡ [] → ⊥)) }
-{
-    if is_empty_at(sets, d) {
-        return None;
-    }
-    Some(d)
-}
-
-fn is_empty_at(sets: &[Numbers], d: usize) -> bool
-    ensures { IsTrue result ↔ (set_named sets.now d ≡ []) }
-{
-    match sets.get(d) {
-        Some(set) => set.is_empty(),
-        None => true,
-    }
-}
-
-/// A number in four bytes. A table has room for 4,294,967,296 of them; beyond these it is out of memory.
-fn short(number: usize) -> Result<u32, NoMemory>
-    ensures { IfOk result (λ same. same ≡ number) }
-{
-    if number > u32::MAX as usize {
-        return Err(NoMemory);
-    }
-    Ok(number as u32)
-}
-
-// ---- targets
-
-/// What a term of a rule reaches, by meanings that begin with those of its words; none where it reaches no type.
-fn target_of(types: &[Numbers], term: &Term, words: &[Meaning]) -> Result<Option<Reach>, NoMemory>
-    ensures { IfOk result (λ r. (k : Lookups) (xs : List Item) (names : kinds.Kind → List (List ℕ)) (f : AWord → ScopedWord) (m : ℕ) → IsKnown k xs names → AreStanding k xs names variants.Type_ types.now
-        → BeginWith k f (said_of m term.now) words.now
-        → MatchOption r (HasTarget xs (enabled_in k) (term_with f m term.now) → ⊥)
-        (λ reach. HasTarget xs (enabled_in k) (term_with f m term.now)
-        × IsTargetOf xs (enabled_in k) (names variants.Type_) (term_with f m term.now) (target_named types.now reach))) }
-{
-    match term {
-        Term::Leaf(_) => match some_at(types, meaning_at(words, 0)) {
-            Some(d) => Ok(Some(Reach::Types(short(d)?))),
-            None => Ok(None),
-        },
-        Term::Name(_, _) => Ok(None),
-        Term::Form(op, _, _) => Ok(itself(*op)),
-    }
-}
-
-/// The source type as a target, where the operator says so.
-fn itself(op: Op) -> Option<Reach>
-    ensures { MatchOption result (op ≡ ops.Itself → ⊥) (λ reach. (op ≡ ops.Itself) × (reach ≡ reaches.Itself)) }
-{
-    match op {
-        Op::Itself => Some(Reach::Itself),
-        _ => None,
-    }
 }

@@ -8,7 +8,7 @@ use Rattle.cil_faults.specs.declared.fault.Fault.{Fault}
 use Rattle.cil_faults.specs.Printed.{printed}
 use Rattle.cil_decide.specs.declared.decision.Decision.{Decision}
 use Rattle.cil_host.specs.declared.fault.QueryFault.{QueryFault}
-use Rattle.cil_host.specs.declared.host.ListLine.{ListLine}
+use Rattle.cil_host.specs.declared.listing.ListLine.{ListLine}
 use Rattle.cil_host.specs.declared.host.Loaded.{Loaded}
 use Rattle.cil_host.specs.Listed.{line_of}
 use Rattle.std.specs.Global.{Vec}

@@ -23,7 +23,7 @@ use Rattle.cil_host.specs.declared.fault.HostError.{HostError}
 use Rattle.cil_host.specs.declared.fault.HostError.TheVariants as errors
 use Rattle.cil_host.specs.declared.fault.QueryFault.{QueryFault}
 use Rattle.cil_host.specs.declared.fault.QueryFault.TheVariants as query
-use Rattle.cil_host.specs.declared.host.ListLine.{ListLine}
+use Rattle.cil_host.specs.declared.listing.ListLine.{ListLine}
 
 abbrev pub newline : List ℕ
 newline = 10 ∷ []

@@ -6,11 +6,13 @@
 //! `laws.rt` says of the grammar of lines, `specs/Lines.antt`, that a line asks for what it is spelled as.
 #![tactic(auto)]
 
+mod decision_replies;
 mod devices;
 mod input;
 pub mod laws;
 mod line;
 mod loading;
+mod optional_replies;
 mod output;
 mod replies;
 mod requests;

@@ -1,25 +1,18 @@
 //! The replies, written piece by piece, so that none of them needs memory.
 
-ghost use Rattle.std.specs.Prelude.{◌≡◌, ◌<◌, ◌++◌, ◌∷◌, ℕ, List, MatchOption, codes, decimal};
+ghost use Rattle.std.specs.Prelude.{◌++◌, codes, decimal};
 ghost use Rattle.hex.specs.Hex.{encode_lower};
-ghost use Rattle.cil_faults.specs.Printed.{printed_space};
-ghost use Rattle.cil_host.specs.Machine.{State};
-ghost use Rattle.cil_host.specs.Permissions.{AreNamesOf};
-ghost use Rattle.cil_server.specs.Replies.{newline, of_bundle_fault, of_check, of_export, of_host_error, of_import, of_install, of_line, of_list, of_optional, of_optional_line, of_optionals, of_query_fault, of_reason, of_standing, of_why, of_why_line, ok_number, refused, refused_at, spaced};
+ghost use Rattle.cil_server.specs.Replies.{newline, of_bundle_fault, of_check, of_export, of_host_error, of_import, of_install, of_line, of_list, of_query_fault, ok_number, refused, refused_at, spaced};
 ghost use Rattle.cil_server.specs.Streams.{Tells};
-ghost use Rattle.cil_server.specs.Turns.{IsListed, TellsDecision, TellsName, TellsNames};
 
 use crate::devices::Sink;
 use crate::output::Output;
-use cil_base::Bytes;
-use cil_decide::Decision;
-use cil_host::{Host, HostError, ListLine, QueryFault};
+use cil_host::{HostError, ListLine, QueryFault};
 use cil_modset::{BundleError, BundleFault, Installed};
-use cil_optionals::{OptionalLine, WhyLine};
 use cil_sexpr::ReadError;
 use itoa::Buffer;
 
-fn put_decimal<W: Sink>(output: &mut Output<'_, W>, number: u64)
+pub(crate) fn put_decimal<W: Sink>(output: &mut Output<'_, W>, number: u64)
     ensures { Tells output.old output.new (decimal number) }
 {
     let mut buffer = Buffer::new();
@@ -27,7 +20,7 @@ fn put_decimal<W: Sink>(output: &mut Output<'_, W>, number: u64)
 }
 
 /// A number behind a space.
-fn put_number<W: Sink>(output: &mut Output<'_, W>, number: u64)
+pub(crate) fn put_number<W: Sink>(output: &mut Output<'_, W>, number: u64)
     ensures { Tells output.old output.new (spaced number) }
 {
     output.put(b" ");
@@ -139,97 +132,6 @@ fn put_digest<W: Sink>(output: &mut Output<'_, W>, digest: [u8; 32])
     output.put(&digits);
 }
 
-pub(crate) fn put_optionals<W: Sink>(output: &mut Output<'_, W>, lines: &[OptionalLine])
-    ensures { Tells output.old output.new (of_optionals lines.now) }
-{
-    put_ok_number(output, lines.len() as u64);
-    for line in lines {
-        put_optional_line(output, line);
-    }
-}
-
-fn put_optional_line<W: Sink>(output: &mut Output<'_, W>, line: &OptionalLine)
-    ensures { Tells output.old output.new (of_optional_line line.now) }
-{
-    put_optional(output, line.module, line.at, &line.space, &line.label);
-    put_standing(output, line.enabled);
-}
-
-/// Whether an optional is in force.
-fn put_standing<W: Sink>(output: &mut Output<'_, W>, enabled: bool)
-    ensures { Tells output.old output.new (of_standing enabled) }
-{
-    if enabled {
-        output.put(b" in\n");
-    } else {
-        output.put(b" out\n");
-    }
-}
-
-pub(crate) fn put_why<W: Sink>(output: &mut Output<'_, W>, lines: &[WhyLine])
-    ensures { Tells output.old output.new (of_why lines.now) }
-{
-    put_ok_number(output, lines.len() as u64);
-    for line in lines {
-        put_why_line(output, line);
-    }
-}
-
-fn put_why_line<W: Sink>(output: &mut Output<'_, W>, line: &WhyLine)
-    ensures { Tells output.old output.new (of_why_line line.now) }
-{
-    put_optional(output, line.module, line.at, &line.space, &line.label);
-    put_reason(output, &line.missing);
-}
-
-/// Why an optional is left out.
-fn put_reason<W: Sink>(output: &mut Output<'_, W>, missing: &Option<Bytes>)
-    ensures { Tells output.old output.new (of_reason missing.now) }
-{
-    match missing {
-        None => output.put(b" parent\n"),
-        Some(word) => {
-            output.put(b" missing");
-            put_word(output, word.as_slice());
-            output.put(b"\n");
-        }
-    }
-}
-
-/// An optional, by the number of its module, its place there, its namespace and its label.
-fn put_optional<W: Sink>(
-    output: &mut Output<'_, W>,
-    number: u64,
-    at: u64,
-    space: &Bytes,
-    label: &Bytes,
-)
-    ensures { Tells output.old output.new (of_optional number at space.now label.now) }
-{
-    put_decimal(output, number);
-    put_number(output, at);
-    put_word(output, printed_space(space.as_slice()));
-    put_word(output, label.as_slice());
-}
-
-/// A word behind a space.
-fn put_word<W: Sink>(output: &mut Output<'_, W>, word: &[u8])
-    ensures { Tells output.old output.new (32 ∷ word.now) }
-{
-    output.put(b" ");
-    output.put(word);
-}
-
-/// A namespace as it is printed: a dot for the global one.
-fn printed_space(space: &[u8]) -> &[u8]
-    ensures { result.now ≡ printed_space space.now }
-{
-    match space {
-        [] => b".".as_slice(),
-        names => names,
-    }
-}
-
 /// The lines of some faults, and how many there are.
 pub(crate) fn put_faults<W: Sink>(output: &mut Output<'_, W>, count: usize, lines: &[u8])
     ensures { Tells output.old output.new (codes "FAULTS" ++ spaced count ++ newline ++ lines.now) }
@@ -270,69 +172,5 @@ pub(crate) fn put_checked<W: Sink>(output: &mut Output<'_, W>, is_allowed: bool)
         output.put(b"OK yes\n");
     } else {
         output.put(b"OK no\n");
-    }
-}
-
-/// A decision on a class, by the names of its permissions.
-pub(crate) fn put_decision<S: Drop, W: Sink>(
-    output: &mut Output<'_, W>,
-    host: &Host<S>,
-    class: &[u8],
-    decision: Decision,
-)
-    ensures { TellsDecision host.now class.now decision (Tells output.old output.new) }
-{
-    let names = host.permissions(class);
-    output.put(b"OK ");
-    put_names(output, names, decision.allowed);
-    output.put(b" ");
-    put_names(output, names, decision.auditallow);
-    output.put(b" ");
-    put_names(output, names, decision.auditdeny);
-    output.put(b"\n");
-}
-
-/// The names of the permissions of a mask, with commas between; a hyphen where there is none.
-fn put_names<W: Sink>(output: &mut Output<'_, W>, names: &[Bytes], mask: u32)
-    ensures { (h : State) (class_ : List ℕ) → AreNamesOf h class_ names.now → TellsNames h class_ mask (Tells output.old output.new) }
-{
-    let mut is_first = true;
-    for bit in 0..u32::BITS {
-        let name = named(names, mask, bit);
-        is_first = put_name(output, is_first, name);
-    }
-    if is_first {
-        output.put(b"-");
-    }
-}
-
-/// A name that there may be, with a comma before it unless it is the first. Answers whether the next one is the first.
-fn put_name<W: Sink>(output: &mut Output<'_, W>, is_first: bool, name: Option<&[u8]>) -> bool
-    ensures { TellsName is_first (Tells output.old output.new) name.entry result }
-{
-    match name {
-        None => is_first,
-        Some(name) => {
-            if is_first {
-                output.put(name);
-                return false;
-            }
-            output.put(b",");
-            output.put(name);
-            false
-        }
-    }
-}
-
-/// The name of a bit, where it is set in a mask.
-fn named(names: &[Bytes], mask: u32, bit: u32) -> Option<&[u8]>
-    requires { bit < 32 }
-    ensures { MatchOption result ((name : List ℕ) → IsListed names.now mask bit name → ⊥) (λ name. IsListed names.now mask bit name.now) }
-{
-    if (mask >> bit) & 1 == 1 {
-        let name = names.get(bit as usize)?;
-        Some(name.as_slice())
-    } else {
-        None
     }
 }

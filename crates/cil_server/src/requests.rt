@@ -6,13 +6,15 @@ ghost use Rattle.cil_server.specs.Load.{IsLoaded};
 ghost use Rattle.cil_server.specs.Streams.{Tells};
 ghost use Rattle.cil_server.specs.Turns.{IsAnswered};
 
+use crate::decision_replies::put_decision;
 use crate::devices::Sink;
 use crate::line::Query;
 use crate::loading::LoadEnd;
+use crate::optional_replies::{put_optionals, put_why};
 use crate::output::Output;
 use crate::replies::{
-    put_bundle, put_checked, put_decision, put_faults, put_host_error, put_imported, put_installed,
-    put_lines, put_optionals, put_query_fault, put_refused, put_why,
+    put_bundle, put_checked, put_faults, put_host_error, put_imported, put_installed, put_lines,
+    put_query_fault, put_refused,
 };
 use cil_base::NoMemory;
 use cil_host::Host;

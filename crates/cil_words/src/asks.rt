@@ -9,7 +9,8 @@ ghost use Rattle.cil_names.specs.Rows.{AreWithin, lists_at};
 ghost use Rattle.cil_words.specs.Scopes.{AreScopes};
 ghost use Rattle.cil_words.specs.Table.{AreAsks, AreNumberedAsks, could_in, numbered_asks, word_ask};
 
-use crate::cells::{Cells, end_at, small, start_at};
+use crate::cells::Cells;
+use crate::number_lists::{end_at, small, start_at};
 use crate::scopes::Scopes;
 use crate::walk::Walk;
 use cil_base::NoMemory;

@@ -1,7 +1,8 @@
-//! Short lists of numbers, one after another, in four bytes each.
+//! Short lists of numbers, most of which are one number, in four bytes each.
 
-ghost use Rattle.std.specs.Prelude.{◌≡◌, ◌≤◌, ◌<◌, ◌+◌, ◌++◌, ◌∷◌, [], IfOk, OnOk, Some, length, slice_get, slice_range, ℕ};
+ghost use Rattle.std.specs.Prelude.{◌≡◌, ◌<◌, ◌∷◌, [], Some, length, slice_get, ℕ};
 
+use crate::number_lists::{Lists, small};
 use crate::pairs::{Guess, Pairs};
 use cil_base::NoMemory;
 use cil_names::{Class, ClassPermission};
@@ -19,73 +20,6 @@ const MANY: u32 = 2_147_483_648;
 
 /// How many lists have a number.
 const MOST_LISTS: usize = 1_073_741_824;
-
-/// Lists of numbers, four bytes for a list and for a number. Contracts see the lists.
-#[derive(Debug, Drop)]
-struct Lists {
-    /// Where each list begins.
-    starts: Vec<u32>,
-    /// The lists, one after another.
-    numbers: Vec<u32>,
-}
-
-impl Model for Lists {
-    ghost use Rattle.std.specs.Prelude.{List, ℕ, length};
-    ghost use Rattle.cil_names.specs.Rows.{AreWithin, lists_at};
-
-    ghost Value = { List (List ℕ) };
-
-    ghost view = { λ a. lists_at a.starts.items a.numbers.items };
-
-    ghost invariant = { λ a. AreWithin (length a.numbers.items) a.starts.items };
-}
-
-impl Lists {
-    ghost use Rattle.std.specs.Prelude.{◌≡◌, ◌≤◌, ◌++◌, ◌∷◌, [], OnOk, get_or, length};
-
-    /// No lists.
-    fn new(alloc: Global) -> Lists
-        ensures { result ≡ [] }
-    {
-        Lists {
-            starts: Vec::new(alloc),
-            numbers: Vec::new(alloc),
-        }
-    }
-
-    /// How many lists there are.
-    fn len(&self) -> usize
-        ensures { result ≡ length self.now }
-    {
-        self.starts.len()
-    }
-
-    /// The list of this number, counted from 0; an empty one where there are not so many.
-    fn row(&self, number: usize) -> &[u32]
-        ensures { result.now ≡ get_or self.now number [] }
-    {
-        let starts = self.starts.as_slice();
-        let numbers = self.numbers.as_slice();
-        let Some(start) = start_at(starts, number) else {
-            return &[];
-        };
-        let Some(end) = end_at(starts, number) else {
-            return part(numbers, start, numbers.len());
-        };
-        part(numbers, start, end)
-    }
-
-    /// Adds a list. After an error it may be there in part, behind all others.
-    fn push(&mut self, list: &[usize]) -> Result<(), NoMemory>
-        ensures pushed { OnOk result (self.new ≡ self.old ++ list.now ∷ []) }
-        ensures none_lost { length self.old ≤ length self.new }
-    {
-        let start = small(self.numbers.len())?;
-        self.starts.push(start)?;
-        push_small(&mut self.numbers, list)?;
-        Ok(())
-    }
-}
 
 /// Lists of numbers, of which nearly all have one number. Such a list takes four bytes, and so does a permission with the number
 /// that it has in its class. Any other list takes eight, and four for each number. Contracts see the lists.
@@ -246,28 +180,6 @@ impl Cells {
     }
 }
 
-/// A number in four bytes. Error: out of memory, for one that needs more.
-pub fn small(number: usize) -> Result<u32, NoMemory>
-    ensures { IfOk result (λ n. n ≡ number) }
-{
-    match u32::try_from(number) {
-        Ok(n) => Ok(n),
-        Err(_) => Err(NoMemory),
-    }
-}
-
-/// Adds numbers, in four bytes each.
-fn push_small(numbers: &mut Vec<u32>, list: &[usize]) -> Result<(), NoMemory>
-    ensures pushed { OnOk result (numbers.new.items ≡ numbers.old.items ++ list.now) }
-    ensures none_lost { length numbers.old.items ≤ length numbers.new.items }
-{
-    for number in list {
-        let one = small(*number)?;
-        numbers.push(one)?;
-    }
-    Ok(())
-}
-
 /// The cell at a place.
 pub fn cell_at(cells: &[u32], number: usize) -> Option<u32>
     ensures { result ≡ slice_get cells.now number }
@@ -285,39 +197,6 @@ pub fn one(cells: &[u32], number: usize) -> &[u32]
 {
     if number < cells.len() {
         &cells[number..number + 1]
-    } else {
-        &[]
-    }
-}
-
-/// The place where a list begins.
-pub fn start_at(starts: &[u32], i: usize) -> Option<usize>
-    ensures { result ≡ slice_get starts.now i }
-{
-    match starts.get(i) {
-        Some(start) => Some(*start as usize),
-        None => None,
-    }
-}
-
-/// The place where the next list begins.
-pub fn end_at(starts: &[u32], i: usize) -> Option<usize>
-    ensures { result ≡ slice_get starts.now (i + 1) }
-{
-    if i < starts.len() {
-        start_at(starts, i + 1)
-    } else {
-        None
-    }
-}
-
-/// A part of some numbers; none where it ends before it begins.
-fn part(numbers: &[u32], start: usize, end: usize) -> &[u32]
-    requires { end ≤ length numbers.now }
-    ensures { result.now ≡ slice_range numbers.now start end }
-{
-    if start <= end {
-        &numbers[start..end]
     } else {
         &[]
     }

@@ -14,6 +14,7 @@ mod cells;
 mod class_lists;
 mod hints;
 mod judge;
+mod number_lists;
 mod pairs;
 mod scopes;
 mod settled_rows;

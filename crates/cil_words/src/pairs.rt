@@ -4,8 +4,9 @@ ghost use Rattle.std.specs.Prelude.{◌≡◌, ◌++◌, ◌∷◌, [], IfOk, If
 ghost use Rattle.cil_names.specs.Entries.{listed};
 ghost use Rattle.cil_words.specs.Cells.{IsLonger};
 
-use crate::cells::{cell_at, one, small};
+use crate::cells::{cell_at, one};
 use crate::hints::{Hint, Hints};
+use crate::number_lists::small;
 use cil_base::NoMemory;
 use cil_names::Meaning;
 use std::alloc::Global;

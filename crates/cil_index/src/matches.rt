@@ -1,0 +1,156 @@
+//! Whether one rule is on what is asked, and by its aim whether it may be.
+
+ghost use Rattle.std.specs.Prelude.{◌≡◌, ◌<◌, ◌↔◌, ℕ, [], get_or, IfSome, IsBitSet, IsTrue, Contains, Some};
+ghost use Rattle.cil_rules.specs.Covers.{Reaches};
+ghost use Rattle.cil_index.specs.Memberships.{AreMemberships, IsFilter, IsKnownFor};
+ghost use Rattle.cil_conditions.specs.Active.{is_active};
+ghost use Rattle.cil_conditions.specs.Bits.{is_on};
+ghost use Rattle.cil_rules.specs.Kept.{branch_named};
+ghost use Rattle.cil_index.specs.Kept.{rule_of, target_at};
+ghost use Rattle.cil_index.specs.Found.{CoversAt, Matches, MayReach};
+ghost use Rattle.cil_index.specs.Searched.{rules_in};
+ghost use Rattle.cil_index.specs.Sets.{set_of};
+
+use crate::asked::{Asked, Searched};
+use crate::key::{BEYOND, ITSELF, SEVERAL};
+use crate::memberships::{Memberships, WORDS, has_bit};
+use crate::record::Record;
+use cil_conditions::{Branch, Settings};
+
+/// Whether a target that stands so in an aim may have the type.
+pub fn may_reach(
+    memberships: &Memberships,
+    asked: &Asked,
+    filter: &[u64; WORDS],
+    target: u32,
+) -> bool
+    requires { IsFilter (get_or memberships.now.lists.items asked.now.target []) filter.now }
+    ensures { MayReach memberships.now asked.now target → IsTrue result }
+{
+    if target < SEVERAL || target == BEYOND {
+        return true;
+    }
+    if target == ITSELF {
+        return asked.source == asked.target;
+    }
+    may_have(memberships, asked.target, filter, target - SEVERAL)
+}
+
+/// Whether a set is noted for a type, or asked for every type.
+fn may_have(memberships: &Memberships, number: usize, filter: &[u64; WORDS], set: u32) -> bool
+    requires { IsFilter (get_or memberships.now.lists.items number []) filter.now }
+    ensures { IsKnownFor memberships.now number set → IsTrue result }
+{
+    if set as usize >= memberships.first_large {
+        return true;
+    }
+    if has_bit(filter, set) {
+        return memberships.has(number, set);
+    }
+    false
+}
+
+/// The permissions of the rule at a place, where it is on what is asked.
+pub fn mask_at(searched: &Searched, settings: &Settings, asked: &Asked, place: usize) -> u32
+    requires memberships { AreMemberships searched.now.sets.now searched.now.memberships.now }
+    ensures { (bit : ℕ) → IsBitSet result bit ↔ CoversAt (is_on settings.now) (rules_in searched.now) asked.now.source asked.now.target asked.now.class place bit }
+{
+    mask_known(searched, settings, asked, None, place)
+}
+
+/// The permissions of the rule at a place, where it is on what is asked, and the set of a number is known to have the source.
+pub fn mask_known(
+    searched: &Searched,
+    settings: &Settings,
+    asked: &Asked,
+    known: Option<u32>,
+    place: usize,
+) -> u32
+    requires memberships { AreMemberships searched.now.sets.now searched.now.memberships.now }
+    requires known { IfSome known (λ k. Contains (set_of searched.now.sets.now k) asked.now.source) }
+    ensures { (bit : ℕ) → IsBitSet result bit ↔ CoversAt (is_on settings.now) (rules_in searched.now) asked.now.source asked.now.target asked.now.class place bit }
+{
+    let Some(kept) = searched.records.get(place) else {
+        return 0;
+    };
+    if matches(searched, settings, asked, known, kept) {
+        kept.mask
+    } else {
+        0
+    }
+}
+
+/// Whether a rule counts, and is on what is asked. Its condition is asked last.
+fn matches(
+    searched: &Searched,
+    settings: &Settings,
+    asked: &Asked,
+    known: Option<u32>,
+    kept: &Record,
+) -> bool
+    requires memberships { AreMemberships searched.now.sets.now searched.now.memberships.now }
+    requires known { IfSome known (λ k. Contains (set_of searched.now.sets.now k) asked.now.source) }
+    ensures { IsTrue result ↔ Matches (is_on settings.now) (rule_of searched.now.branches.now searched.now.sets.now kept.now) asked.now.source asked.now.target asked.now.class }
+{
+    kept.class as usize == asked.class
+        && reaches(searched, kept.target, asked)
+        && has_source(searched, asked, known, kept.source)
+        && is_active(searched.branches, settings, kept.branch)
+}
+
+/// Whether the rules of a branch count. It costs a step for each part of the condition.
+fn is_active(branches: &[Branch], settings: &Settings, number: u32) -> bool
+    ensures { result ≡ is_active (is_on settings.now) (branch_named branches.now number) }
+{
+    if number == 0 {
+        return true;
+    }
+    match branches.get((number - 1) as usize) {
+        Some(branch) => branch.condition.eval(settings) == branch.value,
+        None => true,
+    }
+}
+
+/// Whether a rule reaches the target.
+fn reaches(searched: &Searched, target: u32, asked: &Asked) -> bool
+    requires { AreMemberships searched.now.sets.now searched.now.memberships.now }
+    ensures { IsTrue result ↔ Reaches (target_at searched.now.sets.now target) asked.now.source asked.now.target }
+{
+    if searched.sets.is_number(target) {
+        return holds(searched, target, asked.target);
+    }
+    asked.source == asked.target
+}
+
+/// Whether a set has the source, where the set of a number is known to have it.
+fn has_source(searched: &Searched, asked: &Asked, known: Option<u32>, set: u32) -> bool
+    requires memberships { AreMemberships searched.now.sets.now searched.now.memberships.now }
+    requires known { IfSome known (λ k. Contains (set_of searched.now.sets.now k) asked.now.source) }
+    ensures { IsTrue result ↔ Contains (set_of searched.now.sets.now set) asked.now.source }
+{
+    if is_known(known, set) {
+        return true;
+    }
+    holds(searched, set, asked.source)
+}
+
+/// Whether this is the number.
+fn is_known(known: Option<u32>, set: u32) -> bool
+    ensures { IsTrue result → known ≡ Some set }
+{
+    match known {
+        Some(number) => number == set,
+        None => false,
+    }
+}
+
+/// Whether a set has a type. That of several types is sought among those of the type, which are few.
+fn holds(searched: &Searched, set: u32, number: usize) -> bool
+    requires { AreMemberships searched.now.sets.now searched.now.memberships.now }
+    ensures { IsTrue result ↔ Contains (set_of searched.now.sets.now set) number }
+{
+    if searched.sets.is_several(set) && (set as usize) < searched.memberships.first_large {
+        return searched.memberships.has(number, set);
+    }
+    searched.sets.has(set, number)
+}
