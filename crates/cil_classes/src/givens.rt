@@ -7,8 +7,7 @@ ghost use Rattle.cil_syntax.specs.declared.kind.Keyword.TheVariants as keywords;
 ghost use Rattle.cil_syntax.specs.declared.kind.Kind as kinds;
 ghost use Rattle.cil_syntax.specs.declared.kind.Kind.TheVariants as variants;
 ghost use Rattle.cil_syntax.specs.declared.term.Word.{Word as AWord};
-ghost use Rattle.cil_syntax.specs.Forms.{word_and_term};
-ghost use Rattle.cil_syntax.specs.Said.{all_said, args_of, said_of};
+ghost use Rattle.cil_syntax.specs.Said.{all_said, args_of};
 ghost use Rattle.cil_syntax.specs.Scopes.{ScopedWord};
 ghost use Rattle.cil_macros.proofs.FormLemmas.{all_across};
 ghost use Rattle.cil_macros.specs.Item.{Item, is_enabled};
@@ -19,20 +18,20 @@ ghost use Rattle.cil_names.specs.Known.{IsKnown, enabled_in, row_in};
 ghost use Rattle.cil_names.specs.Numbers.{AreApart};
 ghost use Rattle.cil_names.specs.Rows.{IsTableOf};
 ghost use Rattle.cil_classes.specs.ClassRows.{AreClasses};
-ghost use Rattle.cil_classes.specs.Givings.{Gift, GivesTo, HaveNodes, IsGivenFor, IsGivingAt, IsGivingOf, IsListed, IsMapping, IsNoMapping, IsNodeFor, IsSet};
+ghost use Rattle.cil_classes.specs.Givings.{Gift, GivesTo, HaveNodes, IsGivenFor, IsGivingAt, IsGivingOf, IsListed, IsNodeFor};
 ghost use Rattle.cil_classes.specs.NodeOrder.{node_cmp};
 ghost use Rattle.cil_classes.specs.Parts.{AreNodes};
 ghost use Rattle.cil_classes.specs.Row.{AreOrderlyRows};
 
 use crate::assigned::Given;
-use crate::mask::is_leaf;
+use crate::gift_terms::{mapped_term, set_term};
 use crate::nodes::{Node, place_of};
 use crate::parts::{entry_of, part_of};
 use crate::row::Class;
 use crate::widths::listed_count;
 use cil_base::NoMemory;
 use cil_macros::Instances;
-use cil_names::{Known, Meaning, behind_first, laws, meaning_at, same_keyword};
+use cil_names::{Known, Meaning, behind_first, meaning_at, same_keyword};
 use cil_syntax::{Keyword, Kind, Statement, Term};
 use std::alloc::Global;
 
@@ -285,33 +284,4 @@ fn mapping_giving<'t, 'a, 's>(
         module,
         words: behind_first(behind_first(words)),
     })
-}
-
-/// The class permission of a classpermissionset: the one term behind a word.
-fn set_term<'t, 'a>(terms: &'t [Term<'a>]) -> Option<&'t Term<'a>>
-    ensures { MatchOption result ((m : ℕ) → word_and_term (all_said m terms.now) ≡ None) (λ term. (m : ℕ) → IsSet (all_said m terms.now) (said_of m term.now)) }
-{
-    if terms.len() != 2 {
-        return None;
-    }
-    if !is_leaf(&terms[0]) {
-        return None;
-    }
-    Some(&terms[1])
-}
-
-/// The class permission of a classmapping: the one term behind two words.
-fn mapped_term<'t, 'a>(terms: &'t [Term<'a>]) -> Option<&'t Term<'a>>
-    ensures { MatchOption result ((m : ℕ) → IsNoMapping (all_said m terms.now)) (λ term. (m : ℕ) → IsMapping (all_said m terms.now) (said_of m term.now)) }
-{
-    if terms.len() != 3 {
-        return None;
-    }
-    if !is_leaf(&terms[0]) {
-        return None;
-    }
-    if !is_leaf(&terms[1]) {
-        return None;
-    }
-    Some(&terms[2])
 }

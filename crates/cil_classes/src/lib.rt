@@ -15,6 +15,7 @@ mod assigned;
 mod checked;
 mod commons;
 mod expression;
+mod gift_terms;
 mod given;
 mod givens;
 mod held;

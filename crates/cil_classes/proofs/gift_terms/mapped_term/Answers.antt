@@ -1,5 +1,5 @@
 use Rattle.cil_classes.proofs.FormedLemmas.{mapping_form, no_first_word, no_second_word, no_three}
-use Rattle.cil_classes.proofs.givens.mapped_term.Goals as goal
+use Rattle.cil_classes.proofs.gift_terms.mapped_term.Goals as goal
 
 pub returns-then-terms-ne3 : goal.returns-then-terms-ne3
 returns-then-terms-ne3 c = λ m. no_three m c.args.terms.now c.if-terms-ne3.true

@@ -1,5 +1,5 @@
 use Rattle.cil_classes.proofs.FormedLemmas.{no_set_form, no_word_and_term, set_form}
-use Rattle.cil_classes.proofs.givens.set_term.Goals as goal
+use Rattle.cil_classes.proofs.gift_terms.set_term.Goals as goal
 
 pub returns-then-terms-ne2 : goal.returns-then-terms-ne2
 returns-then-terms-ne2 c = λ m. no_word_and_term m c.args.terms.now c.if-terms-ne2.true
