@@ -16,9 +16,13 @@ mod decisions;
 #[cfg(test)]
 mod growths;
 #[cfg(test)]
+mod look_up_rows;
+#[cfg(test)]
 mod look_ups;
 #[cfg(test)]
 mod optional_choices;
+#[cfg(test)]
+mod optional_rows;
 #[cfg(test)]
 mod placed_words;
 #[cfg(test)]

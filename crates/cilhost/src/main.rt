@@ -15,6 +15,8 @@ mod help;
 mod in_memory;
 mod locate;
 mod program;
+#[cfg(test)]
+mod search_tests;
 mod session;
 mod status;
 mod system;
