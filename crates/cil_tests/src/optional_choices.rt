@@ -44,10 +44,8 @@ fn choice(alloc: Global, enabled: &[usize], whys: &[Why]) -> Option<Chosen> {
     for &(optional, why) in whys {
         reasons.push(reason(optional, why)).ok()?;
     }
-    Some(Chosen {
-        enabled: flags(alloc, enabled)?,
-        reasons,
-    })
+    let enabled = flags(alloc, enabled)?;
+    Some(Chosen { enabled, reasons })
 }
 
 /// Whether `check` says this of a choice.
