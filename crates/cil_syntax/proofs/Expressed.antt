@@ -12,8 +12,8 @@ use Rattle.cil_faults.specs.declared.code.FaultCode.TheVariants as causes
 use Rattle.cil_faults.specs.declared.fault.Fault.{Fault}
 use Rattle.cil_syntax.specs.declared.kind.Language.{Language}
 use Rattle.cil_syntax.specs.declared.kind.Sign.{Sign}
-use Rattle.cil_syntax.specs.declared.language.Head as rust_head
-use Rattle.cil_syntax.specs.declared.language.Part as parts
+use Rattle.cil_syntax.specs.declared.head.Head as rust_head
+use Rattle.cil_syntax.specs.declared.head.Part as parts
 use Rattle.cil_syntax.specs.declared.stop.Stop.{Stop}
 use Rattle.cil_syntax.specs.declared.stop.Stop.TheVariants.{OtherShape}
 use Rattle.cil_syntax.specs.declared.term.Op.{Op}

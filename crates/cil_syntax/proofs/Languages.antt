@@ -7,9 +7,9 @@ use Rattle.cil_base.specs.Places.{drop_at}
 use Rattle.cil_sexpr.specs.View.{node_of, nodes_of}
 use Rattle.cil_syntax.specs.declared.kind.Language.{Language}
 use Rattle.cil_syntax.specs.declared.kind.Sign.{Sign}
-use Rattle.cil_syntax.specs.declared.language.Head as rust
-use Rattle.cil_syntax.specs.declared.language.Part as parts
-use Rattle.cil_syntax.specs.declared.language.Part.{the_lemmas}
+use Rattle.cil_syntax.specs.declared.head.Head as rust
+use Rattle.cil_syntax.specs.declared.head.Part as parts
+use Rattle.cil_syntax.specs.declared.head.Part.{the_lemmas}
 use Rattle.cil_syntax.specs.declared.term.Op.{Op}
 use Rattle.cil_syntax.specs.Shapes.{Face, a_word, a_string, a_list, fixed, either, looked_up, is_this_word}
 use Rattle.cil_syntax.specs.Heads.{names, begins_with, word_before, first_words, Head}

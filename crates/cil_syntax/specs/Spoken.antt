@@ -4,11 +4,11 @@ use Rattle.std.specs.Borrow.{Bor}
 use Rattle.cil_sexpr.specs.declared.node.Node as nodes
 use Rattle.cil_sexpr.specs.View.{nodes_of}
 use Rattle.cil_syntax.specs.declared.kind.Language.{Language}
-use Rattle.cil_syntax.specs.declared.language.Behind as behinds
-use Rattle.cil_syntax.specs.declared.language.Behind.TheVariants.{One, Two, Parts}
-use Rattle.cil_syntax.specs.declared.language.Head as rust
-use Rattle.cil_syntax.specs.declared.language.Part as parts
-use Rattle.cil_syntax.specs.declared.language.Part.TheOpen.{Part-F}
+use Rattle.cil_syntax.specs.declared.head.Behind as behinds
+use Rattle.cil_syntax.specs.declared.head.Behind.TheVariants.{One, Two, Parts}
+use Rattle.cil_syntax.specs.declared.head.Head as rust
+use Rattle.cil_syntax.specs.declared.head.Part as parts
+use Rattle.cil_syntax.specs.declared.head.Part.TheOpen.{Part-F}
 use Rattle.cil_syntax.specs.Laid.{items_of}
 use Rattle.cil_syntax.specs.Shapes.{Shape, looked_up, fixed, either, Row}
 use Rattle.cil_syntax.specs.Heads.{Head, head_in, names, one_operand, two_operands, first_words}

@@ -13,8 +13,9 @@ ghost use Rattle.cil_syntax.specs.Spoken.{behind_seen, part_of};
 ghost use Rattle.cil_faults.specs.Spots.{spot_at};
 ghost use Rattle.cil_syntax.specs.Told.{TellAll, Tells, told};
 
+use crate::head::{Behind, Head, Part};
 use crate::kind::{Language, Sign};
-use crate::language::{Behind, Head, Part, is_this_word};
+use crate::language::is_this_word;
 use crate::reader::{Reader, bytes_at};
 use crate::shape::head_of;
 use crate::stop::Stop;
