@@ -42,112 +42,112 @@ const OF_ROLES: Behind = Behind::Parts(&[
     Part::Fixed(b"r2", Op::TargetRole),
 ]);
 
-pub(crate) const EQ_U1: Head = Head {
+const EQ_U1: Head = Head {
     words: &[b"eq", b"u1"],
     op: Op::Equal,
     taken: true,
     behind: WITH_U1,
 };
 
-pub(crate) const EQ_U2: Head = Head {
+const EQ_U2: Head = Head {
     words: &[b"eq", b"u2"],
     op: Op::Equal,
     taken: true,
     behind: WITH_U2,
 };
 
-pub(crate) const EQ_R1: Head = Head {
+const EQ_R1: Head = Head {
     words: &[b"eq", b"r1"],
     op: Op::Equal,
     taken: true,
     behind: WITH_R1,
 };
 
-pub(crate) const EQ_R2: Head = Head {
+const EQ_R2: Head = Head {
     words: &[b"eq", b"r2"],
     op: Op::Equal,
     taken: true,
     behind: WITH_R2,
 };
 
-pub(crate) const EQ_T1: Head = Head {
+const EQ_T1: Head = Head {
     words: &[b"eq", b"t1"],
     op: Op::Equal,
     taken: true,
     behind: WITH_T1,
 };
 
-pub(crate) const EQ_T2: Head = Head {
+const EQ_T2: Head = Head {
     words: &[b"eq", b"t2"],
     op: Op::Equal,
     taken: true,
     behind: WITH_T2,
 };
 
-pub(crate) const NEQ_U1: Head = Head {
+const NEQ_U1: Head = Head {
     words: &[b"neq", b"u1"],
     op: Op::Unequal,
     taken: true,
     behind: WITH_U1,
 };
 
-pub(crate) const NEQ_U2: Head = Head {
+const NEQ_U2: Head = Head {
     words: &[b"neq", b"u2"],
     op: Op::Unequal,
     taken: true,
     behind: WITH_U2,
 };
 
-pub(crate) const NEQ_R1: Head = Head {
+const NEQ_R1: Head = Head {
     words: &[b"neq", b"r1"],
     op: Op::Unequal,
     taken: true,
     behind: WITH_R1,
 };
 
-pub(crate) const NEQ_R2: Head = Head {
+const NEQ_R2: Head = Head {
     words: &[b"neq", b"r2"],
     op: Op::Unequal,
     taken: true,
     behind: WITH_R2,
 };
 
-pub(crate) const NEQ_T1: Head = Head {
+const NEQ_T1: Head = Head {
     words: &[b"neq", b"t1"],
     op: Op::Unequal,
     taken: true,
     behind: WITH_T1,
 };
 
-pub(crate) const NEQ_T2: Head = Head {
+const NEQ_T2: Head = Head {
     words: &[b"neq", b"t2"],
     op: Op::Unequal,
     taken: true,
     behind: WITH_T2,
 };
 
-pub(crate) const DOM_ROLES: Head = Head {
+const DOM_ROLES: Head = Head {
     words: &[b"dom", b"r1", b"r2"],
     op: Op::LeftOut,
     taken: false,
     behind: OF_ROLES,
 };
 
-pub(crate) const DOMBY_ROLES: Head = Head {
+const DOMBY_ROLES: Head = Head {
     words: &[b"domby", b"r1", b"r2"],
     op: Op::LeftOut,
     taken: false,
     behind: OF_ROLES,
 };
 
-pub(crate) const INCOMP_ROLES: Head = Head {
+const INCOMP_ROLES: Head = Head {
     words: &[b"incomp", b"r1", b"r2"],
     op: Op::LeftOut,
     taken: false,
     behind: OF_ROLES,
 };
 
-/// Constraints without levels.
+/// Constraints, but for the comparisons of levels.
 pub(crate) const CONSTRAINTS: &[Head] = &[
     NOT,
     AND,

@@ -2,10 +2,11 @@
 //! of its own; that they are those of `specs/Heads.antt` is proved, so a new operator or comparison is a head there and
 //! one in the list of its language.
 
-ghost use Rattle.std.specs.Prelude.{◌≡◌, MatchOption, None, Some, map, ℕ};
+ghost use Rattle.std.specs.Prelude.{◌≡◌, ◌++◌, MatchOption, None, Some, map, true, ℕ};
+ghost use Rattle.cil_syntax.specs.declared.kind.Language.{Language};
 ghost use Rattle.cil_sexpr.specs.View.{node_of, nodes_of};
-ghost use Rattle.cil_syntax.specs.Spoken.{HasHead, head_seen, words_seen};
-ghost use Rattle.cil_syntax.specs.Heads.{begins_with, first_words, has_ranges, heads, other_op, word_before};
+ghost use Rattle.cil_syntax.specs.Spoken.{HasHead, HasHeadOf, head_seen, words_seen};
+ghost use Rattle.cil_syntax.specs.Heads.{begins_with, constraint_heads, first_words, has_ranges, heads, levels_compared, operators, other_op, word_before};
 ghost use Rattle.cil_syntax.specs.Readings.{cell_of, cells_of};
 ghost use Rattle.cil_syntax.specs.Shapes.{is_this_word, has_words, is_of_sets, word_sign};
 
@@ -13,7 +14,7 @@ use crate::condition_heads::CONDITIONS;
 use crate::constraint_heads::CONSTRAINTS;
 use crate::head::Head;
 use crate::kind::{Language, Sign};
-use crate::level_heads::LEVEL_CONSTRAINTS;
+use crate::level_heads::LEVEL_HEADS;
 use crate::reader::bytes_at;
 use crate::set_heads::{CATEGORY_SETS, SETS};
 use crate::term::Op;
@@ -68,10 +69,10 @@ impl Language {
         Op::Group
     }
 
-    /// What its lists say by the words at their heads.
+    /// What its lists say by the words at their heads, but for the comparisons of levels.
     #[tactic(auto, unfolding(crate::specs::Heads::heads))]
     fn heads(self) -> &'static [Head]
-        ensures { map (head_seen self) result.now ≡ heads self }
+        ensures { heads self ≡ map (head_seen self) result.now ++ levels_compared self }
     {
         match self {
             Language::Sets(sign) => {
@@ -81,8 +82,20 @@ impl Language {
                 SETS
             }
             Language::Conditions => CONDITIONS,
-            Language::Constraints => CONSTRAINTS,
-            Language::LevelConstraints => LEVEL_CONSTRAINTS,
+            Language::Constraints => constraint_heads(),
+            Language::LevelConstraints => constraint_heads(),
+        }
+    }
+
+    /// The comparisons of levels that it has.
+    fn levels_compared(self) -> &'static [Head]
+        ensures { map (head_seen self) result.now ≡ levels_compared self }
+    {
+        match self {
+            Language::Sets(_) => &[],
+            Language::Conditions => &[],
+            Language::Constraints => &[],
+            Language::LevelConstraints => LEVEL_HEADS,
         }
     }
 
@@ -90,13 +103,30 @@ impl Language {
     pub(crate) fn find_head(self, text: &[u8], nodes: &[Node]) -> Option<&'static Head>
         ensures { HasHead self text.now nodes.now result }
     {
-        for head in self.heads() {
-            if begins_with(text, nodes, head.words) {
-                return Some(head);
-            }
+        if let Some(head) = first_head(self.heads(), text, nodes) {
+            return Some(head);
         }
-        None
+        first_head(self.levels_compared(), text, nodes)
     }
+}
+
+/// What the lists of constraints say by the words at their heads, but for the comparisons of levels.
+fn constraint_heads() -> &'static [Head]
+    ensures { (language : Language) → map (head_seen language) result.now ≡ operators language true ++ constraint_heads }
+{
+    CONSTRAINTS
+}
+
+/// The first of some heads with which some nodes begin.
+fn first_head(heads: &'static [Head], text: &[u8], nodes: &[Node]) -> Option<&'static Head>
+    ensures { (language : Language) → HasHeadOf language (map (head_seen language) heads.now) text.now nodes.now result }
+{
+    for head in heads {
+        if begins_with(text, nodes, head.words) {
+            return Some(head);
+        }
+    }
+    None
 }
 
 /// Whether nodes begin with these words.

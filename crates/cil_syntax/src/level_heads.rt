@@ -1,12 +1,7 @@
-//! What the lists of constraints with levels say by the words at their heads: what those of constraints say, and
+//! What the lists of constraints with levels say by the words at their heads, beside what those of constraints say:
 //! comparisons of the low and the high level of the source and of the target.
 
-use crate::constraint_heads::{
-    DOM_ROLES, DOMBY_ROLES, EQ_R1, EQ_R2, EQ_T1, EQ_T2, EQ_U1, EQ_U2, INCOMP_ROLES, NEQ_R1, NEQ_R2,
-    NEQ_T1, NEQ_T2, NEQ_U1, NEQ_U2,
-};
 use crate::head::{Behind, Head, Part};
-use crate::operator_heads::{AND, NOT, OR};
 use crate::term::Op;
 
 /// What is behind a comparison that begins with each level.
@@ -134,26 +129,8 @@ const INCOMP_L2: Head = Head {
     behind: WITH_L2,
 };
 
-/// Constraints with levels.
-pub(crate) const LEVEL_CONSTRAINTS: &[Head] = &[
-    NOT,
-    AND,
-    OR,
-    EQ_U1,
-    EQ_U2,
-    EQ_R1,
-    EQ_R2,
-    EQ_T1,
-    EQ_T2,
-    NEQ_U1,
-    NEQ_U2,
-    NEQ_R1,
-    NEQ_R2,
-    NEQ_T1,
-    NEQ_T2,
-    DOM_ROLES,
-    DOMBY_ROLES,
-    INCOMP_ROLES,
+/// The comparisons of levels.
+pub(crate) const LEVEL_HEADS: &[Head] = &[
     EQ_L1,
     EQ_H1,
     EQ_L2,

@@ -23,6 +23,7 @@ mod level_heads;
 mod macro_statements;
 mod name_space;
 mod operator_heads;
+mod parts;
 mod path;
 mod place;
 mod program;

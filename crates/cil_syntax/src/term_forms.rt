@@ -11,7 +11,7 @@ use crate::term::{Op, Term, Word};
 use cil_faults::Spot;
 
 /// A name that is declared.
-#[derive(Clone, Copy, Debug)]
+#[derive(Clone, Copy)]
 pub struct DeclaredName<'a> {
     /// Where it is written.
     pub at: Spot,
@@ -20,21 +20,21 @@ pub struct DeclaredName<'a> {
 }
 
 /// A class, and an expression over its permissions.
-#[derive(Debug, Drop)]
+#[derive(Drop)]
 pub struct ClassParts<'t, 'a> {
     pub class: Word<'a>,
     pub permissions: &'t Term<'a>,
 }
 
 /// A word, and the terms behind it.
-#[derive(Debug, Drop)]
+#[derive(Drop)]
 pub struct WordAndTerms<'t, 'a> {
     pub word: Word<'a>,
     pub terms: &'t [Term<'a>],
 }
 
 /// A parameter of a macro.
-#[derive(Debug, Drop)]
+#[derive(Drop)]
 pub struct Parameter<'a> {
     /// The kind of its arguments.
     pub kind: Op,
