@@ -131,19 +131,6 @@ const INCOMP_L2: Head = Head {
 
 /// The comparisons of levels.
 pub(crate) const LEVEL_HEADS: &[Head] = &[
-    EQ_L1,
-    EQ_H1,
-    EQ_L2,
-    NEQ_L1,
-    NEQ_H1,
-    NEQ_L2,
-    DOM_L1,
-    DOM_H1,
-    DOM_L2,
-    DOMBY_L1,
-    DOMBY_H1,
-    DOMBY_L2,
-    INCOMP_L1,
-    INCOMP_H1,
-    INCOMP_L2,
+    EQ_L1, EQ_H1, EQ_L2, NEQ_L1, NEQ_H1, NEQ_L2, DOM_L1, DOM_H1, DOM_L2, DOMBY_L1, DOMBY_H1,
+    DOMBY_L2, INCOMP_L1, INCOMP_H1, INCOMP_L2,
 ];

@@ -128,10 +128,15 @@ fn kind_and_name<'a>(terms: &[Term<'a>], module: u64) -> Option<Parameter<'a>>
 {
     match terms {
         [] => None,
-        [kind, rest @ ..] => Some(Parameter {
-            kind: kind.op()?,
-            name: name_in_front(rest, module)?,
-        }),
+        [kind, rest @ ..] => {
+            let Some(kind) = kind.op() else {
+                return None;
+            };
+            let Some(name) = name_in_front(rest, module) else {
+                return None;
+            };
+            Some(Parameter { kind, name })
+        }
     }
 }
 
@@ -141,10 +146,12 @@ fn word_and_term<'t, 'a>(terms: &'t [Term<'a>], module: u64) -> Option<ClassPart
     match terms {
         [] => None,
         [_] => None,
-        [class, permissions] => Some(ClassParts {
-            class: class.word(module)?,
-            permissions,
-        }),
+        [class, permissions] => {
+            let Some(class) = class.word(module) else {
+                return None;
+            };
+            Some(ClassParts { class, permissions })
+        }
         [_, _, _, ..] => None,
     }
 }
@@ -155,9 +162,11 @@ pub fn word_and_terms<'t, 'a>(terms: &'t [Term<'a>], module: u64) -> Option<Word
 {
     match terms {
         [] => None,
-        [first, rest @ ..] => Some(WordAndTerms {
-            word: first.word(module)?,
-            terms: rest,
-        }),
+        [first, rest @ ..] => {
+            let Some(word) = first.word(module) else {
+                return None;
+            };
+            Some(WordAndTerms { word, terms: rest })
+        }
     }
 }
