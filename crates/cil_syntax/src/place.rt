@@ -46,19 +46,6 @@ pub fn joined(alloc: Global, names: &[&[u8]]) -> Result<Vec<u8>, NoMemory>
     Ok(bytes)
 }
 
-/// Some names, and one more behind them.
-fn names_and<'a>(
-    alloc: Global,
-    names: &[&'a [u8]],
-    last: &'a [u8],
-) -> Result<Vec<&'a [u8]>, NoMemory>
-    ensures { IfOk result (λ all. names_of all.items ≡ names_of names.now ++ last.now ∷ []) }
-{
-    let mut all = Vec::from_slice(alloc, names)?;
-    all.push(last)?;
-    Ok(all)
-}
-
 impl Nesting {
     /// Its rank, by what is round it: 0 with nothing but blocks, 1 with an optional too, 2 with a branch.
     fn depth(self) -> u8
@@ -184,11 +171,11 @@ impl<'a> Place<'a> {
     ) -> Result<Vec<&'a [u8]>, NoMemory>
         ensures { IfOk result (λ blocks. names_of blocks.items ≡ names_of self.now.blocks.items ++ (if is_block statement.now.keyword then bytes_of (named_in_front (args_of statement.now)) ∷ [] else [])) }
     {
-        let blocks = self.blocks.as_slice();
+        let mut blocks = Vec::from_slice(alloc, self.blocks.as_slice())?;
         if statement.keyword.is_block() {
-            return names_and(alloc, blocks, first_name(statement.args.as_slice()));
+            blocks.push(first_name(statement.args.as_slice()))?;
         }
-        Ok(Vec::from_slice(alloc, blocks)?)
+        Ok(blocks)
     }
 
     /// The parameters of the macro round what is in a statement.
