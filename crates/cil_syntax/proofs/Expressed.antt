@@ -12,8 +12,8 @@ use Rattle.cil_faults.specs.declared.code.FaultCode.TheVariants as causes
 use Rattle.cil_faults.specs.declared.fault.Fault.{Fault}
 use Rattle.cil_syntax.specs.declared.kind.Language.{Language}
 use Rattle.cil_syntax.specs.declared.kind.Sign.{Sign}
-use Rattle.cil_syntax.specs.declared.language.Head as rust_head
-use Rattle.cil_syntax.specs.declared.language.Part as parts
+use Rattle.cil_syntax.specs.declared.head.Head as rust_head
+use Rattle.cil_syntax.specs.declared.head.Part as parts
 use Rattle.cil_syntax.specs.declared.stop.Stop.{Stop}
 use Rattle.cil_syntax.specs.declared.stop.Stop.TheVariants.{OtherShape}
 use Rattle.cil_syntax.specs.declared.term.Op.{Op}
@@ -23,12 +23,12 @@ use Rattle.cil_syntax.specs.declared.term.Term as rust
 use Rattle.cil_syntax.specs.declared.term.Term.TheVariants as variants
 use Rattle.cil_syntax.specs.declared.term.Word.{Word}
 use Rattle.cil_syntax.specs.Words.{read_left_out, inner_at, reads, read_sole, read_word}
-use Rattle.cil_syntax.specs.Shapes.{Inner, Reading, Row, Shape, expression, fixed, is_this_word, item, looked_up, many, is_of_sets, tagged, word_of, word_sign, Cell}
+use Rattle.cil_syntax.specs.Shapes.{Inner, Reading, Row, Shape, expression, fixed, is_this_word, item, list_of, looked_up, many, is_of_sets, tagged, word_of, word_sign, Cell}
 use Rattle.cil_syntax.specs.Readings.{formed, head_word, read_behind, read_by_head, read_expression, read_list, read_row, read_tagged, refused_head, cell_of, cells_of}
 use Rattle.cil_syntax.specs.Heads.{one_operand, other_op, other_row}
 use Rattle.cil_syntax.specs.Spelling.{same_bytes}
 use Rattle.cil_syntax.specs.Spoken.{HasHead, behind_seen, part_of}
-use Rattle.cil_syntax.specs.Terms.{Term, nil, spot_of}
+use Rattle.cil_syntax.specs.Terms.{Term, Terms, nil, spot_of}
 use Rattle.cil_faults.specs.Spots.{spot_at}
 use Rattle.cil_syntax.specs.Told.{told, IsTold, AreTold, Tells, TellAll}
 use Rattle.cil_syntax.proofs.Heads.{word_read, list_read}
@@ -76,6 +76,24 @@ pub listed_told : (text : List ℕ) (m : ℕ) (space : List ℕ) (n : nodes.Node
 unfolding read_list
 listed_told text m space n place language r items inner old new is same told =
     subst (λ w. Tells m space w old new r) (sym (list_read text m n place items inner (expression language) is same)) told
+
+module _ (m : ℕ) (space : List ℕ) (text : List ℕ) (n : nodes.Node) (place : Span) (items : Vec nodes.Node Global) (inner : List nodes.Node) (is : n ≡ nodes.List place items)
+    (same : inner ≡ items.items) (op : Op) (row : Row) (old new : List Fault) where
+  abbrev row_reading : Option (Reading (Terms Word))
+  row_reading = read_row row (cells_of m (nodes_of text inner))
+
+  list_formed : (cell_of m (node_of text n)).read (list_of op row) ≡ formed (spot_of m place) op [] row_reading
+  unfolding read_list
+  list_formed = list_read text m n place items inner (list_of op row) is same
+
+  pub list_told : (parts : Vec rust.Term Global) → AreTold m space row_reading old new (Some parts)
+      → IsTold m space ((cell_of m (node_of text n)).read (list_of op row)) old new (Some (variants.Form op place.start parts))
+  list_told parts so =
+      subst (λ w. IsTold m space w old new (Some (variants.Form op place.start parts))) (sym list_formed) (formed_told m space place.start op row_reading old new parts so)
+
+  pub list_stops : (e : Stop) (r : Result rust.Term Stop) → TellAll m space row_reading old new (Err e) → IsErrAnd r (λ x. x ≡ e)
+      → Tells m space ((cell_of m (node_of text n)).read (list_of op row)) old new r
+  list_stops e r so handed = subst (λ w. Tells m space w old new r) (sym list_formed) (stop_formed m space (spot_of m place) op row_reading old new e r so handed)
 
 module _ (m : ℕ) (space : List ℕ) (at : ℕ) (language : Language) (text : List ℕ) (ns : List nodes.Node) where
   abbrev there : List Cell

@@ -114,6 +114,16 @@ object_view = search (rules, the_lemmas)
 
 pub ruleset the_views = (then_view, led_view, statements_view, expression_view, tagged_view, anything_view, unread_view, object_view, items_view, many_view, one_of_view, name_view, looked_up_view, fixed_view, left_out_view, any_view, either_is, listed_view)
 
+-- ---- a shape or a row of Rust reads as it is seen
+
+pub read_as : (m : ℕ) (space : List ℕ) (n : Node) (s : shapes.Shape) (x : Shape) (old new : List Fault) (r : Result rust.Term Stop) → shape_of s ≡ x
+    → Tells m space ((cell_of m n).read x) old new r → Tells m space ((cell_of m n).read (shape_of s)) old new r
+read_as m space n s x old new r is told = subst (λ y. Tells m space ((cell_of m n).read y) old new r) (sym is) told
+
+pub row_as : (m : ℕ) (space : List ℕ) (cells : List Cell) (row : rows.Row) (x : Row) (old new : List Fault) (r : Result (Vec rust.Term) Stop) → row_of row ≡ x
+    → TellAll m space (read_row x cells) old new r → TellAll m space (read_row (row_of row) cells) old new r
+row_as m space cells row x old new r is told = subst (λ y. TellAll m space (read_row y cells) old new r) (sym is) told
+
 -- ---- which of two rows reads some items
 
 module _ (cells : List Cell) (first second : Row) (n : ℕ) where

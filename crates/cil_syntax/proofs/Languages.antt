@@ -1,20 +1,23 @@
 -- The heads of languages, and nodes that begin with their words.
 use Rattle.std.proofs.Common.{◌≡◌, ℕ, ◌+◌, ◌<◌, ◌≤◌, Bool, true, false, ◌&&◌, List, [], ◌∷◌, length, get_or, map, drop, refl, sym, ◌∙◌, ap, Bor, arith, rules}
-use Rattle.std.specs.Prelude.{Option, Some, None, find, if◌then◌else◌}
-use Rattle.std.proofs.lemmas.List.{drop_all, get_or_default, length-drop}
+use Rattle.std.specs.Prelude.{Option, Some, None, find, if◌then◌else◌, ◌++◌}
+use Rattle.std.proofs.lemmas.List.Folds.{find-append}
+use Rattle.std.specs.Option.{option_or}
+use Rattle.std.proofs.lemmas.List.{append-nil, drop_all, get_or_default, length-drop}
 use Rattle.cil_sexpr.specs.declared.node.Node as nodes
 use Rattle.cil_base.specs.Places.{drop_at}
 use Rattle.cil_sexpr.specs.View.{node_of, nodes_of}
 use Rattle.cil_syntax.specs.declared.kind.Language.{Language}
+use Rattle.cil_syntax.specs.declared.kind.Language.TheVariants as languages
 use Rattle.cil_syntax.specs.declared.kind.Sign.{Sign}
-use Rattle.cil_syntax.specs.declared.language.Head as rust
-use Rattle.cil_syntax.specs.declared.language.Part as parts
-use Rattle.cil_syntax.specs.declared.language.Part.{the_lemmas}
+use Rattle.cil_syntax.specs.declared.head.Head as rust
+use Rattle.cil_syntax.specs.declared.head.Part as parts
+use Rattle.cil_syntax.specs.declared.head.Part.{the_lemmas}
 use Rattle.cil_syntax.specs.declared.term.Op.{Op}
 use Rattle.cil_syntax.specs.Shapes.{Face, a_word, a_string, a_list, fixed, either, looked_up, is_this_word}
-use Rattle.cil_syntax.specs.Heads.{names, begins_with, word_before, first_words, Head}
+use Rattle.cil_syntax.specs.Heads.{names, begins_with, constraint_heads, heads, level_heads, operators, word_before, first_words, Head}
 use Rattle.cil_syntax.specs.Readings.{cell_of, cells_of}
-use Rattle.cil_syntax.specs.Spoken.{head_seen, part_of, words_seen}
+use Rattle.cil_syntax.specs.Spoken.{HasHead, HasHeadOf, head_seen, part_of, words_seen}
 use Rattle.cil_syntax.proofs.ItemsRead.{cells_more, no_cells}
 
 -- ---- how each part of Rust is seen
@@ -101,3 +104,29 @@ module _ (language : Language) (text : List ℕ) (ns : List nodes.Node) (hs : Li
       → b ≡ begins_with (words_seen (get_or hs i d).words.now) (first_words (cells_of m (nodes_of text ns)))
       → found_from m i ≡ (if b then Some (head_seen language (get_or hs i d)) else found_from m (i + 1))
   found_next m i d b within same = found_more m i (get_or hs i d) b within (get_or_default hs i d (get_or hs i d) within) same
+
+-- ---- the heads of constraints, and those of levels behind them
+
+pub without_levels : (hs : List Head) → hs ≡ operators languages.Constraints true ++ constraint_heads → heads languages.Constraints ≡ hs ++ []
+unfolding heads
+without_levels hs same = sym (append-nil hs ∙ same)
+
+pub with_levels : (hs : List Head) → hs ≡ operators languages.LevelConstraints true ++ constraint_heads → heads languages.LevelConstraints ≡ hs ++ level_heads
+unfolding heads
+with_levels hs same = sym (ap (λ xs. xs ++ level_heads) same)
+
+-- ---- a head of the first of two lists, or else of the second
+
+module _ (language : Language) (text : List ℕ) (ns : List nodes.Node) (hs more : List Head) (all : heads language ≡ hs ++ more) where
+  abbrev found_in : ℕ → List Head → Option Head
+  found_in m xs = find (λ (h : Head). begins_with h.words (first_words (cells_of m (nodes_of text ns)))) xs
+
+  parted : (m : ℕ) → found_in m (heads language) ≡ option_or (found_in m hs) (found_in m more)
+  parted m = ap (found_in m) all ∙ find-append (λ (h : Head). begins_with h.words (first_words (cells_of m (nodes_of text ns)))) hs more
+
+  pub has_first : (h : Bor rust.Head) → HasHeadOf language hs text ns (Some h) → HasHead language text ns (Some h)
+  has_first h has m = parted m ∙ ap (λ o. option_or o (found_in m more)) (has m)
+
+  pub has_second : (r : Option (Bor rust.Head)) → HasHeadOf language hs text ns None → HasHeadOf language more text ns r → HasHead language text ns r
+  has_second None none has = λ m. parted m ∙ ap (λ o. option_or o (found_in m more)) (none m) ∙ has m
+  has_second (Some h) none has = λ m. parted m ∙ ap (λ o. option_or o (found_in m more)) (none m) ∙ has m

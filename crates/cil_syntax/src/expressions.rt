@@ -13,8 +13,10 @@ ghost use Rattle.cil_syntax.specs.Spoken.{behind_seen, part_of};
 ghost use Rattle.cil_faults.specs.Spots.{spot_at};
 ghost use Rattle.cil_syntax.specs.Told.{TellAll, Tells, told};
 
+use crate::head::{Behind, Head, Part};
 use crate::kind::{Language, Sign};
-use crate::language::{Behind, Head, Part, is_this_word};
+use crate::language::is_this_word;
+use crate::parts::add_read;
 use crate::reader::{Reader, bytes_at};
 use crate::shape::head_of;
 use crate::stop::Stop;
@@ -128,8 +130,8 @@ impl<'r, 'a> Reader<'r, 'a> {
     {
         let mut terms = Vec::with_capacity(self.alloc, nodes.len() - skipped)?;
         for index in skipped..nodes.len() {
-            let term = self.read_expression(language, &nodes[index], faults)?;
-            terms.push(term)?;
+            let read = self.read_expression(language, &nodes[index], faults);
+            add_read(&mut terms, read)?;
         }
         Ok(terms)
     }
@@ -192,8 +194,8 @@ impl<'r, 'a> Reader<'r, 'a> {
         }
         let mut terms = Vec::with_capacity(self.alloc, nodes.len())?;
         for index in 0..nodes.len() {
-            let term = self.read_part(&parts[index], &nodes[index], faults)?;
-            terms.push(term)?;
+            let read = self.read_part(&parts[index], &nodes[index], faults);
+            add_read(&mut terms, read)?;
         }
         Ok(terms)
     }
@@ -244,8 +246,8 @@ impl<'r, 'a> Reader<'r, 'a> {
         }
         let mut terms = Vec::with_capacity(self.alloc, nodes.len())?;
         for node in nodes {
-            let term = self.read_looked_up(sign, node, faults)?;
-            terms.push(term)?;
+            let read = self.read_looked_up(sign, node, faults);
+            add_read(&mut terms, read)?;
         }
         Ok(terms)
     }

@@ -12,9 +12,9 @@ ghost use Rattle.cil_syntax.specs.Table.{entry_of};
 ghost use Rattle.cil_syntax.specs.Written.{Context, allows, at_top, bytes_of, depth_of, front_word, innermost, inside_of, is_abstraction, is_macro, may_stand, named_in_front, names_its_block, nesting_within, parameters_of, parameters_round};
 
 use crate::clashes::{NameAt, is_named, name_of_front, parameters_of};
+use crate::entry::Entry;
 use crate::kind::{Keyword, Nesting};
 use crate::program::Statement;
-use crate::table::Entry;
 use crate::term::Term;
 use cil_base::NoMemory;
 use std::alloc::Global;

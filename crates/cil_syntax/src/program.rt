@@ -1,15 +1,18 @@
 //! The written statements of a set of modules.
 
-ghost use Rattle.std.specs.Prelude.{◌≡◌, OnOk};
+ghost use Rattle.std.specs.Prelude.{◌≡◌, ◌++◌, ◌∷◌, [], OnOk};
 ghost use Rattle.cil_base.specs.Lists.{Lists};
 ghost use Rattle.cil_sexpr.specs.Text.{IsReadable};
+ghost use Rattle.cil_sexpr.specs.Tree.{inner_of};
 ghost use Rattle.cil_sexpr.specs.View.{node_of, nodes_of};
+ghost use Rattle.cil_syntax.specs.Entries.{body_of};
 ghost use Rattle.cil_syntax.specs.Program.{program_of};
 ghost use Rattle.cil_faults.specs.Refusal.{Answers};
-ghost use Rattle.cil_syntax.specs.Standpoints.{forked, found_behind, found_from, found_inside, opened};
+ghost use Rattle.cil_syntax.specs.Standpoints.{forked, found_behind, found_from, found_inside, opened, opening_by};
 ghost use Rattle.cil_syntax.specs.Told.{AreJudgedHere, IsModuleRead, StandsIn};
 ghost use Rattle.cil_syntax.specs.Written.{IsWritten, ShapeFault, at_top, written_cmp};
 
+use crate::entry::Body;
 use crate::kind::Keyword;
 use crate::place::Place;
 use crate::reader::Reader;
@@ -184,33 +187,52 @@ impl<'r, 'a> Reader<'r, 'a> {
             return Ok(());
         };
         let Some(body) = statement.keyword.body() else {
-            statements.push(statement)?;
-            return Ok(());
+            return push_statement(statements, statement);
         };
         let place = self
             .place
             .inside(self.alloc, &statement, statements.len(), body.nesting)?;
-        statements.push(statement)?;
+        push_statement(statements, statement)?;
         let reader = Reader {
             alloc: self.alloc,
             text: self.text,
             number: self.number,
             place: &place,
         };
+        reader.judge_body(node, body, statements, faults)
+    }
+
+    /// Reads the statements of the statement that a node is.
+    #[cycle(bodies)]
+    fn judge_body(
+        &self,
+        node: &Node,
+        body: Body,
+        statements: &mut Vec<Statement<'a>>,
+        faults: &mut Vec<Fault>,
+    ) -> Result<(), NoMemory>
+        ensures { OnOk result (AreJudgedHere self.now (λ context. found_behind self.now.number (opening_by context (body_of body)) (inner_of (node_of self.now.text.now node.now))) statements.old.items statements.new.items faults.old.items faults.new.items) }
+    {
         match node {
             Node::Word(_) => Ok(()),
             Node::Quoted(_) => Ok(()),
             Node::List(_, items) => {
                 if body.branched {
-                    return reader.judge_branches(
-                        items.as_slice(),
-                        body.skipped,
-                        statements,
-                        faults,
-                    );
+                    return self.judge_branches(items.as_slice(), body.skipped, statements, faults);
                 }
-                reader.judge_all(items.as_slice(), body.skipped, statements, faults)
+                self.judge_all(items.as_slice(), body.skipped, statements, faults)
             }
         }
     }
+}
+
+/// Puts a statement behind others.
+fn push_statement<'a>(
+    statements: &mut Vec<Statement<'a>>,
+    statement: Statement<'a>,
+) -> Result<(), NoMemory>
+    ensures { OnOk result (statements.new.items ≡ statements.old.items ++ statement.entry ∷ []) }
+{
+    statements.push(statement)?;
+    Ok(())
 }

@@ -1,11 +1,9 @@
-use Rattle.cil_syntax.specs.Heads.{heads}
-use Rattle.cil_syntax.proofs.Languages.{the_parts}
+use Rattle.cil_syntax.specs.declared.kind.Language.TheVariants as languages
+use Rattle.cil_syntax.proofs.Languages.{with_levels, without_levels}
 use Rattle.cil_syntax.proofs.kind.Language.heads.Goals as goal
 
 pub returns-in-Constraints : goal.returns-in-Constraints
-unfolding heads
-returns-in-Constraints c = rw c.in-Constraints.is (simp the_parts)
+returns-in-Constraints c = rw c.in-Constraints.is (without_levels _ (c.constraint_heads.ensures languages.Constraints))
 
 pub returns-in-LevelConstraints : goal.returns-in-LevelConstraints
-unfolding heads
-returns-in-LevelConstraints c = rw c.in-LevelConstraints.is (simp the_parts)
+returns-in-LevelConstraints c = rw c.in-LevelConstraints.is (with_levels _ (c.constraint_heads-in-LevelConstraints.ensures languages.LevelConstraints))

@@ -4,11 +4,12 @@ use Rattle.cil_syntax.specs.Table.{behind, branched}
 use Rattle.cil_sexpr.specs.View.{node_of, nodes_of}
 use Rattle.cil_sexpr.specs.Tree.{inner_of}
 use Rattle.cil_syntax.specs.Program.{has_body, statement_of}
-use Rattle.cil_syntax.specs.Standpoints.{found_behind, opened, forked}
+use Rattle.cil_syntax.specs.Standpoints.{found_behind, found_from, opened, forked, opening_by}
+use Rattle.cil_syntax.specs.Entries.{body_of}
 use Rattle.cil_syntax.specs.Told.{AreJudged, StandsIn}
 use Rattle.cil_syntax.specs.Written.{inside_of}
 use Rattle.cil_syntax.proofs.Heads.{word_view, quoted_view, list_view}
-use Rattle.cil_syntax.proofs.NodesJudged.{none_judged, one_more_judged, all_judged, none_forked, one_more_forked, all_forked, inside_is, nothing_judged, judged_branches, nothing_at_all, judged_none, judged_plain, judged_leaf, judged_inside, on_ok}
+use Rattle.cil_syntax.proofs.NodesJudged.{none_judged, one_more_judged, all_judged, none_forked, one_more_forked, all_forked, inside_is, nothing_judged, nothing_at_all, judged_none, judged_plain, judged_body, some_body, on_ok}
 use Rattle.cil_syntax.proofs.Programs.{inside_stands}
 use Rattle.cil_syntax.proofs.reader.Reader.+bodies.Goals as goal
 
@@ -31,39 +32,6 @@ pub judge_in-returns-in_default : goal.judge_in-returns-in_default
 judge_in-returns-in_default t c context stands =
     judged_none c.args.self.now.number context (node_of c.args.self.now.text.now c.args.node.now) c.args.self.now.place.now c.args.statements.now.items
     c.args.faults.now.items _ stands c.in_ok-statement.field-0 c.in_default.is (c.in_ok-statement.ensures context stands.around)
-
-pub judge_in-returns-in_default-body : goal.judge_in-returns-in_default-body
-judge_in-returns-in_default-body t c context stands =
-    let m = c.args.self.now.number in
-    let n = node_of c.args.self.now.text.now c.args.node.now in
-    let place = c.args.self.now.place.now in
-    let start = c.args.statements.now.items in
-    let judged = c.in_ok-statement.ensures context stands.around in
-    rw c.in_ok-push.ensures.items
-    (judged_plain m context n place start c.args.faults.now.items _ stands c.in-Some.statement (judged.under c.in-Some.statement c.in-Some.is) c.in_ok-statement.field-0 c.in-Some.is judged
-    c.in_default-body.ensures.body)
-
-pub judge_in-returns-in-Word : goal.judge_in-returns-in-Word
-judge_in-returns-in-Word t c context stands =
-    let m = c.args.self.now.number in
-    let n = node_of c.args.self.now.text.now c.args.node.now in
-    let place = c.args.self.now.place.now in
-    let start = c.args.statements.now.items in
-    let judged = c.in_ok-statement.ensures context stands.around in
-    rw c.in_ok-push-2.ensures.items
-    (judged_leaf m context n place start c.args.faults.now.items _ stands c.in-Some.statement (judged.under c.in-Some.statement c.in-Some.is) c.in_ok-statement.field-0 c.in-Some.is judged
-    (ap (λ x. inner_of (node_of c.args.self.now.text.now x)) c.in-Word.is ∙ ap inner_of (word_view c.args.self.now.text.now c.in-Word.field-0)))
-
-pub judge_in-returns-in-Quoted : goal.judge_in-returns-in-Quoted
-judge_in-returns-in-Quoted t c context stands =
-    let m = c.args.self.now.number in
-    let n = node_of c.args.self.now.text.now c.args.node.now in
-    let place = c.args.self.now.place.now in
-    let start = c.args.statements.now.items in
-    let judged = c.in_ok-statement.ensures context stands.around in
-    rw c.in_ok-push-2.ensures.items
-    (judged_leaf m context n place start c.args.faults.now.items _ stands c.in-Some.statement (judged.under c.in-Some.statement c.in-Some.is) c.in_ok-statement.field-0 c.in-Some.is judged
-    (ap (λ x. inner_of (node_of c.args.self.now.text.now x)) c.in-Quoted.is ∙ ap inner_of (quoted_view c.args.self.now.text.now c.in-Quoted.field-0)))
 
 pub judge_branches-loop-index-init : goal.judge_branches-loop-index-init
 judge_branches-loop-index-init t c context stands =
@@ -111,58 +79,87 @@ judge_branch-returns-in-List t c =
     (all context stands))
     c.judge_all.ensures
 
+pub judge_body-returns-in-Word : goal.judge_body-returns-in-Word
+judge_body-returns-in-Word t c context stands =
+    let m = c.args.self.now.number in
+    let text = c.args.self.now.text.now in
+    let opening = opening_by context (body_of c.args.body) in
+    nothing_judged m _ _ _
+    (ap (found_behind m opening) (ap (λ x. inner_of (node_of text x)) c.in-Word.is ∙ ap inner_of (word_view text c.in-Word.field-0)) ∙ nothing_at_all m opening)
+
+pub judge_body-returns-in-Quoted : goal.judge_body-returns-in-Quoted
+judge_body-returns-in-Quoted t c context stands =
+    let m = c.args.self.now.number in
+    let text = c.args.self.now.text.now in
+    let opening = opening_by context (body_of c.args.body) in
+    nothing_judged m _ _ _
+    (ap (found_behind m opening) (ap (λ x. inner_of (node_of text x)) c.in-Quoted.is ∙ ap inner_of (quoted_view text c.in-Quoted.field-0)) ∙ nothing_at_all m opening)
+
+pub judge_body-returns-then-body : goal.judge_body-returns-then-body
+judge_body-returns-then-body t c =
+    let m = c.args.self.now.number in
+    let text = c.args.self.now.text.now in
+    let k = c.args.body.skipped in
+    on_ok c.judge_branches.result _ _
+    (λ all context stands.
+    subst (λ fs. AreJudged m fs c.args.statements.now.items c.judge_branches.new.statements.items c.args.faults.now.items c.judge_branches.new.faults.items)
+    (sym (ap (found_behind m (opening_by context (body_of c.args.body)))
+    (ap (λ x. inner_of (node_of text x)) c.in-List.is ∙ ap inner_of (list_view text c.in-List.field-0 c.in-List.items) ∙ ap (nodes_of text) (sym c.as_slice.ensures.value))
+    ∙ ap (λ b. found_behind m (opening_by context (if b then branched k else behind k c.args.body.nesting)) (nodes_of text c.as_slice.result.now)) c.if-body.true))
+    (all context stands))
+    c.judge_branches.ensures
+
+pub judge_body-returns-else-body : goal.judge_body-returns-else-body
+judge_body-returns-else-body t c =
+    let m = c.args.self.now.number in
+    let text = c.args.self.now.text.now in
+    let k = c.args.body.skipped in
+    on_ok c.judge_all.result _ _
+    (λ all context stands.
+    subst (λ fs. AreJudged m fs c.args.statements.now.items c.judge_all.new.statements.items c.args.faults.now.items c.judge_all.new.faults.items)
+    (sym (ap (found_behind m (opening_by context (body_of c.args.body)))
+    (ap (λ x. inner_of (node_of text x)) c.in-List.is ∙ ap inner_of (list_view text c.in-List.field-0 c.in-List.items) ∙ ap (nodes_of text) (sym c.as_slice-in-List.ensures.value))
+    ∙ ap (λ b. found_behind m (opening_by context (if b then branched k else behind k c.args.body.nesting)) (nodes_of text c.as_slice-in-List.result.now)) c.if-body.false))
+    (all context stands))
+    c.judge_all.ensures
+
+pub judge_in-returns-in_default-body : goal.judge_in-returns-in_default-body
+judge_in-returns-in_default-body t c =
+    let m = c.args.self.now.number in
+    let n = node_of c.args.self.now.text.now c.args.node.now in
+    let start = c.args.statements.now.items in
+    on_ok c.push_statement.result _ _
+    (λ pushed context stands.
+    let judged = c.in_ok-statement.ensures context stands.around in
+    subst (λ ss. AreJudged m (found_from m context n) start ss c.args.faults.now.items c.judge.new.faults.items) (sym pushed)
+    (judged_plain m context n c.args.self.now.place.now start c.args.faults.now.items _ stands c.in-Some.statement (judged.under c.in-Some.statement c.in-Some.is) c.in_ok-statement.field-0 c.in-Some.is judged
+    c.in_default-body.ensures.body))
+    c.push_statement.ensures
+
 pub judge_in-returns : goal.judge_in-returns
 judge_in-returns t c =
     let m = c.args.self.now.number in
-    let text = c.args.self.now.text.now in
-    let n = node_of text c.args.node.now in
+    let n = node_of c.args.self.now.text.now c.args.node.now in
     let outer = c.args.self.now.place.now in
     let start = c.args.statements.now.items in
     let s = c.in-Some.statement in
-    let k = c.in-Some-body.body.skipped in
+    let b = c.in-Some-body.body in
     let count = c.len.ensures in
     let kept : c.len.result ≡ length start = search (rules, count) in
-    let body = c.in-Some-body.ensures.body ∙ ap (λ b. if b then branched k else behind k c.in-Some-body.body.nesting) c.if-body.false in
-    on_ok c.judge_all.result _ _
+    let body = c.in-Some-body.ensures.body in
+    let pushed = c.in_ok-push_statement.ensures in
+    on_ok c.judge_body.result _ _
     (λ all context stands.
     let judged = c.in_ok-statement.ensures context stands.around in
     let under = judged.under s c.in-Some.is in
     let inner_context = inside_of context (statement_of s) in
     let round = c.in_ok-place.ensures.round context stands.around (c.in-Some-body.ensures.nesting context.nesting) in
-    let inner = inside_stands context outer start stands s under c.in_ok-place.place (c.in_ok-place.ensures.under ∙ ap (λ j. Some j) kept) round (ap has_body body) in
-    judged_inside m context n outer start c.args.faults.now.items _ stands s under c.in_ok-statement.field-0 c.in-Some.is judged c.judge_all.new.statements.items c.judge_all.new.faults.items k _
-    (nodes_of text c.as_slice-in-List.result.now) body
-    (ap (λ x. inner_of (node_of text x)) c.in-List.is ∙ ap inner_of (list_view text c.in-List.field-0 c.in-List.items) ∙ ap (nodes_of text) (sym c.as_slice-in-List.ensures.value))
-    (subst (λ ss. AreJudged m (found_behind m (opened inner_context k) (nodes_of text c.as_slice-in-List.result.now)) ss c.judge_all.new.statements.items
-    c.judge.new.faults.items c.judge_all.new.faults.items)
-    c.in_ok-push-2.ensures.items
-    (all inner_context (subst (StandsIn inner_context c.in_ok-place.place) (sym c.in_ok-push-2.ensures.items) inner))))
-    c.judge_all.ensures
-
-pub judge_in-returns-then-body : goal.judge_in-returns-then-body
-judge_in-returns-then-body t c =
-    let m = c.args.self.now.number in
-    let text = c.args.self.now.text.now in
-    let n = node_of text c.args.node.now in
-    let outer = c.args.self.now.place.now in
-    let start = c.args.statements.now.items in
-    let s = c.in-Some.statement in
-    let k = c.in-Some-body.body.skipped in
-    let count = c.len.ensures in
-    let kept : c.len.result ≡ length start = search (rules, count) in
-    let body = c.in-Some-body.ensures.body ∙ ap (λ b. if b then branched k else behind k c.in-Some-body.body.nesting) c.if-body.true in
-    on_ok c.judge_branches.result _ _
-    (λ all context stands.
-    let judged = c.in_ok-statement.ensures context stands.around in
-    let under = judged.under s c.in-Some.is in
-    let inner_context = inside_of context (statement_of s) in
-    let round = c.in_ok-place.ensures.round context stands.around (c.in-Some-body.ensures.nesting context.nesting) in
-    let inner = inside_stands context outer start stands s under c.in_ok-place.place (c.in_ok-place.ensures.under ∙ ap (λ j. Some j) kept) round (ap has_body body) in
-    judged_branches m context n outer start c.args.faults.now.items _ stands s under c.in_ok-statement.field-0 c.in-Some.is judged c.judge_branches.new.statements.items c.judge_branches.new.faults.items k
-    (nodes_of text c.as_slice.result.now) body
-    (ap (λ x. inner_of (node_of text x)) c.in-List.is ∙ ap inner_of (list_view text c.in-List.field-0 c.in-List.items) ∙ ap (nodes_of text) (sym c.as_slice.ensures.value))
-    (subst (λ ss. AreJudged m (found_behind m (forked inner_context k) (nodes_of text c.as_slice.result.now)) ss c.judge_branches.new.statements.items
-    c.judge.new.faults.items c.judge_branches.new.faults.items)
-    c.in_ok-push-2.ensures.items
-    (all inner_context (subst (StandsIn inner_context c.in_ok-place.place) (sym c.in_ok-push-2.ensures.items) inner))))
-    c.judge_branches.ensures
+    let inner = inside_stands context outer start stands s under c.in_ok-place.place (c.in_ok-place.ensures.under ∙ ap (λ j. Some j) kept) round
+    (ap has_body body ∙ some_body b.branched b.skipped b.nesting) in
+    judged_body m context n outer start c.args.faults.now.items _ stands s under c.in_ok-statement.field-0 c.in-Some.is judged c.judge_body.new.statements.items c.judge_body.new.faults.items
+    (body_of b) body
+    (subst (λ ss. AreJudged m (found_behind m (opening_by inner_context (body_of b)) (inner_of n)) ss c.judge_body.new.statements.items
+    c.judge.new.faults.items c.judge_body.new.faults.items)
+    pushed
+    (all inner_context (subst (StandsIn inner_context c.in_ok-place.place) (sym pushed) inner))))
+    c.judge_body.ensures
