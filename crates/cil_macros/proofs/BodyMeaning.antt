@@ -139,10 +139,11 @@ module _ (s : Scene) (os : List Opening) (at : ℕ) (known : IsKnown s os at) (p
         macro_stated : brought.so.opened.macro.statement ≡ statement_at ws called
         macro_stated = stated brought.so.opened.macro macro_here
 
+        pub macro_called : is_macro (statement_at ws called).statement.keyword ≡ true
+        macro_called = ap (λ (x : Written). is_macro x.statement.keyword) (sym macro_stated) ∙ (is_macro_call ws ss brought.so.call brought.so.opened brought.so.is_opened).macro
+
         pub macro_below : called < length ws
-        macro_below =
-            number_of_macro ws called
-            (ap (λ (x : Written). is_macro x.statement.keyword) (sym macro_stated) ∙ (is_macro_call ws ss brought.so.call brought.so.opened brought.so.is_opened).macro)
+        macro_below = number_of_macro ws called macro_called
 
         pub arguments_here : AreArguments ps (macro_parameters (statement_at ws called).statement.args) p.bounds o.arguments.items
         arguments_here =

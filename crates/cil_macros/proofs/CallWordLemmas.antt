@@ -1,5 +1,5 @@
 -- The words of a call: that of its macro, and its arguments one by one.
-use Rattle.std.proofs.Common.{◌≡◌, ℕ, ◌+◌, ◌<◌, ◌≤◌, true, false, List, [], ◌∷◌, ◌++◌, length, get_or, map, drop, refl, sym, ◌∙◌, ap, subst, arith, append_assoc}
+use Rattle.std.proofs.Common.{◌≡◌, ℕ, ◌+◌, ◌<◌, ◌≤◌, true, false, List, [], ◌∷◌, ◌++◌, length, get_or, map, drop, refl, sym, ◌∙◌, ap, subst, append_assoc}
 use Rattle.std.specs.Prelude.{IfOk, Option, Some, None, Result, Ok, Err, slice_get}
 use Rattle.std.specs.declared.alloc.Global.{Global}
 use Rattle.std.specs.declared.vec.Vec.{Vec}
@@ -23,7 +23,6 @@ use Rattle.cil_syntax.specs.Written.{Named, Written}
 use Rattle.cil_blocks.specs.Contents.{Standing, first_word}
 use Rattle.cil_blocks.specs.Entries.{nothing}
 use Rattle.cil_blocks.specs.Places.{entries_in}
-use Rattle.cil_blocks.proofs.EntryLemmas.{standings_length}
 use Rattle.cil_macros.specs.declared.entry.Body.{Body}
 use Rattle.cil_macros.specs.declared.listed.Listed.{Listed}
 use Rattle.cil_macros.specs.declared.meant.Argument.{Argument}
@@ -33,7 +32,6 @@ use Rattle.cil_macros.specs.declared.openings.Opening.{Opening}
 use Rattle.cil_macros.specs.declared.placed_word.PlacedWord.{PlacedWord}
 use Rattle.cil_macros.specs.declared.scene.Scene.{Scene}
 use Rattle.cil_macros.specs.Calls.{Unfolded, is_call, unfolded}
-use Rattle.cil_macros.specs.Instances.{AreInstances, AreMeant}
 use Rattle.cil_macros.specs.Items.{Kept, all_placed, argument_words, call_says, call_words, is_text, item_at, items_in, leaves, listed_unless, macro_words, placed_at, says, scoped_by, unfolded_values, unfolded_words, with_macro, word_in_argument}
 use Rattle.cil_macros.specs.Macros.{all_standing}
 use Rattle.cil_macros.specs.Meant.{AreArguments, bounds_by, kind_sign, meant_in, meant_term, scope_there, value_there}

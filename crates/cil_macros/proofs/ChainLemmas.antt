@@ -11,7 +11,6 @@ use Rattle.cil_blocks.specs.Contents.{Standing, same_spot}
 use Rattle.cil_blocks.specs.Entries.{standings_of, statement_at}
 use Rattle.cil_blocks.specs.declared.entry.Entry.{Entry}
 use Rattle.cil_blocks.proofs.EntryLemmas.{mapped_at, statements_from}
-use Rattle.cil_blocks.proofs.NameLemmas.{at_none, at_some}
 use Rattle.cil_macros.specs.declared.entry.Body.{Body}
 use Rattle.cil_macros.specs.declared.entry.Called.{Called}
 use Rattle.cil_macros.specs.Entries.{AreBodies, IsBodyAt, placed_of}

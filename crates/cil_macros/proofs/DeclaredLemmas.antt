@@ -25,7 +25,7 @@ use Rattle.cil_blocks.proofs.NameLemmas.{at_none}
 use Rattle.cil_blocks.proofs.ProgramLemmas.{program_length, stands_on_top, stands_under, tied, written_at}
 use Rattle.cil_blocks.proofs.StandingWalk.{same_spots, spots_same}
 use Rattle.cil_macros.specs.declared.declared_names.Declared.{Declared}
-use Rattle.cil_macros.specs.DeclaredInBodies.{AreDeclared, AreDeclaredUpTo, IsRound, Key, has_kind, is_declared_by, macro_in, same_key}
+use Rattle.cil_macros.specs.DeclaredInBodies.{AreDeclaredUpTo, AreInBodies, IsRound, Key, has_kind, is_declared_by, macro_in, same_key}
 use Rattle.cil_macros.specs.Placed.{declares, declares_name, is_in_body}
 use Rattle.cil_macros.proofs.WalkLemmas.{number_of_macro}
 
@@ -185,7 +185,7 @@ module _ (ws : List Written) where
 
 -- ---- what a word asks
 
-module _ (ws : List Written) (d : Declared) (are : AreDeclared ws d) (number : ℕ) (within : number < length ws) (name : denote.Ref.Bor (List ℕ)) (sign : Sign) where
+module _ (ws : List Written) (d : Declared) (are : AreInBodies ws d) (number : ℕ) (within : number < length ws) (name : denote.Ref.Bor (List ℕ)) (sign : Sign) where
   abbrev has : ℕ → Bool
   has = has_kind d number name.now
 
@@ -255,6 +255,6 @@ pub no_kind_left : (f : Kind → Bool) (ks : List Kind) (i : ℕ) → length ks 
 no_kind_left f ks i over so = ap (list_any f) (sym (drop_all i ks over)) ∙ so
 
 -- all statements are taken
-pub all_taken : (ss : List Statement) (d : Declared) (n : ℕ) → length ss ≤ n → AreDeclaredUpTo (program_of ss) n d → AreDeclared (program_of ss) d
+pub all_taken : (ss : List Statement) (d : Declared) (n : ℕ) → length ss ≤ n → AreDeclaredUpTo (program_of ss) n d → AreInBodies (program_of ss) d
 all_taken ss d n over so k h =
     so k h ∙ ap (list_any (is_declared_by (program_of ss) k)) (take_all n (program_of ss) (let l = program_length ss in omega (arith, over, l)))

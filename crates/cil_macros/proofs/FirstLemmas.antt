@@ -32,12 +32,12 @@ key_same a b e = let t = and_parts (a.0 == b.0) (a.1 == b.1) e in (eqb-true a.0 
 
 -- ---- one number more
 
-or_itself : (o : Option ℕ) (b : Bool) (n : ℕ) → (b ≡ true → is_some o ≡ true) → o ≡ option_or o (if b then Some n else None)
+pub or_itself : (o : Option ℕ) (b : Bool) (n : ℕ) → (b ≡ true → is_some o ≡ true) → o ≡ option_or o (if b then Some n else None)
 or_itself (Some x) b n h = refl
 or_itself None true n h = absurd (let f : false ≡ true = h refl in cc)
 or_itself None false n h = refl
 
-or_put : (o : Option ℕ) (b : Bool) (n : ℕ) → (b ≡ true → is_some o ≡ false) → cond b (Some n) o ≡ option_or o (if b then Some n else None)
+pub or_put : (o : Option ℕ) (b : Bool) (n : ℕ) → (b ≡ true → is_some o ≡ false) → cond b (Some n) o ≡ option_or o (if b then Some n else None)
 or_put None true n h = refl
 or_put None false n h = refl
 or_put (Some x) true n h = absurd (let f : true ≡ false = h refl in cc)

@@ -1,7 +1,6 @@
 -- Whether what is placed somewhere is an optional or a booleanif of a body.
-use Rattle.std.proofs.Common.{◌≡◌, ℕ, ◌+◌, ◌<◌, ◌≤◌, false, List, length, sym, ◌∙◌, ap, arith}
+use Rattle.std.proofs.Common.{◌≡◌, ℕ, ◌+◌, ◌<◌, false, List, length, sym, ◌∙◌, ap, arith}
 use Rattle.std.specs.Prelude.{Some, slice_get}
-use Rattle.cil_base.specs.Places.{in_range}
 use Rattle.cil_syntax.specs.Written.{Written}
 use Rattle.cil_blocks.specs.Contents.{keeps_place}
 use Rattle.cil_blocks.specs.Entries.{statement_at}
@@ -13,7 +12,7 @@ use Rattle.cil_macros.specs.Placed.{Placed}
 use Rattle.cil_macros.specs.Walks.{OpensAsCall, placed_in, written_in}
 use Rattle.cil_macros.proofs.BodyLemmas.{called_statement}
 use Rattle.cil_macros.proofs.CallLemmas.{stood_at}
-use Rattle.cil_macros.proofs.EntryLemmas.{other_opens, placed_length, standing_opens}
+use Rattle.cil_macros.proofs.EntryLemmas.{other_opens, standing_opens}
 
 module _ (s : Standings) (cs : List Called) (at : ℕ) where
   -- where something stands

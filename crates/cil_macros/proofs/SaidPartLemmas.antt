@@ -12,22 +12,18 @@ use Rattle.cil_faults.specs.declared.spot.Spot.{Spot}
 use Rattle.cil_syntax.specs.declared.term.Term as rust
 use Rattle.cil_syntax.specs.declared.term.Word.{Word}
 use Rattle.cil_syntax.specs.Forms.{parameter_form}
-use Rattle.cil_syntax.specs.Program.{IsNested, program_of}
 use Rattle.cil_syntax.specs.Said.{all_said, args_of, said_of}
 use Rattle.cil_syntax.specs.Scopes.{ScopedWord}
 use Rattle.cil_syntax.specs.Terms.{Term, Terms, cons}
 use Rattle.cil_syntax.specs.Written.{Named, Written}
 use Rattle.cil_blocks.specs.Contents.{Standing, first_word}
 use Rattle.cil_blocks.specs.Entries.{nothing}
-use Rattle.cil_blocks.specs.Places.{entries_in, statements_in}
-use Rattle.cil_blocks.proofs.NameLemmas.{args_some, at_none}
 use Rattle.cil_macros.specs.declared.listed.Listed.{Listed}
 use Rattle.cil_macros.specs.declared.listed.Part.{Part}
 use Rattle.cil_macros.specs.declared.listed.Part.TheVariants as kept_parts
 use Rattle.cil_macros.specs.declared.meant.Argument.{Argument}
 use Rattle.cil_macros.specs.declared.meant.Argument.TheVariants as arguments
 use Rattle.cil_macros.specs.declared.meant.Meant.{Meant}
-use Rattle.cil_macros.specs.declared.openings.Opening.{Opening}
 use Rattle.cil_macros.specs.declared.placed_word.PlacedWord.{PlacedWord}
 use Rattle.cil_macros.specs.declared.placed_word.Said.{Said}
 use Rattle.cil_macros.specs.declared.placed_word.Said.TheVariants as said
@@ -37,7 +33,7 @@ use Rattle.cil_macros.specs.Items.{call_says, is_text, is_text_value, put_unless
 use Rattle.cil_macros.specs.Listed as lists
 use Rattle.cil_macros.specs.Listed.{all_parts_of, list_there, parts_of, parts_there, word as part_word}
 use Rattle.cil_macros.specs.Macros.{all_standing}
-use Rattle.cil_macros.specs.Meant.{AreArguments, AreWhole, IsWhole, bounds_by, kind_sign, meant_in, meant_term, scope_there, value_there}
+use Rattle.cil_macros.specs.Meant.{AreWhole, IsWhole, bounds_by, kind_sign, meant_in, meant_term, scope_there, value_there}
 use Rattle.cil_macros.specs.Parameters.{Parameter, is_text as is_text_op, macro_parameters, parameters_in}
 use Rattle.cil_macros.specs.Placed.{Placed, all_filled, meaning}
 use Rattle.cil_macros.specs.SaidParts.{macro_parts, value_parts}

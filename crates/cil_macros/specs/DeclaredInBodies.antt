@@ -1,8 +1,8 @@
--- What the bodies of macros declare, as it is kept: by the number of the macro, the number of the kind, and the name.
-use Rattle.std.specs.Prelude.{◌≡◌, ℕ, ◌<◌, ◌==◌, ◌&&◌, nat_eq, Bool, List, length, take, Option, Some, None}
+-- What macros declare, as it is kept: their parameters, and what is in their bodies, by the number of the macro, the
+-- number of the kind, and the name.
+use Rattle.std.specs.Prelude.{◌≡◌, ℕ, ◌<◌, ◌&&◌, nat_eq, Bool, List, length, take, Option, Some, None}
 use Rattle.std.specs.List.{list_any}
 use Rattle.indexmap.specs.IndexSet.{contains, contains_by}
-use denote.Ref.{Bor}
 use Rattle.cil_syntax.specs.Kinds.{kind_number}
 use Rattle.cil_syntax.specs.Spelling.{same_bytes}
 use Rattle.cil_syntax.specs.Table.{entry_of}
@@ -10,17 +10,9 @@ use Rattle.cil_syntax.specs.Written.{Enclosing, Written, macro_within}
 use Rattle.cil_blocks.specs.Contents.{name_of}
 use Rattle.cil_blocks.specs.Entries.{statement_at}
 use Rattle.cil_macros.specs.declared.declared_names.Declared.{Declared}
+pub use Rattle.cil_macros.specs.NamedParameters.{Key, is_key, same_key}
+use Rattle.cil_macros.specs.NamedParameters.{AreNamed}
 use Rattle.cil_macros.specs.Placed.{is_in_body}
-
--- the number of a macro, that of a kind, and a name
-abbrev pub Key : Type 0
-Key = ℕ × ℕ × Bor (List ℕ)
-
-abbrev pub is_key : ℕ → ℕ → List ℕ → Key → Bool
-is_key number kind name k = (number == k.0) && (kind == k.1) && same_bytes name k.2.now
-
-abbrev pub same_key : Key → Key → Bool
-same_key a b = is_key a.0 a.1 a.2.now b
 
 -- the table has a name in a kind, for the body of the macro of a number
 abbrev pub has_kind : Declared → ℕ → List ℕ → ℕ → Bool
@@ -37,8 +29,13 @@ abbrev pub AreDeclaredUpTo : List Written → ℕ → Declared → Type 0
 AreDeclaredUpTo ws count d = (k : Key) → k.0 < length ws → contains same_key d.keys k ≡ list_any (is_declared_by ws k) (take count ws)
 
 -- and what all declare
-abbrev pub AreDeclared : List Written → Declared → Type 0
-AreDeclared ws d = (k : Key) → k.0 < length ws → contains same_key d.keys k ≡ list_any (is_declared_by ws k) ws
+abbrev pub AreInBodies : List Written → Declared → Type 0
+AreInBodies ws d = (k : Key) → k.0 < length ws → contains same_key d.keys k ≡ list_any (is_declared_by ws k) ws
+
+-- the tables have what all macros declare
+pub record AreDeclared (ws : List Written) (d : Declared) : Type 0 where
+  pub in_bodies : AreInBodies ws d
+  pub parameters : AreNamed ws d.parameters
 
 -- ---- the macro round a statement
 

@@ -21,6 +21,7 @@ pub mod ListTerms
 pub mod Listed
 pub mod Macros
 pub mod Meant
+pub mod NamedParameters
 pub mod Nearest
 pub mod Nesting
 pub mod Openings

@@ -1,17 +1,18 @@
-//! Whether the arguments of a call fit the parameters of a macro. What an argument of each kind is, is asked here alone.
-//! Costs one visit for each parameter.
+//! Whether the arguments of a call fit the parameters of a macro, at the cost of one visit for each parameter. What an
+//! argument of each kind is, and where it may be put, is asked here alone.
 
 ghost use Rattle.std.specs.Prelude.{◌≡◌, ℕ, false, List, MatchOption, drop};
+ghost use Rattle.std.specs.Option.{option_map};
 ghost use Rattle.cil_syntax.specs.declared.term.Word.{Word};
 ghost use Rattle.cil_syntax.specs.Said.{all_said, args_of, said_of};
 ghost use Rattle.cil_syntax.specs.Shapes.{any_text, looked_up};
 ghost use Rattle.cil_syntax.specs.Terms.{Terms, cons};
 ghost use Rattle.cil_macros.specs.Fits.{fits, is_of_kind, is_read_as, is_sound_word};
-ghost use Rattle.cil_macros.specs.Meant.{first_for, is_for, kind_sign};
-ghost use Rattle.cil_macros.specs.Parameters.{argument_kind, call_arguments, is_text, macro_parameters, may_be_list, parameters_in, serves_sign};
+ghost use Rattle.cil_macros.specs.Meant.{kind_sign};
+ghost use Rattle.cil_macros.specs.Parameters.{argument_kind, call_arguments, is_text, macro_parameters, may_be_list, parameters_in, place_number, place_of};
 
 use crate::list_arguments::{is_class_permission, is_level, is_range, is_set};
-use cil_syntax::{Op, Parameter, Sign, Statement, Term, Word, is_reserved, is_spelled_for};
+use cil_syntax::{Op, Sign, Statement, Term, is_reserved, is_spelled_for};
 
 /// Whether the arguments of a call fit the parameters of a macro: they are as many, and each has the form of its
 /// parameter's kind.
@@ -95,67 +96,47 @@ pub fn is_of_kind(kind: Op, argument: &Term) -> bool
     }
 }
 
-/// The number of the first parameter of a macro for which a word stands: none where it stands for none.
-pub(crate) fn parameter_for(called: &Statement, word: &Word) -> Option<usize>
-    ensures { result ≡ first_for word.now (macro_parameters (args_of called.now)) }
-{
-    first_serving(listed(called), called.at.module, word)
-}
-
-/// The same of parameters of this module.
-fn first_serving(parameters: &[Term], module: u64, word: &Word) -> Option<usize>
-    ensures { result ≡ first_for word.now (parameters_in (all_said «module» parameters.now)) }
-{
-    let mut before = 0;
-    for term in parameters {
-        if let Some(parameter) = term.parameter(module) {
-            if is_for(word, &parameter) {
-                return Some(before);
-            }
-            before += 1;
-        }
-    }
-    None
-}
-
-/// Whether a word stands for a parameter: it is its name, where an argument of its kind may be put.
-fn is_for(word: &Word, parameter: &Parameter) -> bool
-    ensures { result ≡ is_for word.now (record { kind = parameter.now.kind; name = record { at = parameter.now.name.at; name = parameter.now.name.bytes.now } }) }
-{
-    word.bytes.as_slice() == parameter.name.bytes && serves(parameter.kind, word.sign)
-}
-
-/// Whether an argument of a kind may be put where a word of a sign stands.
-fn serves(kind: Op, sign: Sign) -> bool
-    ensures { result ≡ serves_sign (argument_kind kind) sign }
+/// The number of the place that an argument of a kind serves (`place_number` of `specs/Parameters.antt`): none where there
+/// are no such arguments.
+pub(crate) fn place_served(kind: Op) -> Option<u8>
+    ensures { result ≡ option_map (λ k. place_number k.serves) (argument_kind kind) }
 {
     match kind {
-        Op::TypeKind => matches!(
-            sign,
-            Sign::Types | Sign::PlainType | Sign::TypeAttributes | Sign::TypeAliases
-        ),
-        Op::RoleKind => matches!(sign, Sign::Roles | Sign::PlainRole | Sign::RoleAttributes),
-        Op::UserKind => matches!(sign, Sign::Users | Sign::PlainUser | Sign::UserAttributes),
-        Op::BooleanKind => matches!(sign, Sign::Booleans),
-        Op::ClassKind => matches!(sign, Sign::Classes | Sign::PlainClass | Sign::ClassMaps),
-        Op::ClassMapKind => matches!(sign, Sign::Classes | Sign::PlainClass | Sign::ClassMaps),
-        Op::SensitivityKind => matches!(sign, Sign::Sensitivities | Sign::SensitivityAliases),
-        Op::CategoryKind => matches!(
-            sign,
-            Sign::Categories | Sign::CategoryAliases | Sign::CategorySets
-        ),
-        Op::ClassPermissionKind => matches!(
-            sign,
-            Sign::ClassPermissions | Sign::NamedPermissions | Sign::MappedPermissions
-        ),
-        Op::CategorySetKind => matches!(
-            sign,
-            Sign::Categories | Sign::CategoryAliases | Sign::CategorySets
-        ),
-        Op::LevelKind => matches!(sign, Sign::Levels),
-        Op::LevelRangeKind => matches!(sign, Sign::LevelRanges),
-        Op::NameKind | Op::TextKind => matches!(sign, Sign::Text),
-        _ => false,
+        Op::TypeKind => Some(0),
+        Op::RoleKind => Some(1),
+        Op::UserKind => Some(2),
+        Op::ClassKind | Op::ClassMapKind => Some(3),
+        Op::NameKind | Op::TextKind => Some(5),
+        Op::ClassPermissionKind => Some(7),
+        Op::BooleanKind => Some(8),
+        Op::SensitivityKind => Some(9),
+        Op::CategoryKind | Op::CategorySetKind => Some(10),
+        Op::LevelKind => Some(11),
+        Op::LevelRangeKind => Some(12),
+        _ => None,
+    }
+}
+
+/// The number of the place where a word of a sign stands: that of its name space, or that of texts. A permission, and
+/// an argument that is not read yet, are at none.
+pub(crate) fn place_of(sign: Sign) -> Option<u8>
+    ensures { result ≡ option_map place_number (place_of sign) }
+{
+    match sign {
+        Sign::Types | Sign::PlainType | Sign::TypeAttributes | Sign::TypeAliases => Some(0),
+        Sign::Roles | Sign::PlainRole | Sign::RoleAttributes => Some(1),
+        Sign::Users | Sign::PlainUser | Sign::UserAttributes => Some(2),
+        Sign::Classes | Sign::PlainClass | Sign::ClassMaps => Some(3),
+        Sign::Blocks | Sign::Macros => Some(4),
+        Sign::Text => Some(5),
+        Sign::Commons => Some(6),
+        Sign::ClassPermissions | Sign::NamedPermissions | Sign::MappedPermissions => Some(7),
+        Sign::Booleans => Some(8),
+        Sign::Sensitivities | Sign::SensitivityAliases => Some(9),
+        Sign::Categories | Sign::CategoryAliases | Sign::CategorySets => Some(10),
+        Sign::Levels => Some(11),
+        Sign::LevelRanges => Some(12),
+        Sign::Permission | Sign::Unread => None,
     }
 }
 

@@ -1,6 +1,7 @@
-//! What the bodies of macros declare: for each name and kind one entry, by the number of the macro. To make the table
-//! costs a hash for each declaration in a body, and for each declaration a step for each statement round it, 128 at
-//! most. A look-up costs a hash for each kind that a word may name, three at most.
+//! What macros declare: their parameters, and for each name and kind that is declared in their bodies one entry, by the
+//! number of the macro. To make the tables costs a hash for each parameter and for each declaration in a body, and for
+//! each declaration a step for each statement round it, 128 at most. A look-up in a body costs a hash for each kind that
+//! a word may name, three at most.
 
 ghost use Rattle.std.specs.Prelude.{◌≡◌, ◌<◌, ◌≤◌, IfOk, MatchOption, length};
 ghost use Rattle.cil_syntax.specs.Program.{IsNested, program_of};
@@ -9,19 +10,23 @@ ghost use Rattle.cil_blocks.specs.Named.{rank};
 ghost use Rattle.cil_macros.specs.DeclaredInBodies.{AreDeclared, IsRound, macro_in};
 
 use crate::macros::is_macro_at;
+use crate::parameters::{Parameters, parameters_of};
 use cil_base::NoMemory;
 use cil_blocks::names::name_at;
 use cil_syntax::{Sign, Statement};
 use indexmap::IndexSet;
 use std::alloc::Global;
 
-/// What the bodies of macros declare: by the number of the macro, the number of the kind, and the name.
+/// What macros declare.
 #[derive(Drop)]
 pub struct Declared<'a> {
+    /// In their bodies: by the number of the macro, the number of the kind, and the name.
     keys: IndexSet<(usize, u8, &'a [u8])>,
+    /// As their parameters.
+    pub(crate) parameters: Parameters<'a>,
 }
 
-/// What the bodies of all macros of a program declare, their optionals too.
+/// What all macros of a program declare: their parameters, and what is in their bodies, in optionals of these too.
 pub fn declared_in_bodies<'a>(
     alloc: Global,
     statements: &[Statement<'a>],
@@ -29,8 +34,10 @@ pub fn declared_in_bodies<'a>(
     requires { IsNested statements.now }
     ensures { IfOk result (AreDeclared (program_of statements.now)) }
 {
+    let parameters = parameters_of(alloc, statements)?;
     let mut declared = Declared {
         keys: IndexSet::new(alloc),
+        parameters,
     };
     for number in 0..statements.len() {
         declared.add(statements, number)?;
@@ -61,7 +68,8 @@ impl<'a> Declared<'a> {
         requires nested { IsNested statements.now }
         requires within { number < length statements.now }
         requires before { AreDeclaredUpTo (program_of statements.now) number self.old }
-        ensures { OnOk result (AreDeclaredUpTo (program_of statements.now) (number + 1) self.new) }
+        ensures declared { OnOk result (AreDeclaredUpTo (program_of statements.now) (number + 1) self.new) }
+        ensures parameters { OnOk result (self.new.parameters ≡ self.old.parameters) }
     {
         let Some(kind) = statements[number].keyword.declares() else {
             return Ok(());

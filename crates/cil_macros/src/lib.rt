@@ -33,6 +33,7 @@ pub mod meant;
 mod nearest;
 mod nesting;
 pub mod openings;
+mod parameters;
 pub mod placed_word;
 mod said_parts;
 pub mod scene;

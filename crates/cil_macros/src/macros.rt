@@ -103,7 +103,8 @@ pub fn is_macro_at(statements: &[Statement], number: usize) -> bool
     }
 }
 
-fn is_macro(keyword: Keyword) -> bool
+/// Whether a statement of a keyword is a macro.
+pub(crate) fn is_macro(keyword: Keyword) -> bool
     ensures { result ≡ is_macro keyword }
 {
     matches!(keyword, Keyword::Macro)

@@ -1,10 +1,9 @@
-//! What a word means where it is placed: its argument, or itself in a scope. A word of a body costs a step for each parameter
-//! of its macro.
+//! What a word means where it is placed: its argument, or itself in a scope. A word of a body costs a hash, and where it
+//! is no argument one for each kind that it may name.
 
-ghost use Rattle.std.specs.Prelude.{◌≡◌, ◌+◌, ◌<◌, IsTrue, List, MatchOption, None, Some, find, length, slice_get};
-ghost use Rattle.cil_syntax.specs.Program.{IsNested, program_of};
+ghost use Rattle.std.specs.Prelude.{◌≡◌, ◌+◌, ◌<◌, IsTrue, List, MatchOption, None, Some, find, length, slice_get, true};
 ghost use Rattle.cil_syntax.specs.Terms.{Leaf};
-ghost use Rattle.cil_syntax.specs.Written.{Written};
+ghost use Rattle.cil_syntax.specs.Written.{Written, is_macro};
 ghost use Rattle.cil_syntax.specs.declared.kind.Sign.{Sign};
 ghost use Rattle.cil_syntax.specs.declared.term.Word.{Word as AWord};
 ghost use Rattle.cil_blocks.specs.Contents.{Standing};
@@ -14,18 +13,19 @@ ghost use Rattle.cil_macros.specs.Entries.{AreBodies, placed_of};
 ghost use Rattle.cil_macros.specs.Macros.{all_standing};
 ghost use Rattle.cil_macros.specs.Meant.{AreArguments, IsWholeMeaning, meaning_there, meant_in};
 ghost use Rattle.cil_macros.specs.Items.{said_by, word_of};
+ghost use Rattle.cil_macros.specs.NamedParameters.{AreNamed};
 ghost use Rattle.cil_macros.specs.Openings.{IsNumbered};
 ghost use Rattle.cil_macros.specs.Parameters.{macro_parameters};
 ghost use Rattle.cil_macros.specs.Placed.{Bound, Placed, is_served, meaning};
 ghost use Rattle.cil_macros.specs.Scene.{IsArgument, IsKnown, placed_of_scene};
 ghost use Rattle.cil_macros.specs.Walks.{placed_in, written_in};
 
-use crate::arguments::parameter_for;
 use crate::chain::{Brought, standing_statement};
 use crate::meant::{Argument, Meaning, Meant};
 use crate::openings::Opening;
+use crate::parameters::Parameters;
 use crate::scene::Scene;
-use cil_syntax::{Statement, Word};
+use cil_syntax::Word;
 
 /// What a word of the statement at a place means there, where it is known what the bodies round it have from their calls.
 pub fn meaning_at<'o, 'a>(
@@ -48,7 +48,7 @@ pub fn meaning_at<'o, 'a>(
         scene.spaces.entries(),
         scene.brought.bodies[number].macro_rank,
     );
-    if let Some(argument) = argument_for(scene.spaces.statements(), opening, called, word) {
+    if let Some(argument) = argument_for(&scene.declared.parameters, opening, called, word) {
         return argument.meaning();
     }
     if scene.declared.has(called, word.bytes.as_slice(), word.sign) {
@@ -80,16 +80,16 @@ pub fn says_words_at(scene: &Scene, openings: &[Opening], at: usize) -> bool
 
 /// The argument for which a word stands in the body of the macro that is the statement of a number.
 fn argument_for<'o, 'a>(
-    statements: &[Statement<'a>],
+    parameters: &Parameters,
     opening: &'o Opening<'a>,
     called: usize,
     word: &Word<'a>,
 ) -> Option<&'o Argument<'a>>
-    requires { IsNested statements.now }
-    ensures { (ps : List Placed) (bs : List Bound) → AreArguments ps (macro_parameters (statement_at (program_of statements.now) called).statement.args) bs opening.now.arguments.items
+    ensures { (ws : List Written) (ps : List Placed) (bs : List Bound) → AreNamed ws parameters.now → is_macro (statement_at ws called).statement.keyword ≡ true
+        → AreArguments ps (macro_parameters (statement_at ws called).statement.args) bs opening.now.arguments.items
         → MatchOption result (find (is_served word.now) bs ≡ None) (λ argument. IsArgument ps word.now bs argument.now) }
 {
-    let number = parameter_for(statements.get(called)?, word)?;
+    let number = parameters.number_for(called, word)?;
     let argument = opening.arguments.get(number)?;
     Some(argument)
 }

@@ -1,5 +1,4 @@
 use Rattle.std.proofs.Common.{◌∙◌, ◌+◌, ap, arith, false, true}
-use Rattle.cil_base.specs.Places.{in_range}
 use Rattle.cil_syntax.specs.Program.{program_of}
 use Rattle.cil_blocks.specs.Contents.{same_spot}
 use Rattle.cil_blocks.specs.Entries.{standings_of}

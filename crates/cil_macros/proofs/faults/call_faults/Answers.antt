@@ -1,8 +1,7 @@
-use Rattle.std.proofs.Common.{◌++◌, ◌∙◌, ap, arith, length}
-use Rattle.cil_blocks.specs.Contents.{first_word}
+use Rattle.std.proofs.Common.{◌++◌, ap, arith, length}
 use Rattle.cil_blocks.specs.Places.{entries_in}
 use Rattle.cil_blocks.proofs.EntryLemmas.{standings_length}
-use Rattle.cil_macros.specs.CallFaults.{faults_from, told}
+use Rattle.cil_macros.specs.CallFaults.{faults_from}
 use Rattle.cil_macros.specs.Macros.{all_standing}
 use Rattle.cil_macros.specs.Walks.{placed_in, written_in}
 use Rattle.cil_macros.proofs.CallLemmas.{placed_there}

@@ -8,7 +8,7 @@ use Rattle.cil_macros.specs.Openings.{IsNumbered}
 use Rattle.cil_macros.specs.Placed.{declares}
 use Rattle.cil_macros.specs.Scene.{placed_of_scene}
 use Rattle.cil_macros.specs.Walks.{written_in}
-use Rattle.cil_macros.proofs.BodyMeaning.{argument_word, arguments_here, home_word, macro_below, macro_here, number_below, place_word, standing_word}
+use Rattle.cil_macros.proofs.BodyMeaning.{argument_word, arguments_here, home_word, macro_below, macro_called, macro_here, number_below, place_word, standing_word}
 use Rattle.cil_macros.proofs.CallLemmas.{placed_there, stands_by}
 use Rattle.cil_macros.proofs.meaning.meaning_at.Goals as goal
 
@@ -56,10 +56,11 @@ returns-in-Some-argument_for-clause-says c = λ p here.
     let called = c.standing_statement-called.result in
     let stated = stands_by s.spaces.now s.brought.now.entries.items c.entries.result.now c.index.result.now.macro_rank called c.entries.ensures.same c.standing_statement-called.ensures in
     let are = arguments_here s c.args.openings.now c.args.at c.requires p here c.in-Some.number n c.index.result.now b c.index-openings-number.result o called stated in
-    let so = rw c.statements.ensures at c.in-Some-argument_for.ensures in
+    let macro = macro_called s c.args.openings.now c.args.at c.requires p here c.in-Some.number n c.index.result.now b c.index-openings-number.result o called stated in
+    let so = c.in-Some-argument_for.ensures (written_in s.spaces.now) (placed_of_scene s) p.bounds c.requires.scene.declared.parameters macro are in
     c.meaning.ensures.says (placed_of_scene s) c.args.word.now.sign
     ∙ argument_word s c.args.openings.now c.args.at c.requires p here c.in-Some.number n c.index.result.now b c.index-openings-number.result o called stated
-    c.args.word.now c.in-Some-argument_for.argument.now (so (placed_of_scene s) p.bounds are)
+    c.args.word.now c.in-Some-argument_for.argument.now so
 
 pub returns-in-Some-argument_for-clause-whole : goal.returns-in-Some-argument_for-clause-whole
 returns-in-Some-argument_for-clause-whole c =
@@ -74,8 +75,9 @@ returns-in-Some-argument_for-clause-whole c =
     let called = c.standing_statement-called.result in
     let stated = stands_by s.spaces.now s.brought.now.entries.items c.entries.result.now c.index.result.now.macro_rank called c.entries.ensures.same c.standing_statement-called.ensures in
     let are = arguments_here s c.args.openings.now c.args.at c.requires p here c.in-Some.number n c.index.result.now b c.index-openings-number.result o called stated in
-    let so = rw c.statements.ensures at c.in-Some-argument_for.ensures in
-    c.meaning.ensures.whole (placed_of_scene s) (so (placed_of_scene s) p.bounds are).whole
+    let macro = macro_called s c.args.openings.now c.args.at c.requires p here c.in-Some.number n c.index.result.now b c.index-openings-number.result o called stated in
+    let so = c.in-Some-argument_for.ensures (written_in s.spaces.now) (placed_of_scene s) p.bounds c.requires.scene.declared.parameters macro are in
+    c.meaning.ensures.whole (placed_of_scene s) so.whole
 
 pub returns-then-has-clause-says : goal.returns-then-has-clause-says
 returns-then-has-clause-says c = λ p here.
@@ -89,11 +91,12 @@ returns-then-has-clause-says c = λ p here.
     let called = c.standing_statement-called.result in
     let stated = stands_by s.spaces.now s.brought.now.entries.items c.entries.result.now c.index.result.now.macro_rank called c.entries.ensures.same c.standing_statement-called.ensures in
     let are = arguments_here s c.args.openings.now c.args.at c.requires p here c.in-Some.number n c.index.result.now b c.index-openings-number.result o called stated in
-    let so = rw c.statements.ensures at c.in_default-argument_for.ensures in
+    let macro = macro_called s c.args.openings.now c.args.at c.requires p here c.in-Some.number n c.index.result.now b c.index-openings-number.result o called stated in
+    let so = c.in_default-argument_for.ensures (written_in s.spaces.now) (placed_of_scene s) p.bounds c.requires.scene.declared.parameters macro are in
     let below = macro_below s c.args.openings.now c.args.at c.requires p here c.in-Some.number n c.index.result.now b c.index-openings-number.result o called stated in
     c.itself-then-has.ensures.says (placed_of_scene s) c.args.word.now.sign
     ∙ home_word s c.args.openings.now c.args.at c.requires p here c.in-Some.number n c.index.result.now b c.index-openings-number.result o called stated
-    c.args.word.now (so (placed_of_scene s) p.bounds are)
+    c.args.word.now so
     (c.if-has.ensures (written_in s.spaces.now) c.requires.scene.declared below ∙ ap (λ bytes. declares (written_in s.spaces.now) (statement_at (written_in s.spaces.now) called) bytes c.args.word.now.sign) c.as_slice.ensures)
 
 pub returns-clause-says : goal.returns-clause-says
@@ -108,11 +111,12 @@ returns-clause-says c = λ p here.
     let called = c.standing_statement-called.result in
     let stated = stands_by s.spaces.now s.brought.now.entries.items c.entries.result.now c.index.result.now.macro_rank called c.entries.ensures.same c.standing_statement-called.ensures in
     let are = arguments_here s c.args.openings.now c.args.at c.requires p here c.in-Some.number n c.index.result.now b c.index-openings-number.result o called stated in
-    let so = rw c.statements.ensures at c.in_default-argument_for.ensures in
+    let macro = macro_called s c.args.openings.now c.args.at c.requires p here c.in-Some.number n c.index.result.now b c.index-openings-number.result o called stated in
+    let so = c.in_default-argument_for.ensures (written_in s.spaces.now) (placed_of_scene s) p.bounds c.requires.scene.declared.parameters macro are in
     let below = macro_below s c.args.openings.now c.args.at c.requires p here c.in-Some.number n c.index.result.now b c.index-openings-number.result o called stated in
     c.itself-2.ensures.says (placed_of_scene s) c.args.word.now.sign
     ∙ place_word s c.args.openings.now c.args.at c.requires p here c.in-Some.number n c.index.result.now b c.index-openings-number.result o called stated
-    c.args.word.now (so (placed_of_scene s) p.bounds are)
+    c.args.word.now so
     (c.if-has.ensures (written_in s.spaces.now) c.requires.scene.declared below ∙ ap (λ bytes. declares (written_in s.spaces.now) (statement_at (written_in s.spaces.now) called) bytes c.args.word.now.sign) c.as_slice.ensures)
 
 pub returns-in_default-clause-whole : goal.returns-in_default-clause-whole

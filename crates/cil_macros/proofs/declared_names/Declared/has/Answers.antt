@@ -12,7 +12,7 @@ returns-then-contains c = λ ws are within.
     let ks = c.kinds-kind-items.result.now in
     kind_here (λ kind. has (kind_number kind)) ks c.loop-kind.kind-index (get_or ks c.loop-kind.kind-index kinds.Type_) kinds.Type_ c.loop-kind-test.true refl c.loop-kind.invariant (c.if-contains.ensures ∙ ap has c.number.ensures)
     ∙ ap (list_any (λ kind. has (kind_number kind))) c.kinds-kind-items.ensures
-    ∙ asked_in_kinds ws c.args.self.now are c.args.number within c.args.name c.args.sign
+    ∙ asked_in_kinds ws c.args.self.now are.in_bodies c.args.number within c.args.name c.args.sign
 
 pub loop-kind-preserved : goal.loop-kind-preserved
 loop-kind-preserved c =
@@ -25,4 +25,4 @@ returns c = λ ws are within.
     let has = has_kind c.args.self.now c.args.number c.args.name.now in
     no_kind_left (λ kind. has (kind_number kind)) c.kinds-kind-items.result.now c.loop-kind.kind-index c.loop-kind-test.false c.loop-kind.invariant
     ∙ ap (list_any (λ kind. has (kind_number kind))) c.kinds-kind-items.ensures
-    ∙ asked_in_kinds ws c.args.self.now are c.args.number within c.args.name c.args.sign
+    ∙ asked_in_kinds ws c.args.self.now are.in_bodies c.args.number within c.args.name c.args.sign

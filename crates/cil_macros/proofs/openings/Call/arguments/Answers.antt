@@ -1,4 +1,4 @@
-use Rattle.std.proofs.Common.{ap, subst, sym}
+use Rattle.std.proofs.Common.{subst, sym}
 use Rattle.cil_syntax.specs.Written as written
 use Rattle.cil_blocks.proofs.DoubledLemmas.{if_ok}
 use Rattle.cil_macros.specs.Macros.{all_standing}
