@@ -1,7 +1,7 @@
 -- The terms that are read of a statement nest no deeper than the lists of its text.
 use Rattle.std.specs.Prelude.{Contains, Option, Some, None}
-use Rattle.std.proofs.Common.{◌≡◌, ℕ, zero, suc, ◌+◌, ◌<◌, List, [], ◌∷◌, refl, subst, arith}
-use Rattle.cil_sexpr.specs.Text.{IsText, IsNode, AreNodes, deepest}
+use Rattle.std.proofs.Common.{◌≡◌, ℕ, zero, suc, ◌+◌, List, [], ◌∷◌, refl, subst, arith}
+use Rattle.cil_sexpr.specs.Text.{IsNode, AreNodes, deepest}
 use Rattle.cil_sexpr.specs.Tree.{Node, Word as TextWord, Quoted, Branch, Nodes, none, next, span_of, inner_of}
 use Rattle.cil_modset.specs.Modules.{module_of}
 use Rattle.cil_faults.specs.declared.fault.Fault.{Fault}

@@ -22,7 +22,7 @@ use Rattle.cil_faults.specs.declared.spot.Spot.{Spot}
 use Rattle.cil_syntax.specs.declared.term.Term as rust
 use Rattle.cil_syntax.specs.declared.term.Term.TheVariants as variants
 use Rattle.cil_syntax.specs.declared.term.Word.{Word}
-use Rattle.cil_syntax.specs.Words.{read_left_out, inner_at, reads, read_sole, read_word}
+use Rattle.cil_syntax.specs.Words.{inner_at, reads, read_sole, read_word}
 use Rattle.cil_syntax.specs.Shapes.{Inner, Reading, Row, Shape, expression, fixed, is_this_word, item, list_of, looked_up, many, is_of_sets, tagged, word_of, word_sign, Cell}
 use Rattle.cil_syntax.specs.Readings.{formed, head_word, read_behind, read_by_head, read_expression, read_list, read_row, read_tagged, refused_head, cell_of, cells_of}
 use Rattle.cil_syntax.specs.Heads.{one_operand, other_op, other_row}

@@ -1,6 +1,6 @@
 -- The items of a node, of which the first must be a word.
 use Rattle.std.proofs.Common.{◌≡◌, ◌-◌, ◌≤◌, ◌<◌, ℕ, List, [], ◌∷◌, ◌++◌, length, take, drop, get_or, refl, sym, ◌∙◌, ap, subst, arith}
-use Rattle.std.specs.Prelude.{Option, Some, None, Result, Ok, Err, IfOk, slice_range}
+use Rattle.std.specs.Prelude.{Option, None, Result, Ok, Err, IfOk, slice_range}
 use Rattle.std.specs.Global.{Vec}
 use Rattle.std.proofs.lemmas.List.{take_rest}
 use Rattle.cil_sexpr.specs.declared.node.Node as nodes
@@ -13,7 +13,6 @@ use Rattle.cil_syntax.specs.declared.place.Place.{Place}
 use Rattle.cil_syntax.specs.declared.program.Statement as program
 use Rattle.cil_syntax.specs.Around.{IsAround, space_of}
 use Rattle.cil_syntax.specs.Readings.{cell_of, cells_of}
-use Rattle.cil_syntax.specs.Shapes.{Cell}
 use Rattle.cil_syntax.specs.Table.{entry_named}
 use Rattle.cil_syntax.specs.Told.{told, IsJudged}
 use Rattle.cil_syntax.specs.Words.{inner_at}

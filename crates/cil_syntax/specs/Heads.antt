@@ -1,6 +1,6 @@
 -- The languages of expressions: what their lists say is told by the words at their heads. CIL Reference Guide, the
 -- sections on expressions of sets, of conditionals and of constraints; what is not taken is this project's profile.
-use Rattle.std.specs.Prelude.{ℕ, ◌==◌, Bool, true, false, ◌&&◌, ◌||◌, not, if◌then◌else◌, List, [], ◌∷◌, ◌++◌, codes, find, Option}
+use Rattle.std.specs.Prelude.{ℕ, Bool, true, false, ◌&&◌, if◌then◌else◌, List, [], ◌∷◌, ◌++◌, codes, find, Option}
 use Rattle.cil_syntax.specs.declared.kind.Language.{Language}
 use Rattle.cil_syntax.specs.declared.kind.Language.TheVariants as languages
 use Rattle.cil_syntax.specs.declared.kind.Sign.{Sign}

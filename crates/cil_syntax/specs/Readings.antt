@@ -1,6 +1,6 @@
 -- How a node is read by a shape: this interpreter is the definition of a statement's shape. A grammar without faults
 -- stands in Grammar.antt. This project's profile.
-use Rattle.std.specs.Prelude.{ℕ, ◌==◌, length, Bool, true, false, ◌&&◌, ◌||◌, not, if◌then◌else◌, List, [], ◌∷◌, ◌++◌, Option, Some, None}
+use Rattle.std.specs.Prelude.{ℕ, ◌==◌, length, Bool, true, false, if◌then◌else◌, List, [], ◌∷◌, ◌++◌, Option, Some, None}
 use Rattle.std.specs.List.{list_all}
 use Rattle.cil_sexpr.specs.Tree.{Node, Word as TextWord, Quoted, Branch, Nodes, none, next}
 use Rattle.cil_faults.specs.declared.code.FaultCode.TheVariants as causes

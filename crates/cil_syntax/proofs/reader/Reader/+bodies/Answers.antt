@@ -4,7 +4,7 @@ use Rattle.cil_syntax.specs.Table.{behind, branched}
 use Rattle.cil_sexpr.specs.View.{node_of, nodes_of}
 use Rattle.cil_sexpr.specs.Tree.{inner_of}
 use Rattle.cil_syntax.specs.Program.{has_body, statement_of}
-use Rattle.cil_syntax.specs.Standpoints.{found_behind, found_from, opened, forked, opening_by}
+use Rattle.cil_syntax.specs.Standpoints.{found_behind, found_from, opened, opening_by}
 use Rattle.cil_syntax.specs.Entries.{body_of}
 use Rattle.cil_syntax.specs.Told.{AreJudged, StandsIn}
 use Rattle.cil_syntax.specs.Written.{inside_of}
