@@ -4,10 +4,14 @@ use Rattle.std.specs.Prelude.{◌↔◌, Contains, IfOk, Result, Ok, Err}
 use Rattle.std.specs.List.Sorted.{IsPermutation}
 use Rattle.std.proofs.lemmas.List.{take_all}
 use Rattle.std.proofs.lemmas.List.Sorted.{Contains-permutation, IsPermutation-sym}
+use Rattle.cil_syntax.specs.declared.program.Statement.{Statement}
+use Rattle.cil_syntax.specs.Program.{IsNested, program_of}
 use Rattle.cil_syntax.specs.Written.{Written}
+use Rattle.cil_blocks.specs.declared.written.WrittenSpaces.{WrittenSpaces}
 use Rattle.cil_blocks.specs.Doubled.{AreAlike, AreOthers, AreThose, AreWrittenTwice, HasOther, IsMatched, is_named_at}
-use Rattle.cil_blocks.specs.Named.{full_at}
+use Rattle.cil_blocks.specs.WrittenSpaces.{AreWritten, numbered_name}
 use Rattle.cil_blocks.proofs.Kept.{in_more}
+use Rattle.cil_blocks.proofs.WrittenLemmas.{full_same, number_same}
 
 -- ---- another one in a list
 
@@ -44,19 +48,22 @@ module _ {K : Type 0} (key : ℕ → K) (others : List ℕ) where
     (λ m. (so i).1 (m.is_one, (m.other, m.is_other, m.one_key, m.differ))),
   )
 
-module _ (ws : List Written) where
+module _ (ss : List Statement) (nested : IsNested ss) (spaces : WrittenSpaces) (are : AreWritten (program_of ss) spaces) where
+  abbrev ws : List Written
+  ws = program_of ss
+
   pub are_written : (n : ℕ) (named sorted found : List ℕ) → AreThose (λ i. (i < n) × (is_named_at ws i ≡ true)) named → IsPermutation named sorted
-      → AreOthers (full_at ws) sorted found → AreWrittenTwice ws n found
+      → AreOthers (numbered_name ss spaces.numbers) sorted found → AreWrittenTwice ws n found
   are_written n named sorted found so moved is i = (
     (λ c. let m = (is i).0 c in
         let one = (so i).0 (back i m.is_one) in
         let other = (so m.other).0 (back m.other m.is_other) in
-        record { within = one.0; is_one = one.1; other = m.other; other_within = other.0; is_other = other.1; one_name = m.one_key; differ = m.differ }),
+        record { within = one.0; is_one = one.1; other = m.other; other_within = other.0; is_other = other.1; one_name = full_same ss nested spaces are m.other i m.one_key; differ = m.differ }),
     (λ w. (is i).1 (record {
       is_one = there i (w.within, w.is_one);
       other = w.other;
       is_other = there w.other (w.other_within, w.is_other);
-      one_key = w.one_name;
+      one_key = number_same ss nested spaces are w.other i w.one_name;
       differ = w.differ;
     })),
   ) where

@@ -16,7 +16,6 @@ pub mod GraphLemmas
 pub mod InheritLemmas
 pub mod Keeping
 pub mod Kept
-pub mod KnownNumbers
 pub mod LawLemmas
 pub mod MemberLemmas
 pub mod NameLemmas
@@ -27,6 +26,7 @@ pub mod OnceLemmas
 pub mod OneTarget
 pub mod OpenedLemmas
 pub mod PartLemmas
+pub mod PathLemmas
 pub mod PlaceLemmas
 pub mod PlacingLemmas
 pub mod ProgramLemmas
@@ -42,3 +42,4 @@ pub mod StandingWalk
 pub mod StepLemmas
 pub mod TargetLemmas
 pub mod TargetsSo
+pub mod WrittenLemmas

@@ -1,10 +1,6 @@
 -- The full names of statements, by their numbers.
-use Rattle.std.proofs.Common.{◌≡◌, ℕ, zero, suc, ◌+◌, ◌<◌, ◌≤◌, true, false, List, [], ◌∷◌, ◌++◌, length, get_or, drop, refl, sym, ◌∙◌, ap, subst, arith, drop-cons}
+use Rattle.std.proofs.Common.{◌≡◌, ℕ, zero, suc, ◌≤◌, true, false, List, [], ◌∷◌, length, get_or, refl, sym, ◌∙◌, ap, arith}
 use Rattle.std.specs.Prelude.{Option, Some, None, slice_get}
-use Rattle.std.specs.declared.cmp.Ordering.{Ordering}
-use Rattle.std.specs.declared.cmp.Ordering.TheVariants.{Less, Equal, Greater}
-use Rattle.std.specs.Ordering.{is_ne, ordering_then}
-use Rattle.cil_base.specs.Lists.{text_cmp}
 use Rattle.cil_syntax.specs.declared.kind.Keyword.{Keyword}
 use Rattle.cil_syntax.specs.declared.kind.Keyword.TheVariants as keywords
 use Rattle.cil_syntax.specs.declared.program.Statement.{Statement}
@@ -17,7 +13,8 @@ use Rattle.cil_syntax.specs.Terms.{Leaf, Name, Form, Terms, nil, cons}
 use Rattle.cil_syntax.specs.Written.{Context, Written, bytes_of, named_in_front, space_within}
 use Rattle.cil_blocks.specs.Contents.{is_block, name_of}
 use Rattle.cil_blocks.specs.Entries.{nothing, statement_at}
-use Rattle.cil_blocks.specs.Named.{IsBlockAt, full_at, full_name, names_cmp, rank, space_in}
+use Rattle.cil_blocks.specs.Named.{full_at, rank, space_in}
+use Rattle.cil_blocks.specs.WrittenSpaces.{under_at, under_of}
 use Rattle.cil_base.specs.Places.{get_so, in_range, is_there, none_some}
 use Rattle.cil_blocks.proofs.ProgramLemmas.{program_length, stands_on_top, stands_under, written_at}
 
@@ -83,11 +80,22 @@ module _ (ss : List Statement) (nested : IsNested ss) where
   lower_by None k s e u = omega arith
   lower_by (Some q) k s e u = let h = nested.earlier k q s e u in omega (arith, h)
 
-  pub space_some : (k : ℕ) (s : Statement) (o : Option ℕ) → slice_get ss k ≡ Some s → (rank s.under ≤ k → o ≡ s.under) → space_in ws o ≡ (statement_at ws k).context.space
-  space_some k s o e f = ap (space_in ws) (f (lower_by s.under k s e refl)) ∙ space_by s.under k s e refl
-
-  pub space_none : (k : ℕ) → slice_get ss k ≡ None → [] ≡ (statement_at ws k).context.space
+  space_none : (k : ℕ) → slice_get ss k ≡ None → [] ≡ (statement_at ws k).context.space
   space_none k e = sym (ap (λ (w : Written). w.context.space) (at_none k e))
+
+  under_by : (o : Option Statement) (k : ℕ) → slice_get ss k ≡ o → space_in ws (under_of o) ≡ (statement_at ws k).context.space
+  under_by None k e = space_none k e
+  under_by (Some s) k e = space_by s.under k s e refl
+
+  pub space_under : (k : ℕ) → space_in ws (under_at ss k) ≡ (statement_at ws k).context.space
+  space_under k = under_by (slice_get ss k) k refl
+
+  before_by : (o : Option Statement) (k : ℕ) → slice_get ss k ≡ o → rank (under_of o) ≤ k
+  before_by None k e = omega arith
+  before_by (Some s) k e = lower_by s.under k s e refl
+
+  pub under_before : (k : ℕ) → rank (under_at ss k) ≤ k
+  under_before k = before_by (slice_get ss k) k refl
 
 -- ---- blocks
 
@@ -105,38 +113,3 @@ module _ (ws : List Written) where
 
   pub other_space_in : (k : ℕ) → is_block (statement_at ws k).statement.keyword ≡ false → space_in ws (Some k) ≡ (statement_at ws k).context.space
   other_space_in k e = within_other (statement_at ws k).statement.keyword (statement_at ws k).statement.args (statement_at ws k).context.space e
-
--- ---- comparisons
-
-pub not_ne : (o : Ordering) → false ≡ is_ne o → o ≡ Equal
-not_ne Less e = absurd (let f : false ≡ true = e in cc)
-not_ne Equal e = refl
-not_ne Greater e = absurd (let f : false ≡ true = e in cc)
-
-pub then_other : (o p : Ordering) → (o ≡ Equal → ⊥) → ordering_then o p ≡ o
-then_other Less p h = refl
-then_other Equal p h = absurd (h refl)
-then_other Greater p h = refl
-
-module _ (x y : List ℕ) (xs ys : List (List ℕ)) where
-  pub differ_here : (o : Ordering) → o ≡ text_cmp x y → (o ≡ Equal → ⊥) → names_cmp (x ∷ xs) (y ∷ ys) ≡ o
-  differ_here o e h = ap (λ p. ordering_then p (names_cmp xs ys)) (sym e) ∙ then_other o (names_cmp xs ys) h
-
-  pub alike_here : (o : Ordering) → o ≡ text_cmp x y → o ≡ Equal → names_cmp (x ∷ xs) (y ∷ ys) ≡ names_cmp xs ys
-  alike_here o e h = ap (λ p. ordering_then p (names_cmp xs ys)) (sym e ∙ h)
-
--- one name more of a path is compared
-module _ (ws : List Written) (names space : List (List ℕ)) where
-  pub one_compared : (at next : Option ℕ) (i k : ℕ) (name mine : List ℕ) (o whole : Ordering) → i < length names → name ≡ get_or names i name
-      → at ≡ Some k → whole ≡ names_cmp (space_in ws at) (drop i names ++ space) → IsBlockAt ws at → mine ≡ name_of (statement_at ws k)
-      → o ≡ text_cmp mine name → o ≡ Equal → space_in ws next ≡ (statement_at ws k).context.space
-      → whole ≡ names_cmp (space_in ws next) (drop (i + 1) names ++ space)
-  one_compared at next i k name mine o whole h is e so block own order alike up =
-      let here : space_in ws at ≡ name_of (statement_at ws k) ∷ (statement_at ws k).context.space =
-      ap (space_in ws) e ∙ block_space_in ws k (subst (IsBlockAt ws) e block) in
-      let rest : drop i names ≡ name ∷ drop (i + 1) names =
-      drop-cons names i name h ∙ ap (λ y. y ∷ drop (suc i) names) (sym is) ∙ ap (λ n. name ∷ drop n names) (let l : suc i ≡ i + 1 = omega arith in l) in
-      so ∙ (λ t. names_cmp (here t) (rest t ++ space))
-      ∙ alike_here (name_of (statement_at ws k)) name (statement_at ws k).context.space (drop (i + 1) names ++ space) o
-      (order ∙ ap (λ x. text_cmp x name) own) alike
-      ∙ ap (λ n. names_cmp n (drop (i + 1) names ++ space)) (sym up)

@@ -1,40 +1,52 @@
 -- The items of one key among sorted ones: they stand between two partition points.
 use Rattle.std.specs.Prelude.{Contains, not, ◌↔◌}
-use Rattle.std.proofs.Common.{◌≡◌, ℕ, ◌+◌, ◌<◌, ◌≤◌, Bool, true, false, is_lt, List, [], ◌∷◌, ◌++◌, length, take, drop, get_or, refl, sym, ◌∙◌, ap, subst, inl, inr, arith}
+use Rattle.std.proofs.Common.{◌≡◌, ℕ, ◌+◌, ◌<◌, ◌≤◌, Bool, true, false, is_lt, List, ◌++◌, length, take, drop, get_or, refl, sym, ◌∙◌, ap, subst, inl, inr, arith}
 use Rattle.std.specs.declared.cmp.Ordering.{Ordering}
 use Rattle.std.specs.declared.cmp.Ordering.TheVariants.{Less, Equal, Greater}
-use Rattle.std.specs.Ordering.{is_gt, ordering_reverse}
+use Rattle.std.specs.Ordering.{is_gt, is_ne, nat_cmp, ordering_reverse, ordering_then}
 use Rattle.std.specs.Cmp.{IsTotalOrder, IsStrictWeakOrder}
-use Rattle.std.specs.Cmp.Lexicographic.{lists_total}
 use Rattle.std.specs.List.Sorted.{IsPartitionedBy, IsPartitionPoint, IsSortedByKey}
-use Rattle.std.proofs.lemmas.Cmp.{nat_list_cmp_total}
+use Rattle.std.proofs.lemmas.Cmp.{nat_cmp_total, nat_list_cmp_total, on_total, then_total}
 use Rattle.std.proofs.lemmas.Map.Lookups.{exact_bytes}
 use Rattle.std.proofs.lemmas.Bool.{false≢true, not-true, not-false, true≢false}
 use Rattle.std.proofs.lemmas.List.{get_or-drop, length-drop, take-append-drop}
 use Rattle.std.proofs.lemmas.List.Elements.{Contains-append_left, Contains-append_right, Contains-append_cases}
 use Rattle.std.proofs.lemmas.List.Sorted.{ranks_by, sorted_far}
 use Rattle.cil_base.specs.Lists.{text_cmp}
-use Rattle.cil_blocks.specs.Named.{names_cmp}
+use Rattle.cil_blocks.specs.WrittenSpaces.{NumberedName, numbered_cmp}
+use Rattle.cil_base.specs.Paths.{both_equal, same_by}
 use Rattle.cil_base.specs.Places.{in_drop, in_take}
 
--- ---- names
+-- ---- a number, and then a name
 
-pub names_total : IsTotalOrder names_cmp
-names_total = lists_total nat_list_cmp_total
+pub numbered_total : IsTotalOrder numbered_cmp
+numbered_total = then_total (on_total (λ n. n.0) nat_cmp_total) (on_total (λ n. n.1) nat_list_cmp_total)
 
-pub one_names : (xs ys : List (List ℕ)) → names_cmp xs ys ≡ Equal → xs ≡ ys
-one_names [] [] e = refl
-one_names [] (y ∷ ys) e = absurd (let f : Less ≡ Equal = e in cc)
-one_names (x ∷ xs) [] e = absurd (let f : Greater ≡ Equal = e in cc)
-one_names (x ∷ xs) (y ∷ ys) e =
-    let both = two (text_cmp x y) (names_cmp xs ys) e in
-    let head : x ≡ y = exact_bytes x y both.0 in
-    let tail = one_names xs ys both.1 in
-    λ i. head i ∷ tail i where
-      two : (o p : Ordering) → Rattle.std.specs.Ordering.ordering_then o p ≡ Equal → (o ≡ Equal) × (p ≡ Equal)
-      two Less p e = absurd (let f : Less ≡ Equal = e in cc)
-      two Equal p e = (refl, e)
-      two Greater p e = absurd (let f : Greater ≡ Equal = e in cc)
+pub one_name : (a b : NumberedName) → numbered_cmp a b ≡ Equal → a ≡ b
+one_name a b e =
+    let both = both_equal (nat_cmp a.0 b.0) (text_cmp a.1 b.1) e in
+    let number = same_by a.0 b.0 both.0 in
+    let name = exact_bytes a.1 b.1 both.1 in
+    λ i. (number i, name i)
+
+differing : (o p : Ordering) → true ≡ is_ne o → o ≡ ordering_then o p
+differing Less p e = refl
+differing Equal p e = absurd (let f : true ≡ false = e in cc)
+differing Greater p e = refl
+
+alike : (o p : Ordering) → false ≡ is_ne o → p ≡ ordering_then o p
+alike Less p e = absurd (let f : false ≡ true = e in cc)
+alike Equal p e = refl
+alike Greater p e = absurd (let f : false ≡ true = e in cc)
+
+module _ (a b : NumberedName) (o : Ordering) (order : o ≡ nat_cmp a.0 b.0) where
+  -- other numbers decide
+  pub number_decides : true ≡ is_ne o → o ≡ numbered_cmp a b
+  number_decides e = differing o (text_cmp a.1 b.1) e ∙ ap (λ p. ordering_then p (text_cmp a.1 b.1)) order
+
+  -- of one number the names do
+  pub name_decides : (p : Ordering) → false ≡ is_ne o → p ≡ text_cmp a.1 b.1 → p ≡ numbered_cmp a b
+  name_decides p e is = is ∙ alike o (text_cmp a.1 b.1) e ∙ ap (λ q. ordering_then q (text_cmp a.1 b.1)) order
 
 -- ---- keys
 

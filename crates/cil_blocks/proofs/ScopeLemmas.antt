@@ -1,16 +1,12 @@
--- Scopes of the place of writing, and the names in a word.
-use Rattle.std.proofs.Common.{◌≡◌, ◌⊎◌, ℕ, ◌<◌, ◌==◌, Bool, true, false, ◌&&◌, not, if◌then◌else◌, List, [], ◌∷◌, ◌++◌, length, refl, sym, ◌∙◌, ap, subst, inl, inr, arith, append_assoc}
-use Rattle.std.specs.Prelude.{Contains, filter, reverse}
-use Rattle.std.specs.List.{slice_split}
-use Rattle.std.proofs.lemmas.List.{length-append}
-use Rattle.std.proofs.lemmas.List.Splits.{slice_split_at, slice_split_none}
+-- Scopes of the place of writing.
+use Rattle.std.proofs.Common.{◌≡◌, ◌⊎◌, ℕ, ◌<◌, Bool, true, false, ◌&&◌, not, if◌then◌else◌, List, [], ◌∷◌, ◌++◌, length, refl, sym, ◌∙◌, ap, subst, inl, inr, arith}
+use Rattle.std.specs.Prelude.{Contains, filter}
 use Rattle.cil_base.specs.Lists.{contains_none}
-use Rattle.cil_syntax.specs.Scopes.{IsDotless, IsParted, IsTaken, apart, chain, names_backwards, same_space, scope_at}
+use Rattle.cil_syntax.specs.Scopes.{apart, chain, same_space, scope_at}
 use Rattle.cil_faults.specs.Namespaces.{Namespace}
 use Rattle.cil_syntax.specs.Spelling.{same_bytes}
 use Rattle.cil_syntax.specs.Written.{Written}
-use Rattle.cil_blocks.specs.Named.{AreFirstNamed, AreOfName, HasNoneNamed, IsAsked}
-use Rattle.cil_syntax.proofs.AskedLemmas.{is_global, is_parted}
+use Rattle.cil_blocks.specs.Named.{AreFirstNamed, AreOfName, HasNoneNamed}
 
 -- ---- a scope of the place of writing is the chain
 
@@ -44,31 +40,6 @@ scope_outwards x n = ap (λ s. s ++ [] ∷ []) (apart_chain x n)
 pub scope_global : scope_at [] ≡ [] ∷ []
 unfolding apart chain
 scope_global = refl
-
--- ---- the names in a word
-
-abbrev is_dot : ℕ → Bool
-is_dot b = b == 46
-
-pub one_taken : (path first rest behind : List ℕ) (before now : List (List ℕ)) → IsParted rest first behind → slice_split is_dot path ≡ before ++ slice_split is_dot rest
-    → now ≡ before ++ first ∷ [] → slice_split is_dot path ≡ now ++ slice_split is_dot behind
-one_taken path first rest behind before now p so e =
-    so ∙ ap (λ r. before ++ slice_split is_dot r) p.whole ∙ ap (λ xs. before ++ xs) (slice_split_at is_dot first 46 behind p.dotless refl)
-    ∙ sym (append_assoc before (first ∷ []) (slice_split is_dot behind)) ∙ ap (λ xs. xs ++ slice_split is_dot behind) (sym e)
-
-pub shorter : (first rest behind : List ℕ) → IsParted rest first behind → length behind < length rest
-shorter first rest behind p =
-    let l = length-append first (46 ∷ behind) in
-    let w = ap length p.whole in
-    omega (arith, l, w)
-
-pub last_taken : (path rest : List ℕ) (before now : List (List ℕ)) → IsDotless rest → slice_split is_dot path ≡ before ++ slice_split is_dot rest
-    → now ≡ before ++ rest ∷ [] → reverse now ≡ names_backwards path
-last_taken path rest before now p so e =
-    ap reverse (e ∙ sym (so ∙ ap (λ xs. before ++ xs) (slice_split_none is_dot rest p)))
-
-pub is_asked : (word path : List ℕ) (global : Bool) (names : List (List ℕ)) → IsTaken word global path → names ≡ names_backwards path → IsAsked word global names
-is_asked word path global names t e = (is_global word global path t, sym (is_parted word global path t) ∙ sym e)
 
 -- ---- the first namespace that has a block of some names
 

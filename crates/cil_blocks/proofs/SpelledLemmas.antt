@@ -9,7 +9,8 @@ use Rattle.cil_blocks.specs.Namespaces.{AreNamespaces, inner_at, space_at}
 use Rattle.cil_blocks.proofs.NamespaceLemmas.{global_at, next_at}
 
 module _ (ss : List Space) (are : AreNamespaces ss) where
-  inner_named : (k : ℕ) (s : Space) → inner_at ss k ≡ Some s → space_at ss k ≡ s.name ∷ space_at ss s.outer
+  -- its own name is in front of the one round it
+  pub inner_named : (k : ℕ) (s : Space) → inner_at ss k ≡ Some s → space_at ss k ≡ s.name ∷ space_at ss s.outer
   inner_named zero s e = absurd (none_some s e)
   inner_named (suc i) s e = next_at ss are i s e
 

@@ -1,14 +1,16 @@
--- Blocks by their full names, and the targets of blockinherits.
+-- The blocks of a program, in the order of the numbers of their namespaces.
 use Rattle.std.proofs.Common.{◌≡◌, ◌⊎◌, ℕ, ◌+◌, ◌<◌, Bool, true, false, List, [], ◌∷◌, ◌++◌, length, sym, ◌∙◌, ap, subst, inl, inr, arith}
 use Rattle.std.specs.Prelude.{◌↔◌, Contains, Some}
 use Rattle.std.specs.List.Sorted.{IsPermutation, IsSortedByKey}
+use Rattle.std.specs.Ordering.{nat_cmp}
 use Rattle.std.proofs.lemmas.List.Elements.{Contains-append_left, Contains-append_right, Contains-append_cases}
 use Rattle.std.proofs.lemmas.List.Sorted.{Contains-permutation, IsPermutation-sym}
 use Rattle.cil_base.specs.Lists.{contains_here, contains_cases, contains_none}
 use Rattle.cil_syntax.specs.Written.{Written}
 use Rattle.cil_blocks.specs.Contents.{is_block}
 use Rattle.cil_blocks.specs.Entries.{statement_at}
-use Rattle.cil_blocks.specs.Named.{AreBlocks, block_in, names_cmp, space_in}
+use Rattle.cil_blocks.specs.Named.{AreBlocks, block_in}
+use Rattle.cil_blocks.specs.Numbers.{number_in}
 
 module _ (ws : List Written) where
   abbrev IsBlockNumber : ℕ → Type 0
@@ -53,9 +55,9 @@ module _ (ws : List Written) where
     ])),
   )
 
-  pub are_blocks : (n : ℕ) (blocks sorted : List ℕ) → n ≡ length ws → AreBlocksUpTo n blocks → IsPermutation blocks sorted
-      → IsSortedByKey (λ b. space_in ws (Some b)) names_cmp sorted → AreBlocks ws sorted
-  are_blocks n blocks sorted l all moved order = record {
+  pub are_blocks : (n : ℕ) (numbers blocks sorted : List ℕ) → n ≡ length ws → AreBlocksUpTo n blocks → IsPermutation blocks sorted
+      → IsSortedByKey (λ b. number_in numbers (Some b)) nat_cmp sorted → AreBlocks ws numbers sorted
+  are_blocks n numbers blocks sorted l all moved order = record {
     sorted = order;
     members = λ b. (
       (λ c. let h = (all b).0 (Contains-permutation sorted blocks b (IsPermutation-sym blocks sorted moved) c) in let below = h.0 in (omega (arith, below, l), h.1)),

@@ -6,14 +6,15 @@ use Rattle.std.specs.List.{list_any}
 use Rattle.cil_base.specs.Lists.{contains_here, contains_later, contains_cases, contains_none}
 use Rattle.cil_syntax.specs.declared.term.Word.{Word}
 use Rattle.cil_syntax.specs.Forms.{word_in_front}
-use Rattle.cil_syntax.specs.Scopes.{Asked, asked, same_space, scope_at, spaces_asked}
+use Rattle.cil_syntax.specs.Scopes.{Asked, IsTaken, asked, names_backwards, same_space, scope_at, spaces_asked}
 use Rattle.cil_faults.specs.Namespaces.{Namespace}
 use Rattle.cil_syntax.specs.Spelling.{same_bytes}
 use Rattle.cil_syntax.specs.Terms.{Leaf, Name, Form, Terms, nil, cons}
 use Rattle.cil_syntax.specs.Written.{Written}
+use Rattle.cil_syntax.proofs.AskedLemmas.{is_global, is_parted}
 use Rattle.cil_blocks.specs.Contents.{block_space, first_word, has_block, is_block, is_block_named, name_of}
 use Rattle.cil_blocks.specs.Entries.{AreBelow, nothing, statement_at}
-use Rattle.cil_blocks.specs.Named.{AreBlocks, AreFirstNamed, AreOfName, AreTargets, HasNoneNamed, IsAsked, asked_space, space_in}
+use Rattle.cil_blocks.specs.Named.{AreBlocks, AreFirstNamed, AreOfName, AreTargets, HasNoneNamed, asked_space, space_in}
 use Rattle.cil_base.specs.MadeLists.{contains_map, from_map}
 use Rattle.cil_base.specs.Places.{get_at, get_contains, get_so, is_there, none_some, some_same, cons_head, cons_tail}
 use Rattle.cil_blocks.proofs.NameLemmas.{block_space_in}
@@ -74,7 +75,7 @@ module _ (ws : List Written) where
   pub no_targets : (n : ℕ) → first_word (statement_at ws n).statement.args ≡ None → AreTargets ws n []
   no_targets n e b = ((λ t. absurd (none_some t.word (sym e ∙ t.is_word))), (λ c. absurd (contains_none b c)))
 
-module _ (ws : List Written) (blocks : List ℕ) (are_blocks : AreBlocks ws blocks) where
+module _ (ws : List Written) (numbers blocks : List ℕ) (are_blocks : AreBlocks ws numbers blocks) where
   -- ---- a block of a name, by its number
 
   named_true : (j : ℕ) (name : List ℕ) (m : Namespace) → Contains blocks j → space_in ws (Some j) ≡ name ∷ m → is_block_named name m (statement_at ws j) ≡ true
@@ -147,13 +148,13 @@ module _ (ws : List Written) (blocks : List ℕ) (are_blocks : AreBlocks ws bloc
       ∙ ap (map (λ n. a.inner ++ n)) (sym scope_global)
   spaces_so a here false e = ap (λ b. if b then a.inner ∷ [] else map (λ n. a.inner ++ n) (scope_at here)) e
 
-  space_found : (here : Namespace) (word : Word) (global : Bool) (names : List (List ℕ)) (found : List ℕ) → IsAsked word.bytes global names
-      → AreFirstNamed ws blocks names (scope_at (asked_space global here)) found → IsSpaceOf (asked word.bytes).name found (block_space ws here word)
+  space_found : (here : Namespace) (word : Word) (global : Bool) (path found : List ℕ) → IsTaken word.bytes global path
+      → AreFirstNamed ws blocks (names_backwards path) (scope_at (asked_space global here)) found → IsSpaceOf (asked word.bytes).name found (block_space ws here word)
   unfolding block_space
-  space_found here word global names found a f =
-      subst (IsSpaceOf (asked word.bytes).name found) (ap (find (has_block ws (asked word.bytes).name)) (sym (spaces_so (asked word.bytes) here global a.0)))
+  space_found here word global path found t f =
+      subst (IsSpaceOf (asked word.bytes).name found) (ap (find (has_block ws (asked word.bytes).name)) (sym (spaces_so (asked word.bytes) here global (is_global word.bytes global path t))))
       (searched (asked word.bytes).name (asked word.bytes).inner (scope_at (asked_space global here)) found
-      (subst (λ ns. AreFirstNamed ws blocks ns (scope_at (asked_space global here)) found) (sym a.1) f))
+      (subst (λ ns. AreFirstNamed ws blocks ns (scope_at (asked_space global here)) found) (is_parted word.bytes global path t) f))
 
   -- ---- the targets
 
@@ -184,11 +185,12 @@ module _ (ws : List Written) (blocks : List ℕ) (are_blocks : AreBlocks ws bloc
         }),
   )
 
-  pub the_targets : (n : ℕ) (word : Word) (global : Bool) (names : List (List ℕ)) (found : List ℕ) (space : Namespace) → first_word (statement_at ws n).statement.args ≡ Some word
-      → IsAsked word.bytes global names → space ≡ asked_space global (statement_at ws n).context.space → AreFirstNamed ws blocks names (scope_at space) found → AreTargets ws n found
-  the_targets n word global names found space e a s f =
+  pub the_targets : (n : ℕ) (word : Word) (global : Bool) (path found : List ℕ) (space : Namespace) → first_word (statement_at ws n).statement.args ≡ Some word
+      → IsTaken word.bytes global path → space ≡ asked_space global (statement_at ws n).context.space → AreFirstNamed ws blocks (names_backwards path) (scope_at space) found
+      → AreTargets ws n found
+  the_targets n word global path found space e t s f =
       by_space n word found e
-      (space_found (statement_at ws n).context.space word global names found a (subst (λ m. AreFirstNamed ws blocks names (scope_at m) found) s f))
+      (space_found (statement_at ws n).context.space word global path found t (subst (λ m. AreFirstNamed ws blocks (names_backwards path) (scope_at m) found) s f))
 
   -- and they are among the blocks
   first_among : (names : List (List ℕ)) (scope : List Namespace) (found : List ℕ) → AreFirstNamed ws blocks names scope found → (k : ℕ) → Contains found k → Contains blocks k

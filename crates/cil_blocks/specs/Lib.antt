@@ -15,3 +15,4 @@ pub mod Placing
 pub mod Reports
 pub mod Seeds
 pub mod Steps
+pub mod WrittenSpaces

@@ -1,20 +1,14 @@
 -- Written blocks by their full names: the own name in front of the namespace.
 use Rattle.std.specs.Prelude.{◌≡◌, ◌↔◌, ◌⊎◌, ℕ, suc, ◌<◌, Bool, true, false, List, [], ◌∷◌, ◌++◌, length, map, Contains, Option, Some, None, slice_get}
 use denote.Ref.{Bor}
-use Rattle.std.specs.declared.cmp.Ordering.{Ordering}
 use Rattle.std.specs.List.Sorted.{IsSortedByKey}
-use Rattle.std.specs.Cmp.Lexicographic.{slice_cmp}
-use Rattle.cil_base.specs.Lists.{text_cmp}
+use Rattle.std.specs.Ordering.{nat_cmp}
 use Rattle.cil_faults.specs.Namespaces.{Namespace}
-use Rattle.cil_syntax.specs.Scopes.{asked}
 use Rattle.cil_syntax.specs.Written.{Written, space_within}
 use Rattle.cil_blocks.specs.declared.targets.Targets.{Targets}
 use Rattle.cil_blocks.specs.Contents.{Target, is_block, is_inheriting, name_of}
 use Rattle.cil_blocks.specs.Entries.{statement_at}
-
--- the own name first, then that of the block round it, and so on
-abbrev pub names_cmp : List (List ℕ) → List (List ℕ) → Ordering
-names_cmp = slice_cmp text_cmp
+use Rattle.cil_blocks.specs.Numbers.{number_in}
 
 abbrev pub full_name : Written → List (List ℕ)
 full_name w = name_of w ∷ w.context.space
@@ -37,14 +31,9 @@ abbrev pub rank : Option ℕ → ℕ
 rank None = 0
 rank (Some k) = suc k
 
--- each number is one of a block
-abbrev pub IsBlockAt : List Written → Option ℕ → Type 0
-IsBlockAt ws None = Unit {0}
-IsBlockAt ws (Some k) = is_block (statement_at ws k).statement.keyword ≡ true
-
--- the blocks of a program, by their numbers, in the order of their full names
-pub record AreBlocks (ws : List Written) (blocks : List ℕ) : Type 0 where
-  pub sorted : IsSortedByKey (λ b. space_in ws (Some b)) names_cmp blocks
+-- the blocks of a program, in the order of the numbers of their namespaces
+pub record AreBlocks (ws : List Written) (numbers : List ℕ) (blocks : List ℕ) : Type 0 where
+  pub sorted : IsSortedByKey (λ b. number_in numbers (Some b)) nat_cmp blocks
   pub members : (b : ℕ) → Contains blocks b ↔ ((b < length ws) × (is_block (statement_at ws b).statement.keyword ≡ true))
 
 -- a number, if it is one of a block
@@ -52,13 +41,13 @@ abbrev pub block_in : ℕ → Bool → List ℕ
 block_in number true = number ∷ []
 block_in number false = []
 
--- of these numbers, those of one full name
+-- of these blocks, those whose namespace has one number
+abbrev pub AreOfNumber : List ℕ → List ℕ → ℕ → List ℕ → Type 0
+AreOfNumber numbers blocks space found = (b : ℕ) → Contains found b ↔ (Contains blocks b × (number_in numbers (Some b) ≡ space))
+
+-- of these blocks, those of one full name
 abbrev pub AreOfName : List Written → List ℕ → List (List ℕ) → List ℕ → Type 0
 AreOfName ws blocks names found = (b : ℕ) → Contains found b ↔ (Contains blocks b × (space_in ws (Some b) ≡ names))
-
--- the names that a word asks, the last one first, and whether a dot leads it
-abbrev pub IsAsked : List ℕ → Bool → List (List ℕ) → Type 0
-IsAsked word global names = ((asked word).global ≡ global) × ((asked word).name ∷ (asked word).inner ≡ names)
 
 -- the namespace that a word asks first: with a leading dot the global one
 abbrev pub asked_space : Bool → Namespace → Namespace

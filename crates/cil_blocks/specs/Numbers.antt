@@ -1,5 +1,5 @@
 -- Lists of numbers: of namespaces, as a scope, and numbers of which many in front are 0.
-use Rattle.std.specs.Prelude.{◌≤◌, ◌==◌, ◌||◌, ℕ, zero, suc, if◌then◌else◌, List, [], ◌∷◌, ◌++◌, length, fold, replicate, Contains, Option, Some, None}
+use Rattle.std.specs.Prelude.{◌≤◌, ◌==◌, ◌||◌, ℕ, zero, suc, if◌then◌else◌, List, [], ◌∷◌, ◌++◌, length, fold, get_or, replicate, Contains, Option, Some, None}
 use Rattle.std.specs.List.{list_any}
 use Rattle.cil_blocks.specs.declared.namespaces.Space.{Space}
 use Rattle.cil_blocks.specs.Namespaces.{inner_at}
@@ -7,6 +7,11 @@ use Rattle.cil_blocks.specs.Namespaces.{inner_at}
 -- so many zeros, and then others
 abbrev pub behind_zeros : ℕ → List ℕ → List ℕ
 behind_zeros zeros others = replicate zeros 0 ++ others
+
+-- the number at a place; 0, that of the global namespace, where there is no place
+abbrev pub number_in : List ℕ → Option ℕ → ℕ
+number_in ks None = 0
+number_in ks (Some k) = get_or ks k 0
 
 -- these are numbers of namespaces
 abbrev pub AreWithin : List Space → List ℕ → Type 0

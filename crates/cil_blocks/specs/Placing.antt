@@ -1,8 +1,6 @@
 -- How places are found one after another: what an opener opens, and the places of the first entries.
 use Rattle.std.specs.Prelude.{◌≡◌, ◌<◌, ◌≤◌, ◌+◌, ℕ, List, [], ◌∷◌, ◌++◌, reverse, Contains, length, Option, Some, None, slice_get}
 use Rattle.std.specs.Option.{option_map}
-use Rattle.std.proofs.Math.Dec.{eqb}
-use Rattle.indexmap.specs.IndexMap.{IndexMap, get}
 use Rattle.cil_syntax.specs.declared.kind.Keyword.{Keyword}
 use Rattle.cil_syntax.specs.declared.kind.Keyword.TheVariants as keywords
 use Rattle.cil_syntax.specs.Written.{Written}
@@ -11,7 +9,6 @@ use Rattle.cil_blocks.specs.declared.namespaces.Space.{Space}
 use Rattle.cil_blocks.specs.declared.places.Place.{Place}
 use Rattle.cil_blocks.specs.Contents.{Standing, name_of}
 use Rattle.cil_blocks.specs.Entries.{standing_through, statement_at}
-use Rattle.cil_blocks.specs.Named.{space_in}
 use Rattle.cil_blocks.specs.Namespaces.{IsNumber, space_at}
 use Rattle.cil_blocks.specs.Numbers.{AreWithin}
 use Rattle.cil_blocks.specs.Opens.{target_of}
@@ -68,12 +65,6 @@ IsThrough old new outer opener (Some b) space written = (space ≡ outer) × ((n
 abbrev pub IsInside : List Written → List Space → List Space → ℕ → ℕ → ℕ → Option ℕ → Type 0
 IsInside ws old new outer number space written =
     IsThrough old new outer (statement_at ws number) (inherited_of ws (statement_at ws number)) space written
-
--- ---- the namespaces of written blocks
-
--- what is kept for a block is the number of its namespace
-abbrev pub AreKnown : {S : Type 0} → List Written → List Space → IndexMap ℕ ℕ S → Type 0
-AreKnown ws ss known = (b n : ℕ) → get eqb known b ≡ Some n → IsNumber ss (space_in ws (Some b)) n
 
 -- ---- entries
 

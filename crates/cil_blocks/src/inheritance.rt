@@ -6,11 +6,12 @@ ghost use Rattle.cil_faults.specs.declared.code.FaultCode.TheVariants as causes;
 ghost use Rattle.cil_faults.specs.Fails.{AreFaults};
 ghost use Rattle.cil_syntax.specs.Program.{IsNested, program_of};
 ghost use Rattle.cil_faults.specs.Refusal.{Answers};
-ghost use Rattle.cil_blocks.specs.Entries.{AreParts, statement_at};
+ghost use Rattle.cil_blocks.specs.Entries.{AreOpened, AreParts, statement_at};
 ghost use Rattle.cil_blocks.specs.InheritFaults.{InheritFault, InheritStep, IsDoubled, limit_fault, most_instances};
 ghost use Rattle.cil_blocks.specs.Named.{AreAllTargets};
 ghost use Rattle.cil_blocks.specs.Places.{AreStandings, statements_in};
 ghost use Rattle.cil_blocks.specs.Reports.{AreAllFaults, AreJoined, AreNumbersOf, IsCyclic, IsToldOf, IsUnresolved, name_fault, target_fault};
+ghost use Rattle.cil_blocks.specs.WrittenSpaces.{AreWritten};
 
 use crate::contents::contents_of;
 use crate::cycles::cycles_of;
@@ -19,10 +20,11 @@ use crate::laws;
 use crate::names::is_inheriting;
 use crate::opened::opened_of;
 use crate::parts::{Parts, parts_of};
-use crate::places::places_of;
+use crate::placing::places_of;
 use crate::reports::{name_faults, target_faults};
 use crate::spaces::Spaces;
 use crate::targets::{Targets, blocks_of, targets_of};
+use crate::written::{WrittenSpaces, written_spaces};
 use cil_base::NoMemory;
 use cil_syntax::{Bytes, Failure, Fault, FaultCode, FaultList, Program, Statement};
 use std::alloc::Global;
@@ -40,17 +42,19 @@ pub fn inherit<'p, 'a>(alloc: Global, program: &'p Program<'a>) -> Result<Spaces
 {
     let statements = program.statements();
     let parts = parts_of(alloc, statements)?;
-    let blocks = blocks_of(alloc, statements)?;
-    let targets = targets_of(alloc, statements, blocks.as_slice())?;
-    check_blocks(alloc, statements, &parts, &targets)?;
-    let opened = opened_of(alloc, statements, &parts, &targets)?;
+    let spaces = written_spaces(alloc, statements)?;
+    let opened = all_opened(alloc, statements, &spaces, &parts)?;
     let Some(entries) = contents_of(alloc, statements, &parts, opened.as_slice(), MOST_INSTANCES)?
     else {
         return Err(Failure::Faults(over_the_limit(alloc)?));
     };
-    // Where nothing is wrong, each blockinherit has one target.
-    laws::one_target();
-    let located = places_of(alloc, statements, opened.as_slice(), entries.as_slice())?;
+    let located = places_of(
+        alloc,
+        statements,
+        spaces,
+        opened.as_slice(),
+        entries.as_slice(),
+    )?;
     Ok(Spaces {
         statements,
         entries,
@@ -58,23 +62,47 @@ pub fn inherit<'p, 'a>(alloc: Global, program: &'p Program<'a>) -> Result<Spaces
     })
 }
 
+/// For each statement the number of the one whose parts it opens, if it opens any; or exactly what is wrong with the blocks of a
+/// program.
+fn all_opened(
+    alloc: Global,
+    statements: &[Statement],
+    spaces: &WrittenSpaces,
+    parts: &Parts,
+) -> Result<Vec<Option<usize>>, Failure>
+    requires nested { IsNested statements.now }
+    requires written { AreWritten (program_of statements.now) spaces.now }
+    requires parts { AreParts (program_of statements.now) parts.now }
+    ensures { Answers (λ opened. AreOpened (program_of statements.now) opened.items) (InheritFault (program_of statements.now)) result }
+{
+    let blocks = blocks_of(alloc, statements, spaces)?;
+    let targets = targets_of(alloc, statements, spaces, blocks.as_slice())?;
+    check_blocks(alloc, statements, spaces, parts, &targets)?;
+    // Where nothing is wrong, each blockinherit has one target.
+    laws::one_target();
+    let opened = opened_of(alloc, statements, parts, &targets)?;
+    Ok(opened)
+}
+
 /// Refuses what is wrong with the blocks of a program.
 fn check_blocks(
     alloc: Global,
     statements: &[Statement],
+    spaces: &WrittenSpaces,
     parts: &Parts,
     targets: &Targets,
 ) -> Result<(), Failure>
     requires nested { IsNested statements.now }
+    requires written { AreWritten (program_of statements.now) spaces.now }
     requires parts { AreParts (program_of statements.now) parts.now }
     requires targets { AreAllTargets (program_of statements.now) targets.now }
     ensures { Answers (λ done. Unit {0}) (InheritFault (program_of statements.now)) result }
 {
     // A target encloses a blockinherit where it leads back to it.
     laws::cycle();
-    let doubled = doubled_faults(alloc, statements, parts, targets)?;
-    let unresolved = unresolved_faults(alloc, statements, targets)?;
-    let cyclic = cycle_faults(alloc, statements, parts, targets)?;
+    let doubled = doubled_faults(alloc, statements, spaces, parts, targets)?;
+    let unresolved = unresolved_faults(alloc, statements, spaces, targets)?;
+    let cyclic = cycle_faults(alloc, statements, spaces, parts, targets)?;
     let faults = both(both(doubled, unresolved)?, cyclic)?;
     match faults {
         None => Ok(()),
@@ -86,16 +114,18 @@ fn check_blocks(
 fn doubled_faults(
     alloc: Global,
     statements: &[Statement],
+    spaces: &WrittenSpaces,
     parts: &Parts,
     targets: &Targets,
 ) -> Result<Option<FaultList>, NoMemory>
     requires nested { IsNested statements.now }
+    requires written { AreWritten (program_of statements.now) spaces.now }
     requires parts { AreParts (program_of statements.now) parts.now }
     requires targets { AreAllTargets (program_of statements.now) targets.now }
     ensures { IfOk result (AreAllFaults (IsToldOf (program_of statements.now) (IsDoubled (program_of statements.now)) name_fault)) }
 {
-    let numbers = doubled_of(alloc, statements, parts, targets)?;
-    let faults = name_faults(alloc, statements, numbers.as_slice())?;
+    let numbers = doubled_of(alloc, statements, spaces, parts, targets)?;
+    let faults = name_faults(alloc, statements, spaces, numbers.as_slice())?;
     Ok(FaultList::of(faults))
 }
 
@@ -103,9 +133,11 @@ fn doubled_faults(
 fn unresolved_faults(
     alloc: Global,
     statements: &[Statement],
+    spaces: &WrittenSpaces,
     targets: &Targets,
 ) -> Result<Option<FaultList>, NoMemory>
     requires nested { IsNested statements.now }
+    requires written { AreWritten (program_of statements.now) spaces.now }
     requires targets { AreAllTargets (program_of statements.now) targets.now }
     ensures { IfOk result (AreAllFaults (IsToldOf (program_of statements.now) (IsUnresolved (program_of statements.now)) (target_fault causes.InheritUnresolved))) }
 {
@@ -113,6 +145,7 @@ fn unresolved_faults(
     let faults = target_faults(
         alloc,
         statements,
+        spaces,
         numbers.as_slice(),
         FaultCode::InheritUnresolved,
     )?;
@@ -123,10 +156,12 @@ fn unresolved_faults(
 fn cycle_faults(
     alloc: Global,
     statements: &[Statement],
+    spaces: &WrittenSpaces,
     parts: &Parts,
     targets: &Targets,
 ) -> Result<Option<FaultList>, NoMemory>
     requires nested { IsNested statements.now }
+    requires written { AreWritten (program_of statements.now) spaces.now }
     requires parts { AreParts (program_of statements.now) parts.now }
     requires targets { AreAllTargets (program_of statements.now) targets.now }
     ensures { IfOk result (AreAllFaults (IsToldOf (program_of statements.now) (IsCyclic (program_of statements.now)) (target_fault causes.InheritCycle))) }
@@ -135,6 +170,7 @@ fn cycle_faults(
     let faults = target_faults(
         alloc,
         statements,
+        spaces,
         numbers.as_slice(),
         FaultCode::InheritCycle,
     )?;

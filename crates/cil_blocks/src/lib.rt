@@ -2,10 +2,10 @@
 //! blocks of a program.
 //!
 //! Start at `inherit` in `inheritance.rt`. `specs/Contents.antt` says what stands where and through which blockinherits;
-//! `specs/InheritFaults.antt` what is wrong with blocks; `laws.rt` has laws of both. `targets.rt` finds the blocks that
-//! blockinherits name, `doubled.rt` the blocks and macros that share their name with another one, and `cycles.rt` the
-//! blockinherits that lie on a cycle; `reports.rt` tells what is wrong. `walker.rt` opens what stands, step by step. Macros are
-//! not unfolded here.
+//! `specs/InheritFaults.antt` what is wrong with blocks; `laws.rt` has laws of both. `written.rt` numbers the namespaces in
+//! which statements are written. By these `targets.rt` finds the blocks that blockinherits name, and `doubled.rt` the blocks and
+//! macros that share their name with another one; `cycles.rt` finds the blockinherits that lie on a cycle, and `reports.rt`
+//! tells what is wrong. `walker.rt` opens what stands, step by step. Macros are not unfolded here.
 #![tactic(auto)]
 
 pub mod contents;
@@ -23,6 +23,7 @@ pub mod numbers;
 pub mod opened;
 pub mod parts;
 pub mod places;
+pub mod placing;
 pub mod reach;
 pub mod reports;
 pub mod scopes;
@@ -31,6 +32,7 @@ pub mod spaces;
 pub mod spelled;
 pub mod targets;
 pub mod walker;
+pub mod written;
 
 pub use entry::Entry;
 pub use inheritance::{MOST_INSTANCES, inherit};

@@ -3,16 +3,17 @@
 
 ghost use Rattle.std.specs.Prelude.{◌≡◌, ◌++◌, ◌∷◌, [], IfOk, OnOk, ℕ};
 ghost use Rattle.std.specs.List.{flat_map};
-ghost use Rattle.cil_syntax.specs.Around.{names_of};
 ghost use Rattle.cil_syntax.specs.Program.{IsNested, program_of};
 ghost use Rattle.cil_faults.specs.Reported.{fault_at};
 ghost use Rattle.cil_faults.specs.Namespaces.{qualified};
 ghost use Rattle.cil_blocks.specs.Entries.{statement_at};
 ghost use Rattle.cil_blocks.specs.Reports.{name_fault, target_fault};
+ghost use Rattle.cil_blocks.specs.WrittenSpaces.{AreWritten};
 
-use crate::names::{block_above, name_at};
+use crate::spelled::spelled;
+use crate::written::WrittenSpaces;
 use cil_base::NoMemory;
-use cil_syntax::{Bytes, Fault, FaultCode, Spot, Statement, joined, word_and_terms};
+use cil_syntax::{Bytes, Fault, FaultCode, Spot, Statement, word_and_terms};
 use std::alloc::Global;
 
 /// What is wrong at a place: why, where, and at which word.
@@ -23,32 +24,18 @@ pub struct Cause<'a> {
     pub word: &'a [u8],
 }
 
-/// The names of the blocks round a statement, the innermost first.
-fn names_round<'a>(
-    alloc: Global,
-    statements: &[Statement<'a>],
-    number: usize,
-) -> Result<Vec<&'a [u8]>, NoMemory>
-    requires { IsNested statements.now }
-    ensures { IfOk result (λ names. names_of names.items ≡ (statement_at (program_of statements.now) number).context.space) }
-{
-    let mut names = Vec::new(alloc);
-    let mut at = block_above(statements, number);
-    while let Some(block) = at {
-        names.push(name_at(statements, block))?;
-        at = block_above(statements, block);
-    }
-    Ok(names)
-}
-
 /// The namespace in which a statement is written: the names of the blocks round it, the outermost first, joined by dots.
-fn spelled_space(alloc: Global, statements: &[Statement], number: usize) -> Result<Bytes, NoMemory>
-    requires { IsNested statements.now }
+fn spelled_space(
+    alloc: Global,
+    statements: &[Statement],
+    spaces: &WrittenSpaces,
+    number: usize,
+) -> Result<Bytes, NoMemory>
+    requires nested { IsNested statements.now }
+    requires written { AreWritten (program_of statements.now) spaces.now }
     ensures { IfOk result (λ space. space ≡ qualified (statement_at (program_of statements.now) number).context.space) }
 {
-    let mut names = names_round(alloc, statements, number)?;
-    names.reverse();
-    Ok(Bytes::from_vec(joined(alloc, names.as_slice())?))
+    spelled(alloc, &spaces.namespaces, spaces.round(statements, number))
 }
 
 /// Tells a cause at a statement.
@@ -56,13 +43,15 @@ fn report(
     alloc: Global,
     faults: &mut Vec<Fault>,
     statements: &[Statement],
+    spaces: &WrittenSpaces,
     number: usize,
     cause: &Cause,
 ) -> Result<(), NoMemory>
-    requires { IsNested statements.now }
+    requires nested { IsNested statements.now }
+    requires written { AreWritten (program_of statements.now) spaces.now }
     ensures { OnOk result (faults.new.items ≡ faults.old.items ++ fault_at cause.now.code cause.now.at (statement_at (program_of statements.now) number).context.space cause.now.word.now ∷ []) }
 {
-    let space = spelled_space(alloc, statements, number)?;
+    let space = spelled_space(alloc, statements, spaces, number)?;
     let word = Bytes::copy_of(alloc, cause.word)?;
     faults.push(Fault {
         code: cause.code,
@@ -79,9 +68,11 @@ fn report_name(
     alloc: Global,
     faults: &mut Vec<Fault>,
     statements: &[Statement],
+    spaces: &WrittenSpaces,
     number: usize,
 ) -> Result<(), NoMemory>
-    requires { IsNested statements.now }
+    requires nested { IsNested statements.now }
+    requires written { AreWritten (program_of statements.now) spaces.now }
     ensures { OnOk result (faults.new.items ≡ faults.old.items ++ name_fault (statement_at (program_of statements.now) number)) }
 {
     let Some(statement) = statements.get(number) else {
@@ -95,7 +86,7 @@ fn report_name(
         at: name.at,
         word: name.bytes,
     };
-    report(alloc, faults, statements, number, &cause)?;
+    report(alloc, faults, statements, spaces, number, &cause)?;
     Ok(())
 }
 
@@ -104,10 +95,12 @@ fn report_target(
     alloc: Global,
     faults: &mut Vec<Fault>,
     statements: &[Statement],
+    spaces: &WrittenSpaces,
     number: usize,
     code: FaultCode,
 ) -> Result<(), NoMemory>
-    requires { IsNested statements.now }
+    requires nested { IsNested statements.now }
+    requires written { AreWritten (program_of statements.now) spaces.now }
     ensures { OnOk result (faults.new.items ≡ faults.old.items ++ target_fault code (statement_at (program_of statements.now) number)) }
 {
     let Some(statement) = statements.get(number) else {
@@ -121,7 +114,7 @@ fn report_target(
         at: front.word.at,
         word: front.word.bytes.as_slice(),
     };
-    report(alloc, faults, statements, number, &cause)?;
+    report(alloc, faults, statements, spaces, number, &cause)?;
     Ok(())
 }
 
@@ -129,14 +122,16 @@ fn report_target(
 pub fn name_faults(
     alloc: Global,
     statements: &[Statement],
+    spaces: &WrittenSpaces,
     numbers: &[usize],
 ) -> Result<Vec<Fault>, NoMemory>
-    requires { IsNested statements.now }
+    requires nested { IsNested statements.now }
+    requires written { AreWritten (program_of statements.now) spaces.now }
     ensures { IfOk result (λ faults. faults.items ≡ flat_map (λ i. name_fault (statement_at (program_of statements.now) i)) numbers.now) }
 {
     let mut faults = Vec::new(alloc);
     for number in numbers {
-        report_name(alloc, &mut faults, statements, *number)?;
+        report_name(alloc, &mut faults, statements, spaces, *number)?;
     }
     Ok(faults)
 }
@@ -145,15 +140,17 @@ pub fn name_faults(
 pub fn target_faults(
     alloc: Global,
     statements: &[Statement],
+    spaces: &WrittenSpaces,
     numbers: &[usize],
     code: FaultCode,
 ) -> Result<Vec<Fault>, NoMemory>
-    requires { IsNested statements.now }
+    requires nested { IsNested statements.now }
+    requires written { AreWritten (program_of statements.now) spaces.now }
     ensures { IfOk result (λ faults. faults.items ≡ flat_map (λ i. target_fault code (statement_at (program_of statements.now) i)) numbers.now) }
 {
     let mut faults = Vec::new(alloc);
     for number in numbers {
-        report_target(alloc, &mut faults, statements, *number, code)?;
+        report_target(alloc, &mut faults, statements, spaces, *number, code)?;
     }
     Ok(faults)
 }

@@ -4,7 +4,7 @@ ghost use Rattle.std.specs.Prelude.{◌≡◌};
 
 use crate::entry::Entry;
 use crate::namespaces::Namespaces;
-use crate::places::Located;
+use crate::placing::Located;
 use crate::scopes::ScopeList;
 use cil_base::NoMemory;
 use cil_syntax::Statement;

@@ -1,14 +1,13 @@
 use Rattle.std.proofs.Common.{get_or, refl}
-use Rattle.cil_syntax.specs.Program.{program_of}
 use Rattle.cil_blocks.specs.Doubled.{only_if}
-use Rattle.cil_blocks.specs.Named.{full_at}
+use Rattle.cil_blocks.specs.WrittenSpaces.{numbered_name}
 use Rattle.cil_blocks.proofs.DoubledLemmas.{HasMatch, are_matched, matched_so}
 use Rattle.cil_blocks.proofs.Kept.{all_kept, kept_more, only_those}
 use Rattle.cil_blocks.proofs.doubled.with_others.Goals as goal
 
 pub loop-number-preserved : goal.loop-number-preserved
 loop-number-preserved c =
-    let key = full_at (program_of c.args.statements.now) in
+    let key = numbered_name c.args.statements.now c.args.spaces.now.numbers in
     let number = get_or c.args.named.now c.loop-number.number-index 0 in
     let so = matched_so key c.args.named.now number c.written_alike-alike.result.now c.has_other.result c.written_alike-alike.ensures c.has_other.ensures in
     kept_more (HasMatch key c.args.named.now) c.args.named.now c.loop-number.number-index number 0 c.loop-number.found.items (only_if c.has_other.result number) _
@@ -16,6 +15,6 @@ loop-number-preserved c =
 
 pub returns : goal.returns
 returns c =
-    let key = full_at (program_of c.args.statements.now) in
+    let key = numbered_name c.args.statements.now c.args.spaces.now.numbers in
     are_matched key c.args.named.now c.args.named.now c.loop-number.found.items
     (all_kept (HasMatch key c.args.named.now) c.args.named.now c.loop-number.number-index c.loop-number.found.items c.loop-number-test.false c.loop-number.invariant)

@@ -16,18 +16,18 @@ returns-in_default c =
     none_added c.args.faults.now.items _
     (no_name_fault (statement_at (program_of c.args.statements.now) c.args.number)
     (ap (λ (w : Written). name_in_front w.statement.args)
-    (at_none c.args.statements.now c.requires c.args.number (not_there c.args.statements.now c.args.number c.in_default.ensures.lookup.3))))
+    (at_none c.args.statements.now c.requires.nested c.args.number (not_there c.args.statements.now c.args.number c.in_default.ensures.lookup.3))))
 
 pub returns-in_default-declared_name : goal.returns-in_default-declared_name
 returns-in_default-declared_name c =
     let there = there_as c.args.statements.now c.args.number c.in-Some.statement.now c.in-Some.ensures.lookup.3.0 c.in-Some.ensures.lookup.1 in
     none_added c.args.faults.now.items _
     (no_name_fault (statement_at (program_of c.args.statements.now) c.args.number)
-    (ap name_in_front (args_some c.args.statements.now c.requires c.args.number c.in-Some.statement.now there) ∙ c.in_default-declared_name.ensures))
+    (ap name_in_front (args_some c.args.statements.now c.requires.nested c.args.number c.in-Some.statement.now there) ∙ c.in_default-declared_name.ensures))
 
 pub returns : goal.returns
 returns c =
     let there = there_as c.args.statements.now c.args.number c.in-Some.statement.now c.in-Some.ensures.lookup.3.0 c.in-Some.ensures.lookup.1 in
     c.in_ok-report.ensures
     ∙ ap (λ (ts : Terms Word). c.args.faults.now.items ++ fault_of_name (statement_at (program_of c.args.statements.now) c.args.number).context.space (named_in_front ts))
-    (sym (args_some c.args.statements.now c.requires c.args.number c.in-Some.statement.now there ∙ c.in-Some-declared_name.ensures.1))
+    (sym (args_some c.args.statements.now c.requires.nested c.args.number c.in-Some.statement.now there ∙ c.in-Some-declared_name.ensures.1))

@@ -1,13 +1,18 @@
-use Rattle.std.proofs.Common.{◌∙◌, ap}
-use Rattle.std.specs.Prelude.{reverse}
-use Rattle.std.specs.List.{join_with_byte}
-use Rattle.cil_syntax.specs.Around.{names_of}
-use Rattle.cil_blocks.proofs.ReportLemmas.{names_reversed}
+use Rattle.std.proofs.Common.{◌≡◌, ◌∙◌, ap, arith, subst}
+use Rattle.std.specs.Prelude.{IfOk}
+use Rattle.cil_faults.specs.Namespaces.{qualified}
+use Rattle.cil_blocks.specs.Namespaces.{space_at}
+use Rattle.cil_blocks.proofs.WrittenLemmas.{round_written}
 use Rattle.cil_blocks.proofs.reports.spelled_space.Goals as goal
+
+pub spelled-requires : goal.spelled-requires
+spelled-requires c =
+    let within = (round_written c.args.statements.now c.requires.nested c.args.spaces.now c.requires.written c.args.number).within in
+    let is = c.round.ensures in
+    omega (arith, within, is)
 
 pub returns : goal.returns
 returns c =
-    c.from_vec.ensures ∙ c.in_ok-joined.ensures
-    ∙ ap (λ names. join_with_byte 46 (names_of names)) (c.as_slice.ensures.value ∙ c.reverse.ensures.items)
-    ∙ ap (join_with_byte 46) (names_reversed c.in_ok-names.names.items)
-    ∙ ap (λ names. join_with_byte 46 (reverse names)) c.in_ok-names.ensures
+    subst (λ n. IfOk c.spelled.result (λ space. space ≡ qualified n))
+    (ap (space_at c.args.spaces.now.namespaces) c.round.ensures ∙ (round_written c.args.statements.now c.requires.nested c.args.spaces.now c.requires.written c.args.number).is)
+    c.spelled.ensures

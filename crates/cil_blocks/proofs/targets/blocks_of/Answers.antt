@@ -6,4 +6,4 @@ use Rattle.cil_blocks.proofs.targets.blocks_of.Goals as goal
 
 pub returns : goal.returns
 returns c =
-    are_blocks (program_of c.args.statements.now) _ _ _ (sym (program_length c.args.statements.now)) c.in_ok-blocks.ensures c.by_full_name.ensures.same c.by_full_name.ensures.sorted
+    are_blocks (program_of c.args.statements.now) _ c.args.spaces.now.numbers _ _ (sym (program_length c.args.statements.now)) c.in_ok-blocks.ensures c.by_namespace.ensures.same c.by_namespace.ensures.sorted

@@ -6,8 +6,8 @@ use Rattle.cil_blocks.proofs.targets.targets_of.Goals as goal
 
 pub loop-number-preserved : goal.loop-number-preserved
 loop-number-preserved c =
-    targets_more (program_of c.args.statements.now) c.loop-number.number c.loop-number.lists.items c.push.new.self.items c.in_ok-targets_kept.field-0
-    c.loop-number.invariant c.in_ok-push.ensures.items c.in_ok-targets_kept.ensures
+    targets_more (program_of c.args.statements.now) c.loop-number.number c.loop-number.lists.items c.push.new.self.items c.targets_kept.result
+    c.loop-number.invariant c.in_ok-push.ensures.items c.targets_kept.ensures
 
 pub returns : goal.returns
 returns c =
