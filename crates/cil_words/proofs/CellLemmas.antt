@@ -1,13 +1,13 @@
 -- Cells: each is one number, or the number of a permission or of a list.
-use Rattle.std.proofs.Common.{◌≡◌, ℕ, suc, zero, ◌+◌, ◌-◌, ◌<◌, ◌≤◌, Bool, true, false, cond, List, [], ◌∷◌, ◌++◌, length, get_or, refl, sym, ◌∙◌, ap, append-nil, arith}
+use Rattle.std.proofs.Common.{◌≡◌, ℕ, suc, zero, ◌+◌, ◌-◌, ◌<◌, ◌≤◌, Bool, true, false, cond, List, [], ◌∷◌, ◌++◌, length, get_or, refl, sym, ◌∙◌, ap, append-nil, arith, take}
 use Rattle.std.specs.Prelude.{None, Option, Some, nat_lt, slice_get}
 use Rattle.cil_base.specs.Places.{none_some, some_same}
 use Rattle.cil_names.specs.Entries.{listed}
 use Rattle.cil_names.specs.Rows.{lists_at}
 use Rattle.cil_names.proofs.RowLemmas.{how_many}
-use Rattle.std.proofs.lemmas.List.{length-append}
+use Rattle.std.proofs.lemmas.List.{length-append, take_all}
 use Rattle.std.proofs.lemmas.Bool.{ltb-false, ltb-true, lt-ltb, le-ltb}
-use Rattle.cil_words.specs.Cells.{AreCells, IsCell, IsLonger, cell_ask, cell_asks, many, pair_ask, pair_with, paired}
+use Rattle.cil_words.specs.Cells.{AreCells, IsCell, IsLonger, IsPlaced, cell_ask, cell_asks, many, pair_ask, pair_with, paired}
 use Rattle.cil_words.specs.Table.{Ask, word_ask}
 
 -- ---- lists that grow
@@ -99,6 +99,24 @@ list_stays lists all l is k h = ap (λ ls. get_or ls k []) is ∙ get_front list
 pub lists_same : (lists : List (List ℕ)) (k : ℕ) → k < length lists → get_or lists k [] ≡ get_or lists k []
 lists_same lists k h = refl
 
+-- ---- lists that have a number
+
+-- a list that was put behind the others
+pub placed_last : (old new : List (List ℕ)) (list : List ℕ) (place : ℕ) → place ≡ length old → new ≡ old ++ list ∷ [] → IsPlaced old new list place
+placed_last old new list place at is = record {
+  within = let n = ap length is ∙ length-append old (list ∷ []) in omega (arith, n, at);
+  is_there = (λ i. get_or (is i) (at i) []) ∙ get_last old list;
+  stay = list_stays old new list is;
+}
+
+-- a list that was there
+pub placed_there : (lists : List (List ℕ)) (list row : List ℕ) (place : ℕ) → place < length lists → row ≡ get_or lists place [] → row ≡ list → IsPlaced lists lists list place
+placed_there lists list row place within is same = record { within = within; is_there = sym is ∙ same; stay = lists_same lists }
+
+-- the same numbers at all places
+pub same_numbers : (xs ys : List ℕ) (i : ℕ) → length xs ≡ length ys → length xs ≤ i → take i xs ≡ take i ys → xs ≡ ys
+same_numbers xs ys i long past same = sym (take_all i xs past) ∙ same ∙ take_all i ys (omega (arith, long, past))
+
 -- ---- what a cell says
 
 module _ (owners : List ℕ) (places : List (Option ℕ)) (lists : List (List ℕ)) (c : ℕ) where
@@ -124,6 +142,10 @@ module _ (owners : List ℕ) (places : List (Option ℕ)) (lists : List (List �
 pub says_last : (owners : List ℕ) (places : List (Option ℕ)) (lists all : List (List ℕ)) (l : List ℕ) (c : ℕ) → all ≡ lists ++ l ∷ [] → many + length lists ≡ c
     → cell_ask owners places all c ≡ word_ask l
 says_last owners places lists all l c is e = says_many owners places all c (length lists) e ∙ ap (λ ls. word_ask (get_or ls (length lists) [])) is ∙ ap word_ask (get_last lists l)
+
+-- a list by its number
+pub says_placed : (owners : List ℕ) (places : List (Option ℕ)) (lists all : List (List ℕ)) (l : List ℕ) (k c : ℕ) → IsPlaced lists all l k → many + k ≡ c → cell_ask owners places all c ≡ word_ask l
+says_placed owners places lists all l k c is e = says_many owners places all c k e ∙ ap word_ask is.is_there
 
 -- a permission that is there
 pub says_permission : (owners : List ℕ) (places : List (Option ℕ)) (lists : List (List ℕ)) (c g d : ℕ) (n : Option ℕ) → paired + g ≡ c → c < many → slice_get owners g ≡ Some d → slice_get places g ≡ Some n

@@ -1,5 +1,5 @@
 -- What words could name, in four bytes each: nearly all could name one entry. No other crate needs these words.
-use Rattle.std.specs.Prelude.{◌≡◌, ℕ, ◌<◌, ◌-◌, ◌+◌, ◌++◌, List, [], ◌∷◌, Option, Some, get_or, map, cond, nat_lt, slice_get}
+use Rattle.std.specs.Prelude.{◌≡◌, ℕ, ◌<◌, ◌-◌, ◌+◌, ◌++◌, List, [], ◌∷◌, Option, Some, get_or, length, map, cond, nat_lt, slice_get}
 use Rattle.std.specs.List.{AllByRecursion}
 use Rattle.std.specs.Option.{option_map}
 use Rattle.cil_names.specs.Entries.{listed}
@@ -33,6 +33,12 @@ IsCell owners places lists c = (c < many + lists) × (c < many → (c < paired +
 
 abbrev pub AreCells : (owners places lists : ℕ) → List ℕ → Type 0
 AreCells owners places lists cells = AllByRecursion (IsCell owners places lists) cells
+
+-- the list of this number is this one, and those that were there stay
+pub record IsPlaced (old new : List (List ℕ)) (list : List ℕ) (place : ℕ) : Type 0 where
+  pub within : place < length new
+  pub is_there : get_or new place [] ≡ list
+  pub stay : (k : ℕ) → k < length old → get_or new k [] ≡ get_or old k []
 
 -- a list that was added to
 abbrev pub IsLonger : {X : Type 0} → List X → List X → Type 0

@@ -115,15 +115,15 @@ impl Cells {
         Ok(())
     }
 
-    /// Adds a list of any length. Error: out of memory, also for more than 1,073,741,824 lists.
+    /// Adds a list of any length. One that is there mostly takes four bytes more, whatever its length. Error: out of memory, also for
+    /// more than 1,073,741,824 lists.
     pub fn push_many(&mut self, list: &[usize]) -> Result<(), NoMemory>
         ensures { OnOk result (self.new ≡ self.old ++ word_ask list.now ∷ []) }
     {
-        let number = self.lists.len();
+        let number = self.lists.place_of(list)?;
         if number >= MOST_LISTS {
             return Err(NoMemory);
         }
-        self.lists.push(list)?;
         self.cells.push(MANY + number as u32)?;
         Ok(())
     }

@@ -18,6 +18,7 @@ mod number_lists;
 mod pairs;
 mod scopes;
 mod settled_rows;
+mod slots;
 mod walk;
 mod word_lists;
 

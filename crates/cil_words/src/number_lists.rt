@@ -1,7 +1,8 @@
-//! Lists of numbers, one after another, in four bytes for each number.
+//! Lists of numbers, one after another, in four bytes for each number. A list that is there is mostly not added again.
 
-ghost use Rattle.std.specs.Prelude.{◌≡◌, ◌≤◌, ◌+◌, ◌++◌, IfOk, OnOk, length, slice_get, slice_range};
+ghost use Rattle.std.specs.Prelude.{◌≡◌, ◌≤◌, ◌+◌, ◌++◌, IfOk, IsTrue, OnOk, length, slice_get, slice_range};
 
+use crate::slots::{guess_at, note};
 use cil_base::NoMemory;
 use std::alloc::Global;
 use std::marker::Model;
@@ -13,6 +14,8 @@ pub struct Lists {
     starts: Vec<u32>,
     /// The lists, one after another.
     numbers: Vec<u32>,
+    /// Where a list may be, plus 1, by a hash of its numbers; or 0.
+    slots: Vec<u32>,
 }
 
 impl Model for Lists {
@@ -27,7 +30,8 @@ impl Model for Lists {
 }
 
 impl Lists {
-    ghost use Rattle.std.specs.Prelude.{◌≡◌, ◌≤◌, ◌++◌, ◌∷◌, [], OnOk, get_or, length};
+    ghost use Rattle.std.specs.Prelude.{◌≡◌, ◌≤◌, ◌<◌, ◌++◌, ◌∷◌, [], IfOk, IfSome, OnOk, ℕ, get_or, length};
+    ghost use Rattle.cil_words.specs.Cells.{IsPlaced};
 
     /// No lists.
     pub fn new(alloc: Global) -> Lists
@@ -36,6 +40,7 @@ impl Lists {
         Lists {
             starts: Vec::new(alloc),
             numbers: Vec::new(alloc),
+            slots: Vec::new(alloc),
         }
     }
 
@@ -61,8 +66,53 @@ impl Lists {
         part(numbers, start, end)
     }
 
+    /// The number of a list. The list is added if no guess finds it. After an error it may be there in part, behind all others.
+    pub fn place_of(&mut self, list: &[usize]) -> Result<usize, NoMemory>
+        ensures placed { IfOk result (IsPlaced self.old self.new list.now) }
+        ensures none_lost { length self.old ≤ length self.new }
+    {
+        let slot = slot_of(list);
+        if let Some(place) = self.found(slot, list) {
+            return Ok(place);
+        }
+        let place = self.add(list)?;
+        note(&mut self.slots, slot, place);
+        Ok(place)
+    }
+
+    /// Adds a list. Its number is that of the lists before.
+    fn add(&mut self, list: &[usize]) -> Result<usize, NoMemory>
+        ensures placed { IfOk result (IsPlaced self.old self.new list.now) }
+        ensures none_lost { length self.old ≤ length self.new }
+    {
+        let place = self.len();
+        self.push(list)?;
+        Ok(place)
+    }
+
+    /// The number of a list, if a guess by its slot finds it.
+    fn found(&self, slot: usize, list: &[usize]) -> Option<usize>
+        ensures { IfSome result (IsPlaced self.now self.now list.now) }
+    {
+        if let Some(place) = self.tried(slot, list) {
+            return Some(place);
+        }
+        self.tried(slot ^ 1, list)
+    }
+
+    /// The number that a slot tells, if the list is there.
+    fn tried(&self, slot: usize, list: &[usize]) -> Option<usize>
+        ensures { IfSome result (IsPlaced self.now self.now list.now) }
+    {
+        let place = guess_at(self.slots.as_slice(), slot)?;
+        if place < self.len() && is_list(self.row(place), list) {
+            return Some(place);
+        }
+        None
+    }
+
     /// Adds a list. After an error it may be there in part, behind all others.
-    pub fn push(&mut self, list: &[usize]) -> Result<(), NoMemory>
+    fn push(&mut self, list: &[usize]) -> Result<(), NoMemory>
         ensures pushed { OnOk result (self.new ≡ self.old ++ list.now ∷ []) }
         ensures none_lost { length self.old ≤ length self.new }
     {
@@ -114,6 +164,33 @@ pub fn end_at(starts: &[u32], i: usize) -> Option<usize>
     } else {
         None
     }
+}
+
+/// Whether these are the numbers of a list.
+fn is_list(numbers: &[u32], list: &[usize]) -> bool
+    ensures { IsTrue result → numbers.now ≡ list.now }
+{
+    if numbers.len() != list.len() {
+        return false;
+    }
+    for i in 0..numbers.len() {
+        if numbers[i] as usize != list[i] {
+            return false;
+        }
+    }
+    true
+}
+
+/// The slot of a list. The hash need not be a good one, since guesses are checked.
+fn slot_of(list: &[usize]) -> usize {
+    let mut mixed = 0u64;
+    for number in list {
+        mixed = mixed
+            .wrapping_add(*number as u64)
+            .wrapping_add(1)
+            .wrapping_mul(0x9e37_79b9_7f4a_7c15);
+    }
+    (mixed >> 50) as usize
 }
 
 /// A part of some numbers; none where it ends before it begins.

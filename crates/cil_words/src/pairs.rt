@@ -7,12 +7,10 @@ ghost use Rattle.cil_words.specs.Cells.{IsLonger};
 use crate::cells::{cell_at, one};
 use crate::hints::{Hint, Hints};
 use crate::number_lists::small;
+use crate::slots::{guess_at, note};
 use cil_base::NoMemory;
 use cil_names::Meaning;
 use std::alloc::Global;
-
-/// How many slots there are for guesses, a power of two.
-const SLOTS: usize = 16_384;
 
 /// Permissions of classes. Nearly always a permission is there once: a guess tells where it is, by its name or by its number. A
 /// guess is checked where it is used, so nothing is proved of the guesses.
@@ -228,40 +226,6 @@ fn is_number(places: &[Meaning], place: usize, number: Option<usize>) -> bool
         Some(known) => known.entry() == number,
         None => false,
     }
-}
-
-/// The place that a slot tells.
-fn guess_at(slots: &[u32], slot: usize) -> Option<usize> {
-    let next = *slots.get(slot)?;
-    (next as usize).checked_sub(1)
-}
-
-/// Notes where a permission is: in its slot, or in the one beside it if that is free and its own is not.
-fn note(slots: &mut Vec<u32>, slot: usize, place: usize) {
-    if slots.is_empty() {
-        for _ in 0..SLOTS {
-            if slots.push(0).is_err() {
-                return;
-            }
-        }
-    }
-    let Ok(small) = u32::try_from(place) else {
-        return;
-    };
-    let beside = slot ^ 1;
-    let chosen = if is_free(slots.as_slice(), beside) && !is_free(slots.as_slice(), slot) {
-        beside
-    } else {
-        slot
-    };
-    if let Some(there) = slots.get_mut(chosen) {
-        *there = small.wrapping_add(1);
-    }
-}
-
-/// Whether a slot tells nothing.
-fn is_free(slots: &[u32], slot: usize) -> bool {
-    guess_at(slots, slot).is_none()
 }
 
 /// The slot of a permission. The hash need not be a good one, since guesses are checked.

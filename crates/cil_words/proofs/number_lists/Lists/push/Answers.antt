@@ -15,6 +15,13 @@ pub returns-in_err-push_small-clause-none_lost : goal.returns-in_err-push_small-
 returns-in_err-push_small-clause-none_lost c =
     no_fewer c.self.inside.starts.items _ c.push.new.self.items c.self.inside.numbers.items c.push_small.new.numbers.items c.args.self.now c.self.view_is c.in_ok-push.ensures.items
 
+pub invariant_of-self-in_err-push_small : goal.invariant_of-self-in_err-push_small
+invariant_of-self-in_err-push_small c =
+    let start : c.in_ok-start.start ≡ length c.self.inside.numbers.items = let n = c.len.ensures in let same = c.self.inside.numbers.ok.0 in let is = c.in_ok-start.ensures in omega (arith, n, same, is) in
+    let more = c.push_small.ensures.none_lost in
+    subst (AreWithin (length c.push_small.new.numbers.items)) (sym c.in_ok-push.ensures.items)
+    (one_more_start c.self.inside.starts.items (length c.self.inside.numbers.items) (length c.push_small.new.numbers.items) c.in_ok-start.start more (omega (arith, more, start)) c.self.invariant)
+
 pub returns-clause-none_lost : goal.returns-clause-none_lost
 returns-clause-none_lost c =
     no_fewer c.self.inside.starts.items _ c.push.new.self.items c.self.inside.numbers.items c.push_small.new.numbers.items c.args.self.now c.self.view_is c.in_ok-push.ensures.items
