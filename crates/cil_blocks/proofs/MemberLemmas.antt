@@ -24,6 +24,15 @@ pub block_named : (k : Keyword) → is_block k ≡ true → is_named k ≡ true
 block_named keywords.Block e = refl
 block_named k e = absurd (let f : false ≡ true = e in cc)
 
+module _ (ps : Parts) (ts : Targets) where
+  -- what is directly in the bodies that a seed reaches
+  pub all_given : (seed : Option ℕ) (reached : List (Option ℕ)) (all : List ℕ) → AreThose (Reaches ps ts seed) reached → all ≡ flat_map (body_parts ps) reached
+      → AreThose (IsGivenBy ps ts seed) all
+  all_given seed reached all so e i = (
+    (λ c. let f = from_flat (body_parts ps) reached i (subst (λ xs. Contains xs i) e c) in record { body = f.0; reached = (so f.0).0 f.1; is_in = f.2 }),
+    (λ g. subst (λ xs. Contains xs i) (sym e) (contains_flat (body_parts ps) reached g.body i ((so g.body).1 g.reached) g.is_in)),
+  )
+
 module _ (ws : List Written) where
   below_by : (k : ℕ) (o : Option Written) → slice_get ws k ≡ o → is_named_at ws k ≡ true → k < length ws
   below_by k (Some w) e b = in_range ws k w e
@@ -42,36 +51,31 @@ module _ (ws : List Written) where
     (λ p. Contains-permutation xs ys i same ((so i).1 p)),
   )
 
-  pub kept_over : (T : ℕ → Type 0) (xs ys found : List ℕ) → xs ≡ ys → AreKept T xs found → AreKept T ys found
+  kept_over : (T : ℕ → Type 0) (xs ys found : List ℕ) → xs ≡ ys → AreKept T xs found → AreKept T ys found
   kept_over T xs ys found e kept = subst (λ zs. AreKept T zs found) e kept
 
   module _ (ps : Parts) (ts : Targets) where
-    all_given : (seed : Option ℕ) (reached : List (Option ℕ)) (all : List ℕ) → AreThose (Reaches ps ts seed) reached → all ≡ flat_map (body_parts ps) reached
-        → AreThose (IsGivenBy ps ts seed) all
-    all_given seed reached all so e i = (
-      (λ c. let f = from_flat (body_parts ps) reached i (subst (λ xs. Contains xs i) e c) in record { body = f.0; reached = (so f.0).0 f.1; is_in = f.2 }),
-      (λ g. subst (λ xs. Contains xs i) (sym e) (contains_flat (body_parts ps) reached g.body i ((so g.body).1 g.reached) g.is_in)),
-    )
-
     kept_those : (P T : ℕ → Type 0) (xs found : List ℕ) → AreThose P xs → AreKept T xs found → AreThose (λ i. P i × T i) found
     kept_those P T xs found so kept i = (
       (λ c. let k = (kept i).0 c in ((so i).0 k.0, k.1)),
       (λ p. (kept i).1 ((so i).1 p.0, p.1)),
     )
 
-    pub are_members : (seed : Option ℕ) (reached : List (Option ℕ)) (all named opens : List ℕ) (m : Members) → AreThose (Reaches ps ts seed) reached
-        → all ≡ flat_map (body_parts ps) reached → AreKept (λ i. is_named_at ws i ≡ true) all named → AreKept (IsOpen ws) named opens
-        → IsPermutation named m.named.items → IsSortedByKey (own_name ws) text_cmp m.named.items
+    pub named_given : (seed : Option ℕ) (slice all named : List ℕ) → slice ≡ all → AreThose (IsGivenBy ps ts seed) all → AreKept (λ i. is_named_at ws i ≡ true) slice named
+        → AreThose (IsMember ws ps ts seed) named
+    named_given seed slice all named e so kept =
+        kept_those (IsGivenBy ps ts seed) (λ i. is_named_at ws i ≡ true) all named so (kept_over (λ i. is_named_at ws i ≡ true) slice all named e kept)
+
+    pub are_members : (seed : Option ℕ) (slice named opens : List ℕ) (m : Members) → slice ≡ named → AreThose (IsMember ws ps ts seed) named
+        → AreKept (IsOpen ws) slice opens → IsPermutation named m.named.items → IsSortedByKey (own_name ws) text_cmp m.named.items
         → IsPermutation opens m.open_blocks.items → IsSortedByKey (own_name ws) text_cmp m.open_blocks.items → AreMembers ws ps ts seed m
-    are_members seed reached all named opens m so e kept open_so p r q s =
-        let are : AreThose (IsMember ws ps ts seed) named =
-        kept_those (IsGivenBy ps ts seed) (λ i. is_named_at ws i ≡ true) all named (all_given seed reached all so e) kept in
-        record {
-          named = moved (IsMember ws ps ts seed) named m.named.items are p;
-          named_sorted = r;
-          open_blocks = moved (IsOpenMember ws ps ts seed) opens m.open_blocks.items (kept_those (IsMember ws ps ts seed) (IsOpen ws) named opens are open_so) q;
-          open_sorted = s;
-        }
+    are_members seed slice named opens m e are open_so p r q s = record {
+      named = moved (IsMember ws ps ts seed) named m.named.items are p;
+      named_sorted = r;
+      open_blocks = moved (IsOpenMember ws ps ts seed) opens m.open_blocks.items
+          (kept_those (IsMember ws ps ts seed) (IsOpen ws) named opens are (kept_over (IsOpen ws) slice named opens e open_so)) q;
+      open_sorted = s;
+    }
 
     pub are_matched_in : (p : Pair) (ones others : Members) (m : Matched) → AreMembers ws ps ts p.0 ones → AreMembers ws ps ts p.1 others → AreMatchedOf ws ones others m
         → AreMatched ws ps ts p m

@@ -140,6 +140,15 @@ pub record AreMatched (ws : List Written) (ps : Parts) (ts : Targets) (p : Pair)
   pub doubled : AreThose (IsDoubledBy ws ps ts p) m.doubled.items
   pub next : AreThose (IsNext ws ps ts p) m.next.items
 
+-- what a pair of seeds tells was put behind what is there: of blocks and macros, and of pairs
+pub record IsTold (ws : List Written) (ps : Parts) (ts : Targets) (p : Pair) (found new : List ℕ) (pairs more : List Pair) : Type 0 where
+  pub doubled : List ℕ
+  pub are_doubled : AreThose (IsDoubledBy ws ps ts p) doubled
+  pub is_found : new ≡ found ++ doubled
+  pub next : List Pair
+  pub are_next : AreThose (IsNext ws ps ts p) next
+  pub is_joined : IsJoined next pairs more
+
 -- the same by the lists of the two
 pub record AreMatchedOf (ws : List Written) (ones others : Members) (m : Matched) : Type 0 where
   pub doubled : AreThose (IsMatched (own_name ws) ones.named.items others.named.items) m.doubled.items

@@ -8,7 +8,7 @@ ghost use Rattle.cil_base.specs.Lists.{text_cmp};
 ghost use Rattle.cil_syntax.specs.Program.{IsNested, program_of};
 ghost use Rattle.cil_blocks.specs.Doubled.{AreKept, AreThose, is_named_at};
 ghost use Rattle.cil_blocks.specs.Entries.{AreParts};
-ghost use Rattle.cil_blocks.specs.Seeds.{AreMembers, IsJoined, IsOpen, Reaches, bodies, body_parts, handed_to, own_name};
+ghost use Rattle.cil_blocks.specs.Seeds.{AreMembers, IsGivenBy, IsJoined, IsMember, IsOpen, Reaches, bodies, body_parts, handed_to, own_name};
 
 use crate::doubled::{is_named, push_if};
 use crate::names::{is_block_at, name_at};
@@ -42,14 +42,40 @@ pub fn members_of(
     requires parts { AreParts (program_of statements.now) parts.now }
     ensures { IfOk result (AreMembers (program_of statements.now) parts.now targets.now seed) }
 {
-    let reached = reached_from(alloc, parts, targets, seed)?;
-    let all = all_in(alloc, parts, reached.as_slice())?;
-    let named = named_among(alloc, statements, all.as_slice())?;
+    let named = named_of(alloc, statements, parts, targets, seed)?;
     let open_blocks = open_among(alloc, statements, parts, named.as_slice())?;
     Ok(Members {
         named: by_own_name(statements, named),
         open_blocks: by_own_name(statements, open_blocks),
     })
+}
+
+/// The blocks and macros of a seed, in no order.
+fn named_of(
+    alloc: Global,
+    statements: &[Statement],
+    parts: &Parts,
+    targets: &Targets,
+    seed: Option<usize>,
+) -> Result<Vec<usize>, NoMemory>
+    requires { IsNested statements.now }
+    ensures { IfOk result (λ named. AreThose (IsMember (program_of statements.now) parts.now targets.now seed) named.items) }
+{
+    let all = all_of(alloc, parts, targets, seed)?;
+    named_among(alloc, statements, all.as_slice())
+}
+
+/// The statements of a seed.
+fn all_of(
+    alloc: Global,
+    parts: &Parts,
+    targets: &Targets,
+    seed: Option<usize>,
+) -> Result<Vec<usize>, NoMemory>
+    ensures { IfOk result (λ all. AreThose (IsGivenBy parts.now targets.now seed) all.items) }
+{
+    let reached = reached_from(alloc, parts, targets, seed)?;
+    all_in(alloc, parts, reached.as_slice())
 }
 
 /// The seed, and the bodies that are handed to its namespace. The set is its own queue.
@@ -66,11 +92,24 @@ pub fn reached_from(
     let mut at = 0;
     while at < reached.len() {
         let body = reached.as_slice()[at];
-        let handed = handed_to(alloc, parts, targets, body)?;
-        insert_bodies(&mut reached, handed.as_slice())?;
+        hand_on(alloc, parts, targets, body, &mut reached)?;
         at += 1;
     }
     Ok(reached)
+}
+
+/// Puts the bodies that are handed to another one behind those of a set, but for those that are there.
+fn hand_on(
+    alloc: Global,
+    parts: &Parts,
+    targets: &Targets,
+    body: Option<usize>,
+    reached: &mut IndexSet<Option<usize>>,
+) -> Result<(), NoMemory>
+    ensures { OnOk result (IsJoined (handed_to parts.now targets.now body) reached.old.keys reached.new.keys) }
+{
+    let handed = handed_to(alloc, parts, targets, body)?;
+    insert_bodies(reached, handed.as_slice())
 }
 
 /// Puts some bodies behind those of a set, but for those that are there.

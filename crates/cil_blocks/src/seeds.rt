@@ -13,7 +13,7 @@ ghost use Rattle.cil_base.specs.Lists.{text_cmp};
 ghost use Rattle.cil_syntax.specs.Program.{IsNested, program_of};
 ghost use Rattle.cil_blocks.specs.Doubled.{AreAlike, AreThose, IsMatched};
 ghost use Rattle.cil_blocks.specs.Entries.{AreParts};
-ghost use Rattle.cil_blocks.specs.Seeds.{AreMatched, AreMatchedOf, Covers, CoversFrom, IsCovered, IsJoined, IsPaired, StandsTwice, own_name, paired_with};
+ghost use Rattle.cil_blocks.specs.Seeds.{AreMatched, AreMatchedOf, Covers, CoversFrom, IsCovered, IsJoined, IsPaired, IsTold, StandsTwice, own_name, paired_with};
 
 use crate::doubled::{has_other, push_if};
 use crate::parts::Parts;
@@ -44,10 +44,10 @@ pub fn standing_twice(
     requires parts { AreParts (program_of statements.now) parts.now }
     ensures { IfOk result (λ found. AreThose (StandsTwice (program_of statements.now) parts.now targets.now) found.items) }
 {
-    let mut found = Vec::new(alloc);
-    let mut covered = IndexSet::new(alloc);
     let mut pairs = IndexSet::new(alloc);
     pairs.insert((None, None))?;
+    let mut found = Vec::new(alloc);
+    let mut covered = IndexSet::new(alloc);
     let mut at = 0;
     while at < pairs.len() {
         let pair = pairs.as_slice()[at];
@@ -55,12 +55,32 @@ pub fn standing_twice(
         if is_covered(&covered, pair) {
             continue;
         }
-        let matched = matched_in(alloc, statements, parts, targets, pair)?;
-        found.extend_from_slice(matched.doubled.as_slice())?;
-        insert_pairs(&mut pairs, matched.next.as_slice())?;
+        tell(
+            alloc, statements, parts, targets, pair, &mut found, &mut pairs,
+        )?;
         cover(alloc, parts, targets, &mut covered, pair)?;
     }
     Ok(found)
+}
+
+/// Puts the blocks and macros that a pair of seeds tells behind those that were found, and the next pairs behind the others.
+fn tell(
+    alloc: Global,
+    statements: &[Statement],
+    parts: &Parts,
+    targets: &Targets,
+    pair: (Option<usize>, Option<usize>),
+    found: &mut Vec<usize>,
+    pairs: &mut IndexSet<(Option<usize>, Option<usize>)>,
+) -> Result<(), NoMemory>
+    requires nested { IsNested statements.now }
+    requires parts { AreParts (program_of statements.now) parts.now }
+    ensures { OnOk result (IsTold (program_of statements.now) parts.now targets.now pair found.old.items found.new.items pairs.old.keys pairs.new.keys) }
+{
+    let matched = matched_in(alloc, statements, parts, targets, pair)?;
+    found.extend_from_slice(matched.doubled.as_slice())?;
+    insert_pairs(pairs, matched.next.as_slice())?;
+    Ok(())
 }
 
 /// Whether a pair is of a seed with itself that another one has reached: it tells nothing that this one did not.

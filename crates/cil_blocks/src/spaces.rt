@@ -55,7 +55,7 @@ impl<'p, 'a> Spaces<'p, 'a> {
         self.entries.as_slice()
     }
 
-    /// The namespaces in which something stands or is looked up.
+    /// The namespaces that blocks make where they are written, and those in which something stands.
     pub fn namespaces(&self) -> &Namespaces<'a>
         ensures { result.now ≡ spaces_in self.now }
     {

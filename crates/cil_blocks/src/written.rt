@@ -1,6 +1,7 @@
 //! Where statements are written, by the numbers of namespaces. One pass numbers the namespaces of the written blocks, at a hash
-//! for each block; then two full names are compared by a number and a name, however deep the blocks are in one another. What
-//! stands in a namespace by inheritance is not looked at here: `places.rt` has it.
+//! for each block; then two full names are compared by a number and a name, however deep the blocks are in one another. The
+//! statements in front that are in no block take no memory. What stands in a namespace by inheritance is not looked at here:
+//! `places.rt` has it.
 
 ghost use Rattle.std.specs.Prelude.{◌≡◌, IfOk, Some};
 ghost use Rattle.cil_syntax.specs.Program.{IsNested, program_of};

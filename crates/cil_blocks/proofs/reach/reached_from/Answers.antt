@@ -1,4 +1,4 @@
-use Rattle.std.proofs.Common.{◌<◌, arith, get_or, length, sym, ◌∙◌, ap}
+use Rattle.std.proofs.Common.{◌<◌, arith, get_or, length, refl, sym, ◌∙◌, ap}
 use Rattle.std.specs.Prelude.{None, slice_get}
 use Rattle.std.specs.Option.{option_eq}
 use Rattle.std.proofs.Math.Dec.{eqb}
@@ -20,10 +20,10 @@ loop-at-preserved c =
     let same = ap length c.as_slice.ensures.keys in
     let inside : c.loop-at.at < length c.as_slice.result.now = omega (arith, h, l, same) in
     let body = get_or c.as_slice.result.now c.loop-at.at None in
-    one_opened (IsHanded c.args.parts.now c.args.targets.now) c.args.seed c.loop-at.at c.loop-at.reached.keys c.as_slice-in-loop-at.result.now _ body
+    one_opened (IsHanded c.args.parts.now c.args.targets.now) c.args.seed c.loop-at.at c.loop-at.reached.keys (handed_to c.args.parts.now c.args.targets.now body) _ body
     (ap (λ xs. slice_get xs c.loop-at.at) (sym c.as_slice.ensures.keys) ∙ is_there c.as_slice.result.now c.loop-at.at None inside)
-    (same_those c.as_slice-in-loop-at.result.now (handed_to c.args.parts.now c.args.targets.now body) (c.as_slice-in-loop-at.ensures.value ∙ c.in_ok-handed.ensures))
-    c.in_ok-insert_bodies.ensures c.loop-at.invariant
+    (same_those (handed_to c.args.parts.now c.args.targets.now body) (handed_to c.args.parts.now c.args.targets.now body) refl)
+    c.in_ok-hand_on.ensures c.loop-at.invariant
 
 pub returns : goal.returns
 returns c =

@@ -1,4 +1,4 @@
-use Rattle.std.proofs.Common.{◌≡◌, ◌++◌, ℕ, drop}
+use Rattle.std.proofs.Common.{◌≡◌, ℕ, take}
 use Rattle.std.specs.List.{flat_map}
 use Rattle.cil_syntax.specs.Program.{program_of}
 use Rattle.cil_blocks.specs.Entries.{statement_at}
@@ -7,5 +7,4 @@ use Rattle.cil_blocks.proofs.reports.target_faults.Given as goal
 
 abbrev pub invariant-loop-number : goal.invariant-loop-number
 invariant-loop-number l =
-    l.faults.items ++ flat_map (λ (i : ℕ). (target_fault l.code) (statement_at (program_of l.statements) i)) (drop l.number-index l.numbers)
-    ≡ flat_map (λ (i : ℕ). (target_fault l.code) (statement_at (program_of l.statements) i)) l.numbers
+    l.faults.items ≡ flat_map (λ (i : ℕ). target_fault l.code (statement_at (program_of l.statements) i)) (take l.number-index l.numbers)

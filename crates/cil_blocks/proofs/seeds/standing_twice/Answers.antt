@@ -5,7 +5,7 @@ use Rattle.cil_syntax.specs.Program.{program_of}
 use Rattle.cil_blocks.specs.Seeds.{IsDoubledBy, IsNext, Pair}
 use Rattle.cil_base.specs.Places.{is_there}
 use Rattle.cil_blocks.proofs.CoverLemmas.{doubled_of, more_covered, next_of, none_covered, still_covered}
-use Rattle.cil_blocks.proofs.Reached.{all_told, at_first, none_told, one_opened, one_skipped, one_told, pair_eq, skip_told, those_over}
+use Rattle.cil_blocks.proofs.Reached.{all_told, at_first, none_told, one_opened, one_skipped, one_told, pair_eq, skip_told}
 use Rattle.cil_blocks.proofs.seeds.standing_twice.Goals as goal
 
 pub loop-at-init : goal.loop-at-init
@@ -54,15 +54,13 @@ loop-at-preserved c =
     let pair : Pair = get_or c.as_slice.result.now c.loop-at.at (None, None) in
     let here =
     ap (λ (xs : List Pair). slice_get xs c.loop-at.at) (sym c.as_slice.ensures.keys) ∙ is_there c.as_slice.result.now c.loop-at.at (None, None) inside in
+    let t = c.in_ok-tell.ensures in
     record {
-      so = one_opened (IsNext ws ps ts) (None, None) c.loop-at.at c.loop-at.pairs.keys c.as_slice-in-loop-at-2.result.now c.insert_pairs.new.pairs.keys pair here
-          (those_over (IsNext ws ps ts pair) _ _ c.as_slice-in-loop-at-2.ensures.value c.in_ok-matched.ensures.next) c.in_ok-insert_pairs.ensures c.loop-at.invariant.so;
-      told = one_told (IsNext ws ps ts) (None, None) (IsDoubledBy ws ps ts) c.loop-at.at c.loop-at.pairs.keys c.in_ok-insert_pairs.ensures.behind c.insert_pairs.new.pairs.keys pair
-          c.loop-at.found.items c.as_slice-in-loop-at.result.now c.extend_from_slice.new.self.items here c.in_ok-insert_pairs.ensures.is
-          (those_over (IsDoubledBy ws ps ts pair) _ _ c.as_slice-in-loop-at.ensures.value c.in_ok-matched.ensures.doubled) c.loop-at.invariant.told
-          c.in_ok-extend_from_slice.ensures.items;
-      covered = more_covered ps ts c.loop-at.at c.loop-at.pairs.keys c.in_ok-insert_pairs.ensures.behind c.insert_pairs.new.pairs.keys pair c.loop-at.covered.keys _ here
-          c.in_ok-insert_pairs.ensures.is c.in_ok-cover.ensures c.loop-at.invariant.covered;
+      so = one_opened (IsNext ws ps ts) (None, None) c.loop-at.at c.loop-at.pairs.keys t.next c.tell.new.pairs.keys pair here t.are_next t.is_joined c.loop-at.invariant.so;
+      told = one_told (IsNext ws ps ts) (None, None) (IsDoubledBy ws ps ts) c.loop-at.at c.loop-at.pairs.keys t.is_joined.behind c.tell.new.pairs.keys pair
+          c.loop-at.found.items t.doubled c.tell.new.found.items here t.is_joined.is t.are_doubled c.loop-at.invariant.told t.is_found;
+      covered = more_covered ps ts c.loop-at.at c.loop-at.pairs.keys t.is_joined.behind c.tell.new.pairs.keys pair c.loop-at.covered.keys _ here t.is_joined.is c.in_ok-cover.ensures
+          c.loop-at.invariant.covered;
     }
 
 pub returns : goal.returns
