@@ -19,12 +19,12 @@ use Rattle.cil_index.specs.declared.index.Bounds.{Bounds}
 use Rattle.cil_index.specs.declared.index.Index.{Index}
 use Rattle.cil_index.specs.declared.memberships.Memberships.{Memberships}
 use Rattle.cil_index.specs.declared.record.Record.{Record}
-use Rattle.cil_index.specs.Entries.{AreBelow, AreBounds, IsIndex, IsLaidOut, IsOfSource, RiseIn, aim_of, alone_key, in_class, itself, key_of_set, reached_key, set_key, target_key}
+use Rattle.cil_index.specs.Entries.{AreBelow, AreBounds, HasClass, IsIndex, IsLaidOut, IsOfSource, RiseIn, aim_of, alone_key, in_class, itself, key_of_set, reached_key, set_key, target_key}
 use Rattle.cil_index.specs.Found.{AreAims, CoversAt, HandOver, Hands, IsAimed, Matches, MayReach}
 use Rattle.cil_index.specs.Memberships.{AreMemberships, HasBit, IsFilter, IsKnownFor}
 use Rattle.cil_index.specs.Kept.{reached, rule_of, target_at}
 use Rattle.cil_index.specs.Sets.{set_of}
-use Rattle.cil_index.proofs.KeyLemmas.{aimed_target, alone_below, reach_cases}
+use Rattle.cil_index.proofs.KeyLemmas.{aimed_target, alone_below, class_of_aim, reach_cases}
 use Rattle.cil_index.proofs.RunLemmas.{none_past}
 use Rattle.cil_index.proofs.SetLemmas.{none_is, set_within}
 
@@ -175,9 +175,12 @@ found_by on branches sets records index is m hold asked bit covered =
 -- ---- sources, one after another
 
 module _ (on : ℕ → Bool) (rules : List Rule) (m : Memberships) (asked : Asked) (index : Index) where
-  -- a set without aims hands nothing over
-  pub none_within : (n mask : ℕ) (b : Bounds) → AreBounds index n b → b.to ≤ b.start → Hands on rules m asked index n mask
-  none_within n mask b are none at bit of = absurd (let inside = are.all at of in let low = inside.0 in let high = inside.1 in omega (arith, low, high, none))
+  -- a set that has no aim of the class hands nothing over
+  pub none_of_class : (n mask : ℕ) (aims : Aims) (answer : Bool) → IsLaidOut index → AreAims m asked aims → (HasClass index.classes.items n aims.alone → IsTrue answer) → answer ≡ false
+      → Hands on rules m asked index n mask
+  none_of_class n mask aims answer laid are tells none at bit of aimed =
+      let same = class_of_aim m asked (get_or index.aims.items at 0) aims aimed are in
+      absurd (let yes_ = tells (subst (λ k. IsBitSet (get_or index.classes.items n 0) (k % 64)) same (laid.classes n at of)) in absurd cc)
 
   -- and where there are no aims, no set does
   pub none_at_all : (among : ℕ → Type 0) (mask : ℕ) → IsLaidOut index → length index.aims.items ≡ 0 → HandOver on rules m asked index among mask

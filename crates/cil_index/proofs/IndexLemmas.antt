@@ -16,7 +16,7 @@ use Rattle.cil_base.specs.Places.{in_range, is_there}
 use Rattle.std.proofs.lemmas.Option.{same_Some}
 use Rattle.cil_index.specs.declared.index.Index.{Index}
 use Rattle.cil_index.specs.declared.key.Entry.{Entry}
-use Rattle.cil_index.specs.Entries.{AreEntries, BeginAt, HasAll, HasEntries, IsColumn, IsFoundAt, IsIndex, IsOfSource, RiseIn, aim_of_record, entry_cmp, entry_of, entry_total}
+use Rattle.cil_index.specs.Entries.{AreEntries, BeginAt, HasAll, HasClass, HasEntries, IsColumn, IsFoundAt, IsIndex, IsOfSource, RiseIn, aim_of_record, entry_cmp, entry_of, entry_total}
 use Rattle.cil_index.specs.declared.record.Record.{Record}
 use Rattle.cil_index.proofs.RunLemmas.{none_past}
 
@@ -120,6 +120,18 @@ module _ (entries : List Entry) (index : Index) (has : HasAll entries index) whe
         | inr more ↦ omega (arith, more, first, second)
       ]
 
+  -- the bit of its class is there
+  class_at : (s k : ℕ) → IsOfSource index.starts.items s k → HasClass index.classes.items s (get_or index.aims.items k 0)
+  class_at s k of =
+      let bound = bound_at (s + 1) in
+      let size = has.aims.long in
+      let ends = of.ends in
+      let d : Entry = record { source = 0; aim = 0; place = 0 } in
+      let within : k < length entries = omega (arith, ends, bound, size) in
+      let e = get_or entries k d in
+      let bit = has.classes e (k, within, get_or_default entries k e d within) in
+      subst (λ a. HasClass index.classes.items s a) (sym (has.aims.each k d within)) (subst (λ n. HasClass index.classes.items n e.aim) (source_at s k d of within) bit)
+
   -- an entry is found by its source
   entry_there : (e : Entry) → Contains entries e → IsFoundAt index e.source e.aim e.place
   entry_there e (k, within, there) =
@@ -142,6 +154,6 @@ module _ (entries : List Entry) (index : Index) (has : HasAll entries index) whe
 
   pub index_made : (sets : List (List ℕ)) (records : List Record) → AreEntries sets records entries → IsIndex sets records index
   index_made sets records are = record {
-    laid_out = record { long = has.places.long ∙ sym has.aims.long; within = bound_at; rising = aims_rise are.sorted };
+    laid_out = record { long = has.places.long ∙ sym has.aims.long; within = bound_at; rising = aims_rise are.sorted; classes = class_at };
     each = λ place k at. entry_there (entry_of sets k place) (are.each place k at);
   }

@@ -1,13 +1,14 @@
 -- What stands in aims.
 use Rattle.std.specs.Prelude.{◌⊎◌, ◌%◌, IsTrue, cond, nat_lt}
-use Rattle.std.proofs.Common.{◌≡◌, ℕ, Bool, ◌+◌, ◌-◌, ◌<◌, ◌≤◌, true, false, List, [], ◌∷◌, length, refl, sym, ◌∙◌, ap, subst, inl, inr, arith}
+use Rattle.std.proofs.Common.{◌≡◌, ℕ, Bool, ◌+◌, ◌-◌, ◌/◌, ◌<◌, ◌≤◌, true, false, List, [], ◌∷◌, length, refl, sym, ◌∙◌, ap, subst, inl, inr, arith}
 use Rattle.std.proofs.Math.Dec.{ltb}
 use Rattle.std.proofs.lemmas.Bool.Decides.{nat_tests}
 use Rattle.cil_index.specs.declared.asked.Asked.{Asked}
 use Rattle.cil_index.specs.declared.memberships.Memberships.{Memberships}
 use Rattle.cil_base.specs.Places.{is_there, not_there}
 use Rattle.cil_index.specs.Entries.{aim_of, alone_key, beyond, in_class, itself, key_of_set, last_type, reached_key, set_key, several, target_key}
-use Rattle.cil_index.specs.Found.{IsAimed, MayReach}
+use Rattle.cil_index.specs.declared.asked.Aims.{Aims}
+use Rattle.cil_index.specs.Found.{AreAims, IsAimed, MayReach}
 use Rattle.cil_index.specs.Memberships.{IsKnownFor}
 use Rattle.cil_index.specs.Sets.{set_of}
 use Rattle.cil_index.proofs.SetLemmas.{none_is}
@@ -78,6 +79,14 @@ module _ (m : Memberships) (asked : Asked) where
   -- the target is the lower part of the aim
   pub aimed_target : (aim : ℕ) → IsAimed m asked aim → MayReach m asked (aim % 4194304)
   aimed_target aim (key, is, r) = subst (MayReach m asked) (sym (low_part (in_class asked.class) key aim is (reach_small key r))) r
+
+  -- the class is the upper part
+  pub class_of_aim : (aim : ℕ) (aims : Aims) → IsAimed m asked aim → AreAims m asked aims → aim / 4194304 ≡ aims.alone / 4194304
+  class_of_aim aim aims (key, is, r) are =
+      let small = reach_small key r in
+      let alone = are.alone_is in
+      let less = alone_below asked.target in
+      omega (arith, is, small, alone, less)
 
   -- a target that is no type, not the source and not without room is a set, and known for the type
   pub set_reached : (key : ℕ) → several ≤ key → (key ≡ beyond → ⊥) → (key ≡ itself → ⊥) → MayReach m asked key → IsKnownFor m asked.target (key - several)

@@ -25,7 +25,6 @@ use Rattle.cil_rules.specs.declared.rule.NamedRule.{NamedRule}
 use Rattle.cil_rules.specs.Rule.{Rule, Itself}
 use Rattle.cil_sets.specs.Answers.{set_cmp, set_total}
 use Rattle.cil_index.specs.declared.record.Record.{Record}
-use Rattle.cil_rules.specs.declared.rule.Reach.{Reach}
 use Rattle.cil_rules.specs.declared.rule.Reach.TheVariants as reaches
 use Rattle.cil_rules.specs.Kept.{branch_named, rule_named, target_named}
 use Rattle.cil_index.specs.Kept.{reached, rule_of, target_at}

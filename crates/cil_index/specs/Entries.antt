@@ -1,5 +1,5 @@
 -- The index of rules: each record is found by the number of its source set, its class and its target.
-use Rattle.std.specs.Prelude.{◌≡◌, ◌⊎◌, ◌<◌, ◌≤◌, ◌+◌, ◌*◌, ℕ, cond, nat_lt, length, get_or, List, [], ◌∷◌, Contains, Option, None, Some, slice_get}
+use Rattle.std.specs.Prelude.{◌≡◌, ◌⊎◌, ◌<◌, ◌≤◌, ◌+◌, ◌*◌, ◌/◌, ◌%◌, ℕ, IsBitSet, cond, nat_lt, length, get_or, List, [], ◌∷◌, Contains, Option, None, Some, slice_get}
 use Rattle.std.specs.List.Sorted.{IsPartitionPoint, IsSorted}
 use Rattle.std.specs.Cmp.{IsTotalOrder}
 use Rattle.std.proofs.lemmas.Cmp.{on_total, nat_list_cmp_total}
@@ -85,11 +85,16 @@ pub record IsFoundAt (index : Index) (source aim place : ℕ) : Type 0 where
 abbrev pub RiseIn : List ℕ → ℕ → ℕ → Type 0
 RiseIn aims start end = (i j : ℕ) → start ≤ i → i ≤ j → j < end → get_or aims i 0 ≤ get_or aims j 0
 
--- each aim has its place, and those of each source rise
+-- the bit of the class of an aim is there for the source: a word has 64 bits
+abbrev pub HasClass : List ℕ → (source aim : ℕ) → Type 0
+HasClass words source aim = IsBitSet (get_or words source 0) (aim / 4194304 % 64)
+
+-- each aim has its place and the bit of its class, and those of each source rise
 pub record IsLaidOut (index : Index) : Type 0 where
   pub long : length index.places.items ≡ length index.aims.items
   pub within : (source : ℕ) → get_or index.starts.items source 0 ≤ length index.aims.items
   pub rising : (source : ℕ) → RiseIn index.aims.items (get_or index.starts.items source 0) (get_or index.starts.items (source + 1) 0)
+  pub classes : (source at : ℕ) → IsOfSource index.starts.items source at → HasClass index.classes.items source (get_or index.aims.items at 0)
 
 -- and each record is found
 pub record IsIndex (sets : List (List ℕ)) (records : List Record) (index : Index) : Type 0 where
@@ -140,11 +145,16 @@ pub record IsColumn (number : Entry → ℕ) (entries : List Entry) (column : Li
   pub long : length column ≡ length entries
   pub each : (k : ℕ) (d : Entry) → k < length entries → get_or column k 0 ≡ number (get_or entries k d)
 
+-- the bit of the class of each entry is there, for its source
+abbrev pub HaveClasses : List Entry → List ℕ → Type 0
+HaveClasses entries words = (e : Entry) → Contains entries e → HasClass words e.source e.aim
+
 -- the index has what these entries have
 pub record HasAll (entries : List Entry) (index : Index) : Type 0 where
   pub aims : IsColumn (λ e. e.aim) entries index.aims.items
   pub places : IsColumn (λ e. e.place) entries index.places.items
   pub starts : AreAllStarts entries index.starts.items
+  pub classes : HaveClasses entries index.classes.items
 
 -- where the aims of a source begin and end
 pub record AreBounds (index : Index) (source : ℕ) (b : Bounds) : Type 0 where

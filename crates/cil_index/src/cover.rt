@@ -147,10 +147,10 @@ fn by_source(
     ensures sound { (bit : ℕ) → IsBitSet result bit → HasCover (is_on settings.now) (rules_in searched.now) asked.now.source asked.now.target asked.now.class bit }
     ensures all { Hands (is_on settings.now) (rules_in searched.now) searched.now.memberships.now asked.now index.now source result }
 {
-    let bounds = index.bounds(source);
-    if bounds.to <= bounds.start {
+    if !index.may_have(source, aims.alone) {
         return 0;
     }
+    let bounds = index.bounds(source);
     let one = aim_start(&index.aims, bounds.start, bounds.to, aims.alone);
     let several = near_start(&index.aims, one, bounds.to, aims.several);
     found(

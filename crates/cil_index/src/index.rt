@@ -1,24 +1,26 @@
 //! The index of rules: aims, searched by halving.
 
-ghost use Rattle.std.specs.Prelude.{◌≡◌, ◌≤◌, ◌<◌, ◌+◌, Contains, IfOk, IsTrue, Some, get_or, length, slice_get};
+ghost use Rattle.std.specs.Prelude.{◌≡◌, ◌≤◌, ◌<◌, ◌+◌, ℕ, Contains, IfOk, IsTrue, Some, get_or, length, slice_get};
 ghost use Rattle.std.specs.List.Sorted.{IsSorted};
 ghost use Rattle.cil_index.specs.declared.key.Entry.{Entry as AnEntry};
-ghost use Rattle.cil_index.specs.Entries.{AreAllStarts, AreBelow, AreBounds, AreEntries, BeginAt, HasAll, HasEntries, IsColumn, IsIndex, IsLaidOut, IsLater, RiseIn, aim_of_record, beyond, entry_cmp, entry_of, target_key};
+ghost use Rattle.cil_index.specs.Entries.{AreAllStarts, AreBelow, AreBounds, AreEntries, BeginAt, HasAll, HasClass, HasEntries, HaveClasses, IsColumn, IsIndex, IsLaidOut, IsLater, RiseIn, aim_of_record, beyond, entry_cmp, entry_of, target_key};
 ghost use Rattle.cil_index.specs.declared.record.Record.{Record as ARecord};
 
-use crate::key::{Entry, ITSELF, aim, class_key, set_key};
+use crate::key::{Entry, ITSELF, TARGETS, aim, class_key, set_key};
 use crate::record::Record;
 use crate::sets::Sets;
 use cil_base::NoMemory;
 use std::alloc::Global;
 
 /// The aims of rules, by the sets of their sources, and in their order within each; the places of these rules; and where the aims of each set
-/// begin. A search reads the aims alone: four bytes for each rule.
+/// begin. A search reads the aims alone: four bytes for each rule. A word for each set has a bit for each class of its rules, by what 64 leaves of
+/// it: most sets that have no rule on a class are known by it.
 #[derive(Debug, Drop)]
 pub struct Index {
     pub aims: Vec<u32>,
     pub places: Vec<u32>,
     starts: Vec<u32>,
+    classes: Vec<u64>,
 }
 
 /// Where a part of the aims begins and ends.
@@ -41,6 +43,16 @@ impl Index {
             start: start_at(&self.starts, source),
             to: start_at(&self.starts, source + 1),
         }
+    }
+
+    /// Whether a set of sources may have an aim of the class of this one. Where it has none, as mostly, it costs a step.
+    pub fn may_have(&self, source: usize, aim: u32) -> bool
+        ensures { HasClass self.now.classes.items source aim → IsTrue result }
+    {
+        let Some(bits) = self.classes.get(source) else {
+            return false;
+        };
+        *bits & (1 << (aim / TARGETS % 64)) != 0
     }
 
     /// Whether there are no rules.
@@ -153,10 +165,12 @@ fn parted(alloc: Global, entries: &[Entry]) -> Result<Index, NoMemory>
     let aims = aims_in(alloc, entries)?;
     let places = places_in(alloc, entries)?;
     let starts = starts_of(alloc, entries)?;
+    let classes = classes_of(alloc, entries)?;
     Ok(Index {
         aims,
         places,
         starts,
+        classes,
     })
 }
 
@@ -227,6 +241,30 @@ fn target_of(sets: &Sets, kept: &Record) -> u32
         return sets.key(kept.target, set_key(kept.target));
     }
     sets.key(kept.source, ITSELF)
+}
+
+/// For each set of sources the bits of the classes of its entries. Errors: out of memory.
+fn classes_of(alloc: Global, entries: &[Entry]) -> Result<Vec<u64>, NoMemory>
+    requires { IsSorted entry_cmp entries.now }
+    ensures { IfOk result (λ words. HaveClasses entries.now words.items) }
+{
+    let mut words = vec![in alloc; 0u64; sources_of(entries)]?;
+    for entry in entries {
+        add_class(&mut words, entry);
+    }
+    Ok(words)
+}
+
+/// Adds the bit of the class of an entry.
+fn add_class(words: &mut Vec<u64>, entry: &Entry)
+    requires { entry.now.source < length words.now.items }
+    ensures added { HasClass words.new.items entry.now.source entry.now.aim }
+    ensures stays { (source aim : ℕ) → HasClass words.old.items source aim → HasClass words.new.items source aim }
+    ensures long { length words.new.items ≡ length words.old.items }
+{
+    let place = entry.source as usize;
+    let word = words[place];
+    words[place] = word | (1 << (entry.aim / TARGETS % 64));
 }
 
 /// Where the entries of each set of sources begin, and of the one behind. Errors: out of memory.

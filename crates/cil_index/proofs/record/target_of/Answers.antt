@@ -1,5 +1,4 @@
-use Rattle.std.proofs.Common.{[], subst, sym}
-use Rattle.cil_rules.specs.declared.rule.Reach.{Reach}
+use Rattle.std.proofs.Common.{[]}
 use Rattle.cil_index.proofs.OrderLemmas.{itself_is, reach_is}
 use Rattle.cil_index.proofs.record.target_of.Goals as goal
 
