@@ -5,7 +5,7 @@ use Rattle.cil_blocks.specs.Doubled.{AreThose}
 use Rattle.cil_blocks.specs.Seeds.{IsDoubledBy, IsNext}
 use Rattle.cil_blocks.proofs.CoverLemmas.{AreReachedBefore}
 use Rattle.cil_blocks.proofs.Reached.{AreSoFar, IsToldBy}
-use Rattle.cil_blocks.proofs.seeds.standing_twice.Given as goal
+use Rattle.cil_blocks.proofs.seeds.tell_all.Given as goal
 
 abbrev pub invariant-loop-at : goal.invariant-loop-at
 invariant-loop-at l = record {
