@@ -12,9 +12,9 @@ ghost use Rattle.cil_names.specs.Permissions.{AreEmpty, AreListed, AreOwn, SaysL
 ghost use Rattle.cil_names.specs.Shared.{AreShared};
 ghost use Rattle.cil_names.specs.Unresolved.{ArePermissions};
 
+use crate::by_name::entry_in;
 use crate::entry::Entry;
 use crate::guesses::Guesses;
-use crate::look::entry_in;
 use crate::names::Names;
 use crate::reading::is_at;
 use crate::shared::{Shared, with_commons};

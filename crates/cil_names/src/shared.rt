@@ -9,15 +9,16 @@ ghost use Rattle.cil_base.specs.Lists.{Lists, text_cmp};
 ghost use Rattle.cil_base.specs.declared.bytes.Bytes.{Bytes as Text};
 ghost use Rattle.cil_macros.specs.Item.{Item, nobody};
 ghost use Rattle.cil_macros.specs.Items.{item_at, items_in, namespaces_in, word_at};
-ghost use Rattle.cil_names.specs.Entries.{AreEntries, AreOrdered, is_declared_at, scoped};
+ghost use Rattle.cil_names.specs.Entries.{AreEntries, AreOrdered, is_declared_at, listed, scoped};
 ghost use Rattle.cil_names.specs.Resolves.{is_class_common as joins};
 ghost use Rattle.cil_base.specs.Records.{AreRecordsOf, IsRecordOf};
 ghost use Rattle.cil_names.specs.Shared.{AreApart, AreShared, HaveCommons, IsAddedTo, IsOutside, IsPairOf, Shares};
 ghost use Rattle.cil_names.specs.SharedOrder.{shared_cmp, shared_total};
 
+use crate::by_name::entry_in;
+use crate::enabled::is_declared;
 use crate::entry::Entry;
 use crate::guesses::Guesses;
-use crate::look::{entry_in, is_declared};
 use crate::names::Names;
 use crate::permission_word::class_named;
 use cil_base::NoMemory;
@@ -102,11 +103,21 @@ fn all_shared(alloc: Global, names: &Names, instances: &Instances) -> Result<Vec
     let mut shared = Vec::new(alloc);
     let mut scope = ScopeList::new(alloc);
     for at in 0..instances.len() {
-        if let Some(one) = shared_at(alloc, names, instances, at, &mut scope)? {
-            shared.push(one)?;
-        }
+        let one = shared_at(alloc, names, instances, at, &mut scope)?;
+        push_shared(&mut shared, one)?;
     }
     Ok(shared)
+}
+
+/// Adds a pair, if there is one.
+fn push_shared(shared: &mut Vec<Shared>, one: Option<Shared>) -> Result<(), NoMemory>
+    ensures { OnOk result (shared.new.items ≡ shared.old.items ++ listed one) }
+{
+    let Some(pair) = one else {
+        return Ok(());
+    };
+    shared.push(pair)?;
+    Ok(())
 }
 
 /// The class and the common that the statement at a place joins, if it is a classcommon statement whose words name both. Classes
