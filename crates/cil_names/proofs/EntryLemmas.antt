@@ -95,7 +95,7 @@ module _ (s : OptSet) (es : List Entry) (d : ℕ) where
   none_there gone = found_so false (ap (λ o. option_map_or (is_declared_in s) o false) gone)
 
   module _ (e : Entry) (at : slice_get es d ≡ Some e) (r : Bool) (is : r ≡ is_declared_in s e) where
-    pub declared_as : is_declared_at s es d ≡ r
+    declared_as : is_declared_at s es d ≡ r
     declared_as = ap (λ o. option_map_or (is_declared_in s) o false) at ∙ sym is
 
     pub not_declared : r ≡ false → None ≡ find (is_declared_at s es) (listed (Some d))

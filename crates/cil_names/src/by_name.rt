@@ -13,8 +13,8 @@ use crate::namesakes::{Namesakes, few_named};
 use cil_syntax::Sign;
 use std::cmp::Ordering;
 
-/// The number of the entry of a wanted kind under this name in a namespace. It costs one hash for a name that few entries have,
-/// and else one search by halving.
+/// The number of the entry of a wanted kind under this name in a namespace. It costs one hash for a name that few
+/// entries have, and else one search by halving.
 pub fn entry_in(
     entries: &[Entry],
     guesses: &Guesses,
@@ -32,8 +32,8 @@ pub fn entry_in(
     entry_of(entries, same, space, name, rank, sign)
 }
 
-/// The same, where the name space is given, and the entries of the name, or none. So a word looks up its name once, and not once
-/// for each namespace of its scope.
+/// The same, where the name space is given, and the entries of the name, or none. So a word looks up its name once, and
+/// not once for each namespace of its scope.
 pub fn entry_of(
     entries: &[Entry],
     same: Option<Namesakes>,

@@ -1,4 +1,5 @@
-//! What is known of a word before its scope is gone through, so that it is found out once, and not once for each namespace.
+//! What is known of a word before its scope is gone through, so that it is found out once, and not once for each
+//! namespace.
 
 ghost use Rattle.std.specs.Prelude.{◌≡◌, MatchOption, false};
 ghost use Rattle.std.specs.List.Sorted.{IsStrictlySortedBy};
