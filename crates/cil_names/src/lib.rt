@@ -15,6 +15,7 @@ pub mod asked;
 mod asked_parts;
 mod by_name;
 mod clash;
+mod commons;
 mod content;
 mod enabled;
 mod entry;

@@ -13,11 +13,12 @@ ghost use Rattle.cil_names.specs.Shared.{AreShared};
 ghost use Rattle.cil_names.specs.Unresolved.{ArePermissions};
 
 use crate::by_name::entry_in;
+use crate::commons::with_commons;
 use crate::entry::Entry;
 use crate::guesses::Guesses;
 use crate::names::Names;
 use crate::reading::is_at;
-use crate::shared::{Shared, with_commons};
+use crate::shared::Shared;
 use cil_base::NoMemory;
 use cil_macros::Instances;
 use cil_syntax::{Bytes, DeclaredName, Keyword, Sign, Statement, Term};

@@ -2,7 +2,7 @@ use Rattle.std.proofs.Common.{refl, subst}
 use Rattle.std.specs.Prelude.{Contains, List, ℕ}
 use Rattle.cil_base.specs.Lists.{Lists, text_cmp}
 use Rattle.cil_base.proofs.SortedLists.{sorted_names}
-use Rattle.cil_names.proofs.shared.with_names.Goals as goal
+use Rattle.cil_names.proofs.commons.with_names.Goals as goal
 
 pub returns : goal.returns
 returns c =

@@ -1,7 +1,7 @@
 use Rattle.std.proofs.Common.{arith, refl, get_or}
 use Rattle.cil_base.specs.Places.{contains_at}
 use Rattle.cil_names.proofs.SharedLemmas.{all_shared, none_shared, one_shared}
-use Rattle.cil_names.proofs.shared.with_commons.Goals as goal
+use Rattle.cil_names.proofs.commons.with_commons.Goals as goal
 
 pub loop-one-init : goal.loop-one-init
 loop-one-init c = none_shared c.args.lists.items c.requires.rising

@@ -4,7 +4,7 @@ use Rattle.std.proofs.lemmas.List.{length-set}
 use Rattle.cil_base.specs.Lists.{Lists, text_cmp}
 use Rattle.cil_base.specs.Places.{there_as}
 use Rattle.cil_names.proofs.SharedLemmas.{added_to, taken_at}
-use Rattle.cil_names.proofs.shared.add_common.Goals as goal
+use Rattle.cil_names.proofs.commons.add_common.Goals as goal
 
 pub returns : goal.returns
 returns c =
