@@ -10,7 +10,9 @@ mod bytes;
 pub mod laws;
 mod memory;
 mod names;
+mod short;
 
 pub use bytes::Bytes;
 pub use memory::NoMemory;
 pub use names::{Names, number_of};
+pub use short::short;

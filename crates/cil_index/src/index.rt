@@ -9,7 +9,7 @@ ghost use Rattle.cil_index.specs.declared.record.Record.{Record as ARecord};
 use crate::key::{Entry, ITSELF, TARGETS, aim, class_key, set_key};
 use crate::record::Record;
 use crate::sets::Sets;
-use cil_base::NoMemory;
+use cil_base::{NoMemory, short};
 use std::alloc::Global;
 
 /// The aims of rules, by the sets of their sources, and in their order within each; the places of these rules; and where the aims of each set
@@ -297,14 +297,4 @@ fn source_start(entries: &[Entry], source: usize) -> usize
     ensures { BeginAt entries.now source result }
 {
     entries.partition_point(|entry| (entry.source as usize) < source)
-}
-
-/// A number in four bytes. Beyond 4,294,967,295 it is out of memory.
-pub fn short(place: usize) -> Result<u32, NoMemory>
-    ensures { IfOk result (λ n. n ≡ place) }
-{
-    if place > u32::MAX as usize {
-        return Err(NoMemory);
-    }
-    Ok(place as u32)
 }

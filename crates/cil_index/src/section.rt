@@ -16,12 +16,12 @@ ghost use Rattle.cil_index.specs.Sets.{AreNumbered};
 
 use crate::asked::{Asked, Searched};
 use crate::cover::covered;
-use crate::index::{Index, index_of, short};
+use crate::index::{Index, index_of};
 use crate::matches::mask_at;
 use crate::memberships::Memberships;
 use crate::record::{Record, records_of};
 use crate::sets::{Sets, numbers_of};
-use cil_base::NoMemory;
+use cil_base::{NoMemory, short};
 use cil_conditions::{Branch, Settings};
 use cil_rules::NamedRule;
 use cil_sets::Numbers;

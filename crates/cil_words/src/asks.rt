@@ -10,10 +10,10 @@ ghost use Rattle.cil_words.specs.Scopes.{AreScopes};
 ghost use Rattle.cil_words.specs.Table.{AreAsks, AreNumberedAsks, could_in, numbered_asks, word_ask};
 
 use crate::cells::Cells;
-use crate::number_lists::{end_at, small, start_at};
+use crate::number_lists::{end_at, start_at};
 use crate::scopes::Scopes;
 use crate::walk::Walk;
-use cil_base::NoMemory;
+use cil_base::{NoMemory, short};
 use cil_macros::Instances;
 use cil_names::Names;
 use cil_names::reading::Reading;
@@ -71,7 +71,7 @@ pub fn asks_of<'r, 'a>(
     let mut cells = Cells::new(alloc);
     let mut scopes = Scopes::new(alloc);
     for at in 0..instances.len() {
-        starts.push(small(cells.len())?)?;
+        starts.push(short(cells.len())?)?;
         maker.add(at, &mut scopes, &mut cells)?;
     }
     Ok(Asks { starts, cells })
