@@ -1,5 +1,7 @@
 //! Numbers that are kept in four bytes.
 
+ghost use Rattle.std.specs.Prelude.{◌≡◌, IfOk};
+
 use crate::memory::NoMemory;
 
 /// A number in four bytes, as tables keep places and counts. Beyond 4,294,967,295 it is out of memory: no table has room for
