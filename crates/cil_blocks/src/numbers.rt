@@ -1,6 +1,6 @@
 //! Numbers of which many in front are 0.
 
-ghost use Rattle.std.specs.Prelude.{◌≡◌, IfOk};
+ghost use Rattle.std.specs.Prelude.{◌≡◌};
 
 use cil_base::{NoMemory, short};
 use std::alloc::Global;
