@@ -10,13 +10,14 @@ ghost use Rattle.cil_index.specs.Searched.{rules_in};
 ghost use Rattle.cil_index.specs.Sets.{set_of};
 
 use crate::asked::{Aims, Asked, Searched, aims_of};
-use crate::index::{Bounds, Index, aim_start, near_start};
+use crate::index::{Bounds, Index};
 use crate::key::TARGETS;
 use crate::matches::{mask_known, may_reach};
+use crate::search::{aim_start, near_start};
 use cil_conditions::Settings;
 
 /// The permissions that the rules cover, by their index. It takes no memory: for each set that has the source, and for each large one, it costs
-/// two searches by halving among the aims of this set, and a test of each that may reach the target.
+/// two searches among the aims of a part of this set, and a test of each that may reach the target.
 pub fn covered(searched: &Searched, index: &Index, settings: &Settings, asked: &Asked) -> u32
     requires index { IsIndex searched.now.sets.now searched.now.records.now index.now }
     requires memberships { AreMemberships searched.now.sets.now searched.now.memberships.now }
@@ -45,7 +46,7 @@ fn by_alone(
     ensures sound { (bit : ℕ) → IsBitSet result bit → HasCover (is_on settings.now) (rules_in searched.now) asked.now.source asked.now.target asked.now.class bit }
     ensures all { HandOver (is_on settings.now) (rules_in searched.now) searched.now.memberships.now asked.now index.now (λ n. n ≡ suc asked.now.source) result }
 {
-    if asked.source >= index.sources() {
+    if asked.source >= index.room() {
         return 0;
     }
     by_source(
@@ -147,10 +148,10 @@ fn by_source(
     ensures sound { (bit : ℕ) → IsBitSet result bit → HasCover (is_on settings.now) (rules_in searched.now) asked.now.source asked.now.target asked.now.class bit }
     ensures all { Hands (is_on settings.now) (rules_in searched.now) searched.now.memberships.now asked.now index.now source result }
 {
-    if !index.may_have(source, aims.alone) {
+    let bounds = index.bounds(source, aims.alone);
+    if bounds.is_empty() {
         return 0;
     }
-    let bounds = index.bounds(source);
     let one = aim_start(&index.aims, bounds.start, bounds.to, aims.alone);
     let several = near_start(&index.aims, one, bounds.to, aims.several);
     found(
@@ -180,8 +181,7 @@ fn by_source(
     )
 }
 
-/// The permissions of the rules of some aims, up to the last one, that cover what is asked. Where there are none, as mostly, it costs a
-/// comparison.
+/// The permissions of the rules of some aims, up to the last one, that cover what is asked. Where there are none it costs a comparison.
 fn found(
     searched: &Searched,
     index: &Index,

@@ -6,13 +6,13 @@ use Rattle.cil_index.specs.Found.{Hands}
 use Rattle.cil_index.proofs.CoverLemmas.{none_behind}
 use Rattle.cil_index.proofs.cover.by_alone.Goals as goal
 
-pub returns-then-asked-sources-clause-sound : goal.returns-then-asked-sources-clause-sound
-returns-then-asked-sources-clause-sound c = λ bit set. absurd (none_set bit set)
+pub returns-then-asked-room-clause-sound : goal.returns-then-asked-room-clause-sound
+returns-then-asked-room-clause-sound c = λ bit set. absurd (none_set bit set)
 
-pub returns-then-asked-sources-clause-all : goal.returns-then-asked-sources-clause-all
-returns-then-asked-sources-clause-all c = λ n is.
-    let past = c.if-asked-sources.true in
-    let size = c.sources.ensures in
+pub returns-then-asked-room-clause-all : goal.returns-then-asked-room-clause-all
+returns-then-asked-room-clause-all c = λ n is.
+    let past = c.if-asked-room.true in
+    let size = c.room.ensures in
     none_behind (is_on c.args.settings.now) (rules_in c.args.searched.now) c.args.searched.now.memberships.now c.args.asked.now c.args.index.now n 0 (omega (arith, is, past, size))
 
 pub returns-clause-all : goal.returns-clause-all

@@ -1,6 +1,6 @@
 use Rattle.std.proofs.Common.{sym}
 use Rattle.cil_index.proofs.StartLemmas.{last_room, no_entry}
-use Rattle.cil_index.proofs.index.sources_of.Goals as goal
+use Rattle.cil_index.proofs.index.parts_of.Goals as goal
 
 pub returns-in-Some : goal.returns-in-Some
 returns-in-Some c = last_room c.args.entries.now c.in-Some.entry.now c.requires (sym c.in-Some.ensures.value)

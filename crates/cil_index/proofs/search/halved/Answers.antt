@@ -1,6 +1,6 @@
 use Rattle.std.proofs.Common.{arith, ◌-◌, ◌/◌}
 use Rattle.cil_index.proofs.RunLemmas.{searched_first, searched_half}
-use Rattle.cil_index.proofs.index.aim_start.Goals as goal
+use Rattle.cil_index.proofs.search.halved.Goals as goal
 
 pub loop-size-init : goal.loop-size-init
 loop-size-init c =
