@@ -43,13 +43,14 @@ module _ (sets : List (List ℕ)) (records : List Record) where
   entries_sorted old new has moved sorted = record { sorted = sorted; each = λ place k at. Contains-permutation old new _ moved (has place k at) }
 
   -- the entry of a place is that of the record there
-  pub entry_made : (n : ℕ) (d : Record) (aim part : ℕ) (k : Record) → n < length records → aim ≡ aim_of_record sets (get_or records n d) → part ≡ part_of (get_or records n d).source aim
-      → slice_get records n ≡ Some k → ◌≡◌ {A = Entry} (record { part = part; aim = aim; place = n }) (entry_of sets k n)
-  entry_made n d aim part k within is from at =
+  pub entry_made : (n : ℕ) (d : Record) (aim source part place : ℕ) (k : Record) → n < length records → aim ≡ aim_of_record sets (get_or records n d) → source ≡ (get_or records n d).source → part ≡ part_of source aim
+      → place ≡ n → slice_get records n ≡ Some k → ◌≡◌ {A = Entry} (record { part = part; aim = aim; place = place }) (entry_of sets k n)
+  entry_made n d aim source part place k within is from of_part here at =
       let there : get_or records n d ≡ k = same_Some _ _ (sym (is_there records n d within) ∙ at) in
       let same : aim ≡ aim_of_record sets k = is ∙ ap (aim_of_record sets) there in
-      let of_part : part ≡ part_of k.source (aim_of_record sets k) = from ∙ ap (λ (z : Record). part_of z.source aim) there ∙ ap (part_of k.source) same in
-      λ i. record { part = of_part i; aim = same i; place = n }
+      let of_source : source ≡ k.source = from ∙ ap (λ (z : Record). z.source) there in
+      let in_part : part ≡ part_of k.source (aim_of_record sets k) = of_part ∙ ap (λ s. part_of s aim) of_source ∙ ap (part_of k.source) same in
+      λ i. record { part = in_part i; aim = same i; place = here i }
 
 -- ---- columns of entries
 
