@@ -1,5 +1,5 @@
 use Rattle.cil_classes.proofs.BitLemmas.{none_set}
-use Rattle.cil_index.proofs.cover.found.Goals as goal
+use Rattle.cil_index.proofs.cover.Search.found.Goals as goal
 
 pub returns-clause-sound : goal.returns-clause-sound
 returns-clause-sound c = λ bit set. absurd (none_set bit set)
