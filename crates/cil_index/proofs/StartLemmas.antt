@@ -1,11 +1,9 @@
 -- Where the entries of each part begin.
-use Rattle.std.specs.List.Sorted.{IsNonDecreasingBy, IsPartitionPoint, IsSorted}
+use Rattle.std.specs.List.Sorted.{IsNonDecreasingBy, IsSorted}
 use Rattle.std.specs.Ordering.{is_lt, ordering_then}
 use Rattle.std.specs.Prelude.{Contains, None, Some, slice_get}
-use Rattle.std.proofs.Common.{◌≡◌, ℕ, ◌+◌, ◌-◌, ◌<◌, ◌≤◌, true, false, List, [], ◌∷◌, ◌++◌, length, get_or, sym, ◌∙◌, ap, subst, inl, inr, arith}
-use Rattle.std.proofs.Math.Dec.{ltb}
+use Rattle.std.proofs.Common.{◌≡◌, ℕ, ◌+◌, ◌-◌, ◌<◌, ◌≤◌, true, List, [], ◌∷◌, ◌++◌, length, get_or, sym, ◌∙◌, ap, subst, inl, inr, arith}
 use Rattle.std.proofs.lemmas.Bool.{cases_lt}
-use Rattle.std.proofs.lemmas.Bool.Decides.{nat_tests}
 use Rattle.std.proofs.lemmas.List.{get_or_append_left, get_or_default, length-append}
 use Rattle.std.proofs.Math.Seq.{get_or-append_seam}
 use Rattle.std.proofs.lemmas.List.Sorted.{sorted_far}
@@ -42,21 +40,21 @@ no_entry entries none e (k, within, there) =
 
 -- ---- the place where a part begins, from that of the part before on
 
-pub before_more : (entries : List Entry) (part at : ℕ) (e : Entry) → at < length entries → e ≡ get_or entries at e → e.part < part → AreBefore entries part at → AreBefore entries part (at + 1)
-before_more entries part at e within is less so_far k d below inside = elim (cases_lt k at) [
+pub before_more : (entries : List Entry) (part at : ℕ) (e : Entry) → at < length entries → (get_or entries at e).part < part → AreBefore entries part at → AreBefore entries part (at + 1)
+before_more entries part at e within less so_far k d below inside = elim (cases_lt k at) [
   | inl under ↦ so_far k d under inside
   | inr ge ↦ let same : at ≡ k = omega (arith, ge, below) in
-      subst (λ (z : Entry). z.part < part) (is ∙ get_or_default entries at e d within ∙ ap (λ j. get_or entries j d) same) less
+      subst (λ (z : Entry). z.part < part) (get_or_default entries at e d within ∙ ap (λ j. get_or entries j d) same) less
 ]
 
 -- the entry at the place is of the part, or a later one
-pub begins_here : (entries : List Entry) (part at : ℕ) (e : Entry) → IsSorted entry_cmp entries → at < length entries → e ≡ get_or entries at e → part ≤ e.part → AreBefore entries part at → BeginAt entries part at
-begins_here entries part at e up within is ge so_far = record {
+pub begins_here : (entries : List Entry) (part at : ℕ) (e : Entry) → IsSorted entry_cmp entries → at < length entries → part ≤ (get_or entries at e).part → AreBefore entries part at → BeginAt entries part at
+begins_here entries part at e up within ge so_far = record {
   bound = omega (arith, within);
   parts = (
     λ k d zero_ below. so_far k d below (omega (arith, below, within)),
     λ k d from inside. let rise = parts_rise entries up at k d from inside in
-        let here : (get_or entries at d).part ≡ e.part = ap (λ (z : Entry). z.part) (get_or_default entries at d e within ∙ sym is) in omega (arith, rise, here, ge),
+        let here : (get_or entries at e).part ≡ (get_or entries at d).part = ap (λ (z : Entry). z.part) (get_or_default entries at e d within) in omega (arith, rise, here, ge),
   );
 }
 

@@ -223,7 +223,8 @@ fn part_start(entries: &[Entry], from: usize, part: usize) -> usize
 {
     let mut at = from;
     while at < entries.len() {
-        if entries[at].part as usize >= part {
+        let entry = &entries[at];
+        if entry.part as usize >= part {
             return at;
         }
         at += 1;

@@ -1,4 +1,4 @@
-use Rattle.std.proofs.Common.{◌≤◌, ◌×◌, length}
+use Rattle.std.proofs.Common.{◌≤◌, ◌-◌, length}
 use Rattle.cil_index.specs.Entries.{AreBefore}
 use Rattle.cil_index.proofs.index.part_start.Given as goal
 

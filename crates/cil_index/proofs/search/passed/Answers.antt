@@ -1,6 +1,4 @@
-use Rattle.std.proofs.Common.{arith, get_or}
-use Rattle.std.proofs.lemmas.List.{get_or_default}
-use Rattle.cil_index.proofs.RunLemmas.{passed_more, passed_none}
+use Rattle.cil_index.proofs.RunLemmas.{passed_none}
 use Rattle.cil_index.proofs.search.passed.Goals as goal
 
 pub loop-at-init : goal.loop-at-init

@@ -1,3 +1,4 @@
+use Rattle.std.proofs.Common.{◌-◌}
 use Rattle.cil_index.proofs.RunLemmas.{IsPassed}
 use Rattle.cil_index.proofs.search.passed.Given as goal
 

@@ -6,12 +6,12 @@ use Rattle.cil_index.specs.Found.{Hands}
 use Rattle.cil_index.proofs.CoverLemmas.{none_behind}
 use Rattle.cil_index.proofs.cover.Search.by_alone.Goals as goal
 
-pub returns-then-asked-room-clause-sound : goal.returns-then-asked-room-clause-sound
-returns-then-asked-room-clause-sound c = λ bit set. absurd (none_set bit set)
+pub returns-then-self-room-clause-sound : goal.returns-then-self-room-clause-sound
+returns-then-self-room-clause-sound c = λ bit set. absurd (none_set bit set)
 
-pub returns-then-asked-room-clause-all : goal.returns-then-asked-room-clause-all
-returns-then-asked-room-clause-all c = λ n is.
-    let past = c.if-asked-room.true in
+pub returns-then-self-room-clause-all : goal.returns-then-self-room-clause-all
+returns-then-self-room-clause-all c = λ n is.
+    let past = c.if-self-room.true in
     let size = c.room.ensures in
     none_behind (is_on c.args.self.now.settings.now) (rules_in c.args.self.now.searched.now) c.args.self.now.searched.now.memberships.now c.args.self.now.asked.now c.args.self.now.index.now n 0 (omega (arith, is, past, size))
 
