@@ -1,14 +1,15 @@
 #!/usr/bin/env python3
 """Runs the program on texts that are made to be dear.
 
-usage: hostile.py [PROGRAM] [--seconds N] [--gigabytes N] [FORM [SIZE]]
+usage: hostile.py [PROGRAM] [--seconds N] [--gigabytes N] [--bytes N] [FORM [SIZE]]
 
 Each form is a kind of text, made for one pass of the program or for one limit. `hostile.py FORM SIZE` runs the program
 on that form, and prints the form, its size, the bytes of its requests, the seconds that the run took, the seconds of
 these in which the processor ran the program, the most memory that the program held at once, how many bytes it replied,
 and the first line that is no reply to an INSTALL.
 Without a size it is the full size of the form, and without a form all forms are run at their full sizes, one after the
-other. A run ends after N seconds (120) and has an address space of N gigabytes (10).
+other. With --bytes N it is the size at which the requests have about so many bytes, at most the full size. A run ends
+after N seconds (120) and has an address space of N gigabytes (10).
 
 A size is a number of bytes, with few exceptions, which the form says. Twice the size is twice the text. Where a form
 multiplies its statements by inheritance or by calls, these are twice as many too. So a time that grows fourfold where
@@ -1036,8 +1037,20 @@ def run(program, name, size, seconds, gigabytes):
               f"{usage.ru_maxrss / 1000:8.0f} {replies.seek(0, 2):10}  {reply}{', ' * bool(how)}{how}", flush=True)
 
 
+def size_for(name, count):
+    """The size at which the requests of a form have about so many bytes, at most the full size."""
+    form, full, requests = FORMS[name]
+    size = min(full, count)
+    for _ in range(4):
+        length = sum(map(len, requests(form, size)))
+        if abs(length - count) * 50 <= count:
+            break
+        size = min(full, max(1, size * count // length))
+    return size
+
+
 def main():
-    words_, options = sys.argv[1:], {"--seconds": 120, "--gigabytes": 10}
+    words_, options = sys.argv[1:], {"--seconds": 120, "--gigabytes": 10, "--bytes": 0}
     here = os.path.dirname(os.path.abspath(__file__))
     program = os.path.join(here, "..", "crates", "cilhost", "out", "cilhost")
     if words_ and "/" in words_[0]:
@@ -1053,7 +1066,8 @@ def main():
         return 2
     print(f"{'form':17} {'size':>9} {'bytes':>9} {'seconds':>8} {'cpu':>8} {'peak MB':>8} {'replied':>10}  reply")
     for name in words_[:1] or FORMS:
-        size = int(words_[1]) if words_[1:] else FORMS[name][1]
+        size = size_for(name, options["--bytes"]) if options["--bytes"] else FORMS[name][1]
+        size = int(words_[1]) if words_[1:] else size
         run(program, name, size, options["--seconds"], options["--gigabytes"])
     return 0
 

@@ -7,10 +7,12 @@
 #![tactic(auto)]
 
 mod bytes;
+mod four_bytes;
 pub mod laws;
 mod memory;
 mod names;
 
 pub use bytes::Bytes;
+pub use four_bytes::short;
 pub use memory::NoMemory;
 pub use names::{Names, number_of};

@@ -2,8 +2,7 @@
 
 ghost use Rattle.std.specs.Prelude.{◌≡◌, IfOk};
 
-use crate::numbers::small;
-use cil_base::NoMemory;
+use cil_base::{NoMemory, short};
 
 /// A statement as it stands somewhere. Its namespace, its scope and its chain follow from the one that opened it.
 #[derive(Clone, Copy, Debug, PartialEq, Eq)]
@@ -26,7 +25,7 @@ impl Entry {
         ensures { IfOk result (λ e. e ≡ record { statement = statement; opener = opener }) }
     {
         Ok(Entry {
-            statement: small(statement)?,
+            statement: short(statement)?,
             opener: small_place(opener)?,
         })
     }
@@ -48,6 +47,6 @@ fn small_place(place: Option<usize>) -> Result<Option<u32>, NoMemory>
 {
     match place {
         None => Ok(None),
-        Some(number) => Ok(Some(small(number)?)),
+        Some(number) => Ok(Some(short(number)?)),
     }
 }

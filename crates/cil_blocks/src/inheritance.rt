@@ -8,14 +8,16 @@ ghost use Rattle.cil_syntax.specs.Program.{IsNested, program_of};
 ghost use Rattle.cil_faults.specs.Refusal.{Answers};
 ghost use Rattle.cil_blocks.specs.Entries.{AreOpened, AreParts, statement_at};
 ghost use Rattle.cil_blocks.specs.InheritFaults.{InheritFault, InheritStep, IsDoubled, limit_fault, most_instances};
+ghost use Rattle.cil_blocks.specs.Laws.{HasNoFault};
 ghost use Rattle.cil_blocks.specs.Named.{AreAllTargets};
 ghost use Rattle.cil_blocks.specs.Places.{AreStandings, statements_in};
-ghost use Rattle.cil_blocks.specs.Reports.{AreAllFaults, AreJoined, AreNumbersOf, IsCyclic, IsToldOf, IsUnresolved, name_fault, target_fault};
+ghost use Rattle.cil_blocks.specs.Reports.{AreAllFaults, AreContents, AreJoined, AreNumbersOf, IsCyclic, IsToldOf, IsUnresolved, name_fault, target_fault};
 ghost use Rattle.cil_blocks.specs.WrittenSpaces.{AreWritten};
 
 use crate::contents::contents_of;
 use crate::cycles::cycles_of;
 use crate::doubled::{doubled_of, push_if};
+use crate::entry::Entry;
 use crate::laws;
 use crate::names::is_inheriting;
 use crate::opened::opened_of;
@@ -44,10 +46,7 @@ pub fn inherit<'p, 'a>(alloc: Global, program: &'p Program<'a>) -> Result<Spaces
     let parts = parts_of(alloc, statements)?;
     let spaces = written_spaces(alloc, statements)?;
     let opened = all_opened(alloc, statements, &spaces, &parts)?;
-    let Some(entries) = contents_of(alloc, statements, &parts, opened.as_slice(), MOST_INSTANCES)?
-    else {
-        return Err(Failure::Faults(over_the_limit(alloc)?));
-    };
+    let entries = entries_of(alloc, statements, &parts, opened.as_slice())?;
     let located = places_of(
         alloc,
         statements,
@@ -82,6 +81,25 @@ fn all_opened(
     laws::one_target();
     let opened = opened_of(alloc, statements, parts, &targets)?;
     Ok(opened)
+}
+
+/// All that stands in a program in which nothing is wrong with the blocks; or the fault of more statements than may stand.
+fn entries_of(
+    alloc: Global,
+    statements: &[Statement],
+    parts: &Parts,
+    opened: &[Option<usize>],
+) -> Result<Vec<Entry>, Failure>
+    requires nested { IsNested statements.now }
+    requires lawful { HasNoFault (program_of statements.now) }
+    requires parts { AreParts (program_of statements.now) parts.now }
+    requires opened { AreOpened (program_of statements.now) opened.now }
+    ensures { Answers (λ entries. AreContents statements.now entries.items) (InheritStep (program_of statements.now)) result }
+{
+    match contents_of(alloc, statements, parts, opened, MOST_INSTANCES)? {
+        Some(entries) => Ok(entries),
+        None => Err(Failure::Faults(over_the_limit(alloc)?)),
+    }
 }
 
 /// Refuses what is wrong with the blocks of a program.

@@ -1,8 +1,8 @@
 //! Numbers of which many in front are 0.
 
-ghost use Rattle.std.specs.Prelude.{◌≡◌, IfOk};
+ghost use Rattle.std.specs.Prelude.{◌≡◌};
 
-use cil_base::NoMemory;
+use cil_base::{NoMemory, short};
 use std::alloc::Global;
 use std::marker::Model;
 
@@ -57,18 +57,8 @@ impl Numbers {
             self.zeros += 1;
             return Ok(());
         }
-        let short = small(number)?;
-        self.others.push(short)?;
+        let number = short(number)?;
+        self.others.push(number)?;
         Ok(())
-    }
-}
-
-/// A number in four bytes. Error: out of memory, for one that needs more.
-pub fn small(number: usize) -> Result<u32, NoMemory>
-    ensures { IfOk result (λ n. n ≡ number) }
-{
-    match u32::try_from(number) {
-        Ok(n) => Ok(n),
-        Err(_) => Err(NoMemory),
     }
 }

@@ -7,7 +7,7 @@
 //! where the heirs come first; where they come last, each of them is a seed and has all that is before it. The bad case are n
 //! blocks of one name in one namespace, each of which is a fault: they are n * n pairs, which are all kept.
 
-ghost use Rattle.std.specs.Prelude.{◌≡◌, ◌↔◌, ◌++◌, ℕ, Contains, IfOk, IsTrue, OnOk, true};
+ghost use Rattle.std.specs.Prelude.{◌≡◌, ◌↔◌, ◌++◌, ◌∷◌, ℕ, [], Contains, IfOk, IsTrue, None, OnOk, true};
 ghost use Rattle.std.specs.List.Sorted.{IsSortedByKey};
 ghost use Rattle.cil_base.specs.Lists.{text_cmp};
 ghost use Rattle.cil_syntax.specs.Program.{IsNested, program_of};
@@ -47,6 +47,25 @@ pub fn standing_twice(
     let mut pairs = IndexSet::new(alloc);
     pairs.insert((None, None))?;
     let mut found = Vec::new(alloc);
+    tell_all(alloc, statements, parts, targets, &mut found, &mut pairs)?;
+    Ok(found)
+}
+
+/// Finds what all pairs of seeds tell, from that of the texts with itself. The set of pairs is its own queue.
+fn tell_all(
+    alloc: Global,
+    statements: &[Statement],
+    parts: &Parts,
+    targets: &Targets,
+    found: &mut Vec<usize>,
+    pairs: &mut IndexSet<(Option<usize>, Option<usize>)>,
+) -> Result<(), NoMemory>
+    requires nested { IsNested statements.now }
+    requires parts { AreParts (program_of statements.now) parts.now }
+    requires none { found.old.items ≡ [] }
+    requires first { pairs.old.keys ≡ (None, None) ∷ [] }
+    ensures { OnOk result (AreThose (StandsTwice (program_of statements.now) parts.now targets.now) found.new.items) }
+{
     let mut covered = IndexSet::new(alloc);
     let mut at = 0;
     while at < pairs.len() {
@@ -55,12 +74,10 @@ pub fn standing_twice(
         if is_covered(&covered, pair) {
             continue;
         }
-        tell(
-            alloc, statements, parts, targets, pair, &mut found, &mut pairs,
-        )?;
+        tell(alloc, statements, parts, targets, pair, found, pairs)?;
         cover(alloc, parts, targets, &mut covered, pair)?;
     }
-    Ok(found)
+    Ok(())
 }
 
 /// Puts the blocks and macros that a pair of seeds tells behind those that were found, and the next pairs behind the others.

@@ -16,8 +16,7 @@ ghost use Rattle.cil_conditions.specs.Order.{branch_cmp};
 
 use crate::branch::Branch;
 use crate::found::{Found, found_in};
-use crate::walk::short;
-use cil_base::NoMemory;
+use cil_base::{NoMemory, short};
 use cil_macros::Instances;
 use cil_names::Known;
 use std::alloc::Global;

@@ -12,8 +12,8 @@ ghost use Rattle.cil_conditions.specs.Walk.{IsConditionIn, IsSpelledBy, IsUnsaid
 
 use crate::branch::Branch;
 use crate::condition::Cond;
-use crate::walk::{push_condition, short};
-use cil_base::NoMemory;
+use crate::walk::push_condition;
+use cil_base::{NoMemory, short};
 use cil_macros::Instances;
 use cil_names::{Known, Meaning};
 use cil_syntax::{Keyword, Statement, Term};

@@ -7,7 +7,7 @@ ghost use Rattle.cil_conditions.specs.Spelled.{with_turn};
 ghost use Rattle.cil_conditions.specs.Walk.{IsAdded, IsFormAdded, IsFormUnsaid, IsUnsaid, IsWordAdded, IsWordUnsaid};
 
 use crate::token::Token;
-use cil_base::NoMemory;
+use cil_base::{NoMemory, short};
 use cil_names::{Known, Meaning, behind_first, meaning_at};
 use cil_syntax::{Kind, Op, Term};
 
@@ -143,14 +143,4 @@ fn operator_of(op: Op) -> Option<Token>
         Op::Unequal => Some(Token::Unequal),
         _ => None,
     }
-}
-
-/// A number in four bytes. Beyond 4,294,967,295 it is out of memory.
-pub fn short(number: usize) -> Result<u32, NoMemory>
-    ensures { IfOk result (λ same. same ≡ number) }
-{
-    if number > u32::MAX as usize {
-        return Err(NoMemory);
-    }
-    Ok(number as u32)
 }

@@ -1,6 +1,6 @@
 -- The masks of some aims, and by which of them all rules on a class and a pair of types are found.
 use Rattle.std.specs.Prelude.{◌↔◌, ◌⊎◌, Bool, true, false, Contains, IfSome, IsBitSet, IsTrue, Option, Some, None, bit_or, map, option_map, slice_get}
-use Rattle.std.proofs.Common.{◌≡◌, ℕ, suc, ◌+◌, ◌%◌, ◌<◌, ◌≤◌, List, [], ◌∷◌, length, get_or, sym, ◌∙◌, ap, subst, inl, inr, refl, arith}
+use Rattle.std.proofs.Common.{◌≡◌, ℕ, suc, ◌+◌, ◌*◌, ◌%◌, ◌<◌, ◌≤◌, List, [], ◌∷◌, length, get_or, sym, ◌∙◌, ap, subst, inl, inr, refl, arith}
 use Rattle.std.proofs.Math.Dec.{eqb}
 use Rattle.std.proofs.lemmas.Bool.{cases_lt}
 use Rattle.std.proofs.lemmas.Bool.Decides.{eqb_tells}
@@ -19,7 +19,7 @@ use Rattle.cil_index.specs.declared.index.Bounds.{Bounds}
 use Rattle.cil_index.specs.declared.index.Index.{Index}
 use Rattle.cil_index.specs.declared.memberships.Memberships.{Memberships}
 use Rattle.cil_index.specs.declared.record.Record.{Record}
-use Rattle.cil_index.specs.Entries.{AreBelow, AreBounds, HasClass, IsIndex, IsLaidOut, IsOfSource, RiseIn, aim_of, alone_key, in_class, itself, key_of_set, reached_key, set_key, target_key}
+use Rattle.cil_index.specs.Entries.{AreBelow, AreBounds, IsInPart, IsIndex, IsLaidOut, RiseIn, aim_of, alone_key, in_class, itself, key_of_set, part_of, reached_key, set_key, target_key}
 use Rattle.cil_index.specs.Found.{AreAims, CoversAt, HandOver, Hands, IsAimed, Matches, MayReach}
 use Rattle.cil_index.specs.Memberships.{AreMemberships, HasBit, IsFilter, IsKnownFor}
 use Rattle.cil_index.specs.Kept.{reached, rule_of, target_at}
@@ -76,12 +76,23 @@ module _ (on : ℕ → Bool) (rules : List Rule) (m : Memberships) (asked : Aske
   HandsIn start end last mask = (at bit : ℕ) → start ≤ at → at < end → get_or index.aims.items at 0 ≤ last → IsAimed m asked (get_or index.aims.items at 0)
       → CoversThere at bit → IsBitSet mask bit
 
+  -- an aim that may reach the target stands in the part of the class
+  pub in_that_part : (source at : ℕ) (aims : Aims) → AreAims m asked aims → IsAimed m asked (get_or index.aims.items at 0)
+      → IsInPart index.starts.items (part_of source (get_or index.aims.items at 0)) at → IsInPart index.starts.items (part_of source aims.alone) at
+  in_that_part source at aims are aimed of =
+      let same = class_of_aim m asked (get_or index.aims.items at 0) aims aimed are in
+      subst (λ p. IsInPart index.starts.items p at) (ap (λ c. source * 16 + c % 16) same) of
+
+  -- where that part has no aims nothing is handed over
+  pub none_between : (source : ℕ) (b : Bounds) (aims : Aims) (mask : ℕ) → AreAims m asked aims → AreBounds index (part_of source aims.alone) b → b.to ≤ b.start → Hands on rules m asked index source mask
+  none_between source b aims mask are bounds none at bit of aimed = let inside = bounds.all at (in_that_part source at aims are aimed of) in let ge = inside.0 in let less = inside.1 in absurd (omega (arith, ge, less, none))
+
   -- an aim of a source that may reach the target stands at one of two places
-  pub two_runs : (source : ℕ) (b : Bounds) (one two : ℕ) (aims : Aims) (x y : ℕ) → AreAims m asked aims → AreBounds index source b → AreBelow index.aims.items b.start one aims.alone
+  pub two_runs : (source : ℕ) (b : Bounds) (one two : ℕ) (aims : Aims) (x y : ℕ) → AreAims m asked aims → AreBounds index (part_of source aims.alone) b → AreBelow index.aims.items b.start one aims.alone
       → AreBelow index.aims.items one two aims.several → HandsIn one b.to aims.alone x → HandsIn two b.to aims.last y → Hands on rules m asked index source (bit_or x y)
   two_runs source b one two aims x y are bounds below_one below_two has_x has_y at bit of aimed covers =
       let is = aimed.1 in
-      let inside = bounds.all at of in
+      let inside = bounds.all at (in_that_part source at aims are aimed of) in
       let first = are.alone_is in
       let second = are.several_is in
       let third = are.last_is in
@@ -146,7 +157,7 @@ reaches_itself sets n s t found tells none =
 pub record IsFound (on : ℕ → Bool) (branches : List Branch) (sets : List (List ℕ)) (records : List Record) (index : Index) (m : Memberships) (asked : Asked) (bit : ℕ) : Type 0 where
   pub kept : Record
   pub at : ℕ
-  pub of_source : IsOfSource index.starts.items kept.source at
+  pub in_part : IsInPart index.starts.items (part_of kept.source (get_or index.aims.items at 0)) at
   pub aimed : IsAimed m asked (get_or index.aims.items at 0)
   pub has_source : Contains (set_of sets kept.source) asked.source
   pub covers : CoversAt on (map (rule_of branches sets) records) asked.source asked.target asked.class (get_or index.places.items at 0) bit
@@ -161,7 +172,7 @@ found_by on branches sets records index is m hold asked bit covered =
     record {
       kept = k;
       at = found.at;
-      of_source = found.of_source;
+      in_part = subst (λ a. IsInPart index.starts.items (part_of k.source a) found.at) (sym found.aim_is) found.in_part;
       aimed = (
         target_key sets k.target k.source,
         found.aim_is ∙ ap (λ (c : ℕ). aim_of (in_class c) (target_key sets k.target k.source)) covers.of_class,
@@ -175,20 +186,13 @@ found_by on branches sets records index is m hold asked bit covered =
 -- ---- sources, one after another
 
 module _ (on : ℕ → Bool) (rules : List Rule) (m : Memberships) (asked : Asked) (index : Index) where
-  -- a set that has no aim of the class hands nothing over
-  pub none_of_class : (n mask : ℕ) (aims : Aims) (answer : Bool) → IsLaidOut index → AreAims m asked aims → (HasClass index.classes.items n aims.alone → IsTrue answer) → answer ≡ false
-      → Hands on rules m asked index n mask
-  none_of_class n mask aims answer laid are tells none at bit of aimed =
-      let same = class_of_aim m asked (get_or index.aims.items at 0) aims aimed are in
-      absurd (let yes_ = tells (subst (λ k. IsBitSet (get_or index.classes.items n 0) (k % 64)) same (laid.classes n at of)) in absurd cc)
-
-  -- and where there are no aims, no set does
+  -- where there are no aims, no set hands anything over
   pub none_at_all : (among : ℕ → Type 0) (mask : ℕ) → IsLaidOut index → length index.aims.items ≡ 0 → HandOver on rules m asked index among mask
-  none_at_all among mask laid none n is at bit of = absurd (let past = laid.within (n + 1) in let high = of.ends in omega (arith, past, high, none))
+  none_at_all among mask laid none n is at bit of = absurd (let past = laid.within (part_of n (get_or index.aims.items at 0) + 1) in let high = of.ends in omega (arith, past, high, none))
 
   -- a source behind the last one with a start has no rules
   pub none_behind : (n mask : ℕ) → length index.starts.items ≤ n + 1 → Hands on rules m asked index n mask
-  none_behind n mask past at bit of = absurd (none_past index.starts.items n at past of)
+  none_behind n mask past at bit of = absurd (none_past index.starts.items (part_of n (get_or index.aims.items at 0)) at (omega (arith, past)) of)
 
 module _ (on : ℕ → Bool) (rules : List Rule) (m : Memberships) (asked : Asked) (index : Index) (numbers : List ℕ) where
   -- a source is one of the first
@@ -211,7 +215,7 @@ module _ (on : ℕ → Bool) (rules : List Rule) (m : Memberships) (asked : Aske
       | inl before ↦ inl (so_far.all n (k, before, is) at bit of aimed covers)
       | inr ge ↦ let same : k ≡ i = omega (arith, ge, below) in
           let one : n ≡ number = sym is ∙ ap (λ j. get_or numbers j n) same ∙ get_or_default numbers i n number within ∙ sym here in
-          inr (all at bit (subst (λ j. IsOfSource index.starts.items j at) one of) aimed covers)
+          inr (all at bit (subst (λ j. IsInPart index.starts.items (part_of j (get_or index.aims.items at 0)) at) one of) aimed covers)
     ]);
   }
 
@@ -236,7 +240,7 @@ module _ (on : ℕ → Bool) (rules : List Rule) (m : Memberships) (asked : Aske
     all = λ n (ge, below) at bit of aimed covers. (set_in_either mask more bit).1 (elim (cases_lt n number) [
       | inl before ↦ inl (so_far.all n (ge, before) at bit of aimed covers)
       | inr past ↦ let same : n ≡ number = omega (arith, below, past) in
-          inr (all at bit (subst (λ k. IsOfSource index.starts.items k at) same of) aimed covers)
+          inr (all at bit (subst (λ k. IsInPart index.starts.items (part_of k (get_or index.aims.items at 0)) at) same of) aimed covers)
     ]);
   }
 
@@ -254,10 +258,10 @@ module _ (on : ℕ → Bool) (branches : List Branch) (sets : List (List ℕ)) (
   in_one_of bit covered =
       let f = found_by on branches sets records index is m hold asked bit covered in
       (set_in_either (bit_or alone large) own bit).1 (elim (hold.known f.kept.source asked.source f.has_source) [
-        | inl one ↦ inl ((set_in_either alone large bit).1 (inl (by_alone f.kept.source one.has_number f.at bit f.of_source f.aimed f.covers)))
+        | inl one ↦ inl ((set_in_either alone large bit).1 (inl (by_alone f.kept.source one.has_number f.at bit f.in_part f.aimed f.covers)))
         | inr known ↦ elim known [
-          | inl past ↦ inl ((set_in_either alone large bit).1 (inr (by_large f.kept.source (past, set_within sets f.kept.source asked.source f.has_source) f.at bit f.of_source f.aimed f.covers)))
-          | inr member ↦ inr (by_own f.kept.source member f.at bit f.of_source f.aimed f.covers)
+          | inl past ↦ inl ((set_in_either alone large bit).1 (inr (by_large f.kept.source (past, set_within sets f.kept.source asked.source f.has_source) f.at bit f.in_part f.aimed f.covers)))
+          | inr member ↦ inr (by_own f.kept.source member f.at bit f.in_part f.aimed f.covers)
         ]
       ])
 

@@ -2,7 +2,7 @@
 use Rattle.std.specs.Prelude.{Contains, Some, slice_get}
 use Rattle.std.specs.List.Sorted.{IsPermutation, IsSorted}
 use Rattle.std.specs.Ordering.{is_lt, ordering_then}
-use Rattle.std.proofs.Common.{◌≡◌, ℕ, ◌+◌, ◌<◌, ◌≤◌, true, List, [], ◌∷◌, ◌++◌, length, get_or, ap, ◌∙◌, subst, sym, inl, inr, arith}
+use Rattle.std.proofs.Common.{◌≡◌, ℕ, ◌+◌, ◌<◌, ◌≤◌, true, List, [], ◌∷◌, ◌++◌, length, get_or, ap, ◌∙◌, subst, sym, inl, inr, refl, arith}
 use Rattle.std.proofs.Math.ListN.{get_or-eq_default}
 use Rattle.std.proofs.Math.Seq.{get_or-append_seam}
 use Rattle.std.proofs.lemmas.Bool.{cases_lt}
@@ -16,7 +16,7 @@ use Rattle.cil_base.specs.Places.{in_range, is_there}
 use Rattle.std.proofs.lemmas.Option.{same_Some}
 use Rattle.cil_index.specs.declared.index.Index.{Index}
 use Rattle.cil_index.specs.declared.key.Entry.{Entry}
-use Rattle.cil_index.specs.Entries.{AreEntries, BeginAt, HasAll, HasClass, HasEntries, IsColumn, IsFoundAt, IsIndex, IsOfSource, RiseIn, aim_of_record, entry_cmp, entry_of, entry_total}
+use Rattle.cil_index.specs.Entries.{AreEntries, BeginAt, HasAll, HasEntries, IsColumn, IsFoundAt, IsInPart, IsIndex, RiseIn, aim_of_record, entry_cmp, entry_of, entry_total, part_of}
 use Rattle.cil_index.specs.declared.record.Record.{Record}
 use Rattle.cil_index.proofs.RunLemmas.{none_past}
 
@@ -43,13 +43,14 @@ module _ (sets : List (List ℕ)) (records : List Record) where
   entries_sorted old new has moved sorted = record { sorted = sorted; each = λ place k at. Contains-permutation old new _ moved (has place k at) }
 
   -- the entry of a place is that of the record there
-  pub entry_made : (n : ℕ) (d : Record) (aim source : ℕ) (k : Record) → n < length records → aim ≡ aim_of_record sets (get_or records n d) → source ≡ (get_or records n d).source
-      → slice_get records n ≡ Some k → ◌≡◌ {A = Entry} (record { source = source; aim = aim; place = n }) (entry_of sets k n)
-  entry_made n d aim source k within is from at =
+  pub entry_made : (n : ℕ) (d : Record) (aim source part place : ℕ) (k : Record) → n < length records → aim ≡ aim_of_record sets (get_or records n d) → source ≡ (get_or records n d).source → part ≡ part_of source aim
+      → place ≡ n → slice_get records n ≡ Some k → ◌≡◌ {A = Entry} (record { part = part; aim = aim; place = place }) (entry_of sets k n)
+  entry_made n d aim source part place k within is from of_part here at =
       let there : get_or records n d ≡ k = same_Some _ _ (sym (is_there records n d within) ∙ at) in
       let same : aim ≡ aim_of_record sets k = is ∙ ap (aim_of_record sets) there in
       let of_source : source ≡ k.source = from ∙ ap (λ (z : Record). z.source) there in
-      λ i. record { source = of_source i; aim = same i; place = n }
+      let in_part : part ≡ part_of k.source (aim_of_record sets k) = of_part ∙ ap (λ s. part_of s aim) of_source ∙ ap (part_of k.source) same in
+      λ i. record { part = in_part i; aim = same i; place = here i }
 
 -- ---- columns of entries
 
@@ -79,18 +80,21 @@ module _ (number : Entry → ℕ) (entries : List Entry) where
 
 -- ---- the index that has the entries
 
-below_aim : (a b : Entry) → a.source ≡ b.source → a.aim < b.aim → is_lt (entry_cmp a b) ≡ true
+below_aim : (a b : Entry) → a.part ≡ b.part → a.aim < b.aim → is_lt (entry_cmp a b) ≡ true
 below_aim a b same less =
-    ap (λ o. is_lt (ordering_then o (text_cmp (a.aim ∷ []) (b.aim ∷ [])))) (equal_from a.source b.source same)
+    ap (λ o. is_lt (ordering_then o (text_cmp (a.aim ∷ []) (b.aim ∷ [])))) (equal_from a.part b.part same)
     ∙ ap (λ o. is_lt (ordering_then o (text_cmp [] []))) (less_from a.aim b.aim less)
 
 module _ (entries : List Entry) (index : Index) (has : HasAll entries index) where
   begin_at : (s : ℕ) → s < length index.starts.items → BeginAt entries s (get_or index.starts.items s 0)
   begin_at s less = has.starts.begin s less
 
-  -- what stands among the aims of a source is of the source
-  source_at : (s k : ℕ) (d : Entry) → IsOfSource index.starts.items s k → k < length entries → (get_or entries k d).source ≡ s
-  source_at s k d of within = elim (cases_lt (s + 1) (length index.starts.items)) [
+  has_room : (e : Entry) → Contains entries e → e.part + 1 < length index.starts.items
+  has_room e has_e = has.starts.each e has_e
+
+  -- what stands among the aims of a part is of the part
+  part_at : (s k : ℕ) (d : Entry) → IsInPart index.starts.items s k → k < length entries → (get_or entries k d).part ≡ s
+  part_at s k d of within = elim (cases_lt (s + 1) (length index.starts.items)) [
     | inl less ↦
         let low = (begin_at s (omega (arith, less))).parts.1 k d of.begins within in
         let high = (begin_at (s + 1) less).parts.0 k d (omega arith) of.ends in omega (arith, low, high)
@@ -107,12 +111,12 @@ module _ (entries : List Entry) (index : Index) (has : HasAll entries index) whe
   aims_rise up s i j ge le less =
       let bound = bound_at (s + 1) in
       let size = has.aims.long in
-      let d : Entry = record { source = 0; aim = 0; place = 0 } in
+      let d : Entry = record { part = 0; aim = 0; place = 0 } in
       let in_j : j < length entries = omega (arith, less, bound, size) in
       let in_i : i < length entries = omega (arith, le, in_j) in
       let far = sorted_far (λ x y. is_lt (entry_cmp x y)) (ranks_by entry_total (λ (e : Entry). e)) entries up i j d le in_j in
-      let one = source_at s i d (record { begins = ge; ends = omega (arith, le, less) }) in_i in
-      let two = source_at s j d (record { begins = omega (arith, ge, le); ends = less }) in_j in
+      let one = part_at s i d (record { begins = ge; ends = omega (arith, le, less) }) in_i in
+      let two = part_at s j d (record { begins = omega (arith, ge, le); ends = less }) in_j in
       let first : get_or index.aims.items i 0 ≡ (get_or entries i d).aim = has.aims.each i d in_i in
       let second : get_or index.aims.items j 0 ≡ (get_or entries j d).aim = has.aims.each j d in_j in
       elim (cases_lt (get_or entries j d).aim (get_or entries i d).aim) [
@@ -120,40 +124,29 @@ module _ (entries : List Entry) (index : Index) (has : HasAll entries index) whe
         | inr more ↦ omega (arith, more, first, second)
       ]
 
-  -- the bit of its class is there
-  class_at : (s k : ℕ) → IsOfSource index.starts.items s k → HasClass index.classes.items s (get_or index.aims.items k 0)
-  class_at s k of =
-      let bound = bound_at (s + 1) in
-      let size = has.aims.long in
-      let ends = of.ends in
-      let d : Entry = record { source = 0; aim = 0; place = 0 } in
-      let within : k < length entries = omega (arith, ends, bound, size) in
-      let e = get_or entries k d in
-      let bit = has.classes e (k, within, get_or_default entries k e d within) in
-      subst (λ a. HasClass index.classes.items s a) (sym (has.aims.each k d within)) (subst (λ n. HasClass index.classes.items n e.aim) (source_at s k d of within) bit)
+  -- an entry is found by its part
+  begins : (e : Entry) (k : ℕ) → Contains entries e → k < length entries → (get_or entries k e).part ≡ e.part → IsInPart index.starts.items e.part k
+  begins e k is_entry within of = let room = has_room e is_entry in record {
+    begins = elim (cases_lt k (get_or index.starts.items e.part 0)) [
+      | inl less ↦ let r = (begin_at e.part (omega (arith, room))).parts.0 k e (omega arith) less in absurd (omega (arith, r, of))
+      | inr ge ↦ ge
+    ];
+    ends = elim (cases_lt k (get_or index.starts.items (e.part + 1) 0)) [
+      | inl less ↦ less
+      | inr ge ↦ let r = (begin_at (e.part + 1) room).parts.1 k e ge within in absurd (omega (arith, r, of))
+    ];
+  }
 
-  -- an entry is found by its source
-  entry_there : (e : Entry) → Contains entries e → IsFoundAt index e.source e.aim e.place
-  entry_there e (k, within, there) =
-      let room = has.starts.each e (k, within, there) in
-      let of : (get_or entries k e).source ≡ e.source = ap (λ (z : Entry). z.source) there in record {
-        at = k;
-        of_source = record {
-          begins = elim (cases_lt k (get_or index.starts.items e.source 0)) [
-            | inl less ↦ let r = (begin_at e.source (omega (arith, room))).parts.0 k e (omega arith) less in absurd (omega (arith, r, of))
-            | inr ge ↦ ge
-          ];
-          ends = elim (cases_lt k (get_or index.starts.items (e.source + 1) 0)) [
-            | inl less ↦ less
-            | inr ge ↦ let r = (begin_at (e.source + 1) room).parts.1 k e ge within in absurd (omega (arith, r, of))
-          ];
-        };
-        aim_is = has.aims.each k e within ∙ ap (λ (z : Entry). z.aim) there;
-        place_is = has.places.each k e within ∙ ap (λ (z : Entry). z.place) there;
-      }
+  entry_there : (source : ℕ) (e : Entry) → e.part ≡ part_of source e.aim → Contains entries e → IsFoundAt index source e.aim e.place
+  entry_there source e is (k, within, there) = record {
+    at = k;
+    in_part = subst (λ p. IsInPart index.starts.items p k) is (begins e k (k, within, there) within (ap (λ (z : Entry). z.part) there));
+    aim_is = has.aims.each k e within ∙ ap (λ (z : Entry). z.aim) there;
+    place_is = has.places.each k e within ∙ ap (λ (z : Entry). z.place) there;
+  }
 
   pub index_made : (sets : List (List ℕ)) (records : List Record) → AreEntries sets records entries → IsIndex sets records index
   index_made sets records are = record {
-    laid_out = record { long = has.places.long ∙ sym has.aims.long; within = bound_at; rising = aims_rise are.sorted; classes = class_at };
-    each = λ place k at. entry_there (entry_of sets k place) (are.each place k at);
+    laid_out = record { long = has.places.long ∙ sym has.aims.long; within = bound_at; rising = aims_rise are.sorted };
+    each = λ place k at. entry_there k.source (entry_of sets k place) refl (are.each place k at);
   }

@@ -10,9 +10,7 @@ use Rattle.std.proofs.lemmas.List.{get_or_append_left, get_or_default, get_or-se
 use Rattle.std.proofs.lemmas.List.Elements.{Contains-append_cases, Contains-append_left, Contains-append_right}
 use Rattle.cil_base.specs.Lists.{contains_cases, contains_here, contains_none}
 use Rattle.cil_classes.proofs.BitLemmas.{none_set, set_in_either, set_is_one}
-use Rattle.cil_index.specs.declared.key.Entry.{Entry}
 use Rattle.cil_index.specs.declared.memberships.Memberships.{Memberships}
-use Rattle.cil_index.specs.Entries.{HasClass, HaveClasses}
 use Rattle.cil_index.specs.Memberships.{AreAtMost, AreFilters, AreMemberships, AreNoted, AreNotedBelow, IsAlone, HasBit, IsFilter, IsKnownFor, IsNoted, IsNotedIn}
 use Rattle.cil_index.specs.Sets.{all_sets, set_of}
 use Rattle.cil_index.proofs.SetLemmas.{empty_there, in_one, several_there, small_there}
@@ -186,47 +184,6 @@ bit_stays words number word is within n has = elim (cases_eq (n / 64 % 8) (numbe
       ((set_in_either word (1 * 2 ^ (number % 64) % 2 ^ 64) (n % 64)).1 (inl (subst (λ k. IsBitSet k (n % 64)) (ap (λ k. get_or words k 0) same ∙ sym is) has))))
   | inr other ↦ subst (λ k. IsBitSet k (n % 64)) (sym (get_or-set_other words (number / 64 % 8) (n / 64 % 8) (bit_or word (1 * 2 ^ (number % 64) % 2 ^ 64)) 0 other)) has
 ]
-
--- ---- bits of classes
-
-pub class_there : (words : List ℕ) (s aim word : ℕ) → s < length words → HasClass (set words s (bit_or word (1 * 2 ^ (aim / 4194304 % 64) % 2 ^ 64))) s aim
-class_there words s aim word within =
-    subst (λ k. IsBitSet k (aim / 4194304 % 64)) (sym (get_or-set_same words s (bit_or word (1 * 2 ^ (aim / 4194304 % 64) % 2 ^ 64)) 0 within)) (bit_added word (aim / 4194304))
-
-pub class_stays : (words : List ℕ) (s aim word : ℕ) → word ≡ get_or words s 0 → s < length words
-    → (t other : ℕ) → HasClass words t other → HasClass (set words s (bit_or word (1 * 2 ^ (aim / 4194304 % 64) % 2 ^ 64))) t other
-class_stays words s aim word is within t other has = elim (cases_eq t s) [
-  | inl same ↦ subst (λ k. IsBitSet (get_or (set words s (bit_or word (1 * 2 ^ (aim / 4194304 % 64) % 2 ^ 64))) k 0) (other / 4194304 % 64)) (sym same)
-      (subst (λ k. IsBitSet k (other / 4194304 % 64)) (sym (get_or-set_same words s (bit_or word (1 * 2 ^ (aim / 4194304 % 64) % 2 ^ 64)) 0 within))
-      ((set_in_either word (1 * 2 ^ (aim / 4194304 % 64) % 2 ^ 64) (other / 4194304 % 64)).1 (inl (subst (λ k. IsBitSet k (other / 4194304 % 64)) (ap (λ k. get_or words k 0) same ∙ sym is) has))))
-  | inr differs ↦ subst (λ k. IsBitSet k (other / 4194304 % 64)) (sym (get_or-set_other words s t (bit_or word (1 * 2 ^ (aim / 4194304 % 64) % 2 ^ 64)) 0 differs)) has
-]
-
--- each entry has a word, and the classes of the first ones have their bits
-pub record HaveFirst (entries : List Entry) (i : ℕ) (words : List ℕ) : Type 0 where
-  pub room : (e : Entry) → Contains entries e → e.source < length words
-  pub each : (k : ℕ) (e : Entry) → k < i → get_or entries k e ≡ e → HasClass words e.source e.aim
-
-pub class_more : (entries : List Entry) (i : ℕ) (d : Entry) (old new : List ℕ) → d ≡ get_or entries i d → HasClass new d.source d.aim
-    → ((s aim : ℕ) → HasClass old s aim → HasClass new s aim) → length new ≡ length old → HaveFirst entries i old → i < length entries → HaveFirst entries (i + 1) new
-class_more entries i d old new is added stays long so_far within = record {
-  room = λ e has. let less = so_far.room e has in omega (arith, long, less);
-  each = λ k e below at. elim (cases_lt k i) [
-    | inl less ↦ stays e.source e.aim (so_far.each k e less at)
-    | inr ge ↦ let same : i ≡ k = omega (arith, ge, below) in
-        let one : d ≡ e = is ∙ get_or_default entries i d e within ∙ ap (λ j. get_or entries j e) same ∙ at in
-        subst (λ (z : Entry). HasClass new z.source z.aim) one added
-  ];
-}
-
-pub class_all : (entries : List Entry) (i : ℕ) (words : List ℕ) → length entries ≤ i → HaveFirst entries i words → HaveClasses entries words
-class_all entries i words over so_far e (k, within, at) = so_far.each k e (omega (arith, within, over)) at
-
-pub class_none : (entries : List Entry) (size : ℕ) (words : List ℕ) → ((e : Entry) → Contains entries e → e.source + 1 < size) → length words ≡ size → HaveFirst entries 0 words
-class_none entries size words room long = record { room = λ e has. let less = room e has in omega (arith, less, long); each = λ k e below at. absurd (omega (arith, below)) }
-
-pub class_room : (entries : List Entry) (i : ℕ) (d : Entry) (words : List ℕ) → d ≡ get_or entries i d → i < length entries → HaveFirst entries i words → d.source < length words
-class_room entries i d words is within so_far = so_far.room d (i, within, sym is)
 
 -- the words have the bit of each of the first numbers
 abbrev pub IsFirstFilter : List ℕ → ℕ → List ℕ → Type 0

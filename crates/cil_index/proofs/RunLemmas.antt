@@ -1,30 +1,50 @@
--- Where the aims of a source stand, and the first of them that is not below an aim.
+-- Where the aims of a part stand, and the first of them that is not below an aim.
 use Rattle.std.proofs.Common.{◌≡◌, ℕ, ◌+◌, ◌<◌, ◌≤◌, List, length, get_or, sym, subst, inl, inr, arith}
 use Rattle.std.proofs.Math.ListN.{get_or-eq_default}
 use Rattle.std.proofs.lemmas.Bool.{cases_lt}
 use Rattle.cil_index.specs.declared.index.Bounds.{Bounds}
 use Rattle.cil_index.specs.declared.index.Index.{Index}
-use Rattle.cil_index.specs.Entries.{AreBelow, AreBounds, IsLaidOut, IsLater, IsOfSource, RiseIn}
+use Rattle.cil_index.specs.Entries.{AreBelow, AreBounds, IsInPart, IsLaidOut, IsLater, RiseIn}
 
--- a source behind the last one with a start has no aims
-pub none_past : (starts : List ℕ) (source at : ℕ) → length starts ≤ source + 1 → IsOfSource starts source at → ⊥
-none_past starts source at past of =
-    let none : get_or starts (source + 1) 0 ≡ 0 = get_or-eq_default starts 0 past in
+-- a part behind the last one with a start has no aims
+pub none_past : (starts : List ℕ) (part at : ℕ) → length starts ≤ part + 1 → IsInPart starts part at → ⊥
+none_past starts part at past of =
+    let none : get_or starts (part + 1) 0 ≡ 0 = get_or-eq_default starts 0 past in
     let less = of.ends in omega (arith, none, less)
 
-pub no_bounds : (index : Index) (source : ℕ) (b : Bounds) → length index.starts.items ≤ source → b.start ≡ 0 → b.to ≡ 0 → AreBounds index source b
-no_bounds index source b past from_is to_is = record {
+pub no_bounds : (index : Index) (part : ℕ) (b : Bounds) → length index.starts.items ≤ part → b.start ≡ 0 → b.to ≡ 0 → AreBounds index part b
+no_bounds index part b past from_is to_is = record {
   within = omega (arith, to_is);
   rising = λ i j le less below. absurd (omega (arith, below, to_is));
-  all = λ at of. absurd (none_past index.starts.items source at (omega (arith, past)) of);
+  all = λ at of. absurd (none_past index.starts.items part at (omega (arith, past)) of);
 }
 
-pub bounds_at : (index : Index) (source : ℕ) (b : Bounds) → IsLaidOut index → b.start ≡ get_or index.starts.items source 0 → b.to ≡ get_or index.starts.items (source + 1) 0 → AreBounds index source b
-bounds_at index source b laid from_is to_is = record {
-  within = let le = laid.within (source + 1) in omega (arith, le, to_is);
-  rising = λ i j le less below. laid.rising source i j (omega (arith, le, from_is)) less (omega (arith, below, to_is));
+pub bounds_at : (index : Index) (part : ℕ) (b : Bounds) → IsLaidOut index → b.start ≡ get_or index.starts.items part 0 → b.to ≡ get_or index.starts.items (part + 1) 0 → AreBounds index part b
+bounds_at index part b laid from_is to_is = record {
+  within = let le = laid.within (part + 1) in omega (arith, le, to_is);
+  rising = λ i j le less below. laid.rising part i j (omega (arith, le, from_is)) less (omega (arith, below, to_is));
   all = λ at of. let ge = of.begins in let less = of.ends in (omega (arith, ge, from_is), omega (arith, less, to_is));
 }
+
+-- ---- a search step by step
+
+module _ (aims : List ℕ) (start aim : ℕ) where
+  -- the aims before a place are below the aim
+  pub record IsPassed (at : ℕ) : Type 0 where
+    pub behind : start ≤ at
+    pub below : AreBelow aims start at aim
+
+  pub passed_none : IsPassed start
+  passed_none = record { behind = omega arith; below = λ i ge before. absurd (omega (arith, ge, before)) }
+
+  pub passed_more : (at there : ℕ) → there ≡ get_or aims at 0 → there < aim → IsPassed at → IsPassed (at + 1)
+  passed_more at there is under so_far = let behind = so_far.behind in record {
+    behind = omega (arith, behind);
+    below = λ i ge before. elim (cases_lt i at) [
+      | inl less ↦ so_far.below i ge less
+      | inr past ↦ let same : i ≡ at = omega (arith, before, past) in subst (λ k. get_or aims k 0 < aim) (sym same) (omega (arith, is, under))
+    ];
+  }
 
 -- ---- a search by halving
 

@@ -1,5 +1,5 @@
 -- The index of rules: each record is found by the number of its source set, its class and its target.
-use Rattle.std.specs.Prelude.{◌≡◌, ◌⊎◌, ◌<◌, ◌≤◌, ◌+◌, ◌*◌, ◌/◌, ◌%◌, ℕ, IsBitSet, cond, nat_lt, length, get_or, List, [], ◌∷◌, Contains, Option, None, Some, slice_get}
+use Rattle.std.specs.Prelude.{◌≡◌, ◌⊎◌, ◌<◌, ◌≤◌, ◌+◌, ◌*◌, ◌/◌, ◌%◌, ℕ, cond, nat_lt, length, get_or, List, [], ◌∷◌, Contains, Option, None, Some, slice_get}
 use Rattle.std.specs.List.Sorted.{IsPartitionPoint, IsSorted}
 use Rattle.std.specs.Cmp.{IsTotalOrder}
 use Rattle.std.proofs.lemmas.Cmp.{on_total, nat_list_cmp_total}
@@ -63,21 +63,25 @@ target_key sets target source = reached_key (slice_get sets target) target (set_
 abbrev pub aim_of : ℕ → ℕ → ℕ
 aim_of class_ target = class_ * 4194304 + target
 
+-- the aims of a set of sources stand in sixteen parts, by what 16 leaves of the class
+abbrev pub part_of : (source aim : ℕ) → ℕ
+part_of source aim = source * 16 + aim / 4194304 % 16
+
 -- the class and the target of a record
 abbrev pub aim_of_record : List (List ℕ) → Record → ℕ
 aim_of_record sets k = aim_of (in_class k.class) (target_key sets k.target k.source)
 
--- ---- the index: aims, the places of their records, and where the aims of each set of sources begin
+-- ---- the index: aims, the places of their records, and where each part begins
 
--- the aims of a source and of no other stand here
-pub record IsOfSource (starts : List ℕ) (source at : ℕ) : Type 0 where
-  pub begins : get_or starts source 0 ≤ at
-  pub ends : at < get_or starts (source + 1) 0
+-- the aims of a part and of no other stand here
+pub record IsInPart (starts : List ℕ) (part at : ℕ) : Type 0 where
+  pub begins : get_or starts part 0 ≤ at
+  pub ends : at < get_or starts (part + 1) 0
 
 -- a record with this source and this aim is found: it stands at the place
 pub record IsFoundAt (index : Index) (source aim place : ℕ) : Type 0 where
   pub at : ℕ
-  pub of_source : IsOfSource index.starts.items source at
+  pub in_part : IsInPart index.starts.items (part_of source aim) at
   pub aim_is : get_or index.aims.items at 0 ≡ aim
   pub place_is : get_or index.places.items at 0 ≡ place
 
@@ -85,16 +89,11 @@ pub record IsFoundAt (index : Index) (source aim place : ℕ) : Type 0 where
 abbrev pub RiseIn : List ℕ → ℕ → ℕ → Type 0
 RiseIn aims start end = (i j : ℕ) → start ≤ i → i ≤ j → j < end → get_or aims i 0 ≤ get_or aims j 0
 
--- the bit of the class of an aim is there for the source: a word has 64 bits
-abbrev pub HasClass : List ℕ → (source aim : ℕ) → Type 0
-HasClass words source aim = IsBitSet (get_or words source 0) (aim / 4194304 % 64)
-
--- each aim has its place and the bit of its class, and those of each source rise
+-- each aim has its place, and those of each part rise
 pub record IsLaidOut (index : Index) : Type 0 where
   pub long : length index.places.items ≡ length index.aims.items
-  pub within : (source : ℕ) → get_or index.starts.items source 0 ≤ length index.aims.items
-  pub rising : (source : ℕ) → RiseIn index.aims.items (get_or index.starts.items source 0) (get_or index.starts.items (source + 1) 0)
-  pub classes : (source at : ℕ) → IsOfSource index.starts.items source at → HasClass index.classes.items source (get_or index.aims.items at 0)
+  pub within : (part : ℕ) → get_or index.starts.items part 0 ≤ length index.aims.items
+  pub rising : (part : ℕ) → RiseIn index.aims.items (get_or index.starts.items part 0) (get_or index.starts.items (part + 1) 0)
 
 -- and each record is found
 pub record IsIndex (sets : List (List ℕ)) (records : List Record) (index : Index) : Type 0 where
@@ -105,12 +104,12 @@ pub record IsIndex (sets : List (List ℕ)) (records : List Record) (index : Ind
 
 -- the entry of the record at a place
 abbrev pub entry_of : List (List ℕ) → Record → ℕ → Entry
-entry_of sets k place = record { source = k.source; aim = aim_of_record sets k; place = place }
+entry_of sets k place = record { part = part_of k.source (aim_of_record sets k); aim = aim_of_record sets k; place = place }
 
 abbrev pub entry_fields : Entry → List ℕ
-entry_fields e = e.source ∷ e.aim ∷ []
+entry_fields e = e.part ∷ e.aim ∷ []
 
--- entries stand by source, class and target
+-- entries stand by part, class and target
 abbrev pub entry_cmp : Entry → Entry → Ordering
 entry_cmp = on entry_fields text_cmp
 
@@ -126,41 +125,40 @@ pub record AreEntries (sets : List (List ℕ)) (records : List Record) (entries 
   pub sorted : IsSorted entry_cmp entries
   pub each : HasEntries sets records entries
 
--- the entries of a source and of later ones begin at this place
-pub record BeginAt (entries : List Entry) (source place : ℕ) : Type 0 where
+-- the entries of a part and of later ones begin at this place
+pub record BeginAt (entries : List Entry) (part place : ℕ) : Type 0 where
   pub bound : place ≤ length entries
-  pub parts : IsPartitionPoint (λ e. e.source < source) (λ e. source ≤ e.source) entries place
+  pub parts : IsPartitionPoint (λ e. e.part < part) (λ e. part ≤ e.part) entries place
 
--- where the entries of each source begin
+-- the entries before a place are of parts before a part
+abbrev pub AreBefore : List Entry → (part at : ℕ) → Type 0
+AreBefore entries part at = (k : ℕ) (d : Entry) → k < at → k < length entries → (get_or entries k d).part < part
+
+-- where the entries of each part begin
 abbrev pub AreStarts : List Entry → List ℕ → Type 0
-AreStarts entries starts = (s : ℕ) → s < length starts → BeginAt entries s (get_or starts s 0)
+AreStarts entries starts = (p : ℕ) → p < length starts → BeginAt entries p (get_or starts p 0)
 
--- and those of the next one, for each source of an entry
+-- and those of the next one, for each part with an entry
 pub record AreAllStarts (entries : List Entry) (starts : List ℕ) : Type 0 where
   pub begin : AreStarts entries starts
-  pub each : (e : Entry) → Contains entries e → e.source + 1 < length starts
+  pub each : (e : Entry) → Contains entries e → e.part + 1 < length starts
 
 -- a number of each entry, in their order
 pub record IsColumn (number : Entry → ℕ) (entries : List Entry) (column : List ℕ) : Type 0 where
   pub long : length column ≡ length entries
   pub each : (k : ℕ) (d : Entry) → k < length entries → get_or column k 0 ≡ number (get_or entries k d)
 
--- the bit of the class of each entry is there, for its source
-abbrev pub HaveClasses : List Entry → List ℕ → Type 0
-HaveClasses entries words = (e : Entry) → Contains entries e → HasClass words e.source e.aim
-
 -- the index has what these entries have
 pub record HasAll (entries : List Entry) (index : Index) : Type 0 where
   pub aims : IsColumn (λ e. e.aim) entries index.aims.items
   pub places : IsColumn (λ e. e.place) entries index.places.items
   pub starts : AreAllStarts entries index.starts.items
-  pub classes : HaveClasses entries index.classes.items
 
--- where the aims of a source begin and end
-pub record AreBounds (index : Index) (source : ℕ) (b : Bounds) : Type 0 where
+-- where the aims of a part begin and end
+pub record AreBounds (index : Index) (part : ℕ) (b : Bounds) : Type 0 where
   pub within : b.to ≤ length index.aims.items
   pub rising : RiseIn index.aims.items b.start b.to
-  pub all : (at : ℕ) → IsOfSource index.starts.items source at → (b.start ≤ at) × (at < b.to)
+  pub all : (at : ℕ) → IsInPart index.starts.items part at → (b.start ≤ at) × (at < b.to)
 
 -- each aim before a place, from the start on, is below an aim
 abbrev pub AreBelow : List ℕ → (start end aim : ℕ) → Type 0

@@ -7,7 +7,7 @@ use Rattle.cil_index.specs.declared.asked.Aims.{Aims}
 use Rattle.cil_index.specs.declared.asked.Asked.{Asked}
 use Rattle.cil_index.specs.declared.index.Index.{Index}
 use Rattle.cil_index.specs.declared.memberships.Memberships.{Memberships}
-use Rattle.cil_index.specs.Entries.{IsOfSource, aim_of, alone_key, beyond, in_class, itself, set_key, several}
+use Rattle.cil_index.specs.Entries.{IsInPart, aim_of, alone_key, beyond, in_class, itself, part_of, set_key, several}
 use Rattle.cil_index.specs.Memberships.{IsFilter, IsKnownFor}
 
 -- the rule at the place covers the permission
@@ -34,7 +34,7 @@ IsAimed m asked aim = (key : ℕ) × (aim ≡ aim_of (in_class asked.class) key)
 -- the mask has what the rules of this source cover on what is asked
 abbrev pub Hands : (ℕ → Bool) → List Rule → Memberships → Asked → Index → (source mask : ℕ) → Type 0
 Hands on rules m asked index source mask =
-    (at bit : ℕ) → IsOfSource index.starts.items source at → IsAimed m asked (get_or index.aims.items at 0)
+    (at bit : ℕ) → IsInPart index.starts.items (part_of source (get_or index.aims.items at 0)) at → IsAimed m asked (get_or index.aims.items at 0)
     → CoversAt on rules asked.source asked.target asked.class (get_or index.places.items at 0) bit → IsBitSet mask bit
 
 -- and of some sources

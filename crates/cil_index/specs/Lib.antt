@@ -4,6 +4,7 @@ pub mod Memberships
 pub mod Kept
 pub mod Order
 pub mod Rising
+pub mod Search
 pub mod Searched
 pub mod Sections
 pub mod Sets

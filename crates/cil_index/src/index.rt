@@ -1,58 +1,59 @@
-//! The index of rules: aims, searched by halving.
+//! The index of rules: aims, in parts.
 
-ghost use Rattle.std.specs.Prelude.{◌≡◌, ◌≤◌, ◌<◌, ◌+◌, ℕ, Contains, IfOk, IsTrue, Some, get_or, length, slice_get};
+ghost use Rattle.std.specs.Prelude.{◌≡◌, ◌≤◌, ◌<◌, ◌+◌, ◌↔◌, Contains, IfOk, IsTrue, Some, get_or, length, slice_get};
 ghost use Rattle.std.specs.List.Sorted.{IsSorted};
 ghost use Rattle.cil_index.specs.declared.key.Entry.{Entry as AnEntry};
-ghost use Rattle.cil_index.specs.Entries.{AreAllStarts, AreBelow, AreBounds, AreEntries, BeginAt, HasAll, HasClass, HasEntries, HaveClasses, IsColumn, IsIndex, IsLaidOut, IsLater, RiseIn, aim_of_record, beyond, entry_cmp, entry_of, target_key};
+ghost use Rattle.cil_index.specs.Entries.{AreAllStarts, AreBefore, AreBounds, AreEntries, BeginAt, HasAll, HasEntries, IsColumn, IsIndex, IsLaidOut, aim_of_record, beyond, entry_cmp, entry_of, part_of, target_key};
 ghost use Rattle.cil_index.specs.declared.record.Record.{Record as ARecord};
 
 use crate::key::{Entry, ITSELF, TARGETS, aim, class_key, set_key};
 use crate::record::Record;
 use crate::sets::Sets;
-use cil_base::NoMemory;
+use cil_base::{NoMemory, short};
 use std::alloc::Global;
 
-/// The aims of rules, by the sets of their sources, and in their order within each; the places of these rules; and where the aims of each set
-/// begin. A search reads the aims alone: four bytes for each rule. A word for each set has a bit for each class of its rules, by what 64 leaves of
-/// it: most sets that have no rule on a class are known by it.
+/// The aims of rules, by the sets of their sources and by parts of the classes, and in their order within each part; the places of these rules; and
+/// where each part begins. A search reads the aims alone, four bytes for each rule, and those of one part: the rules of a set on a few classes.
 #[derive(Debug, Drop)]
 pub struct Index {
     pub aims: Vec<u32>,
     pub places: Vec<u32>,
     starts: Vec<u32>,
-    classes: Vec<u64>,
 }
 
-/// Where a part of the aims begins and ends.
+/// The aims of a set stand in so many parts, by what this number leaves of the class.
+const PARTS: usize = 16;
+
+/// Where some aims begin and end.
 #[derive(Clone, Copy)]
 pub struct Bounds {
     pub start: usize,
     pub to: usize,
 }
 
-impl Index {
-    /// Where the aims of a set of sources stand. It costs no search.
-    pub fn bounds(&self, source: usize) -> Bounds
-        requires { IsLaidOut self.now }
-        ensures { AreBounds self.now source result }
+impl Bounds {
+    /// Whether there are none.
+    pub fn is_empty(&self) -> bool
+        ensures { IsTrue result ↔ self.now.to ≤ self.now.start }
     {
-        if source >= self.starts.len() {
+        self.to <= self.start
+    }
+}
+
+impl Index {
+    /// Where the aims of a set of sources stand that are of the class of an aim, among those of the other classes of its part. It costs no search.
+    pub fn bounds(&self, source: usize, aim: u32) -> Bounds
+        requires { IsLaidOut self.now }
+        ensures { AreBounds self.now (part_of source aim) result }
+    {
+        let part = part_of(source, aim);
+        if part >= self.starts.len() {
             return Bounds { start: 0, to: 0 };
         }
         Bounds {
-            start: start_at(&self.starts, source),
-            to: start_at(&self.starts, source + 1),
+            start: start_at(&self.starts, part),
+            to: start_at(&self.starts, part + 1),
         }
-    }
-
-    /// Whether a set of sources may have an aim of the class of this one. Where it has none, as mostly, it costs a step.
-    pub fn may_have(&self, source: usize, aim: u32) -> bool
-        ensures { HasClass self.now.classes.items source aim → IsTrue result }
-    {
-        let Some(bits) = self.classes.get(source) else {
-            return false;
-        };
-        *bits & (1 << (aim / TARGETS % 64)) != 0
     }
 
     /// Whether there are no rules.
@@ -63,80 +64,30 @@ impl Index {
     }
 
     /// How many starts there are: the sets of sources from this number on have no rules.
-    pub fn sources(&self) -> usize
+    pub fn room(&self) -> usize
         ensures { result ≡ length self.now.starts.items }
     {
         self.starts.len()
     }
 }
 
-/// Where the aims of a set of sources begin.
-fn start_at(starts: &Vec<u32>, source: usize) -> usize
-    ensures { result ≡ get_or starts.now.items source 0 }
+/// The number of the part of a set of sources in which an aim stands. Where there is no room for it, the last number.
+fn part_of(source: usize, aim: u32) -> usize
+    ensures low { result ≤ part_of source aim }
+    ensures same { result < 18446744073709551615 → result ≡ part_of source aim }
 {
-    match starts.get(source) {
+    let class = (aim / TARGETS) as usize;
+    source.saturating_mul(PARTS).saturating_add(class % PARTS)
+}
+
+/// Where a part begins.
+fn start_at(starts: &Vec<u32>, part: usize) -> usize
+    ensures { result ≡ get_or starts.now.items part 0 }
+{
+    match starts.get(part) {
         Some(start) => *start as usize,
         None => 0,
     }
-}
-
-/// The first of some rising aims that is not below an aim. It costs a search by halving, of a comparison of numbers a step.
-pub fn aim_start(aims: &Vec<u32>, start: usize, end: usize, aim: u32) -> usize
-    requires within { end ≤ length aims.now.items }
-    requires rising { RiseIn aims.now.items start end }
-    ensures behind { start ≤ result }
-    ensures below { AreBelow aims.now.items start result aim }
-{
-    if end <= start {
-        return start;
-    }
-    let mut low = start;
-    let mut size = end - start;
-    while size > 1 {
-        let half = size / 2;
-        low = later(aims, low, low + half, aim);
-        size -= half;
-    }
-    if aims[low] < aim {
-        return low + 1;
-    }
-    low
-}
-
-/// The later of two places where the aim there is below an aim.
-fn later(aims: &Vec<u32>, low: usize, middle: usize, aim: u32) -> usize
-    requires { middle < length aims.now.items }
-    ensures { IsLater aims.now.items low middle aim result }
-{
-    if aims[middle] < aim { middle } else { low }
-}
-
-/// So many aims are searched first where an aim is expected near.
-const NEAR: usize = 16;
-
-/// The same as `aim_start`. It costs a search among a few aims, where the aim is near.
-pub fn near_start(aims: &Vec<u32>, start: usize, end: usize, aim: u32) -> usize
-    requires within { end ≤ length aims.now.items }
-    requires rising { RiseIn aims.now.items start end }
-    ensures behind { start ≤ result }
-    ensures below { AreBelow aims.now.items start result aim }
-{
-    let near = near_end(aims, start, end, aim);
-    aim_start(aims, start, near, aim)
-}
-
-/// The place a few behind another where the aim there is not below an aim, or the end.
-fn near_end(aims: &Vec<u32>, start: usize, end: usize, aim: u32) -> usize
-    requires { end ≤ length aims.now.items }
-    ensures { result ≤ end }
-{
-    if end <= start || end - start <= NEAR {
-        return end;
-    }
-    if aims[start + NEAR] < aim {
-        return end;
-    }
-    start + NEAR
 }
 
 /// The index of some records. Errors: out of memory.
@@ -165,12 +116,10 @@ fn parted(alloc: Global, entries: &[Entry]) -> Result<Index, NoMemory>
     let aims = aims_in(alloc, entries)?;
     let places = places_in(alloc, entries)?;
     let starts = starts_of(alloc, entries)?;
-    let classes = classes_of(alloc, entries)?;
     Ok(Index {
         aims,
         places,
         starts,
-        classes,
     })
 }
 
@@ -207,20 +156,16 @@ fn unsorted(alloc: Global, sets: &Sets, records: &[Record]) -> Result<Vec<Entry>
     Ok(entries)
 }
 
-/// The entry of the record at a place. Beyond 4,294,967,296 records it is out of memory.
+/// The entry of the record at a place. Beyond 4,294,967,296 records, or parts, it is out of memory.
 fn entry_at(sets: &Sets, records: &[Record], place: usize) -> Result<Entry, NoMemory>
     requires { place < length records.now }
     ensures { IfOk result (λ e. (k : ARecord) → slice_get records.now place ≡ Some k → e ≡ entry_of sets.now k place) }
 {
-    if place > u32::MAX as usize {
-        return Err(NoMemory);
-    }
     let kept = &records[place];
-    Ok(Entry {
-        source: kept.source,
-        aim: aim_of(sets, kept),
-        place: place as u32,
-    })
+    let aim = aim_of(sets, kept);
+    let part = short(part_of(kept.source as usize, aim))?;
+    let place = short(place)?;
+    Ok(Entry { part, aim, place })
 }
 
 /// The class and the target of a record.
@@ -243,68 +188,46 @@ fn target_of(sets: &Sets, kept: &Record) -> u32
     sets.key(kept.source, ITSELF)
 }
 
-/// For each set of sources the bits of the classes of its entries. Errors: out of memory.
-fn classes_of(alloc: Global, entries: &[Entry]) -> Result<Vec<u64>, NoMemory>
-    requires { IsSorted entry_cmp entries.now }
-    ensures { IfOk result (λ words. HaveClasses entries.now words.items) }
-{
-    let mut words = vec![in alloc; 0u64; sources_of(entries)]?;
-    for entry in entries {
-        add_class(&mut words, entry);
-    }
-    Ok(words)
-}
-
-/// Adds the bit of the class of an entry.
-fn add_class(words: &mut Vec<u64>, entry: &Entry)
-    requires { entry.now.source < length words.now.items }
-    ensures added { HasClass words.new.items entry.now.source entry.now.aim }
-    ensures stays { (source aim : ℕ) → HasClass words.old.items source aim → HasClass words.new.items source aim }
-    ensures long { length words.new.items ≡ length words.old.items }
-{
-    let place = entry.source as usize;
-    let word = words[place];
-    words[place] = word | (1 << (entry.aim / TARGETS % 64));
-}
-
-/// Where the entries of each set of sources begin, and of the one behind. Errors: out of memory.
+/// Where the entries of each part begin, and those of the one behind. It costs a step for each entry and each part. Errors: out of memory.
 fn starts_of(alloc: Global, entries: &[Entry]) -> Result<Vec<u32>, NoMemory>
     requires { IsSorted entry_cmp entries.now }
     ensures { IfOk result (λ starts. AreAllStarts entries.now starts.items) }
 {
-    let sources = sources_of(entries);
-    let mut starts = Vec::with_capacity(alloc, sources)?;
-    for source in 0..sources {
-        starts.push(short(source_start(entries, source))?)?;
+    let parts = parts_of(entries);
+    let mut starts = Vec::with_capacity(alloc, parts)?;
+    let mut at = 0;
+    for part in 0..parts {
+        at = part_start(entries, at, part);
+        starts.push(short(at)?)?;
     }
     Ok(starts)
 }
 
-/// So many numbers are there up to the one behind the last source.
-fn sources_of(entries: &[Entry]) -> usize
+/// So many numbers are there up to the one behind the last part.
+fn parts_of(entries: &[Entry]) -> usize
     requires { IsSorted entry_cmp entries.now }
-    ensures { (e : AnEntry) → Contains entries.now e → e.source + 1 < result }
+    ensures { (e : AnEntry) → Contains entries.now e → e.part + 1 < result }
 {
     match entries.last() {
-        Some(entry) => entry.source as usize + 2,
+        Some(entry) => entry.part as usize + 2,
         None => 0,
     }
 }
 
-/// The place of the first entry of a source or a later one.
-fn source_start(entries: &[Entry], source: usize) -> usize
-    requires { IsSorted entry_cmp entries.now }
-    ensures { BeginAt entries.now source result }
+/// The place of the first entry of a part or a later one, from a place on before which all are of parts before it.
+fn part_start(entries: &[Entry], from: usize, part: usize) -> usize
+    requires sorted { IsSorted entry_cmp entries.now }
+    requires within { from ≤ length entries.now }
+    requires before { AreBefore entries.now part from }
+    ensures { BeginAt entries.now part result }
 {
-    entries.partition_point(|entry| (entry.source as usize) < source)
-}
-
-/// A number in four bytes. Beyond 4,294,967,295 it is out of memory.
-pub fn short(place: usize) -> Result<u32, NoMemory>
-    ensures { IfOk result (λ n. n ≡ place) }
-{
-    if place > u32::MAX as usize {
-        return Err(NoMemory);
+    let mut at = from;
+    while at < entries.len() {
+        let entry = &entries[at];
+        if entry.part as usize >= part {
+            return at;
+        }
+        at += 1;
     }
-    Ok(place as u32)
+    at
 }

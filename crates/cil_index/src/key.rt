@@ -28,8 +28,8 @@ const LAST_TYPE: u32 = SEVERAL - 1;
 /// A rule while the index is made.
 #[derive(Clone, Copy, Debug)]
 pub struct Entry {
-    /// The number of the set of its sources.
-    pub source: u32,
+    /// The part in which it stands, by the set of its sources and its class.
+    pub part: u32,
     /// Its class and its target as one number: a search compares them in one step.
     pub aim: u32,
     /// Where the rule stands.
@@ -115,10 +115,8 @@ impl Ord for Entry {
 
     ghost matches_eq = { λ a b. refl };
 
-    /// By source, class, target.
+    /// By part, class, target.
     fn cmp(&self, other: &Entry) -> Ordering {
-        self.source
-            .cmp(&other.source)
-            .then(self.aim.cmp(&other.aim))
+        self.part.cmp(&other.part).then(self.aim.cmp(&other.aim))
     }
 }

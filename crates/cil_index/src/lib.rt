@@ -16,6 +16,7 @@ mod matches;
 mod memberships;
 mod record;
 mod rising;
+mod search;
 mod section;
 mod sets;
 

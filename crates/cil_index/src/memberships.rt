@@ -3,10 +3,9 @@
 ghost use Rattle.std.specs.Prelude.{◌≡◌, ◌≤◌, ◌<◌, ◌↔◌, ℕ, [], Contains, IfOk, IsTrue, OnOk, get_or, length};
 ghost use Rattle.cil_index.specs.Memberships.{AreAtMost, AreFilters, AreMemberships, AreNotedBelow, HasBit, IsFilter, IsNoted, IsNotedIn};
 
-use crate::index::short;
 use crate::rising::Rising;
 use crate::sets::Sets;
-use cil_base::NoMemory;
+use cil_base::{NoMemory, short};
 use cil_sets::Numbers;
 use std::alloc::Global;
 

@@ -16,12 +16,12 @@ ghost use Rattle.cil_index.specs.Sets.{AreNumbered};
 
 use crate::asked::{Asked, Searched};
 use crate::cover::covered;
-use crate::index::{Index, index_of, short};
+use crate::index::{Index, index_of};
 use crate::matches::mask_at;
 use crate::memberships::Memberships;
 use crate::record::{Record, records_of};
 use crate::sets::{Sets, numbers_of};
-use cil_base::NoMemory;
+use cil_base::{NoMemory, short};
 use cil_conditions::{Branch, Settings};
 use cil_rules::NamedRule;
 use cil_sets::Numbers;
@@ -100,9 +100,9 @@ impl Sections {
     }
 
     /// The permissions that are allowed on a class and a pair of types, by these settings. It takes no memory: for each set that has the source,
-    /// and for each of more than 1,024 types, it costs two searches by halving among the rules from this set, a step or a search by halving for
-    /// each of these on the class that reaches several types, a test of each that reaches the target, and a step for each part of the condition
-    /// of one that covers.
+    /// and for each of more than 1,024 types, it costs two searches among a part of the rules from this set, a step or a search by halving for each
+    /// of these on the class that reaches several types, a test of each that reaches the target, and a step for each part of the condition of
+    /// one that covers.
     pub fn allowed(&self, settings: &Settings, asked: &Asked) -> u32
         ensures { (bit : ℕ) → IsBitSet result bit ↔ HasCover (is_on settings.now) self.now.allow asked.now.source asked.now.target asked.now.class bit }
     {

@@ -10,7 +10,7 @@ ghost use Rattle.cil_macros.specs.Placed.{Placed};
 
 use crate::instances::Instances;
 use crate::listed::Part;
-use cil_base::NoMemory;
+use cil_base::{NoMemory, short};
 use cil_syntax::{Excerpt, LookedUp, Op, Term};
 use std::alloc::Global;
 use std::mem;
@@ -111,14 +111,4 @@ impl<'a> Reading<'a> {
         self.outer.push(level)?;
         Ok(())
     }
-}
-
-/// A number in four bytes. Of more parts than have one, memory has no room.
-fn short(number: usize) -> Result<u32, NoMemory>
-    ensures { IfOk result (λ same. same ≡ number) }
-{
-    if number > u32::MAX as usize {
-        return Err(NoMemory);
-    }
-    Ok(number as u32)
 }

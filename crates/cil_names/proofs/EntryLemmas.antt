@@ -1,11 +1,14 @@
 -- Entries, by their keys and by what words want.
-use Rattle.std.proofs.Common.{◌≡◌, ℕ, ◌&&◌, ◌==◌, Bool, true, false, cond, List, sym, ◌∙◌, ap, arith}
+use Rattle.std.proofs.Common.{◌≡◌, ℕ, ◌+◌, ◌<◌, ◌≤◌, ◌&&◌, ◌||◌, ◌==◌, Bool, true, false, cond, List, drop, get_or, length, sym, ◌∙◌, ap, arith}
 use Rattle.std.specs.Prelude.{None, Some, find, slice_get}
+use Rattle.std.specs.List.{list_any}
 use Rattle.std.specs.Option.{option_map_or}
 use Rattle.cil_macros.specs.Item.{OptSet}
 use Rattle.std.specs.Cmp.Lexicographic.{bytes_decides}
 use Rattle.std.proofs.lemmas.Bool.{and_parts, true≢false}
+use Rattle.std.proofs.lemmas.List.{drop_all}
 use Rattle.std.proofs.lemmas.Option.{same_Some}
+use Rattle.cil_base.specs.Places.{drop_at}
 use Rattle.std.proofs.lemmas.Bool.Decides.{nat_tests}
 use Rattle.cil_syntax.specs.declared.kind.Kind.{Kind}
 use Rattle.cil_syntax.specs.declared.kind.Sign.{Sign}
@@ -66,6 +69,22 @@ pub unwanted_missing : (es : List Entry) (name : List ℕ) (sign : Sign) (k : �
 unwanted_missing es name sign k none m e at fits =
     let (space, named, wanted) = parts_fit name sign k e fits in true≢false (sym wanted ∙ none e.kind)
 
+-- ---- whether one of a list has a property, step by step
+
+module _ {X : Type 0} (p : X → Bool) (xs : List X) (i : ℕ) (before : list_any p xs ≡ list_any p (drop i xs)) where
+  pub none_has : length xs ≤ i → false ≡ list_any p xs
+  none_has over = sym (before ∙ ap (list_any p) (drop_all i xs over))
+
+  module _ (x d : X) (within : i < length xs) (is : x ≡ get_or xs i d) (b : Bool) (so : b ≡ p x) where
+    next : list_any p xs ≡ (b || list_any p (drop (i + 1) xs))
+    next = before ∙ ap (list_any p) (drop_at xs i x d within is) ∙ ap (λ c. c || list_any p (drop (i + 1) xs)) (sym so)
+
+    pub one_has : b ≡ true → true ≡ list_any p xs
+    one_has has = sym (next ∙ ap (λ c. c || list_any p (drop (i + 1) xs)) has)
+
+    pub none_yet : b ≡ false → list_any p xs ≡ list_any p (drop (i + 1) xs)
+    none_yet lacks = next ∙ ap (λ c. c || list_any p (drop (i + 1) xs)) lacks
+
 -- ---- whether an entry is declared
 
 module _ (s : OptSet) (es : List Entry) (d : ℕ) where
@@ -76,11 +95,11 @@ module _ (s : OptSet) (es : List Entry) (d : ℕ) where
   none_there gone = found_so false (ap (λ o. option_map_or (is_declared_in s) o false) gone)
 
   module _ (e : Entry) (at : slice_get es d ≡ Some e) (r : Bool) (is : r ≡ is_declared_in s e) where
-    it_is : is_declared_at s es d ≡ r
-    it_is = ap (λ o. option_map_or (is_declared_in s) o false) at ∙ sym is
+    declared_as : is_declared_at s es d ≡ r
+    declared_as = ap (λ o. option_map_or (is_declared_in s) o false) at ∙ sym is
 
     pub not_declared : r ≡ false → None ≡ find (is_declared_at s es) (listed (Some d))
-    not_declared off = found_so false (it_is ∙ off)
+    not_declared off = found_so false (declared_as ∙ off)
 
     pub declared_there : r ≡ true → Some d ≡ find (is_declared_at s es) (listed (Some d))
-    declared_there on = found_so true (it_is ∙ on)
+    declared_there on = found_so true (declared_as ∙ on)

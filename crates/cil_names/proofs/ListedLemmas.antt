@@ -1,5 +1,5 @@
 -- The permissions that are listed for the class of a word are those that the class has.
-use Rattle.std.proofs.Common.{◌≡◌, ℕ, ◌≤◌, ◌&&◌, ◌||◌, false, true, List, length, refl, sym, ◌∙◌, ap, inl, inr}
+use Rattle.std.proofs.Common.{◌≡◌, ℕ, ◌<◌, ◌≤◌, ◌&&◌, ◌||◌, Bool, false, true, if◌then◌else◌, List, [], get_or, length, refl, sym, ◌∙◌, ap, inl, inr}
 use Rattle.std.specs.Prelude.{Option, Some, None, slice_get}
 use Rattle.std.specs.Global.{Vec}
 use Rattle.std.specs.List.{list_any}
@@ -7,8 +7,9 @@ use Rattle.std.specs.Option.{is_some, option_map_or}
 use Rattle.std.specs.Cmp.Lexicographic.{bytes_decides}
 use Rattle.std.proofs.lemmas.Bool.{and_parts, cases_Bool, or_cases, true≢false}
 use Rattle.cil_base.specs.Searches.{any_true}
-use Rattle.cil_base.specs.Places.{get_contains}
+use Rattle.cil_base.specs.Places.{get_contains, there_as}
 use Rattle.cil_base.specs.declared.bytes.Bytes.{Bytes}
+use Rattle.cil_base.proofs.AtPlace.{past_end}
 use Rattle.cil_syntax.specs.declared.kind.Kind.{Kind}
 use Rattle.cil_syntax.specs.declared.kind.Kind.TheVariants as kinds
 use Rattle.cil_syntax.specs.declared.kind.Sign.TheVariants as signs
@@ -19,11 +20,12 @@ use Rattle.cil_syntax.proofs.DecidedEquality.{spaces_decide}
 use Rattle.cil_names.proofs.DeclareDecided.{symbol_by}
 use Rattle.cil_names.specs.declared.entry.Entry.{Entry}
 use Rattle.cil_blocks.specs.declared.namespaces.Space.{Space}
+use Rattle.cil_names.specs.Classes.{is_class_at}
 use Rattle.cil_names.specs.Declarations.{Declaration, IsDeclaration, Symbol, by, declared_by}
 use Rattle.cil_names.specs.Entries.{AreEntries, HasNoEntry, IsAnswer, IsEntryAt, IsNamed}
 use Rattle.cil_macros.specs.Item.{Item, OptSet, is_enabled, nobody}
 use Rattle.cil_names.specs.Numbers.{symbol_of}
-use Rattle.cil_names.specs.PermissionWords.{has_permission_at}
+use Rattle.cil_names.specs.PermissionWords.{has_permission_at, listed_of}
 use Rattle.cil_names.specs.Resolves.{Permission as APermission, fits, found_in, gives_permission, has, has_permission, is_class_common, listed_permissions, lists_named, lists_permission, names_outside, resolves, shares_permission, shares_words}
 use Rattle.cil_syntax.specs.Kinds.{is_wanted}
 use Rattle.cil_blocks.specs.Namespaces.{AreNamespaces, space_at}
@@ -32,6 +34,29 @@ use Rattle.cil_names.proofs.CandidateLemmas.{parts_of}
 use Rattle.cil_names.proofs.DeclLemmas.{has_true}
 use Rattle.cil_names.proofs.EntryLemmas.{parts_fit, they_fit}
 use Rattle.cil_blocks.proofs.NamespaceLemmas.{same_number}
+
+-- ---- the list of an entry
+
+module _ (lists : List (Vec Bytes)) (d : ℕ) where
+  pub none_listed_there : length lists ≤ d → [] ≡ listed_at lists d
+  none_listed_there past = sym (ap (λ o. option_map_or (λ (v : Vec Bytes). v.items) o []) (past_end lists lists d refl past))
+
+  pub listed_there : (v : Vec Bytes) → d < length lists → v ≡ get_or lists d v → v.items ≡ listed_at lists d
+  listed_there v within is = sym (ap (λ o. option_map_or (λ (v : Vec Bytes). v.items) o []) (there_as lists d v within is))
+
+module _ (es : List Entry) (d : ℕ) (e : Entry) (within : d < length es) (is : e ≡ get_or es d e) (b : Bool) (tells : b ≡ is_wanted signs.Classes e.kind) where
+  pub class_there : b ≡ is_class_at es d
+  class_there = tells ∙ sym (ap (λ o. option_map_or (λ (e : Entry). is_wanted signs.Classes e.kind) o false) (there_as es d e within is))
+
+  -- that of a class has numbers
+  pub listed_numbered : b ≡ true → (lists : List (Vec Bytes)) (l : List (List ℕ)) → l ≡ listed_at lists d → l ≡ listed_of es lists d
+  listed_numbered of_class lists l same =
+      same
+      ∙ sym (ap (λ o. option_map_or (λ (e : Entry). if is_wanted signs.Classes e.kind then listed_at lists d else []) o []) (there_as es d e within is)
+      ∙ ap (λ c. if c then listed_at lists d else []) (sym tells ∙ of_class))
+
+  pub no_class_there : b ≡ false → is_class_at es d ≡ true → ⊥
+  no_class_there other t = true≢false (sym t ∙ sym class_there ∙ other)
 
 -- an answer tells whether the word is found
 pub answered_found : (ss : List Space) (xs : List Item) (es : List Entry) (s : OptSet) (w : ScopedWord) (r : Option ℕ) → IsAnswer ss xs es s w r

@@ -531,9 +531,9 @@ module _ (i : Kept) (at : ℕ) where
 
 -- ---- no lists
 
-pub empty_more : {X : Type 0} (es : List X) (k : ℕ) (x : X) (lists new : List (Vec Bytes)) (v : Vec Bytes) → k < length es → x ≡ get_or es k x → AreEmpty (take k es) lists → v.items ≡ []
-    → new ≡ lists ++ v ∷ [] → AreEmpty (take (k + 1) es) new
-empty_more es k x lists new v within e empty none push = subst (AreEmpty (take (k + 1) es)) (sym push) (record {
+pub empty_more : {X : Type 0} (es : List X) (k : ℕ) (x : X) (lists grown : List (Vec Bytes)) (v : Vec Bytes) → k < length es → x ≡ get_or es k x → AreEmpty (take k es) lists → v.items ≡ []
+    → grown ≡ lists ++ v ∷ [] → AreEmpty (take (k + 1) es) grown
+empty_more es k x lists grown v within e empty none push = subst (AreEmpty (take (k + 1) es)) (sym push) (record {
   len = longer lists v ∙ ap (λ n. n + 1) empty.len ∙ sym (ap length (take_more es k x within ∙ ap (λ z. take k es ++ z ∷ []) (sym e)) ∙ longer (take k es) x);
   each = λ w c. elim (Contains-append_cases lists (v ∷ []) w c) [
     | inl old ↦ empty.each w old

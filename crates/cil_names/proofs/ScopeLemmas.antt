@@ -1,6 +1,6 @@
 -- What a word could name, namespace by namespace.
-use Rattle.std.proofs.Common.{◌≡◌, ℕ, ◌+◌, ◌<◌, ◌≤◌, Bool, true, false, cond, List, [], ◌∷◌, ◌++◌, length, get_or, drop, map, refl, sym, ◌∙◌, ap, append_assoc, append-nil}
-use Rattle.std.specs.Prelude.{Option, Some, None, find}
+use Rattle.std.proofs.Common.{◌≡◌, ℕ, zero, suc, ◌+◌, ◌<◌, ◌≤◌, Bool, true, false, cond, List, [], ◌∷◌, ◌++◌, length, get_or, drop, map, refl, sym, ◌∙◌, ap, subst, append_assoc, append-nil, arith}
+use Rattle.std.specs.Prelude.{All, Option, Some, None, find}
 use Rattle.std.specs.List.{flat_map}
 use Rattle.std.specs.Option.{is_some, option_or}
 use Rattle.std.proofs.lemmas.Bool.{true≢false}
@@ -14,12 +14,9 @@ use Rattle.cil_names.specs.declared.entry.Entry.{Entry}
 use Rattle.cil_blocks.specs.declared.namespaces.Space.{Space}
 use Rattle.cil_macros.specs.Asked.{numbers_asked}
 use Rattle.cil_names.specs.Entries.{candidate, candidates_of, listed, scope_of, scoped}
+use Rattle.cil_names.specs.Sought.{could_name}
 use Rattle.cil_blocks.specs.Namespaces.{space_at}
 use Rattle.cil_blocks.proofs.NamespaceLemmas.{global_at}
-
--- the entry that a word could name in one namespace
-abbrev pub could_name : List Space → List Entry → Word → ℕ → List ℕ
-could_name ss es w k = listed (candidate ss es (asked w.bytes).name w.sign ((asked w.bytes).inner ++ space_at ss k))
 
 -- what was asked in one namespace is what the word could name there
 pub asked_there : (ss : List Space) (es : List Entry) (w : Word) (global : Bool) (path : List ℕ) → IsTaken w.bytes global path → (k : ℕ) (r : Option ℕ)
@@ -51,6 +48,18 @@ pub candidates_in : (ss : List Space) (es : List Entry) (w : Word) (scope : List
 candidates_in ss es w scope global path taken ks are =
     whole ss es w scope global (is_global w.bytes global path taken) ∙ ap (flat_map (could_name ss es w)) (sym are)
 
+-- each namespace that is asked is one of the scope's, or the global one
+pub asked_within : (ss : List Space) (scope : List ℕ) → All (λ k. k ≤ length ss) scope → (global : Bool) (ks : List ℕ) → ks ≡ numbers_asked global scope → (i : ℕ) → i < length ks
+    → get_or ks i 0 ≤ length ss
+asked_within ss scope within true ks are i below =
+    subst (λ l. get_or l i 0 ≤ length ss) (sym are) (global_within i (subst (λ l. i < length l) are below))
+  where
+    global_within : (i : ℕ) → i < 1 → get_or (0 ∷ []) i 0 ≤ length ss
+    global_within zero below = omega arith
+    global_within (suc i) below = omega (arith, below)
+asked_within ss scope within false ks are i below =
+    subst (λ l. get_or l i 0 ≤ length ss) (sym are) (within i 0 (subst (λ l. i < length l) are below))
+
 -- ---- steps over a list
 
 module _ {X Y : Type 0} (f : X → List Y) (xs : List X) (i : ℕ) (x d : X) (within : i < length xs) (is : x ≡ get_or xs i d) where
@@ -59,6 +68,9 @@ module _ {X Y : Type 0} (f : X → List Y) (xs : List X) (i : ℕ) (x d : X) (wi
 
   pub passed_on : (before all : List Y) → before ++ flat_map f (drop i xs) ≡ all → (before ++ f x) ++ flat_map f (drop (i + 1) xs) ≡ all
   passed_on before all so = append_assoc before (f x) (flat_map f (drop (i + 1) xs)) ∙ ap (λ l. before ++ l) (sym next) ∙ so
+
+  pub one_passed : (before all : List Y) → before ++ flat_map f (drop i xs) ≡ all → (now : List Y) → now ≡ before ++ f x → now ++ flat_map f (drop (i + 1) xs) ≡ all
+  one_passed before all so now e = ap (λ l. l ++ flat_map f (drop (i + 1) xs)) e ∙ passed_on before all so
 
   module _ (p : Y → Bool) (so : find p (flat_map f xs) ≡ find p (flat_map f (drop i xs))) where
     pub not_yet : None ≡ find p (f x) → find p (flat_map f xs) ≡ find p (flat_map f (drop (i + 1) xs))

@@ -7,17 +7,18 @@ use Rattle.std.specs.List.Retain.{DiffersFromLast, IsFiltered}
 use Rattle.std.specs.List.Sorted.{IsPermutation, IsSorted, IsStrictlySortedBy}
 use Rattle.std.specs.Option.{option_map_or, unwrap_or}
 use Rattle.std.specs.Ordering.{eq_by_cmp}
-use Rattle.std.proofs.Common.{◌≡◌, ℕ, ◌+◌, ◌<◌, ◌≤◌, Bool, true, false, List, [], ◌∷◌, ◌++◌, length, take, get_or, refl, sym, ◌∙◌, ap, subst, inl, inr, arith}
+use Rattle.std.proofs.Common.{◌≡◌, ℕ, ◌+◌, ◌<◌, ◌≤◌, Bool, true, false, List, [], ◌∷◌, ◌++◌, length, take, get_or, refl, sym, ◌∙◌, ap, append-nil, subst, inl, inr, arith}
 use Rattle.std.proofs.lemmas.Bool.{and_from, and_parts, cases_Bool, cases_eq, true≢false}
 use Rattle.std.proofs.lemmas.Bool.Decides.{nat_tests}
 use Rattle.std.proofs.lemmas.List.{length-set, take_all, take_more}
 use Rattle.std.proofs.lemmas.List.Folds.{list_any-append}
 use Rattle.std.proofs.lemmas.Option.{none-some, same_Some}
 use Rattle.cil_base.specs.Lists.{Lists, text_cmp}
-use Rattle.cil_base.specs.Places.{contains_at, get_at, get_contains, get_set_other, get_set_same, in_range, is_there, there_as}
+use Rattle.cil_base.specs.Places.{contains_at, get_at, get_contains, get_set_other, get_set_same, in_range, there_as}
 use Rattle.cil_base.specs.Records.{AreRecordsOf, IsRecordOf}
 use Rattle.cil_base.specs.Searches.{any_from, any_true, same_truth}
 use Rattle.cil_base.specs.declared.bytes.Bytes.{Bytes}
+use Rattle.cil_base.proofs.RecordLemmas.{none_more, record_more}
 use Rattle.cil_base.proofs.SortedLists.{sorted_list}
 use Rattle.cil_syntax.specs.declared.kind.Keyword.{Keyword}
 use Rattle.cil_syntax.specs.declared.kind.Keyword.TheVariants as keywords
@@ -41,7 +42,7 @@ use Rattle.cil_macros.proofs.FormLemmas.{no_pair, pair_across}
 use Rattle.cil_names.specs.declared.entry.Entry.{Entry}
 use Rattle.cil_names.specs.declared.shared.Shared.{Shared}
 use Rattle.cil_names.specs.Declarations.{Symbol, by, declared_by}
-use Rattle.cil_names.specs.Entries.{AreEntries, HasNoEntry, IsEntryAt, IsNamed, is_declared_at}
+use Rattle.cil_names.specs.Entries.{AreEntries, HasNoEntry, IsEntryAt, IsNamed, is_declared_at, listed as listing}
 use Rattle.cil_names.specs.Numbers.{symbol_of}
 use Rattle.cil_names.specs.Permissions.{AreOwn}
 use Rattle.cil_names.specs.Resolves.{fits, found_in, gives_permission, has, has_permission, is_class_common, listed_permissions, lists_named, lists_permission, names_outside, shares_permission, shares_words}
@@ -170,6 +171,14 @@ module _ (own : List (Vec Bytes)) (shared : List Shared) (apart : AreApart (leng
 -- what was taken from a place stood there
 pub taken_at : {X : Type 0} (xs : List X) (k : ℕ) (taken there : X) → k < length xs → taken ≡ there → there ≡ get_or xs k there → slice_get xs k ≡ Some taken
 taken_at xs k taken there l same is = there_as xs k there l is ∙ ap Some (sym same)
+
+-- ---- records, one statement after another
+
+pub records_next : {X K Y : Type 0} (asked : X → K → Type 0) (gives : K → Y → Type 0) (xs : List X) (i : ℕ) (x : X) → take (i + 1) xs ≡ take i xs ++ x ∷ [] → (old : List Y)
+    → AreRecordsOf asked gives (take i xs) old → (r : Option Y) (new : List Y) → IsRecordOf asked gives x r → new ≡ old ++ listing r → AreRecordsOf asked gives (take (i + 1) xs) new
+records_next asked gives xs i x taken old so_far None more none push =
+    subst (AreRecordsOf asked gives (take (i + 1) xs)) (sym (push ∙ append-nil old)) (none_more asked gives xs i x taken old so_far none)
+records_next asked gives xs i x taken old so_far (Some y) more one push = record_more asked gives xs i x taken old so_far y more one push
 
 -- ---- what a word names where no optional is enabled
 

@@ -1,5 +1,4 @@
--- Entries that rise by their names: those of one name stand beside one another, so an entry whose neighbours have other names is the
--- only one of its name.
+-- Entries that rise by their names: those of one name stand beside one another.
 use Rattle.std.proofs.Common.{◌≡◌, ℕ, suc, zero, ◌+◌, ◌<◌, ◌≤◌, List, length, get_or, refl, sym, ◌∙◌, ap, subst, inl, inr, arith, Bool, true, false, ◌⊎◌}
 use Rattle.std.specs.Prelude.{◌↔◌, IfSome, IsTrue, Option, Some, None, slice_get}
 use Rattle.std.specs.Cmp.Lexicographic.{bytes_decides}
@@ -18,10 +17,9 @@ use Rattle.cil_names.specs.declared.entry.Entry.{Entry}
 use Rattle.cil_names.specs.Entries.{HasNoEntry, IsEntryAt, by_name_cmp, is_entry, key_of}
 use Rattle.cil_names.specs.declared.namesakes.Namesakes.{Namesakes}
 use Rattle.cil_syntax.specs.NameSpaces.{rank}
-use Rattle.cil_base.specs.Found.{IsFound}
 use Rattle.cil_names.proofs.EntryLemmas.{parts_fit, they_fit}
 use Rattle.cil_base.proofs.SearchLemmas.{one_number, rising_at}
-use Rattle.cil_names.specs.Soles.{AreNamesakes, AreRanked, IsEnd, IsNamedAt, IsSole, IsWantedIn, RankedName, ranked_cmp, ranked_name}
+use Rattle.cil_names.specs.Soles.{AreNamesakes, AreRanked, IsEnd, IsNamedAt, IsOfRank, IsSole, IsWantedIn, RankedName, ranked_cmp, ranked_name}
 use Rattle.cil_names.proofs.OrderLemmas.{key_total, one_key, one_ranked, ranked_total}
 
 pub named_is : (e : Entry) (name : List ℕ) (r : ℕ) → e.name ≡ name → rank e.kind ≡ r → ranked_name e ≡ record { name = name; rank = r }
@@ -62,48 +60,6 @@ module _ (es : List Entry) (up : IsStrictlySortedBy (on key_of by_name_cmp) es) 
   there : (i : ℕ) (d : Entry) → i < length es → slice_get es i ≡ Some (get_or es i d)
   there i d within = slice_get-get_or es i d within
 
-  pub stands_alone : (n : RankedName) (d : ℕ) (x : Entry) → slice_get es d ≡ Some x → ranked_name x ≡ n
-      → (IsNamedAt es n (d + 1) → ⊥) → ((b : ℕ) → b + 1 ≡ d → IsNamedAt es n b → ⊥) → IsFound ranked_name es n d
-  stands_alone n d x at named behind before = record {
-    item = x;
-    at = at;
-    has_key = named;
-    only = λ m y at_m is. elim (cases_lt m d) [
-      | inl less ↦ elim (cases_lt (m + 1) d) [
-        | inl further ↦ absurd (near_before m y at_m is further)
-        | inr next ↦ absurd (before m (omega arith) (y, at_m, is))
-      ]
-      | inr ge ↦ elim (cases_lt d m) [
-        | inl more ↦ elim (cases_lt (d + 1) m) [
-          | inl further ↦ absurd (near_behind m y at_m is further)
-          | inr next ↦ absurd (behind (let e : m ≡ d + 1 = omega arith in (y, ap (slice_get es) (sym e) ∙ at_m, is)))
-        ]
-        | inr le ↦ omega arith
-      ]
-    ];
-  }
-    where
-      near_behind : (m : ℕ) (y : Entry) → slice_get es m ≡ Some y → ranked_name y ≡ n → d + 1 < m → ⊥
-      near_behind m y at_m is further =
-          let within : d + 1 < length es = let w = slice_get_within es m y at_m in omega (arith, w) in
-          behind (
-            get_or es (d + 1) x,
-            there (d + 1) x within,
-            between d (d + 1) m x (get_or es (d + 1) x) y at (there (d + 1) x within) at_m (omega arith) further n named is,
-          )
-
-      at_before : (m b : ℕ) (y : Entry) → slice_get es m ≡ Some y → ranked_name y ≡ n → m + 1 < d → b + 1 ≡ d → ⊥
-      at_before m b y at_m is further e =
-          let within : b < length es = let w = slice_get_within es d x at in omega (arith, w, e) in
-          before b e (get_or es b x, there b x within, between m b d y (get_or es b x) x at_m (there b x within) at (omega (arith, e, further)) (omega (arith, e)) n is named)
-
-      near_before : (m : ℕ) (y : Entry) → slice_get es m ≡ Some y → ranked_name y ≡ n → m + 1 < d → ⊥
-      near_before m y at_m is further = at_last d refl
-        where
-          at_last : (k : ℕ) → k ≡ d → ⊥
-          at_last zero e = omega (arith, e, further)
-          at_last (suc b) e = at_before m b y at_m is further (let f : b + 1 ≡ d = omega (arith, e) in f)
-
   -- ---- the entries of a name from the first on
 
   module _ (n : RankedName) (first : ℕ) (x : Entry) (at : slice_get es first ≡ Some x) (named : ranked_name x ≡ n) where
@@ -142,25 +98,10 @@ module _ (es : List Entry) (up : IsStrictlySortedBy (on key_of by_name_cmp) es) 
 
     pub are_ranked : (end : ℕ) → IsEnd es n first end → ((b : ℕ) → b + 1 ≡ first → IsNamedAt es n b → ⊥) → AreRanked es n (record { first = first; end = end })
     are_ranked end ends before = record {
+      some = ends.later;
       inside = ends.inside;
       all = λ m there. (not_in_front before m there, not_behind end ends m there);
     }
-
--- ---- the one entry of a name
-
-module _ (es : List Entry) (name : List ℕ) (sign : Sign) where
-  pub sole_is : (r : ℕ) → ((kind : Kind) → is_wanted sign kind ≡ true → rank kind ≡ r) → (d : ℕ) → IsFound ranked_name es (record { name = name; rank = r }) d → IsSole es name sign d
-  sole_is r of_rank d found = record {
-    entry = found.item;
-    at = found.at;
-    named = ap (λ (k : RankedName). k.name) found.has_key;
-    only = λ m e at named wanted. found.only m e at (named_is e name r named (of_rank e.kind wanted));
-  }
-
-pub soles : (es : List Entry) (name : List ℕ) (sign : Sign) (r : ℕ) → ((kind : Kind) → is_wanted sign kind ≡ true → rank kind ≡ r) → (o : Option ℕ)
-    → IfSome o (IsFound ranked_name es (record { name = name; rank = r })) → IfSome o (IsSole es name sign)
-soles es name sign r of_rank None f = tt
-soles es name sign r of_rank (Some d) f = sole_is es name sign r of_rank d f
 
 pub named_there : (es : List Entry) (name : List ℕ) (r d : ℕ) (e : Entry) → slice_get es d ≡ Some e → rank e.kind ≡ r → e.name ≡ name → IsNamedAt es (record { name = name; rank = r }) d
 named_there es name r d e at of_rank named = (e, at, named_is e name r named of_rank)
@@ -176,6 +117,11 @@ its_name es name r d e at there = ap (λ (k : RankedName). k.name) (name_there e
 
 pub its_rank : (es : List Entry) (name : List ℕ) (r d : ℕ) (e : Entry) → slice_get es d ≡ Some e → IsNamedAt es (record { name = name; rank = r }) d → rank e.kind ≡ r
 its_rank es name r d e at there = ap (λ (k : RankedName). k.rank) (name_there es (record { name = name; rank = r }) d e at there)
+
+-- what is known of all is known of what there is
+pub if_some : {X : Type 0} (P : Type 0) → P → (o : Option X) → IfSome o (λ _. P)
+if_some P p None = tt
+if_some P p (Some x) = p
 
 -- ---- what the entry at a place tells
 
@@ -223,14 +169,28 @@ module _ (es : List Entry) (k : RankedName) (first : ℕ) where
         | inr ge ↦ subst (IsNamedAt es k) (let same : at ≡ m = omega arith in same) there
       ]
 
-pub all_namesakes : (es : List Entry) (name : List ℕ) (sign : Sign) (r : ℕ) → ((kind : Kind) → is_wanted sign kind ≡ true → rank kind ≡ r) → (o : Option Namesakes)
-    → IfSome o (AreRanked es (record { name = name; rank = r })) → IfSome o (AreNamesakes es name sign)
-all_namesakes es name sign r of_rank None f = tt
-all_namesakes es name sign r of_rank (Some n) f = record {
-  named = λ m e at first last. its_name es name r m e at (f.inside m first last);
-  all = λ m e at named wanted. f.all m (named_there es name r m e at (of_rank e.kind wanted) named);
-  one_rank = λ a b p q. of_rank a p ∙ sym (of_rank b q);
-}
+module _ (es : List Entry) (name : List ℕ) (sign : Sign) (r : ℕ) (of_rank : IsOfRank sign r) (n : Namesakes) (are : AreRanked es (record { name = name; rank = r }) n) where
+  pub namesakes : AreNamesakes es name sign n
+  namesakes = record {
+    named = λ m e at first last. its_name es name r m e at (are.inside m first last);
+    all = λ m e at named wanted. are.all m (named_there es name r m e at (of_rank e.kind wanted) named);
+    one_rank = λ a b p q. of_rank a p ∙ sym (of_rank b q);
+  }
+
+  -- where there is one alone, it is the only one in all namespaces
+  pub one_alone : n.end ≡ n.first + 1 → IsSole es name sign n.first
+  one_alone end =
+      let there = are.inside n.first (omega arith) are.some in
+      record {
+        entry = there.0;
+        at = there.1;
+        named = ap (λ (k : RankedName). k.name) there.2;
+        only = λ m e at named wanted.
+            let within = are.all m (named_there es name r m e at (of_rank e.kind wanted) named) in
+            let from = within.0 in
+            let to = within.1 in
+            omega (arith, end, from, to);
+      }
 
 module _ (es : List Entry) (name : List ℕ) (sign : Sign) (k : ℕ) where
   same_key : ((a b : Kind) → is_wanted sign a ≡ true → is_wanted sign b ≡ true → rank a ≡ rank b) → (x e : Entry) → is_entry name sign k x ≡ true → is_entry name sign k e ≡ true

@@ -1,6 +1,6 @@
 -- A word without dots whose name one entry has could name this one alone, and only where its namespace is in the scope.
-use Rattle.std.proofs.Common.{◌≡◌, ◌≤◌, ◌==◌, ◌||◌, ℕ, Bool, true, false, List, [], ◌∷◌, ◌++◌, length, map, refl, sym, ◌∙◌, ap, inl, inr, arith}
-use Rattle.std.specs.Prelude.{All, IfSome, Option, Some, None, slice_get}
+use Rattle.std.proofs.Common.{◌≡◌, ◌≤◌, ◌==◌, ◌||◌, ◌+◌, ℕ, Bool, true, false, List, [], ◌∷◌, ◌++◌, length, map, refl, sym, ◌∙◌, ap, subst, inl, inr, arith}
+use Rattle.std.specs.Prelude.{All, IfSome, IsTrue, Some, None, slice_get}
 use Rattle.std.specs.List.{AllByRecursion, IsDistinct, flat_map, list_any}
 use Rattle.std.proofs.lemmas.Bool.{cases_Bool, eqb-true, true≢false}
 use Rattle.std.proofs.lemmas.List.Elements.{recursion_from_All}
@@ -17,8 +17,12 @@ use Rattle.cil_blocks.specs.Namespaces.{AreNamespaces, space_at}
 use Rattle.cil_blocks.proofs.NamespaceLemmas.{global_at, same_number}
 use Rattle.cil_names.specs.declared.entry.Entry.{Entry}
 use Rattle.cil_names.specs.Entries.{AreOrdered, candidate, candidates_of, is_entry_of, listed, scope_of, scoped}
-use Rattle.cil_names.specs.Soles.{IsSole, IsSoleOf, in_scope}
+use Rattle.cil_names.specs.declared.namesakes.Namesakes.{Namesakes}
+use Rattle.cil_names.specs.declared.sought.Sought.{Sought}
+use Rattle.cil_names.specs.Soles.{AreRanked, IsSole, IsSoleOf, in_scope}
+use Rattle.cil_names.specs.Sought.{IsSought}
 use Rattle.cil_names.proofs.CandidateLemmas.{parts_of, place_none, place_some, they_are}
+use Rattle.cil_names.proofs.SoleLemmas.{one_alone}
 
 -- ---- what a word without dots asks
 
@@ -31,10 +35,15 @@ sole_of_word es w global names d taken not_led plain sole = record {
   sole = sole;
 }
 
-pub all_soles : (es : List Entry) (w : Word) (global : Bool) (names : List ℕ) → IsTaken w.bytes global names → global ≡ false → IsDotless names → (o : Option ℕ)
-    → IfSome o (IsSole es names w.sign) → IfSome o (IsSoleOf es w)
-all_soles es w global names taken not_led plain None h = tt
-all_soles es w global names taken not_led plain (Some d) h = sole_of_word es w global names d taken not_led plain h
+-- what is known of a word tells where the one entry of its name is
+module _ (es : List Entry) (w : Word) (s : Sought) (known : IsSought es w s) (n : Namesakes) (is : s.same ≡ Some n) where
+  pub ranked_there : AreRanked es (record { name = s.path.names.now; rank = s.rank }) n
+  ranked_there = subst (λ o. IfSome o (AreRanked es (record { name = s.path.names.now; rank = s.rank }))) is known.same
+
+  pub sole_sought : s.path.global ≡ false → n.end ≡ n.first + 1 → IsSoleOf es w n.first
+  sole_sought not_led end =
+      sole_of_word es w s.path.global s.path.names.now n.first known.taken not_led (known.dotless.0 (subst (λ o. IfSome o (λ _. IsTrue s.path.dotless)) is known.plain))
+      (one_alone es s.path.names.now w.sign s.rank known.ranked n ranked_there end)
 
 id_map : (s : Scope) → map (λ (n : Namespace). [] ++ n) s ≡ s
 id_map [] = refl

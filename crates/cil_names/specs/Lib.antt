@@ -22,6 +22,7 @@ pub mod Says
 pub mod Shared
 pub mod SharedOrder
 pub mod Soles
+pub mod Sought
 pub mod Spaces
 pub mod Unresolved
 pub mod Worded

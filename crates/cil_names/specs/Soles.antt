@@ -28,6 +28,10 @@ ranked_cmp = then_cmp (on (λ (k : RankedName). k.name) text_cmp) (on (λ (k : R
 abbrev pub IsNamedAt : List Entry → RankedName → ℕ → Type 0
 IsNamedAt es k d = (e : Entry) × (slice_get es d ≡ Some e) × (ranked_name e ≡ k)
 
+-- the kinds that are wanted are of the name space at this place among all
+abbrev pub IsOfRank : Sign → ℕ → Type 0
+IsOfRank sign r = (kind : Kind) → is_wanted sign kind ≡ true → rank kind ≡ r
+
 -- the entry of this number is of a wanted kind and in the namespace of this number
 abbrev pub IsWantedIn : List Entry → ℕ → Sign → ℕ → Type 0
 IsWantedIn es k sign d = (e : Entry) × (slice_get es d ≡ Some e) × (e.space ≡ k) × (is_wanted sign e.kind ≡ true)
@@ -45,8 +49,9 @@ pub record IsEnd (es : List Entry) (k : RankedName) (first end : ℕ) : Type 0 w
   pub inside : (m : ℕ) → first ≤ m → m < end → IsNamedAt es k m
   pub other : IsNamedAt es k end → ⊥
 
--- the entries of this name in this name space are those of these numbers
+-- the entries of this name in this name space are those of these numbers, and there is one
 pub record AreRanked (es : List Entry) (k : RankedName) (n : Namesakes) : Type 0 where
+  pub some : n.first < n.end
   pub inside : (m : ℕ) → n.first ≤ m → m < n.end → IsNamedAt es k m
   pub all : (m : ℕ) → IsNamedAt es k m → (n.first ≤ m) × (m < n.end)
 

@@ -1,6 +1,6 @@
 //! What a placed statement asks for, one after another: words, and permissions of classes.
 
-ghost use Rattle.std.specs.Prelude.{◌≡◌, ◌<◌, ◌++◌, IfOk, List, MatchOption, None, OnOk, Some, length, map, slice_get, true};
+ghost use Rattle.std.specs.Prelude.{◌≡◌, ◌<◌, ◌∷◌, ◌++◌, [], IfOk, List, MatchOption, None, OnOk, Some, length, map, slice_get, true};
 ghost use Rattle.std.specs.List.{flat_map};
 ghost use Rattle.std.specs.Option.{option_map};
 ghost use Rattle.cil_macros.specs.Calls.{is_call};
@@ -9,7 +9,7 @@ ghost use Rattle.cil_macros.specs.Items.{all_placed, item_at, items_in, says_lis
 ghost use Rattle.cil_macros.specs.Placed.{Placed};
 ghost use Rattle.cil_names.specs.Asked.{asked_by, wanted_by};
 ghost use Rattle.cil_names.specs.Readings.{IsReading, ReadsWords, item_read, module_of, scoped_there, word_read};
-ghost use Rattle.cil_names.specs.Resolves.{all_wanted_in, told_at, told_word, wanted_in, words_of, words_of_class, words_of_mapping};
+ghost use Rattle.cil_names.specs.Resolves.{Word as AWord, all_wanted_in, told_at, told_word, wanted_in, words_of, words_of_class, words_of_mapping};
 ghost use Rattle.cil_names.specs.Unresolved.{term_with, terms_with};
 
 use crate::asked_parts::asked_in_parts;
@@ -94,6 +94,35 @@ impl<'a> Asked<'a> {
     }
 }
 
+/// Adds something that is asked for.
+pub fn push_asked<'a>(asked: &mut Vec<Asked<'a>>, one: Asked<'a>) -> Result<(), NoMemory>
+    ensures { OnOk result (asked.new.items ≡ asked.old.items ++ one.entry ∷ []) }
+{
+    asked.push(one)?;
+    Ok(())
+}
+
+/// Adds some words as what is asked for.
+fn push_all<'a>(asked: &mut Vec<Asked<'a>>, words: &[PlacedWord<'a>]) -> Result<(), NoMemory>
+    ensures { OnOk result ((ps : List Placed) → flat_map (wanted_by ps) asked.new.items ≡ flat_map (wanted_by ps) asked.old.items ++ map (λ w. AWord (scoped_by ps w)) words.now) }
+{
+    for word in words {
+        push_asked(asked, Asked::Word(word.copied()))?;
+    }
+    Ok(())
+}
+
+/// Adds a word with its place.
+pub fn push_placed<'a>(
+    words: &mut Vec<PlacedWord<'a>>,
+    word: PlacedWord<'a>,
+) -> Result<(), NoMemory>
+    ensures { OnOk result (words.new.items ≡ words.old.items ++ word.entry ∷ []) }
+{
+    words.push(word)?;
+    Ok(())
+}
+
 impl<'r, 's, 'p, 'a> Reading<'r, 's, 'p, 'a> {
     /// What the statement asks for, in order.
     pub fn asked(&self, alloc: Global) -> Result<Vec<Asked<'a>>, NoMemory>
@@ -113,8 +142,7 @@ impl<'r, 's, 'p, 'a> Reading<'r, 's, 'p, 'a> {
         ensures { IfOk result (λ asked. asked_by self.now asked.items ≡ words_of (item_read self.now)) }
     {
         let parts = self.instances.parts(alloc, self.at)?;
-        let asked = asked_in_parts(alloc, self.statement.keyword, parts.as_slice())?;
-        Ok(asked)
+        asked_in_parts(alloc, self.statement.keyword, parts.as_slice())
     }
 
     /// The same of a statement that says words alone: by what is written.
@@ -124,20 +152,28 @@ impl<'r, 's, 'p, 'a> Reading<'r, 's, 'p, 'a> {
         ensures { IfOk result (λ asked. asked_by self.now asked.items ≡ words_of (item_read self.now)) }
     {
         let mut asked = Vec::new(alloc);
-        if is_call(self.statement.keyword) {
-            self.ask_call(alloc, &mut asked)?;
-            return Ok(asked);
+        self.ask_words(alloc, &mut asked)?;
+        Ok(asked)
+    }
+
+    /// Adds what a statement asks for that says words alone.
+    fn ask_words(&self, alloc: Global, asked: &mut Vec<Asked<'a>>) -> Result<(), NoMemory>
+        requires reading { IsReading self.now }
+        requires words { ReadsWords self.now }
+        ensures { OnOk result (asked_by self.now asked.new.items ≡ asked_by self.now asked.old.items ++ words_of (item_read self.now)) }
+    {
+        let keyword = self.statement.keyword;
+        if is_call(keyword) {
+            return self.ask_call(alloc, asked);
         }
-        if !says_as_written(self.statement.keyword) {
-            return Ok(asked);
+        if !says_as_written(keyword) {
+            return Ok(());
         }
         let terms = self.statement.args.as_slice();
-        if is_mapping(self.statement.keyword) {
-            self.ask_mapping(alloc, &mut asked, terms)?;
-            return Ok(asked);
+        if is_mapping(keyword) {
+            return self.ask_mapping(alloc, asked, terms);
         }
-        self.ask_terms(alloc, &mut asked, terms)?;
-        Ok(asked)
+        self.ask_terms(alloc, asked, terms)
     }
 
     /// Adds what the terms of a classmapping ask for: its class map, its permission as one of the map, and what is behind them.
@@ -151,8 +187,7 @@ impl<'r, 's, 'p, 'a> Reading<'r, 's, 'p, 'a> {
         ensures { OnOk result (asked_by self.now asked.new.items ≡ asked_by self.now asked.old.items ++ words_of_mapping (terms_with (word_read self.now) (module_of self.now) terms.now)) }
     {
         self.ask_class_list(alloc, asked, front_two(terms))?;
-        self.ask_terms(alloc, asked, behind_two(terms))?;
-        Ok(())
+        self.ask_terms(alloc, asked, behind_two(terms))
     }
 
     /// Adds the words of a call.
@@ -162,10 +197,7 @@ impl<'r, 's, 'p, 'a> Reading<'r, 's, 'p, 'a> {
         ensures { OnOk result (is_call (item_read self.now).keyword ≡ true → asked_by self.now asked.new.items ≡ asked_by self.now asked.old.items ++ words_of (item_read self.now)) }
     {
         let words = self.call_words(alloc)?;
-        for word in words.as_slice() {
-            asked.push(Asked::Word(word.copied()))?;
-        }
-        Ok(())
+        push_all(asked, words.as_slice())
     }
 
     /// Adds what some terms ask for.
@@ -198,18 +230,17 @@ impl<'r, 's, 'p, 'a> Reading<'r, 's, 'p, 'a> {
         match term {
             Term::Leaf(word) => {
                 let written = word.in_module(self.statement.at.module);
-                asked.push(Asked::Word(self.word(&written)))?;
+                push_asked(asked, Asked::Word(self.word(&written)))
             }
-            Term::Name(_, _) => {}
+            Term::Name(_, _) => Ok(()),
             Term::Form(op, _, parts) => {
                 if op.is_class_list() {
-                    self.ask_class_list(alloc, asked, parts.as_slice())?;
+                    self.ask_class_list(alloc, asked, parts.as_slice())
                 } else {
-                    self.ask_terms(alloc, asked, parts.as_slice())?;
+                    self.ask_terms(alloc, asked, parts.as_slice())
                 }
             }
         }
-        Ok(())
     }
 
     /// Adds what a class list asks for: its class word, and then its permissions.
@@ -227,8 +258,7 @@ impl<'r, 's, 'p, 'a> Reading<'r, 's, 'p, 'a> {
         };
         let mut permissions = Vec::new(alloc);
         self.push_words(&mut permissions, list.terms)?;
-        asked.push(Asked::ClassList(self.word(&list.word), permissions))?;
-        Ok(())
+        push_asked(asked, Asked::ClassList(self.word(&list.word), permissions))
     }
 
     /// Adds the words among some terms.
@@ -255,11 +285,10 @@ impl<'r, 's, 'p, 'a> Reading<'r, 's, 'p, 'a> {
         match term {
             Term::Leaf(word) => {
                 let written = word.in_module(self.statement.at.module);
-                words.push(self.word(&written))?;
+                push_placed(words, self.word(&written))
             }
-            Term::Name(_, _) => {}
-            Term::Form(_, _, parts) => self.push_words(words, parts.as_slice())?,
+            Term::Name(_, _) => Ok(()),
+            Term::Form(_, _, parts) => self.push_words(words, parts.as_slice()),
         }
-        Ok(())
     }
 }

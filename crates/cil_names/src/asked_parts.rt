@@ -13,7 +13,7 @@ ghost use Rattle.cil_names.specs.Asked.{wanted_by};
 ghost use Rattle.cil_names.specs.AskedParts.{class_asked, mapping_asked, parts_asked, parts_inside, term_parts, two_parts};
 ghost use Rattle.cil_names.specs.Resolves.{words_said};
 
-use crate::asked::Asked;
+use crate::asked::{Asked, push_asked, push_placed};
 use crate::reading::is_mapping;
 use cil_base::NoMemory;
 use cil_macros::{Part, PlacedWord};
@@ -29,12 +29,23 @@ pub fn asked_in_parts<'a>(
     ensures { IfOk result (λ asked. (ps : List Placed) (ts : Terms ScopedWord) → parts_there ps parts.now ≡ all_parts_of ts → flat_map (wanted_by ps) asked.items ≡ words_said keyword ts) }
 {
     let mut asked = Vec::new(alloc);
-    if is_mapping(keyword) {
-        ask_mapping(alloc, &mut asked, parts)?;
-        return Ok(asked);
-    }
-    ask_parts(alloc, &mut asked, parts)?;
+    ask_said(alloc, &mut asked, keyword, parts)?;
     Ok(asked)
+}
+
+/// Adds what a statement of a keyword asks for that says these parts.
+fn ask_said<'a>(
+    alloc: Global,
+    asked: &mut Vec<Asked<'a>>,
+    keyword: Keyword,
+    parts: &[Part<'a>],
+) -> Result<(), NoMemory>
+    ensures { OnOk result ((ps : List Placed) (ts : Terms ScopedWord) → parts_there ps parts.now ≡ all_parts_of ts → flat_map (wanted_by ps) asked.new.items ≡ flat_map (wanted_by ps) asked.old.items ++ words_said keyword ts) }
+{
+    if is_mapping(keyword) {
+        return ask_mapping(alloc, asked, parts);
+    }
+    ask_parts(alloc, asked, parts)
 }
 
 /// Adds what the parts of a classmapping ask for: its first two terms are read as a class list.
@@ -47,8 +58,7 @@ fn ask_mapping<'a>(
 {
     let front = two_parts(parts);
     ask_class(alloc, asked, &parts[..front])?;
-    ask_parts(alloc, asked, behind(parts, front))?;
-    Ok(())
+    ask_parts(alloc, asked, behind(parts, front))
 }
 
 /// Adds what some parts ask for.
@@ -80,7 +90,7 @@ fn ask_part<'a>(
 {
     match &parts[at] {
         Part::Word(word) => {
-            asked.push(Asked::Word(word.copied()))?;
+            push_asked(asked, Asked::Word(word.copied()))?;
             Ok(at + 1)
         }
         Part::Text(_, _) => Ok(at + 1),
@@ -146,8 +156,7 @@ fn ask_class<'a>(
         return Ok(());
     };
     let permissions = words_among(alloc, front.behind)?;
-    asked.push(Asked::ClassList(front.word.copied(), permissions))?;
-    Ok(())
+    push_asked(asked, Asked::ClassList(front.word.copied(), permissions))
 }
 
 /// The word in front of some parts, and those behind it.
@@ -188,12 +197,11 @@ fn push_word<'a>(words: &mut Vec<PlacedWord<'a>>, part: &Part<'a>) -> Result<(),
     ensures { OnOk result ((ps : List Placed) → map (scoped_by ps) words.new.items ≡ map (scoped_by ps) words.old.items ++ words_in_parts (parts_there ps (part.now ∷ []))) }
 {
     match part {
-        Part::Word(word) => words.push(word.copied())?,
-        Part::Text(_, _) => {}
-        Part::Opens(_, _) => {}
-        Part::Closes => {}
+        Part::Word(word) => push_placed(words, word.copied()),
+        Part::Text(_, _) => Ok(()),
+        Part::Opens(_, _) => Ok(()),
+        Part::Closes => Ok(()),
     }
-    Ok(())
 }
 
 // ---- how many parts are in a list

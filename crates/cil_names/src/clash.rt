@@ -88,6 +88,5 @@ fn push_clash(
         return Ok(());
     };
     let space = spelled(alloc, instances.namespaces(), row.space)?;
-    push_fault_in(alloc, faults, FaultCode::Clash, name.at, space, name.bytes)?;
-    Ok(())
+    push_fault_in(alloc, faults, FaultCode::Clash, name.at, space, name.bytes)
 }

@@ -4,6 +4,7 @@ ghost use Rattle.std.specs.Prelude.{◌≡◌, ◌↔◌, IfOk, IsTrue};
 ghost use Rattle.cil_syntax.specs.Said.{word_in};
 ghost use Rattle.cil_macros.specs.Items.{all_placed, namespaces_in, scope_by, scoped_by, word_at};
 ghost use Rattle.cil_macros.specs.Walks.{IsScope};
+ghost use Rattle.cil_syntax.specs.Scopes.{Scope};
 ghost use Rattle.cil_names.specs.Declarations.{bare};
 ghost use Rattle.cil_names.specs.DeclareRows.{AreThere, all_bare_there, bare_there};
 
@@ -129,11 +130,23 @@ fn is_same_scope(
 ) -> Result<bool, NoMemory>
     ensures { IfOk result (λ same. IsTrue same ↔ (scope_by (all_placed instances.now) a ≡ scope_by (all_placed instances.now) b)) }
 {
+    let one = scope_of(alloc, instances, a)?;
+    has_scope(alloc, instances, one.as_slice(), b)
+}
+
+/// Whether a place has a scope, which is given by the numbers of its namespaces.
+fn has_scope(
+    alloc: Global,
+    instances: &Instances,
+    one: &[usize],
+    at: Option<usize>,
+) -> Result<bool, NoMemory>
+    ensures { IfOk result (λ same. (scope : Scope) → IsScope (namespaces_in instances.now) scope one.now → IsTrue same ↔ (scope ≡ scope_by (all_placed instances.now) at)) }
+{
     // Numbers of namespaces are one to one.
     instances.namespaces().are_namespaces();
-    let one = scope_of(alloc, instances, a)?;
-    let other = scope_of(alloc, instances, b)?;
-    Ok(is_same_list(one.as_slice(), other.as_slice()))
+    let other = scope_of(alloc, instances, at)?;
+    Ok(is_same_list(one, other.as_slice()))
 }
 
 /// The scope of a place.

@@ -1,6 +1,6 @@
 //! The declared names of a policy.
 
-use crate::look::is_declared;
+use crate::enabled::is_declared;
 use crate::opt_set::OptSet;
 use cil_syntax::{Excerpt, Kind};
 

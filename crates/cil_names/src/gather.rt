@@ -1,6 +1,6 @@
 //! The declared names of instances, or the faults of declarations that differ.
 
-ghost use Rattle.std.specs.Prelude.{◌≡◌, ◌++◌, IfOk, OnOk, map};
+ghost use Rattle.std.specs.Prelude.{◌≡◌, ◌∷◌, ◌++◌, [], IfOk, OnOk, map};
 ghost use Rattle.std.specs.List.{flat_map, list_any};
 ghost use Rattle.cil_faults.specs.Refusal.{Answers};
 ghost use Rattle.cil_macros.specs.Items.{items_in, namespaces_in};
@@ -46,9 +46,16 @@ fn entries_of<'a>(
 {
     let mut entries = Vec::new(alloc);
     for run in runs {
-        entries.push(entry_of(alloc, instances, run)?)?;
+        push_entry(&mut entries, entry_of(alloc, instances, run)?)?;
     }
     Ok(entries)
+}
+
+fn push_entry<'a>(entries: &mut Vec<Entry<'a>>, entry: Entry<'a>) -> Result<(), NoMemory>
+    ensures { OnOk result (entries.new.items ≡ entries.old.items ++ entry.entry ∷ []) }
+{
+    entries.push(entry)?;
+    Ok(())
 }
 
 fn entry_of<'a>(

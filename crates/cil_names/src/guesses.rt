@@ -1,7 +1,7 @@
 //! Guesses where the entries of a name begin. Nothing is proved of them: a guess is checked where it is used.
 
 use crate::entry::Entry;
-use crate::once::is_named;
+use crate::namesakes::is_named;
 use cil_base::NoMemory;
 use std::alloc::Global;
 

@@ -1,7 +1,7 @@
 //! What words name: declared names as entries, and look-up in scopes. Namespaces are numbers, as cil_blocks has them.
 //!
 //! Start at `gather.rt` (`declare`) and `names.rt` (`Names::resolve`, `Names::candidates`); `guesses.rt` guesses where names
-//! are, and `once.rt` and `namesakes.rt` check the guesses. `numbers.rt` numbers the declared symbols by their names. cil_words looks up each
+//! are, and `namesakes.rt` checks the guesses. `numbers.rt` numbers the declared symbols by their names. cil_words looks up each
 //! word of each statement once.
 //! `specs/Resolves.antt` says what a word names, over statements as `Item.antt` of cil_macros has them; `specs/Declarations.antt`
 //! what is declared; `specs/Entries.antt` how entries and numbers of namespaces stand for that; `laws.rt` says that what a
@@ -13,8 +13,11 @@
 
 pub mod asked;
 mod asked_parts;
+mod by_name;
 mod clash;
+mod commons;
 mod content;
+mod enabled;
 mod entry;
 mod gather;
 mod guesses;
@@ -26,7 +29,6 @@ mod meanings_behind;
 mod names;
 mod namesakes;
 mod numbers;
-mod once;
 mod opt_set;
 mod permission_word;
 mod permissions;
@@ -34,17 +36,19 @@ pub mod reading;
 mod row;
 mod run;
 mod shared;
+mod sought;
 pub mod spelled;
 mod table;
 mod unscoped;
 pub mod worded;
 
 pub use asked::word_asked;
+pub use enabled::{flags_of, is_declared};
 pub use entry::Entry;
 pub use gather::declare;
 pub use guesses::{Guesses, hash_of};
 pub use known::{Known, meaning_at, same_keyword};
-pub use look::{are_numbers, flags_of, is_declared};
+pub use look::are_numbers;
 pub use meaning::Meaning;
 pub use meanings_behind::{behind, behind_first, behind_word};
 pub use names::Names;

@@ -17,9 +17,10 @@ ghost use Rattle.cil_names.specs.Resolves.{Permission};
 ghost use Rattle.cil_blocks.specs.Namespaces.{space_at};
 ghost use Rattle.cil_names.specs.Unresolved.{ArePermissions};
 
+use crate::by_name::entry_in;
 use crate::entry::Entry;
 use crate::guesses::Guesses;
-use crate::look;
+use crate::look::{push_candidates, resolve};
 use crate::opt_set::OptSet;
 use crate::permission_word::class_with;
 use crate::unscoped::{push_in_scope, unscoped_entry};
@@ -112,7 +113,7 @@ impl<'a> Names<'a> {
     {
         namespaces.are_namespaces();
         let entries = self.entries.as_slice();
-        look::entry_in(entries, &self.guesses, space, name, sign)
+        entry_in(entries, &self.guesses, space, name, sign)
     }
 
     /// The numbers of the entries that a word could name, whatever is enabled, in the order of its scope. A word without
@@ -129,14 +130,16 @@ impl<'a> Names<'a> {
         requires within { All (λ k. k ≤ length namespaces.now) scope.now }
         ensures { IfOk result (λ ds. ds.items ≡ candidates_of namespaces.now self.now (scoped namespaces.now scope.now word.now)) }
     {
-        look::candidates(
-            alloc,
+        let mut found = Vec::new(alloc);
+        push_candidates(
+            &mut found,
             namespaces,
-            self.entries.as_slice(),
-            &self.guesses,
+            self.entries(),
+            self.guesses(),
             word,
             scope,
-        )
+        )?;
+        Ok(found)
     }
 
     /// The number of the one entry that a word could name in every scope that ends with the global namespace, as the scope of
@@ -170,8 +173,7 @@ impl<'a> Names<'a> {
             self.guesses(),
             word,
             scope,
-        )?;
-        Ok(())
+        )
     }
 
     /// The number of the entry that a word names in a scope where these optionals are enabled. It costs what
@@ -191,7 +193,7 @@ impl<'a> Names<'a> {
         ensures names { (xs : List Item) → AreEntries namespaces.now xs self.now → IsAnswer namespaces.now xs self.now (is_in enabled.now) (scoped namespaces.now scope.now word.now) result }
     {
         namespaces.are_namespaces();
-        look::resolve(
+        resolve(
             namespaces,
             self.entries.as_slice(),
             &self.guesses,

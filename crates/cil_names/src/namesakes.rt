@@ -1,6 +1,6 @@
 //! The few entries of a name in a name space, whatever their namespaces.
 
-ghost use Rattle.std.specs.Prelude.{IfSome};
+ghost use Rattle.std.specs.Prelude.{◌↔◌, IfSome, IsTrue};
 ghost use Rattle.std.specs.List.Sorted.{IsStrictlySortedBy};
 ghost use Rattle.std.specs.Ordering.{on};
 ghost use Rattle.cil_names.specs.Entries.{by_name_cmp, key_of};
@@ -8,7 +8,6 @@ ghost use Rattle.cil_names.specs.Soles.{AreRanked, IsEnd, IsNamedAt};
 
 use crate::entry::Entry;
 use crate::guesses::{FEW, Guesses, WAYS};
-use crate::once::is_named;
 
 /// The entries of one name, which stand beside one another.
 #[derive(Clone, Copy)]
@@ -67,4 +66,17 @@ fn end_from(entries: &[Entry], first: usize, name: &[u8], rank: u8) -> Option<us
         }
     }
     None
+}
+
+/// Whether the entry at a place has this name in this name space.
+pub fn is_named(entries: &[Entry], place: usize, name: &[u8], rank: u8) -> bool
+    ensures { IsTrue result ↔ IsNamedAt entries.now (record { name = name.now; rank = rank }) place }
+{
+    let Some(entry) = entries.get(place) else {
+        return false;
+    };
+    if entry.kind.rank() != rank {
+        return false;
+    }
+    entry.name.as_slice() == name
 }

@@ -20,9 +20,10 @@ ghost use Rattle.cil_names.specs.PermissionWords.{class_with as the_class_with, 
 ghost use Rattle.cil_blocks.specs.Namespaces.{AreNamespaces};
 ghost use Rattle.cil_names.specs.Unresolved.{ArePermissions, listed_at as listed_for};
 
+use crate::by_name::entry_in;
 use crate::entry::Entry;
 use crate::guesses::Guesses;
-use crate::look::{entry_in, resolve};
+use crate::look::resolve;
 use crate::numbers::{place_among, place_guessed};
 use crate::shared::where_always;
 use cil_blocks::Namespaces;

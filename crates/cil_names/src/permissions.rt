@@ -8,16 +8,17 @@ ghost use Rattle.cil_syntax.specs.Said.{all_said};
 ghost use Rattle.cil_macros.specs.Item.{Item, names_in};
 ghost use Rattle.cil_macros.specs.Items.{item_at, items_in, namespaces_in};
 ghost use Rattle.cil_names.specs.Entries.{AreEntries, AreOrdered, by_name_cmp, key_of};
-ghost use Rattle.cil_names.specs.Permissions.{AreEmpty, AreListed, AreOwn, SaysList, SaysNoList, list_sign as the_list_sign};
+ghost use Rattle.cil_names.specs.Permissions.{AreAdded, AreEmpty, AreListed, AreOwn, IsListing, ListsNothing, SaysList, SaysNoList, list_sign as the_list_sign};
 ghost use Rattle.cil_names.specs.Shared.{AreShared};
 ghost use Rattle.cil_names.specs.Unresolved.{ArePermissions};
 
+use crate::by_name::entry_in;
+use crate::commons::with_commons;
 use crate::entry::Entry;
 use crate::guesses::Guesses;
-use crate::look::entry_in;
 use crate::names::Names;
 use crate::reading::is_at;
-use crate::shared::{Shared, with_commons};
+use crate::shared::Shared;
 use cil_base::NoMemory;
 use cil_macros::Instances;
 use cil_syntax::{Bytes, DeclaredName, Keyword, Sign, Statement, Term};
@@ -111,30 +112,75 @@ fn add_listed(
         → AreOwn (namespaces_in instances.now) entries.now xs lists.old.items
         → AreOwn (namespaces_in instances.now) entries.now (xs ++ item_at instances.now at ∷ []) lists.new.items) }
 {
+    let Some(list) = listing_at(entries, guesses, instances, at) else {
+        return Ok(());
+    };
+    if is_at(last[list.class], list.statement) {
+        return Ok(());
+    }
+    add_names(alloc, lists, list.class, list.items)?;
+    last[list.class] = Some(list.statement);
+    Ok(())
+}
+
+/// Adds the names among terms to a list.
+fn add_names(
+    alloc: Global,
+    lists: &mut Vec<Vec<Bytes>>,
+    class: usize,
+    items: &[Term],
+) -> Result<(), NoMemory>
+    requires { class < length lists.now.items }
+    ensures { OnOk result (AreAdded class items.now lists.old.items lists.new.items) }
+{
+    let listed = mem::replace(&mut lists[class], Vec::new(alloc));
+    lists[class] = with_names(alloc, listed, items)?;
+    Ok(())
+}
+
+/// What a statement lists for a class, a class map or a common.
+#[derive(Clone, Copy)]
+pub struct Listing<'t, 'a> {
+    /// The number of the entry for which it is listed.
+    pub class: usize,
+    /// What is listed.
+    pub items: &'t [Term<'a>],
+    /// The number of the statement.
+    pub statement: usize,
+}
+
+/// What the statement at a place lists, if it is outside all optionals. It costs one search by halving.
+fn listing_at<'p, 'a>(
+    entries: &[Entry],
+    guesses: &Guesses,
+    instances: &Instances<'_, 'p, 'a>,
+    at: usize,
+) -> Option<Listing<'p, 'a>>
+    requires rising { IsStrictlySortedBy (on key_of by_name_cmp) entries.now }
+    requires within { at < length (items_in instances.now) }
+    ensures { MatchOption result (ListsNothing instances.now entries.now at) (IsListing instances.now entries.now at) }
+{
     // What is known of the numbers of namespaces.
     instances.namespaces();
     if !instances.is_outside(at) {
-        return Ok(());
+        return None;
     }
     let statement = instances.statement_there(at);
     let Some(list) = list_of(statement) else {
-        return Ok(());
+        return None;
     };
     let space = instances.space(at);
     let Some(class) = entry_in(entries, guesses, space, list.name.bytes, list.sign) else {
-        return Ok(());
+        return None;
     };
     let Some(items) = statement.listed_behind_name() else {
-        return Ok(());
+        return None;
     };
-    let number = instances.statement(at);
-    if is_at(last[class], number) {
-        return Ok(());
-    }
-    let listed = mem::replace(&mut lists[class], Vec::new(alloc));
-    lists[class] = with_names(alloc, listed, items)?;
-    last[class] = Some(number);
-    Ok(())
+    Some(Listing {
+        class,
+        items,
+        statement: instances.statement(at),
+    })
 }
 
 /// The name of a list of permissions.

@@ -1,6 +1,6 @@
 //! The rows from which the declared names are gathered: one for each declaration of an instance, and one for object_r.
 
-ghost use Rattle.std.specs.Prelude.{◌≡◌, ◌↔◌, ◌+◌, ◌<◌, [], IfOk, IsTrue, OnOk, length};
+ghost use Rattle.std.specs.Prelude.{◌≡◌, ◌↔◌, ◌∷◌, ◌+◌, ◌++◌, ◌<◌, [], IfOk, IsTrue, OnOk, length};
 ghost use Rattle.cil_macros.specs.Items.{items_in};
 ghost use Rattle.cil_names.specs.DeclareRows.{AreAllRows, AreRowsUpTo, object_row, round_at, row_key};
 ghost use Rattle.cil_names.specs.Entries.{by_name_cmp};
@@ -32,7 +32,7 @@ pub fn rows_of<'a>(
     ensures { IfOk result (λ rows. AreAllRows instances.now rows.items) }
 {
     let mut rows = Vec::new(alloc);
-    rows.push(object_row(instances))?;
+    push_row(&mut rows, object_row(instances))?;
     for at in 0..instances.len() {
         push_rows(&mut rows, instances, at)?;
     }
@@ -67,12 +67,22 @@ fn push_rows<'a>(
     let Some(name) = statement.declared_name() else {
         return Ok(());
     };
-    rows.push(Row {
-        space: instances.space(at),
-        name: Excerpt::of(name.bytes),
-        kind,
-        at: Some(at),
-    })?;
+    push_row(
+        rows,
+        Row {
+            space: instances.space(at),
+            name: Excerpt::of(name.bytes),
+            kind,
+            at: Some(at),
+        },
+    )
+}
+
+/// Adds a row.
+fn push_row<'a>(rows: &mut Vec<Row<'a>>, row: Row<'a>) -> Result<(), NoMemory>
+    ensures { OnOk result (rows.new.items ≡ rows.old.items ++ row.entry ∷ []) }
+{
+    rows.push(row)?;
     Ok(())
 }
 

@@ -1,32 +1,28 @@
 //! The permissions that classes share by commons.
 
-ghost use Rattle.std.specs.Prelude.{◌≡◌, ◌⊎◌, ◌<◌, ◌≤◌, ◌++◌, All, Contains, IfOk, List, MatchOption, None, OnOk, Some, false, length, refl, true};
+ghost use Rattle.std.specs.Prelude.{◌≡◌, ◌⊎◌, ◌+◌, ◌<◌, ◌≤◌, ◌++◌, All, IfOk, List, MatchOption, None, OnOk, Some, false, length, refl, take, true};
 ghost use Rattle.std.specs.Cmp.{eq_by_cmp_equiv, partial_equiv_from_equiv, partial_order_from_total};
-ghost use Rattle.std.specs.Global.{Vec as Vector};
-ghost use Rattle.std.specs.List.Sorted.{IsStrictlySortedBy};
 ghost use Rattle.std.specs.Ordering.{as_partial_cmp, eq_by_cmp};
-ghost use Rattle.cil_base.specs.Lists.{Lists, text_cmp};
-ghost use Rattle.cil_base.specs.declared.bytes.Bytes.{Bytes as Text};
 ghost use Rattle.cil_macros.specs.Item.{Item, nobody};
 ghost use Rattle.cil_macros.specs.Items.{item_at, items_in, namespaces_in, word_at};
-ghost use Rattle.cil_names.specs.Entries.{AreEntries, AreOrdered, is_declared_at, scoped};
+ghost use Rattle.cil_names.specs.Entries.{AreEntries, AreOrdered, is_declared_at, listed, scoped};
 ghost use Rattle.cil_names.specs.Resolves.{is_class_common as joins};
 ghost use Rattle.cil_base.specs.Records.{AreRecordsOf, IsRecordOf};
-ghost use Rattle.cil_names.specs.Shared.{AreApart, AreShared, HaveCommons, IsAddedTo, IsOutside, IsPairOf, Shares};
+ghost use Rattle.cil_names.specs.Shared.{AreShared, IsOutside, IsPairOf, Shares};
 ghost use Rattle.cil_names.specs.SharedOrder.{shared_cmp, shared_total};
 
+use crate::by_name::entry_in;
+use crate::enabled::is_declared;
 use crate::entry::Entry;
 use crate::guesses::Guesses;
-use crate::look::{entry_in, is_declared};
 use crate::names::Names;
 use crate::permission_word::class_named;
 use cil_base::NoMemory;
 use cil_blocks::{Namespaces, ScopeList};
 use cil_macros::Instances;
-use cil_syntax::{Bytes, Keyword, Sign, Word};
+use cil_syntax::{Keyword, Sign, Word};
 use std::alloc::Global;
 use std::cmp::Ordering;
-use std::mem;
 
 /// A class that shares the permissions of a common, by the numbers of their entries. Pairs are compared by the class, and then by
 /// the common.
@@ -102,11 +98,38 @@ fn all_shared(alloc: Global, names: &Names, instances: &Instances) -> Result<Vec
     let mut shared = Vec::new(alloc);
     let mut scope = ScopeList::new(alloc);
     for at in 0..instances.len() {
-        if let Some(one) = shared_at(alloc, names, instances, at, &mut scope)? {
-            shared.push(one)?;
-        }
+        push_at(alloc, names, instances, at, &mut scope, &mut shared)?;
     }
     Ok(shared)
+}
+
+/// Adds the pair that the statement at a place joins, if it joins one.
+fn push_at(
+    alloc: Global,
+    names: &Names,
+    instances: &Instances,
+    at: usize,
+    scope: &mut ScopeList,
+    shared: &mut Vec<Shared>,
+) -> Result<(), NoMemory>
+    requires entries { AreEntries (namespaces_in instances.now) (items_in instances.now) names.now }
+    requires within { at < length (items_in instances.now) }
+    ensures { OnOk result (AreRecordsOf (Shares (items_in instances.now)) (IsPairOf (namespaces_in instances.now) names.now) (take at (items_in instances.now)) shared.old.items
+        → AreRecordsOf (Shares (items_in instances.now)) (IsPairOf (namespaces_in instances.now) names.now) (take (at + 1) (items_in instances.now)) shared.new.items) }
+{
+    let one = shared_at(alloc, names, instances, at, scope)?;
+    push_shared(shared, one)
+}
+
+/// Adds a pair, if there is one.
+fn push_shared(shared: &mut Vec<Shared>, one: Option<Shared>) -> Result<(), NoMemory>
+    ensures { OnOk result (shared.new.items ≡ shared.old.items ++ listed one) }
+{
+    let Some(pair) = one else {
+        return Ok(());
+    };
+    shared.push(pair)?;
+    Ok(())
 }
 
 /// The class and the common that the statement at a place joins, if it is a classcommon statement whose words name both. Classes
@@ -224,55 +247,4 @@ pub(crate) fn where_always(entries: &[Entry], number: usize) -> Option<usize>
     } else {
         None
     }
-}
-
-/// Adds the permissions of commons to those of the classes that share them. Each costs a copy of the names of its common, and a
-/// sort of all names of its class.
-pub fn with_commons(
-    alloc: Global,
-    lists: Vec<Vec<Bytes>>,
-    shared: &[Shared],
-) -> Result<Vec<Vec<Bytes>>, NoMemory>
-    requires rising { (v : Vector Text) → Contains lists.items v → IsStrictlySortedBy text_cmp v.items }
-    requires apart { AreApart (length lists.items) shared.now }
-    ensures { IfOk result (λ all. HaveCommons lists.items shared.now all.items) }
-{
-    let mut all = lists;
-    for one in shared {
-        add_common(alloc, &mut all, one)?;
-    }
-    Ok(all)
-}
-
-/// Adds the permissions of a common to those of a class.
-fn add_common(alloc: Global, lists: &mut Vec<Vec<Bytes>>, one: &Shared) -> Result<(), NoMemory>
-    requires class { one.now.class < length lists.now.items }
-    requires common { one.now.common < length lists.now.items }
-    requires apart { one.now.common ≡ one.now.class → ⊥ }
-    ensures { OnOk result (IsAddedTo one.now lists.old.items lists.new.items) }
-{
-    let listed = mem::replace(&mut lists[one.class], Vec::new(alloc));
-    let joined = with_names(alloc, listed, lists[one.common].as_slice())?;
-    lists[one.class] = joined;
-    Ok(())
-}
-
-/// Some names and others, in byte order, each once.
-fn with_names(alloc: Global, mut names: Vec<Bytes>, more: &[Bytes]) -> Result<Vec<Bytes>, NoMemory>
-    ensures { IfOk result (λ all. Lists text_cmp (Contains (names.items ++ more.now)) all.items) }
-{
-    push_copies(alloc, &mut names, more)?;
-    names.sort_unstable();
-    names.dedup();
-    Ok(names)
-}
-
-/// Adds copies of some names.
-fn push_copies(alloc: Global, names: &mut Vec<Bytes>, more: &[Bytes]) -> Result<(), NoMemory>
-    ensures { OnOk result (names.new.items ≡ names.old.items ++ more.now) }
-{
-    for name in more {
-        names.push(Bytes::copy_of(alloc, name.as_slice())?)?;
-    }
-    Ok(())
 }

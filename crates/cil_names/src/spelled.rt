@@ -1,6 +1,6 @@
 //! Qualified names: the names of a namespace from the outermost on, and the name of a symbol, joined by dots.
 
-ghost use Rattle.std.specs.Prelude.{◌≡◌, ◌≤◌, ◌∷◌, IfOk, length};
+ghost use Rattle.std.specs.Prelude.{◌≡◌, ◌≤◌, ◌∷◌, ◌++◌, IfOk, length};
 ghost use Rattle.cil_faults.specs.Namespaces.{qualified};
 ghost use Rattle.cil_blocks.specs.Namespaces.{space_at};
 
@@ -25,7 +25,14 @@ pub fn spelled(
     }
     namespaces.are_namespaces();
     let around = spelled_space(alloc, namespaces, space)?;
-    let mut bytes = Vec::from_slice(alloc, around.as_slice())?;
+    joined(alloc, around.as_slice(), name)
+}
+
+/// Two names, joined by a dot.
+fn joined(alloc: Global, around: &[u8], name: &[u8]) -> Result<Bytes, NoMemory>
+    ensures { IfOk result (λ bytes. bytes ≡ around.now ++ 46 ∷ name.now) }
+{
+    let mut bytes = Vec::from_slice(alloc, around)?;
     bytes.push(b'.')?;
     bytes.extend_from_slice(name)?;
     Ok(Bytes::from_vec(bytes))

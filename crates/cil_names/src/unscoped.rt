@@ -8,13 +8,14 @@ ghost use Rattle.cil_blocks.specs.declared.namespaces.Space.{Space};
 ghost use Rattle.cil_names.specs.Entries.{AreOrdered, by_name_cmp, candidates_of, key_of, listed, scoped};
 ghost use Rattle.cil_names.specs.Soles.{IsSoleOf, in_scope};
 
+use crate::by_name::is_wanted_in;
 use crate::entry::Entry;
 use crate::guesses::Guesses;
 use crate::look::{push_candidates, push_listed};
-use crate::once::sole;
+use crate::sought::seek;
 use cil_base::NoMemory;
 use cil_blocks::{Namespaces, ScopeList};
-use cil_syntax::{Word, path_of};
+use cil_syntax::Word;
 
 /// How many namespaces are sooner gone through than asked.
 const SHORT_SCOPE: usize = 8;
@@ -29,13 +30,7 @@ pub fn unscoped_entry(entries: &[Entry], guesses: &Guesses, word: &Word) -> Opti
     let Some(place) = sole_word(entries, guesses, word) else {
         return None;
     };
-    let Some(entry) = entries.get(place) else {
-        return None;
-    };
-    if entry.space != 0 {
-        return None;
-    }
-    if !word.sign.wants(entry.kind) {
+    if !is_wanted_in(entries, place, 0, word.sign) {
         return None;
     }
     Some(place)
@@ -98,15 +93,17 @@ fn sole_word(entries: &[Entry], guesses: &Guesses, word: &Word) -> Option<usize>
     requires { IsStrictlySortedBy (on key_of by_name_cmp) entries.now }
     ensures { IfSome result (IsSoleOf entries.now word.now) }
 {
-    let path = path_of(word.bytes.as_slice());
-    if path.global {
-        return None;
-    }
-    if !path.dotless {
-        return None;
-    }
-    let Some(rank) = word.sign.rank() else {
+    let Some(sought) = seek(entries, guesses, word) else {
         return None;
     };
-    sole(entries, guesses, path.names, rank)
+    if sought.path.global {
+        return None;
+    }
+    let Some(same) = sought.same else {
+        return None;
+    };
+    if same.end - same.first != 1 {
+        return None;
+    }
+    Some(same.first)
 }

@@ -20,7 +20,7 @@ pub fn worded(alloc: Global, instances: &Instances) -> Result<Vec<bool>, NoMemor
     ensures { IfOk result (λ flags. AreWorded instances.now flags.items) }
 {
     let statements = instances.spaces().statements();
-    let mut flags = Vec::with_capacity(alloc, statements.len())?;
+    let mut flags = Vec::new(alloc);
     for statement in statements {
         flags.push(is_worded(statement))?;
     }

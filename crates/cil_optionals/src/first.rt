@@ -12,9 +12,8 @@ use crate::checking::Check;
 use crate::chosen::Chosen;
 use crate::parts::Parts;
 use crate::reason::Reason;
-use crate::removal::small;
 use crate::times::{entry_times, names_after, time_of, times_of};
-use cil_base::NoMemory;
+use cil_base::{NoMemory, short};
 use cil_names::Entry;
 use std::alloc::Global;
 
@@ -85,9 +84,9 @@ fn note(
         return Ok(());
     };
     let reason = Reason::Missing {
-        optional: small(optional)?,
-        instance: small(at)?,
-        word: small(word)?,
+        optional: short(optional)?,
+        instance: short(at)?,
+        word: short(word)?,
     };
     words[optional] = Some(reason);
     Ok(())

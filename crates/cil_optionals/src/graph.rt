@@ -1,7 +1,6 @@
 //! The graph of a guess: optionals, entries and words, and what goes out with what.
 
 use crate::parts::Parts;
-use crate::removal::small;
 use cil_base::NoMemory;
 use cil_names::Entry;
 use cil_settle::Edge;

@@ -11,8 +11,8 @@ use crate::chosen::Chosen;
 use crate::graph::{Graph, WordNode};
 use crate::parts::Parts;
 use crate::reason::Reason;
-use crate::removal::{optionals_of, small};
-use cil_base::NoMemory;
+use crate::removal::optionals_of;
+use cil_base::{NoMemory, short};
 use cil_macros::Instances;
 use cil_names::{Entry, Names, OptSet, is_set};
 use cil_settle::{Edge, Settled, settle, sort_edges};
@@ -167,7 +167,7 @@ impl Removal {
     ) -> Result<Option<Reason>, NoMemory> {
         if self.is_out(parts.inside(optional)) {
             return Ok(Some(Reason::ParentOut {
-                optional: small(optional)?,
+                optional: short(optional)?,
             }));
         }
         missing(words, self.cause(optional))
@@ -194,8 +194,8 @@ fn missing(words: &[WordNode], number: Option<usize>) -> Result<Option<Reason>, 
         return Ok(None);
     };
     Ok(Some(Reason::Missing {
-        optional: small(word.optional)?,
-        instance: small(word.instance)?,
-        word: small(word.word)?,
+        optional: short(word.optional)?,
+        instance: short(word.instance)?,
+        word: short(word.word)?,
     }))
 }

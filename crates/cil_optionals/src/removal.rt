@@ -13,7 +13,7 @@ use crate::chosen::Chosen;
 use crate::declared::names_one;
 use crate::parts::Parts;
 use crate::reason::Reason;
-use cil_base::NoMemory;
+use cil_base::{NoMemory, short};
 use cil_names::{Entry, OptSet, is_set};
 use std::alloc::Global;
 
@@ -102,9 +102,9 @@ fn judged(
         return Ok(None);
     };
     Ok(Some(Reason::Missing {
-        optional: small(optional)?,
-        instance: small(at)?,
-        word: small(word)?,
+        optional: short(optional)?,
+        instance: short(at)?,
+        word: short(word)?,
     }))
 }
 
@@ -116,7 +116,7 @@ fn parent_out(left: &[bool], at: usize) -> Result<Option<Reason>, NoMemory>
         return Ok(None);
     }
     Ok(Some(Reason::ParentOut {
-        optional: small(at)?,
+        optional: short(at)?,
     }))
 }
 
@@ -131,14 +131,4 @@ fn first_lacking(parts: &Parts, at: usize, entries: &[Entry], left: &[bool]) -> 
         }
     }
     None
-}
-
-/// The same number in four bytes. Out of memory where it does not fit.
-pub(crate) fn small(number: usize) -> Result<u32, NoMemory>
-    ensures { IfOk result (λ same. same ≡ number) }
-{
-    if number > u32::MAX as usize {
-        return Err(NoMemory);
-    }
-    Ok(number as u32)
 }

@@ -29,8 +29,8 @@ ghost use Rattle.cil_rules.specs.Records.{Branching, CaseBy, IsPut, IsRuleOf, Is
 
 use crate::branch_number::branch_number;
 use crate::rule::{NamedRule, Reach};
-use crate::sides::{short, some_at, target_of};
-use cil_base::NoMemory;
+use crate::sides::{some_at, target_of};
+use cil_base::{NoMemory, short};
 use cil_classes::{Class, ClassId, GivenPermissions, push_perms};
 use cil_conditions::Branches;
 use cil_macros::Instances;

@@ -16,7 +16,7 @@ ghost use Rattle.cil_rules.specs.Kept.{set_named, target_named};
 ghost use Rattle.cil_rules.specs.Records.{HasTarget, IsTargetOf};
 
 use crate::rule::Reach;
-use cil_base::NoMemory;
+use cil_base::{NoMemory, short};
 use cil_names::{Meaning, meaning_at};
 use cil_sets::Numbers;
 use cil_syntax::{Op, Term};
@@ -48,16 +48,6 @@ fn is_empty_at(sets: &[Numbers], d: usize) -> bool
         Some(set) => set.is_empty(),
         None => true,
     }
-}
-
-/// A number in four bytes. A table has room for 4,294,967,296 of them; beyond these it is out of memory.
-pub fn short(number: usize) -> Result<u32, NoMemory>
-    ensures { IfOk result (λ same. same ≡ number) }
-{
-    if number > u32::MAX as usize {
-        return Err(NoMemory);
-    }
-    Ok(number as u32)
 }
 
 /// What a term of a rule reaches, by meanings that begin with those of its words; none where it reaches no type.

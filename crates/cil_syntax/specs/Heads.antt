@@ -99,11 +99,6 @@ level_heads =
     level_comparisons (codes "eq") ops.Equal ++ level_comparisons (codes "neq") ops.Unequal ++ level_comparisons (codes "dom") ops.Dominates
     ++ level_comparisons (codes "domby") ops.DominatedBy ++ level_comparisons (codes "incomp") ops.Incomparable
 
--- the comparisons of levels that a language has
-abbrev pub levels_compared : Language → List Head
-levels_compared languages.LevelConstraints = level_heads
-levels_compared language = []
-
 -- what the lists of a language say by their first words
 unfoldable pub heads : Language → List Head
 heads (languages.Sets sign) = operators (languages.Sets sign) sets_are_taken ++ exclusive (languages.Sets sign) sets_are_taken ∷ ranges sign

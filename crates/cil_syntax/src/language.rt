@@ -5,8 +5,8 @@
 ghost use Rattle.std.specs.Prelude.{◌≡◌, ◌++◌, MatchOption, None, Some, map, true, ℕ};
 ghost use Rattle.cil_syntax.specs.declared.kind.Language.{Language};
 ghost use Rattle.cil_sexpr.specs.View.{node_of, nodes_of};
-ghost use Rattle.cil_syntax.specs.Spoken.{HasHead, HasHeadOf, head_seen, words_seen};
-ghost use Rattle.cil_syntax.specs.Heads.{begins_with, constraint_heads, first_words, has_ranges, heads, levels_compared, operators, other_op, word_before};
+ghost use Rattle.cil_syntax.specs.Spoken.{HasHead, HasHeadOf, head_seen, levels_compared, words_seen};
+ghost use Rattle.cil_syntax.specs.Heads.{begins_with, constraint_heads, first_words, has_ranges, heads, operators, other_op, word_before};
 ghost use Rattle.cil_syntax.specs.Readings.{cell_of, cells_of};
 ghost use Rattle.cil_syntax.specs.Shapes.{is_this_word, has_words, is_of_sets, word_sign};
 

@@ -7,6 +7,7 @@ use crate::stop::Stop;
 use crate::term::Term;
 
 /// Puts a term that was read behind others.
+#[inline]
 pub(crate) fn add_read<'a>(
     terms: &mut Vec<Term<'a>>,
     read: Result<Term<'a>, Stop>,

@@ -10,7 +10,6 @@ ghost use Rattle.cil_syntax.specs.Shapes.{list_of, many, statements, tagged};
 ghost use Rattle.cil_syntax.specs.Told.{TellAll, Tells};
 
 use crate::language::is_this_word;
-use crate::parts::add_read;
 use crate::reader::Reader;
 use crate::shape::{Row, Shape};
 use crate::stop::Stop;
@@ -168,8 +167,8 @@ impl<'r, 'a> Reader<'r, 'a> {
         }
         let mut terms = Vec::with_capacity(self.alloc, nodes.len())?;
         for index in 0..nodes.len() {
-            let read = self.read_node(&shapes[index], &nodes[index], faults);
-            add_read(&mut terms, read)?;
+            let term = self.read_node(&shapes[index], &nodes[index], faults)?;
+            terms.push(term)?;
         }
         Ok(terms)
     }
@@ -186,8 +185,8 @@ impl<'r, 'a> Reader<'r, 'a> {
     {
         let mut terms = Vec::with_capacity(self.alloc, nodes.len())?;
         for node in nodes {
-            let read = self.read_node(shape, node, faults);
-            add_read(&mut terms, read)?;
+            let term = self.read_node(shape, node, faults)?;
+            terms.push(term)?;
         }
         Ok(terms)
     }

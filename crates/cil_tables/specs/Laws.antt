@@ -51,9 +51,9 @@ is_flat keyword = true
 abbrev pub AreFlatModules : List (List ℕ) → Type 0
 AreFlatModules modules = (w : Written) → IsWritten modules w → is_flat w.statement.keyword ≡ true
 
--- readable modules compile to tables, or they have a list of faults. It is said of modules without blocks, macros and optionals:
--- with them it rests on the contents of blocks and what calls bring being finite, or more than 1,000,000. It is said of modules whose
--- aliases and attributes have no members: with these it rests on a family of their members. And it is said of modules whose class
+-- readable modules compile to tables, or they have a list of faults. It is said of modules without blocks, macros, calls, optionals
+-- and booleanifs: with them it rests on the contents of blocks and what calls bring being finite, or more than 1,000,000. It is said of
+-- modules without aliases whose attributes have no members: with these it rests on a family of their members. And it is said of modules whose class
 -- permissions and class maps give nothing: with these it rests on the least assignment. Nor do they forbid anything: with that it
 -- rests on what two statements cover together being finite
 abbrev pub AlwaysCompilesOrFails : Type 0

@@ -81,7 +81,7 @@ pub fn compile(alloc: Global, modules: &ModuleSet) -> Result<Compiled, Failure>
 /// What all that stands compiles to.
 ///
 /// Errors: the faults of the first step that has some (calls, the limit of instances, clashing declarations, unresolved words
-/// outside optionals, aliases, attributes and classes), or out of memory.
+/// outside optionals, aliases, attributes, booleans and classes, forbidden rules), or out of memory.
 fn standing_policy(alloc: Global, stands: &Spaces) -> Result<Compiled, Failure>
     requires standings { AreStandings stands.now }
     requires nested { IsNested (statements_in stands.now) }
@@ -97,8 +97,8 @@ fn standing_policy(alloc: Global, stands: &Spaces) -> Result<Compiled, Failure>
 
 /// What all that is placed compiles to.
 ///
-/// Errors: the faults of the first step that has some (clashing declarations, unresolved words outside optionals, classes that are
-/// too wide), or out of memory.
+/// Errors: the faults of the first step that has some (clashing declarations, unresolved words outside optionals, aliases,
+/// attributes, booleans and classes, forbidden rules), or out of memory.
 fn placed_policy(alloc: Global, instances: &Instances) -> Result<Compiled, Failure>
     requires { (es : List AnEntry) → AreEntries (namespaces_in instances.now) (items_in instances.now) es → ArePlainNames (namespaces_in instances.now) es }
     ensures compiled { IfOk result (IsCompiledOf (items_in instances.now)) }

@@ -1,6 +1,6 @@
 //! The table of what all instances ask for, filled in one walk before optionals are chosen.
 
-ghost use Rattle.std.specs.Prelude.{◌≡◌, ◌≤◌, ◌<◌, ◌++◌, ◌∷◌, [], IfOk, MatchOption, OnOk, get_or, length, slice_range};
+ghost use Rattle.std.specs.Prelude.{◌≡◌, ◌≤◌, ◌<◌, ◌++◌, [], IfOk, MatchOption, OnOk, get_or, length, slice_range};
 ghost use Rattle.cil_macros.specs.Items.{item_at, items_in, namespaces_in};
 ghost use Rattle.cil_names.specs.Entries.{AreEntries};
 ghost use Rattle.cil_names.specs.Unresolved.{ArePermissions};
@@ -10,10 +10,10 @@ ghost use Rattle.cil_words.specs.Scopes.{AreScopes};
 ghost use Rattle.cil_words.specs.Table.{AreAsks, AreNumberedAsks, could_in, numbered_asks, word_ask};
 
 use crate::cells::Cells;
-use crate::number_lists::{end_at, small, start_at};
+use crate::number_lists::{end_at, start_at};
 use crate::scopes::Scopes;
 use crate::walk::Walk;
-use cil_base::NoMemory;
+use cil_base::{NoMemory, short};
 use cil_macros::Instances;
 use cil_names::Names;
 use cil_names::reading::Reading;
@@ -71,7 +71,7 @@ pub fn asks_of<'r, 'a>(
     let mut cells = Cells::new(alloc);
     let mut scopes = Scopes::new(alloc);
     for at in 0..instances.len() {
-        starts.push(small(cells.len())?)?;
+        starts.push(short(cells.len())?)?;
         maker.add(at, &mut scopes, &mut cells)?;
     }
     Ok(Asks { starts, cells })

@@ -2,9 +2,9 @@
 
 ghost use Rattle.std.specs.Prelude.{◌≡◌, ◌<◌, ◌∷◌, [], Some, length, slice_get, ℕ};
 
-use crate::number_lists::{Lists, small};
+use crate::number_lists::Lists;
 use crate::pairs::{Guess, Pairs};
-use cil_base::NoMemory;
+use cil_base::{NoMemory, short};
 use cil_names::{Class, ClassPermission};
 use std::alloc::Global;
 use std::marker::Model;
@@ -107,7 +107,7 @@ impl Cells {
     pub fn push_one(&mut self, number: usize) -> Result<(), NoMemory>
         ensures { OnOk result (self.new ≡ self.old ++ word_ask (number ∷ []) ∷ []) }
     {
-        let cell = small(number)?;
+        let cell = short(number)?;
         if cell >= PAIRED {
             return Err(NoMemory);
         }

@@ -3,7 +3,7 @@
 ghost use Rattle.std.specs.Prelude.{◌≡◌, ◌≤◌, ◌+◌, ◌++◌, IfOk, IsTrue, OnOk, length, slice_get, slice_range};
 
 use crate::slots::{guess_at, note};
-use cil_base::NoMemory;
+use cil_base::{NoMemory, short};
 use std::alloc::Global;
 use std::marker::Model;
 
@@ -116,20 +116,10 @@ impl Lists {
         ensures pushed { OnOk result (self.new ≡ self.old ++ list.now ∷ []) }
         ensures none_lost { length self.old ≤ length self.new }
     {
-        let start = small(self.numbers.len())?;
+        let start = short(self.numbers.len())?;
         self.starts.push(start)?;
         push_small(&mut self.numbers, list)?;
         Ok(())
-    }
-}
-
-/// A number in four bytes. Error: out of memory, for one that needs more.
-pub fn small(number: usize) -> Result<u32, NoMemory>
-    ensures { IfOk result (λ n. n ≡ number) }
-{
-    match u32::try_from(number) {
-        Ok(n) => Ok(n),
-        Err(_) => Err(NoMemory),
     }
 }
 
@@ -139,7 +129,7 @@ fn push_small(numbers: &mut Vec<u32>, list: &[usize]) -> Result<(), NoMemory>
     ensures none_lost { length numbers.old.items ≤ length numbers.new.items }
 {
     for number in list {
-        let one = small(*number)?;
+        let one = short(*number)?;
         numbers.push(one)?;
     }
     Ok(())

@@ -6,9 +6,8 @@ ghost use Rattle.cil_words.specs.Cells.{IsLonger};
 
 use crate::cells::{cell_at, one};
 use crate::hints::{Hint, Hints};
-use crate::number_lists::small;
 use crate::slots::{guess_at, note};
-use cil_base::NoMemory;
+use cil_base::{NoMemory, short};
 use cil_names::Meaning;
 use std::alloc::Global;
 
@@ -193,7 +192,7 @@ fn push_owner(owners: &mut Vec<u32>, class: usize) -> Result<(), NoMemory>
     ensures pushed { OnOk result (owners.new.items ≡ owners.old.items ++ class ∷ []) }
     ensures longer { IsLonger owners.old.items owners.new.items }
 {
-    let owner = small(class)?;
+    let owner = short(class)?;
     owners.push(owner)?;
     Ok(())
 }

@@ -18,41 +18,37 @@ returns-in_err-opened c =
     (subst (λ (ss : List Statement). Fails (InheritStep (program_of ss)) c.in_err-opened.field-0.0) c.statements-statements.ensures.same
     (fails_so (program_of c.statements-statements.result.now) c.in_err-opened.field-0.0 c.in_err-opened.ensures))
 
-pub returns-in_default : goal.returns-in_default
-returns-in_default c =
-    subst (λ (ss : List Statement). AreFaults (InheritStep (program_of ss)) c.in_ok-over_the_limit.field-0) c.statements-statements.ensures.same
-    (over_so (program_of c.statements-statements.result.now) c.in_ok-over_the_limit.field-0 c.in_ok-opened.ensures.1
-    (is_none _ c.in_ok-entries.field-0 c.in_default.is c.in_ok-entries.ensures.many c.in_ok-opened.ensures.1) c.in_ok-over_the_limit.ensures)
+pub returns-in_err-entries : goal.returns-in_err-entries
+returns-in_err-entries c =
+    refused (λ (s : Standings). (statements_in s ≡ c.args.program.now) × AreStandings s) (InheritStep (program_of c.args.program.now)) c.from_residual-in_err-entries.result _
+    c.from_residual-in_err-entries.ensures.1
+    (subst (λ (ss : List Statement). Fails (InheritStep (program_of ss)) c.in_err-entries.field-0.0) c.statements-statements.ensures.same c.in_err-entries.ensures)
+
+pub entries_of-requires-clause-opened : goal.entries_of-requires-clause-opened
+entries_of-requires-clause-opened c =
+    subst (AreOpened (program_of c.statements-statements.result.now)) (sym c.as_slice.ensures.value) c.in_ok-opened.ensures.0
+
+pub places_of-requires-clause-opened : goal.places_of-requires-clause-opened
+places_of-requires-clause-opened c =
+    subst (AreOpened (program_of c.statements-statements.result.now)) (sym c.as_slice-2.ensures.value) c.in_ok-opened.ensures.0
 
 pub returns : goal.returns
 returns c = (
   (
     c.statements-statements.ensures.same,
     record {
-      contents = are_contents c.statements-statements.result.now c.in-Some.entries.items (subst Rattle.cil_syntax.specs.Program.IsNested (sym c.statements-statements.ensures.same) c.statements-statements.ensures.nested)
-          c.in_ok-opened.ensures.1 (is_some _ c.in_ok-entries.field-0 c.in-Some.entries c.in-Some.is c.in_ok-entries.ensures.all)
-          (is_some _ c.in_ok-entries.field-0 c.in-Some.entries c.in-Some.is c.in_ok-entries.ensures.few);
+      contents = c.in_ok-entries.ensures.0;
       shallow = subst Rattle.cil_syntax.specs.Depths.AreShallow (sym c.statements-statements.ensures.same) c.statements-statements.ensures.shallow;
       places = subst (λ (es : List Entry). ArePlaces (program_of c.statements-statements.result.now) es c.in_ok-located.located.namespaces (all_numbered c.in_ok-located.located.namespaces c.in_ok-located.located.places))
           c.as_slice-3.ensures.value c.in_ok-located.ensures;
     },
   ),
-  subst (λ (ss : List Statement). (f : _) → InheritStep (program_of ss) f → ⊥) c.statements-statements.ensures.same
-      (no_more c.statements-statements.result.now c.in-Some.entries.items
-      (are_contents c.statements-statements.result.now c.in-Some.entries.items (subst Rattle.cil_syntax.specs.Program.IsNested (sym c.statements-statements.ensures.same) c.statements-statements.ensures.nested)
-      c.in_ok-opened.ensures.1 (is_some _ c.in_ok-entries.field-0 c.in-Some.entries c.in-Some.is c.in_ok-entries.ensures.all)
-      (is_some _ c.in_ok-entries.field-0 c.in-Some.entries c.in-Some.is c.in_ok-entries.ensures.few))),
+  subst (λ (ss : List Statement). (f : _) → InheritStep (program_of ss) f → ⊥) c.statements-statements.ensures.same c.in_ok-entries.ensures.1,
 )
-
-pub places_of-requires-clause-opened : goal.places_of-requires-clause-opened
-places_of-requires-clause-opened c =
-    subst (AreOpened (program_of c.statements-statements.result.now)) (sym c.as_slice-2.ensures.value) c.in_ok-opened.ensures.0
 
 pub invariant_of-result : goal.invariant_of-result
 invariant_of-result c = record {
-  contents = are_contents c.statements-statements.result.now c.in-Some.entries.items (subst Rattle.cil_syntax.specs.Program.IsNested (sym c.statements-statements.ensures.same) c.statements-statements.ensures.nested)
-      c.in_ok-opened.ensures.1 (is_some _ c.in_ok-entries.field-0 c.in-Some.entries c.in-Some.is c.in_ok-entries.ensures.all)
-      (is_some _ c.in_ok-entries.field-0 c.in-Some.entries c.in-Some.is c.in_ok-entries.ensures.few);
+  contents = c.in_ok-entries.ensures.0;
   shallow = subst Rattle.cil_syntax.specs.Depths.AreShallow (sym c.statements-statements.ensures.same) c.statements-statements.ensures.shallow;
   places = subst (λ (es : List Entry). ArePlaces (program_of c.statements-statements.result.now) es c.in_ok-located.located.namespaces (all_numbered c.in_ok-located.located.namespaces c.in_ok-located.located.places))
       c.as_slice-3.ensures.value c.in_ok-located.ensures;

@@ -4,6 +4,15 @@ use Rattle.cil_index.specs.Searched.{rules_in}
 use Rattle.cil_index.proofs.CoverLemmas.{in_one_of, none_at_all, only_these}
 use Rattle.cil_index.proofs.cover.covered.Goals as goal
 
+pub by_alone-requires : goal.by_alone-requires
+by_alone-requires c = record { laid_out = c.requires.index.laid_out; memberships = c.requires.memberships; aims = c.aims_of-aims.ensures }
+
+pub by_large-requires : goal.by_large-requires
+by_large-requires c = record { laid_out = c.requires.index.laid_out; memberships = c.requires.memberships; aims = c.aims_of-aims.ensures }
+
+pub by_own-requires : goal.by_own-requires
+by_own-requires c = record { laid_out = c.requires.index.laid_out; memberships = c.requires.memberships; aims = c.aims_of-aims.ensures }
+
 pub returns : goal.returns
 returns c = λ bit. (
   only_these (is_on c.args.settings.now) (rules_in c.args.searched.now) c.args.asked.now.source c.args.asked.now.target c.args.asked.now.class c.by_alone.result c.by_large.result c.by_own.result

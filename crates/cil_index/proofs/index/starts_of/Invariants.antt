@@ -1,6 +1,6 @@
-use Rattle.std.proofs.Common.{◌≡◌, length}
-use Rattle.cil_index.specs.Entries.{AreStarts}
+use Rattle.std.proofs.Common.{◌≡◌, ◌≤◌, length}
+use Rattle.cil_index.specs.Entries.{AreBefore, AreStarts}
 use Rattle.cil_index.proofs.index.starts_of.Given as goal
 
-abbrev pub invariant-loop-source : goal.invariant-loop-source
-invariant-loop-source l = (length l.starts.items ≡ l.source) × AreStarts l.entries l.starts.items
+abbrev pub invariant-loop-part : goal.invariant-loop-part
+invariant-loop-part l = ((l.at ≤ length l.entries) × AreBefore l.entries l.part l.at) × ((length l.starts.items ≡ l.part) × AreStarts l.entries l.starts.items)

@@ -7,9 +7,9 @@ use Rattle.cil_names.specs.AskedParts.{class_asked, parts_inside}
 use Rattle.cil_names.proofs.AskedPartLemmas.{at_place, closes_asked, form_opened, list_opened, list_read, text_asked, word_asked}
 use Rattle.cil_names.proofs.asked_parts.ask_part.Goals as goal
 
-pub returns-in_ok-push-in-Word-clause-asked : goal.returns-in_ok-push-in-Word-clause-asked
-returns-in_ok-push-in-Word-clause-asked c = λ ps.
-    word_asked ps c.index-parts-at.result (drop (c.args.at + 1) c.args.parts.now) c.args.asked.now.items c.in-Word.word c.copied.result _ c.in-Word.is c.copied.ensures c.in_ok-push-in-Word.ensures.items
+pub returns-in_ok-push_asked-in-Word-clause-asked : goal.returns-in_ok-push_asked-in-Word-clause-asked
+returns-in_ok-push_asked-in-Word-clause-asked c = λ ps.
+    word_asked ps c.index-parts-at.result (drop (c.args.at + 1) c.args.parts.now) c.args.asked.now.items c.in-Word.word c.copied.result _ c.in-Word.is c.copied.ensures c.in_ok-push_asked-in-Word.ensures
     ∙ at_place ps c.args.parts.now c.args.at _ _ _ c.requires c.index-parts-at.is
 
 pub returns-in-Text-clause-asked : goal.returns-in-Text-clause-asked

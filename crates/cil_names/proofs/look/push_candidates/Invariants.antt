@@ -1,6 +1,6 @@
 use Rattle.std.proofs.Common.{◌≡◌, ◌≤◌, ◌++◌, drop, length}
 use Rattle.std.specs.List.{flat_map}
-use Rattle.cil_names.proofs.ScopeLemmas.{could_name}
+use Rattle.cil_names.specs.Sought.{could_name}
 use Rattle.cil_names.proofs.look.push_candidates.Given as goal
 
 abbrev pub invariant-loop-from : goal.invariant-loop-from

@@ -1,3 +1,4 @@
+use Rattle.std.proofs.lemmas.Result.{on_ok_weaker}
 use Rattle.cil_names.proofs.DeclareStatements.{kind_missing, name_missing, row_pushed}
 use Rattle.cil_names.proofs.row.push_rows.Goals as goal
 
@@ -11,5 +12,8 @@ returns-in_default-declared_name c =
 
 pub returns : goal.returns
 returns c =
+    on_ok_weaker c.push_row.result
+    (λ push.
     row_pushed c.args.instances.now c.args.at c.requires c.statement_there-statement.result.now c.statement_there-statement.ensures.is _ c.in-Some.ensures c.in-Some-declared_name.name.at _ _ _ _ _
-    c.space.ensures c.in-Some-declared_name.ensures c.of.ensures c.in_ok-push.ensures.items
+    c.space.ensures c.in-Some-declared_name.ensures c.of.ensures push)
+    c.push_row.ensures

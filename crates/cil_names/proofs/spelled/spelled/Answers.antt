@@ -1,7 +1,6 @@
-use Rattle.std.proofs.Common.{rules, ◌≡◌, List, ℕ, ◌++◌, ◌∷◌, [], ◌∙◌, append_assoc, subst}
+use Rattle.std.proofs.Common.{◌≡◌, List, ℕ, ◌++◌, ◌∷◌, ◌∙◌, ap, subst}
 use Rattle.std.specs.Prelude.{IfOk}
-use Rattle.cil_faults.specs.Namespaces.{qualified}
-use Rattle.cil_blocks.specs.Namespaces.{space_at}
+use Rattle.std.proofs.lemmas.Result.{IfOk-weaker}
 use Rattle.cil_names.proofs.SpelledLemmas.{global_spelled, inner_spelled}
 use Rattle.cil_names.proofs.spelled.spelled.Goals as goal
 
@@ -11,7 +10,9 @@ returns-then-space-eq0 c =
 
 pub returns : goal.returns
 returns c =
-    let around : List ℕ = qualified (space_at c.args.namespaces.now c.args.space) in
-    let whole : c.from_vec.result ≡ (around ++ 46 ∷ []) ++ c.args.name.now = search rules in
-    whole ∙ append_assoc around (46 ∷ []) c.args.name.now
-    ∙ inner_spelled c.args.namespaces.now c.args.name.now c.are_namespaces.ensures c.args.space (λ e. search (rules, e)) c.requires
+    IfOk-weaker c.joined.result _ _
+    (λ bytes is.
+    is
+    ∙ ap (λ (around : List ℕ). around ++ 46 ∷ c.args.name.now) (c.as_slice.ensures ∙ c.in_ok-around.ensures)
+    ∙ inner_spelled c.args.namespaces.now c.args.name.now c.are_namespaces.ensures c.args.space c.if-space-eq0.false c.requires)
+    c.joined.ensures

@@ -27,5 +27,5 @@ returns-clause-noted c =
     let words = c.args.words.now.items in
     word_noted (parts_in check.parts.now) check.times.now check.entries.now c.args.steps c.args.at c.in-Some.optional c.in-Some-step_of.step c.in-Some-first_lacking.word _ words
     (sym c.inside.ensures ∙ c.in-Some.is) c.in-Some-step_of.ensures c.in-Some-first_lacking.ensures
-    (λ i. Missing (c.in_ok-small.ensures i) (c.in_ok-small-2.ensures i) (c.in_ok-small-3.ensures i))
+    (λ i. Missing (c.in_ok-short.ensures i) (c.in_ok-short-2.ensures i) (c.in_ok-short-3.ensures i))
     (goes_within (parts_in check.parts.now) check.times.now check.entries.now c.args.steps c.in-Some.optional c.in-Some-step_of.step words c.in-Some-step_of.ensures c.requires)

@@ -25,7 +25,7 @@ loop-at-preserved c =
     let at = c.loop-at.at in
     let x = item_at i at in
     let within : at < length xs = let h = c.loop-at-test.true in let n = c.len-at-end.ensures.items in omega (arith, h, n) in
-    let start = c.in_ok-small.ensures ∙ c.len-in-loop-at.ensures in
+    let start = c.in_ok-short.ensures ∙ c.len-in-loop-at.ensures in
     let put = c.in_ok-add.ensures.asks in (
       one_mapped f xs at x x [] _ (lists_at c.push.new.self.items c.add.new.cells) within (item_got i at within x) c.loop-at.invariant.0
           (pushed_list c.loop-at.cells (f x) c.loop-at.starts.items c.push.new.self.items c.add.new.cells _ _ c.loop-at.invariant.1 refl start c.in_ok-push.ensures.items put),

@@ -1,6 +1,5 @@
 use Rattle.std.proofs.Common.{subst}
-use Rattle.cil_syntax.specs.Spoken.{HasHeadOf}
-use Rattle.cil_syntax.specs.Heads.{levels_compared}
+use Rattle.cil_syntax.specs.Spoken.{HasHeadOf, levels_compared}
 use Rattle.cil_syntax.proofs.Languages.{has_first, has_second}
 use Rattle.cil_syntax.proofs.kind.Language.find_head.Goals as goal
 

@@ -7,7 +7,7 @@ use Rattle.cil_syntax.specs.Readings.{cells_of, read_row}
 use Rattle.cil_syntax.specs.Told.{AreTold, TellAll}
 use Rattle.cil_sexpr.specs.View.{node_of}
 use Rattle.cil_syntax.specs.Laid.{shape_of}
-use Rattle.cil_syntax.proofs.ItemsRead.{read_added, add_stopped, all_read, many_more, many_end, items_more, items_end, wrong_length}
+use Rattle.cil_syntax.proofs.ItemsRead.{more_read, stop_told, all_read, many_more, many_end, items_more, items_end, wrong_length}
 use Rattle.cil_syntax.proofs.Laid.{read_as, row_as, name_view, looked_up_view, expression_view, fixed_view, left_out_view, any_view, listed_view, tagged_view, items_view, many_view, first_told, second_told, first_row_told, second_row_told, led_told, not_led_told, statements_told}
 use Rattle.cil_syntax.proofs.Behind.{short_told, first_stops, second_stops, then_told}
 use Rattle.cil_syntax.proofs.Expressed.{list_told, list_stops, untagged_told, tagged_told, tagged_stops}
@@ -18,34 +18,34 @@ use Rattle.cil_syntax.proofs.reader.Reader.+nodes.Goals as goal
 pub read_items-returns-then-nodes-shapes : goal.read_items-returns-then-nodes-shapes
 read_items-returns-then-nodes-shapes t c = wrong_length shape_of c.args.self.now.number (space_of c.args.self.now.place.now) c.args.self.now.text.now c.args.nodes.now c.args.shapes.now _ c.if-nodes-shapes.true
 
-pub read_items-returns-in_err-add_read : goal.read_items-returns-in_err-add_read
-read_items-returns-in_err-add_read t c =
-    add_stopped c.args.self.now.number (space_of c.args.self.now.place.now) _ _ _ _ _ _ _ _ _ _ c.loop-index.invariant
+pub read_items-returns-in_err-term : goal.read_items-returns-in_err-term
+read_items-returns-in_err-term t c =
+    stop_told c.args.self.now.number (space_of c.args.self.now.place.now) _ _ _ _ _ _ _ _ _ _ c.loop-index.invariant
     (items_more c.args.self.now.number c.args.self.now.text.now c.args.nodes.now shape_of c.args.shapes.now c.if-nodes-shapes.false _ _ _ c.loop-index-test.true c.index-nodes-index.is c.index-shapes-index.is)
-    c.read_node-read.ensures _ _ c.in_err-add_read.ensures c.from_residual-in_err-add_read.ensures.1
+    c.in_err-term.ensures c.from_residual-in_err-term.ensures.1
 
 pub read_items-loop-index-preserved : goal.read_items-loop-index-preserved
 read_items-loop-index-preserved t c =
-    read_added c.args.self.now.number (space_of c.args.self.now.place.now) _ _ _ _ _ _ _ _ _ _ c.loop-index.invariant
+    more_read c.args.self.now.number (space_of c.args.self.now.place.now) _ _ _ _ _ _ _ _ c.in_ok-term.term _ c.loop-index.invariant
     (items_more c.args.self.now.number c.args.self.now.text.now c.args.nodes.now shape_of c.args.shapes.now c.if-nodes-shapes.false _ _ _ c.loop-index-test.true c.index-nodes-index.is c.index-shapes-index.is)
-    c.read_node-read.ensures _ c.in_ok-add_read.ensures
+    c.in_ok-term.ensures c.in_ok-push.ensures.items
 
 pub read_items-returns : goal.read_items-returns
 read_items-returns t c =
     all_read c.args.self.now.number (space_of c.args.self.now.place.now) _ _ _ _ c.loop-index.terms c.loop-index.invariant
     (items_end c.args.self.now.number c.args.self.now.text.now c.args.nodes.now shape_of c.args.shapes.now c.if-nodes-shapes.false _ c.loop-index-test.false)
 
-pub read_many-returns-in_err-add_read : goal.read_many-returns-in_err-add_read
-read_many-returns-in_err-add_read t c =
-    add_stopped c.args.self.now.number (space_of c.args.self.now.place.now) _ _ _ _ _ _ _ _ _ _ c.loop-node.invariant
+pub read_many-returns-in_err-term : goal.read_many-returns-in_err-term
+read_many-returns-in_err-term t c =
+    stop_told c.args.self.now.number (space_of c.args.self.now.place.now) _ _ _ _ _ _ _ _ _ _ c.loop-node.invariant
     (many_more c.args.self.now.number c.args.self.now.text.now c.args.nodes.now (shape_of c.args.shape.now) _ _ c.loop-node-test.true c.node-item.is)
-    c.read_node-read.ensures _ _ c.in_err-add_read.ensures c.from_residual-in_err-add_read.ensures.1
+    c.in_err-term.ensures c.from_residual-in_err-term.ensures.1
 
 pub read_many-loop-node-preserved : goal.read_many-loop-node-preserved
 read_many-loop-node-preserved t c =
-    read_added c.args.self.now.number (space_of c.args.self.now.place.now) _ _ _ _ _ _ _ _ _ _ c.loop-node.invariant
+    more_read c.args.self.now.number (space_of c.args.self.now.place.now) _ _ _ _ _ _ _ _ c.in_ok-term.term _ c.loop-node.invariant
     (many_more c.args.self.now.number c.args.self.now.text.now c.args.nodes.now (shape_of c.args.shape.now) _ _ c.loop-node-test.true c.node-item.is)
-    c.read_node-read.ensures _ c.in_ok-add_read.ensures
+    c.in_ok-term.ensures c.in_ok-push.ensures.items
 
 pub read_many-returns : goal.read_many-returns
 read_many-returns t c =
