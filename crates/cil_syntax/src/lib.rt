@@ -21,6 +21,7 @@ mod language;
 pub mod laws;
 mod level_heads;
 mod macro_statements;
+mod name_set;
 mod name_space;
 mod operator_heads;
 mod parts;
