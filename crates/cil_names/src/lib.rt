@@ -41,6 +41,7 @@ pub mod spelled;
 mod table;
 mod unscoped;
 pub mod worded;
+mod written_parts;
 
 pub use asked::word_asked;
 pub use enabled::{flags_of, is_declared};
