@@ -1,6 +1,6 @@
 -- Terms as their parts, each word as it takes part in a policy.
 use Rattle.std.specs.Global.{Vec}
-use Rattle.std.proofs.Common.{◌≡◌, ℕ, List, [], ◌∷◌, ◌++◌, map, refl, sym, ◌∙◌, ap}
+use Rattle.std.proofs.Common.{◌≡◌, ℕ, List, [], ◌∷◌, ◌++◌, refl, sym, ◌∙◌, ap}
 use Rattle.cil_faults.specs.declared.spot.Spot.{Spot}
 use Rattle.cil_faults.specs.Spots.{spot_at}
 use Rattle.cil_syntax.specs.declared.term.LookedUp.{LookedUp}

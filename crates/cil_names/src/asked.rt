@@ -137,12 +137,7 @@ impl<'r, 's, 'p, 'a> Reading<'r, 's, 'p, 'a> {
             at: self.at,
             module: self.statement.at.module,
         };
-        written_parts(
-            alloc,
-            self.instances,
-            there,
-            self.statement.args.as_slice(),
-        )
+        written_parts(alloc, self.instances, there, self.statement.args.as_slice())
     }
 
     /// Whether what the statement says may have a list. Calls are among them, whose arguments are written elsewhere.
