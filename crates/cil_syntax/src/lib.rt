@@ -24,7 +24,6 @@ mod macro_statements;
 mod name_set;
 mod name_space;
 mod operator_heads;
-mod parts;
 mod path;
 mod place;
 mod program;
