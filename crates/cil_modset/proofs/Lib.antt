@@ -8,5 +8,6 @@ pub mod LawLemmas
 pub mod NumberLemmas
 pub mod PlaceLemmas
 pub mod RisingLemmas
+pub mod RowLemmas
 pub mod WalkLemmas
 pub mod SpelledLemmas

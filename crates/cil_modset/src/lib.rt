@@ -14,7 +14,9 @@ mod join;
 pub mod laws;
 mod new_texts;
 mod order;
+mod rows;
 mod set;
+mod texts;
 
 pub use cil_base::NoMemory;
 pub use error::{BundleError, BundleFault};

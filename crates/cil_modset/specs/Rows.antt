@@ -1,0 +1,26 @@
+-- Texts in rows: lists that follow one another in byte order.
+use Rattle.std.specs.Prelude.{◌≡◌, ℕ, ◌+◌, ◌^◌, ◌<◌, List, length, take, drop, Contains, All}
+use Rattle.std.specs.Global.{Vec}
+use Rattle.std.specs.List.{flat_map}
+use Rattle.cil_modset.specs.Modules.{IsBelow, IsRising, texts_of}
+
+-- the texts of some rows, one row behind another
+abbrev pub joined : List (Vec (Vec ℕ)) → List (List ℕ)
+joined rows = flat_map (λ row. texts_of row.items) rows
+
+-- the texts rise from row to row, and no row is empty
+pub record AreInOrder (rows : List (Vec (Vec ℕ))) : Type 0 where
+  pub rising : IsRising (joined rows)
+  pub filled : All (λ (row : Vec (Vec ℕ)). 0 < length row.items) rows
+
+-- rows in order, with this many texts
+pub record AreRows (rows : List (Vec (Vec ℕ))) (count : ℕ) : Type 0 where
+  pub order : AreInOrder rows
+  pub count_is : count ≡ length (joined rows)
+  pub fits : count < 2 ^ 63
+
+-- the row in which a text has its place: what is in the rows before it is before the text, and what is in the rows behind it is behind the text
+pub record IsHomeOf (rows : List (Vec (Vec ℕ))) (text : List ℕ) (home : ℕ) : Type 0 where
+  pub within : home < length rows
+  pub before : (t : List ℕ) → Contains (joined (take home rows)) t → IsBelow t text
+  pub behind : (t : List ℕ) → Contains (joined (drop (home + 1) rows)) t → IsBelow text t
