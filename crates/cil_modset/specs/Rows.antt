@@ -8,10 +8,14 @@ use Rattle.cil_modset.specs.Modules.{IsBelow, IsRising, texts_of}
 abbrev pub joined : List (Vec (Vec ℕ)) → List (List ℕ)
 joined rows = flat_map (λ row. texts_of row.items) rows
 
+-- the row has a text
+abbrev pub IsFilled : Vec (Vec ℕ) → Type 0
+IsFilled row = 0 < length row.items
+
 -- the texts rise from row to row, and no row is empty
 pub record AreInOrder (rows : List (Vec (Vec ℕ))) : Type 0 where
   pub rising : IsRising (joined rows)
-  pub filled : All (λ (row : Vec (Vec ℕ)). 0 < length row.items) rows
+  pub filled : All IsFilled rows
 
 -- rows in order, with this many texts
 pub record AreRows (rows : List (Vec (Vec ℕ))) (count : ℕ) : Type 0 where

@@ -1,6 +1,6 @@
 //! Texts in rows: lists that follow one another in byte order, so that a new text moves those of its row alone.
 
-ghost use Rattle.std.specs.Prelude.{◌≡◌, ℕ, ◌+◌, ◌<◌, ◌≤◌, ◌↔◌, List, [], ◌∷◌, length, Contains, IsTrue, IsOk, IfOk, IfErr, OnOk, OnErr, slice_index_or};
+ghost use Rattle.std.specs.Prelude.{◌≡◌, ℕ, ◌+◌, ◌<◌, ◌≤◌, ◌↔◌, List, [], ◌∷◌, ◌++◌, length, Contains, IsTrue, IsOk, IfOk, IfErr, OnOk, OnErr, slice_index_or};
 ghost use Rattle.std.specs.Global.{Vec};
 ghost use Rattle.cil_modset.specs.Modules.{IsBelow, IsPlaceOf, IsRising, IsUnion, module_of, texts_of};
 ghost use Rattle.cil_modset.specs.Rows.{AreInOrder, IsHomeOf, joined};
@@ -81,7 +81,11 @@ fn place_of(texts: &[Vec<u8>], text: &[u8]) -> Result<usize, usize>
 }
 
 /// Adds a text that is in none of the rows. Error: out of memory.
-pub(crate) fn add(alloc: Global, rows: &mut Vec<Vec<Vec<u8>>>, text: &[u8]) -> Result<(), AllocError>
+pub(crate) fn add(
+    alloc: Global,
+    rows: &mut Vec<Vec<Vec<u8>>>,
+    text: &[u8],
+) -> Result<(), AllocError>
     requires order { AreInOrder rows.old.items }
     requires absent { Contains (joined rows.old.items) text.now → ⊥ }
     ensures order { AreInOrder rows.new.items }
@@ -139,14 +143,29 @@ fn part(rows: &mut Vec<Vec<Vec<u8>>>, k: usize) -> Result<(), AllocError>
     ensures same { joined rows.new.items ≡ joined rows.old.items }
 {
     rows.reserve(1)?;
-    let half = rows[k].len() / 2;
-    let back = rows[k].split_off(half)?;
+    let back = halve(&mut rows[k])?;
     rows.insert(k + 1, back).unwrap();
     Ok(())
 }
 
+/// Takes the back half of a row, and leaves the front half no more memory than it needs. Error: out of memory.
+fn halve(row: &mut Vec<Vec<u8>>) -> Result<Vec<Vec<u8>>, AllocError>
+    requires { 1 < length row.old.items }
+    ensures halves { IfOk result (λ back. row.new.items ++ back.items ≡ row.old.items) }
+    ensures front { OnOk result (0 < length row.new.items) }
+    ensures back { IfOk result (λ back. 0 < length back.items) }
+    ensures err { OnErr result (row.new.items ≡ row.old.items) }
+{
+    let back = row.split_off(row.len() / 2)?;
+    row.shrink_to_fit();
+    Ok(back)
+}
+
 /// A copy of the rows. Error: out of memory.
-pub(crate) fn copy_of_all(alloc: Global, rows: &[Vec<Vec<u8>>]) -> Result<Vec<Vec<Vec<u8>>>, AllocError>
+pub(crate) fn copy_of_all(
+    alloc: Global,
+    rows: &[Vec<Vec<u8>>],
+) -> Result<Vec<Vec<Vec<u8>>>, AllocError>
     requires { AreInOrder rows.now }
     ensures order { IfOk result (λ copy. AreInOrder copy.items) }
     ensures same { IfOk result (λ copy. joined copy.items ≡ joined rows.now) }
@@ -170,7 +189,11 @@ fn copy_of(alloc: Global, texts: &[Vec<u8>]) -> Result<Vec<Vec<u8>>, AllocError>
 }
 
 /// Takes all texts out of the rows, as one row. Error: out of memory.
-pub(crate) fn take_all(alloc: Global, rows: &mut Vec<Vec<Vec<u8>>>, count: usize) -> Result<Vec<Vec<u8>>, AllocError>
+pub(crate) fn take_all(
+    alloc: Global,
+    rows: &mut Vec<Vec<Vec<u8>>>,
+    count: usize,
+) -> Result<Vec<Vec<u8>>, AllocError>
     requires { length (joined rows.old.items) ≤ count }
     ensures ok { IfOk result (λ all. texts_of all.items ≡ joined rows.old.items) }
     ensures err { OnErr result (rows.new ≡ rows.old) }

@@ -1,6 +1,6 @@
-use Rattle.std.proofs.Common.{arith, rules}
-use Rattle.cil_modset.specs.Rows.{IsHomeOf}
-use Rattle.cil_modset.proofs.RowLemmas.{Grow, Stay, home_contains, row_rises, put_none, put_one, parted_stays}
+use Rattle.std.proofs.Common.{rules}
+use Rattle.cil_modset.proofs.RowChangeLemmas.{put_none, put_one, parted_stays}
+use Rattle.cil_modset.proofs.RowLemmas.{home_contains, row_rises}
 use Rattle.cil_modset.proofs.rows.add.Goals as goal
 
 pub put-requires-clause-absent : goal.put-requires-clause-absent

@@ -1,4 +1,3 @@
-use Rattle.std.proofs.Common.{arith}
 use Rattle.cil_modset.proofs.PlaceLemmas.{found_or_absent}
 use Rattle.cil_modset.proofs.RowLemmas.{home_contains, row_rises}
 use Rattle.cil_modset.proofs.rows.has.Goals as goal

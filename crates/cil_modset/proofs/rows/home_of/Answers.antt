@@ -1,4 +1,4 @@
-use Rattle.std.proofs.Common.{arith, refl}
+use Rattle.std.proofs.Common.{arith}
 use Rattle.cil_modset.proofs.RowLemmas.{home_before, home_behind}
 use Rattle.cil_modset.proofs.rows.home_of.Goals as goal
 

@@ -1,7 +1,7 @@
-use Rattle.std.proofs.Common.{ℕ, ◌≡◌, ◌+◌, ◌<◌, length, get_or, ap, sym, ◌∙◌, arith}
+use Rattle.std.proofs.Common.{ℕ, ◌≡◌, ◌+◌, length, get_or, ap, ◌∙◌, arith}
 use Rattle.std.specs.Global.{Vec}
 use Rattle.std.proofs.lemmas.List.{length-set, drop-set-lt}
-use Rattle.cil_modset.proofs.RowLemmas.{same_from, room_left, taken_row}
+use Rattle.cil_modset.proofs.RowChangeLemmas.{same_from, room_left, taken_row}
 use Rattle.cil_modset.proofs.RisingLemmas.{length-texts_of}
 use Rattle.cil_modset.proofs.rows.take_all.Goals as goal
 

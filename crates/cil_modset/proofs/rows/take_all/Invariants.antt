@@ -1,4 +1,4 @@
-use Rattle.std.proofs.Common.{◌≡◌, ◌≤◌, ◌+◌, length, take, drop, vec_len}
+use Rattle.std.proofs.Common.{◌≡◌, ◌≤◌, length, take, drop}
 use Rattle.std.specs.Prelude.{vec_capacity}
 use Rattle.cil_modset.specs.Modules.{texts_of}
 use Rattle.cil_modset.specs.Rows.{joined}
