@@ -9,7 +9,7 @@ use crate::order::{is_below, is_same};
 use std::alloc::{AllocError, Global};
 use std::mem;
 
-/// A row is parted when it has this many texts more than there are rows.
+/// A row is halved when it has more texts than this and the number of rows together.
 const LONG: usize = 1024;
 
 /// The text of a number. It costs a step for each row before that of the text.
@@ -39,7 +39,7 @@ pub(crate) fn has(rows: &[Vec<Vec<u8>>], text: &[u8]) -> bool
     place_of(row, text).is_ok()
 }
 
-/// The row in which a text has its place.
+/// The row in which a text has its place, by a search by halving among the first texts of the rows.
 fn home_of(rows: &[Vec<Vec<u8>>], text: &[u8]) -> usize
     requires some { 0 < length rows.now }
     requires order { AreInOrder rows.now }
@@ -99,7 +99,7 @@ pub(crate) fn add(
     let home = home_of(rows.as_slice(), text);
     put(alloc, &mut rows[home], text)?;
     if rows[home].len() > LONG + rows.len() {
-        // Without the memory for it the row stays long: the next text tries again.
+        // A row that there is no memory to halve stays as it is, until the next text comes to it.
         let _ = part(rows, home);
     }
     Ok(())
@@ -112,7 +112,7 @@ fn add_first(alloc: Global, rows: &mut Vec<Vec<Vec<u8>>>, text: &[u8]) -> Result
     ensures ok { OnOk result (joined rows.new.items ≡ text.now ∷ []) }
     ensures err { OnErr result (rows.new.items ≡ []) }
 {
-    let mut row = Vec::with_capacity(alloc, 1)?;
+    let mut row = Vec::new(alloc);
     row.push(Vec::from_slice(alloc, text)?)?;
     rows.push(row)?;
     Ok(())
@@ -134,7 +134,7 @@ fn put(alloc: Global, row: &mut Vec<Vec<u8>>, text: &[u8]) -> Result<(), AllocEr
     Ok(())
 }
 
-/// Makes two rows of one. Error: out of memory.
+/// Makes two rows of one. Error: out of memory, and then the rows are as before.
 fn part(rows: &mut Vec<Vec<Vec<u8>>>, k: usize) -> Result<(), AllocError>
     requires within { k < length rows.old.items }
     requires long { (d : Vec (Vec ℕ)) → 1 < length (slice_index_or rows.old.items k d).items }

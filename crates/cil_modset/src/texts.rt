@@ -12,10 +12,10 @@ use std::marker::Model;
 
 /// Some texts, each once. In contracts they are the list of them in byte order.
 ///
-/// They are kept in rows, each a sorted list. A row is parted when it gets long, so that of n texts there are no more than
-/// some thousand, and a few times the square root of n, in a row, and as few rows. A new text costs two searches by halving
-/// and moves the texts behind it in its row. `get` goes past the rows before that of the text. Up to a thousand texts there
-/// is one row.
+/// They are kept in rows, sorted lists that follow one another, and a row that gets long is halved: up to 1,024 texts there
+/// is one row, and of n texts that came one by one a row has at most a thousand and a few times the square root of n, and
+/// there are as few rows. A new text costs two searches by halving, and moves the texts behind it in its row. `get` costs a
+/// step for each row before that of its text. Many texts at once (`add_all`) cost a step for each text, and leave one row.
 #[derive(Debug, Drop)]
 pub(crate) struct Texts {
     /// The number of texts.
@@ -85,6 +85,7 @@ impl Texts {
         ensures union { OnOk result (IsUnion self.old (text.now ∷ []) self.new) }
         ensures err { OnErr result (self.new ≡ self.old) }
     {
+        // No memory has room for so many.
         if self.count == isize::MAX as usize {
             return Err(AllocError);
         }
