@@ -1,6 +1,8 @@
 -- Texts in rows: a row that gets a text, a row that is parted, and all rows made one.
-use Rattle.std.proofs.Common.{◌≡◌, ℕ, ◌+◌, ◌<◌, ◌≤◌, List, [], ◌∷◌, ◌++◌, length, get_or, set, take, drop, sym, ◌∙◌, ap, subst, inl, inr, arith}
-use Rattle.std.specs.Prelude.{Contains, All}
+use Rattle.std.proofs.Common.{◌≡◌, ℕ, ◌+◌, ◌<◌, ◌≤◌, List, [], ◌∷◌, ◌++◌, length, get_or, set, take, drop, refl, sym, ◌∙◌, ap, subst, inl, inr, arith}
+use Rattle.cil_sexpr.specs.declared.fault.ReadError.{ReadError}
+use Rattle.std.proofs.lemmas.Result.{on_err_weaker}
+use Rattle.std.specs.Prelude.{Bool, true, false, Result, Ok, Err, Contains, All}
 use Rattle.std.specs.Global.{Vec}
 use Rattle.std.specs.List.{insert}
 use Rattle.std.proofs.lemmas.List.{append_assoc, drop_more, take_more_set, drop-set-lt, map-append, length-append}
@@ -8,9 +10,9 @@ use Rattle.std.proofs.lemmas.List.Concat.{flat_map-append}
 use Rattle.std.proofs.lemmas.List.Elements.{All-cons, All-set, All-append, All-take, All-drop, Contains-append_left, Contains-append_right, Contains-append_cases}
 use Rattle.cil_base.specs.Lists.{contains_cases, contains_none}
 use Rattle.cil_modset.specs.Modules.{IsBelow, IsRising, IsUnion, texts_of}
-use Rattle.cil_modset.specs.Rows.{joined, IsFilled, AreInOrder, IsHomeOf}
+use Rattle.cil_modset.specs.Rows.{joined, IsFilled, AreInOrder, IsHomeOf, IsOffered}
 use Rattle.cil_modset.proofs.RisingLemmas.{rising_join, rising_front, rising_back, rising_across, length-texts_of}
-use Rattle.cil_modset.proofs.RowLemmas.{row_of, joined_at, joined_set, joined_more}
+use Rattle.cil_modset.proofs.RowLemmas.{row_of, joined_at, joined_set, joined_more, home_contains}
 
 -- ---- one text more
 
@@ -72,68 +74,68 @@ home_union rows home d row text rising is union =
     (union_within (joined (take home rows)) (row_of rows home d) (joined (drop (home + 1) rows)) (texts_of row.items) text
     (rw (joined_at rows home d is.within) at rising) is.before is.behind union)
 
-pub length_set : (rows : List (Vec (Vec ℕ))) (k : ℕ) (d row : Vec (Vec ℕ)) → k < length rows → length row.items ≡ length (get_or rows k d).items + 1
-    → length (joined (set rows k row)) ≡ length (joined rows) + 1
+pub length_set : (rows : List (Vec (Vec ℕ))) (k : ℕ) (d row : Vec (Vec ℕ)) → k < length rows
+    → length (texts_of row.items) ≡ length (row_of rows k d) + 1 → length (joined (set rows k row)) ≡ length (joined rows) + 1
 length_set rows k d row h one =
     let front = joined (take k rows) in
     let back = joined (drop (k + 1) rows) in
     let new = ap length (joined_set rows k row h) ∙ length-append front (texts_of row.items ++ back) in
     let old = ap length (joined_at rows k d h) ∙ length-append front (row_of rows k d ++ back) in
-    omega (arith, new, old, one, length-append (texts_of row.items) back, length-append (row_of rows k d) back, length-texts_of row.items, length-texts_of (get_or rows k d).items)
+    omega (arith, new, old, one, length-append (texts_of row.items) back, length-append (row_of rows k d) back)
 
 -- a row in the place of one with the same texts
-pub joined_same : (rows : List (Vec (Vec ℕ))) (k : ℕ) (d row : Vec (Vec ℕ)) → k < length rows → row.items ≡ (get_or rows k d).items
-    → joined (set rows k row) ≡ joined rows
-joined_same rows k d row h same =
-    joined_set rows k row h
-    ∙ ap (λ (w : List (Vec ℕ)). joined (take k rows) ++ (texts_of w ++ joined (drop (k + 1) rows))) same
-    ∙ sym (joined_at rows k d h)
+pub joined_same : (rows : List (Vec (Vec ℕ))) (k : ℕ) (row new : Vec (Vec ℕ)) → k < length rows → row ≡ get_or rows k row
+    → texts_of new.items ≡ texts_of row.items → joined (set rows k new) ≡ joined rows
+joined_same rows k row new h is same =
+    let here : texts_of new.items ≡ row_of rows k row = same ∙ ap (λ (r : Vec (Vec ℕ)). texts_of r.items) is in
+    joined_set rows k new h
+    ∙ ap (λ (w : List (List ℕ)). joined (take k rows) ++ (w ++ joined (drop (k + 1) rows))) here
+    ∙ sym (joined_at rows k row h)
 
--- what rows are where one of them stays
-pub record Stay (old new : List (Vec (Vec ℕ))) : Type 0 where
-  pub order : AreInOrder new
-  pub same : joined new ≡ joined old
-
-pub put_none : (rows : List (Vec (Vec ℕ))) (k : ℕ) (row new : Vec (Vec ℕ)) → AreInOrder rows → k < length rows → row ≡ get_or rows k row
-    → new.items ≡ row.items → Stay rows (set rows k new)
-put_none rows k row new order h is stays =
-    let items : new.items ≡ (get_or rows k row).items = stays ∙ ap (λ (r : Vec (Vec ℕ)). r.items) is in
-    let same = joined_same rows k row new h items in
-    let some : IsFilled new = rw items (order.filled k row h) in
+pub order_same : (rows : List (Vec (Vec ℕ))) (k : ℕ) (row new : Vec (Vec ℕ)) → AreInOrder rows → k < length rows → row ≡ get_or rows k row
+    → texts_of new.items ≡ texts_of row.items → AreInOrder (set rows k new)
+order_same rows k row new order h is same =
+    let here : texts_of new.items ≡ row_of rows k row = same ∙ ap (λ (r : Vec (Vec ℕ)). texts_of r.items) is in
+    let size = ap length here in
+    let some = order.filled k row h in
     record {
-      order = record { rising = rw same order.rising; filled = All-set IsFilled rows k new some order.filled };
-      same = same;
+      rising = rw (joined_same rows k row new h is same) order.rising;
+      filled = All-set IsFilled rows k new
+          (omega (arith, size, some, length-texts_of new.items, length-texts_of (get_or rows k row).items)) order.filled;
     }
 
--- what rows are where one of them has got a text
-pub record Grow (old new : List (Vec (Vec ℕ))) (text : List ℕ) : Type 0 where
-  pub order : AreInOrder new
-  pub union : IsUnion (joined old) (text ∷ []) (joined new)
-  pub one_more : length (joined new) ≡ length (joined old) + 1
+-- ---- a text that is offered to the row of its place
 
-pub put_one : (rows : List (Vec (Vec ℕ))) (home : ℕ) (row new : Vec (Vec ℕ)) (text : List ℕ) → AreInOrder rows → IsHomeOf rows text home
-    → row ≡ get_or rows home row → IsUnion (texts_of row.items) (text ∷ []) (texts_of new.items) → length new.items ≡ length row.items + 1
-    → Grow rows (set rows home new) text
-put_one rows home row new text order at is union one =
-    let here : IsUnion (row_of rows home row) (text ∷ []) (texts_of new.items) =
-    subst (λ (r : Vec (Vec ℕ)). IsUnion (texts_of r.items) (text ∷ []) (texts_of new.items)) is union in
-    let size : length new.items ≡ length (get_or rows home row).items + 1 =
-    subst (λ (r : Vec (Vec ℕ)). length new.items ≡ length r.items + 1) is one in
-    let all = home_union rows home row new text order.rising at here in
+pub home_offered : (rows : List (Vec (Vec ℕ))) (home : ℕ) (row new : Vec (Vec ℕ)) (text : List ℕ) (r : Result Bool ReadError) → AreInOrder rows
+    → IsHomeOf rows text home → row ≡ get_or rows home row → IsOffered (texts_of row.items) text r (texts_of new.items)
+    → IsOffered (joined rows) text r (joined (set rows home new))
+home_offered rows home row new text r order at is offered =
+    let within = home_contains rows home row text at is in
+    let here : IsOffered (row_of rows home row) text r (texts_of new.items) =
+    subst (λ (w : Vec (Vec ℕ)). IsOffered (texts_of w.items) text r (texts_of new.items)) is offered in
     record {
-      order = record { rising = all.rising; filled = All-set IsFilled rows home new (omega arith) order.filled };
-      union = all;
-      one_more = length_set rows home row new at.within size;
+      known = (λ e. within.0 (offered.known.0 e), λ c. offered.known.1 (within.1 c));
+      stays = λ e. joined_same rows home row new at.within is (offered.stays e);
+      union = λ e. home_union rows home row new text order.rising at (here.union e);
+      one_more = λ e. length_set rows home row new at.within (here.one_more e);
+      readable = offered.readable;
+      refusal = offered.refusal;
+      err = on_err_weaker r (λ same. joined_same rows home row new at.within is same) offered.err;
     }
 
--- a row more that has the same texts in all
-pub parted_stays : (old new parted : List (Vec (Vec ℕ))) (text : List ℕ) → Grow old new text → AreInOrder parted → joined parted ≡ joined new
-    → Grow old parted text
-parted_stays old new parted text grow order same = record {
-  order = order;
-  union = rw same grow.union;
-  one_more = rw same grow.one_more;
-}
+pub order_offered : (rows : List (Vec (Vec ℕ))) (home : ℕ) (row new : Vec (Vec ℕ)) (text : List ℕ) (r : Result Bool ReadError) → AreInOrder rows
+    → IsHomeOf rows text home → row ≡ get_or rows home row → IsOffered (texts_of row.items) text r (texts_of new.items)
+    → AreInOrder (set rows home new)
+order_offered rows home row new text (Ok true) order at is offered =
+    let all = home_offered rows home row new text (Ok true) order at is offered in
+    let one = offered.one_more refl in
+    let union = all.union refl in
+    record {
+      rising = union.rising;
+      filled = All-set IsFilled rows home new (omega (arith, one, length-texts_of new.items)) order.filled;
+    }
+order_offered rows home row new text (Ok false) order at is offered = order_same rows home row new order at.within is (offered.stays refl)
+order_offered rows home row new text (Err e) order at is offered = order_same rows home row new order at.within is offered.err
 
 -- ---- two rows of one
 

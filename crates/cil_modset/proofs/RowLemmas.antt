@@ -45,6 +45,9 @@ order_first row text is = record {
       (let size = ap length is in omega (arith, size, length-texts_of row.items)) (All-nil IsFilled);
 }
 
+pub joined_first : (row : Vec (Vec ℕ)) (text : List ℕ) → texts_of row.items ≡ text ∷ [] → joined (row ∷ []) ≡ text ∷ []
+joined_first row text is = append-nil (texts_of row.items) ∙ is
+
 -- ---- rows that are gone through
 
 pub joined_push : (ws : List (Vec (Vec ℕ))) (row : Vec (Vec ℕ)) → joined (ws ++ row ∷ []) ≡ joined ws ++ texts_of row.items

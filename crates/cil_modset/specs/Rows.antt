@@ -1,8 +1,11 @@
 -- Texts in rows: lists that follow one another in byte order.
-use Rattle.std.specs.Prelude.{◌≡◌, ℕ, ◌+◌, ◌^◌, ◌<◌, List, length, take, drop, Contains, All}
+use Rattle.std.specs.Prelude.{◌≡◌, ◌↔◌, ℕ, ◌+◌, ◌^◌, ◌<◌, Bool, true, false, List, [], ◌∷◌, length, take, drop, Contains, All, Result, Ok, IfErr, OnErr}
 use Rattle.std.specs.Global.{Vec}
 use Rattle.std.specs.List.{flat_map}
-use Rattle.cil_modset.specs.Modules.{IsBelow, IsRising, texts_of}
+use Rattle.cil_sexpr.specs.declared.fault.ReadError.{ReadError}
+use Rattle.cil_sexpr.specs.Refusal.{Refuses}
+use Rattle.cil_sexpr.specs.Text.{IsReadable}
+use Rattle.cil_modset.specs.Modules.{IsBelow, IsRising, IsUnion, texts_of}
 
 -- the texts of some rows, one row behind another
 abbrev pub joined : List (Vec (Vec ℕ)) → List (List ℕ)
@@ -28,3 +31,13 @@ pub record IsHomeOf (rows : List (Vec (Vec ℕ))) (text : List ℕ) (home : ℕ)
   pub within : home < length rows
   pub before : (t : List ℕ) → Contains (joined (take home rows)) t → IsBelow t text
   pub behind : (t : List ℕ) → Contains (joined (drop (home + 1) rows)) t → IsBelow text t
+
+-- what became of a text that was offered to some texts, and whether it is new: as an installation, with the number of texts
+pub record IsOffered (old : List (List ℕ)) (text : List ℕ) (result : Result Bool ReadError) (new : List (List ℕ)) : Type 0 where
+  pub known : (result ≡ Ok false) ↔ Contains old text
+  pub stays : result ≡ Ok false → new ≡ old
+  pub union : result ≡ Ok true → IsUnion old (text ∷ []) new
+  pub one_more : result ≡ Ok true → length new ≡ length old + 1
+  pub readable : result ≡ Ok true → IsReadable text
+  pub refusal : IfErr result (Refuses text)
+  pub err : OnErr result (new ≡ old)

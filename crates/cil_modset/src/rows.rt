@@ -2,10 +2,11 @@
 
 ghost use Rattle.std.specs.Prelude.{◌≡◌, ℕ, ◌+◌, ◌<◌, ◌≤◌, ◌↔◌, List, [], ◌∷◌, ◌++◌, length, Contains, IsTrue, IsOk, IfOk, IfErr, OnOk, OnErr, slice_index_or};
 ghost use Rattle.std.specs.Global.{Vec};
-ghost use Rattle.cil_modset.specs.Modules.{IsBelow, IsPlaceOf, IsRising, IsUnion, module_of, texts_of};
-ghost use Rattle.cil_modset.specs.Rows.{AreInOrder, IsHomeOf, joined};
+ghost use Rattle.cil_modset.specs.Modules.{IsBelow, IsPlaceOf, IsRising, module_of, texts_of};
+ghost use Rattle.cil_modset.specs.Rows.{AreInOrder, IsHomeOf, IsOffered, joined};
 
 use crate::order::{is_below, is_same};
+use cil_sexpr::{ReadError, read};
 use std::alloc::{AllocError, Global};
 use std::mem;
 
@@ -80,58 +81,56 @@ fn place_of(texts: &[Vec<u8>], text: &[u8]) -> Result<usize, usize>
     }
 }
 
-/// Adds a text that is in none of the rows. Error: out of memory.
+/// Adds a text, if it is readable and in none of the rows, and returns whether it is new. Errors: the first fault of an
+/// unreadable text, or out of memory.
 pub(crate) fn add(
     alloc: Global,
     rows: &mut Vec<Vec<Vec<u8>>>,
     text: &[u8],
-) -> Result<(), AllocError>
-    requires order { AreInOrder rows.old.items }
-    requires absent { Contains (joined rows.old.items) text.now → ⊥ }
+) -> Result<bool, ReadError>
+    requires { AreInOrder rows.old.items }
     ensures order { AreInOrder rows.new.items }
-    ensures union { OnOk result (IsUnion (joined rows.old.items) (text.now ∷ []) (joined rows.new.items)) }
-    ensures one_more { OnOk result (length (joined rows.new.items) ≡ length (joined rows.old.items) + 1) }
-    ensures err { OnErr result (joined rows.new.items ≡ joined rows.old.items) }
+    ensures offered { IsOffered (joined rows.old.items) text.now result (joined rows.new.items) }
 {
     if rows.is_empty() {
         return add_first(alloc, rows, text);
     }
     let home = home_of(rows.as_slice(), text);
-    put(alloc, &mut rows[home], text)?;
+    let result = put(alloc, &mut rows[home], text);
     if rows[home].len() > LONG + rows.len() {
         // A row that there is no memory to halve stays as it is, until the next text comes to it.
         let _ = part(rows, home);
     }
-    Ok(())
+    result
 }
 
 /// Makes the first row, of one text.
-fn add_first(alloc: Global, rows: &mut Vec<Vec<Vec<u8>>>, text: &[u8]) -> Result<(), AllocError>
+fn add_first(alloc: Global, rows: &mut Vec<Vec<Vec<u8>>>, text: &[u8]) -> Result<bool, ReadError>
     requires none { rows.old.items ≡ [] }
     ensures order { AreInOrder rows.new.items }
-    ensures ok { OnOk result (joined rows.new.items ≡ text.now ∷ []) }
-    ensures err { OnErr result (rows.new.items ≡ []) }
+    ensures offered { IsOffered [] text.now result (joined rows.new.items) }
 {
+    read(alloc, text)?;
     let mut row = Vec::new(alloc);
     row.push(Vec::from_slice(alloc, text)?)?;
     rows.push(row)?;
-    Ok(())
+    Ok(true)
 }
 
-/// Puts a text into a row that lacks it. Error: out of memory.
-fn put(alloc: Global, row: &mut Vec<Vec<u8>>, text: &[u8]) -> Result<(), AllocError>
-    requires rising { IsRising (texts_of row.old.items) }
-    requires absent { Contains (texts_of row.old.items) text.now → ⊥ }
-    ensures union { OnOk result (IsUnion (texts_of row.old.items) (text.now ∷ []) (texts_of row.new.items)) }
-    ensures one_more { OnOk result (length row.new.items ≡ length row.old.items + 1) }
-    ensures err { OnErr result (row.new.items ≡ row.old.items) }
+/// Puts a text into a row, as `add` does.
+fn put(alloc: Global, row: &mut Vec<Vec<u8>>, text: &[u8]) -> Result<bool, ReadError>
+    requires { IsRising (texts_of row.old.items) }
+    ensures { IsOffered (texts_of row.old.items) text.now result (texts_of row.new.items) }
 {
-    let Err(place) = place_of(row.as_slice(), text) else {
-        unreachable!()
-    };
-    let copy = Vec::from_slice(alloc, text)?;
-    row.insert(place, copy)?;
-    Ok(())
+    match place_of(row.as_slice(), text) {
+        Ok(_) => Ok(false),
+        Err(place) => {
+            read(alloc, text)?;
+            let copy = Vec::from_slice(alloc, text)?;
+            row.insert(place, copy)?;
+            Ok(true)
+        }
+    }
 }
 
 /// Makes two rows of one. Error: out of memory, and then the rows are as before.

@@ -14,7 +14,7 @@ use crate::join::Join;
 use crate::new_texts::NewTexts;
 use crate::texts::Texts;
 use cil_base::NoMemory;
-use cil_sexpr::{ReadError, read};
+use cil_sexpr::ReadError;
 use sha2::{Digest, Sha256};
 use std::alloc::{AllocError, Global};
 use std::marker::Model;
@@ -63,12 +63,11 @@ impl ModuleSet {
     pub fn install(&mut self, alloc: Global, text: &[u8]) -> Result<Installed, ReadError>
         ensures { IsInstalled self.old text.now result self.new }
     {
-        if self.texts.contains(text) {
-            return Ok(Installed::Known);
+        if self.texts.add(alloc, text)? {
+            Ok(Installed::New)
+        } else {
+            Ok(Installed::Known)
         }
-        read(alloc, text)?;
-        self.texts.insert(alloc, text)?;
-        Ok(Installed::New)
     }
 
     /// Another set with the same texts. Error: out of memory.

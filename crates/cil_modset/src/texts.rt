@@ -3,10 +3,11 @@
 ghost use Rattle.std.specs.Prelude.{◌≡◌, ℕ, ◌+◌, ◌<◌, ◌↔◌, List, [], ◌∷◌, length, Contains, IsTrue, IfOk, OnOk, OnErr};
 ghost use Rattle.cil_modset.specs.Gather.{AreApart};
 ghost use Rattle.cil_modset.specs.Modules.{IsRising, IsUnion, module_of, texts_of};
-ghost use Rattle.cil_modset.specs.Rows.{joined};
+ghost use Rattle.cil_modset.specs.Rows.{IsOffered, joined};
 
 use crate::gather::gather;
 use crate::rows::{add, copy_of_all, has, take_all, text_at};
+use cil_sexpr::ReadError;
 use std::alloc::{AllocError, Global};
 use std::marker::Model;
 
@@ -14,7 +15,7 @@ use std::marker::Model;
 ///
 /// They are kept in rows, sorted lists that follow one another, and a row that gets long is halved: up to 1,024 texts there
 /// is one row, and of n texts that came one by one a row has at most a thousand and a few times the square root of n, and
-/// there are as few rows. A new text costs two searches by halving, and moves the texts behind it in its row. `get` costs a
+/// there are as few rows. A new text costs a search by halving, and moves the texts behind it in its row. `get` costs a
 /// step for each row before that of its text. Many texts at once (`add_all`) cost a step for each text, and leave one row.
 #[derive(Debug, Drop)]
 pub(crate) struct Texts {
@@ -79,19 +80,20 @@ impl Texts {
         })
     }
 
-    /// Adds a text that is not there. Error: out of memory, and then nothing has changed.
-    pub(crate) fn insert(&mut self, alloc: Global, text: &[u8]) -> Result<(), AllocError>
-        requires { Contains self.old text.now → ⊥ }
-        ensures union { OnOk result (IsUnion self.old (text.now ∷ []) self.new) }
-        ensures err { OnErr result (self.new ≡ self.old) }
+    /// Adds a text, if it is readable and not there yet, and returns whether it is new. A text that is there needs no memory.
+    /// Errors: the first fault of an unreadable text, or out of memory, and then nothing has changed.
+    pub(crate) fn add(&mut self, alloc: Global, text: &[u8]) -> Result<bool, ReadError>
+        ensures { IsOffered self.old text.now result self.new }
     {
         // No memory has room for so many.
-        if self.count == isize::MAX as usize {
-            return Err(AllocError);
+        if self.count == isize::MAX as usize && !has(self.rows.as_slice(), text) {
+            return Err(ReadError::NoMemory);
         }
-        add(alloc, &mut self.rows, text)?;
-        self.count += 1;
-        Ok(())
+        let result = add(alloc, &mut self.rows, text);
+        if let Ok(true) = result {
+            self.count += 1;
+        }
+        result
     }
 
     /// Adds texts that are not there, and returns how many there are. If there are none, no memory is allocated. Error: out

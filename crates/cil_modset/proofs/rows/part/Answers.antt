@@ -1,6 +1,7 @@
 use Rattle.std.proofs.Common.{ap, ◌∙◌, arith}
+use Rattle.cil_modset.specs.Modules.{texts_of}
 use Rattle.cil_modset.specs.Rows.{joined}
-use Rattle.cil_modset.proofs.RowChangeLemmas.{joined_parted, order_parted, put_none}
+use Rattle.cil_modset.proofs.RowChangeLemmas.{joined_parted, order_parted, joined_same, order_same}
 use Rattle.cil_modset.proofs.rows.part.Goals as goal
 
 pub returns-clause-order : goal.returns-clause-order
@@ -20,11 +21,11 @@ returns-clause-same c =
 
 pub returns-in_err-back-clause-order : goal.returns-in_err-back-clause-order
 returns-in_err-back-clause-order c =
-    (put_none c.reserve.new.self.items c.args.k c.index_mut.result.now c.halve.new.row (rw c.reserve.ensures.items c.requires.order)
-    (omega arith) c.index_mut.ensures.value c.in_err-back.ensures.err).order
+    order_same c.reserve.new.self.items c.args.k c.index_mut.result.now c.halve.new.row (rw c.reserve.ensures.items c.requires.order)
+    (omega arith) c.index_mut.ensures.value (ap texts_of c.in_err-back.ensures.err)
 
 pub returns-in_err-back-clause-same : goal.returns-in_err-back-clause-same
 returns-in_err-back-clause-same c =
-    (put_none c.reserve.new.self.items c.args.k c.index_mut.result.now c.halve.new.row (rw c.reserve.ensures.items c.requires.order)
-    (omega arith) c.index_mut.ensures.value c.in_err-back.ensures.err).same
+    joined_same c.reserve.new.self.items c.args.k c.index_mut.result.now c.halve.new.row (omega arith) c.index_mut.ensures.value
+    (ap texts_of c.in_err-back.ensures.err)
     ∙ ap joined c.reserve.ensures.items
