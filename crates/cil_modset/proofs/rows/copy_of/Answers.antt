@@ -1,6 +1,6 @@
 use Rattle.std.proofs.Common.{◌∙◌, arith}
 use Rattle.cil_modset.proofs.RisingLemmas.{copied_more}
-use Rattle.cil_modset.proofs.set.copy_of.Goals as goal
+use Rattle.cil_modset.proofs.rows.copy_of.Goals as goal
 
 pub loop-text-preserved : goal.loop-text-preserved
 loop-text-preserved c = copied_more c.args.texts.now c.loop-text.copy.items c.push.new.self.items c.loop-text.text-index

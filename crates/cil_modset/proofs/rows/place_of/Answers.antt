@@ -2,8 +2,8 @@ use Rattle.std.proofs.Common.{arith, rules, ◌∙◌, sym}
 use Rattle.std.proofs.lemmas.List.Sorted.{IsPartitionPoint-from_clause}
 use Rattle.cil_modset.proofs.RisingLemmas.{text_read}
 use Rattle.cil_modset.proofs.PlaceLemmas.{comes_before, place_parted, place_is}
-use Rattle.cil_modset.proofs.set.place_of.Goals as goal
-use Rattle.cil_modset.proofs.set.place_of.Goals.{else-place-texts-via-then-place-texts+else-is_same, else-place-texts-via-else-place-texts}
+use Rattle.cil_modset.proofs.rows.place_of.Goals as goal
+use Rattle.cil_modset.proofs.rows.place_of.Goals.{else-place-texts-via-then-place-texts+else-is_same, else-place-texts-via-else-place-texts}
 
 pub returns-else-place-texts-clause-absent : goal.returns-else-place-texts-clause-absent
 returns-else-place-texts-clause-absent c =
