@@ -1,6 +1,6 @@
 //! The table of what all instances ask for, filled in one walk before optionals are chosen.
 
-ghost use Rattle.std.specs.Prelude.{◌≡◌, ◌≤◌, ◌<◌, ◌++◌, [], IfOk, MatchOption, OnOk, get_or, length, slice_range};
+ghost use Rattle.std.specs.Prelude.{◌≡◌, ◌≤◌, ◌<◌, ◌++◌, ◌∷◌, [], IfOk, MatchOption, OnOk, get_or, length, slice_range};
 ghost use Rattle.cil_macros.specs.Items.{item_at, items_in, namespaces_in};
 ghost use Rattle.cil_names.specs.Entries.{AreEntries};
 ghost use Rattle.cil_names.specs.Unresolved.{ArePermissions};
@@ -106,22 +106,29 @@ impl Maker<'_, '_, '_, '_> {
     {
         let mut scopes = Scopes::new(self.alloc);
         for at in 0..self.instances.len() {
-            push_number(starts, cells.len())?;
-            self.add(at, &mut scopes, cells)?;
+            self.add(at, &mut scopes, starts, cells)?;
         }
         Ok(())
     }
 
-    /// Adds what the statement at a place asks for. It needs a scope only where there are words.
-    fn add(&self, at: usize, scopes: &mut Scopes, cells: &mut Cells) -> Result<(), NoMemory>
+    /// Adds what the statement at a place asks for, and where that begins. It needs a scope only where there are words.
+    fn add(
+        &self,
+        at: usize,
+        scopes: &mut Scopes,
+        starts: &mut Vec<u32>,
+        cells: &mut Cells,
+    ) -> Result<(), NoMemory>
         requires entries { AreEntries (namespaces_in self.now.instances.now) (items_in self.now.instances.now) self.now.names.now }
         requires permissions { ArePermissions (namespaces_in self.now.instances.now) self.now.names.now (items_in self.now.instances.now) self.now.permissions.now }
         requires worded { AreWorded self.now.instances.now self.now.worded.now }
         requires scopes { AreScopes self.now.instances.now scopes.old }
         requires within { at < length (items_in self.now.instances.now) }
+        ensures starts { OnOk result (starts.new.items ≡ starts.old.items ++ length cells.old ∷ []) }
         ensures asks { OnOk result (cells.new ≡ cells.old ++ numbered_asks (namespaces_in self.now.instances.now) self.now.names.now (items_in self.now.instances.now) self.now.permissions.now (item_at self.now.instances.now at)) }
         ensures scopes { OnOk result (AreScopes self.now.instances.now scopes.new) }
     {
+        push_number(starts, cells.len())?;
         if !is_worded_at(self.worded, self.instances, at) {
             return Ok(());
         }

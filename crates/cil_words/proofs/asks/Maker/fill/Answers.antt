@@ -25,11 +25,11 @@ loop-at-preserved c =
     let at = c.loop-at.at in
     let x = item_at i at in
     let within : at < length xs = let h = c.loop-at-test.true in let n = c.len-at-end.ensures.items in omega (arith, h, n) in
-    let start = c.len.ensures in
+    let begun = c.in_ok-add.ensures.starts in
     let put = c.in_ok-add.ensures.asks in (
-      one_mapped f xs at x x [] _ (lists_at c.push_number.new.numbers.items c.add.new.cells) within (item_got i at within x) c.loop-at.invariant.0
-          (pushed_list c.loop-at.cells (f x) c.loop-at.starts.items c.push_number.new.numbers.items c.add.new.cells _ _ c.loop-at.invariant.1 refl start c.in_ok-push_number.ensures.pushed put),
-      more_within c.loop-at.cells (f x) c.loop-at.starts.items c.push_number.new.numbers.items c.add.new.cells _ c.loop-at.invariant.1 start c.in_ok-push_number.ensures.pushed put,
+      one_mapped f xs at x x [] _ (lists_at c.add.new.starts.items c.add.new.cells) within (item_got i at within x) c.loop-at.invariant.0
+          (pushed_list c.loop-at.cells (f x) c.loop-at.starts.items c.add.new.starts.items c.add.new.cells _ _ c.loop-at.invariant.1 refl refl begun put),
+      more_within c.loop-at.cells (f x) c.loop-at.starts.items c.add.new.starts.items c.add.new.cells _ c.loop-at.invariant.1 refl begun put,
       c.in_ok-add.ensures.scopes,
     )
 
