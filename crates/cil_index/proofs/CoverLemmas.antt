@@ -20,7 +20,7 @@ use Rattle.cil_index.specs.declared.index.Index.{Index}
 use Rattle.cil_index.specs.declared.memberships.Memberships.{Memberships}
 use Rattle.cil_index.specs.declared.record.Record.{Record}
 use Rattle.cil_index.specs.Entries.{AreBelow, AreBounds, IsInPart, IsIndex, IsLaidOut, RiseIn, aim_of, alone_key, in_class, itself, key_of_set, part_of, reached_key, set_key, target_key}
-use Rattle.cil_index.specs.Found.{AreAims, CoversAt, HandOver, Hands, IsAimed, IsOneOf, Matches, MayReach}
+use Rattle.cil_index.specs.Found.{AreAims, CoversAt, HandOver, Hands, IsAimed, Matches, MayReach}
 use Rattle.cil_index.specs.Memberships.{AreMemberships, HasBit, IsFilter, IsKnownFor}
 use Rattle.cil_index.specs.Kept.{reached, rule_of, target_at}
 use Rattle.cil_index.specs.Sets.{set_of}
@@ -83,29 +83,9 @@ module _ (on : ℕ → Bool) (rules : List Rule) (m : Memberships) (asked : Aske
       let same = class_of_aim m asked (get_or index.aims.items at 0) aims aimed are in
       subst (λ p. IsInPart index.starts.items p at) (ap (λ c. source * 16 + c % 16) same) of
 
-  -- an aim that may reach the target is the one alone, or stands among the others
-  pub one_of : (aim : ℕ) (aims : Aims) → AreAims m asked aims → IsAimed m asked aim → IsOneOf aims aim
-  one_of aim aims are aimed =
-      let is = aimed.1 in
-      let second = are.several_is in
-      let third = are.last_is in
-      elim (reach_cases m asked aimed.0 aimed.2) [
-        | inl same ↦ inl (is ∙ ap (aim_of (in_class asked.class)) same ∙ sym are.alone_is)
-        | inr w ↦ let low = w.0 in let high = w.1 in inr (omega (arith, is, second, low), omega (arith, is, third, high))
-      ]
-
-  pub not_one_of : (aim : ℕ) (aims : Aims) (answer : Bool) → AreAims m asked aims → (IsOneOf aims aim → IsTrue answer) → answer ≡ false → IsAimed m asked aim → ⊥
-  not_one_of aim aims answer are tells none aimed = let yes_ = tells (one_of aim aims are aimed) in absurd cc
-
-  -- what all aims of the part hand over up to the last one is what the source does
-  pub whole_part : (source : ℕ) (b : Bounds) (aims : Aims) (mask : ℕ) → AreAims m asked aims → AreBounds index (part_of source aims.alone) b → HandsIn b.start b.to aims.last mask → Hands on rules m asked index source mask
-  whole_part source b aims mask are bounds has at bit of aimed covers =
-      let inside = bounds.all at (in_that_part source at aims are aimed of) in
-      let first = are.alone_is in
-      let third = are.last_is in
-      let less = alone_below asked.target in
-      let low : get_or index.aims.items at 0 ≤ aims.last = elim (one_of (get_or index.aims.items at 0) aims are aimed) [ inl same ↦ omega (arith, same, first, third, less) | inr w ↦ w.1 ] in
-      has at bit inside.0 inside.1 low aimed covers
+  -- where that part has no aims nothing is handed over
+  pub none_between : (source : ℕ) (b : Bounds) (aims : Aims) (mask : ℕ) → AreAims m asked aims → AreBounds index (part_of source aims.alone) b → b.to ≤ b.start → Hands on rules m asked index source mask
+  none_between source b aims mask are bounds none at bit of aimed = let inside = bounds.all at (in_that_part source at aims are aimed of) in let ge = inside.0 in let less = inside.1 in absurd (omega (arith, ge, less, none))
 
   -- an aim of a source that may reach the target stands at one of two places
   pub two_runs : (source : ℕ) (b : Bounds) (one two : ℕ) (aims : Aims) (x y : ℕ) → AreAims m asked aims → AreBounds index (part_of source aims.alone) b → AreBelow index.aims.items b.start one aims.alone

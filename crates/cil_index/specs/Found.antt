@@ -1,5 +1,5 @@
 -- What the rule at a place covers, and by which aims the rules that cover something are found.
-use Rattle.std.specs.Prelude.{◌≡◌, ◌≤◌, ◌⊎◌, ℕ, Bool, true, List, [], Contains, IsBitSet, Some, get_or, slice_get}
+use Rattle.std.specs.Prelude.{◌≡◌, ◌⊎◌, ℕ, Bool, true, List, [], Contains, IsBitSet, Some, get_or, slice_get}
 use Rattle.cil_conditions.specs.Active.{is_active}
 use Rattle.cil_rules.specs.Rule.{Rule}
 use Rattle.cil_rules.specs.Covers.{Covers, Reaches}
@@ -47,7 +47,3 @@ pub record AreAims (m : Memberships) (asked : Asked) (aims : Aims) : Type 0 wher
   pub several_is : aims.several ≡ aim_of (in_class asked.class) several
   pub last_is : aims.last ≡ aim_of (in_class asked.class) beyond
   pub filtered : IsFilter (get_or m.lists.items asked.target []) aims.filter
-
--- the aim is the one with the target alone, or one with a target that is not one type
-abbrev pub IsOneOf : Aims → ℕ → Type 0
-IsOneOf aims aim = (aim ≡ aims.alone) ⊎ ((aims.several ≤ aim) × (aim ≤ aims.last))

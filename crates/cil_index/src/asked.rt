@@ -1,8 +1,7 @@
 //! What is asked, and what is searched for.
 
 ghost use Rattle.cil_index.specs.Memberships.{AreFilters};
-ghost use Rattle.std.specs.Prelude.{◌↔◌, IsTrue};
-ghost use Rattle.cil_index.specs.Found.{AreAims, IsOneOf};
+ghost use Rattle.cil_index.specs.Found.{AreAims};
 
 use crate::key::{BEYOND, SEVERAL, aim, class_key, type_key};
 use crate::memberships::{Memberships, WORDS};
@@ -35,15 +34,6 @@ pub struct Aims {
     pub several: u32,
     pub last: u32,
     pub filter: [u64; WORDS],
-}
-
-impl Aims {
-    /// Whether an aim is on the class, with the target alone or with one that is not one type.
-    pub fn may_be(&self, aim: u32) -> bool
-        ensures { IsTrue result ↔ IsOneOf self.now aim }
-    {
-        aim == self.alone || self.several <= aim && aim <= self.last
-    }
 }
 
 /// What is searched for.

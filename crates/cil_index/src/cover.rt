@@ -17,7 +17,7 @@ use crate::search::{aim_start, near_start};
 use cil_conditions::Settings;
 
 /// The permissions that the rules cover, by their index. It takes no memory: for each set that has the source, and for each large one, it costs
-/// a step for each aim of a part of this set, or two searches where these are more than sixteen, and a test of each that may reach the target.
+/// two searches among the aims of a part of this set, and a test of each that may reach the target.
 pub fn covered(searched: &Searched, index: &Index, settings: &Settings, asked: &Asked) -> u32
     requires index { IsIndex searched.now.sets.now searched.now.records.now index.now }
     requires memberships { AreMemberships searched.now.sets.now searched.now.memberships.now }
@@ -96,8 +96,8 @@ impl Search<'_> {
         mask
     }
 
-    /// The permissions of the rules with a source that cover what is asked: those that reach the target alone, or several types. Few aims are gone
-    /// through one by one, others are searched. The set of a number that is handed on is known to have the source.
+    /// The permissions of the rules with a source that cover what is asked: those that reach the target alone, or several types. The set of a
+    /// number that is handed on is known to have the source.
     fn by_source(&self, source: usize, known: Option<u32>) -> u32
         requires search { IsSearch self.now }
         requires known { IsKnownSource self.now known }
@@ -105,8 +105,8 @@ impl Search<'_> {
         ensures all { HandsIn self.now source result }
     {
         let bounds = self.index.bounds(source, self.aims.alone);
-        if bounds.are_few() {
-            return self.joined(known, bounds, self.aims.last);
+        if bounds.is_empty() {
+            return 0;
         }
         let one = aim_start(&self.index.aims, bounds.start, bounds.to, self.aims.alone);
         let several = near_start(&self.index.aims, one, bounds.to, self.aims.several);
@@ -172,15 +172,12 @@ impl Search<'_> {
         ensures sound { (bit : ℕ) → IsBitSet result bit → CoversIn self.now (get_or self.now.index.now.places.items at 0) bit }
         ensures all { IsAimedIn self.now (get_or self.now.index.now.aims.items at 0) → (bit : ℕ) → CoversIn self.now (get_or self.now.index.now.places.items at 0) bit → IsBitSet result bit }
     {
-        let aim = self.index.aims[at];
-        if !self.aims.may_be(aim) {
-            return 0;
-        }
+        let target = self.index.aims[at] % TARGETS;
         if !may_reach(
             self.searched.memberships,
             self.asked,
             &self.aims.filter,
-            aim % TARGETS,
+            target,
         ) {
             return 0;
         }

@@ -1,6 +1,6 @@
 //! The index of rules: aims, in parts.
 
-ghost use Rattle.std.specs.Prelude.{◌≡◌, ◌≤◌, ◌<◌, ◌+◌, Contains, IfOk, IsTrue, Some, get_or, length, slice_get};
+ghost use Rattle.std.specs.Prelude.{◌≡◌, ◌≤◌, ◌<◌, ◌+◌, ◌↔◌, Contains, IfOk, IsTrue, Some, get_or, length, slice_get};
 ghost use Rattle.std.specs.List.Sorted.{IsSorted};
 ghost use Rattle.cil_index.specs.declared.key.Entry.{Entry as AnEntry};
 ghost use Rattle.cil_index.specs.Entries.{AreAllStarts, AreBefore, AreBounds, AreEntries, BeginAt, HasAll, HasEntries, IsColumn, IsIndex, IsLaidOut, aim_of_record, beyond, entry_cmp, entry_of, part_of, target_key};
@@ -8,7 +8,6 @@ ghost use Rattle.cil_index.specs.declared.record.Record.{Record as ARecord};
 
 use crate::key::{Entry, ITSELF, TARGETS, aim, class_key, set_key};
 use crate::record::Record;
-use crate::search::are_few;
 use crate::sets::Sets;
 use cil_base::{NoMemory, short};
 use std::alloc::Global;
@@ -33,9 +32,11 @@ pub struct Bounds {
 }
 
 impl Bounds {
-    /// Whether there are so few, or none, that they are gone through one by one: that takes less time than to search them.
-    pub fn are_few(&self) -> bool {
-        are_few(self.start, self.to)
+    /// Whether there are none.
+    pub fn is_empty(&self) -> bool
+        ensures { IsTrue result ↔ self.now.to ≤ self.now.start }
+    {
+        self.to <= self.start
     }
 }
 
