@@ -110,14 +110,14 @@ impl Search<'_> {
         }
         let one = aim_start(&self.index.aims, bounds.start, bounds.to, self.aims.alone);
         let several = near_start(&self.index.aims, one, bounds.to, self.aims.several);
-        self.found(
+        self.joined(
             known,
             Bounds {
                 start: one,
                 to: bounds.to,
             },
             self.aims.alone,
-        ) | self.found(
+        ) | self.joined(
             known,
             Bounds {
                 start: several,
@@ -125,22 +125,6 @@ impl Search<'_> {
             },
             self.aims.last,
         )
-    }
-
-    /// The permissions of the rules of some aims, up to the last one, that cover what is asked. Where there are none it costs a comparison.
-    fn found(&self, known: Option<u32>, bounds: Bounds, last: u32) -> u32
-        requires search { IsSearch self.now }
-        requires known { IsKnownSource self.now known }
-        requires within { bounds.to ≤ length self.now.index.now.aims.items }
-        requires rising { RiseIn self.now.index.now.aims.items bounds.start bounds.to }
-        ensures sound { IsSound self.now result }
-        ensures all { (at bit : ℕ) → bounds.start ≤ at → at < bounds.to → get_or self.now.index.now.aims.items at 0 ≤ last → IsAimedIn self.now (get_or self.now.index.now.aims.items at 0)
-            → CoversIn self.now (get_or self.now.index.now.places.items at 0) bit → IsBitSet result bit }
-    {
-        if is_any_to(&self.index.aims, bounds, last) {
-            return self.joined(known, bounds, last);
-        }
-        0
     }
 
     /// The permissions of the rules of some aims, up to the last one, that cover what is asked.
@@ -189,16 +173,4 @@ impl Search<'_> {
             self.index.places[at] as usize,
         )
     }
-}
-
-/// Whether some of these rising aims is not behind an aim.
-fn is_any_to(aims: &Vec<u32>, bounds: Bounds, last: u32) -> bool
-    requires within { bounds.to ≤ length aims.now.items }
-    requires rising { RiseIn aims.now.items bounds.start bounds.to }
-    ensures { (at : ℕ) → bounds.start ≤ at → at < bounds.to → get_or aims.now.items at 0 ≤ last → IsTrue result }
-{
-    if bounds.to <= bounds.start {
-        return false;
-    }
-    aims[bounds.start] <= last
 }
