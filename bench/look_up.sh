@@ -50,9 +50,9 @@ for blocks in 0 2 120; do
     { install_request "$work/module"; echo LOAD; } >"$work/loaded"
     valgrind --tool=callgrind --callgrind-out-file="$work/calls" "$program" session <"$work/loaded" >"$work/replies" 2>"$work/log"
     expect_no_refusal
-    calls_of "$work/calls" walk::Walk::unscoped >"$work/counts$blocks"
+    calls_of "$work/calls" walk::Walk::word >"$work/counts$blocks"
     awk -v namespaces="$((blocks + 1))" '{
-        if ($1 == 0) { print "no call of Walk::unscoped: it is no function of this program"; exit 1 }
+        if ($1 == 0) { print "no call of Walk::word: it is no function of this program"; exit 1 }
         printf "%10d %9d %14.1f %14.0f\n", namespaces, $1, $2 / 1e6, $2 / $1 }' "$work/counts$blocks"
 done
 awk '{ printf "a look-up in three namespaces takes %.0f instructions: %s\n", $2 / $1, ($2 <= 300 * $1 ? "at most 300" : "MORE THAN 300") }' \

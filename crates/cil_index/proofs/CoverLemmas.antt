@@ -20,11 +20,11 @@ use Rattle.cil_index.specs.declared.index.Index.{Index}
 use Rattle.cil_index.specs.declared.memberships.Memberships.{Memberships}
 use Rattle.cil_index.specs.declared.record.Record.{Record}
 use Rattle.cil_index.specs.Entries.{AreBelow, AreBounds, IsInPart, IsIndex, IsLaidOut, RiseIn, aim_of, alone_key, in_class, itself, key_of_set, part_of, reached_key, set_key, target_key}
-use Rattle.cil_index.specs.Found.{AreAims, CoversAt, HandOver, Hands, IsAimed, Matches, MayReach}
-use Rattle.cil_index.specs.Memberships.{AreMemberships, HasBit, IsFilter, IsKnownFor}
+use Rattle.cil_index.specs.Found.{AreAims, CoversAt, HandOver, Hands, IsAimed, IsOneOf, Matches, MayReach}
+use Rattle.cil_index.specs.Memberships.{AreMemberships}
 use Rattle.cil_index.specs.Kept.{reached, rule_of, target_at}
 use Rattle.cil_index.specs.Sets.{set_of}
-use Rattle.cil_index.proofs.KeyLemmas.{aimed_target, alone_below, class_of_aim, reach_cases}
+use Rattle.cil_index.proofs.KeyLemmas.{alone_below, class_of_aim, reach_cases}
 use Rattle.cil_index.proofs.RunLemmas.{none_past}
 use Rattle.cil_index.proofs.SetLemmas.{none_is, set_within}
 
@@ -83,9 +83,26 @@ module _ (on : ℕ → Bool) (rules : List Rule) (m : Memberships) (asked : Aske
       let same = class_of_aim m asked (get_or index.aims.items at 0) aims aimed are in
       subst (λ p. IsInPart index.starts.items p at) (ap (λ c. source * 16 + c % 16) same) of
 
-  -- where that part has no aims nothing is handed over
-  pub none_between : (source : ℕ) (b : Bounds) (aims : Aims) (mask : ℕ) → AreAims m asked aims → AreBounds index (part_of source aims.alone) b → b.to ≤ b.start → Hands on rules m asked index source mask
-  none_between source b aims mask are bounds none at bit of aimed = let inside = bounds.all at (in_that_part source at aims are aimed of) in let ge = inside.0 in let less = inside.1 in absurd (omega (arith, ge, less, none))
+  -- an aim that may reach the target is the one alone, or stands among the others
+  one_of : (aim : ℕ) (aims : Aims) → AreAims m asked aims → IsAimed m asked aim → IsOneOf aims aim
+  one_of aim aims are aimed =
+      let is = aimed.1 in
+      let second = are.several_is in
+      let third = are.last_is in
+      elim (reach_cases m asked aimed.0 aimed.2) [
+        | inl same ↦ inl (is ∙ ap (aim_of (in_class asked.class)) same ∙ sym are.alone_is)
+        | inr w ↦ let low = w.0 in let high = w.1 in inr (omega (arith, is, second, low), omega (arith, is, third, high))
+      ]
+
+  -- what all aims of the part hand over up to the last one is what the source does
+  pub whole_part : (source : ℕ) (b : Bounds) (aims : Aims) (mask : ℕ) → AreAims m asked aims → AreBounds index (part_of source aims.alone) b → HandsIn b.start b.to aims.last mask → Hands on rules m asked index source mask
+  whole_part source b aims mask are bounds has at bit of aimed covers =
+      let inside = bounds.all at (in_that_part source at aims are aimed of) in
+      let first = are.alone_is in
+      let third = are.last_is in
+      let less = alone_below asked.target in
+      let low : get_or index.aims.items at 0 ≤ aims.last = elim (one_of (get_or index.aims.items at 0) aims are aimed) [ inl same ↦ omega (arith, same, first, third, less) | inr w ↦ w.1 ] in
+      has at bit inside.0 inside.1 low aimed covers
 
   -- an aim of a source that may reach the target stands at one of two places
   pub two_runs : (source : ℕ) (b : Bounds) (one two : ℕ) (aims : Aims) (x y : ℕ) → AreAims m asked aims → AreBounds index (part_of source aims.alone) b → AreBelow index.aims.items b.start one aims.alone
@@ -313,17 +330,6 @@ held_as_noted sets m set t answer are several_types small tells = (
     | inr known ↦ elim known [ inl past ↦ absurd (omega (arith, past, small)) | inr member ↦ tells.1 member ]
   ],
 )
-
--- ---- the target of an aim
-
--- an aim whose target cannot have the type is not of the class, or does not reach it
-pub never_aimed : (m : Memberships) (asked : Asked) (aim : ℕ) (answer : Bool) → (MayReach m asked (aim % 4194304) → IsTrue answer) → answer ≡ false → IsAimed m asked aim → ⊥
-never_aimed m asked aim answer tells not_ aimed = let yes_ = tells (aimed_target m asked aim aimed) in absurd cc
-
--- a set whose bit is not there is not noted for the type, so it is not known for it unless it is large
-pub not_known : (m : Memberships) (t set : ℕ) (words : List ℕ) (answer : Bool) → IsFilter (get_or m.lists.items t []) words → set < m.first_large → (HasBit words set → IsTrue answer) → answer ≡ false → IsKnownFor m t set → ⊥
-not_known m t set words answer filtered small tells none (inl past) = omega (arith, past, small)
-not_known m t set words answer filtered small tells none (inr member) = let yes_ = tells (filtered set member) in absurd cc
 
 -- ---- a set that is known to have the source
 

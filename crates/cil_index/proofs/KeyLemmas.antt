@@ -1,6 +1,6 @@
 -- What stands in aims.
 use Rattle.std.specs.Prelude.{◌⊎◌, ◌%◌, IsTrue, cond, nat_lt}
-use Rattle.std.proofs.Common.{◌≡◌, ℕ, Bool, ◌+◌, ◌-◌, ◌/◌, ◌<◌, ◌≤◌, true, false, List, [], ◌∷◌, length, refl, sym, ◌∙◌, ap, subst, inl, inr, arith}
+use Rattle.std.proofs.Common.{◌≡◌, ℕ, Bool, ◌+◌, ◌/◌, ◌<◌, ◌≤◌, true, false, List, [], ◌∷◌, length, refl, sym, ◌∙◌, ap, subst, inl, inr, arith}
 use Rattle.std.proofs.Math.Dec.{ltb}
 use Rattle.std.proofs.lemmas.Bool.Decides.{nat_tests}
 use Rattle.cil_index.specs.declared.asked.Asked.{Asked}
@@ -8,8 +8,8 @@ use Rattle.cil_index.specs.declared.memberships.Memberships.{Memberships}
 use Rattle.cil_base.specs.Places.{is_there, not_there}
 use Rattle.cil_index.specs.Entries.{aim_of, alone_key, beyond, in_class, itself, key_of_set, last_type, reached_key, set_key, several, target_key}
 use Rattle.cil_index.specs.declared.asked.Aims.{Aims}
-use Rattle.cil_index.specs.Found.{AreAims, IsAimed, MayReach}
-use Rattle.cil_index.specs.Memberships.{IsKnownFor}
+use Rattle.cil_index.specs.Found.{AreAims, IsAimed, LeadsAway, MayReach}
+use Rattle.cil_index.specs.Memberships.{HasBit, IsKnownFor}
 use Rattle.cil_index.specs.Sets.{set_of}
 use Rattle.cil_index.proofs.SetLemmas.{none_is}
 
@@ -73,13 +73,6 @@ module _ (m : Memberships) (asked : Asked) where
     | inr w ↦ let le = w.1 in omega (arith, le)
   ]
 
-  low_part : (c key aim : ℕ) → aim ≡ aim_of c key → key < 4194304 → aim % 4194304 ≡ key
-  low_part c key aim e less = omega (arith, e, less)
-
-  -- the target is the lower part of the aim
-  pub aimed_target : (aim : ℕ) → IsAimed m asked aim → MayReach m asked (aim % 4194304)
-  aimed_target aim (key, is, r) = subst (MayReach m asked) (sym (low_part (in_class asked.class) key aim is (reach_small key r))) r
-
   -- the class is the upper part
   pub class_of_aim : (aim : ℕ) (aims : Aims) → IsAimed m asked aim → AreAims m asked aims → aim / 4194304 ≡ aims.alone / 4194304
   class_of_aim aim aims (key, is, r) are =
@@ -88,19 +81,30 @@ module _ (m : Memberships) (asked : Asked) where
       let less = alone_below asked.target in
       omega (arith, is, small, alone, less)
 
-  -- a target that is no type, not the source and not without room is a set, and known for the type
-  pub set_reached : (key : ℕ) → several ≤ key → (key ≡ beyond → ⊥) → (key ≡ itself → ⊥) → MayReach m asked key → IsKnownFor m asked.target (key - several)
-  set_reached key ge room other (inl e) = let less = alone_below asked.target in absurd (omega (arith, e, less, ge))
-  set_reached key ge room other (inr (inl e)) = absurd (other e.0)
-  set_reached key ge room other (inr (inr (n, e, known))) = elim (set_is n) [
-    | inl d ↦ let sum = d.0 in let same : n ≡ key - several = omega (arith, e, sum) in subst (IsKnownFor m asked.target) same known
-    | inr d ↦ absurd (room (e ∙ d))
-  ]
+  module _ (aims : Aims) (are : AreAims m asked aims) (aim : ℕ) where
+    -- the number of a set is the lower part of its aim
+    set_part : (c n : ℕ) → aim ≡ aim_of c (set_key n) → several + n ≡ set_key n → set_key n < itself → n ≡ aim % several
+    set_part c n is sum less = omega (arith, is, sum, less)
 
-  pub itself_reached : (key : ℕ) → key ≡ itself → MayReach m asked key → asked.source ≡ asked.target
-  itself_reached key is (inl e) = let less = alone_below asked.target in absurd (omega (arith, e, less, is))
-  itself_reached key is (inr (inl e)) = e.1
-  itself_reached key is (inr (inr (n, e, known))) = elim (set_is n) [
-    | inl d ↦ let less = d.1 in absurd (omega (arith, e, less, is))
-    | inr d ↦ absurd (omega (arith, e, d, is))
-  ]
+    -- an aim of a small set that has the type has a bit in the filter
+    small_led : (n : ℕ) → aim ≡ aim_of (in_class asked.class) (set_key n) → several + n ≡ set_key n → set_key n < itself → IsKnownFor m asked.target n → LeadsAway aims aim → ⊥
+    small_led n is sum less known (other, inl before) = let first = are.several_is in omega (arith, is, sum, before, first)
+    small_led n is sum less known (other, inr (inr (own, differ))) = let at = are.itself_is in omega (arith, is, less, own, at)
+    small_led n is sum less (inl past) (other, inr (inl (small, none))) = let below = are.small_below in omega (arith, is, sum, small, below, past)
+    small_led n is sum less (inr member) (other, inr (inl (small, none))) = none (subst (HasBit aims.filter) (set_part (in_class asked.class) n is sum less) (are.filtered n member))
+
+    -- an aim that may reach the target does not lead away
+    pub never_away : LeadsAway aims aim → IsAimed m asked aim → ⊥
+    never_away away (key, is, inl e) = away.0 (is ∙ ap (aim_of (in_class asked.class)) e ∙ sym are.alone_is)
+    never_away (other, inl before) (key, is, inr (inl e)) = let first = are.several_is in let at = e.0 in omega (arith, is, at, before, first)
+    never_away (other, inr (inl (small, none))) (key, is, inr (inl e)) = let at = e.0 in let below = are.sets_below in let there = are.itself_is in omega (arith, is, at, small, below, there)
+    never_away (other, inr (inr (own, differ))) (key, is, inr (inl e)) = differ (are.same e.1)
+    never_away away (key, is, inr (inr (n, e, known))) = elim (set_is n) [
+      | inl d ↦ small_led n (is ∙ ap (aim_of (in_class asked.class)) e) d.0 d.1 known away
+      | inr d ↦ never_beyond (is ∙ ap (aim_of (in_class asked.class)) (e ∙ d)) away
+    ]
+      where
+        never_beyond : aim ≡ aim_of (in_class asked.class) beyond → LeadsAway aims aim → ⊥
+        never_beyond is (other, inl before) = let first = are.several_is in omega (arith, is, before, first)
+        never_beyond is (other, inr (inl (small, none))) = let below = are.sets_below in let there = are.itself_is in omega (arith, is, small, below, there)
+        never_beyond is (other, inr (inr (own, differ))) = let there = are.itself_is in omega (arith, is, own, there)

@@ -1,5 +1,5 @@
 -- What the rule at a place covers, and by which aims the rules that cover something are found.
-use Rattle.std.specs.Prelude.{◌≡◌, ◌⊎◌, ℕ, Bool, true, List, [], Contains, IsBitSet, Some, get_or, slice_get}
+use Rattle.std.specs.Prelude.{◌≡◌, ◌<◌, ◌≤◌, ◌+◌, ◌%◌, ◌⊎◌, ℕ, Bool, true, List, [], Contains, IsBitSet, IsTrue, Some, get_or, slice_get}
 use Rattle.cil_conditions.specs.Active.{is_active}
 use Rattle.cil_rules.specs.Rule.{Rule}
 use Rattle.cil_rules.specs.Covers.{Covers, Reaches}
@@ -8,7 +8,7 @@ use Rattle.cil_index.specs.declared.asked.Asked.{Asked}
 use Rattle.cil_index.specs.declared.index.Index.{Index}
 use Rattle.cil_index.specs.declared.memberships.Memberships.{Memberships}
 use Rattle.cil_index.specs.Entries.{IsInPart, aim_of, alone_key, beyond, in_class, itself, part_of, set_key, several}
-use Rattle.cil_index.specs.Memberships.{IsFilter, IsKnownFor}
+use Rattle.cil_index.specs.Memberships.{HasBit, IsFilter, IsKnownFor}
 
 -- the rule at the place covers the permission
 pub record CoversAt (on : ℕ → Bool) (rules : List Rule) (source target class_ place bit : ℕ) : Type 0 where
@@ -45,5 +45,19 @@ HandOver on rules m asked index among mask = (n : ℕ) → among n → Hands on 
 pub record AreAims (m : Memberships) (asked : Asked) (aims : Aims) : Type 0 where
   pub alone_is : aims.alone ≡ aim_of (in_class asked.class) (alone_key asked.target)
   pub several_is : aims.several ≡ aim_of (in_class asked.class) several
+  pub small_below : aims.large ≤ aim_of (in_class asked.class) (several + m.first_large)
+  pub sets_below : aims.large ≤ aims.itself
+  pub itself_is : aims.itself ≡ aim_of (in_class asked.class) itself
   pub last_is : aims.last ≡ aim_of (in_class asked.class) beyond
+  pub same : asked.source ≡ asked.target → IsTrue aims.is_itself
   pub filtered : IsFilter (get_or m.lists.items asked.target []) aims.filter
+
+-- the aim is the one with the target alone, or one with a target that is not one type
+abbrev pub IsOneOf : Aims → ℕ → Type 0
+IsOneOf aims aim = (aim ≡ aims.alone) ⊎ ((aims.several ≤ aim) × (aim ≤ aims.last))
+
+-- the aim is not the one with the target alone, and stands before those with a target that is not one type, or its target lacks the type: a small set by the filter, or the source
+abbrev pub LeadsAway : Aims → ℕ → Type 0
+LeadsAway aims aim =
+    (aim ≡ aims.alone → ⊥)
+    × ((aim < aims.several) ⊎ (((aim < aims.large) × (HasBit aims.filter (aim % several) → ⊥)) ⊎ ((aim ≡ aims.itself) × (IsTrue aims.is_itself → ⊥))))

@@ -11,13 +11,12 @@ ghost use Rattle.cil_index.specs.Sets.{set_of};
 
 use crate::asked::{Aims, Asked, Searched, aims_of};
 use crate::index::{Bounds, Index};
-use crate::key::TARGETS;
-use crate::matches::{mask_known, may_reach};
+use crate::matches::mask_known;
 use crate::search::{aim_start, near_start};
 use cil_conditions::Settings;
 
 /// The permissions that the rules cover, by their index. It takes no memory: for each set that has the source, and for each large one, it costs
-/// two searches among the aims of a part of this set, and a test of each that may reach the target.
+/// a step for each aim of a part of this set, or two searches where these are many, and a test of each rule that may have the target.
 pub fn covered(searched: &Searched, index: &Index, settings: &Settings, asked: &Asked) -> u32
     requires index { IsIndex searched.now.sets.now searched.now.records.now index.now }
     requires memberships { AreMemberships searched.now.sets.now searched.now.memberships.now }
@@ -96,8 +95,8 @@ impl Search<'_> {
         mask
     }
 
-    /// The permissions of the rules with a source that cover what is asked: those that reach the target alone, or several types. The set of a
-    /// number that is handed on is known to have the source.
+    /// The permissions of the rules with a source that cover what is asked: those that reach the target alone, or several types. Few aims are gone
+    /// through one by one, others are searched. The set of a number that is handed on is known to have the source.
     fn by_source(&self, source: usize, known: Option<u32>) -> u32
         requires search { IsSearch self.now }
         requires known { IsKnownSource self.now known }
@@ -105,19 +104,19 @@ impl Search<'_> {
         ensures all { HandsIn self.now source result }
     {
         let bounds = self.index.bounds(source, self.aims.alone);
-        if bounds.is_empty() {
-            return 0;
+        if bounds.are_few() {
+            return self.joined(known, bounds, self.aims.last);
         }
         let one = aim_start(&self.index.aims, bounds.start, bounds.to, self.aims.alone);
         let several = near_start(&self.index.aims, one, bounds.to, self.aims.several);
-        self.found(
+        self.joined(
             known,
             Bounds {
                 start: one,
                 to: bounds.to,
             },
             self.aims.alone,
-        ) | self.found(
+        ) | self.joined(
             known,
             Bounds {
                 start: several,
@@ -125,22 +124,6 @@ impl Search<'_> {
             },
             self.aims.last,
         )
-    }
-
-    /// The permissions of the rules of some aims, up to the last one, that cover what is asked. Where there are none it costs a comparison.
-    fn found(&self, known: Option<u32>, bounds: Bounds, last: u32) -> u32
-        requires search { IsSearch self.now }
-        requires known { IsKnownSource self.now known }
-        requires within { bounds.to ≤ length self.now.index.now.aims.items }
-        requires rising { RiseIn self.now.index.now.aims.items bounds.start bounds.to }
-        ensures sound { IsSound self.now result }
-        ensures all { (at bit : ℕ) → bounds.start ≤ at → at < bounds.to → get_or self.now.index.now.aims.items at 0 ≤ last → IsAimedIn self.now (get_or self.now.index.now.aims.items at 0)
-            → CoversIn self.now (get_or self.now.index.now.places.items at 0) bit → IsBitSet result bit }
-    {
-        if is_any_to(&self.index.aims, bounds, last) {
-            return self.joined(known, bounds, last);
-        }
-        0
     }
 
     /// The permissions of the rules of some aims, up to the last one, that cover what is asked.
@@ -172,13 +155,7 @@ impl Search<'_> {
         ensures sound { (bit : ℕ) → IsBitSet result bit → CoversIn self.now (get_or self.now.index.now.places.items at 0) bit }
         ensures all { IsAimedIn self.now (get_or self.now.index.now.aims.items at 0) → (bit : ℕ) → CoversIn self.now (get_or self.now.index.now.places.items at 0) bit → IsBitSet result bit }
     {
-        let target = self.index.aims[at] % TARGETS;
-        if !may_reach(
-            self.searched.memberships,
-            self.asked,
-            &self.aims.filter,
-            target,
-        ) {
+        if !self.aims.may_lead(self.index.aims[at]) {
             return 0;
         }
         mask_known(
@@ -189,16 +166,4 @@ impl Search<'_> {
             self.index.places[at] as usize,
         )
     }
-}
-
-/// Whether some of these rising aims is not behind an aim.
-fn is_any_to(aims: &Vec<u32>, bounds: Bounds, last: u32) -> bool
-    requires within { bounds.to ≤ length aims.now.items }
-    requires rising { RiseIn aims.now.items bounds.start bounds.to }
-    ensures { (at : ℕ) → bounds.start ≤ at → at < bounds.to → get_or aims.now.items at 0 ≤ last → IsTrue result }
-{
-    if bounds.to <= bounds.start {
-        return false;
-    }
-    aims[bounds.start] <= last
 }

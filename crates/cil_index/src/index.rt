@@ -1,6 +1,6 @@
 //! The index of rules: aims, in parts.
 
-ghost use Rattle.std.specs.Prelude.{◌≡◌, ◌≤◌, ◌<◌, ◌+◌, ◌↔◌, Contains, IfOk, IsTrue, Some, get_or, length, slice_get};
+ghost use Rattle.std.specs.Prelude.{◌≡◌, ◌≤◌, ◌<◌, ◌+◌, Contains, IfOk, IsTrue, Some, get_or, length, slice_get};
 ghost use Rattle.std.specs.List.Sorted.{IsSorted};
 ghost use Rattle.cil_index.specs.declared.key.Entry.{Entry as AnEntry};
 ghost use Rattle.cil_index.specs.Entries.{AreAllStarts, AreBefore, AreBounds, AreEntries, BeginAt, HasAll, HasEntries, IsColumn, IsIndex, IsLaidOut, aim_of_record, beyond, entry_cmp, entry_of, part_of, target_key};
@@ -24,6 +24,9 @@ pub struct Index {
 /// The aims of a set stand in so many parts, by what this number leaves of the class.
 const PARTS: usize = 16;
 
+/// So few aims of a part are gone through one by one: a processor guesses what comes next better than in a search by halving.
+const FEW: usize = 64;
+
 /// Where some aims begin and end.
 #[derive(Clone, Copy)]
 pub struct Bounds {
@@ -32,11 +35,9 @@ pub struct Bounds {
 }
 
 impl Bounds {
-    /// Whether there are none.
-    pub fn is_empty(&self) -> bool
-        ensures { IsTrue result ↔ self.now.to ≤ self.now.start }
-    {
-        self.to <= self.start
+    /// Whether there are so few, or none, that they are gone through one by one: that takes less time than to search them.
+    pub fn are_few(&self) -> bool {
+        self.to <= self.start || self.to - self.start <= FEW
     }
 }
 

@@ -1,9 +1,9 @@
 //! By what a rule is found: the number of the set of its sources, its class, and its target.
 
-ghost use Rattle.std.specs.Prelude.{◌≡◌, ◌≤◌, refl};
+ghost use Rattle.std.specs.Prelude.{◌≡◌, ◌≤◌, ◌+◌, refl};
 ghost use Rattle.std.specs.Cmp.{eq_by_cmp_equiv, partial_equiv_from_equiv, partial_order_from_total};
 ghost use Rattle.std.specs.Ordering.{as_partial_cmp, eq_by_cmp};
-ghost use Rattle.cil_index.specs.Entries.{aim_of, alone_key, beyond, entry_cmp, entry_total, in_class, last_class, set_key};
+ghost use Rattle.cil_index.specs.Entries.{aim_of, alone_key, beyond, entry_cmp, entry_total, in_class, itself, last_class, set_key, several};
 
 use std::cmp::Ordering;
 
@@ -70,6 +70,18 @@ pub fn set_key(set: u32) -> u32
         SEVERAL + set
     } else {
         BEYOND
+    }
+}
+
+/// From here on stand the sets from a number on, and what is no set.
+pub fn large_key(set: usize) -> u32
+    ensures set { result ≤ several + set }
+    ensures room { result ≤ itself }
+{
+    if set < (ITSELF - SEVERAL) as usize {
+        set as u32 + SEVERAL
+    } else {
+        ITSELF
     }
 }
 

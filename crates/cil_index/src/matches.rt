@@ -1,54 +1,19 @@
-//! Whether one rule is on what is asked, and by its aim whether it may be.
+//! Whether one rule is on what is asked.
 
 ghost use Rattle.std.specs.Prelude.{◌≡◌, ◌<◌, ◌↔◌, ℕ, [], get_or, IfSome, IsBitSet, IsTrue, Contains, Some};
 ghost use Rattle.cil_rules.specs.Covers.{Reaches};
-ghost use Rattle.cil_index.specs.Memberships.{AreMemberships, IsFilter, IsKnownFor};
+ghost use Rattle.cil_index.specs.Memberships.{AreMemberships};
 ghost use Rattle.cil_conditions.specs.Active.{is_active};
 ghost use Rattle.cil_conditions.specs.Bits.{is_on};
 ghost use Rattle.cil_rules.specs.Kept.{branch_named};
 ghost use Rattle.cil_index.specs.Kept.{rule_of, target_at};
-ghost use Rattle.cil_index.specs.Found.{CoversAt, Matches, MayReach};
+ghost use Rattle.cil_index.specs.Found.{CoversAt, Matches};
 ghost use Rattle.cil_index.specs.Searched.{rules_in};
 ghost use Rattle.cil_index.specs.Sets.{set_of};
 
 use crate::asked::{Asked, Searched};
-use crate::key::{BEYOND, ITSELF, SEVERAL};
-use crate::memberships::{Memberships, WORDS, has_bit};
 use crate::record::Record;
 use cil_conditions::{Branch, Settings};
-
-/// Whether a target that stands so in an aim may have the type.
-pub fn may_reach(
-    memberships: &Memberships,
-    asked: &Asked,
-    filter: &[u64; WORDS],
-    target: u32,
-) -> bool
-    requires { IsFilter (get_or memberships.now.lists.items asked.now.target []) filter.now }
-    ensures { MayReach memberships.now asked.now target → IsTrue result }
-{
-    if target < SEVERAL || target == BEYOND {
-        return true;
-    }
-    if target == ITSELF {
-        return asked.source == asked.target;
-    }
-    may_have(memberships, asked.target, filter, target - SEVERAL)
-}
-
-/// Whether a set is noted for a type, or asked for every type.
-fn may_have(memberships: &Memberships, number: usize, filter: &[u64; WORDS], set: u32) -> bool
-    requires { IsFilter (get_or memberships.now.lists.items number []) filter.now }
-    ensures { IsKnownFor memberships.now number set → IsTrue result }
-{
-    if set as usize >= memberships.first_large {
-        return true;
-    }
-    if has_bit(filter, set) {
-        return memberships.has(number, set);
-    }
-    false
-}
 
 /// The permissions of the rule at a place, where it is on what is asked.
 pub fn mask_at(searched: &Searched, settings: &Settings, asked: &Asked, place: usize) -> u32

@@ -1,6 +1,5 @@
 -- Modules at places of the bytes, and the bytes that spell them.
 use Rattle.std.proofs.Common.{◌≡◌, ℕ, ◌+◌, ◌^◌, ◌<◌, ◌≤◌, List, [], ◌∷◌, ◌++◌, length, take, drop, refl, sym, ◌∙◌, ap, subst, inl, inr, arith}
-use Rattle.std.specs.Global.{Vec}
 use Rattle.std.specs.List.{flat_map}
 use Rattle.std.specs.Int.{w64, from_be_bytes}
 use Rattle.std.proofs.lemmas.Bool.{cases_lt}
@@ -10,18 +9,17 @@ use Rattle.std.proofs.lemmas.Nat.{be_bytes_8}
 use Rattle.cil_sexpr.specs.Text.{IsReadable}
 use Rattle.cil_modset.specs.Bundle.{AreBytes, magic, number, entry, bundle, IsBundle}
 use Rattle.cil_modset.specs.Faults.{number_at, header_size, promised, HasHeader, HasModule, HasModules, IsRightUpTo, AllBelow}
-use Rattle.cil_modset.specs.Modules.{texts_of}
-use Rattle.cil_modset.proofs.RisingLemmas.{length-texts_of, rising_push}
+use Rattle.cil_modset.proofs.RisingLemmas.{rising_push}
 
 -- what was written when all is written
-pub written_all : (vs : List (Vec ℕ)) (bytes start m n : List ℕ) (i : ℕ) → bytes ≡ start ++ flat_map entry (take i (texts_of vs))
-    → start ≡ m ++ n → m ≡ magic → n ≡ number (length vs) → length vs ≤ i → bytes ≡ bundle (texts_of vs)
-written_all vs bytes start m n i e s m_is n_is le =
+pub written_all : (texts : List (List ℕ)) (bytes start m n : List ℕ) (i : ℕ) → bytes ≡ start ++ flat_map entry (take i texts)
+    → start ≡ m ++ n → m ≡ magic → n ≡ number (length texts) → length texts ≤ i → bytes ≡ bundle texts
+written_all texts bytes start m n i e s m_is n_is le =
     e
-    ∙ ap (λ (w : List (List ℕ)). start ++ flat_map entry w) (take_all i (texts_of vs) (omega (arith, length-texts_of vs)))
-    ∙ ap (λ (w : List ℕ). w ++ flat_map entry (texts_of vs))
-    (s ∙ ap (λ (w : List ℕ). w ++ n) m_is ∙ ap (λ (w : List ℕ). magic ++ w) (n_is ∙ ap number (sym (length-texts_of vs))))
-    ∙ append_assoc magic (number (length (texts_of vs))) (flat_map entry (texts_of vs))
+    ∙ ap (λ (w : List (List ℕ)). start ++ flat_map entry w) (take_all i texts le)
+    ∙ ap (λ (w : List ℕ). w ++ flat_map entry texts)
+    (s ∙ ap (λ (w : List ℕ). w ++ n) m_is ∙ ap (λ (w : List ℕ). magic ++ w) n_is)
+    ∙ append_assoc magic (number (length texts)) (flat_map entry texts)
 
 -- ---- bytes and numbers
 

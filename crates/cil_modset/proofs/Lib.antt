@@ -8,5 +8,7 @@ pub mod LawLemmas
 pub mod NumberLemmas
 pub mod PlaceLemmas
 pub mod RisingLemmas
+pub mod RowChangeLemmas
+pub mod RowLemmas
 pub mod WalkLemmas
 pub mod SpelledLemmas

@@ -6,4 +6,5 @@ pub mod Laws
 pub mod Modules
 pub mod NewTexts
 pub mod Refusal
+pub mod Rows
 pub mod Unions

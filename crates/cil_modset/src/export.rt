@@ -2,18 +2,18 @@
 
 ghost use Rattle.std.specs.Prelude.{◌≡◌, ◌++◌, IfOk, OnOk};
 ghost use Rattle.cil_modset.specs.Bundle.{bundle, entry};
-ghost use Rattle.cil_modset.specs.Modules.{texts_of};
 
+use crate::texts::Texts;
 use std::alloc::{AllocError, Global};
 
-/// The bundle of a list of texts.
-pub(crate) fn write(alloc: Global, texts: &[Vec<u8>]) -> Result<Vec<u8>, AllocError>
-    ensures { IfOk result (λ bytes. bytes.items ≡ bundle (texts_of texts.now)) }
+/// The bundle of some texts.
+pub(crate) fn write(alloc: Global, texts: &Texts) -> Result<Vec<u8>, AllocError>
+    ensures { IfOk result (λ bytes. bytes.items ≡ bundle texts.now) }
 {
     let mut bytes = Vec::from_slice(alloc, b"CILB\x01")?;
     bytes.extend_from_slice(&(texts.len() as u64).to_be_bytes())?;
-    for text in texts {
-        write_entry(&mut bytes, text.as_slice())?;
+    for i in 0..texts.len() {
+        write_entry(&mut bytes, texts.get(i))?;
     }
     Ok(bytes)
 }

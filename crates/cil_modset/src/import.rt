@@ -10,6 +10,7 @@ ghost use Rattle.cil_modset.specs.Refusal.{RefusesBundle};
 use crate::error::{BundleError, BundleFault};
 use crate::new_texts::NewTexts;
 use crate::order::is_below;
+use crate::texts::Texts;
 use cil_sexpr::{ReadError, read};
 use std::alloc::Global;
 
@@ -30,11 +31,11 @@ struct Progress {
 /// The modules of a bundle that we do not have.
 pub(crate) fn new_texts_of(
     alloc: Global,
-    ours: &[Vec<u8>],
+    ours: &Texts,
     bytes: &[u8],
 ) -> Result<Vec<Vec<u8>>, BundleError>
-    requires { AreModules (texts_of ours.now) }
-    ensures found { IfOk result (λ fresh. IsImportOf bytes.now (texts_of ours.now) (texts_of fresh.items)) }
+    requires { AreModules ours.now }
+    ensures found { IfOk result (λ fresh. IsImportOf bytes.now ours.now (texts_of fresh.items)) }
     ensures refusal { IfErr result (RefusesBundle bytes.now) }
 {
     let count = read_header(bytes)?;
@@ -98,16 +99,16 @@ fn module_at(bytes: &[u8], at: usize) -> Option<&[u8]>
 /// Reads the next module of the bundle.
 fn take_module(
     alloc: Global,
-    ours: &[Vec<u8>],
+    ours: &Texts,
     bytes: &[u8],
     index: u64,
     progress: &mut Progress,
 ) -> Result<(), BundleError>
-    requires ours { AreModules (texts_of ours.now) }
+    requires ours { AreModules ours.now }
     requires promised { index < promised bytes.now }
-    requires before { IsImportedUpTo bytes.now (texts_of ours.now) (texts_of progress.old.walk.fresh.items)
+    requires before { IsImportedUpTo bytes.now ours.now (texts_of progress.old.walk.fresh.items)
         index progress.old.start progress.old.at progress.old.walk.passed }
-    ensures ok { OnOk result (IsImportedUpTo bytes.now (texts_of ours.now) (texts_of progress.new.walk.fresh.items)
+    ensures ok { OnOk result (IsImportedUpTo bytes.now ours.now (texts_of progress.new.walk.fresh.items)
         (index + 1) progress.new.start progress.new.at progress.new.walk.passed) }
     ensures refusal { IfErr result (RefusesBundle bytes.now) }
 {

@@ -2,10 +2,11 @@
 
 ghost use Rattle.std.specs.Prelude.{◌≡◌, ℕ, ◌+◌, ◌<◌, ◌≤◌, ◌↔◌, List, [], ◌∷◌, ◌++◌, length, IsTrue, OnOk, Contains};
 ghost use Rattle.cil_modset.specs.Faults.{AllBelow};
-ghost use Rattle.cil_modset.specs.Modules.{IsBelow, IsRising, module_of, texts_of};
+ghost use Rattle.cil_modset.specs.Modules.{IsBelow, module_of, texts_of};
 ghost use Rattle.cil_modset.specs.NewTexts.{HasPassed};
 
 use crate::order::{is_below, is_same};
+use crate::texts::Texts;
 use std::alloc::{AllocError, Global};
 
 /// The new texts of a merge or an import, up to where it has read.
@@ -29,17 +30,16 @@ impl NewTexts {
     }
 
     /// Goes on to the next text, which is after all that were read, and returns whether we have it.
-    pub(crate) fn knows(&mut self, ours: &[Vec<u8>], text: &[u8]) -> bool
-        requires rising { IsRising (texts_of ours.now) }
-        requires within { self.old.passed ≤ length ours.now }
-        ensures known { (seen : List (List ℕ)) → HasPassed (texts_of ours.now) seen self.old.passed → AllBelow seen text.now
-            → (IsTrue result ↔ Contains (texts_of ours.now) text.now) }
-        ensures passed { (seen : List (List ℕ)) → HasPassed (texts_of ours.now) seen self.old.passed → AllBelow seen text.now
-            → HasPassed (texts_of ours.now) (seen ++ text.now ∷ []) self.new.passed }
+    pub(crate) fn knows(&mut self, ours: &Texts, text: &[u8]) -> bool
+        requires { self.old.passed ≤ length ours.now }
+        ensures known { (seen : List (List ℕ)) → HasPassed ours.now seen self.old.passed → AllBelow seen text.now
+            → (IsTrue result ↔ Contains ours.now text.now) }
+        ensures passed { (seen : List (List ℕ)) → HasPassed ours.now seen self.old.passed → AllBelow seen text.now
+            → HasPassed ours.now (seen ++ text.now ∷ []) self.new.passed }
         ensures fresh { self.new.fresh ≡ self.old.fresh }
     {
         self.passed = pass_below(ours, self.passed, text);
-        self.passed < ours.len() && is_same(ours[self.passed].as_slice(), text)
+        self.passed < ours.len() && is_same(ours.get(self.passed), text)
     }
 
     /// Keeps a text that we do not have.
@@ -54,15 +54,15 @@ impl NewTexts {
 }
 
 /// The first index from `from` on whose text is not before `text`.
-fn pass_below(ours: &[Vec<u8>], from: usize, text: &[u8]) -> usize
+fn pass_below(ours: &Texts, from: usize, text: &[u8]) -> usize
     requires { from ≤ length ours.now }
     ensures onward { from ≤ result }
     ensures within { result ≤ length ours.now }
-    ensures below { (k : ℕ) → from ≤ k → k < result → IsBelow (module_of (texts_of ours.now) k) text.now }
-    ensures stops { result < length ours.now → IsBelow (module_of (texts_of ours.now) result) text.now → ⊥ }
+    ensures below { (k : ℕ) → from ≤ k → k < result → IsBelow (module_of ours.now k) text.now }
+    ensures stops { result < length ours.now → IsBelow (module_of ours.now result) text.now → ⊥ }
 {
     let mut at = from;
-    while at < ours.len() && is_below(ours[at].as_slice(), text) {
+    while at < ours.len() && is_below(ours.get(at), text) {
         at += 1;
     }
     at

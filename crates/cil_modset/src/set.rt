@@ -1,26 +1,23 @@
 //! A set of modules: the texts in byte order, each once.
 
-ghost use Rattle.std.specs.Prelude.{◌≡◌, ℕ, ◌+◌, ◌<◌, ◌↔◌, List, [], length, Contains, IsTrue, IfOk, IfErr, OnOk, OnErr};
+ghost use Rattle.std.specs.Prelude.{◌≡◌, ℕ, ◌<◌, ◌↔◌, List, [], length, Contains, IsTrue, IfOk};
 ghost use Rattle.cil_modset.specs.Bundle.{bundle};
 ghost use Rattle.cil_modset.specs.Changes.{IsImported, IsInstalled};
-ghost use Rattle.cil_modset.specs.Gather.{AreApart};
-ghost use Rattle.cil_modset.specs.Modules.{AreModules, IsUnion, IsPlaceOf, IsRising, module_of, texts_of};
+ghost use Rattle.cil_modset.specs.Modules.{AreModules, module_of, texts_of};
 ghost use Rattle.cil_modset.specs.NewTexts.{AreNew};
 ghost use Rattle.sha2.specs.Sha256.{sha256};
 
 use crate::error::BundleError;
 use crate::export::write;
-use crate::gather::gather;
 use crate::import::new_texts_of;
 use crate::join::Join;
 use crate::new_texts::NewTexts;
-use crate::order::{is_below, is_same};
+use crate::texts::Texts;
 use cil_base::NoMemory;
-use cil_sexpr::{ReadError, read};
+use cil_sexpr::ReadError;
 use sha2::{Digest, Sha256};
 use std::alloc::{AllocError, Global};
 use std::marker::Model;
-use std::mem;
 
 /// The result of an installation.
 #[derive(Clone, Copy, Debug, PartialEq, Eq)]
@@ -35,18 +32,18 @@ pub enum Installed {
 /// module is its index in that list.
 #[derive(Debug, Drop)]
 pub struct ModuleSet {
-    texts: Vec<Vec<u8>>,
+    texts: Texts,
 }
 
 impl Model for ModuleSet {
     ghost use Rattle.std.specs.Prelude.{List, ℕ};
-    ghost use Rattle.cil_modset.specs.Modules.{AreModules, texts_of};
+    ghost use Rattle.cil_modset.specs.Modules.{AreModules};
 
     ghost Value = { List (List ℕ) };
 
-    ghost view = { λ set. texts_of set.texts.items };
+    ghost view = { λ set. set.texts };
 
-    ghost invariant = { λ set. AreModules (texts_of set.texts.items) };
+    ghost invariant = { λ set. AreModules set.texts };
 }
 
 impl ModuleSet {
@@ -55,7 +52,7 @@ impl ModuleSet {
         ensures { result ≡ [] }
     {
         ModuleSet {
-            texts: Vec::new(alloc),
+            texts: Texts::new(alloc),
         }
     }
 
@@ -66,14 +63,10 @@ impl ModuleSet {
     pub fn install(&mut self, alloc: Global, text: &[u8]) -> Result<Installed, ReadError>
         ensures { IsInstalled self.old text.now result self.new }
     {
-        match place_of(self.texts.as_slice(), text) {
-            Ok(_) => Ok(Installed::Known),
-            Err(place) => {
-                read(alloc, text)?;
-                let copy = Vec::from_slice(alloc, text)?;
-                self.texts.insert(place, copy)?;
-                Ok(Installed::New)
-            }
+        if self.texts.add(alloc, text)? {
+            Ok(Installed::New)
+        } else {
+            Ok(Installed::Known)
         }
     }
 
@@ -81,7 +74,7 @@ impl ModuleSet {
     pub fn try_clone(&self, alloc: Global) -> Result<ModuleSet, NoMemory>
         ensures { IfOk result (λ copy. copy ≡ self.now) }
     {
-        let texts = copy_of(alloc, self.texts.as_slice())?;
+        let texts = self.texts.try_clone(alloc)?;
         Ok(ModuleSet { texts })
     }
 
@@ -90,7 +83,7 @@ impl ModuleSet {
         ensures len { result ≡ length self.now }
         ensures modules { AreModules self.now }
     {
-        self.texts.as_slice().len()
+        self.texts.len()
     }
 
     /// The module of a number, which must be less than `len`.
@@ -98,14 +91,14 @@ impl ModuleSet {
         requires { i < length self.now }
         ensures { result.now ≡ module_of self.now i }
     {
-        self.texts[i].as_slice()
+        self.texts.get(i)
     }
 
     /// Whether a text is in the set.
     pub fn contains(&self, text: &[u8]) -> bool
         ensures { IsTrue result ↔ Contains self.now text.now }
     {
-        place_of(self.texts.as_slice(), text).is_ok()
+        self.texts.contains(text)
     }
 
     /// The SHA-256 digest of the module of a number, which must be less than `len`.
@@ -120,7 +113,7 @@ impl ModuleSet {
     pub fn export(&self, alloc: Global) -> Result<Vec<u8>, NoMemory>
         ensures { IfOk result (λ bytes. bytes.items ≡ bundle self.now) }
     {
-        Ok(write(alloc, self.texts.as_slice())?)
+        Ok(write(alloc, &self.texts)?)
     }
 
     /// Adds the modules of a bundle, and returns how many of them are new.
@@ -129,27 +122,8 @@ impl ModuleSet {
     pub fn import(&mut self, alloc: Global, bytes: &[u8]) -> Result<u64, BundleError>
         ensures { IsImported self.old bytes.now result self.new }
     {
-        let fresh = new_texts_of(alloc, self.texts.as_slice(), bytes)?;
-        Ok(self.add_all(alloc, fresh)?)
-    }
-
-    /// Adds texts that are not in the set, and returns how many there are. If there are none, no memory is allocated.
-    fn add_all(&mut self, alloc: Global, fresh: Vec<Vec<u8>>) -> Result<u64, AllocError>
-        requires modules { AreModules (texts_of fresh.items) }
-        requires apart { AreApart self.old (texts_of fresh.items) }
-        ensures union { OnOk result (IsUnion self.old (texts_of fresh.items) self.new) }
-        ensures added { IfOk result (λ added. length self.new ≡ length self.old + added) }
-        ensures err { OnErr result (self.new ≡ self.old) }
-    {
-        let kept = self.texts.len();
-        let added = fresh.len();
-        if added == 0 {
-            return Ok(0);
-        }
-        let room = Vec::with_capacity(alloc, kept + added)?;
-        let ours = mem::replace(&mut self.texts, Vec::new(alloc));
-        self.texts = gather(ours, fresh, room);
-        Ok(added as u64)
+        let fresh = new_texts_of(alloc, &self.texts, bytes)?;
+        Ok(self.texts.add_all(alloc, fresh)?)
     }
 }
 
@@ -168,53 +142,22 @@ impl Join for ModuleSet {
     ghost idempotent = { union_with_itself };
 
     fn merge(&mut self, alloc: Global, other: &Self) -> Result<u64, NoMemory> {
-        let fresh = missing_from(alloc, self.texts.as_slice(), other.texts.as_slice())?;
-        let added = self.add_all(alloc, fresh)?;
+        let fresh = missing_from(alloc, &self.texts, &other.texts)?;
+        let added = self.texts.add_all(alloc, fresh)?;
         Ok(added)
     }
 }
 
-/// The texts of a sorted list that are not in ours.
-fn missing_from(
-    alloc: Global,
-    ours: &[Vec<u8>],
-    theirs: &[Vec<u8>],
-) -> Result<Vec<Vec<u8>>, AllocError>
-    requires ours { IsRising (texts_of ours.now) }
-    requires theirs { IsRising (texts_of theirs.now) }
-    ensures { IfOk result (λ fresh. AreNew (texts_of ours.now) (texts_of theirs.now) (texts_of fresh.items)) }
+/// The texts of theirs that are not in ours.
+fn missing_from(alloc: Global, ours: &Texts, theirs: &Texts) -> Result<Vec<Vec<u8>>, AllocError>
+    ensures { IfOk result (λ fresh. AreNew ours.now theirs.now (texts_of fresh.items)) }
 {
     let mut walk = NewTexts::new(alloc);
-    for text in theirs {
-        let text = text.as_slice();
+    for i in 0..theirs.len() {
+        let text = theirs.get(i);
         if !walk.knows(ours, text) {
             walk.keep(alloc, text)?;
         }
     }
     Ok(walk.fresh)
-}
-
-/// A copy of some texts.
-fn copy_of(alloc: Global, texts: &[Vec<u8>]) -> Result<Vec<Vec<u8>>, AllocError>
-    ensures { IfOk result (λ copy. texts_of copy.items ≡ texts_of texts.now) }
-{
-    let mut copy = Vec::with_capacity(alloc, texts.len())?;
-    for text in texts {
-        copy.push(Vec::from_slice(alloc, text.as_slice())?)?;
-    }
-    Ok(copy)
-}
-
-/// The index of a text in a sorted list, or else the index at which it would be inserted.
-fn place_of(texts: &[Vec<u8>], text: &[u8]) -> Result<usize, usize>
-    requires { IsRising (texts_of texts.now) }
-    ensures found { OnOk result (Contains (texts_of texts.now) text.now) }
-    ensures absent { IfErr result (IsPlaceOf (texts_of texts.now) text.now) }
-{
-    let place = texts.partition_point(|known| is_below(known.as_slice(), text));
-    if place < texts.len() && is_same(texts[place].as_slice(), text) {
-        Ok(place)
-    } else {
-        Err(place)
-    }
 }

@@ -48,7 +48,7 @@ module _ (kept : Kept) (s : OptSet) where
   one_more (o ∷ os) a rest = or_moved a (list_all s (o ∷ os)) (list_any (list_all s) rest)
 
   lives_as : (rows : List Row) → lives rows ≡ list_any (is_row_enabled kept s) rows
-  unfolding rounds_by
+  unfolding rounds_by is_always
   lives_as [] = refl
   lives_as (r ∷ rs) =
       one_more (round_at kept r.at) (list_any (is_always kept) rs) (flat_map (rounds_by kept) rs) ∙ ap (λ b. is_row_enabled kept s r || b) (lives_as rs)
@@ -147,7 +147,7 @@ module _ (i : Kept) (rows : List Row) (runs : List Run) (of : AreRunsOf i rows r
       same_Some a b (sym at_m ∙ ap (slice_get runs) (one_number run_key by_name_cmp key_total one_key runs m n a b of.are.rising at_m at_n same) ∙ at_n)
 
   pub keep_rounds : KeepRounds (namespaces_in i) (items_in i) es
-  unfolding rounds_by
+  unfolding rounds_by is_always
   keep_rounds = λ n e at x d cx cd is some.
       let ss = namespaces_in i in
       let (k, below, same) = place_of i x cx in
@@ -237,7 +237,7 @@ module _ (i : Kept) (rows : List Row) (runs : List Run) (of : AreRunsOf i rows r
       subst (λ k. k ≤ length (namespaces_in i)) (sym (ap (λ (z : Said). z.space) said)) within
 
   named_rounds : AreRounds (items_in i) es
-  unfolding rounds_by
+  unfolding rounds_by is_always
   named_rounds e r ce cr =
       let (n, below_n, at) = get_at es e ce in
       let (run, in_runs, said) = run_for i es runs says n e at in

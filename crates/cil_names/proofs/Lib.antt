@@ -41,6 +41,7 @@ pub mod SpelledLemmas
 pub mod UnresolvedLemmas
 pub mod UpToLemmas
 pub mod WordedLemmas
+pub mod WrittenPartLemmas
 pub mod StandLemmas
 pub mod StandingLemmas
 pub mod LeafLemmas

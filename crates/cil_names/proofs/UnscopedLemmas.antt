@@ -1,16 +1,18 @@
 -- A word without dots whose name one entry has could name this one alone, and only where its namespace is in the scope.
-use Rattle.std.proofs.Common.{◌≡◌, ◌≤◌, ◌==◌, ◌||◌, ◌+◌, ℕ, Bool, true, false, List, [], ◌∷◌, ◌++◌, length, map, refl, sym, ◌∙◌, ap, subst, inl, inr, arith}
-use Rattle.std.specs.Prelude.{All, IfSome, IsTrue, Some, None, slice_get}
+use Rattle.std.proofs.Common.{◌≡◌, ◌≤◌, ◌==◌, ◌||◌, ◌+◌, ℕ, true, false, if◌then◌else◌, List, [], ◌∷◌, ◌++◌, length, map, refl, sym, ◌∙◌, ap, inl, inr, arith}
+use Rattle.std.specs.Prelude.{All, MatchOption, Option, Some, None, slice_get}
+use Rattle.std.specs.Option.{is_some}
 use Rattle.std.specs.List.{AllByRecursion, IsDistinct, flat_map, list_any}
 use Rattle.std.proofs.lemmas.Bool.{cases_Bool, eqb-true, true≢false}
-use Rattle.std.proofs.lemmas.List.Elements.{recursion_from_All}
+use Rattle.std.proofs.lemmas.List.Elements.{All-head, recursion_from_All}
 use Rattle.std.proofs.lemmas.Option.{same_Some}
 use Rattle.cil_base.specs.Places.{get_contains}
 use Rattle.cil_syntax.specs.declared.kind.Sign.{Sign}
+use Rattle.cil_syntax.specs.declared.path.PathParts.{PathParts}
 use Rattle.cil_syntax.specs.declared.term.Word.{Word}
 use Rattle.cil_syntax.specs.Kinds.{is_wanted}
 use Rattle.cil_faults.specs.Namespaces.{Namespace}
-use Rattle.cil_syntax.specs.Scopes.{EndsGlobally, IsDotless, IsTaken, Scope, ScopedWord, asked, asked_by, spaces_asked}
+use Rattle.cil_syntax.specs.Scopes.{EndsGlobally, IsDotless, IsParted, Scope, ScopedWord, asked, asked_by, names_backwards, spaces_asked}
 use Rattle.cil_syntax.proofs.AskedLemmas.{one_name}
 use Rattle.cil_blocks.specs.declared.namespaces.Space.{Space}
 use Rattle.cil_blocks.specs.Namespaces.{AreNamespaces, space_at}
@@ -18,32 +20,32 @@ use Rattle.cil_blocks.proofs.NamespaceLemmas.{global_at, same_number}
 use Rattle.cil_names.specs.declared.entry.Entry.{Entry}
 use Rattle.cil_names.specs.Entries.{AreOrdered, candidate, candidates_of, is_entry_of, listed, scope_of, scoped}
 use Rattle.cil_names.specs.declared.namesakes.Namesakes.{Namesakes}
-use Rattle.cil_names.specs.declared.sought.Sought.{Sought}
-use Rattle.cil_names.specs.Soles.{AreRanked, IsSole, IsSoleOf, in_scope}
-use Rattle.cil_names.specs.Sought.{IsSought}
+use Rattle.cil_names.specs.Soles.{AreRanked, IsOfRank, IsSole, IsSoleOf, in_scope}
 use Rattle.cil_names.proofs.CandidateLemmas.{parts_of, place_none, place_some, they_are}
 use Rattle.cil_names.proofs.SoleLemmas.{one_alone}
 
 -- ---- what a word without dots asks
 
 -- a word without dots asks its own name
-sole_of_word : (es : List Entry) (w : Word) (global : Bool) (names : List ℕ) (d : ℕ) → IsTaken w.bytes global names → global ≡ false → IsDotless names → IsSole es names w.sign d
-    → IsSoleOf es w d
-sole_of_word es w global names d taken not_led plain sole = record {
-  name = names;
-  plain = taken.asks ∙ (λ i. asked_by (not_led i) (one_name names plain i));
-  sole = sole;
+plain_asked : (word : List ℕ) → IsDotless word → asked word ≡ record { global = false; inner = []; name = word }
+plain_asked [] plain = refl
+plain_asked (b ∷ bytes) plain =
+    ap (λ o. if o then asked_by true (names_backwards bytes) else asked_by false (names_backwards (b ∷ bytes))) (All-head (λ x. (x == 46) ≡ false) b bytes plain)
+    ∙ ap (asked_by false) (one_name (b ∷ bytes) plain)
+
+-- what no dot parts has none
+pub unparted : (o : Option PathParts) (names : List ℕ) → MatchOption o (IsDotless names) (λ p. IsParted names p.first.now p.rest.now) → false ≡ is_some o → IsDotless names
+unparted None names so none = so
+unparted (Some p) names so none = absurd (true≢false (sym none))
+
+-- the one entry of the name of a word without dots
+pub sole_plain : (es : List Entry) (w : Word) (r : ℕ) → IsDotless w.bytes → IsOfRank w.sign r → (n : Namesakes) → AreRanked es (record { name = w.bytes; rank = r }) n → n.end ≡ n.first + 1
+    → IsSoleOf es w n.first
+sole_plain es w r plain of_rank n ranked end = record {
+  name = w.bytes;
+  plain = plain_asked w.bytes plain;
+  sole = one_alone es w.bytes w.sign r of_rank n ranked end;
 }
-
--- what is known of a word tells where the one entry of its name is
-module _ (es : List Entry) (w : Word) (s : Sought) (known : IsSought es w s) (n : Namesakes) (is : s.same ≡ Some n) where
-  pub ranked_there : AreRanked es (record { name = s.path.names.now; rank = s.rank }) n
-  ranked_there = subst (λ o. IfSome o (AreRanked es (record { name = s.path.names.now; rank = s.rank }))) is known.same
-
-  pub sole_sought : s.path.global ≡ false → n.end ≡ n.first + 1 → IsSoleOf es w n.first
-  sole_sought not_led end =
-      sole_of_word es w s.path.global s.path.names.now n.first known.taken not_led (known.dotless.0 (subst (λ o. IfSome o (λ _. IsTrue s.path.dotless)) is known.plain))
-      (one_alone es s.path.names.now w.sign s.rank known.ranked n ranked_there end)
 
 id_map : (s : Scope) → map (λ (n : Namespace). [] ++ n) s ≡ s
 id_map [] = refl

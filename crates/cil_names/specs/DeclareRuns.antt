@@ -75,7 +75,7 @@ listed_unless true x = []
 listed_unless false x = x ∷ []
 
 -- whether the declaration of a row stands outside all optionals
-abbrev pub is_always : Kept → Row → Bool
+unfoldable pub is_always : Kept → Row → Bool
 is_always i r = has_none (round_at i r.at)
 
 -- the optionals round the statement of a row, where there are some

@@ -1,5 +1,4 @@
-//! What a statement asks for, by the parts of what it says: for statements that may say a list where a word is written. No pass over
-//! parts calls itself, however deep lists nest.
+//! What a statement asks for, by the parts of what it says. No pass over parts calls itself, however deep lists nest.
 
 ghost use Rattle.std.specs.Prelude.{◌≡◌, ◌≤◌, ◌<◌, ◌+◌, ◌^◌, ◌∷◌, ◌++◌, [], IfOk, IfSome, List, MatchOption, OnOk, drop, length, map, suc, take};
 ghost use Rattle.std.specs.List.{flat_map};

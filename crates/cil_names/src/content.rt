@@ -8,6 +8,7 @@ ghost use Rattle.cil_syntax.specs.Scopes.{Scope};
 ghost use Rattle.cil_names.specs.Declarations.{bare};
 ghost use Rattle.cil_names.specs.DeclareRows.{AreThere, all_bare_there, bare_there};
 
+use crate::written_parts::word_there;
 use cil_base::NoMemory;
 use cil_blocks::ScopeList;
 use cil_macros::{Instances, PlacedWord};
@@ -96,10 +97,8 @@ fn is_same_word<'a>(
     ensures { IfOk result (λ same. IsTrue same ↔ (bare (word_at both.now.instances.now both.now.one.at (word_in both.now.one.«module» a.now))
         ≡ bare (word_at both.now.instances.now both.now.other.at (word_in both.now.other.«module» b.now)))) }
 {
-    let word = a.in_module(both.one.module);
-    let other = b.in_module(both.other.module);
-    let here = both.instances.word(both.one.at, &word);
-    let there = both.instances.word(both.other.at, &other);
+    let here = word_there(both.instances, both.one, a);
+    let there = word_there(both.instances, both.other, b);
     is_same_placed(alloc, both.instances, &here, &there)
 }
 

@@ -79,14 +79,7 @@ fn entry_of<'a>(
 fn any_always(instances: &Instances, rows: &[Row]) -> bool
     ensures { result ≡ list_any (is_always instances.now) rows.now }
 {
-    rows.iter().any(|row| is_always(instances, row))
-}
-
-/// Whether the declaration of a row stands outside all optionals.
-fn is_always(instances: &Instances, row: &Row) -> bool
-    ensures { result ≡ is_always instances.now row.now }
-{
-    row.is_outside(instances)
+    rows.iter().any(|row| row.is_outside(instances))
 }
 
 /// The optionals round the declarations of rows, where there are some.
@@ -112,7 +105,7 @@ fn push_round(
 ) -> Result<(), NoMemory>
     ensures { OnOk result (map (λ round. round.items) rounds.new.items ≡ map (λ round. round.items) rounds.old.items ++ rounds_by instances.now row.now) }
 {
-    if is_always(instances, row) {
+    if row.is_outside(instances) {
         return Ok(());
     }
     rounds.push(row.round(alloc, instances)?)?;

@@ -7,8 +7,8 @@
 //! what is declared; `specs/Entries.antt` how entries and numbers of namespaces stand for that; `laws.rt` says that what a
 //! word means is the entry that it names. `permission_word.rt` has what permission words name
 //! (`Names::resolve_permission`); the permissions of classes are given, by `permissions.rt`. `asked.rt` lists what a statement
-//! asks for, and tells which word has a number (`word_asked`); where a statement may say a list, `asked_parts.rt` goes by the parts of what
-//! it says.
+//! asks for, and tells which word has a number (`word_asked`): `asked_parts.rt` goes by the parts of what it says, which `written_parts.rt`
+//! makes where it says words alone.
 #![tactic(auto)]
 
 pub mod asked;
@@ -41,6 +41,7 @@ pub mod spelled;
 mod table;
 mod unscoped;
 pub mod worded;
+mod written_parts;
 
 pub use asked::word_asked;
 pub use enabled::{flags_of, is_declared};

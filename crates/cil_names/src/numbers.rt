@@ -19,7 +19,7 @@ use cil_syntax::{Bytes, Kind};
 use std::alloc::Global;
 
 /// The qualified names of the declared symbols that have sections, each kind in byte order.
-#[derive(Debug, Drop)]
+#[derive(Drop)]
 pub struct Sections {
     /// The users.
     pub users: Vec<Bytes>,
@@ -34,7 +34,7 @@ pub struct Sections {
 }
 
 /// Numbering symbols: the names of each section, and the number of each entry in the section of its kind.
-#[derive(Debug, Drop)]
+#[derive(Drop)]
 pub struct Numbering {
     /// The names.
     pub sections: Sections,

@@ -1,8 +1,9 @@
 //! The rows from which the declared names are gathered: one for each declaration of an instance, and one for object_r.
 
-ghost use Rattle.std.specs.Prelude.{◌≡◌, ◌↔◌, ◌∷◌, ◌+◌, ◌++◌, ◌<◌, [], IfOk, IsTrue, OnOk, length};
+ghost use Rattle.std.specs.Prelude.{◌≡◌, ◌∷◌, ◌+◌, ◌++◌, ◌<◌, [], IfOk, OnOk, length};
 ghost use Rattle.cil_macros.specs.Items.{items_in};
 ghost use Rattle.cil_names.specs.DeclareRows.{AreAllRows, AreRowsUpTo, object_row, round_at, row_key};
+ghost use Rattle.cil_names.specs.DeclareRuns.{is_always};
 ghost use Rattle.cil_names.specs.Entries.{by_name_cmp};
 
 use cil_base::NoMemory;
@@ -100,7 +101,7 @@ impl Row<'_> {
 
     /// Whether the declaring instance is in no optional.
     pub fn is_outside(&self, instances: &Instances) -> bool
-        ensures { IsTrue result ↔ (round_at instances.now self.now.at ≡ []) }
+        ensures { result ≡ is_always instances.now self.now }
     {
         match self.at {
             Some(at) => instances.is_outside(at),

@@ -12,10 +12,10 @@ use crate::by_name::is_wanted_in;
 use crate::entry::Entry;
 use crate::guesses::Guesses;
 use crate::look::{push_candidates, push_listed};
-use crate::sought::seek;
+use crate::namesakes::few_named;
 use cil_base::NoMemory;
 use cil_blocks::{Namespaces, ScopeList};
-use cil_syntax::Word;
+use cil_syntax::{Word, parted};
 
 /// How many namespaces are sooner gone through than asked.
 const SHORT_SCOPE: usize = 8;
@@ -93,15 +93,12 @@ fn sole_word(entries: &[Entry], guesses: &Guesses, word: &Word) -> Option<usize>
     requires { IsStrictlySortedBy (on key_of by_name_cmp) entries.now }
     ensures { IfSome result (IsSoleOf entries.now word.now) }
 {
-    let Some(sought) = seek(entries, guesses, word) else {
-        return None;
-    };
-    if sought.path.global {
+    let rank = word.sign.rank()?;
+    let name = word.bytes.as_slice();
+    if parted(name).is_some() {
         return None;
     }
-    let Some(same) = sought.same else {
-        return None;
-    };
+    let same = few_named(entries, guesses, name, rank)?;
     if same.end - same.first != 1 {
         return None;
     }

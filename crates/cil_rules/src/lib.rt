@@ -1,4 +1,4 @@
-//! The rules of a policy by numbers, and which permissions they cover.
+//! The rules of a policy, and which permissions they cover.
 //!
 //! Start at `rules_of` in `rules.rt`. `specs/Covered.antt` says which rules of a policy cover a permission, `specs/Rule.antt` what a rule
 //! is in numbers, `specs/Records.antt` which rule a statement has, `specs/Covers.antt` what a rule covers, and `specs/Order.antt` in which

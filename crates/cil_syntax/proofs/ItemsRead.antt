@@ -17,7 +17,7 @@ use Rattle.cil_syntax.specs.Shapes.{Inner, Reading, Shape, many, Cell}
 use Rattle.cil_syntax.specs.Words.{reads}
 use Rattle.cil_syntax.specs.Readings.{joined, read_row, cell_of, cells_of}
 use Rattle.cil_syntax.specs.Terms.{Term, Terms, nil, cons}
-use Rattle.cil_syntax.specs.Told.{Adds, told, IsTold, AreTold, Tells, TellAll, before, behind, AreRead}
+use Rattle.cil_syntax.specs.Told.{told, IsTold, AreTold, Tells, TellAll, before, behind, AreRead}
 use Rattle.cil_syntax.specs.Written.{fault_in}
 
 -- the faults of two parts, told one after the other
@@ -78,27 +78,6 @@ stop_told m space whole rest later a old mid new terms e (Ok ts) so cut tells ha
 stop_told m space whole rest later a old mid new terms OtherShape (Err x) so cut tells handed =
     subst (λ y. TellAll m space whole old new (Err y)) (sym handed) (none_stops m space whole rest old mid terms later a new so cut tells)
 stop_told m space whole rest later a old mid new terms NoMemory (Err x) so cut tells handed = subst (λ y. TellAll m space whole old new (Err y)) (sym handed) tt
-
--- want of memory that was handed on
-pub memory_told : (m : ℕ) (space : List ℕ) (whole : Option (Reading (Terms Word))) (old new : List Fault) (e : Stop) (r : Result (Vec rust.Term) Stop) → e ≡ NoMemory
-    → IsErrAnd r (λ x. x ≡ e) → TellAll m space whole old new r
-memory_told m space whole old new e (Ok ts) is handed = absurd handed
-memory_told m space whole old new e (Err x) is handed = subst (λ y. TellAll m space whole old new (Err y)) (sym (handed ∙ is)) tt
-
--- what was read of a node is put behind what was read before it
-module _ (m : ℕ) (space : List ℕ) (whole rest later : Option (Reading (Terms Word))) (a : Option (Reading (Term Word))) (old mid new : List Fault) (terms more : List rust.Term)
-    (r : Result rust.Term Stop) (so : AreRead m space whole rest old mid terms) (cut : rest ≡ joined a later) (tells : Tells m space a mid new r) where
-  pub read_added : (u : Unit {0}) → Adds terms r more (Ok u) → AreRead m space whole later old new more
-  read_added u added = by r tells added where
-    by : (q : Result rust.Term Stop) → Tells m space a mid new q → Adds terms q more (Ok u) → AreRead m space whole later old new more
-    by (Ok t) tells_so put = more_read m space whole rest old mid terms later a new t more so cut tells_so put
-    by (Err e) tells_so put = absurd put
-
-  pub add_stopped : (e : Stop) (answer : Result (Vec rust.Term) Stop) → Adds terms r more (Err e) → IsErrAnd answer (λ x. x ≡ e) → TellAll m space whole old new answer
-  add_stopped e answer added handed = by r tells added where
-    by : (q : Result rust.Term Stop) → Tells m space a mid new q → Adds terms q more (Err e) → TellAll m space whole old new answer
-    by (Ok t) tells_so put = memory_told m space whole old new e answer put handed
-    by (Err f) tells_so put = stop_told m space whole rest later a old mid new terms f answer so cut tells_so (subst (λ g. IsErrAnd answer (λ x. x ≡ g)) put handed)
 
 pub all_read : (m : ℕ) (space : List ℕ) (whole rest : Option (Reading (Terms Word))) (old new : List Fault) (terms : Vec rust.Term) → AreRead m space whole rest old new terms.items
     → rest ≡ reads nil [] → AreTold m space whole old new (Some terms)

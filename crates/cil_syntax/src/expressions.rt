@@ -16,7 +16,6 @@ ghost use Rattle.cil_syntax.specs.Told.{TellAll, Tells, told};
 use crate::head::{Behind, Head, Part};
 use crate::kind::{Language, Sign};
 use crate::language::is_this_word;
-use crate::parts::add_read;
 use crate::reader::{Reader, bytes_at};
 use crate::shape::head_of;
 use crate::stop::Stop;
@@ -130,8 +129,8 @@ impl<'r, 'a> Reader<'r, 'a> {
     {
         let mut terms = Vec::with_capacity(self.alloc, nodes.len() - skipped)?;
         for index in skipped..nodes.len() {
-            let read = self.read_expression(language, &nodes[index], faults);
-            add_read(&mut terms, read)?;
+            let term = self.read_expression(language, &nodes[index], faults)?;
+            terms.push(term)?;
         }
         Ok(terms)
     }
@@ -194,8 +193,8 @@ impl<'r, 'a> Reader<'r, 'a> {
         }
         let mut terms = Vec::with_capacity(self.alloc, nodes.len())?;
         for index in 0..nodes.len() {
-            let read = self.read_part(&parts[index], &nodes[index], faults);
-            add_read(&mut terms, read)?;
+            let term = self.read_part(&parts[index], &nodes[index], faults)?;
+            terms.push(term)?;
         }
         Ok(terms)
     }
@@ -246,8 +245,8 @@ impl<'r, 'a> Reader<'r, 'a> {
         }
         let mut terms = Vec::with_capacity(self.alloc, nodes.len())?;
         for node in nodes {
-            let read = self.read_looked_up(sign, node, faults);
-            add_read(&mut terms, read)?;
+            let term = self.read_looked_up(sign, node, faults)?;
+            terms.push(term)?;
         }
         Ok(terms)
     }

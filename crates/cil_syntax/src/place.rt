@@ -1,8 +1,8 @@
 //! What is round the nodes that are read: the blocks, how far inside they are, and the parameters of the macro.
 
-ghost use Rattle.std.specs.Prelude.{◌≡◌, ◌++◌, ◌∷◌, [], IfOk, ℕ, None, Some, map, if◌then◌else◌};
+ghost use Rattle.std.specs.Prelude.{◌≡◌, ◌++◌, ◌∷◌, [], IfOk, List, ℕ, None, Some, map, if◌then◌else◌};
 ghost use Rattle.std.specs.List.{join_with_byte};
-ghost use Rattle.cil_syntax.specs.Around.{IsAround, bytes_of_names, is_block, names_of};
+ghost use Rattle.cil_syntax.specs.Around.{IsAround, is_block, names_of, names_shared};
 ghost use Rattle.cil_syntax.specs.Entries.{IsLike};
 ghost use Rattle.cil_syntax.specs.Said.{all_said, args_of};
 ghost use Rattle.cil_syntax.specs.Spelling.{is_one_of, same_bytes};
@@ -11,13 +11,15 @@ ghost use Rattle.cil_syntax.specs.Table.{Entry as of_table};
 ghost use Rattle.cil_syntax.specs.Table.{entry_of};
 ghost use Rattle.cil_syntax.specs.Written.{Context, allows, at_top, bytes_of, depth_of, front_word, innermost, inside_of, is_abstraction, is_macro, may_stand, named_in_front, names_its_block, nesting_within, parameters_of, parameters_round};
 
-use crate::clashes::{NameAt, is_named, name_of_front, parameters_of};
+use crate::clashes::{name_of_front, parameter_set};
 use crate::entry::Entry;
 use crate::kind::{Keyword, Nesting};
+use crate::name_set::NameSet;
 use crate::program::Statement;
 use crate::term::Term;
 use cil_base::NoMemory;
 use std::alloc::Global;
+use std::rc::Rc;
 
 /// What is round some nodes.
 #[derive(Drop)]
@@ -28,8 +30,8 @@ pub(crate) struct Place<'a> {
     pub(crate) nesting: Nesting,
     /// The number of the statement in which they directly stand; none at the top of a module.
     pub(crate) under: Option<usize>,
-    /// The parameters of the macro; none outside macros.
-    pub(crate) parameters: Vec<NameAt<'a>>,
+    /// The names of the macro's parameters, which all bodies in the macro share; none outside macros.
+    pub(crate) parameters: Option<Rc<NameSet<'a>>>,
 }
 
 /// Names, joined by dots. Errors: out of memory.
@@ -106,7 +108,7 @@ impl<'a> Place<'a> {
             blocks: Vec::new(alloc),
             nesting: Nesting::InBlock,
             under: None,
-            parameters: Vec::new(alloc),
+            parameters: None,
         }
     }
 
@@ -136,13 +138,16 @@ impl<'a> Place<'a> {
     }
 
     /// Whether a parameter of the macro has a name.
-    pub(crate) fn has_parameter(&self, name: &[u8]) -> bool
+    pub(crate) fn has_parameter(&self, name: &'a [u8]) -> bool
         ensures { (context : Context) → IsAround context self.now → result ≡ is_one_of (parameters_round context.macro) name.now }
     {
-        is_named(self.parameters.as_slice(), name)
+        match &self.parameters {
+            Some(parameters) => parameters.as_ref().has(name),
+            None => false,
+        }
     }
 
-    /// The inside of a statement that has a body. The names round it are copied, at most as many as lists nest.
+    /// The inside of a statement that has a body. The names of the blocks are copied, at most as many as lists nest.
     pub(crate) fn inside(
         &self,
         alloc: Global,
@@ -183,13 +188,18 @@ impl<'a> Place<'a> {
         &self,
         alloc: Global,
         statement: &Statement<'a>,
-    ) -> Result<Vec<NameAt<'a>>, NoMemory>
-        ensures { IfOk result (λ names. bytes_of_names names.items ≡ (if is_macro statement.now.keyword then map (λ p. p.name) (parameters_of (args_of statement.now)) else bytes_of_names self.now.parameters.items)) }
+    ) -> Result<Option<Rc<NameSet<'a>>>, NoMemory>
+        ensures { IfOk result (λ shared. (word : List ℕ) → is_one_of (names_shared shared) word
+            ≡ is_one_of (if is_macro statement.now.keyword then map (λ p. p.name) (parameters_of (args_of statement.now)) else names_shared self.now.parameters) word) }
     {
         if statement.keyword.is_macro() {
-            return parameters_of(alloc, statement.args.as_slice());
+            let set = parameter_set(alloc, statement.args.as_slice())?;
+            return Ok(Some(Rc::new(alloc, set)?));
         }
-        Ok(Vec::from_slice(alloc, self.parameters.as_slice())?)
+        match &self.parameters {
+            Some(parameters) => Ok(Some(parameters.clone()?)),
+            None => Ok(None),
+        }
     }
 }
 

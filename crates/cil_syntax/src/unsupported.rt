@@ -7,7 +7,7 @@ ghost use Rattle.cil_syntax.specs.Table.{is_unsupported, later_words, left_out_w
 use crate::spelling;
 
 /// The statements that are to be supported, and are not yet.
-const LATER_WORDS: [&[u8]; 19] = [
+const LATER_WORDS: [&[u8]; 20] = [
     b"sensitivity",
     b"sensitivityalias",
     b"sensitivityaliasactual",
@@ -27,10 +27,11 @@ const LATER_WORDS: [&[u8]; 19] = [
     b"rangetransition",
     b"constrain",
     b"mlsconstrain",
+    b"typepermissive",
 ];
 
 /// The statements that this product does not support.
-const LEFT_OUT_WORDS: [&[u8]; 13] = [
+const LEFT_OUT_WORDS: [&[u8]; 12] = [
     b"allowx",
     b"auditallowx",
     b"dontauditx",
@@ -43,7 +44,6 @@ const LEFT_OUT_WORDS: [&[u8]; 13] = [
     b"tunable",
     b"tunableif",
     b"deny",
-    b"typepermissive",
 ];
 
 /// Whether the word begins a statement that is known and not supported.

@@ -1,6 +1,6 @@
 -- Cells: each is one number, or the number of a permission or of a list.
-use Rattle.std.proofs.Common.{◌≡◌, ℕ, suc, zero, ◌+◌, ◌-◌, ◌<◌, ◌≤◌, Bool, true, false, cond, List, [], ◌∷◌, ◌++◌, length, get_or, refl, sym, ◌∙◌, ap, append-nil, arith, take}
-use Rattle.std.specs.Prelude.{None, Option, Some, nat_lt, slice_get}
+use Rattle.std.proofs.Common.{◌≡◌, ℕ, suc, zero, ◌+◌, ◌-◌, ◌<◌, ◌≤◌, Bool, true, false, cond, List, [], ◌∷◌, ◌++◌, length, get_or, refl, sym, ◌∙◌, ap, append-nil, arith, subst, take}
+use Rattle.std.specs.Prelude.{Err, None, Ok, OnErr, OnOk, Option, Result, Some, nat_lt, slice_get}
 use Rattle.cil_base.specs.Places.{none_some, some_same}
 use Rattle.cil_names.specs.Entries.{listed}
 use Rattle.cil_names.specs.Rows.{lists_at}
@@ -57,6 +57,33 @@ one_more_cell (d ∷ ds) n m k n' m' k' c h i j is (here, rest) = (
   (let a = here.0 in omega (arith, j, a), λ b. (let a = (here.1 b).0 in omega (arith, h, a), let a = (here.1 b).1 in omega (arith, i, a))),
   one_more_cell ds n m k n' m' k' c h i j is rest,
 )
+
+pub lists_more : (cells : List ℕ) (n m k k' : ℕ) → k ≤ k' → AreCells n m k cells → AreCells n m k' cells
+lists_more cells n m k k' h all = kept_cells cells n m k n m k' (omega arith) (omega arith) h all
+
+pub pairs_more : (cells : List ℕ) (n m k n' m' : ℕ) → n ≤ n' → m ≤ m' → AreCells n m k cells → AreCells n' m' k cells
+pairs_more cells n m k n' m' h i all = kept_cells cells n m k n' m' k h i (omega arith) all
+
+-- one more cell of each kind
+pub one_more : (cells : List ℕ) (n m k c : ℕ) → c < paired → AreCells n m k cells → AreCells n m k (cells ++ c ∷ [])
+one_more cells n m k c h all = one_more_cell cells n m k n m k c (omega arith) (omega arith) (omega arith) (omega (arith, h), λ b. (omega (arith, h), omega (arith, h))) all
+
+pub one_more_list : (cells : List ℕ) (n m k k' g : ℕ) → k ≤ k' → g < k' → AreCells n m k cells → AreCells n m k' (cells ++ (many + g) ∷ [])
+one_more_list cells n m k k' g h within all =
+    one_more_cell cells n m k n m k' (many + g) (omega arith) (omega arith) h (omega (arith, within), λ low. absurd (omega (arith, low))) all
+
+pub one_more_pair : (cells : List ℕ) (n m k n' m' g : ℕ) → n ≤ n' → m ≤ m' → g < n' → g < m' → paired + g < many → AreCells n m k cells → AreCells n' m' k (cells ++ (paired + g) ∷ [])
+one_more_pair cells n m k n' m' g h i a b few all =
+    one_more_cell cells n m k n' m' k (paired + g) h i (omega arith) (omega (arith, few), λ low. (omega (arith, a), omega (arith, b))) all
+
+-- the number of a permission is below those of lists
+pub below_many : (g : ℕ) → g < paired → paired + g < many
+below_many g h = omega (arith, h)
+
+-- a number was put behind the others, or nothing was
+pub after_push : {X E : Type 0} (r : Result X E) (P : List ℕ → Type 0) (old new : List ℕ) (n : ℕ) → OnOk r (new ≡ old ++ n ∷ []) → OnErr r (new ≡ old) → P old → P (old ++ n ∷ []) → P new
+after_push (Ok x) P old new n put same before after = subst P (sym put) after
+after_push (Err e) P old new n put same before after = subst P (sym same) before
 
 -- ---- what grows leaves the cells that were there
 
@@ -151,12 +178,6 @@ says_placed owners places lists all l k c is e = says_many owners places all c k
 pub says_permission : (owners : List ℕ) (places : List (Option ℕ)) (lists : List (List ℕ)) (c g d : ℕ) (n : Option ℕ) → paired + g ≡ c → c < many → slice_get owners g ≡ Some d → slice_get places g ≡ Some n
     → cell_ask owners places lists c ≡ pair_with d n
 says_permission owners places lists c g d n e h owner place = says_pair owners places lists c g e h ∙ (λ i. record { could = listed (owner i); number = place i })
-
--- what is there is no longer than its list
-pub within_got : {X : Type 0} (xs : List X) (k : ℕ) (x : X) → slice_get xs k ≡ Some x → k < length xs
-within_got [] k x at = absurd (none_some x at)
-within_got (y ∷ ys) zero x at = omega arith
-within_got (y ∷ ys) (suc k) x at = let h = within_got ys k x at in omega (arith, h)
 
 -- more starts are no fewer lists, whatever the numbers
 pub no_fewer : (starts more begins numbers all : List ℕ) (old : List (List ℕ)) → lists_at starts numbers ≡ old → begins ≡ starts ++ more → length old ≤ length (lists_at begins all)

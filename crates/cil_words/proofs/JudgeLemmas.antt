@@ -1,14 +1,14 @@
 -- What a statement asks for and does not get, by its row of the table.
-use Rattle.std.specs.Prelude.{Some, if◌then◌else◌, not, ◌&&◌, slice_get}
+use Rattle.std.specs.Prelude.{Some, find, if◌then◌else◌, not, ◌&&◌, slice_get}
 use Rattle.std.specs.Global.{Vec}
 use Rattle.std.specs.List.{flat_map, list_all, list_any}
-use Rattle.std.proofs.Common.{◌≡◌, ℕ, zero, suc, ◌+◌, ◌<◌, Bool, true, false, List, [], ◌∷◌, ◌++◌, map, length, take, get_or, refl, sym, ◌∙◌, ap, arith, append-nil}
+use Rattle.std.proofs.Common.{◌≡◌, ℕ, zero, suc, ◌+◌, ◌<◌, ◌||◌, Bool, true, false, cond, List, [], ◌∷◌, ◌++◌, map, length, take, get_or, refl, sym, ◌∙◌, ap, arith, append-nil}
 use Rattle.std.proofs.lemmas.List.Concat.{get_or-flat_map}
 use Rattle.std.proofs.lemmas.List.Folds.{flat_map-map}
 use Rattle.std.proofs.lemmas.Grind.{flat_map-append}
 use Rattle.std.proofs.lemmas.List.{length-append, length-map}
 use Rattle.std.proofs.lemmas.Option.{get_or_from_slice_get, slice_get-get_or, slice_get-map}
-use Rattle.std.specs.Option.{option_map}
+use Rattle.std.specs.Option.{is_some, option_map}
 use Rattle.cil_base.specs.MadeLists.{one_flat}
 use Rattle.cil_base.specs.Places.{none_some}
 use Rattle.cil_faults.specs.Namespaces.{Namespace}
@@ -31,6 +31,18 @@ use Rattle.cil_words.specs.declared.judge.Judge.{Judge}
 use Rattle.cil_words.specs.Judged.{IsJudge, StandAt, could_by, has_one, items_by, row_by, unless, wanted_behind}
 use Rattle.cil_words.specs.Table.{asks, could_in}
 use Rattle.cil_words.proofs.RowLemmas.{row_there}
+
+-- ---- what a search finds
+
+-- some item passes where a search finds one
+module _ {X : Type 0} (p : X → Bool) where
+  found_step : (x : X) (xs : List X) (b : Bool) → is_some (find p xs) ≡ list_any p xs → is_some (cond b (Some x) (find p xs)) ≡ (b || list_any p xs)
+  found_step x xs true rest = refl
+  found_step x xs false rest = rest
+
+  pub any_found : (xs : List X) → is_some (find p xs) ≡ list_any p xs
+  any_found [] = refl
+  any_found (x ∷ xs) = found_step x xs (p x) (any_found xs)
 
 -- ---- faults of one thing
 

@@ -44,6 +44,11 @@ pub record IsPlaced (old new : List (List ℕ)) (list : List ℕ) (place : ℕ) 
 abbrev pub IsLonger : {X : Type 0} → List X → List X → Type 0
 IsLonger {X} old new = (more : List X) × (new ≡ old ++ more)
 
+-- at this place is the class of a permission, and its number
+pub record IsPair (owners : List ℕ) (places : List (Option ℕ)) (class_ : ℕ) (number : Option ℕ) (place : ℕ) : Type 0 where
+  pub owner : slice_get owners place ≡ Some class_
+  pub number_there : slice_get places place ≡ Some number
+
 -- what a permission asks for, if its class has it
 abbrev pub permission_ask : Option ClassPermission → Ask
 permission_ask o = record { could = listed (option_map (λ (r : ClassPermission). r.entry) o); number = option_map (λ (r : ClassPermission). r.number) o }

@@ -1,6 +1,6 @@
 //! The table of what all instances ask for, filled in one walk before optionals are chosen.
 
-ghost use Rattle.std.specs.Prelude.{◌≡◌, ◌≤◌, ◌<◌, ◌++◌, [], IfOk, MatchOption, OnOk, get_or, length, slice_range};
+ghost use Rattle.std.specs.Prelude.{◌≡◌, ◌≤◌, ◌<◌, ◌++◌, ◌∷◌, [], IfOk, MatchOption, OnOk, get_or, length, slice_range};
 ghost use Rattle.cil_macros.specs.Items.{item_at, items_in, namespaces_in};
 ghost use Rattle.cil_names.specs.Entries.{AreEntries};
 ghost use Rattle.cil_names.specs.Unresolved.{ArePermissions};
@@ -10,10 +10,10 @@ ghost use Rattle.cil_words.specs.Scopes.{AreScopes};
 ghost use Rattle.cil_words.specs.Table.{AreAsks, AreNumberedAsks, could_in, numbered_asks, word_ask};
 
 use crate::cells::Cells;
-use crate::number_lists::{end_at, start_at};
+use crate::number_lists::{end_at, number_at, push_number};
 use crate::scopes::Scopes;
 use crate::walk::Walk;
-use cil_base::{NoMemory, short};
+use cil_base::NoMemory;
 use cil_macros::Instances;
 use cil_names::Names;
 use cil_names::reading::Reading;
@@ -25,7 +25,7 @@ use std::marker::Model;
 /// What all instances ask for: for each instance, and for each of its words in order, the entries that it could name, whatever
 /// is enabled, and the number of a permission among those of its class. It takes four bytes for an instance, and as many for a
 /// word that could name one entry. Contracts see a row for each instance, in which each word has its place.
-#[derive(Debug, Drop)]
+#[derive(Drop)]
 pub struct Asks {
     /// Where the row of each instance begins.
     starts: Vec<u32>,
@@ -67,14 +67,7 @@ pub fn asks_of<'r, 'a>(
         worded: worded.as_slice(),
         instances,
     };
-    let mut starts = Vec::with_capacity(alloc, instances.len())?;
-    let mut cells = Cells::new(alloc);
-    let mut scopes = Scopes::new(alloc);
-    for at in 0..instances.len() {
-        starts.push(short(cells.len())?)?;
-        maker.add(at, &mut scopes, &mut cells)?;
-    }
-    Ok(Asks { starts, cells })
+    maker.table()
 }
 
 /// What a table is made by.
@@ -89,16 +82,53 @@ struct Maker<'r, 's, 'p, 'a> {
 }
 
 impl Maker<'_, '_, '_, '_> {
-    /// Adds what the statement at a place asks for. It needs a scope only where there are words.
-    fn add(&self, at: usize, scopes: &mut Scopes, cells: &mut Cells) -> Result<(), NoMemory>
+    /// The table of all that is placed.
+    fn table(&self) -> Result<Asks, NoMemory>
+        requires entries { AreEntries (namespaces_in self.now.instances.now) (items_in self.now.instances.now) self.now.names.now }
+        requires permissions { ArePermissions (namespaces_in self.now.instances.now) self.now.names.now (items_in self.now.instances.now) self.now.permissions.now }
+        requires worded { AreWorded self.now.instances.now self.now.worded.now }
+        ensures { IfOk result (AreNumberedAsks (namespaces_in self.now.instances.now) self.now.names.now (items_in self.now.instances.now) self.now.permissions.now) }
+    {
+        let mut starts = Vec::with_capacity(self.alloc, self.instances.len())?;
+        let mut cells = Cells::new(self.alloc);
+        self.fill(&mut starts, &mut cells)?;
+        Ok(Asks { starts, cells })
+    }
+
+    /// Adds a row for each instance, and where it begins.
+    fn fill(&self, starts: &mut Vec<u32>, cells: &mut Cells) -> Result<(), NoMemory>
+        requires entries { AreEntries (namespaces_in self.now.instances.now) (items_in self.now.instances.now) self.now.names.now }
+        requires permissions { ArePermissions (namespaces_in self.now.instances.now) self.now.names.now (items_in self.now.instances.now) self.now.permissions.now }
+        requires worded { AreWorded self.now.instances.now self.now.worded.now }
+        requires none { starts.old.items ≡ [] }
+        ensures rows { OnOk result (AreNumberedAsks (namespaces_in self.now.instances.now) self.now.names.now (items_in self.now.instances.now) self.now.permissions.now (lists_at starts.new.items cells.new)) }
+        ensures within { OnOk result (AreWithin (length cells.new) starts.new.items) }
+    {
+        let mut scopes = Scopes::new(self.alloc);
+        for at in 0..self.instances.len() {
+            self.add(at, &mut scopes, starts, cells)?;
+        }
+        Ok(())
+    }
+
+    /// Adds what the statement at a place asks for, and where that begins. It needs a scope only where there are words.
+    fn add(
+        &self,
+        at: usize,
+        scopes: &mut Scopes,
+        starts: &mut Vec<u32>,
+        cells: &mut Cells,
+    ) -> Result<(), NoMemory>
         requires entries { AreEntries (namespaces_in self.now.instances.now) (items_in self.now.instances.now) self.now.names.now }
         requires permissions { ArePermissions (namespaces_in self.now.instances.now) self.now.names.now (items_in self.now.instances.now) self.now.permissions.now }
         requires worded { AreWorded self.now.instances.now self.now.worded.now }
         requires scopes { AreScopes self.now.instances.now scopes.old }
         requires within { at < length (items_in self.now.instances.now) }
+        ensures starts { OnOk result (starts.new.items ≡ starts.old.items ++ length cells.old ∷ []) }
         ensures asks { OnOk result (cells.new ≡ cells.old ++ numbered_asks (namespaces_in self.now.instances.now) self.now.names.now (items_in self.now.instances.now) self.now.permissions.now (item_at self.now.instances.now at)) }
         ensures scopes { OnOk result (AreScopes self.now.instances.now scopes.new) }
     {
+        push_number(starts, cells.len())?;
         if !is_worded_at(self.worded, self.instances, at) {
             return Ok(());
         }
@@ -112,8 +142,7 @@ impl Maker<'_, '_, '_, '_> {
                 statement: self.instances.statement_there(at),
             },
         };
-        walk.statement(cells, scopes)?;
-        Ok(())
+        walk.statement(cells, scopes)
     }
 }
 
@@ -190,7 +219,7 @@ fn bounds(starts: &[u32], cells: &Cells, at: usize) -> (usize, usize)
     ensures row { slice_range cells.now result.0 result.1 ≡ get_or (lists_at starts.now cells.now) at [] }
     ensures within { result.1 ≤ length cells.now }
 {
-    let Some(start) = start_at(starts, at) else {
+    let Some(start) = number_at(starts, at) else {
         return (0, 0);
     };
     let Some(end) = end_at(starts, at) else {

@@ -2,28 +2,28 @@
 
 ghost use Rattle.std.specs.Prelude.{◌≡◌, ◌<◌, ◌∷◌, [], Some, length, slice_get, ℕ};
 
-use crate::number_lists::Lists;
+use crate::number_lists::{Lists, number_at, push_number};
 use crate::pairs::{Guess, Pairs};
-use cil_base::{NoMemory, short};
+use cil_base::NoMemory;
 use cil_names::{Class, ClassPermission};
 use std::alloc::Global;
 use std::marker::Model;
 
 /// The first cell that is the number of a permission.
-const PAIRED: u32 = 1_073_741_824;
+const PAIRED: usize = 1_073_741_824;
 
 /// How many permissions have a number.
 const MOST_PAIRS: usize = 1_073_741_824;
 
 /// The first cell that is the number of a list.
-const MANY: u32 = 2_147_483_648;
+const MANY: usize = 2_147_483_648;
 
 /// How many lists have a number.
 const MOST_LISTS: usize = 1_073_741_824;
 
 /// Lists of numbers, of which nearly all have one number. Such a list takes four bytes, and so does a permission with the number
 /// that it has in its class. Any other list takes eight, and four for each number. Contracts see the lists.
-#[derive(Debug, Drop)]
+#[derive(Drop)]
 pub struct Cells {
     /// For each list its one number; or `PAIRED` and the number of the permission in `pairs`; or `MANY` and the number of the
     /// list in `lists`.
@@ -74,15 +74,15 @@ impl Cells {
         ensures { result.now ≡ (get_or self.now number (word_ask [])).could }
     {
         let cells = self.cells.as_slice();
-        let Some(cell) = cell_at(cells, number) else {
+        let Some(cell) = number_at(cells, number) else {
             return &[];
         };
         if cell < PAIRED {
             return one(cells, number);
         }
         match cell.checked_sub(MANY) {
-            None => self.pairs.owner((cell - PAIRED) as usize),
-            Some(list) => self.lists.row(list as usize),
+            None => self.pairs.owner(cell - PAIRED),
+            Some(list) => self.lists.row(list),
         }
     }
 
@@ -91,7 +91,7 @@ impl Cells {
         ensures { result ≡ (get_or self.now number (word_ask [])).number }
     {
         let cells = self.cells.as_slice();
-        let Some(cell) = cell_at(cells, number) else {
+        let Some(cell) = number_at(cells, number) else {
             return None;
         };
         if cell < PAIRED {
@@ -100,19 +100,17 @@ impl Cells {
         if cell >= MANY {
             return None;
         }
-        self.pairs.number((cell - PAIRED) as usize)
+        self.pairs.number(cell - PAIRED)
     }
 
     /// Adds a list of one number. Error: out of memory, also for a number from 1,073,741,824 on.
     pub fn push_one(&mut self, number: usize) -> Result<(), NoMemory>
         ensures { OnOk result (self.new ≡ self.old ++ word_ask (number ∷ []) ∷ []) }
     {
-        let cell = short(number)?;
-        if cell >= PAIRED {
+        if number >= PAIRED {
             return Err(NoMemory);
         }
-        self.cells.push(cell)?;
-        Ok(())
+        push_number(&mut self.cells, number)
     }
 
     /// Adds a list of any length. One that is there mostly takes four bytes more, whatever its length. Error: out of memory, also for
@@ -124,8 +122,7 @@ impl Cells {
         if number >= MOST_LISTS {
             return Err(NoMemory);
         }
-        self.cells.push(MANY + number as u32)?;
-        Ok(())
+        push_number(&mut self.cells, MANY + number)
     }
 
     /// Where the permission of a name may be, of a class that was found, and the number that it may have. It costs a hash, and
@@ -165,8 +162,7 @@ impl Cells {
         if place >= MOST_PAIRS {
             return Err(NoMemory);
         }
-        self.cells.push(PAIRED + place as u32)?;
-        Ok(())
+        push_number(&mut self.cells, PAIRED + place)
     }
 
     /// Adds a list, in four bytes if it has one number.
@@ -177,16 +173,6 @@ impl Cells {
             [number] => self.push_one(*number),
             _ => self.push_many(list),
         }
-    }
-}
-
-/// The cell at a place.
-pub fn cell_at(cells: &[u32], number: usize) -> Option<u32>
-    ensures { result ≡ slice_get cells.now number }
-{
-    match cells.get(number) {
-        Some(cell) => Some(*cell),
-        None => None,
     }
 }
 

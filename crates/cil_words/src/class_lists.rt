@@ -1,11 +1,14 @@
 //! The walk at a class list: the entries that the class word could name, and the numbers of the permissions behind it.
 
-ghost use Rattle.std.specs.Prelude.{◌≡◌, ◌<◌, ◌∷◌, [], IfOk, IfSome, OnOk, length, map};
+ghost use Rattle.std.specs.Prelude.{◌≡◌, ◌<◌, ◌∷◌, [], Contains, IfOk, IfSome, OnOk, length, map};
+ghost use Rattle.std.specs.Global.{Vec as Vector};
 ghost use Rattle.std.specs.List.Sorted.{IsStrictlySortedBy};
 ghost use Rattle.cil_base.specs.Lists.{text_cmp};
+ghost use Rattle.cil_base.specs.declared.bytes.Bytes.{Bytes as Text};
 ghost use Rattle.cil_macros.specs.Item.{all_words_in, words_in};
 ghost use Rattle.cil_names.specs.Classes.{IsClassFor, IsClassOf};
-ghost use Rattle.cil_names.specs.Entries.{candidates_of};
+ghost use Rattle.cil_macros.specs.Items.{all_placed, namespaces_in, scoped_by};
+ghost use Rattle.cil_names.specs.Entries.{AreOrdered, candidates_of};
 ghost use Rattle.cil_names.specs.Readings.{module_of, scoped_there, word_read};
 ghost use Rattle.cil_names.specs.Resolves.{Permission as APermission, Word as AWord, words_of_class};
 ghost use Rattle.cil_names.specs.Unresolved.{term_with, terms_with};
@@ -16,11 +19,13 @@ ghost use Rattle.cil_words.specs.Walks.{AddsFor, IsWalk, spaces_by};
 use crate::cells::Cells;
 use crate::scopes::{LastScope, Scopes};
 use crate::walk::Walk;
+use crate::word_lists::unscoped;
 use cil_base::NoMemory;
-use cil_macros::PlacedWord;
+use cil_macros::{Instances, PlacedWord};
 use cil_names::reading::is_at;
-use cil_names::{Class, class_at, class_of, permission_of};
-use cil_syntax::{Term, word_and_terms};
+use cil_names::{Class, Names, class_at, class_of, permission_of};
+use cil_syntax::{Bytes, Term, word_and_terms};
+use std::alloc::Global;
 
 impl<'r, 's, 'p, 'a> Walk<'r, 's, 'p, 'a> {
     /// Adds the lists of a class word and of permissions behind it.
@@ -37,8 +42,7 @@ impl<'r, 's, 'p, 'a> Walk<'r, 's, 'p, 'a> {
         ensures scopes { OnOk result (AreScopes self.now.reading.instances.now scopes.new) }
     {
         let found = self.class_word(cells, scopes, class)?;
-        self.placed_permissions(cells, found, permissions)?;
-        Ok(())
+        self.placed_permissions(cells, found, permissions)
     }
 
     /// Adds the lists of permissions of a class that was found.
@@ -73,8 +77,7 @@ impl<'r, 's, 'p, 'a> Walk<'r, 's, 'p, 'a> {
     {
         let name = permission.word.bytes.as_slice();
         let guess = cells.guess(found, name);
-        cells.push_permission(permission_of(found, name, guess.number), &guess)?;
-        Ok(())
+        cells.push_permission(permission_of(found, name, guess.number), &guess)
     }
 
     /// Adds the lists of a class word and of the permissions behind it.
@@ -94,8 +97,7 @@ impl<'r, 's, 'p, 'a> Walk<'r, 's, 'p, 'a> {
         };
         let class = self.reading.word(&list.word);
         let found = self.class_word(cells, scopes, &class)?;
-        self.permissions(cells, found, list.terms)?;
-        Ok(())
+        self.permissions(cells, found, list.terms)
     }
 
     /// Adds the list of what a class word could name, and gives the class that it names, with its permissions. Where its name has
@@ -112,7 +114,7 @@ impl<'r, 's, 'p, 'a> Walk<'r, 's, 'p, 'a> {
         ensures class { IfOk result (IsClassFor (spaces_by self.now) self.now.names.now self.now.permissions.now (scoped_there self.now.reading class.now)) }
         ensures scopes { OnOk result (AreScopes self.now.reading.instances.now scopes.new) }
     {
-        let Some(entry) = self.unscoped(class) else {
+        let Some(entry) = unscoped(self.names, self.reading.instances, class) else {
             self.scoped(cells, scopes, class)?;
             return self.scoped_class(scopes, class);
         };
@@ -134,26 +136,15 @@ impl<'r, 's, 'p, 'a> Walk<'r, 's, 'p, 'a> {
         ensures class { IfOk result (IsClassFor (spaces_by self.now) self.now.names.now self.now.permissions.now (scoped_there self.now.reading class.now)) }
         ensures scopes { OnOk result (AreScopes self.now.reading.instances.now scopes.new) }
     {
-        if let Some(found) = self.class_there(entry) {
+        if let Some(found) = class_there(
+            self.names,
+            self.permissions,
+            self.reading.instances,
+            entry,
+        ) {
             return Ok(Some(found));
         }
         self.scoped_class(scopes, class)
-    }
-
-    /// The class that is the entry of a number, if it is declared outside all optionals.
-    fn class_there(&self, entry: usize) -> Option<Class<'r>>
-        requires walk { IsWalk self.now }
-        requires within { entry < length self.now.names.now }
-        ensures { IfSome result (λ k. (w : ScopedWord) → candidates_of (spaces_by self.now) self.now.names.now w ≡ entry ∷ []
-            → IsClassOf (spaces_by self.now) self.now.names.now self.now.permissions.now w k) }
-    {
-        class_at(
-            self.reading.instances.namespaces(),
-            self.names.entries(),
-            self.names.guesses(),
-            self.permissions,
-            entry,
-        )
     }
 
     /// The class that a class word names, where the scope of the word is asked.
@@ -168,33 +159,24 @@ impl<'r, 's, 'p, 'a> Walk<'r, 's, 'p, 'a> {
         ensures scopes { OnOk result (AreScopes self.now.reading.instances.now scopes.new) }
     {
         if is_at(class.scope, self.reading.at) {
-            self.class_in(&mut scopes.own, class)
+            class_in(
+                self.alloc,
+                self.names,
+                self.permissions,
+                self.reading.instances,
+                &mut scopes.own,
+                class,
+            )
         } else {
-            self.class_in(&mut scopes.other, class)
+            class_in(
+                self.alloc,
+                self.names,
+                self.permissions,
+                self.reading.instances,
+                &mut scopes.other,
+                class,
+            )
         }
-    }
-
-    /// The same, where this is the scope that was filled last.
-    fn class_in(
-        &self,
-        last: &mut LastScope,
-        class: &PlacedWord,
-    ) -> Result<Option<Class<'r>>, NoMemory>
-        requires walk { IsWalk self.now }
-        requires last { IsLast self.now.reading.instances.now last.old }
-        ensures class { IfOk result (IsClassFor (spaces_by self.now) self.now.names.now self.now.permissions.now (scoped_there self.now.reading class.now)) }
-        ensures last { OnOk result (IsLast self.now.reading.instances.now last.new) }
-    {
-        let instances = self.reading.instances;
-        last.fill(self.alloc, instances, class.scope)?;
-        Ok(class_of(
-            instances.namespaces(),
-            self.names.entries(),
-            self.names.guesses(),
-            self.permissions,
-            &class.word,
-            last.scope.as_slice(),
-        ))
     }
 
     /// Adds the lists of the permissions among some terms, of a class that was found.
@@ -231,11 +213,58 @@ impl<'r, 's, 'p, 'a> Walk<'r, 's, 'p, 'a> {
         match term {
             Term::Leaf(word) => {
                 let written = word.in_module(self.reading.statement.at.module);
-                self.placed_permission(cells, found, &self.reading.word(&written))?;
+                self.placed_permission(cells, found, &self.reading.word(&written))
             }
-            Term::Name(_, _) => {}
-            Term::Form(_, _, parts) => self.permissions(cells, found, parts.as_slice())?,
+            Term::Name(_, _) => Ok(()),
+            Term::Form(_, _, parts) => self.permissions(cells, found, parts.as_slice()),
         }
-        Ok(())
     }
+}
+
+/// The class that a class word names, where this is the scope that was filled last.
+fn class_in<'r>(
+    alloc: Global,
+    names: &Names,
+    permissions: &'r [Vec<Bytes>],
+    instances: &Instances,
+    last: &mut LastScope,
+    class: &PlacedWord,
+) -> Result<Option<Class<'r>>, NoMemory>
+    requires ordered { AreOrdered (namespaces_in instances.now) names.now }
+    requires rising { (v : Vector Text) → Contains permissions.now v → IsStrictlySortedBy text_cmp v.items }
+    requires last { IsLast instances.now last.old }
+    ensures class { IfOk result (IsClassFor (namespaces_in instances.now) names.now permissions.now (scoped_by (all_placed instances.now) class.now)) }
+    ensures last { OnOk result (IsLast instances.now last.new) }
+{
+    last.fill(alloc, instances, class.scope)?;
+    Ok(class_of(
+        instances.namespaces(),
+        names.entries(),
+        names.guesses(),
+        permissions,
+        &class.word,
+        last.scope.as_slice(),
+    ))
+}
+
+/// The class that is the entry of a number, if it is declared outside all optionals.
+fn class_there<'r>(
+    names: &Names,
+    permissions: &'r [Vec<Bytes>],
+    instances: &Instances,
+    entry: usize,
+) -> Option<Class<'r>>
+    requires ordered { AreOrdered (namespaces_in instances.now) names.now }
+    requires rising { (v : Vector Text) → Contains permissions.now v → IsStrictlySortedBy text_cmp v.items }
+    requires within { entry < length names.now }
+    ensures { IfSome result (λ k. (w : ScopedWord) → candidates_of (namespaces_in instances.now) names.now w ≡ entry ∷ []
+        → IsClassOf (namespaces_in instances.now) names.now permissions.now w k) }
+{
+    class_at(
+        instances.namespaces(),
+        names.entries(),
+        names.guesses(),
+        permissions,
+        entry,
+    )
 }

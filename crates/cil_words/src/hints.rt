@@ -17,7 +17,7 @@ const LOWER: u64 = 0x0000_0000_ffff_ffff;
 
 /// Where permissions may be, by hashes of their classes and names. It takes 131,072 bytes, whatever the policy, and none before
 /// the first permission is noted.
-#[derive(Debug, Drop)]
+#[derive(Drop)]
 pub struct Hints {
     /// In the upper half of a slot a part of a hash, and in the lower one the place of a permission plus 1; or 0.
     slots: Vec<u64>,

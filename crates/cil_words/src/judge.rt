@@ -10,7 +10,7 @@ ghost use Rattle.cil_macros.specs.Items.{all_placed, item_at, items_in, namespac
 ghost use Rattle.cil_names.specs.Asked.{wanted_by};
 ghost use Rattle.cil_names.specs.Entries.{AreEntries, is_in};
 ghost use Rattle.cil_names.specs.Faults.{ResolveFault};
-ghost use Rattle.cil_names.specs.Resolves.{Permission as APermission, Word as AWord, resolves};
+ghost use Rattle.cil_names.specs.Resolves.{Permission as APermission, Word as AWord, resolves, words_of};
 ghost use Rattle.cil_names.specs.Unresolved.{fault_of_word, faults_in, faults_of_all, faults_of_wanted};
 ghost use Rattle.cil_names.specs.declared.entry.Entry.{Entry as AnEntry};
 ghost use Rattle.cil_syntax.specs.Scopes.{ScopedWord};
@@ -18,12 +18,13 @@ ghost use Rattle.cil_words.specs.Judged.{IsJudge, StandAt, could_by, has_one, it
 ghost use Rattle.cil_words.specs.Table.{AreAsks, could_in};
 
 use crate::asks::Asks;
+use crate::settled_rows::first_declared;
 use cil_base::NoMemory;
 use cil_blocks::spelled::spelled;
 use cil_macros::{Instances, PlacedWord};
 use cil_names::asked::Asked;
 use cil_names::reading::Reading;
-use cil_names::{Names, OptSet, flags_of, is_set};
+use cil_names::{Names, OptSet, flags_of};
 use cil_syntax::{Failure, Fault, FaultCode, push_fault_in, refuse};
 use std::alloc::Global;
 
@@ -56,8 +57,7 @@ pub fn judged<'r, 'a>(
     for at in 0..instances.len() {
         judge.instance(&mut faults, at)?;
     }
-    refuse(faults)?;
-    Ok(())
+    refuse(faults)
 }
 
 /// What statements are judged by.
@@ -83,8 +83,7 @@ impl Judge<'_, '_, '_, '_> {
         if self.is_full(at) {
             return Ok(());
         }
-        self.tell_all(faults, at)?;
-        Ok(())
+        self.tell_all(faults, at)
     }
 
     /// Whether each word of the statement at a place names something, and each permission.
@@ -103,11 +102,7 @@ impl Judge<'_, '_, '_, '_> {
     fn is_live(&self, at: usize, number: usize) -> bool
         ensures { result ≡ has_one self.now.declared.now (get_or (row_by self.now at) number []) }
     {
-        let declared = self.declared;
-        self.asks
-            .word(at, number)
-            .iter()
-            .any(|entry| is_set(declared, *entry as usize))
+        first_declared(self.declared, self.asks.word(at, number)).is_some()
     }
 
     /// Reports what the statement at a place asks for and does not get. It lists its words.
@@ -116,14 +111,8 @@ impl Judge<'_, '_, '_, '_> {
         ensures { OnOk result ((es : List AnEntry) (s : AnOptSet) → IsJudge self.now es s
             → faults.new.items ≡ faults.old.items ++ of_words (items_by self.now) s (item_at self.now.instances.now at)) }
     {
-        let reading = Reading {
-            instances: self.instances,
-            at,
-            statement: self.instances.statement_there(at),
-        };
-        let asked = reading.asked(self.alloc)?;
-        self.tell(faults, at, asked.as_slice())?;
-        Ok(())
+        let asked = asked_at(self.alloc, self.instances, at)?;
+        self.tell(faults, at, asked.as_slice())
     }
 
     /// Reports those of some things, all that a statement asks for, that it does not get.
@@ -156,16 +145,15 @@ impl Judge<'_, '_, '_, '_> {
             → faults.new.items ≡ faults.old.items ++ faults_of_all (items_by self.now) s (space_by self.now at) (wanted_by (all_placed self.now.instances.now) one.now)) }
     {
         match one {
-            Asked::Word(word) => self.unless_live(faults, at, number, word)?,
+            Asked::Word(word) => self.unless_live(faults, at, number, word),
             Asked::ClassList(class, permissions) => {
                 if self.is_live(at, number) {
-                    self.tell_permissions(faults, at, number, permissions.as_slice())?;
+                    self.tell_permissions(faults, at, number, permissions.as_slice())
                 } else {
-                    self.report(faults, at, class)?;
+                    report(self.alloc, self.instances, faults, at, class)
                 }
             }
         }
-        Ok(())
     }
 
     /// Reports the permissions that a class lacks. The class word before them has this number.
@@ -202,27 +190,48 @@ impl Judge<'_, '_, '_, '_> {
         ensures { OnOk result (faults.new.items ≡ faults.old.items
             ++ unless (has_one self.now.declared.now (get_or (row_by self.now at) number [])) (fault_of_word (space_by self.now at) (scoped_by (all_placed self.now.instances.now) word.now))) }
     {
-        if !self.is_live(at, number) {
-            self.report(faults, at, word)?;
+        if self.is_live(at, number) {
+            return Ok(());
         }
-        Ok(())
+        report(self.alloc, self.instances, faults, at, word)
     }
+}
 
-    /// Reports a word of the statement at a place.
-    fn report(&self, faults: &mut Vec<Fault>, at: usize, word: &PlacedWord) -> Result<(), NoMemory>
-        ensures { OnOk result (faults.new.items ≡ faults.old.items ++ fault_at causes.Unresolved word.now.word.at (space_by self.now at) word.now.word.bytes ∷ []) }
-    {
-        let alloc = self.alloc;
-        let space = spelled(alloc, self.instances.namespaces(), self.instances.space(at))?;
-        let bytes = word.word.bytes.as_slice();
-        push_fault_in(
-            alloc,
-            faults,
-            FaultCode::Unresolved,
-            word.word.at,
-            space,
-            bytes,
-        )?;
-        Ok(())
-    }
+/// What the statement at a place asks for.
+fn asked_at<'a>(
+    alloc: Global,
+    instances: &Instances<'_, '_, 'a>,
+    at: usize,
+) -> Result<Vec<Asked<'a>>, NoMemory>
+    requires { at < length (items_in instances.now) }
+    ensures { IfOk result (λ asked. flat_map (wanted_by (all_placed instances.now)) asked.items ≡ words_of (item_at instances.now at)) }
+{
+    let reading = Reading {
+        instances,
+        at,
+        statement: instances.statement_there(at),
+    };
+    reading.asked(alloc)
+}
+
+/// Reports a word of the statement at a place.
+fn report(
+    alloc: Global,
+    instances: &Instances,
+    faults: &mut Vec<Fault>,
+    at: usize,
+    word: &PlacedWord,
+) -> Result<(), NoMemory>
+    ensures { OnOk result (faults.new.items ≡ faults.old.items ++ fault_at causes.Unresolved word.now.word.at (item_at instances.now at).space word.now.word.bytes ∷ []) }
+{
+    let space = spelled(alloc, instances.namespaces(), instances.space(at))?;
+    let bytes = word.word.bytes.as_slice();
+    push_fault_in(
+        alloc,
+        faults,
+        FaultCode::Unresolved,
+        word.word.at,
+        space,
+        bytes,
+    )
 }

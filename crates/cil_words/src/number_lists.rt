@@ -1,14 +1,14 @@
 //! Lists of numbers, one after another, in four bytes for each number. A list that is there is mostly not added again.
 
-ghost use Rattle.std.specs.Prelude.{◌≡◌, ◌≤◌, ◌+◌, ◌++◌, IfOk, IsTrue, OnOk, length, slice_get, slice_range};
+ghost use Rattle.std.specs.Prelude.{◌≡◌, ◌≤◌, ◌+◌, ◌++◌, ◌∷◌, [], IsTrue, OnErr, OnOk, length, slice_get, slice_range};
 
-use crate::slots::{guess_at, note};
+use crate::slots::{guess_at, note, slot_of};
 use cil_base::{NoMemory, short};
 use std::alloc::Global;
 use std::marker::Model;
 
 /// Lists of numbers, four bytes for a list and for a number. Contracts see the lists.
-#[derive(Debug, Drop)]
+#[derive(Drop)]
 pub struct Lists {
     /// Where each list begins.
     starts: Vec<u32>,
@@ -57,7 +57,7 @@ impl Lists {
     {
         let starts = self.starts.as_slice();
         let numbers = self.numbers.as_slice();
-        let Some(start) = start_at(starts, number) else {
+        let Some(start) = number_at(starts, number) else {
             return &[];
         };
         let Some(end) = end_at(starts, number) else {
@@ -116,10 +116,9 @@ impl Lists {
         ensures pushed { OnOk result (self.new ≡ self.old ++ list.now ∷ []) }
         ensures none_lost { length self.old ≤ length self.new }
     {
-        let start = short(self.numbers.len())?;
-        self.starts.push(start)?;
-        push_small(&mut self.numbers, list)?;
-        Ok(())
+        let start = self.numbers.len();
+        push_number(&mut self.starts, start)?;
+        push_small(&mut self.numbers, list)
     }
 }
 
@@ -129,18 +128,27 @@ fn push_small(numbers: &mut Vec<u32>, list: &[usize]) -> Result<(), NoMemory>
     ensures none_lost { length numbers.old.items ≤ length numbers.new.items }
 {
     for number in list {
-        let one = short(*number)?;
-        numbers.push(one)?;
+        push_number(numbers, *number)?;
     }
     Ok(())
 }
 
-/// The place where a list begins.
-pub fn start_at(starts: &[u32], i: usize) -> Option<usize>
-    ensures { result ≡ slice_get starts.now i }
+/// Adds a number, in four bytes. Error: out of memory, also for a number that needs more.
+pub fn push_number(numbers: &mut Vec<u32>, number: usize) -> Result<(), NoMemory>
+    ensures pushed { OnOk result (numbers.new.items ≡ numbers.old.items ++ number ∷ []) }
+    ensures err { OnErr result (numbers.new.items ≡ numbers.old.items) }
 {
-    match starts.get(i) {
-        Some(start) => Some(*start as usize),
+    let small = short(number)?;
+    numbers.push(small)?;
+    Ok(())
+}
+
+/// The number at a place.
+pub fn number_at(numbers: &[u32], place: usize) -> Option<usize>
+    ensures { result ≡ slice_get numbers.now place }
+{
+    match numbers.get(place) {
+        Some(number) => Some(*number as usize),
         None => None,
     }
 }
@@ -150,7 +158,7 @@ pub fn end_at(starts: &[u32], i: usize) -> Option<usize>
     ensures { result ≡ slice_get starts.now (i + 1) }
 {
     if i < starts.len() {
-        start_at(starts, i + 1)
+        number_at(starts, i + 1)
     } else {
         None
     }
@@ -169,18 +177,6 @@ fn is_list(numbers: &[u32], list: &[usize]) -> bool
         }
     }
     true
-}
-
-/// The slot of a list. The hash need not be a good one, since guesses are checked.
-fn slot_of(list: &[usize]) -> usize {
-    let mut mixed = 0u64;
-    for number in list {
-        mixed = mixed
-            .wrapping_add(*number as u64)
-            .wrapping_add(1)
-            .wrapping_mul(0x9e37_79b9_7f4a_7c15);
-    }
-    (mixed >> 50) as usize
 }
 
 /// A part of some numbers; none where it ends before it begins.

@@ -1,19 +1,20 @@
 //! Permissions of classes, each with the number that it has in its class.
 
-ghost use Rattle.std.specs.Prelude.{◌≡◌, ◌++◌, ◌∷◌, [], IfOk, IfSome, IsTrue, OnOk, Some, slice_get};
+ghost use Rattle.std.specs.Prelude.{◌≡◌, ◌++◌, ◌∷◌, [], IfOk, IfSome, IsTrue, OnErr, OnOk, Some, slice_get};
 ghost use Rattle.cil_names.specs.Entries.{listed};
-ghost use Rattle.cil_words.specs.Cells.{IsLonger};
+ghost use Rattle.cil_words.specs.Cells.{IsLonger, IsPair};
 
-use crate::cells::{cell_at, one};
+use crate::cells::one;
 use crate::hints::{Hint, Hints};
-use crate::slots::{guess_at, note};
-use cil_base::{NoMemory, short};
+use crate::number_lists::{number_at, push_number};
+use crate::slots::{guess_at, note, slot_of};
+use cil_base::NoMemory;
 use cil_names::Meaning;
 use std::alloc::Global;
 
 /// Permissions of classes. Nearly always a permission is there once: a guess tells where it is, by its name or by its number. A
 /// guess is checked where it is used, so nothing is proved of the guesses.
-#[derive(Debug, Drop)]
+#[derive(Drop)]
 pub struct Pairs {
     /// The entry of the class of each.
     pub owners: Vec<u32>,
@@ -75,7 +76,7 @@ impl Pairs {
         ensures { result.now ≡ listed (slice_get self.now.owners.items place) }
     {
         let owners = self.owners.as_slice();
-        match cell_at(owners, place) {
+        match number_at(owners, place) {
             None => &[],
             Some(_) => one(owners, place),
         }
@@ -98,12 +99,11 @@ impl Pairs {
         number: Option<usize>,
         guess: &Guess,
     ) -> Result<usize, NoMemory>
-        ensures owner { IfOk result (λ place. slice_get self.new.owners.items place ≡ Some class) }
-        ensures number { IfOk result (λ place. slice_get self.new.places.items place ≡ Some number) }
+        ensures pair { IfOk result (IsPair self.new.owners.items self.new.places.items class number) }
         ensures owners { IsLonger self.old.owners.items self.new.owners.items }
         ensures places { IsLonger self.old.places.items self.new.places.items }
     {
-        if let Some(place) = self.guessed(guess, class, number) {
+        if let Some(place) = self.there(guess.hint.place, class, number) {
             return Ok(place);
         }
         let place = self.place_by_number(class, number)?;
@@ -111,54 +111,39 @@ impl Pairs {
         Ok(place)
     }
 
-    /// The place that a guess tells, if the permission is there.
-    fn guessed(&self, guess: &Guess, class: usize, number: Option<usize>) -> Option<usize>
-        ensures owner { IfSome result (λ place. slice_get self.now.owners.items place ≡ Some class) }
-        ensures number { IfSome result (λ place. slice_get self.now.places.items place ≡ Some number) }
-    {
-        let place = guess.hint.place?;
-        self.there(place, class, number)
-    }
-
     /// The place of a permission, by its number. It is added if no guess finds it.
     fn place_by_number(&mut self, class: usize, number: Option<usize>) -> Result<usize, NoMemory>
-        ensures owner { IfOk result (λ place. slice_get self.new.owners.items place ≡ Some class) }
-        ensures number { IfOk result (λ place. slice_get self.new.places.items place ≡ Some number) }
+        ensures pair { IfOk result (IsPair self.new.owners.items self.new.places.items class number) }
         ensures owners { IsLonger self.old.owners.items self.new.owners.items }
         ensures places { IsLonger self.old.places.items self.new.places.items }
     {
-        if let Some(place) = self.found(class, number) {
+        let slot = slot_of(&[class, number.unwrap_or(usize::MAX)]);
+        if let Some(place) = self.found(slot, class, number) {
             return Ok(place);
         }
-        self.add(class, number)
+        let place = self.add(class, number)?;
+        note(&mut self.slots, slot, place);
+        Ok(place)
     }
 
-    /// The place of a permission, if a guess by its number finds it.
-    fn found(&self, class: usize, number: Option<usize>) -> Option<usize>
-        ensures owner { IfSome result (λ place. slice_get self.now.owners.items place ≡ Some class) }
-        ensures number { IfSome result (λ place. slice_get self.now.places.items place ≡ Some number) }
+    /// The place of a permission, if a guess by its slot finds it.
+    fn found(&self, slot: usize, class: usize, number: Option<usize>) -> Option<usize>
+        ensures { IfSome result (IsPair self.now.owners.items self.now.places.items class number) }
     {
-        let slot = slot_of(class, number);
-        if let Some(place) = self.tried(slot, class, number) {
+        let slots = self.slots.as_slice();
+        if let Some(place) = self.there(guess_at(slots, slot), class, number) {
             return Some(place);
         }
-        self.tried(slot ^ 1, class, number)
+        self.there(guess_at(slots, slot ^ 1), class, number)
     }
 
-    /// The place that a slot tells, if the permission is there.
-    fn tried(&self, slot: usize, class: usize, number: Option<usize>) -> Option<usize>
-        ensures owner { IfSome result (λ place. slice_get self.now.owners.items place ≡ Some class) }
-        ensures number { IfSome result (λ place. slice_get self.now.places.items place ≡ Some number) }
+    /// A place that was guessed, if the permission is there.
+    fn there(&self, guess: Option<usize>, class: usize, number: Option<usize>) -> Option<usize>
+        ensures { IfSome result (IsPair self.now.owners.items self.now.places.items class number) }
     {
-        let place = guess_at(self.slots.as_slice(), slot)?;
-        self.there(place, class, number)
-    }
-
-    /// A place, if the permission is there.
-    fn there(&self, place: usize, class: usize, number: Option<usize>) -> Option<usize>
-        ensures owner { IfSome result (λ place. slice_get self.now.owners.items place ≡ Some class) }
-        ensures number { IfSome result (λ place. slice_get self.now.places.items place ≡ Some number) }
-    {
+        let Some(place) = guess else {
+            return None;
+        };
         if !is_owner(self.owners.as_slice(), place, class) {
             return None;
         }
@@ -170,8 +155,7 @@ impl Pairs {
 
     /// Adds a permission behind the others.
     fn add(&mut self, class: usize, number: Option<usize>) -> Result<usize, NoMemory>
-        ensures owner { IfOk result (λ place. slice_get self.new.owners.items place ≡ Some class) }
-        ensures number { IfOk result (λ place. slice_get self.new.places.items place ≡ Some number) }
+        ensures pair { IfOk result (IsPair self.new.owners.items self.new.places.items class number) }
         ensures owners { IsLonger self.old.owners.items self.new.owners.items }
         ensures places { IsLonger self.old.places.items self.new.places.items }
     {
@@ -180,27 +164,16 @@ impl Pairs {
         if place != self.places.len() {
             return Err(NoMemory);
         }
-        push_number(&mut self.places, number)?;
-        push_owner(&mut self.owners, class)?;
-        note(&mut self.slots, slot_of(class, number), place);
+        push_place(&mut self.places, number)?;
+        push_number(&mut self.owners, class)?;
         Ok(place)
     }
 }
 
-/// Adds an entry.
-fn push_owner(owners: &mut Vec<u32>, class: usize) -> Result<(), NoMemory>
-    ensures pushed { OnOk result (owners.new.items ≡ owners.old.items ++ class ∷ []) }
-    ensures longer { IsLonger owners.old.items owners.new.items }
-{
-    let owner = short(class)?;
-    owners.push(owner)?;
-    Ok(())
-}
-
 /// Adds a number.
-fn push_number(places: &mut Vec<Meaning>, number: Option<usize>) -> Result<(), NoMemory>
+fn push_place(places: &mut Vec<Meaning>, number: Option<usize>) -> Result<(), NoMemory>
     ensures pushed { OnOk result (places.new.items ≡ places.old.items ++ number ∷ []) }
-    ensures longer { IsLonger places.old.items places.new.items }
+    ensures err { OnErr result (places.new.items ≡ places.old.items) }
 {
     let place = Meaning::of(number)?;
     places.push(place)?;
@@ -211,8 +184,8 @@ fn push_number(places: &mut Vec<Meaning>, number: Option<usize>) -> Result<(), N
 fn is_owner(owners: &[u32], place: usize, class: usize) -> bool
     ensures { IsTrue result → slice_get owners.now place ≡ Some class }
 {
-    match owners.get(place) {
-        Some(owner) => *owner as usize == class,
+    match number_at(owners, place) {
+        Some(owner) => owner == class,
         None => false,
     }
 }
@@ -225,17 +198,4 @@ fn is_number(places: &[Meaning], place: usize, number: Option<usize>) -> bool
         Some(known) => known.entry() == number,
         None => false,
     }
-}
-
-/// The slot of a permission. The hash need not be a good one, since guesses are checked.
-fn slot_of(class: usize, number: Option<usize>) -> usize {
-    let next = match number {
-        Some(number) => number.wrapping_add(1),
-        None => 0,
-    };
-    let mixed = (class as u64)
-        .wrapping_mul(0x0000_0100_0000_01b3)
-        .wrapping_add(next as u64)
-        .wrapping_mul(0x9e37_79b9_7f4a_7c15);
-    (mixed >> 50) as usize
 }

@@ -84,7 +84,8 @@ impl LastScope {
         let Some(before) = self.of else {
             return false;
         };
-        if at >= instances.len() || before >= instances.len() {
+        let count = instances.len();
+        if at >= count || before >= count {
             return false;
         }
         instances.have_one_scope(before, at)

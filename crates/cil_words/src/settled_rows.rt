@@ -58,7 +58,7 @@ fn value_at(declared: &[bool], cells: &Cells, place: usize) -> Option<usize>
 }
 
 /// The first entry of a list that is declared.
-fn first_declared(declared: &[bool], list: &[u32]) -> Option<usize>
+pub fn first_declared(declared: &[bool], list: &[u32]) -> Option<usize>
     ensures { result ≡ find (is_in declared.now) list.now }
 {
     for entry in list {

@@ -32,6 +32,18 @@ pub fn note(slots: &mut Vec<u32>, slot: usize, place: usize) {
     }
 }
 
+/// The slot of some numbers. The hash need not be a good one, since guesses are checked.
+pub fn slot_of(numbers: &[usize]) -> usize {
+    let mut mixed = 0u64;
+    for number in numbers {
+        mixed = mixed
+            .wrapping_add(*number as u64)
+            .wrapping_add(1)
+            .wrapping_mul(0x9e37_79b9_7f4a_7c15);
+    }
+    (mixed >> 50) as usize
+}
+
 /// Whether a slot tells nothing.
 fn is_free(slots: &[u32], slot: usize) -> bool {
     guess_at(slots, slot).is_none()

@@ -69,12 +69,11 @@ impl<'r, 's, 'p, 'a> Walk<'r, 's, 'p, 'a> {
         ensures scopes { OnOk result (AreScopes self.now.reading.instances.now scopes.new) }
     {
         match one {
-            Asked::Word(word) => self.word(cells, scopes, word)?,
+            Asked::Word(word) => self.word(cells, scopes, word),
             Asked::ClassList(class, permissions) => {
-                self.class_permissions(cells, scopes, class, permissions.as_slice())?;
+                self.class_permissions(cells, scopes, class, permissions.as_slice())
             }
         }
-        Ok(())
     }
 
     /// The same as `statement`, of a statement that says words alone.
@@ -87,19 +86,16 @@ impl<'r, 's, 'p, 'a> Walk<'r, 's, 'p, 'a> {
     {
         let statement = self.reading.statement;
         if is_call(statement.keyword) {
-            self.call(cells, scopes)?;
-            return Ok(());
+            return self.call(cells, scopes);
         }
         if !says_as_written(statement.keyword) {
             return Ok(());
         }
         let terms = statement.args.as_slice();
         if is_mapping(statement.keyword) {
-            self.mapping(cells, scopes, terms)?;
-            return Ok(());
+            return self.mapping(cells, scopes, terms);
         }
-        self.terms(cells, scopes, terms)?;
-        Ok(())
+        self.terms(cells, scopes, terms)
     }
 
     /// Adds a list for each thing that the terms of a classmapping ask for: its class map, its permission as one of the map, and what
@@ -116,8 +112,7 @@ impl<'r, 's, 'p, 'a> Walk<'r, 's, 'p, 'a> {
         ensures scopes { OnOk result (AreScopes self.now.reading.instances.now scopes.new) }
     {
         self.class_list(cells, scopes, front_two(terms))?;
-        self.terms(cells, scopes, behind_two(terms))?;
-        Ok(())
+        self.terms(cells, scopes, behind_two(terms))
     }
 
     /// Adds a list for each word of a call.
@@ -164,17 +159,16 @@ impl<'r, 's, 'p, 'a> Walk<'r, 's, 'p, 'a> {
         match term {
             Term::Leaf(word) => {
                 let written = word.in_module(self.reading.statement.at.module);
-                self.word(cells, scopes, &self.reading.word(&written))?;
+                self.word(cells, scopes, &self.reading.word(&written))
             }
-            Term::Name(_, _) => {}
+            Term::Name(_, _) => Ok(()),
             Term::Form(op, _, parts) => {
                 if op.is_class_list() {
-                    self.class_list(cells, scopes, parts.as_slice())?;
+                    self.class_list(cells, scopes, parts.as_slice())
                 } else {
-                    self.terms(cells, scopes, parts.as_slice())?;
+                    self.terms(cells, scopes, parts.as_slice())
                 }
             }
         }
-        Ok(())
     }
 }

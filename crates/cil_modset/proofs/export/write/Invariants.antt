@@ -1,8 +1,7 @@
 use Rattle.std.proofs.Common.{◌≡◌, ◌++◌, take}
 use Rattle.std.specs.List.{flat_map}
 use Rattle.cil_modset.specs.Bundle.{entry}
-use Rattle.cil_modset.specs.Modules.{texts_of}
 use Rattle.cil_modset.proofs.export.write.Given as goal
 
-abbrev pub invariant-loop-text : goal.invariant-loop-text
-invariant-loop-text l = l.bytes.items ≡ l.initial.bytes.items ++ flat_map entry (take l.text-index (texts_of l.texts))
+abbrev pub invariant-loop-i : goal.invariant-loop-i
+invariant-loop-i l = l.bytes.items ≡ l.initial.bytes.items ++ flat_map entry (take l.i l.texts)

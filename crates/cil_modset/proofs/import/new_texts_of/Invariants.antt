@@ -4,4 +4,4 @@ use Rattle.cil_modset.proofs.import.new_texts_of.Given as goal
 
 abbrev pub invariant-loop-index : goal.invariant-loop-index
 invariant-loop-index l =
-    IsImportedUpTo l.bytes (texts_of l.ours) (texts_of l.progress.walk.fresh.items) l.index l.progress.start l.progress.at l.progress.walk.passed
+    IsImportedUpTo l.bytes l.ours (texts_of l.progress.walk.fresh.items) l.index l.progress.start l.progress.at l.progress.walk.passed

@@ -4,7 +4,6 @@ use Rattle.std.proofs.lemmas.Result.{err_from_is_err_and}
 use Rattle.cil_modset.specs.Faults.{AllBelow}
 use Rattle.cil_modset.specs.Modules.{IsBelow}
 use Rattle.cil_modset.proofs.ImportLemmas.{above_last, cut_short, falls_back, module_refused, imported_on}
-use Rattle.cil_modset.proofs.RisingLemmas.{length-texts_of}
 use Rattle.cil_modset.proofs.WalkLemmas.{new_known, new_kept}
 use Rattle.cil_modset.proofs.import.take_module.Goals as goal
 
@@ -25,9 +24,6 @@ returns-in_default-clause-refusal c = cut_short _ _ _ _ _ _ _ c.requires.before 
 
 pub slice_bounds-last-count : goal.slice_bounds-last-count
 slice_bounds-last-count c = omega (arith, c.requires.before.last.ends)
-
-pub knows-requires-clause-within : goal.knows-requires-clause-within
-knows-requires-clause-within c = omega (arith, c.requires.before.walk.within, length-texts_of c.args.ours.now)
 
 pub returns-in_err-check_module-clause-refusal : goal.returns-in_err-check_module-clause-refusal
 returns-in_err-check_module-clause-refusal c =

@@ -1,10 +1,14 @@
-use Rattle.std.proofs.Common.{arith}
-use Rattle.cil_names.proofs.UnscopedLemmas.{ranked_there, sole_sought}
+use Rattle.std.proofs.Common.{arith, subst}
+use Rattle.cil_syntax.specs.Scopes.{IsDotless}
+use Rattle.cil_names.specs.Soles.{AreRanked}
+use Rattle.cil_names.proofs.UnscopedLemmas.{sole_plain, unparted}
 use Rattle.cil_names.proofs.unscoped.sole_word.Goals as goal
 
 pub returns : goal.returns
 returns c =
-    let ranked = ranked_there c.args.entries.now c.args.word.now c.in-Some.sought c.in-Some.ensures c.in-Some-same.same c.in-Some-same.is in
+    let ranked = c.in_ok-same.ensures in
     let some = ranked.some in
-    sole_sought c.args.entries.now c.args.word.now c.in-Some.sought c.in-Some.ensures c.in-Some-same.same c.in-Some-same.is c.if-sought.false
-    (let one = c.if-same-ne1.false in omega (arith, one, some))
+    let one = c.if-same-ne1.false in
+    sole_plain c.args.entries.now c.args.word.now c.in_ok-rank.rank
+    (subst IsDotless c.as_slice-name.ensures (unparted c.parted.result c.as_slice-name.result.now c.parted.ensures c.if-is_some.ensures)) c.in_ok-rank.ensures c.in_ok-same.same
+    (subst (λ n. AreRanked c.args.entries.now (record { name = n; rank = c.in_ok-rank.rank }) c.in_ok-same.same) c.as_slice-name.ensures ranked) (omega (arith, one, some))

@@ -1,6 +1,6 @@
 use Rattle.std.specs.Prelude.{Contains}
 use Rattle.std.proofs.Common.{◌∙◌, ◌<◌, ◌≤◌, arith, length, map, subst, sym}
-use Rattle.cil_faults.proofs.RefusalLemmas.{fails_alike, refused}
+use Rattle.cil_faults.proofs.RefusalLemmas.{answers_alike}
 use Rattle.cil_blocks.specs.Namespaces.{AreNamespaces}
 use Rattle.cil_macros.specs.Items.{item_at, items_in}
 use Rattle.cil_macros.proofs.ItemLemmas.{item_got}
@@ -27,20 +27,11 @@ loop-at-preserved c =
       declared = c.as_slice-2.ensures.value ∙ c.in_ok-declared.ensures ∙ (λ i. map (is_declared_in (is_in (c.as_slice.ensures i))) (c.entries.ensures.value i));
     }))
 
-pub returns-in_err-refuse : goal.returns-in_err-refuse
-returns-in_err-refuse c =
-    let xs = items_in c.args.instances.now in
-    let s = is_in c.args.enabled.now in
-    let over : length xs ≤ c.loop-at.at = let h = c.loop-at-test.false in let n = c.len-at-end.ensures.items in omega (arith, h, n) in
-    let all = all_passed (faults_in xs s) xs c.loop-at.at over c.loop-at.faults.items _ c.loop-at.invariant in
-    refused (λ done. Unit {0}) (ResolveFault s xs) _ _ c.from_residual-in_err-refuse.ensures.1
-    (fails_alike (Contains c.loop-at.faults.items) (ResolveFault s xs) (λ f told. all_there xs s f (subst (λ l. Contains l f) all told))
-    (λ f fault. subst (λ l. Contains l f) (sym all) (all_back xs s f fault)) _ c.in_err-refuse.ensures.told)
-
 pub returns : goal.returns
 returns c =
     let xs = items_in c.args.instances.now in
     let s = is_in c.args.enabled.now in
     let over : length xs ≤ c.loop-at.at = let h = c.loop-at-test.false in let n = c.len-at-end.ensures.items in omega (arith, h, n) in
     let all = all_passed (faults_in xs s) xs c.loop-at.at over c.loop-at.faults.items _ c.loop-at.invariant in
-    (tt, λ g fault. c.in_ok-refuse.ensures.told.1 g (subst (λ l. Contains l g) (sym all) (all_back xs s g fault)))
+    answers_alike (Contains c.loop-at.faults.items) (ResolveFault s xs) (λ done. Unit {0}) (λ f told. all_there xs s f (subst (λ l. Contains l f) all told))
+    (λ f fault. subst (λ l. Contains l f) (sym all) (all_back xs s f fault)) c.refuse.result c.refuse.ensures.told

@@ -1,4 +1,4 @@
-use Rattle.std.proofs.Common.{◌≡◌, length, take}
+use Rattle.std.proofs.Common.{◌≡◌, take}
 use Rattle.cil_words.proofs.number_lists.is_list.Given as goal
 
 abbrev pub invariant-loop-i : goal.invariant-loop-i

@@ -3,4 +3,4 @@ use Rattle.cil_modset.proofs.RisingLemmas.{rising_none}
 use Rattle.cil_modset.proofs.set.ModuleSet.new.Goals as goal
 
 pub invariant_of-result : goal.invariant_of-result
-invariant_of-result c = rw c.new.ensures.items (record { rising = rising_none; readable = λ text h. absurd (contains_none text h) })
+invariant_of-result c = rw c.new.ensures (record { rising = rising_none; readable = λ text h. absurd (contains_none text h) })

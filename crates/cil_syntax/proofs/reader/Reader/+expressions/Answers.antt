@@ -9,7 +9,7 @@ use Rattle.cil_syntax.specs.Spoken.{part_of}
 use Rattle.cil_syntax.specs.Told.{TellAll}
 use Rattle.std.proofs.lemmas.List.{take_rest}
 use Rattle.cil_syntax.proofs.Expressed.{listed_told, others_told, others_stop, behind_told, behind_stops, nothing_behind, row_behind, operands_wrong, operands_told, others_wrong, one_other, sets_other, empty_by, some_by}
-use Rattle.cil_syntax.proofs.ItemsRead.{read_added, add_stopped, all_read, many_more, many_end}
+use Rattle.cil_syntax.proofs.ItemsRead.{more_read, stop_told, all_read, many_more, many_end}
 use Rattle.cil_syntax.proofs.reader.Reader.+expressions.Goals as goal
 
 pub read_expression-returns-in-List : goal.read_expression-returns-in-List
@@ -83,17 +83,17 @@ read_behind-returns-in-Parts t c =
     (subst (λ ks. TellAll c.args.self.now.number (space_of c.args.self.now.place.now) (read_row (items_of (map part_of c.in-Parts.parts.now)) (cells_of c.args.self.now.number (nodes_of c.args.self.now.text.now ks))) c.args.faults.now.items c.read_parts.new.faults.items c.read_parts.result)
     (take_rest c.args.nodes.now 1) c.read_parts.ensures))
 
-pub read_expressions-returns-in_err-add_read : goal.read_expressions-returns-in_err-add_read
-read_expressions-returns-in_err-add_read t c =
-    add_stopped c.args.self.now.number (space_of c.args.self.now.place.now) _ _ _ _ _ _ _ _ _ _ c.loop-index.invariant
+pub read_expressions-returns-in_err-term : goal.read_expressions-returns-in_err-term
+read_expressions-returns-in_err-term t c =
+    stop_told c.args.self.now.number (space_of c.args.self.now.place.now) _ _ _ _ _ _ _ _ _ _ c.loop-index.invariant
     (many_more c.args.self.now.number c.args.self.now.text.now c.args.nodes.now (expression c.args.language) _ _ c.loop-index-test.true c.index-nodes-index.is)
-    c.read_expression-read.ensures _ _ c.in_err-add_read.ensures c.from_residual-in_err-add_read.ensures.1
+    c.in_err-term.ensures c.from_residual-in_err-term.ensures.1
 
 pub read_expressions-loop-index-preserved : goal.read_expressions-loop-index-preserved
 read_expressions-loop-index-preserved t c =
-    read_added c.args.self.now.number (space_of c.args.self.now.place.now) _ _ _ _ _ _ _ _ _ _ c.loop-index.invariant
+    more_read c.args.self.now.number (space_of c.args.self.now.place.now) _ _ _ _ _ _ _ _ c.in_ok-term.term _ c.loop-index.invariant
     (many_more c.args.self.now.number c.args.self.now.text.now c.args.nodes.now (expression c.args.language) _ _ c.loop-index-test.true c.index-nodes-index.is)
-    c.read_expression-read.ensures _ c.in_ok-add_read.ensures
+    c.in_ok-term.ensures c.in_ok-push.ensures.items
 
 pub read_expressions-returns : goal.read_expressions-returns
 read_expressions-returns t c =

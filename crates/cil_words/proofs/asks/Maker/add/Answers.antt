@@ -1,4 +1,5 @@
-use Rattle.std.proofs.Common.{◌++◌, ◌∙◌, ap, map, sym, append-nil}
+use Rattle.std.proofs.Common.{◌++◌, ◌∷◌, [], ◌∙◌, ap, map, sym, append-nil}
+use Rattle.std.proofs.lemmas.Result.{on_ok_weaker}
 use Rattle.cil_macros.specs.Items.{items_in, namespaces_in}
 use Rattle.cil_words.specs.Table.{ask_of}
 use Rattle.cil_names.proofs.WordedLemmas.{unworded_asks}
@@ -12,4 +13,12 @@ returns-then-not-is_worded_at-clause-asks c =
     sym (ap (λ ws. c.args.cells.now ++ map could ws) (unworded_asks i c.args.at (sym c.is_worded_at.ensures ∙ c.if-not-is_worded_at.true)) ∙ append-nil c.args.cells.now)
 
 pub returns-clause-asks : goal.returns-clause-asks
-returns-clause-asks c = c.in_ok-statement.ensures.asks (items_in c.args.self.now.instances.now) c.requires.entries c.requires.permissions
+returns-clause-asks c =
+    on_ok_weaker c.statement.result (λ so. so (items_in c.args.self.now.instances.now) c.requires.entries c.requires.permissions) c.statement.ensures.asks
+
+pub returns-then-not-is_worded_at-clause-starts : goal.returns-then-not-is_worded_at-clause-starts
+returns-then-not-is_worded_at-clause-starts c = c.in_ok-push_number.ensures.pushed ∙ ap (λ n. c.args.starts.now.items ++ n ∷ []) c.len.ensures
+
+pub returns-clause-starts : goal.returns-clause-starts
+returns-clause-starts c =
+    on_ok_weaker c.statement.result (λ so. c.in_ok-push_number.ensures.pushed ∙ ap (λ n. c.args.starts.now.items ++ n ∷ []) c.len.ensures) c.statement.ensures.asks

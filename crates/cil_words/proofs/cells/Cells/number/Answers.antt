@@ -1,4 +1,4 @@
-use Rattle.std.proofs.Common.{rules, arith, ◌∙◌, ap, ◌<◌, ◌-◌, ◌≤◌}
+use Rattle.std.proofs.Common.{arith, ◌∙◌, ap, ◌<◌, ◌-◌, ◌≤◌}
 use Rattle.cil_words.specs.Cells.{many, paired}
 use Rattle.cil_words.specs.Table.{Ask}
 use Rattle.cil_words.proofs.CellLemmas.{row_of_many, row_of_none, row_of_one, row_of_pair}
@@ -14,12 +14,12 @@ returns-then-cell-lt-PAIRED c =
     let i = c.self.inside in
     ap (λ (k : Ask). k.number)
     (row_of_one i.pairs.owners.items i.pairs.places.items i.lists i.cells.items c.as_slice-cells.result.now c.args.self.now c.self.view_is c.as_slice-cells.ensures.value c.args.number c.in-Some.cell c.in-Some.ensures
-    (search (rules, arith)))
+    c.if-cell-lt-PAIRED.true)
 
 pub returns-then-cell-ge-MANY : goal.returns-then-cell-ge-MANY
 returns-then-cell-ge-MANY c =
     let i = c.self.inside in
-    let high : many ≤ c.in-Some.cell = search (rules, arith) in
+    let high : many ≤ c.in-Some.cell = c.if-cell-ge-MANY.true in
     ap (λ (k : Ask). k.number)
     (row_of_many i.pairs.owners.items i.pairs.places.items i.lists i.cells.items c.as_slice-cells.result.now c.args.self.now c.self.view_is c.as_slice-cells.ensures.value c.args.number c.in-Some.cell c.in-Some.ensures
     (c.in-Some.cell - many) (omega (arith, high)))
@@ -27,8 +27,8 @@ returns-then-cell-ge-MANY c =
 pub returns : goal.returns
 returns c =
     let i = c.self.inside in
-    let low : paired ≤ c.in-Some.cell = search (rules, arith) in
-    let high : c.in-Some.cell < many = search (rules, arith) in
+    let low : paired ≤ c.in-Some.cell = c.if-cell-lt-PAIRED.false in
+    let high : c.in-Some.cell < many = c.if-cell-ge-MANY.false in
     c.number.ensures
     ∙ ap (λ (k : Ask). k.number)
     (row_of_pair i.pairs.owners.items i.pairs.places.items i.lists i.cells.items c.as_slice-cells.result.now c.args.self.now c.self.view_is c.as_slice-cells.ensures.value c.args.number c.in-Some.cell c.in-Some.ensures

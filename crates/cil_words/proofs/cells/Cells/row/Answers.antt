@@ -14,7 +14,7 @@ returns-then-cell-lt-PAIRED c =
     c.one.ensures c.in-Some.cell (sym c.in-Some.ensures)
     ∙ ap (λ (k : Ask). k.could)
     (row_of_one i.pairs.owners.items i.pairs.places.items i.lists i.cells.items c.as_slice-cells.result.now c.args.self.now c.self.view_is c.as_slice-cells.ensures.value c.args.number c.in-Some.cell c.in-Some.ensures
-    (search (rules, arith)))
+    c.if-cell-lt-PAIRED.true)
 
 pub returns-in-None : goal.returns-in-None
 returns-in-None c =

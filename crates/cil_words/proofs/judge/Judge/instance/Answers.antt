@@ -2,6 +2,7 @@ use Rattle.std.proofs.Common.{◌++◌, ◌∙◌, ap, append-nil, sym}
 use Rattle.std.specs.List.{list_all}
 use Rattle.std.proofs.lemmas.Bool.{true≢false}
 use Rattle.cil_macros.specs.Items.{item_at}
+use Rattle.std.proofs.lemmas.Result.{on_ok_weaker}
 use Rattle.cil_names.specs.Resolves.{words_of}
 use Rattle.cil_names.proofs.FillLemmas.{faults_outside, faults_within}
 use Rattle.cil_words.specs.Judged.{has_one, items_by}
@@ -24,7 +25,9 @@ returns-then-is_full c = λ es s is.
     sym (ap (λ l. old ++ l) (faults_outside (items_by j) s x (c.is_outside.ensures.0 c.if-not-is_outside.false) ∙ none_in j es s is x.space (words_of x) full) ∙ append-nil old)
 
 pub returns : goal.returns
-returns c = λ es s is.
+returns c =
     let j = c.args.self.now in
     let x = item_at j.instances.now c.args.at in
-    c.in_ok-tell_all.ensures es s is ∙ ap (λ l. c.args.faults.now.items ++ l) (sym (faults_outside (items_by j) s x (c.is_outside.ensures.0 c.if-not-is_outside.false)))
+    on_ok_weaker c.tell_all.result
+    (λ so es s is. so es s is ∙ ap (λ l. c.args.faults.now.items ++ l) (sym (faults_outside (items_by j) s x (c.is_outside.ensures.0 c.if-not-is_outside.false))))
+    c.tell_all.ensures

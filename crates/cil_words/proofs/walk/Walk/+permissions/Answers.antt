@@ -1,4 +1,5 @@
 use Rattle.std.proofs.Common.{◌++◌, ◌∷◌, [], ap, sym, ◌∙◌}
+use Rattle.std.proofs.lemmas.Result.{on_ok_weaker}
 use Rattle.std.proofs.lemmas.Simd.{map-map}
 use Rattle.cil_syntax.specs.Scopes.{ScopedWord}
 use Rattle.cil_words.specs.Walks.{spaces_by}
@@ -10,15 +11,17 @@ use Rattle.cil_words.proofs.WalkLemmas.{each_all, each_one, form_each, leaf_each
 use Rattle.cil_names.proofs.UnresolvedLemmas.{walked_all, walked_on}
 use Rattle.cil_words.proofs.walk.Walk.+permissions.Goals as goal
 
-pub permission-returns-in_ok-placed_permission-in-Leaf : goal.permission-returns-in_ok-placed_permission-in-Leaf
-permission-returns-in_ok-placed_permission-in-Leaf t c = λ w is xs entries permissions.
+pub permission-returns-in-Leaf : goal.permission-returns-in-Leaf
+permission-returns-in-Leaf t c =
     let l = c.args.self.now in
     let r = l.reading in
+    on_ok_weaker c.placed_permission.result
+    (λ so w is xs entries permissions.
     let could = λ (p : ScopedWord). ask_of (spaces_by l) l.names.now xs l.permissions.now (APermission w p) in
     leaf_each (word_read r) (module_of r) could c.args.term.now c.args.cells.now _ c.in-Leaf.word c.in-Leaf.is
-    (c.in_ok-placed_permission-in-Leaf.ensures w is xs entries permissions
-    ∙ ap (λ p. c.args.cells.now ++ could p ∷ []) (c.word.ensures ∙ ap (word_read r) c.in_module-written.ensures))
-    ∙ ap (λ ws. c.args.cells.now ++ ws) (sym (map-map (ask_of (spaces_by l) l.names.now xs l.permissions.now) (APermission w) (words_at (word_read r) (module_of r) c.args.term.now)))
+    (so w is xs entries permissions ∙ ap (λ p. c.args.cells.now ++ could p ∷ []) (c.word.ensures ∙ ap (word_read r) c.in_module-written.ensures))
+    ∙ ap (λ ws. c.args.cells.now ++ ws) (sym (map-map (ask_of (spaces_by l) l.names.now xs l.permissions.now) (APermission w) (words_at (word_read r) (module_of r) c.args.term.now))))
+    c.placed_permission.ensures
 
 pub permission-returns-in-Name : goal.permission-returns-in-Name
 permission-returns-in-Name t c = λ w is xs entries permissions.
@@ -28,15 +31,18 @@ permission-returns-in-Name t c = λ w is xs entries permissions.
     name_each (word_read r) (module_of r) could c.args.term.now c.args.cells.now c.args.cells.now c.in-Name.field-0 c.in-Name.field-1 c.in-Name.is
     ∙ ap (λ ws. c.args.cells.now ++ ws) (sym (map-map (ask_of (spaces_by l) l.names.now xs l.permissions.now) (APermission w) (words_at (word_read r) (module_of r) c.args.term.now)))
 
-pub permission-returns-in_ok-permissions-in-Form : goal.permission-returns-in_ok-permissions-in-Form
-permission-returns-in_ok-permissions-in-Form t c = λ w is xs entries permissions.
+pub permission-returns-in-Form : goal.permission-returns-in-Form
+permission-returns-in-Form t c =
     let l = c.args.self.now in
     let r = l.reading in
+    on_ok_weaker c.permissions.result
+    (λ so w is xs entries permissions.
     let could = λ (p : ScopedWord). ask_of (spaces_by l) l.names.now xs l.permissions.now (APermission w p) in
     form_each (word_read r) (module_of r) could c.args.term.now c.args.cells.now _ _ _ _ c.in-Form.is c.as_slice.result.now c.as_slice.ensures.value
-    (c.in_ok-permissions-in-Form.ensures w is xs entries permissions
+    (so w is xs entries permissions
     ∙ ap (λ ws. c.args.cells.now ++ ws) (map-map (ask_of (spaces_by l) l.names.now xs l.permissions.now) (APermission w) (all_words_at (word_read r) (module_of r) c.as_slice.result.now)))
-    ∙ ap (λ ws. c.args.cells.now ++ ws) (sym (map-map (ask_of (spaces_by l) l.names.now xs l.permissions.now) (APermission w) (words_at (word_read r) (module_of r) c.args.term.now)))
+    ∙ ap (λ ws. c.args.cells.now ++ ws) (sym (map-map (ask_of (spaces_by l) l.names.now xs l.permissions.now) (APermission w) (words_at (word_read r) (module_of r) c.args.term.now))))
+    c.permissions.ensures
 
 pub permissions-loop-term-preserved : goal.permissions-loop-term-preserved
 permissions-loop-term-preserved t c = λ w is xs entries permissions.

@@ -1,4 +1,5 @@
 use Rattle.std.proofs.Common.{◌++◌, ◌∷◌, [], ap, sym, ◌∙◌}
+use Rattle.std.proofs.lemmas.Result.{on_ok_weaker}
 use Rattle.cil_syntax.specs.Scopes.{ScopedWord}
 use Rattle.cil_words.specs.Walks.{spaces_by}
 use Rattle.cil_words.specs.Table.{ask_of}
@@ -8,31 +9,39 @@ use Rattle.cil_words.proofs.WalkLemmas.{class_could, could_all, could_one, form_
 use Rattle.cil_names.proofs.UnresolvedLemmas.{walked_all, walked_on}
 use Rattle.cil_words.proofs.walk.Walk.+terms.Goals as goal
 
-pub term-returns-in_ok-word-in-Leaf-clause-asks : goal.term-returns-in_ok-word-in-Leaf-clause-asks
-term-returns-in_ok-word-in-Leaf-clause-asks t c = λ xs entries permissions.
+pub term-returns-in-Leaf-clause-asks : goal.term-returns-in-Leaf-clause-asks
+term-returns-in-Leaf-clause-asks t c =
     let l = c.args.self.now in
     let r = l.reading in
+    on_ok_weaker c.word-in-Leaf.result
+    (λ so xs entries permissions.
     let could = ask_of (spaces_by l) l.names.now xs l.permissions.now in
     leaf_could (word_read r) (module_of r) could c.args.term.now c.args.cells.now _ c.in-Leaf.word c.in-Leaf.is
-    (c.in_ok-word-in-Leaf.ensures.asks xs entries permissions
-    ∙ ap (λ (w : ScopedWord). c.args.cells.now ++ could (AWord w) ∷ []) (c.word.ensures ∙ ap (word_read r) c.in_module-written.ensures))
+    (so xs entries permissions ∙ ap (λ (w : ScopedWord). c.args.cells.now ++ could (AWord w) ∷ []) (c.word.ensures ∙ ap (word_read r) c.in_module-written.ensures)))
+    c.word-in-Leaf.ensures.asks
 
 pub term-returns-in-Name-clause-asks : goal.term-returns-in-Name-clause-asks
 term-returns-in-Name-clause-asks t c = λ xs entries permissions.
     let l = c.args.self.now in
     name_could (word_read l.reading) (module_of l.reading) (ask_of (spaces_by l) l.names.now xs l.permissions.now) c.args.term.now c.args.cells.now c.args.cells.now c.in-Name.field-0 c.in-Name.field-1 c.in-Name.is
 
-pub term-returns-in_ok-class_list-in-Form-clause-asks : goal.term-returns-in_ok-class_list-in-Form-clause-asks
-term-returns-in_ok-class_list-in-Form-clause-asks t c = λ xs entries permissions.
+pub term-returns-then-is_class_list-clause-asks : goal.term-returns-then-is_class_list-clause-asks
+term-returns-then-is_class_list-clause-asks t c =
     let l = c.args.self.now in
+    on_ok_weaker c.class_list.result
+    (λ so xs entries permissions.
     class_could (word_read l.reading) (module_of l.reading) (ask_of (spaces_by l) l.names.now xs l.permissions.now) c.args.term.now c.args.cells.now _ _ _ _ c.in-Form.is _ c.as_slice.ensures.value
-    (sym c.is_class_list.ensures.list ∙ c.if-is_class_list.true) (c.in_ok-class_list-in-Form.ensures.asks xs entries permissions)
+    (sym c.is_class_list.ensures.list ∙ c.if-is_class_list.true) (so xs entries permissions))
+    c.class_list.ensures.asks
 
-pub term-returns-in_ok-terms-in-Form-clause-asks : goal.term-returns-in_ok-terms-in-Form-clause-asks
-term-returns-in_ok-terms-in-Form-clause-asks t c = λ xs entries permissions.
+pub term-returns-else-is_class_list-clause-asks : goal.term-returns-else-is_class_list-clause-asks
+term-returns-else-is_class_list-clause-asks t c =
     let l = c.args.self.now in
+    on_ok_weaker c.terms.result
+    (λ so xs entries permissions.
     form_could (word_read l.reading) (module_of l.reading) (ask_of (spaces_by l) l.names.now xs l.permissions.now) c.args.term.now c.args.cells.now _ _ _ _ c.in-Form.is _ c.as_slice-else-is_class_list.ensures.value
-    (sym c.is_class_list.ensures.list ∙ c.if-is_class_list.false) (c.in_ok-terms-in-Form.ensures.asks xs entries permissions)
+    (sym c.is_class_list.ensures.list ∙ c.if-is_class_list.false) (so xs entries permissions))
+    c.terms.ensures.asks
 
 pub terms-loop-term-preserved : goal.terms-loop-term-preserved
 terms-loop-term-preserved t c = (

@@ -1,4 +1,5 @@
 use Rattle.std.proofs.Common.{◌∷◌, [], ◌++◌, ◌∙◌, ap, map, sym, append-nil, append_assoc}
+use Rattle.std.proofs.lemmas.Result.{on_ok_weaker}
 use Rattle.cil_syntax.specs.Scopes.{ScopedWord}
 use Rattle.cil_macros.specs.Item.{all_words_in}
 use Rattle.cil_words.specs.Walks.{spaces_by}
@@ -22,15 +23,18 @@ returns-in_default-clause-asks c = λ xs entries permissions.
     sym (ap (λ ws. c.args.cells.now ++ map could ws) (no_class_list (word_read l.reading) (module_of l.reading) c.args.terms.now c.in_default.ensures) ∙ append-nil c.args.cells.now)
 
 pub returns-clause-asks : goal.returns-clause-asks
-returns-clause-asks c = λ xs entries permissions.
+returns-clause-asks c =
     let l = c.args.self.now in
     let r = l.reading in
-    let could = ask_of (spaces_by l) l.names.now xs l.permissions.now in
     let old = c.args.cells.now in
     let class_ = scoped_there r c.word-class.result in
     let terms = all_words_in (terms_with (word_read r) (module_of r) c.in-Some.list.terms.now) in
-    c.in_ok-permissions.ensures class_ c.in_ok-found.ensures.class xs entries permissions
+    on_ok_weaker c.permissions.result
+    (λ so xs entries permissions.
+    let could = ask_of (spaces_by l) l.names.now xs l.permissions.now in
+    so class_ c.in_ok-found.ensures.class xs entries permissions
     ∙ ap (λ ds. ds ++ map could (map (APermission class_) terms)) (c.in_ok-found.ensures.asks xs entries permissions)
     ∙ append_assoc old (could (AWord class_) ∷ []) (map could (map (APermission class_) terms))
     ∙ ap (λ (w : ScopedWord). old ++ map could (AWord w ∷ map (APermission w) terms)) c.word-class.ensures
-    ∙ ap (λ ws. old ++ map could ws) (sym (class_list_words (word_read r) (module_of r) c.args.terms.now c.in-Some.list.terms.now c.in-Some.list.word c.in-Some.ensures))
+    ∙ ap (λ ws. old ++ map could ws) (sym (class_list_words (word_read r) (module_of r) c.args.terms.now c.in-Some.list.terms.now c.in-Some.list.word c.in-Some.ensures)))
+    c.permissions.ensures

@@ -1,0 +1,4 @@
+use Rattle.cil_words.proofs.asks.Maker.table.Goals as goal
+
+pub returns : goal.returns
+returns c = c.in_ok-fill.ensures.rows
