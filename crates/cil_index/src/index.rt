@@ -8,6 +8,7 @@ ghost use Rattle.cil_index.specs.declared.record.Record.{Record as ARecord};
 
 use crate::key::{Entry, ITSELF, TARGETS, aim, class_key, set_key};
 use crate::record::Record;
+use crate::search::are_few;
 use crate::sets::Sets;
 use cil_base::{NoMemory, short};
 use std::alloc::Global;
@@ -24,9 +25,6 @@ pub struct Index {
 /// The aims of a set stand in so many parts, by what this number leaves of the class.
 const PARTS: usize = 16;
 
-/// So few aims of a part are gone through one by one: a processor guesses what comes next better than in a search by halving.
-const FEW: usize = 64;
-
 /// Where some aims begin and end.
 #[derive(Clone, Copy)]
 pub struct Bounds {
@@ -37,7 +35,7 @@ pub struct Bounds {
 impl Bounds {
     /// Whether there are so few, or none, that they are gone through one by one: that takes less time than to search them.
     pub fn are_few(&self) -> bool {
-        self.to <= self.start || self.to - self.start <= FEW
+        are_few(self.start, self.to)
     }
 }
 

@@ -46,7 +46,7 @@ fn near_end(aims: &Vec<u32>, start: usize, end: usize, aim: u32) -> usize
 }
 
 /// Whether there are few, or none.
-fn are_few(start: usize, end: usize) -> bool
+pub fn are_few(start: usize, end: usize) -> bool
     ensures { result ≡ false → start + 16 < end }
 {
     end <= start || end - start <= FEW
