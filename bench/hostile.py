@@ -615,6 +615,23 @@ def unlike_rules(size):
     return [types() + "(class c(e))", "".join(map(rule, range(size)))]
 
 
+def with_sets(size, rule):
+    """A user, a class, types, and for each type an attribute that has it and the one before, with a rule made by its number."""
+    def each(n):
+        return f"(type a{n + 1:x})(typeattribute s{n:x})(typeattributeset s{n:x}(a{n:x} a{n + 1:x}))" + rule(n)
+    return ["(user u)(class c(e))(type a0)" + "".join(pieces(size, each))]
+
+
+def from_sets(size):
+    """Rules from attributes of two types each to one type."""
+    return with_sets(size, "(allow s{:x} a0(c(e)))".format)
+
+
+def to_sets(size):
+    """Rules from one type to attributes of two types each."""
+    return with_sets(size, "(allow a0 s{:x}(c(e)))".format)
+
+
 # ---- class maps and class permissions
 
 def on_map(size, rule):
@@ -890,6 +907,18 @@ def queries(form, size):
     yield "LOAD\n" + "AV u:object_r:a0 u:object_r:a0 c\n" * 1000
 
 
+def sources(form, size):
+    """Texts, a LOAD, and a thousand queries of one target, each with a source of its own."""
+    yield from installed(form(size))
+    yield "LOAD\n" + "".join(f"AV u:object_r:a{n:x} u:object_r:a0 c\n" for n in range(1000))
+
+
+def targets(form, size):
+    """Texts, a LOAD, and a thousand queries of one source, each with a target of its own."""
+    yield from installed(form(size))
+    yield "LOAD\n" + "".join(f"AV u:object_r:a0 u:object_r:a{n:x} c\n" for n in range(1000))
+
+
 def query(form, size):
     """Texts, a LOAD, and one query."""
     yield from installed(form(size))
@@ -963,6 +992,7 @@ FORMS = {
     "set-ring": (set_ring, LONGEST, load), "alias-line": (alias_line, LONGEST, load),
     "full-links": (full_links, 100, load), "full-rules": (full_rules, 1_000, load),
     "unlike-rules": (unlike_rules, 1_000, load),
+    "from-sets": (from_sets, LONGEST, sources), "to-sets": (to_sets, LONGEST, targets),
     "map-words": (map_words, 100_000, load), "map-lists": (map_lists, 100_000, load),
     "permission-ring": (permission_ring, 100_000, load), "map-ring": (map_ring, 100_000, load),
     "wide-permissions": (wide_permissions, 100_000, load), "wide-rules": (wide_rules, 100_000, load),

@@ -19,24 +19,24 @@ use Rattle.cil_index.specs.declared.index.Bounds.{Bounds}
 use Rattle.cil_index.specs.declared.index.Index.{Index}
 use Rattle.cil_index.specs.declared.memberships.Memberships.{Memberships}
 use Rattle.cil_index.specs.declared.record.Record.{Record}
-use Rattle.cil_index.specs.Entries.{AreBelow, AreBounds, IsInPart, IsIndex, IsLaidOut, RiseIn, aim_of, alone_key, in_class, itself, key_of_set, part_of, reached_key, set_key, target_key}
-use Rattle.cil_index.specs.Found.{AreAims, CoversAt, HandOver, Hands, IsAimed, IsOneOf, Matches, MayReach}
+use Rattle.cil_index.specs.Entries.{AreBelow, AreBounds, IsFoundAt, IsInPart, IsIndex, RiseIn, aim_of, aim_of_record, alone_key, heading_of_record, in_class, itself, key_of_set, other_side, part_of, reached_key, set_key, several, target_key}
+use Rattle.cil_index.specs.Found.{AreAims, AreOfClass, CoversAt, HandOver, Hands, Leads, Matches, MayReach, turned}
 use Rattle.cil_index.specs.Memberships.{AreMemberships}
 use Rattle.cil_index.specs.Kept.{reached, rule_of, target_at}
 use Rattle.cil_index.specs.Sets.{set_of}
-use Rattle.cil_index.proofs.KeyLemmas.{alone_below, class_of_aim, reach_cases}
+use Rattle.cil_index.proofs.KeyLemmas.{class_of_aim, heading_of_set, heading_of_type, leads, one_of, reach_cases, side_of_set, side_of_type}
 use Rattle.cil_index.proofs.RunLemmas.{none_past}
 use Rattle.cil_index.proofs.SetLemmas.{none_is, set_within}
 
-module _ (on : ℕ → Bool) (rules : List Rule) (m : Memberships) (asked : Asked) (index : Index) where
+module _ (on : ℕ → Bool) (rules : List Rule) (aims : Aims) (asked : Asked) (index : Index) where
   -- the rule that stands here covers the permission
   abbrev pub CoversThere : (at bit : ℕ) → Type 0
   CoversThere at bit = CoversAt on rules asked.source asked.target asked.class (get_or index.places.items at 0) bit
 
-  -- the mask has what the rules of these aims cover, if they are on the class and may reach the target, and nothing that no rule covers
+  -- the mask has what the rules of these aims cover that lead to what is asked, and nothing that no rule covers
   pub record IsJoined (start end mask : ℕ) : Type 0 where
     pub sound : (bit : ℕ) → IsBitSet mask bit → HasCover on rules asked.source asked.target asked.class bit
-    pub all : (at bit : ℕ) → start ≤ at → at < end → IsAimed m asked (get_or index.aims.items at 0) → CoversThere at bit → IsBitSet mask bit
+    pub all : (at bit : ℕ) → start ≤ at → at < end → Leads aims (get_or index.aims.items at 0) → CoversThere at bit → IsBitSet mask bit
 
   covered_there : (place bit : ℕ) → CoversAt on rules asked.source asked.target asked.class place bit → HasCover on rules asked.source asked.target asked.class bit
   covered_there place bit c = record { rule = c.rule; is_rule = get_contains rules place c.rule c.is_there; covers = c.covers }
@@ -46,19 +46,19 @@ module _ (on : ℕ → Bool) (rules : List Rule) (m : Memberships) (asked : Aske
 
   -- behind an aim past the last one there is none up to it
   pub joined_up_to : (start end i last mask : ℕ) → RiseIn index.aims.items start end → start ≤ i → last < get_or index.aims.items i 0 → IsJoined start i mask
-      → (at bit : ℕ) → start ≤ at → at < end → get_or index.aims.items at 0 ≤ last → IsAimed m asked (get_or index.aims.items at 0) → CoversThere at bit → IsBitSet mask bit
+      → (at bit : ℕ) → start ≤ at → at < end → get_or index.aims.items at 0 ≤ last → Leads aims (get_or index.aims.items at 0) → CoversThere at bit → IsBitSet mask bit
   joined_up_to start end i last mask up inside past so_far at bit ge less before aimed covers = elim (cases_lt at i) [
     | inl below ↦ so_far.all at bit ge below aimed covers
     | inr over ↦ let rise = up i at inside over less in absurd (omega (arith, rise, past, before))
   ]
 
   pub joined_all : (start end i last mask : ℕ) → end ≤ i → IsJoined start i mask
-      → (at bit : ℕ) → start ≤ at → at < end → get_or index.aims.items at 0 ≤ last → IsAimed m asked (get_or index.aims.items at 0) → CoversThere at bit → IsBitSet mask bit
+      → (at bit : ℕ) → start ≤ at → at < end → get_or index.aims.items at 0 ≤ last → Leads aims (get_or index.aims.items at 0) → CoversThere at bit → IsBitSet mask bit
   joined_all start end i last mask over so_far at bit ge less before aimed covers = so_far.all at bit ge (omega (arith, less, over)) aimed covers
 
   -- one aim more adds what its rule covers
   pub joined_more : (start i mask more : ℕ) → ((bit : ℕ) → IsBitSet more bit → CoversThere i bit)
-      → (IsAimed m asked (get_or index.aims.items i 0) → (bit : ℕ) → CoversThere i bit → IsBitSet more bit) → IsJoined start i mask → IsJoined start (i + 1) (bit_or mask more)
+      → (Leads aims (get_or index.aims.items i 0) → (bit : ℕ) → CoversThere i bit → IsBitSet more bit) → IsJoined start i mask → IsJoined start (i + 1) (bit_or mask more)
   joined_more start i mask more sound all so_far = record {
     sound = λ bit set. elim ((set_in_either mask more bit).0 set) [
       | inl t ↦ so_far.sound bit t
@@ -67,65 +67,50 @@ module _ (on : ℕ → Bool) (rules : List Rule) (m : Memberships) (asked : Aske
     all = λ at bit ge less aimed covers. (set_in_either mask more bit).1 (elim (cases_lt at i) [
       | inl below ↦ inl (so_far.all at bit ge below aimed covers)
       | inr over ↦ let same : at ≡ i = omega (arith, less, over) in
-          inr (all (subst (λ k. IsAimed m asked (get_or index.aims.items k 0)) same aimed) bit (subst (λ k. CoversThere k bit) same covers))
+          inr (all (subst (λ k. Leads aims (get_or index.aims.items k 0)) same aimed) bit (subst (λ k. CoversThere k bit) same covers))
     ]);
   }
 
   -- what the aims up to the last one hand over
   abbrev pub HandsIn : (start end last mask : ℕ) → Type 0
-  HandsIn start end last mask = (at bit : ℕ) → start ≤ at → at < end → get_or index.aims.items at 0 ≤ last → IsAimed m asked (get_or index.aims.items at 0)
+  HandsIn start end last mask = (at bit : ℕ) → start ≤ at → at < end → get_or index.aims.items at 0 ≤ last → Leads aims (get_or index.aims.items at 0)
       → CoversThere at bit → IsBitSet mask bit
 
-  -- an aim that may reach the target stands in the part of the class
-  pub in_that_part : (source at : ℕ) (aims : Aims) → AreAims m asked aims → IsAimed m asked (get_or index.aims.items at 0)
-      → IsInPart index.starts.items (part_of source (get_or index.aims.items at 0)) at → IsInPart index.starts.items (part_of source aims.alone) at
-  in_that_part source at aims are aimed of =
-      let same = class_of_aim m asked (get_or index.aims.items at 0) aims aimed are in
-      subst (λ p. IsInPart index.starts.items p at) (ap (λ c. source * 16 + c % 16) same) of
+  module _ (are : AreOfClass (in_class asked.class) aims) (heading : ℕ) (b : Bounds) (bounds : AreBounds index (part_of heading aims.alone) b) where
+    -- an aim that aimed to what is asked stands in the part of the class
+    inside : (at : ℕ) → Leads aims (get_or index.aims.items at 0) → IsInPart index.starts.items (part_of heading (get_or index.aims.items at 0)) at → (b.start ≤ at) × (at < b.to)
+    inside at aimed of =
+        bounds.all at (subst (λ p. IsInPart index.starts.items p at) (ap (λ c. heading * 8 + c % 8) (class_of_aim (in_class asked.class) aims are (get_or index.aims.items at 0) aimed)) of)
 
-  -- an aim that may reach the target is the one alone, or stands among the others
-  one_of : (aim : ℕ) (aims : Aims) → AreAims m asked aims → IsAimed m asked aim → IsOneOf aims aim
-  one_of aim aims are aimed =
-      let is = aimed.1 in
-      let second = are.several_is in
-      let third = are.last_is in
-      elim (reach_cases m asked aimed.0 aimed.2) [
-        | inl same ↦ inl (is ∙ ap (aim_of (in_class asked.class)) same ∙ sym are.alone_is)
-        | inr w ↦ let low = w.0 in let high = w.1 in inr (omega (arith, is, second, low), omega (arith, is, third, high))
-      ]
+    -- what all aims of the part hand over up to the last one is what the heading does
+    pub whole_part : (mask : ℕ) → HandsIn b.start b.to aims.last mask → Hands on rules aims asked index heading mask
+    whole_part mask has at bit of aimed covers =
+        let within = inside at aimed of in
+        let last = are.last_is in
+        let first = are.several_is in
+        let less = are.alone_below in
+        let low : get_or index.aims.items at 0 ≤ aims.last = elim (one_of (in_class asked.class) aims are (get_or index.aims.items at 0) aimed) [
+          | inl same ↦ omega (arith, same, first, last, less)
+          | inr w ↦ w.1
+        ] in
+        has at bit within.0 within.1 low aimed covers
 
-  -- what all aims of the part hand over up to the last one is what the source does
-  pub whole_part : (source : ℕ) (b : Bounds) (aims : Aims) (mask : ℕ) → AreAims m asked aims → AreBounds index (part_of source aims.alone) b → HandsIn b.start b.to aims.last mask → Hands on rules m asked index source mask
-  whole_part source b aims mask are bounds has at bit of aimed covers =
-      let inside = bounds.all at (in_that_part source at aims are aimed of) in
-      let first = are.alone_is in
-      let third = are.last_is in
-      let less = alone_below asked.target in
-      let low : get_or index.aims.items at 0 ≤ aims.last = elim (one_of (get_or index.aims.items at 0) aims are aimed) [ inl same ↦ omega (arith, same, first, third, less) | inr w ↦ w.1 ] in
-      has at bit inside.0 inside.1 low aimed covers
+    -- an aim of a heading that aimed to what is asked stands at one of two places
+    pub two_runs : (one two x y : ℕ) → AreBelow index.aims.items b.start one aims.alone → AreBelow index.aims.items one two aims.several
+        → HandsIn one b.to aims.alone x → HandsIn two b.to aims.last y → Hands on rules aims asked index heading (bit_or x y)
+    two_runs one two x y below_one below_two has_x has_y at bit of aimed covers =
+        let within = inside at aimed of in
+        let less = are.alone_below in
+        (set_in_either x y bit).1 (elim (one_of (in_class asked.class) aims are (get_or index.aims.items at 0) aimed) [
+          | inl same ↦ inl (has_x at bit (from_one at within.0 (omega (arith, same))) within.1 (omega (arith, same)) aimed covers)
+          | inr w ↦ let low = w.0 in inr (has_y at bit (from_two at within.0 (omega (arith, low, less)) low) within.1 w.1 aimed covers)
+        ])
+      where
+        from_one : (at : ℕ) → b.start ≤ at → aims.alone ≤ get_or index.aims.items at 0 → one ≤ at
+        from_one at ge above = elim (cases_lt at one) [ inl less ↦ let r = below_one at ge less in absurd (omega (arith, r, above)) | inr over ↦ over ]
 
-  -- an aim of a source that may reach the target stands at one of two places
-  pub two_runs : (source : ℕ) (b : Bounds) (one two : ℕ) (aims : Aims) (x y : ℕ) → AreAims m asked aims → AreBounds index (part_of source aims.alone) b → AreBelow index.aims.items b.start one aims.alone
-      → AreBelow index.aims.items one two aims.several → HandsIn one b.to aims.alone x → HandsIn two b.to aims.last y → Hands on rules m asked index source (bit_or x y)
-  two_runs source b one two aims x y are bounds below_one below_two has_x has_y at bit of aimed covers =
-      let is = aimed.1 in
-      let inside = bounds.all at (in_that_part source at aims are aimed of) in
-      let first = are.alone_is in
-      let second = are.several_is in
-      let third = are.last_is in
-      (set_in_either x y bit).1 (elim (reach_cases m asked aimed.0 aimed.2) [
-        | inl same ↦ let here : get_or index.aims.items at 0 ≡ aims.alone = is ∙ ap (aim_of (in_class asked.class)) same ∙ sym first in
-            inl (has_x at bit (from_one at inside.0 (omega (arith, here))) inside.1 (omega (arith, here)) aimed covers)
-        | inr w ↦ let low = w.0 in let high = w.1 in
-            let less = alone_below asked.target in
-            inr (has_y at bit (from_two at inside.0 (omega (arith, is, first, low, less)) (omega (arith, is, second, low))) inside.1 (omega (arith, is, third, high)) aimed covers)
-      ])
-    where
-      from_one : (at : ℕ) → b.start ≤ at → aims.alone ≤ get_or index.aims.items at 0 → one ≤ at
-      from_one at ge above = elim (cases_lt at one) [ inl less ↦ let r = below_one at ge less in absurd (omega (arith, r, above)) | inr over ↦ over ]
-
-      from_two : (at : ℕ) → b.start ≤ at → aims.alone ≤ get_or index.aims.items at 0 → aims.several ≤ get_or index.aims.items at 0 → two ≤ at
-      from_two at ge above over = elim (cases_lt at two) [ inl less ↦ let r = below_two at (from_one at ge above) less in absurd (omega (arith, r, over)) | inr past ↦ past ]
+        from_two : (at : ℕ) → b.start ≤ at → aims.alone ≤ get_or index.aims.items at 0 → aims.several ≤ get_or index.aims.items at 0 → two ≤ at
+        from_two at ge above over = elim (cases_lt at two) [ inl less ↦ let r = below_two at (from_one at ge above) less in absurd (omega (arith, r, over)) | inr past ↦ past ]
 
 -- ---- what stands in the aim of a rule that covers
 
@@ -168,50 +153,98 @@ reaches_itself sets n s t found tells none =
       | inr e ↦ (λ yes_. let no_ = e.0 in absurd cc, λ same. absurd (e.1 same))
     ])
 
+-- its sources may have the type for which they are asked
+source_reached : (sets : List (List ℕ)) (m : Memberships) (asked : Asked) → AreMemberships sets m → (source : ℕ) → Contains (set_of sets source) asked.source
+    → MayReach m (turned asked) (key_of_set (set_key source) (set_of sets source))
+source_reached sets m asked hold source c = elim (key_cases (set_key source) (set_of sets source) asked.source c) [
+  | inl e ↦ inl e
+  | inr e ↦ elim (hold.known source asked.source c) [ inl one ↦ absurd (e.1 one.is_one) | inr known ↦ inr (inr (source, e.0, known)) ]
+]
+
 -- ---- the record of a rule that covers
 
--- its aim stands among those of its source, is of the class, and may reach the target
-pub record IsFound (on : ℕ → Bool) (branches : List Branch) (sets : List (List ℕ)) (records : List Record) (index : Index) (m : Memberships) (asked : Asked) (bit : ℕ) : Type 0 where
-  pub kept : Record
-  pub at : ℕ
-  pub in_part : IsInPart index.starts.items (part_of kept.source (get_or index.aims.items at 0)) at
-  pub aimed : IsAimed m asked (get_or index.aims.items at 0)
-  pub has_source : Contains (set_of sets kept.source) asked.source
-  pub covers : CoversAt on (map (rule_of branches sets) records) asked.source asked.target asked.class (get_or index.places.items at 0) bit
+module _ (on : ℕ → Bool) (rules : List Rule) (asked : Asked) (index : Index) (bit : ℕ) where
+  -- its aim stands among those of a heading, and leads to what is asked
+  pub record IsFound (aims : Aims) (heading : ℕ) : Type 0 where
+    pub at : ℕ
+    pub in_part : IsInPart index.starts.items (part_of heading (get_or index.aims.items at 0)) at
+    pub aimed : Leads aims (get_or index.aims.items at 0)
+    pub covers : CoversAt on rules asked.source asked.target asked.class (get_or index.places.items at 0) bit
 
-pub found_by : (on : ℕ → Bool) (branches : List Branch) (sets : List (List ℕ)) (records : List Record) (index : Index) → IsIndex sets records index → (m : Memberships) → AreMemberships sets m
-    → (asked : Asked) (bit : ℕ) → HasCover on (map (rule_of branches sets) records) asked.source asked.target asked.class bit → IsFound on branches sets records index m asked bit
-found_by on branches sets records index is m hold asked bit covered =
+  found_at : (aims : Aims) (heading aim place : ℕ) → IsFoundAt index heading aim place → Leads aims aim → CoversAt on rules asked.source asked.target asked.class place bit → IsFound aims heading
+  found_at aims heading aim place found aimed covers = record {
+    at = found.at;
+    in_part = subst (λ a. IsInPart index.starts.items (part_of heading a) found.at) (sym found.aim_is) found.in_part;
+    aimed = subst (Leads aims) (sym found.aim_is) aimed;
+    covers = subst (λ p. CoversAt on rules asked.source asked.target asked.class p bit) (sym found.place_is) covers;
+  }
+
+-- it is found by the target, or by its sources
+module _ (on : ℕ → Bool) (branches : List Branch) (sets : List (List ℕ)) (records : List Record) (index : Index) (is : IsIndex sets records index) (m : Memberships) (hold : AreMemberships sets m)
+    (asked : Asked) (sources targets : Aims) (are_sources : AreAims m (turned asked) sources) (are_targets : AreAims m asked targets) (bit : ℕ) where
+  -- by the target
+  abbrev pub IsByTarget : Type 0
+  IsByTarget = IsFound on (map (rule_of branches sets) records) asked index bit sources (length sets + alone_key asked.target)
+
+  -- by a set that has the source
+  pub record IsBySource : Type 0 where
+    pub number : ℕ
+    pub has_source : Contains (set_of sets number) asked.source
+    pub found : IsFound on (map (rule_of branches sets) records) asked index bit targets number
+
+  by_record : (k : Record) (place : ℕ) → IsFoundAt index (heading_of_record sets k) (aim_of_record sets k) place → Covers on (rule_of branches sets k) asked.source asked.target asked.class bit
+      → CoversAt on (map (rule_of branches sets) records) asked.source asked.target asked.class place bit → IsByTarget ⊎ IsBySource
+  by_record k place found covers there =
+      let key = target_key sets k.target k.source in
+      let reach = target_reached sets m asked hold k.target k.source covers.has_source covers.has_target in
+      let of_class = covers.of_class in
+      elim (cases_lt key several) [
+        | inl less ↦
+            let is_alone : key ≡ alone_key asked.target = elim (reach_cases m asked key reach) [ inl e ↦ e | inr w ↦ let low = w.0 in absurd (omega (arith, low, less)) ] in
+            let heading : length sets + alone_key asked.target ≡ heading_of_record sets k = ap (λ z. length sets + z) (sym is_alone) ∙ heading_of_type sets k.source key less in
+            let side = key_of_set (set_key k.source) (set_of sets k.source) in
+            let aim : aim_of_record sets k ≡ aim_of (in_class asked.class) side = ap (λ (c : ℕ). aim_of (in_class c) (other_side sets k.source key)) of_class ∙ ap (aim_of (in_class asked.class)) (sym (side_of_type sets k.source key less)) in
+            inl (found_at on (map (rule_of branches sets) records) asked index bit sources _ _ place (subst (λ h. IsFoundAt index h (aim_of_record sets k) place) (sym heading) found)
+            (leads m (turned asked) sources are_sources (aim_of_record sets k) (side, aim, source_reached sets m asked hold k.source covers.has_source)) there)
+        | inr over ↦
+            let aim : aim_of_record sets k ≡ aim_of (in_class asked.class) key = ap (λ (c : ℕ). aim_of (in_class c) (other_side sets k.source key)) of_class ∙ ap (aim_of (in_class asked.class)) (sym (side_of_set sets k.source key over)) in
+            inr (record {
+              number = k.source;
+              has_source = covers.has_source;
+              found = found_at on (map (rule_of branches sets) records) asked index bit targets _ _ place (subst (λ h. IsFoundAt index h (aim_of_record sets k) place) (sym (heading_of_set sets k.source key over)) found)
+                  (leads m asked targets are_targets (aim_of_record sets k) (key, aim, reach)) there;
+            })
+      ]
+
+  pub found_by : HasCover on (map (rule_of branches sets) records) asked.source asked.target asked.class bit → IsByTarget ⊎ IsBySource
+  found_by covered =
+      let (k, is_kept, made) = from_map (rule_of branches sets) records covered.rule covered.is_rule in
+      let at = get_at records k is_kept in
+      let covers : Covers on (rule_of branches sets k) asked.source asked.target asked.class bit = subst (λ (r : Rule). Covers on r asked.source asked.target asked.class bit) (sym made) covered.covers in
+      by_record k at.0 (is.each at.0 k at.2) covers (record {
+        rule = rule_of branches sets k;
+        is_there = slice_get-map (rule_of branches sets) records at.0 ∙ ap (option_map (rule_of branches sets)) at.2;
+        covers = covers;
+      })
+
+-- where there are no aims, no rule covers anything
+pub no_rule : (on : ℕ → Bool) (branches : List Branch) (sets : List (List ℕ)) (records : List Record) (index : Index) (s t c bit : ℕ) → IsIndex sets records index → length index.aims.items ≡ 0
+    → HasCover on (map (rule_of branches sets) records) s t c bit → ⊥
+no_rule on branches sets records index s t c bit is none covered =
     let (k, is_kept, made) = from_map (rule_of branches sets) records covered.rule covered.is_rule in
     let at = get_at records k is_kept in
     let found = is.each at.0 k at.2 in
-    let covers : Covers on (rule_of branches sets k) asked.source asked.target asked.class bit = subst (λ (r : Rule). Covers on r asked.source asked.target asked.class bit) (sym made) covered.covers in
-    record {
-      kept = k;
-      at = found.at;
-      in_part = subst (λ a. IsInPart index.starts.items (part_of k.source a) found.at) (sym found.aim_is) found.in_part;
-      aimed = (
-        target_key sets k.target k.source,
-        found.aim_is ∙ ap (λ (c : ℕ). aim_of (in_class c) (target_key sets k.target k.source)) covers.of_class,
-        target_reached sets m asked hold k.target k.source covers.has_source covers.has_target,
-      );
-      has_source = covers.has_source;
-      covers = subst (λ p. CoversAt on (map (rule_of branches sets) records) asked.source asked.target asked.class p bit) (sym found.place_is)
-          (record { rule = rule_of branches sets k; is_there = slice_get-map (rule_of branches sets) records at.0 ∙ ap (option_map (rule_of branches sets)) at.2; covers = covers });
-    }
+    let high = found.in_part.ends in
+    let past = is.laid_out.within (part_of (heading_of_record sets k) (aim_of_record sets k) + 1) in omega (arith, past, high, none)
 
 -- ---- sources, one after another
 
-module _ (on : ℕ → Bool) (rules : List Rule) (m : Memberships) (asked : Asked) (index : Index) where
-  -- where there are no aims, no set hands anything over
-  pub none_at_all : (among : ℕ → Type 0) (mask : ℕ) → IsLaidOut index → length index.aims.items ≡ 0 → HandOver on rules m asked index among mask
-  none_at_all among mask laid none n is at bit of = absurd (let past = laid.within (part_of n (get_or index.aims.items at 0) + 1) in let high = of.ends in omega (arith, past, high, none))
-
-  -- a source behind the last one with a start has no rules
-  pub none_behind : (n mask : ℕ) → length index.starts.items ≤ n + 1 → Hands on rules m asked index n mask
+module _ (on : ℕ → Bool) (rules : List Rule) (aims : Aims) (asked : Asked) (index : Index) where
+  -- a heading behind the last one with a start has no rules
+  pub none_behind : (n mask : ℕ) → length index.starts.items ≤ n + 1 → Hands on rules aims asked index n mask
   none_behind n mask past at bit of = absurd (none_past index.starts.items (part_of n (get_or index.aims.items at 0)) at (omega (arith, past)) of)
 
-module _ (on : ℕ → Bool) (rules : List Rule) (m : Memberships) (asked : Asked) (index : Index) (numbers : List ℕ) where
+module _ (on : ℕ → Bool) (rules : List Rule) (aims : Aims) (asked : Asked) (index : Index) (numbers : List ℕ) where
   -- a source is one of the first
   abbrev pub IsAmong : (i n : ℕ) → Type 0
   IsAmong i n = (k : ℕ) × (k < i) × (get_or numbers k n ≡ n)
@@ -219,13 +252,13 @@ module _ (on : ℕ → Bool) (rules : List Rule) (m : Memberships) (asked : Aske
   -- the mask has what the rules of the first sources cover, and nothing that no rule covers
   pub record AreJoined (i mask : ℕ) : Type 0 where
     pub sound : (bit : ℕ) → IsBitSet mask bit → HasCover on rules asked.source asked.target asked.class bit
-    pub all : HandOver on rules m asked index (IsAmong i) mask
+    pub all : HandOver on rules aims asked index (IsAmong i) mask
 
   pub none_joined : AreJoined 0 0
   none_joined = record { sound = λ bit set. absurd (none_set bit set); all = λ n (k, below, is) at bit of aimed covers. absurd (omega (arith, below)) }
 
   pub joined_source : (i number mask more : ℕ) → i < length numbers → number ≡ get_or numbers i number → AreJoined i mask
-      → ((bit : ℕ) → IsBitSet more bit → HasCover on rules asked.source asked.target asked.class bit) → Hands on rules m asked index number more → AreJoined (i + 1) (bit_or mask more)
+      → ((bit : ℕ) → IsBitSet more bit → HasCover on rules asked.source asked.target asked.class bit) → Hands on rules aims asked index number more → AreJoined (i + 1) (bit_or mask more)
   joined_source i number mask more within here so_far sound all = record {
     sound = λ bit set. elim ((set_in_either mask more bit).0 set) [ inl x ↦ so_far.sound bit x | inr x ↦ sound bit x ];
     all = λ n (k, below, is) at bit of aimed covers. (set_in_either mask more bit).1 (elim (cases_lt k i) [
@@ -236,22 +269,22 @@ module _ (on : ℕ → Bool) (rules : List Rule) (m : Memberships) (asked : Aske
     ]);
   }
 
-  pub all_sources : (i mask : ℕ) → length numbers ≤ i → AreJoined i mask → HandOver on rules m asked index (λ n. Contains numbers n) mask
+  pub all_sources : (i mask : ℕ) → length numbers ≤ i → AreJoined i mask → HandOver on rules aims asked index (λ n. Contains numbers n) mask
   all_sources i mask over so_far n (k, within, is) at bit of aimed covers = so_far.all n (k, omega (arith, within, over), is) at bit of aimed covers
 
 -- ---- the sets that are asked for every type, one after another
 
-module _ (on : ℕ → Bool) (rules : List Rule) (m : Memberships) (asked : Asked) (index : Index) (first : ℕ) where
+module _ (on : ℕ → Bool) (rules : List Rule) (aims : Aims) (asked : Asked) (index : Index) (first : ℕ) where
   -- the mask has what the rules of the sources from the first on and below a number cover, and nothing that no rule covers
   pub record AreJoinedFrom (number mask : ℕ) : Type 0 where
     pub sound : (bit : ℕ) → IsBitSet mask bit → HasCover on rules asked.source asked.target asked.class bit
-    pub all : HandOver on rules m asked index (λ n. (first ≤ n) × (n < number)) mask
+    pub all : HandOver on rules aims asked index (λ n. (first ≤ n) × (n < number)) mask
 
   pub none_joined_from : AreJoinedFrom first 0
   none_joined_from = record { sound = λ bit set. absurd (none_set bit set); all = λ n (ge, below) at bit of aimed covers. absurd (omega (arith, ge, below)) }
 
   pub joined_next : (mask more number : ℕ) → AreJoinedFrom number mask → ((bit : ℕ) → IsBitSet more bit → HasCover on rules asked.source asked.target asked.class bit)
-      → Hands on rules m asked index number more → AreJoinedFrom (number + 1) (bit_or mask more)
+      → Hands on rules aims asked index number more → AreJoinedFrom (number + 1) (bit_or mask more)
   joined_next mask more number so_far sound all = record {
     sound = λ bit set. elim ((set_in_either mask more bit).0 set) [ inl x ↦ so_far.sound bit x | inr x ↦ sound bit x ];
     all = λ n (ge, below) at bit of aimed covers. (set_in_either mask more bit).1 (elim (cases_lt n number) [
@@ -261,34 +294,42 @@ module _ (on : ℕ → Bool) (rules : List Rule) (m : Memberships) (asked : Aske
     ]);
   }
 
-  pub joined_to : (number end mask : ℕ) → end ≤ number → AreJoinedFrom number mask → HandOver on rules m asked index (λ n. (first ≤ n) × (n < end)) mask
+  pub joined_to : (number end mask : ℕ) → end ≤ number → AreJoinedFrom number mask → HandOver on rules aims asked index (λ n. (first ≤ n) × (n < end)) mask
   joined_to number end mask over so_far n (ge, below) = so_far.all n (ge, omega (arith, below, over))
 
--- what is covered is found by the set of the source alone, by a large set or by one that is noted for the source
+-- what is covered is found by the target, by the set of the source alone, by a large set or by one that is noted for the source
 module _ (on : ℕ → Bool) (branches : List Branch) (sets : List (List ℕ)) (records : List Record) (index : Index) (is : IsIndex sets records index) (asked : Asked)
-    (m : Memberships) (hold : AreMemberships sets m)
-    (alone large own : ℕ)
-    (by_alone : HandOver on (map (rule_of branches sets) records) m asked index (λ n. n ≡ suc asked.source) alone)
-    (by_large : HandOver on (map (rule_of branches sets) records) m asked index (λ n. (m.first_large ≤ n) × (n < length sets)) large)
-    (by_own : HandOver on (map (rule_of branches sets) records) m asked index (λ n. Contains (get_or m.lists.items asked.source []) n) own) where
-  pub in_one_of : (bit : ℕ) → HasCover on (map (rule_of branches sets) records) asked.source asked.target asked.class bit → IsBitSet (bit_or (bit_or alone large) own) bit
-  in_one_of bit covered =
-      let f = found_by on branches sets records index is m hold asked bit covered in
-      (set_in_either (bit_or alone large) own bit).1 (elim (hold.known f.kept.source asked.source f.has_source) [
-        | inl one ↦ inl ((set_in_either alone large bit).1 (inl (by_alone f.kept.source one.has_number f.at bit f.in_part f.aimed f.covers)))
-        | inr known ↦ elim known [
-          | inl past ↦ inl ((set_in_either alone large bit).1 (inr (by_large f.kept.source (past, set_within sets f.kept.source asked.source f.has_source) f.at bit f.in_part f.aimed f.covers)))
-          | inr member ↦ inr (by_own f.kept.source member f.at bit f.in_part f.aimed f.covers)
-        ]
-      ])
+    (m : Memberships) (hold : AreMemberships sets m) (sources targets : Aims) (are_sources : AreAims m (turned asked) sources) (are_targets : AreAims m asked targets)
+    (target alone large own : ℕ)
+    (by_target : HandOver on (map (rule_of branches sets) records) sources asked index (λ n. n ≡ length sets + alone_key asked.target) target)
+    (by_alone : HandOver on (map (rule_of branches sets) records) targets asked index (λ n. n ≡ suc asked.source) alone)
+    (by_large : HandOver on (map (rule_of branches sets) records) targets asked index (λ n. (m.first_large ≤ n) × (n < length sets)) large)
+    (by_own : HandOver on (map (rule_of branches sets) records) targets asked index (λ n. Contains (get_or m.lists.items asked.source []) n) own) where
+  by_sources : (bit : ℕ) → IsBySource on branches sets records index is m hold asked sources targets are_sources are_targets bit → IsBitSet (bit_or (bit_or (bit_or target alone) large) own) bit
+  by_sources bit f = (set_in_either (bit_or (bit_or target alone) large) own bit).1 (elim (hold.known f.number asked.source f.has_source) [
+    | inl one ↦ inl ((set_in_either (bit_or target alone) large bit).1 (inl ((set_in_either target alone bit).1 (inr (by_alone f.number one.has_number f.found.at bit f.found.in_part f.found.aimed f.found.covers)))))
+    | inr known ↦ elim known [
+      | inl past ↦ inl ((set_in_either (bit_or target alone) large bit).1 (inr (by_large f.number (past, set_within sets f.number asked.source f.has_source) f.found.at bit f.found.in_part f.found.aimed f.found.covers)))
+      | inr member ↦ inr (by_own f.number member f.found.at bit f.found.in_part f.found.aimed f.found.covers)
+    ]
+  ])
+
+  pub in_one_of : (bit : ℕ) → HasCover on (map (rule_of branches sets) records) asked.source asked.target asked.class bit → IsBitSet (bit_or (bit_or (bit_or target alone) large) own) bit
+  in_one_of bit covered = elim (found_by on branches sets records index is m hold asked sources targets are_sources are_targets bit covered) [
+    | inl f ↦ (set_in_either (bit_or (bit_or target alone) large) own bit).1 (inl ((set_in_either (bit_or target alone) large bit).1 (inl ((set_in_either target alone bit).1 (inl (by_target _ refl f.at bit f.in_part f.aimed f.covers))))))
+    | inr f ↦ by_sources bit f
+  ]
 
 -- nothing else is
-pub only_these : (on : ℕ → Bool) (rules : List Rule) (s t c alone large own : ℕ) → ((bit : ℕ) → IsBitSet alone bit → HasCover on rules s t c bit) → ((bit : ℕ) → IsBitSet large bit → HasCover on rules s t c bit)
-    → ((bit : ℕ) → IsBitSet own bit → HasCover on rules s t c bit) → (bit : ℕ) → IsBitSet (bit_or (bit_or alone large) own) bit → HasCover on rules s t c bit
-only_these on rules s t c alone large own one two three bit set = elim ((set_in_either (bit_or alone large) own bit).0 set) [
-  | inl x ↦ elim ((set_in_either alone large bit).0 x) [ inl y ↦ one bit y | inr y ↦ two bit y ]
-  | inr x ↦ three bit x
-]
+module _ (on : ℕ → Bool) (rules : List Rule) (s t c target alone large own : ℕ) where
+  abbrev pub AreSound : ℕ → Type 0
+  AreSound mask = (bit : ℕ) → IsBitSet mask bit → HasCover on rules s t c bit
+
+  sound_both : (x y : ℕ) → AreSound x → AreSound y → AreSound (bit_or x y)
+  sound_both x y one two bit set = elim ((set_in_either x y bit).0 set) [ inl a ↦ one bit a | inr b ↦ two bit b ]
+
+  pub only_these : AreSound target → AreSound alone → AreSound large → AreSound own → AreSound (bit_or (bit_or (bit_or target alone) large) own)
+  only_these one two three four = sound_both (bit_or (bit_or target alone) large) own (sound_both (bit_or target alone) large (sound_both target alone one two) three) four
 
 -- ---- the rule at a place
 

@@ -16,7 +16,7 @@ use Rattle.cil_base.specs.Places.{in_range, is_there}
 use Rattle.std.proofs.lemmas.Option.{same_Some}
 use Rattle.cil_index.specs.declared.index.Index.{Index}
 use Rattle.cil_index.specs.declared.key.Entry.{Entry}
-use Rattle.cil_index.specs.Entries.{AreEntries, BeginAt, HasAll, HasEntries, IsColumn, IsFoundAt, IsInPart, IsIndex, RiseIn, aim_of_record, entry_cmp, entry_of, entry_total, part_of}
+use Rattle.cil_index.specs.Entries.{AreEntries, BeginAt, HasAll, HasEntries, IsColumn, IsFoundAt, IsInPart, IsIndex, RiseIn, aim_of_record, entry_cmp, entry_of, entry_total, heading_of_record, part_of}
 use Rattle.cil_index.specs.declared.record.Record.{Record}
 use Rattle.cil_index.proofs.RunLemmas.{none_past}
 
@@ -43,13 +43,13 @@ module _ (sets : List (List ℕ)) (records : List Record) where
   entries_sorted old new has moved sorted = record { sorted = sorted; each = λ place k at. Contains-permutation old new _ moved (has place k at) }
 
   -- the entry of a place is that of the record there
-  pub entry_made : (n : ℕ) (d : Record) (aim source part place : ℕ) (k : Record) → n < length records → aim ≡ aim_of_record sets (get_or records n d) → source ≡ (get_or records n d).source → part ≡ part_of source aim
+  pub entry_made : (n : ℕ) (d : Record) (aim heading part place : ℕ) (k : Record) → n < length records → aim ≡ aim_of_record sets (get_or records n d) → heading ≡ heading_of_record sets (get_or records n d) → part ≡ part_of heading aim
       → place ≡ n → slice_get records n ≡ Some k → ◌≡◌ {A = Entry} (record { part = part; aim = aim; place = place }) (entry_of sets k n)
-  entry_made n d aim source part place k within is from of_part here at =
+  entry_made n d aim heading part place k within is at_heading of_part here at =
       let there : get_or records n d ≡ k = same_Some _ _ (sym (is_there records n d within) ∙ at) in
       let same : aim ≡ aim_of_record sets k = is ∙ ap (aim_of_record sets) there in
-      let of_source : source ≡ k.source = from ∙ ap (λ (z : Record). z.source) there in
-      let in_part : part ≡ part_of k.source (aim_of_record sets k) = of_part ∙ ap (λ s. part_of s aim) of_source ∙ ap (part_of k.source) same in
+      let of_heading : heading ≡ heading_of_record sets k = at_heading ∙ ap (heading_of_record sets) there in
+      let in_part : part ≡ part_of (heading_of_record sets k) (aim_of_record sets k) = of_part ∙ ap (λ h. part_of h aim) of_heading ∙ ap (part_of (heading_of_record sets k)) same in
       λ i. record { part = in_part i; aim = same i; place = here i }
 
 -- ---- columns of entries
@@ -137,8 +137,8 @@ module _ (entries : List Entry) (index : Index) (has : HasAll entries index) whe
     ];
   }
 
-  entry_there : (source : ℕ) (e : Entry) → e.part ≡ part_of source e.aim → Contains entries e → IsFoundAt index source e.aim e.place
-  entry_there source e is (k, within, there) = record {
+  entry_there : (heading : ℕ) (e : Entry) → e.part ≡ part_of heading e.aim → Contains entries e → IsFoundAt index heading e.aim e.place
+  entry_there heading e is (k, within, there) = record {
     at = k;
     in_part = subst (λ p. IsInPart index.starts.items p k) is (begins e k (k, within, there) within (ap (λ (z : Entry). z.part) there));
     aim_is = has.aims.each k e within ∙ ap (λ (z : Entry). z.aim) there;
@@ -148,5 +148,5 @@ module _ (entries : List Entry) (index : Index) (has : HasAll entries index) whe
   pub index_made : (sets : List (List ℕ)) (records : List Record) → AreEntries sets records entries → IsIndex sets records index
   index_made sets records are = record {
     laid_out = record { long = has.places.long ∙ sym has.aims.long; within = bound_at; rising = aims_rise are.sorted };
-    each = λ place k at. entry_there k.source (entry_of sets k place) refl (are.each place k at);
+    each = λ place k at. entry_there (heading_of_record sets k) (entry_of sets k place) refl (are.each place k at);
   }

@@ -6,9 +6,9 @@ use Rattle.std.proofs.lemmas.Bool.Decides.{nat_tests}
 use Rattle.cil_index.specs.declared.asked.Asked.{Asked}
 use Rattle.cil_index.specs.declared.memberships.Memberships.{Memberships}
 use Rattle.cil_base.specs.Places.{is_there, not_there}
-use Rattle.cil_index.specs.Entries.{aim_of, alone_key, beyond, in_class, itself, key_of_set, last_type, reached_key, set_key, several, target_key}
+use Rattle.cil_index.specs.Entries.{aim_of, alone_key, beyond, heading_of, in_class, itself, key_of_set, last_type, other_side, reached_key, set_key, several, target_key}
 use Rattle.cil_index.specs.declared.asked.Aims.{Aims}
-use Rattle.cil_index.specs.Found.{AreAims, IsAimed, LeadsAway, MayReach}
+use Rattle.cil_index.specs.Found.{AreAims, AreOfClass, IsAimed, IsAmongSeveral, Leads, LeadsAway, MayReach}
 use Rattle.cil_index.specs.Memberships.{HasBit, IsKnownFor}
 use Rattle.cil_index.specs.Sets.{set_of}
 use Rattle.cil_index.proofs.SetLemmas.{none_is}
@@ -67,44 +67,100 @@ module _ (m : Memberships) (asked : Asked) where
     | inr d ↦ (omega (arith, e, d), omega (arith, e, d))
   ])
 
-  reach_small : (key : ℕ) → MayReach m asked key → key < 4194304
-  reach_small key r = elim (reach_cases key r) [
-    | inl e ↦ let less = alone_below asked.target in omega (arith, e, less)
-    | inr w ↦ let le = w.1 in omega (arith, le)
+  -- what may have the type is searched for
+  pub leads : (aims : Aims) → AreAims m asked aims → (aim : ℕ) → IsAimed m asked aim → Leads aims aim
+  leads aims are aim (key, is, inl e) = inl (is ∙ ap (aim_of (in_class asked.class)) e ∙ sym are.alone_is)
+  leads aims are aim (key, is, inr (inl e)) =
+      let at = e.0 in
+      let first = are.several_is in
+      let last = are.last_is in
+      let there = are.itself_is in
+      let below = are.sets_below in inr (record {
+        low = omega (arith, is, at, first);
+        high = omega (arith, is, at, last);
+        small = λ less. absurd (omega (arith, is, at, less, below, there));
+        itself_is = λ own. are.same e.1;
+      })
+  leads aims are aim (key, is, inr (inr (n, e, known))) = elim (set_is n) [
+    | inl d ↦ inr (of_set d.0 d.1 known)
+    | inr d ↦ inr (of_beyond (is ∙ ap (aim_of (in_class asked.class)) (e ∙ d)))
   ]
+    where
+      -- the number of a set is the lower part of its aim
+      of_set : several + n ≡ set_key n → set_key n < itself → IsKnownFor m asked.target n → IsAmongSeveral aims aim
+      of_set sum less known =
+          let first = are.several_is in
+          let last = are.last_is in
+          let there = are.itself_is in record {
+            low = omega (arith, is, e, sum, first);
+            high = omega (arith, is, e, less, last);
+            small = λ below. has_bit below known;
+            itself_is = λ own. absurd (omega (arith, is, e, less, own, there));
+          }
+        where
+          has_bit : aim < aims.large → IsKnownFor m asked.target n → HasBit aims.filter (aim % several)
+          has_bit below (inl past) = let large = are.small_below in absurd (omega (arith, is, e, sum, below, large, past))
+          has_bit below (inr member) = subst (HasBit aims.filter) (omega (arith, is, e, sum, less)) (are.filtered n member)
 
-  -- the class is the upper part
-  pub class_of_aim : (aim : ℕ) (aims : Aims) → IsAimed m asked aim → AreAims m asked aims → aim / 4194304 ≡ aims.alone / 4194304
-  class_of_aim aim aims (key, is, r) are =
-      let small = reach_small key r in
+      of_beyond : aim ≡ aim_of (in_class asked.class) beyond → IsAmongSeveral aims aim
+      of_beyond at =
+          let first = are.several_is in
+          let last = are.last_is in
+          let there = are.itself_is in
+          let below = are.sets_below in record {
+            low = omega (arith, at, first);
+            high = omega (arith, at, last);
+            small = λ less. absurd (omega (arith, at, less, below, there));
+            itself_is = λ own. absurd (omega (arith, at, own, there));
+          }
+
+  -- the aims of what is searched for are of the class
+  pub of_class : (aims : Aims) → AreAims m asked aims → AreOfClass (in_class asked.class) aims
+  of_class aims are =
       let alone = are.alone_is in
-      let less = alone_below asked.target in
-      omega (arith, is, small, alone, less)
+      let first = are.several_is in
+      let less = alone_below asked.target in record {
+        alone_in = omega (arith, alone, less);
+        alone_below = omega (arith, alone, first, less);
+        several_is = first;
+        last_is = are.last_is;
+      }
 
-  module _ (aims : Aims) (are : AreAims m asked aims) (aim : ℕ) where
-    -- the number of a set is the lower part of its aim
-    set_part : (c n : ℕ) → aim ≡ aim_of c (set_key n) → several + n ≡ set_key n → set_key n < itself → n ≡ aim % several
-    set_part c n is sum less = omega (arith, is, sum, less)
+module _ (class_ : ℕ) (aims : Aims) (are : AreOfClass class_ aims) where
+  -- an aim that leads is the one alone, or stands among those of several types
+  pub one_of : (aim : ℕ) → Leads aims aim → (aim ≡ aims.alone) ⊎ ((aims.several ≤ aim) × (aim ≤ aims.last))
+  one_of aim (inl same) = inl same
+  one_of aim (inr among) = inr (among.low, among.high)
 
-    -- an aim of a small set that has the type has a bit in the filter
-    small_led : (n : ℕ) → aim ≡ aim_of (in_class asked.class) (set_key n) → several + n ≡ set_key n → set_key n < itself → IsKnownFor m asked.target n → LeadsAway aims aim → ⊥
-    small_led n is sum less known (other, inl before) = let first = are.several_is in omega (arith, is, sum, before, first)
-    small_led n is sum less known (other, inr (inr (own, differ))) = let at = are.itself_is in omega (arith, is, less, own, at)
-    small_led n is sum less (inl past) (other, inr (inl (small, none))) = let below = are.small_below in omega (arith, is, sum, small, below, past)
-    small_led n is sum less (inr member) (other, inr (inl (small, none))) = none (subst (HasBit aims.filter) (set_part (in_class asked.class) n is sum less) (are.filtered n member))
+  -- its class is the upper part
+  pub class_of_aim : (aim : ℕ) → Leads aims aim → aim / 4194304 ≡ aims.alone / 4194304
+  class_of_aim aim (inl same) = ap (λ k. k / 4194304) same
+  class_of_aim aim (inr among) =
+      let low = among.low in
+      let high = among.high in
+      let first = are.several_is in
+      let last = are.last_is in
+      let alone = are.alone_in in omega (arith, low, high, first, last, alone)
 
-    -- an aim that may reach the target does not lead away
-    pub never_away : LeadsAway aims aim → IsAimed m asked aim → ⊥
-    never_away away (key, is, inl e) = away.0 (is ∙ ap (aim_of (in_class asked.class)) e ∙ sym are.alone_is)
-    never_away (other, inl before) (key, is, inr (inl e)) = let first = are.several_is in let at = e.0 in omega (arith, is, at, before, first)
-    never_away (other, inr (inl (small, none))) (key, is, inr (inl e)) = let at = e.0 in let below = are.sets_below in let there = are.itself_is in omega (arith, is, at, small, below, there)
-    never_away (other, inr (inr (own, differ))) (key, is, inr (inl e)) = differ (are.same e.1)
-    never_away away (key, is, inr (inr (n, e, known))) = elim (set_is n) [
-      | inl d ↦ small_led n (is ∙ ap (aim_of (in_class asked.class)) e) d.0 d.1 known away
-      | inr d ↦ never_beyond (is ∙ ap (aim_of (in_class asked.class)) (e ∙ d)) away
-    ]
-      where
-        never_beyond : aim ≡ aim_of (in_class asked.class) beyond → LeadsAway aims aim → ⊥
-        never_beyond is (other, inl before) = let first = are.several_is in omega (arith, is, before, first)
-        never_beyond is (other, inr (inl (small, none))) = let below = are.sets_below in let there = are.itself_is in omega (arith, is, small, below, there)
-        never_beyond is (other, inr (inr (own, differ))) = let there = are.itself_is in omega (arith, is, own, there)
+-- an aim that leads away does not lead
+pub never_away : (aims : Aims) (aim : ℕ) → LeadsAway aims aim → Leads aims aim → ⊥
+never_away aims aim away (inl same) = away.0 same
+never_away aims aim (other, inl before) (inr among) = let low = among.low in omega (arith, low, before)
+never_away aims aim (other, inr (inl (below, none))) (inr among) = none (among.small below)
+never_away aims aim (other, inr (inr (own, differ))) (inr among) = differ (among.itself_is own)
+
+-- ---- the heading and the other side of a rule
+
+pub heading_of_type : (sets : List (List ℕ)) (source target : ℕ) → target < several → length sets + target ≡ heading_of sets source target
+heading_of_type sets source target less = chosen target several (length sets + target) source (λ z. length sets + target ≡ z) (λ below. refl) (λ over. absurd (omega (arith, less, over)))
+
+pub heading_of_set : (sets : List (List ℕ)) (source target : ℕ) → several ≤ target → source ≡ heading_of sets source target
+heading_of_set sets source target ge = chosen target several (length sets + target) source (λ z. source ≡ z) (λ below. absurd (omega (arith, ge, below))) (λ over. refl)
+
+pub side_of_type : (sets : List (List ℕ)) (source target : ℕ) → target < several → key_of_set (set_key source) (set_of sets source) ≡ other_side sets source target
+side_of_type sets source target less =
+    let sources = key_of_set (set_key source) (set_of sets source) in
+    chosen target several sources target (λ z. sources ≡ z) (λ below. refl) (λ over. absurd (omega (arith, less, over)))
+
+pub side_of_set : (sets : List (List ℕ)) (source target : ℕ) → several ≤ target → target ≡ other_side sets source target
+side_of_set sets source target ge = chosen target several (key_of_set (set_key source) (set_of sets source)) target (λ z. target ≡ z) (λ below. absurd (omega (arith, ge, below))) (λ over. refl)

@@ -1,4 +1,4 @@
--- The index of rules: each record is found by the number of its source set, its class and its target.
+-- The index of rules: each record is found by its heading, its class and its other side.
 use Rattle.std.specs.Prelude.{◌≡◌, ◌⊎◌, ◌<◌, ◌≤◌, ◌+◌, ◌*◌, ◌/◌, ◌%◌, ℕ, cond, nat_lt, length, get_or, List, [], ◌∷◌, Contains, Option, None, Some, slice_get}
 use Rattle.std.specs.List.Sorted.{IsPartitionPoint, IsSorted}
 use Rattle.std.specs.Cmp.{IsTotalOrder}
@@ -20,7 +20,7 @@ last_class = 1023
 abbrev pub in_class : ℕ → ℕ
 in_class n = cond (nat_lt n last_class) n last_class
 
--- the target that stands for a set for whose number there is no room
+-- what stands for a set for whose number there is no room
 abbrev pub beyond : ℕ
 beyond = 4194303
 
@@ -28,7 +28,7 @@ beyond = 4194303
 abbrev pub itself : ℕ
 itself = 4194302
 
--- from here on stand the targets that are not one type
+-- from here on stands what is not one type
 abbrev pub several : ℕ
 several = 2097152
 
@@ -36,11 +36,11 @@ several = 2097152
 abbrev pub last_type : ℕ
 last_type = 2097151
 
--- what stands for a target that is one type alone
+-- what stands for one type alone
 abbrev pub alone_key : ℕ → ℕ
 alone_key t = cond (nat_lt t last_type) t last_type
 
--- what stands for a target that is the set of this number, of several types or none
+-- what stands for the set of this number, of several types or none
 abbrev pub set_key : ℕ → ℕ
 set_key n = cond (nat_lt n 2097150) (several + n) beyond
 
@@ -59,17 +59,29 @@ reached_key None number sources = key_of_set itself sources
 abbrev pub target_key : List (List ℕ) → ℕ → ℕ → ℕ
 target_key sets target source = reached_key (slice_get sets target) target (set_of sets source)
 
--- a class and a target as one number
+-- a rule whose target is one type alone has this type for its heading, behind all sets, and another the set of its sources
+abbrev pub heading_of : List (List ℕ) → (source target : ℕ) → ℕ
+heading_of sets source target = cond (nat_lt target several) (length sets + target) source
+
+-- what stands for its other side: for the sources, or for the target
+abbrev pub other_side : List (List ℕ) → (source target : ℕ) → ℕ
+other_side sets source target = cond (nat_lt target several) (key_of_set (set_key source) (set_of sets source)) target
+
+-- a class and what stands for a set as one number
 abbrev pub aim_of : ℕ → ℕ → ℕ
-aim_of class_ target = class_ * 4194304 + target
+aim_of class_ other = class_ * 4194304 + other
 
--- the aims of a set of sources stand in sixteen parts, by what 16 leaves of the class
-abbrev pub part_of : (source aim : ℕ) → ℕ
-part_of source aim = source * 16 + aim / 4194304 % 16
+-- the aims under a heading stand in eight parts, by what 8 leaves of the class
+abbrev pub part_of : (heading aim : ℕ) → ℕ
+part_of heading aim = heading * 8 + aim / 4194304 % 8
 
--- the class and the target of a record
+-- the heading of a record
+abbrev pub heading_of_record : List (List ℕ) → Record → ℕ
+heading_of_record sets k = heading_of sets k.source (target_key sets k.target k.source)
+
+-- the class and the other side of a record
 abbrev pub aim_of_record : List (List ℕ) → Record → ℕ
-aim_of_record sets k = aim_of (in_class k.class) (target_key sets k.target k.source)
+aim_of_record sets k = aim_of (in_class k.class) (other_side sets k.source (target_key sets k.target k.source))
 
 -- ---- the index: aims, the places of their records, and where each part begins
 
@@ -78,10 +90,10 @@ pub record IsInPart (starts : List ℕ) (part at : ℕ) : Type 0 where
   pub begins : get_or starts part 0 ≤ at
   pub ends : at < get_or starts (part + 1) 0
 
--- a record with this source and this aim is found: it stands at the place
-pub record IsFoundAt (index : Index) (source aim place : ℕ) : Type 0 where
+-- a record with this heading and this aim is found: it stands at the place
+pub record IsFoundAt (index : Index) (heading aim place : ℕ) : Type 0 where
   pub at : ℕ
-  pub in_part : IsInPart index.starts.items (part_of source aim) at
+  pub in_part : IsInPart index.starts.items (part_of heading aim) at
   pub aim_is : get_or index.aims.items at 0 ≡ aim
   pub place_is : get_or index.places.items at 0 ≡ place
 
@@ -98,18 +110,18 @@ pub record IsLaidOut (index : Index) : Type 0 where
 -- and each record is found
 pub record IsIndex (sets : List (List ℕ)) (records : List Record) (index : Index) : Type 0 where
   pub laid_out : IsLaidOut index
-  pub each : (place : ℕ) (k : Record) → slice_get records place ≡ Some k → IsFoundAt index k.source (aim_of_record sets k) place
+  pub each : (place : ℕ) (k : Record) → slice_get records place ≡ Some k → IsFoundAt index (heading_of_record sets k) (aim_of_record sets k) place
 
 -- ---- private words: entries, by which the index is made
 
 -- the entry of the record at a place
 abbrev pub entry_of : List (List ℕ) → Record → ℕ → Entry
-entry_of sets k place = record { part = part_of k.source (aim_of_record sets k); aim = aim_of_record sets k; place = place }
+entry_of sets k place = record { part = part_of (heading_of_record sets k) (aim_of_record sets k); aim = aim_of_record sets k; place = place }
 
 abbrev pub entry_fields : Entry → List ℕ
 entry_fields e = e.part ∷ e.aim ∷ []
 
--- entries stand by part, class and target
+-- entries stand by part and aim
 abbrev pub entry_cmp : Entry → Entry → Ordering
 entry_cmp = on entry_fields text_cmp
 

@@ -1,5 +1,5 @@
 -- What the rule at a place covers, and by which aims the rules that cover something are found.
-use Rattle.std.specs.Prelude.{◌≡◌, ◌<◌, ◌≤◌, ◌+◌, ◌%◌, ◌⊎◌, ℕ, Bool, true, List, [], Contains, IsBitSet, IsTrue, Some, get_or, slice_get}
+use Rattle.std.specs.Prelude.{◌≡◌, ◌<◌, ◌≤◌, ◌+◌, ◌/◌, ◌%◌, ◌⊎◌, ℕ, Bool, true, List, [], Contains, IsBitSet, IsTrue, Some, get_or, slice_get}
 use Rattle.cil_conditions.specs.Active.{is_active}
 use Rattle.cil_rules.specs.Rule.{Rule}
 use Rattle.cil_rules.specs.Covers.{Covers, Reaches}
@@ -23,23 +23,17 @@ pub record Matches (on : ℕ → Bool) (r : Rule) (source target class_ : ℕ) :
   pub has_target : Reaches r.target source target
   pub of_class : r.class ≡ class_
 
--- a target that stands so may have the type: it is the type alone, or the source, or a set that is known for the type
+-- the same question with each type in the place of the other
+abbrev pub turned : Asked → Asked
+turned asked = record { source = asked.target; target = asked.source; class = asked.class }
+
+-- what stands so may have the target: it is this type alone, or the source, or a set that is known for the type
 abbrev pub MayReach : Memberships → Asked → ℕ → Type 0
 MayReach m asked key = (key ≡ alone_key asked.target) ⊎ (((key ≡ itself) × (asked.source ≡ asked.target)) ⊎ ((n : ℕ) × (key ≡ set_key n) × IsKnownFor m asked.target n))
 
--- this is the class, with a target that may have the type
+-- this is the class, with what may have the target
 abbrev pub IsAimed : Memberships → Asked → ℕ → Type 0
 IsAimed m asked aim = (key : ℕ) × (aim ≡ aim_of (in_class asked.class) key) × MayReach m asked key
-
--- the mask has what the rules of this source cover on what is asked
-abbrev pub Hands : (ℕ → Bool) → List Rule → Memberships → Asked → Index → (source mask : ℕ) → Type 0
-Hands on rules m asked index source mask =
-    (at bit : ℕ) → IsInPart index.starts.items (part_of source (get_or index.aims.items at 0)) at → IsAimed m asked (get_or index.aims.items at 0)
-    → CoversAt on rules asked.source asked.target asked.class (get_or index.places.items at 0) bit → IsBitSet mask bit
-
--- and of some sources
-abbrev pub HandOver : (ℕ → Bool) → List Rule → Memberships → Asked → Index → (ℕ → Type 0) → ℕ → Type 0
-HandOver on rules m asked index among mask = (n : ℕ) → among n → Hands on rules m asked index n mask
 
 -- what is searched for, and a test of the sets that may have the target
 pub record AreAims (m : Memberships) (asked : Asked) (aims : Aims) : Type 0 where
@@ -52,12 +46,36 @@ pub record AreAims (m : Memberships) (asked : Asked) (aims : Aims) : Type 0 wher
   pub same : asked.source ≡ asked.target → IsTrue aims.is_itself
   pub filtered : IsFilter (get_or m.lists.items asked.target []) aims.filter
 
--- the aim is the one with the target alone, or one with a target that is not one type
-abbrev pub IsOneOf : Aims → ℕ → Type 0
-IsOneOf aims aim = (aim ≡ aims.alone) ⊎ ((aims.several ≤ aim) × (aim ≤ aims.last))
+-- the aims are of a class
+pub record AreOfClass (class_ : ℕ) (aims : Aims) : Type 0 where
+  pub alone_in : aims.alone / 4194304 ≡ class_
+  pub alone_below : aims.alone < aims.several
+  pub several_is : aims.several ≡ aim_of class_ several
+  pub last_is : aims.last ≡ aim_of class_ beyond
 
--- the aim is not the one with the target alone, and stands before those with a target that is not one type, or its target lacks the type: a small set by the filter, or the source
+-- the aim is among those that are not one type, and no test tells that it lacks the type: a small set has its bit, and the source itself is the target
+pub record IsAmongSeveral (aims : Aims) (aim : ℕ) : Type 0 where
+  pub low : aims.several ≤ aim
+  pub high : aim ≤ aims.last
+  pub small : aim < aims.large → HasBit aims.filter (aim % several)
+  pub itself_is : aim ≡ aims.itself → IsTrue aims.is_itself
+
+-- a search has to read the rule of this aim
+abbrev pub Leads : Aims → ℕ → Type 0
+Leads aims aim = (aim ≡ aims.alone) ⊎ IsAmongSeveral aims aim
+
+-- the aim is not the one alone, and stands before those that are not one type, or a test tells that it lacks the type
 abbrev pub LeadsAway : Aims → ℕ → Type 0
 LeadsAway aims aim =
     (aim ≡ aims.alone → ⊥)
     × ((aim < aims.several) ⊎ (((aim < aims.large) × (HasBit aims.filter (aim % several) → ⊥)) ⊎ ((aim ≡ aims.itself) × (IsTrue aims.is_itself → ⊥))))
+
+-- the mask has what the rules of this heading cover on what is asked
+abbrev pub Hands : (ℕ → Bool) → List Rule → Aims → Asked → Index → (heading mask : ℕ) → Type 0
+Hands on rules aims asked index heading mask =
+    (at bit : ℕ) → IsInPart index.starts.items (part_of heading (get_or index.aims.items at 0)) at → Leads aims (get_or index.aims.items at 0)
+    → CoversAt on rules asked.source asked.target asked.class (get_or index.places.items at 0) bit → IsBitSet mask bit
+
+-- and of some headings
+abbrev pub HandOver : (ℕ → Bool) → List Rule → Aims → Asked → Index → (ℕ → Type 0) → ℕ → Type 0
+HandOver on rules aims asked index among mask = (n : ℕ) → among n → Hands on rules aims asked index n mask

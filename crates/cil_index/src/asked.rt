@@ -2,7 +2,7 @@
 
 ghost use Rattle.cil_index.specs.Memberships.{AreFilters};
 ghost use Rattle.std.specs.Prelude.{◌≡◌, false};
-ghost use Rattle.cil_index.specs.Found.{AreAims, LeadsAway};
+ghost use Rattle.cil_index.specs.Found.{AreAims, LeadsAway, turned};
 
 use crate::key::{BEYOND, ITSELF, SEVERAL, aim, class_key, large_key, type_key};
 use crate::memberships::{Memberships, WORDS, has_bit};
@@ -27,9 +27,23 @@ pub struct Asked {
     pub class: usize,
 }
 
-/// What is searched for among the aims of a set of sources: the class with the target alone, and from the first to the last those with a target
-/// that is not one type. Among these the small sets come first, and the filter has a bit for each that has the target, by what 512 leaves of its
-/// number; behind them are the sets that are asked for every type, and that of a source itself.
+impl Asked {
+    /// The same with each type in the place of the other.
+    pub fn turned(&self) -> Asked
+        ensures { result ≡ turned self.now }
+    {
+        Asked {
+            source: self.target,
+            target: self.source,
+            class: self.class,
+        }
+    }
+}
+
+/// What is searched for among the aims under a heading: the class with the target alone, and from the first to the last those with a target that is not
+/// one type. Among these the small sets come first, and the filter has a bit for each that has the target, by what 512 leaves of its number;
+/// behind them are the sets that are asked for every type, and that of a source itself. Where the heading is the target, what is asked is turned: the
+/// source is searched for.
 #[derive(Clone, Copy)]
 pub struct Aims {
     pub alone: u32,

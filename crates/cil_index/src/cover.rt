@@ -1,22 +1,24 @@
 //! What rules cover, by the index.
 
-ghost use Rattle.std.specs.Prelude.{◌≡◌, ◌≤◌, ◌<◌, ◌↔◌, ℕ, suc, [], get_or, length, IsBitSet, IsTrue, Contains};
+ghost use Rattle.std.specs.Prelude.{◌≡◌, ◌≤◌, ◌<◌, ◌+◌, ◌↔◌, ℕ, suc, [], get_or, length, IsBitSet, Contains};
 ghost use Rattle.cil_rules.specs.Covers.{HasCover};
-ghost use Rattle.cil_index.specs.Entries.{IsIndex, RiseIn};
+ghost use Rattle.cil_index.specs.Entries.{IsIndex, RiseIn, alone_key};
+ghost use Rattle.cil_index.specs.Found.{Leads};
 ghost use Rattle.cil_index.specs.Memberships.{AreMemberships};
 ghost use Rattle.cil_conditions.specs.Bits.{is_on};
-ghost use Rattle.cil_index.specs.Search.{CoversIn, HandOverIn, HandsIn, IsAimedIn, IsKnownSource, IsSearch, IsSound};
+ghost use Rattle.cil_index.specs.Search.{CoversIn, HandOverIn, HandsIn, IsKnownSource, IsSearch, IsSound};
 ghost use Rattle.cil_index.specs.Searched.{rules_in};
 ghost use Rattle.cil_index.specs.Sets.{set_of};
 
 use crate::asked::{Aims, Asked, Searched, aims_of};
 use crate::index::{Bounds, Index};
+use crate::key::type_key;
 use crate::matches::mask_known;
 use crate::search::{aim_start, near_start};
 use cil_conditions::Settings;
 
-/// The permissions that the rules cover, by their index. It takes no memory: for each set that has the source, and for each large one, it costs
-/// a step for each aim of a part of this set, or two searches where these are many, and a test of each rule that may have the target.
+/// The permissions that the rules cover, by their index. It takes no memory: for the target, for each set that has the source, and for each large one, it
+/// costs a step for each aim of a part of this heading, or two searches where these are many, and a test of each rule that may be on both types.
 pub fn covered(searched: &Searched, index: &Index, settings: &Settings, asked: &Asked) -> u32
     requires index { IsIndex searched.now.sets.now searched.now.records.now index.now }
     requires memberships { AreMemberships searched.now.sets.now searched.now.memberships.now }
@@ -25,18 +27,26 @@ pub fn covered(searched: &Searched, index: &Index, settings: &Settings, asked: &
     if index.is_empty() {
         return 0;
     }
-    let aims = aims_of(searched.memberships, asked);
-    let search = Search {
-        searched,
-        index,
-        settings,
-        asked,
-        aims: &aims,
+    let sources = aims_of(searched.memberships, &asked.turned());
+    let targets = aims_of(searched.memberships, asked);
+    let of_target = Search {
+        searched: &*searched,
+        index: &*index,
+        settings: &*settings,
+        asked: &*asked,
+        aims: &sources,
     };
-    search.by_alone() | search.by_large() | search.by_own()
+    let of_source = Search {
+        searched: &*searched,
+        index: &*index,
+        settings: &*settings,
+        asked: &*asked,
+        aims: &targets,
+    };
+    of_target.by_target() | of_source.by_alone() | of_source.by_large() | of_source.by_own()
 }
 
-/// What a search is given: the rules and their index, the settings, and what is asked.
+/// What a search is given: the rules and their index, the settings, what is asked, and what is searched for among the aims under a heading.
 #[derive(Clone, Copy)]
 pub struct Search<'s> {
     searched: &'s Searched<'s>,
@@ -47,6 +57,16 @@ pub struct Search<'s> {
 }
 
 impl Search<'_> {
+    /// The permissions of the rules that reach just the target, and that cover what is asked.
+    fn by_target(&self) -> u32
+        requires { IsSearch self.now }
+        ensures sound { IsSound self.now result }
+        ensures all { HandOverIn self.now (λ n. n ≡ length self.now.searched.now.sets.now + alone_key self.now.asked.now.target) result }
+    {
+        let heading = self.searched.sets.behind(type_key(self.asked.target));
+        self.by_heading(heading, None)
+    }
+
     /// The permissions of the rules whose source is just this type, and that cover what is asked.
     fn by_alone(&self) -> u32
         requires { IsSearch self.now }
@@ -56,7 +76,7 @@ impl Search<'_> {
         if self.asked.source >= self.index.room() {
             return 0;
         }
-        self.by_source(self.asked.source + 1, None)
+        self.by_heading(self.asked.source + 1, None)
     }
 
     /// The permissions of the rules whose sources are one of the sets that are asked for every type, and that cover what is asked.
@@ -67,7 +87,7 @@ impl Search<'_> {
     {
         let mut mask = 0;
         for number in self.searched.memberships.first_large..self.searched.sets.count() {
-            mask |= self.by_source(number, None);
+            mask |= self.by_heading(number, None);
         }
         mask
     }
@@ -90,20 +110,20 @@ impl Search<'_> {
     {
         let mut mask = 0;
         for number in numbers {
-            mask |= self.by_source(*number as usize, Some(*number));
+            mask |= self.by_heading(*number as usize, Some(*number));
         }
         mask
     }
 
-    /// The permissions of the rules with a source that cover what is asked: those that reach the target alone, or several types. Few aims are gone
-    /// through one by one, others are searched. The set of a number that is handed on is known to have the source.
-    fn by_source(&self, source: usize, known: Option<u32>) -> u32
+    /// The permissions of the rules under a heading that cover what is asked: their other side is one type alone, or several. Few aims are gone through one by
+    /// one, others are searched. The set of a number that is handed on is known to have the source.
+    fn by_heading(&self, heading: usize, known: Option<u32>) -> u32
         requires search { IsSearch self.now }
         requires known { IsKnownSource self.now known }
         ensures sound { IsSound self.now result }
-        ensures all { HandsIn self.now source result }
+        ensures all { HandsIn self.now heading result }
     {
-        let bounds = self.index.bounds(source, self.aims.alone);
+        let bounds = self.index.bounds(heading, self.aims.alone);
         if bounds.are_few() {
             return self.joined(known, bounds, self.aims.last);
         }
@@ -133,7 +153,7 @@ impl Search<'_> {
         requires within { bounds.to ≤ length self.now.index.now.aims.items }
         requires rising { RiseIn self.now.index.now.aims.items bounds.start bounds.to }
         ensures sound { IsSound self.now result }
-        ensures all { (at bit : ℕ) → bounds.start ≤ at → at < bounds.to → get_or self.now.index.now.aims.items at 0 ≤ last → IsAimedIn self.now (get_or self.now.index.now.aims.items at 0)
+        ensures all { (at bit : ℕ) → bounds.start ≤ at → at < bounds.to → get_or self.now.index.now.aims.items at 0 ≤ last → Leads self.now.aims.now (get_or self.now.index.now.aims.items at 0)
             → CoversIn self.now (get_or self.now.index.now.places.items at 0) bit → IsBitSet result bit }
     {
         let mut mask = 0;
@@ -147,13 +167,13 @@ impl Search<'_> {
         mask
     }
 
-    /// The permissions of the rule that an aim stands for, where it is on what is asked. The rule is read only where its target may have the type.
+    /// The permissions of the rule that an aim stands for, where it is on what is asked. The rule is read only where its other side may have the type.
     fn mask_of(&self, known: Option<u32>, at: usize) -> u32
         requires search { IsSearch self.now }
         requires known { IsKnownSource self.now known }
         requires within { at < length self.now.index.now.aims.items }
         ensures sound { (bit : ℕ) → IsBitSet result bit → CoversIn self.now (get_or self.now.index.now.places.items at 0) bit }
-        ensures all { IsAimedIn self.now (get_or self.now.index.now.aims.items at 0) → (bit : ℕ) → CoversIn self.now (get_or self.now.index.now.places.items at 0) bit → IsBitSet result bit }
+        ensures all { Leads self.now.aims.now (get_or self.now.index.now.aims.items at 0) → (bit : ℕ) → CoversIn self.now (get_or self.now.index.now.places.items at 0) bit → IsBitSet result bit }
     {
         if !self.aims.may_lead(self.index.aims[at]) {
             return 0;

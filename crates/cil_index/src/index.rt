@@ -3,18 +3,19 @@
 ghost use Rattle.std.specs.Prelude.{◌≡◌, ◌≤◌, ◌<◌, ◌+◌, Contains, IfOk, IsTrue, Some, get_or, length, slice_get};
 ghost use Rattle.std.specs.List.Sorted.{IsSorted};
 ghost use Rattle.cil_index.specs.declared.key.Entry.{Entry as AnEntry};
-ghost use Rattle.cil_index.specs.Entries.{AreAllStarts, AreBefore, AreBounds, AreEntries, BeginAt, HasAll, HasEntries, IsColumn, IsIndex, IsLaidOut, aim_of_record, beyond, entry_cmp, entry_of, part_of, target_key};
+ghost use Rattle.cil_index.specs.Entries.{AreAllStarts, AreBefore, AreBounds, AreEntries, BeginAt, HasAll, HasEntries, IsColumn, IsIndex, IsLaidOut, beyond, entry_cmp, entry_of, heading_of, other_side, part_of, target_key};
 ghost use Rattle.cil_index.specs.declared.record.Record.{Record as ARecord};
 
-use crate::key::{Entry, ITSELF, TARGETS, aim, class_key, set_key};
+use crate::key::{Entry, ITSELF, SEVERAL, TARGETS, aim, class_key, set_key};
 use crate::record::Record;
 use crate::search::are_few;
 use crate::sets::Sets;
 use cil_base::{NoMemory, short};
 use std::alloc::Global;
 
-/// The aims of rules, by the sets of their sources and by parts of the classes, and in their order within each part; the places of these rules; and
-/// where each part begins. A search reads the aims alone, four bytes for each rule, and those of one part: the rules of a set on a few classes.
+/// The aims of rules, by their headings and by parts of the classes, and in their order within each part; the places of these rules; and where each part
+/// begins. The heading of a rule that reaches one type alone is this type, and that of another the set of its sources; its aim has the class and its other
+/// side. A search reads the aims alone, four bytes for each rule, and those of one part: the rules under a heading on a few classes.
 #[derive(Debug, Drop)]
 pub struct Index {
     pub aims: Vec<u32>,
@@ -22,8 +23,8 @@ pub struct Index {
     starts: Vec<u32>,
 }
 
-/// The aims of a set stand in so many parts, by what this number leaves of the class.
-const PARTS: usize = 16;
+/// The aims under a heading stand in so many parts, by what this number leaves of the class.
+const PARTS: usize = 8;
 
 /// Where some aims begin and end.
 #[derive(Clone, Copy)]
@@ -40,12 +41,12 @@ impl Bounds {
 }
 
 impl Index {
-    /// Where the aims of a set of sources stand that are of the class of an aim, among those of the other classes of its part. It costs no search.
-    pub fn bounds(&self, source: usize, aim: u32) -> Bounds
+    /// Where the aims under a heading stand that are of the class of an aim, among those of the other classes of its part. It costs no search.
+    pub fn bounds(&self, heading: usize, aim: u32) -> Bounds
         requires { IsLaidOut self.now }
-        ensures { AreBounds self.now (part_of source aim) result }
+        ensures { AreBounds self.now (part_of heading aim) result }
     {
-        let part = part_of(source, aim);
+        let part = part_of(heading, aim);
         if part >= self.starts.len() {
             return Bounds { start: 0, to: 0 };
         }
@@ -62,7 +63,7 @@ impl Index {
         self.aims.len() == 0
     }
 
-    /// How many starts there are: the sets of sources from this number on have no rules.
+    /// How many starts there are: headings from this number on have no rules.
     pub fn room(&self) -> usize
         ensures { result ≡ length self.now.starts.items }
     {
@@ -70,13 +71,13 @@ impl Index {
     }
 }
 
-/// The number of the part of a set of sources in which an aim stands. Where there is no room for it, the last number.
-fn part_of(source: usize, aim: u32) -> usize
-    ensures low { result ≤ part_of source aim }
-    ensures same { result < 18446744073709551615 → result ≡ part_of source aim }
+/// The number of the part of a heading in which an aim stands. Where there is no room for it, the last number.
+fn part_of(heading: usize, aim: u32) -> usize
+    ensures low { result ≤ part_of heading aim }
+    ensures same { result < 18446744073709551615 → result ≡ part_of heading aim }
 {
     let class = (aim / TARGETS) as usize;
-    source.saturating_mul(PARTS).saturating_add(class % PARTS)
+    heading.saturating_mul(PARTS).saturating_add(class % PARTS)
 }
 
 /// Where a part begins.
@@ -161,19 +162,35 @@ fn entry_at(sets: &Sets, records: &[Record], place: usize) -> Result<Entry, NoMe
     ensures { IfOk result (λ e. (k : ARecord) → slice_get records.now place ≡ Some k → e ≡ entry_of sets.now k place) }
 {
     let kept = &records[place];
-    let aim = aim_of(sets, kept);
-    let part = short(part_of(kept.source as usize, aim))?;
+    let target = target_of(sets, kept);
+    let heading = heading_of(sets, kept.source, target);
+    let other = other_side(sets, kept.source, target);
+    let aim = aim(class_key(kept.class as usize), other);
+    let part = short(part_of(heading, aim))?;
     let place = short(place)?;
     Ok(Entry { part, aim, place })
 }
 
-/// The class and the target of a record.
-fn aim_of(sets: &Sets, kept: &Record) -> u32
-    ensures { result ≡ aim_of_record sets.now kept.now }
+/// The heading of a rule by the set of its sources and what stands for its target: a target that is one type alone, behind all sets, or else the sources.
+fn heading_of(sets: &Sets, source: u32, target: u32) -> usize
+    ensures { result ≡ heading_of sets.now source target }
 {
-    let class = class_key(kept.class as usize);
-    let target = target_of(sets, kept);
-    aim(class, target)
+    if target < SEVERAL {
+        return sets.behind(target);
+    }
+    source as usize
+}
+
+/// What stands for the side of a rule that is not its heading: for the sources where the target is one type alone, or else for the target.
+fn other_side(sets: &Sets, source: u32, target: u32) -> u32
+    requires { target ≤ beyond }
+    ensures key { result ≡ other_side sets.now source target }
+    ensures room { result ≤ beyond }
+{
+    if target < SEVERAL {
+        return sets.key(source, set_key(source));
+    }
+    target
 }
 
 /// What stands for the target of a record.

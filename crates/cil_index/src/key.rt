@@ -1,4 +1,4 @@
-//! By what a rule is found: the number of the set of its sources, its class, and its target.
+//! By what a rule is found: its heading, its class, and what stands for its other side.
 
 ghost use Rattle.std.specs.Prelude.{◌≡◌, ◌≤◌, ◌+◌, refl};
 ghost use Rattle.std.specs.Cmp.{eq_by_cmp_equiv, partial_equiv_from_equiv, partial_order_from_total};
@@ -7,7 +7,7 @@ ghost use Rattle.cil_index.specs.Entries.{aim_of, alone_key, beyond, entry_cmp, 
 
 use std::cmp::Ordering;
 
-/// An aim has a target in so many of its values, and a class in the ten bits above them.
+/// An aim has a target, or the sources, in so many of its values, and a class in the ten bits above them.
 pub const TARGETS: u32 = 1 << 22;
 
 /// The target that stands for a set for whose number an aim has no room.
@@ -28,9 +28,9 @@ const LAST_TYPE: u32 = SEVERAL - 1;
 /// A rule while the index is made.
 #[derive(Clone, Copy, Debug)]
 pub struct Entry {
-    /// The part in which it stands, by the set of its sources and its class.
+    /// The part in which it stands, by its heading and its class.
     pub part: u32,
-    /// Its class and its target as one number: a search compares them in one step.
+    /// Its class and what stands for its other side as one number: a search compares them in one step.
     pub aim: u32,
     /// Where the rule stands.
     pub place: u32,
@@ -51,7 +51,7 @@ pub fn class_key(class: usize) -> u32
     }
 }
 
-/// What stands in an aim for a target that is one type alone.
+/// What stands in an aim for one type alone.
 pub fn type_key(number: usize) -> u32
     ensures { result ≡ alone_key number }
 {
@@ -62,7 +62,7 @@ pub fn type_key(number: usize) -> u32
     }
 }
 
-/// What stands in an aim for a target that is a set of several types, or of none.
+/// What stands in an aim for a set of several types, or of none.
 pub fn set_key(set: u32) -> u32
     ensures { result ≡ set_key set }
 {
@@ -85,7 +85,7 @@ pub fn large_key(set: usize) -> u32
     }
 }
 
-/// A class and a target as one number.
+/// A class and what stands for a set as one number.
 pub fn aim(class: u32, target: u32) -> u32
     requires class { class ≤ last_class }
     requires target { target ≤ beyond }
@@ -127,7 +127,7 @@ impl Ord for Entry {
 
     ghost matches_eq = { λ a b. refl };
 
-    /// By part, class, target.
+    /// By part, then by aim.
     fn cmp(&self, other: &Entry) -> Ordering {
         self.part.cmp(&other.part).then(self.aim.cmp(&other.aim))
     }

@@ -1,6 +1,6 @@
 //! Whether one rule is on what is asked.
 
-ghost use Rattle.std.specs.Prelude.{◌≡◌, ◌<◌, ◌↔◌, ℕ, [], get_or, IfSome, IsBitSet, IsTrue, Contains, Some};
+ghost use Rattle.std.specs.Prelude.{◌≡◌, ◌<◌, ◌↔◌, ℕ, IfSome, IsBitSet, IsTrue, Contains, Some};
 ghost use Rattle.cil_rules.specs.Covers.{Reaches};
 ghost use Rattle.cil_index.specs.Memberships.{AreMemberships};
 ghost use Rattle.cil_conditions.specs.Active.{is_active};

@@ -99,10 +99,10 @@ impl Sections {
         })
     }
 
-    /// The permissions that are allowed on a class and a pair of types, by these settings. It takes no memory: for each set that has the source,
-    /// and for each of more than 1,024 types, it costs two searches among a part of the rules from this set, a step or a search by halving for each
-    /// of these on the class that reaches several types, a test of each that reaches the target, and a step for each part of the condition of
-    /// one that covers.
+    /// The permissions that are allowed on a class and a pair of types, by these settings. It takes no memory. Rules that reach one type alone are found by
+    /// this type, and others by the set of their sources: so for the target, for each set that has the source, and for each of more than 1,024 types,
+    /// it costs a step for each of some rules, or two searches where these are many, a step for each on the class whose other side is several types, a
+    /// test of each that may be on both types, and a step for each part of the condition of one that covers.
     pub fn allowed(&self, settings: &Settings, asked: &Asked) -> u32
         ensures { (bit : ℕ) → IsBitSet result bit ↔ HasCover (is_on settings.now) self.now.allow asked.now.source asked.now.target asked.now.class bit }
     {

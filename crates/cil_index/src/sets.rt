@@ -1,6 +1,6 @@
 //! Sets of types by numbers.
 
-ghost use Rattle.std.specs.Prelude.{◌≡◌, ◌↔◌, ◌<◌, ℕ, suc, [], ◌∷◌, Contains, IfOk, IsTrue, List, OnOk, Some, length, slice_get};
+ghost use Rattle.std.specs.Prelude.{◌≡◌, ◌+◌, ◌↔◌, ◌<◌, ℕ, suc, [], ◌∷◌, Contains, IfOk, IsTrue, List, OnOk, Some, length, slice_get};
 ghost use Rattle.std.specs.List.Sorted.{IsStrictlySortedBy};
 ghost use Rattle.cil_sets.specs.Answers.{set_cmp};
 ghost use Rattle.cil_index.specs.Entries.{key_of_set};
@@ -133,6 +133,13 @@ impl Sets {
         ensures { result ≡ length self.now }
     {
         self.several.len() + self.ones as usize + 1
+    }
+
+    /// The number that is so much behind that of the first one behind all.
+    pub fn behind(&self, number: u32) -> usize
+        ensures { result ≡ length self.now + number }
+    {
+        self.ones as usize + self.several.len() + 1 + number as usize
     }
 
     /// Whether there is a set of this number.

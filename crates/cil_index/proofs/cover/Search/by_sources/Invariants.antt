@@ -4,4 +4,4 @@ use Rattle.cil_index.proofs.CoverLemmas.{AreJoined}
 use Rattle.cil_index.proofs.cover.Search.by_sources.Given as goal
 
 abbrev pub invariant-loop-number : goal.invariant-loop-number
-invariant-loop-number l = AreJoined (is_on l.self.settings.now) (rules_in l.self.searched.now) l.self.searched.now.memberships.now l.self.asked.now l.self.index.now l.numbers l.number-index l.mask
+invariant-loop-number l = AreJoined (is_on l.self.settings.now) (rules_in l.self.searched.now) l.self.aims.now l.self.asked.now l.self.index.now l.numbers l.number-index l.mask
