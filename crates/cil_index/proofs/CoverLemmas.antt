@@ -31,7 +31,7 @@ use Rattle.cil_index.proofs.SetLemmas.{none_is, set_within}
 module _ (on : ℕ → Bool) (rules : List Rule) (aims : Aims) (asked : Asked) (index : Index) where
   -- the rule that stands here covers the permission
   abbrev pub CoversThere : (at bit : ℕ) → Type 0
-  CoversThere at bit = CoversAt on rules asked.source asked.target asked.class (get_or index.places.items at 0) bit
+  CoversThere at bit = CoversAt on rules asked.source asked.target asked.class at bit
 
   -- the mask has what the rules of these aims cover that lead to what is asked, and nothing that no rule covers
   pub record IsJoined (start end mask : ℕ) : Type 0 where
@@ -62,7 +62,7 @@ module _ (on : ℕ → Bool) (rules : List Rule) (aims : Aims) (asked : Asked) (
   joined_more start i mask more sound all so_far = record {
     sound = λ bit set. elim ((set_in_either mask more bit).0 set) [
       | inl t ↦ so_far.sound bit t
-      | inr t ↦ covered_there (get_or index.places.items i 0) bit (sound bit t)
+      | inr t ↦ covered_there i bit (sound bit t)
     ];
     all = λ at bit ge less aimed covers. (set_in_either mask more bit).1 (elim (cases_lt at i) [
       | inl below ↦ inl (so_far.all at bit ge below aimed covers)
@@ -169,14 +169,14 @@ module _ (on : ℕ → Bool) (rules : List Rule) (asked : Asked) (index : Index)
     pub at : ℕ
     pub in_part : IsInPart index.starts.items (part_of heading (get_or index.aims.items at 0)) at
     pub aimed : Leads aims (get_or index.aims.items at 0)
-    pub covers : CoversAt on rules asked.source asked.target asked.class (get_or index.places.items at 0) bit
+    pub covers : CoversAt on rules asked.source asked.target asked.class at bit
 
-  found_at : (aims : Aims) (heading aim place : ℕ) → IsFoundAt index heading aim place → Leads aims aim → CoversAt on rules asked.source asked.target asked.class place bit → IsFound aims heading
-  found_at aims heading aim place found aimed covers = record {
-    at = found.at;
-    in_part = subst (λ a. IsInPart index.starts.items (part_of heading a) found.at) (sym found.aim_is) found.in_part;
+  found_at : (aims : Aims) (heading aim at : ℕ) → IsFoundAt index heading aim at → Leads aims aim → CoversAt on rules asked.source asked.target asked.class at bit → IsFound aims heading
+  found_at aims heading aim at found aimed covers = record {
+    at = at;
+    in_part = subst (λ a. IsInPart index.starts.items (part_of heading a) at) (sym found.aim_is) found.in_part;
     aimed = subst (Leads aims) (sym found.aim_is) aimed;
-    covers = subst (λ p. CoversAt on rules asked.source asked.target asked.class p bit) (sym found.place_is) covers;
+    covers = covers;
   }
 
 -- it is found by the target, or by its sources

@@ -7,40 +7,70 @@ use Rattle.std.proofs.Math.ListN.{get_or-eq_default}
 use Rattle.std.proofs.Math.Seq.{get_or-append_seam}
 use Rattle.std.proofs.lemmas.Bool.{cases_lt}
 use Rattle.std.proofs.lemmas.List.{get_or_append_left, get_or_default, length-append}
-use Rattle.std.proofs.lemmas.List.Elements.{Contains-append_left, Contains-append_right}
+use Rattle.std.proofs.lemmas.List.Elements.{Contains-append_cases, Contains-append_left, Contains-append_right, Contains-get_or}
 use Rattle.std.proofs.lemmas.List.MinMax.{ranks_by}
-use Rattle.std.proofs.lemmas.List.Sorted.{Contains-permutation, sorted_far}
-use Rattle.cil_base.specs.Lists.{contains_here, text_cmp}
+use Rattle.std.proofs.lemmas.List.Sorted.{Contains-permutation, IsPermutation-sym, sorted_far}
+use Rattle.cil_base.specs.Lists.{contains_cases, contains_here, contains_none, text_cmp}
 use Rattle.cil_base.specs.Paths.{equal_from, less_from}
-use Rattle.cil_base.specs.Places.{in_range, is_there}
+use Rattle.cil_base.specs.Places.{get_so, in_range, is_there, some_at}
 use Rattle.std.proofs.lemmas.Option.{same_Some}
 use Rattle.cil_index.specs.declared.index.Index.{Index}
 use Rattle.cil_index.specs.declared.key.Entry.{Entry}
-use Rattle.cil_index.specs.Entries.{AreEntries, BeginAt, HasAll, HasEntries, IsColumn, IsFoundAt, IsInPart, IsIndex, RiseIn, aim_of_record, entry_cmp, entry_of, entry_total, heading_of_record, part_of}
+use Rattle.cil_index.specs.Entries.{AreEntries, BeginAt, HasAll, HasEntries, IsColumn, IsEntry, IsFoundAt, IsInPart, IsIndex, RiseIn, aim_of_record, entry_cmp, entry_of, entry_total, heading_of_record, part_of}
 use Rattle.cil_index.specs.declared.record.Record.{Record}
+use Rattle.cil_index.specs.Layout.{no_record, record_of}
 use Rattle.cil_index.proofs.RunLemmas.{none_past}
 
 module _ (sets : List (List ℕ)) (records : List Record) where
-  -- the first records have their entries
-  abbrev pub HasFirst : ℕ → List Entry → Type 0
-  HasFirst n entries = (place : ℕ) (k : Record) → place < n → slice_get records place ≡ Some k → Contains entries (entry_of sets k place)
+  -- the first records have their entries, and there is no other entry
+  pub record HasFirst (n : ℕ) (entries : List Entry) : Type 0 where
+    pub each : (place : ℕ) (k : Record) → place < n → slice_get records place ≡ Some k → Contains entries (entry_of sets k place)
+    pub only : (e : Entry) → Contains entries e → IsEntry sets records e
 
-  pub first_more : (n : ℕ) (e : Entry) (old new : List Entry) → HasFirst n old → ((k : Record) → slice_get records n ≡ Some k → e ≡ entry_of sets k n)
+  pub first_none : (entries : List Entry) → entries ≡ [] → HasFirst 0 entries
+  first_none entries none = record {
+    each = λ place k less at. absurd (omega (arith, less));
+    only = λ e has. absurd (contains_none e (subst (λ (es : List Entry). Contains es e) none has));
+  }
+
+  -- an entry that was made of the record at a place is one
+  made_one : (n : ℕ) (e : Entry) → n < length records → ((k : Record) → slice_get records n ≡ Some k → e ≡ entry_of sets k n) → IsEntry sets records e
+  made_one n e within is =
+      let (k, at) = some_at records n within in
+      let same : e ≡ entry_of sets k n = is k at in
+      let place : e.place ≡ n = ap (λ (z : Entry). z.place) same in
+      record { kept = k; is_there = ap (slice_get records) place ∙ at; is_its = same ∙ ap (entry_of sets k) (sym place) }
+
+  pub first_more : (n : ℕ) (e : Entry) (old new : List Entry) → n < length records → HasFirst n old → ((k : Record) → slice_get records n ≡ Some k → e ≡ entry_of sets k n)
       → new ≡ old ++ e ∷ [] → HasFirst (n + 1) new
-  first_more n e old new so_far is push place k less at =
-      subst (λ xs. Contains xs (entry_of sets k place)) (sym push) (elim (cases_lt place n) [
-        | inl before ↦ Contains-append_left old (e ∷ []) _ (so_far place k before at)
-        | inr ge ↦ let same : place ≡ n = omega (arith, less, ge) in
-            Contains-append_right old (e ∷ []) _
-            (subst (λ p. Contains (e ∷ []) (entry_of sets k p)) (sym same)
-            (subst (Contains (e ∷ [])) (is k (subst (λ p. slice_get records p ≡ Some k) same at)) (contains_here e [])))
-      ])
+  first_more n e old new within so_far is push = record {
+    each = λ place k less at. subst (λ xs. Contains xs (entry_of sets k place)) (sym push) (elim (cases_lt place n) [
+      | inl before ↦ Contains-append_left old (e ∷ []) _ (so_far.each place k before at)
+      | inr ge ↦ let same : place ≡ n = omega (arith, less, ge) in
+          Contains-append_right old (e ∷ []) _
+          (subst (λ p. Contains (e ∷ []) (entry_of sets k p)) (sym same)
+          (subst (Contains (e ∷ [])) (is k (subst (λ p. slice_get records p ≡ Some k) same at)) (contains_here e [])))
+    ]);
+    only = λ x has. elim (Contains-append_cases old (e ∷ []) x (subst (λ (es : List Entry). Contains es x) push has)) [
+      | inl c ↦ so_far.only x c
+      | inr c ↦ elim (contains_cases x e [] c) [ inl same ↦ subst (IsEntry sets records) same (made_one n e within is) | inr none ↦ absurd (contains_none x none) ]
+    ];
+  }
 
   pub first_all : (n : ℕ) (entries : List Entry) → length records ≤ n → HasFirst n entries → HasEntries sets records entries
-  first_all n entries over all place k at = let within = in_range records place k at in all place k (omega (arith, within, over)) at
+  first_all n entries over all = record {
+    each = λ place k at. let within = in_range records place k at in all.each place k (omega (arith, within, over)) at;
+    only = all.only;
+  }
 
   pub entries_sorted : (old new : List Entry) → HasEntries sets records old → IsPermutation old new → IsSorted entry_cmp new → AreEntries sets records new
-  entries_sorted old new has moved sorted = record { sorted = sorted; each = λ place k at. Contains-permutation old new _ moved (has place k at) }
+  entries_sorted old new has moved sorted = record {
+    sorted = sorted;
+    has = record {
+      each = λ place k at. Contains-permutation old new _ moved (has.each place k at);
+      only = λ e c. has.only e (Contains-permutation new old e (IsPermutation-sym old new moved) c);
+    };
+  }
 
   -- the entry of a place is that of the record there
   pub entry_made : (n : ℕ) (d : Record) (aim heading part place : ℕ) (k : Record) → n < length records → aim ≡ aim_of_record sets (get_or records n d) → heading ≡ heading_of_record sets (get_or records n d) → part ≡ part_of heading aim
@@ -54,29 +84,29 @@ module _ (sets : List (List ℕ)) (records : List Record) where
 
 -- ---- columns of entries
 
--- a number of each of the first entries
-abbrev pub IsFirstColumn : (Entry → ℕ) → List Entry → ℕ → List ℕ → Type 0
-IsFirstColumn number entries i column = (length column ≡ i) × ((k : ℕ) (d : Entry) → k < i → get_or column k 0 ≡ number (get_or entries k d))
+-- what each of the first entries has
+abbrev pub IsFirstColumn : {X : Type 0} → (Entry → X) → List Entry → ℕ → List X → Type 0
+IsFirstColumn {X = X} of_entry entries i column = (length column ≡ i) × ((k : ℕ) (d : Entry) (x : X) → k < i → get_or column k x ≡ of_entry (get_or entries k d))
 
-module _ (number : Entry → ℕ) (entries : List Entry) where
-  pub column_none : (column : List ℕ) → column ≡ [] → IsFirstColumn number entries 0 column
-  column_none column e = (ap (λ (z : List ℕ). length z) e, λ k d below. absurd (omega (arith, below)))
+module _ {X : Type 0} (of_entry : Entry → X) (entries : List Entry) where
+  pub column_none : (column : List X) → column ≡ [] → IsFirstColumn of_entry entries 0 column
+  column_none column e = (ap (λ (z : List X). length z) e, λ k d x below. absurd (omega (arith, below)))
 
-  pub column_more : (i : ℕ) (e : Entry) (old new : List ℕ) → i < length entries → new ≡ old ++ number (get_or entries i e) ∷ []
-      → IsFirstColumn number entries i old → IsFirstColumn number entries (i + 1) new
+  pub column_more : (i : ℕ) (e : Entry) (old new : List X) → i < length entries → new ≡ old ++ of_entry (get_or entries i e) ∷ []
+      → IsFirstColumn of_entry entries i old → IsFirstColumn of_entry entries (i + 1) new
   column_more i e old new within push (size, so_far) =
-      let n = number (get_or entries i e) in (
-        ap (λ (z : List ℕ). length z) push ∙ length-append old (n ∷ []) ∙ ap (λ k. k + 1) size,
-        λ k d below. elim (cases_lt k i) [
-          | inl less ↦ ap (λ z. get_or z k 0) push ∙ get_or_append_left old (n ∷ []) 0 k (omega (arith, less, size)) ∙ so_far k d less
+      let n = of_entry (get_or entries i e) in (
+        ap (λ (z : List X). length z) push ∙ length-append old (n ∷ []) ∙ ap (λ k. k + 1) size,
+        λ k d x below. elim (cases_lt k i) [
+          | inl less ↦ ap (λ z. get_or z k x) push ∙ get_or_append_left old (n ∷ []) x k (omega (arith, less, size)) ∙ so_far k d x less
           | inr ge ↦ let same : k ≡ i = omega (arith, ge, below) in
-              ap (λ j. get_or new j 0) same ∙ ap (λ z. get_or z i 0) push ∙ ap (λ j. get_or (old ++ n ∷ []) j 0) (sym size) ∙ get_or-append_seam old n [] 0
-              ∙ ap number (get_or_default entries i e d within ∙ ap (λ j. get_or entries j d) (sym same))
+              ap (λ j. get_or new j x) same ∙ ap (λ z. get_or z i x) push ∙ ap (λ j. get_or (old ++ n ∷ []) j x) (sym size) ∙ get_or-append_seam old n [] x
+              ∙ ap of_entry (get_or_default entries i e d within ∙ ap (λ j. get_or entries j d) (sym same))
         ],
       )
 
-  pub column_all : (i : ℕ) (column : List ℕ) → length entries ≤ i → i ≤ length entries → IsFirstColumn number entries i column → IsColumn number entries column
-  column_all i column over within (size, all) = record { long = omega (arith, size, over, within); each = λ k d below. all k d (omega (arith, below, over)) }
+  pub column_all : (i : ℕ) (column : List X) → length entries ≤ i → i ≤ length entries → IsFirstColumn of_entry entries i column → IsColumn of_entry entries column
+  column_all i column over within (size, all) = record { long = omega (arith, size, over, within); each = λ k d x below. all k d x (omega (arith, below, over)) }
 
 -- ---- the index that has the entries
 
@@ -117,8 +147,8 @@ module _ (entries : List Entry) (index : Index) (has : HasAll entries index) whe
       let far = sorted_far (λ x y. is_lt (entry_cmp x y)) (ranks_by entry_total (λ (e : Entry). e)) entries up i j d le in_j in
       let one = part_at s i d (record { begins = ge; ends = omega (arith, le, less) }) in_i in
       let two = part_at s j d (record { begins = omega (arith, ge, le); ends = less }) in_j in
-      let first : get_or index.aims.items i 0 ≡ (get_or entries i d).aim = has.aims.each i d in_i in
-      let second : get_or index.aims.items j 0 ≡ (get_or entries j d).aim = has.aims.each j d in_j in
+      let first : get_or index.aims.items i 0 ≡ (get_or entries i d).aim = has.aims.each i d 0 in_i in
+      let second : get_or index.aims.items j 0 ≡ (get_or entries j d).aim = has.aims.each j d 0 in_j in
       elim (cases_lt (get_or entries j d).aim (get_or entries i d).aim) [
         | inl below ↦ let yes_ = below_aim (get_or entries j d) (get_or entries i d) (two ∙ sym one) below in absurd cc
         | inr more ↦ omega (arith, more, first, second)
@@ -137,16 +167,26 @@ module _ (entries : List Entry) (index : Index) (has : HasAll entries index) whe
     ];
   }
 
-  entry_there : (heading : ℕ) (e : Entry) → e.part ≡ part_of heading e.aim → Contains entries e → IsFoundAt index heading e.aim e.place
-  entry_there heading e is (k, within, there) = record {
-    at = k;
-    in_part = subst (λ p. IsInPart index.starts.items p k) is (begins e k (k, within, there) within (ap (λ (z : Entry). z.part) there));
-    aim_is = has.aims.each k e within ∙ ap (λ (z : Entry). z.aim) there;
-    place_is = has.places.each k e within ∙ ap (λ (z : Entry). z.place) there;
-  }
+  -- the record at a place is that of the entry there, and so it is found
+  record_there : (sets : List (List ℕ)) (records laid : List Record) → AreEntries sets records entries → IsColumn (record_of records) entries laid
+      → (at : ℕ) (k : Record) → slice_get laid at ≡ Some k → IsFoundAt index (heading_of_record sets k) (aim_of_record sets k) at
+  record_there sets records laid are column at k found =
+      let size = column.long in
+      let in_laid = in_range laid at k found in
+      let within : at < length entries = omega (arith, in_laid, size) in
+      let d : Entry = record { part = 0; aim = 0; place = 0 } in
+      let e = get_or entries at d in
+      let has_e : Contains entries e = Contains-get_or entries at d within in
+      let is = are.has.only e has_e in
+      let kept : is.kept ≡ k = sym (get_so records e.place is.kept no_record is.is_there) ∙ sym (column.each at d no_record within) ∙ get_so laid at k no_record found in
+      let same : e ≡ entry_of sets k e.place = is.is_its ∙ ap (λ (r : Record). entry_of sets r e.place) kept in
+      let of_part : (get_or entries at e).part ≡ e.part = ap (λ (z : Entry). z.part) (get_or_default entries at e d within) in record {
+        in_part = subst (λ p. IsInPart index.starts.items p at) (ap (λ (z : Entry). z.part) same) (begins e at has_e within of_part);
+        aim_is = has.aims.each at d 0 within ∙ ap (λ (z : Entry). z.aim) same;
+      }
 
-  pub index_made : (sets : List (List ℕ)) (records : List Record) → AreEntries sets records entries → IsIndex sets records index
-  index_made sets records are = record {
-    laid_out = record { long = has.places.long ∙ sym has.aims.long; within = bound_at; rising = aims_rise are.sorted };
-    each = λ place k at. entry_there (heading_of_record sets k) (entry_of sets k place) refl (are.each place k at);
+  pub index_made : (sets : List (List ℕ)) (records laid : List Record) → AreEntries sets records entries → IsColumn (record_of records) entries laid → IsIndex sets laid index
+  index_made sets records laid are column = record {
+    laid_out = record { within = bound_at; rising = aims_rise are.sorted };
+    each = record_there sets records laid are column;
   }

@@ -3,6 +3,7 @@ mod GatherLemmas
 mod MembershipLemmas
 mod IndexLemmas
 mod KeyLemmas
+mod LayoutLemmas
 mod NumberLemmas
 mod OrderLemmas
 mod RisingLemmas

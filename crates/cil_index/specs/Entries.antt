@@ -83,34 +83,31 @@ heading_of_record sets k = heading_of sets k.source (target_key sets k.target k.
 abbrev pub aim_of_record : List (List ℕ) → Record → ℕ
 aim_of_record sets k = aim_of (in_class k.class) (other_side sets k.source (target_key sets k.target k.source))
 
--- ---- the index: aims, the places of their records, and where each part begins
+-- ---- the index: the aims of records, and where each part begins
 
 -- the aims of a part and of no other stand here
 pub record IsInPart (starts : List ℕ) (part at : ℕ) : Type 0 where
   pub begins : get_or starts part 0 ≤ at
   pub ends : at < get_or starts (part + 1) 0
 
--- a record with this heading and this aim is found: it stands at the place
-pub record IsFoundAt (index : Index) (heading aim place : ℕ) : Type 0 where
-  pub at : ℕ
+-- a record with this heading and this aim that stands at the place is found
+pub record IsFoundAt (index : Index) (heading aim at : ℕ) : Type 0 where
   pub in_part : IsInPart index.starts.items (part_of heading aim) at
   pub aim_is : get_or index.aims.items at 0 ≡ aim
-  pub place_is : get_or index.places.items at 0 ≡ place
 
 -- these aims rise from one place on and up to another
 abbrev pub RiseIn : List ℕ → ℕ → ℕ → Type 0
 RiseIn aims start end = (i j : ℕ) → start ≤ i → i ≤ j → j < end → get_or aims i 0 ≤ get_or aims j 0
 
--- each aim has its place, and those of each part rise
+-- the aims of each part rise
 pub record IsLaidOut (index : Index) : Type 0 where
-  pub long : length index.places.items ≡ length index.aims.items
   pub within : (part : ℕ) → get_or index.starts.items part 0 ≤ length index.aims.items
   pub rising : (part : ℕ) → RiseIn index.aims.items (get_or index.starts.items part 0) (get_or index.starts.items (part + 1) 0)
 
--- and each record is found
+-- and each record is found where it stands
 pub record IsIndex (sets : List (List ℕ)) (records : List Record) (index : Index) : Type 0 where
   pub laid_out : IsLaidOut index
-  pub each : (place : ℕ) (k : Record) → slice_get records place ≡ Some k → IsFoundAt index (heading_of_record sets k) (aim_of_record sets k) place
+  pub each : (at : ℕ) (k : Record) → slice_get records at ≡ Some k → IsFoundAt index (heading_of_record sets k) (aim_of_record sets k) at
 
 -- ---- private words: entries, by which the index is made
 
@@ -128,14 +125,21 @@ entry_cmp = on entry_fields text_cmp
 pub entry_total : IsTotalOrder entry_cmp
 entry_total = on_total entry_fields nat_list_cmp_total
 
--- each record has an entry
-abbrev pub HasEntries : List (List ℕ) → List Record → List Entry → Type 0
-HasEntries sets records entries = (place : ℕ) (k : Record) → slice_get records place ≡ Some k → Contains entries (entry_of sets k place)
+-- the entry is that of the record at its place
+pub record IsEntry (sets : List (List ℕ)) (records : List Record) (e : Entry) : Type 0 where
+  pub kept : Record
+  pub is_there : slice_get records e.place ≡ Some kept
+  pub is_its : e ≡ entry_of sets kept e.place
+
+-- each record has an entry, and there is no other entry
+pub record HasEntries (sets : List (List ℕ)) (records : List Record) (entries : List Entry) : Type 0 where
+  pub each : (place : ℕ) (k : Record) → slice_get records place ≡ Some k → Contains entries (entry_of sets k place)
+  pub only : (e : Entry) → Contains entries e → IsEntry sets records e
 
 -- and the entries are sorted
 pub record AreEntries (sets : List (List ℕ)) (records : List Record) (entries : List Entry) : Type 0 where
   pub sorted : IsSorted entry_cmp entries
-  pub each : HasEntries sets records entries
+  pub has : HasEntries sets records entries
 
 -- the entries of a part and of later ones begin at this place
 pub record BeginAt (entries : List Entry) (part place : ℕ) : Type 0 where
@@ -155,15 +159,14 @@ pub record AreAllStarts (entries : List Entry) (starts : List ℕ) : Type 0 wher
   pub begin : AreStarts entries starts
   pub each : (e : Entry) → Contains entries e → e.part + 1 < length starts
 
--- a number of each entry, in their order
-pub record IsColumn (number : Entry → ℕ) (entries : List Entry) (column : List ℕ) : Type 0 where
+-- what each entry has, in their order
+pub record IsColumn {X : Type 0} (of_entry : Entry → X) (entries : List Entry) (column : List X) : Type 0 where
   pub long : length column ≡ length entries
-  pub each : (k : ℕ) (d : Entry) → k < length entries → get_or column k 0 ≡ number (get_or entries k d)
+  pub each : (k : ℕ) (d : Entry) (x : X) → k < length entries → get_or column k x ≡ of_entry (get_or entries k d)
 
 -- the index has what these entries have
 pub record HasAll (entries : List Entry) (index : Index) : Type 0 where
   pub aims : IsColumn (λ e. e.aim) entries index.aims.items
-  pub places : IsColumn (λ e. e.place) entries index.places.items
   pub starts : AreAllStarts entries index.starts.items
 
 -- where the aims of a part begin and end

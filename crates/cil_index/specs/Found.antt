@@ -74,7 +74,7 @@ LeadsAway aims aim =
 abbrev pub Hands : (ℕ → Bool) → List Rule → Aims → Asked → Index → (heading mask : ℕ) → Type 0
 Hands on rules aims asked index heading mask =
     (at bit : ℕ) → IsInPart index.starts.items (part_of heading (get_or index.aims.items at 0)) at → Leads aims (get_or index.aims.items at 0)
-    → CoversAt on rules asked.source asked.target asked.class (get_or index.places.items at 0) bit → IsBitSet mask bit
+    → CoversAt on rules asked.source asked.target asked.class at bit → IsBitSet mask bit
 
 -- and of some headings
 abbrev pub HandOver : (ℕ → Bool) → List Rule → Aims → Asked → Index → (ℕ → Type 0) → ℕ → Type 0

@@ -2,6 +2,7 @@ pub mod Entries
 pub mod Found
 pub mod Memberships
 pub mod Kept
+pub mod Layout
 pub mod Order
 pub mod Rising
 pub mod Search

@@ -1,4 +1,4 @@
--- Private words: the rules that are searched.
+-- Private words: the rules that are searched, in the order of the index.
 use Rattle.std.specs.Prelude.{List, map}
 use Rattle.cil_rules.specs.Rule.{Rule}
 use Rattle.cil_index.specs.declared.asked.Searched.{Searched}

@@ -154,7 +154,7 @@ impl Search<'_> {
         requires rising { RiseIn self.now.index.now.aims.items bounds.start bounds.to }
         ensures sound { IsSound self.now result }
         ensures all { (at bit : ℕ) → bounds.start ≤ at → at < bounds.to → get_or self.now.index.now.aims.items at 0 ≤ last → Leads self.now.aims.now (get_or self.now.index.now.aims.items at 0)
-            → CoversIn self.now (get_or self.now.index.now.places.items at 0) bit → IsBitSet result bit }
+            → CoversIn self.now at bit → IsBitSet result bit }
     {
         let mut mask = 0;
         for at in bounds.start..bounds.to {
@@ -172,8 +172,8 @@ impl Search<'_> {
         requires search { IsSearch self.now }
         requires known { IsKnownSource self.now known }
         requires within { at < length self.now.index.now.aims.items }
-        ensures sound { (bit : ℕ) → IsBitSet result bit → CoversIn self.now (get_or self.now.index.now.places.items at 0) bit }
-        ensures all { Leads self.now.aims.now (get_or self.now.index.now.aims.items at 0) → (bit : ℕ) → CoversIn self.now (get_or self.now.index.now.places.items at 0) bit → IsBitSet result bit }
+        ensures sound { (bit : ℕ) → IsBitSet result bit → CoversIn self.now at bit }
+        ensures all { Leads self.now.aims.now (get_or self.now.index.now.aims.items at 0) → (bit : ℕ) → CoversIn self.now at bit → IsBitSet result bit }
     {
         if !self.aims.may_lead(self.index.aims[at]) {
             return 0;
@@ -183,7 +183,7 @@ impl Search<'_> {
             self.settings,
             self.asked,
             known,
-            self.index.places[at] as usize,
+            at,
         )
     }
 }

@@ -3,7 +3,7 @@
 ghost use Rattle.std.specs.Prelude.{◌≡◌, ◌≤◌, ◌<◌, ◌+◌, Contains, IfOk, IsTrue, Some, get_or, length, slice_get};
 ghost use Rattle.std.specs.List.Sorted.{IsSorted};
 ghost use Rattle.cil_index.specs.declared.key.Entry.{Entry as AnEntry};
-ghost use Rattle.cil_index.specs.Entries.{AreAllStarts, AreBefore, AreBounds, AreEntries, BeginAt, HasAll, HasEntries, IsColumn, IsIndex, IsLaidOut, beyond, entry_cmp, entry_of, heading_of, other_side, part_of, target_key};
+ghost use Rattle.cil_index.specs.Entries.{AreAllStarts, AreBefore, AreBounds, AreEntries, BeginAt, HasAll, HasEntries, IsColumn, IsLaidOut, beyond, entry_cmp, entry_of, heading_of, other_side, part_of, target_key};
 ghost use Rattle.cil_index.specs.declared.record.Record.{Record as ARecord};
 
 use crate::key::{Entry, ITSELF, SEVERAL, TARGETS, aim, class_key, set_key};
@@ -13,13 +13,13 @@ use crate::sets::Sets;
 use cil_base::{NoMemory, short};
 use std::alloc::Global;
 
-/// The aims of rules, by their headings and by parts of the classes, and in their order within each part; the places of these rules; and where each part
-/// begins. The heading of a rule that reaches one type alone is this type, and that of another the set of its sources; its aim has the class and its other
-/// side. A search reads the aims alone, four bytes for each rule, and those of one part: the rules under a heading on a few classes.
+/// The aims of rules, by their headings and by parts of the classes, and in their order within each part; and where each part begins. The record of the
+/// aim at a place stands at the same place among the records. The heading of a rule that reaches one type alone is this type, and that of another the set of
+/// its sources; its aim has the class and its other side. A search reads the aims alone, four bytes for each rule, and those of one part: the rules under a
+/// heading on a few classes.
 #[derive(Debug, Drop)]
 pub struct Index {
     pub aims: Vec<u32>,
-    pub places: Vec<u32>,
     starts: Vec<u32>,
 }
 
@@ -90,17 +90,8 @@ fn start_at(starts: &Vec<u32>, part: usize) -> usize
     }
 }
 
-/// The index of some records. Errors: out of memory.
-pub fn index_of(alloc: Global, sets: &Sets, records: &[Record]) -> Result<Index, NoMemory>
-    ensures { IfOk result (IsIndex sets.now records.now) }
-{
-    let entries = entries_of(alloc, sets, records)?;
-    let index = parted(alloc, entries.as_slice())?;
-    Ok(index)
-}
-
-/// An entry for each record, sorted. Errors: out of memory.
-fn entries_of(alloc: Global, sets: &Sets, records: &[Record]) -> Result<Vec<Entry>, NoMemory>
+/// An entry for each record, sorted: in the order of the index. Errors: out of memory.
+pub fn entries_of(alloc: Global, sets: &Sets, records: &[Record]) -> Result<Vec<Entry>, NoMemory>
     ensures { IfOk result (λ entries. AreEntries sets.now records.now entries.items) }
 {
     let mut entries = unsorted(alloc, sets, records)?;
@@ -109,18 +100,13 @@ fn entries_of(alloc: Global, sets: &Sets, records: &[Record]) -> Result<Vec<Entr
 }
 
 /// The index that has these entries. Errors: out of memory.
-fn parted(alloc: Global, entries: &[Entry]) -> Result<Index, NoMemory>
+pub fn index_of(alloc: Global, entries: &[Entry]) -> Result<Index, NoMemory>
     requires { IsSorted entry_cmp entries.now }
     ensures { IfOk result (HasAll entries.now) }
 {
     let aims = aims_in(alloc, entries)?;
-    let places = places_in(alloc, entries)?;
     let starts = starts_of(alloc, entries)?;
-    Ok(Index {
-        aims,
-        places,
-        starts,
-    })
+    Ok(Index { aims, starts })
 }
 
 /// The aims of entries. Errors: out of memory.
@@ -132,17 +118,6 @@ fn aims_in(alloc: Global, entries: &[Entry]) -> Result<Vec<u32>, NoMemory>
         aims.push(entry.aim)?;
     }
     Ok(aims)
-}
-
-/// The places of entries. Errors: out of memory.
-fn places_in(alloc: Global, entries: &[Entry]) -> Result<Vec<u32>, NoMemory>
-    ensures { IfOk result (λ column. IsColumn (λ e. e.place) entries.now column.items) }
-{
-    let mut places = Vec::with_capacity(alloc, entries.len())?;
-    for entry in entries {
-        places.push(entry.place)?;
-    }
-    Ok(places)
 }
 
 /// An entry for each record, in their order.

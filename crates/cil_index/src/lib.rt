@@ -11,6 +11,7 @@
 mod asked;
 mod cover;
 mod index;
+mod indexed;
 mod key;
 mod matches;
 mod memberships;

@@ -1,6 +1,6 @@
 //! The rules of a policy, by kind, with their indexes.
 
-ghost use Rattle.std.specs.Prelude.{◌≡◌, ◌↔◌, ℕ, Contains, IfOk, IsBitSet, List, length, map};
+ghost use Rattle.std.specs.Prelude.{◌≡◌, ◌↔◌, ℕ, Contains, IfOk, IsBitSet, length, map};
 ghost use Rattle.std.specs.List.Sorted.{IsStrictlySortedBy};
 ghost use Rattle.cil_base.specs.Lists.{Lists};
 ghost use Rattle.cil_conditions.specs.Bits.{is_on};
@@ -8,32 +8,22 @@ ghost use Rattle.cil_conditions.specs.Order.{branch_cmp};
 ghost use Rattle.cil_rules.specs.Covers.{HasCover};
 ghost use Rattle.cil_rules.specs.Kept.{rule_named};
 ghost use Rattle.cil_rules.specs.Order.{rule_cmp};
-ghost use Rattle.cil_sets.specs.Answers.{set_cmp};
 ghost use Rattle.cil_index.specs.Found.{CoversAt};
 ghost use Rattle.cil_index.specs.Memberships.{AreMemberships};
 ghost use Rattle.cil_index.specs.Sections.{IsIndexed, rules_of};
-ghost use Rattle.cil_index.specs.Sets.{AreNumbered};
 
 use crate::asked::{Asked, Searched};
 use crate::cover::covered;
-use crate::index::{Index, index_of};
+use crate::indexed::{Indexed, index_rules};
 use crate::matches::mask_at;
 use crate::memberships::Memberships;
-use crate::record::{Record, records_of};
 use crate::sets::{Sets, numbers_of};
-use cil_base::{NoMemory, short};
+use cil_base::NoMemory;
 use cil_conditions::{Branch, Settings};
 use cil_rules::NamedRule;
 use cil_sets::Numbers;
 use std::alloc::Global;
 use std::marker::Model;
-
-/// Rules of one kind: their records in their order, and by what these are found.
-#[derive(Debug, Drop)]
-struct Indexed {
-    records: Vec<Record>,
-    index: Index,
-}
 
 /// The rules of a policy, by kind. Contracts see them as their lists. A rule takes 28 bytes, however many types its sets have and however
 /// long its condition is; each set of several types, the numbers of those that have a type, and each branch are kept once for all kinds.
@@ -154,14 +144,17 @@ impl Sections {
             memberships: &self.memberships,
             records: self.allow.records.as_slice(),
         };
-        mask_at(&searched, settings, asked, place)
+        match self.allow.order.get(place) {
+            Some(at) => mask_at(&searched, settings, asked, *at as usize),
+            None => 0,
+        }
     }
 
     /// How many rules allow something.
     pub fn allow_len(&self) -> usize
         ensures { result ≡ length self.now.allow }
     {
-        self.allow.records.len()
+        self.allow.order.len()
     }
 }
 
@@ -185,30 +178,4 @@ fn covered_in(
         records: rules.records.as_slice(),
     };
     covered(&searched, &rules.index, settings, asked)
-}
-
-/// Rules of one kind with their index. Errors: out of memory.
-fn index_rules(
-    alloc: Global,
-    branches: &Vec<Branch>,
-    sets: &Sets,
-    numbers: &Vec<u32>,
-    rules: &Vec<NamedRule>,
-) -> Result<Indexed, NoMemory>
-    requires { IsStrictlySortedBy branch_cmp branches.now.items }
-    ensures index { IfOk result (IsIndexed sets.now) }
-    ensures rules { IfOk result (λ r. (named : List (List ℕ)) → IsStrictlySortedBy set_cmp sets.now → AreNumbered sets.now named numbers.now.items
-        → Lists rule_cmp (Contains (map (rule_named branches.now.items named) rules.now.items)) (rules_of branches.now.items sets.now r)) }
-{
-    let branches = branches.as_slice();
-    let itself = short(sets.count())?;
-    let records = records_of(
-        alloc,
-        branches,
-        numbers.as_slice(),
-        itself,
-        rules.as_slice(),
-    )?;
-    let index = index_of(alloc, sets, records.as_slice())?;
-    Ok(Indexed { records, index })
 }
