@@ -30,12 +30,12 @@ module _ (count : ℕ) (entries : List Entry) where
   placed_none order long = record { long = long; each = λ k d below within. absurd (omega (arith, below)) }
 
   -- the place of one entry more is given to it, also where it was another's
-  pub placed_more : (i : ℕ) (e : Entry) (old new : List ℕ) → i < length entries → (get_or entries i e).place < count → new ≡ set old (get_or entries i e).place i
-      → AreFirstPlaced i old → AreFirstPlaced (i + 1) new
-  placed_more i e old new inside room push so_far = record {
-    long = ap (λ (z : List ℕ). length z) push ∙ length-set old here i ∙ so_far.long;
+  pub placed_more : AreOfFirst count entries → (i : ℕ) (e : Entry) (old : List ℕ) → i < length entries → AreFirstPlaced i old
+      → AreFirstPlaced (i + 1) (set old (get_or entries i e).place i)
+  placed_more are i e old inside so_far = record {
+    long = length-set old here i ∙ so_far.long;
     each = λ k d below within. elim (eqb_tells (get_or entries k d).place here) [
-      | inl (t, is) ↦ subst (IsPlaced entries new) (sym is) last
+      | inl (t, is) ↦ subst (IsPlaced entries (set old here i)) (sym is) last
       | inr (t, differs) ↦ elim (cases_lt k i) [
         | inl less ↦ before (get_or entries k d).place differs (so_far.each k d less within)
         | inr ge ↦ let same : k ≡ i = omega (arith, below, ge) in
@@ -47,17 +47,18 @@ module _ (count : ℕ) (entries : List Entry) where
       here : ℕ
       here = (get_or entries i e).place
 
-      last : IsPlaced entries new here
+      last : IsPlaced entries (set old here i) here
       last =
           let long = so_far.long in
-          let at : get_or new here 0 ≡ i = ap (λ (z : List ℕ). get_or z here 0) push ∙ get_or-set_same old here i 0 (omega (arith, room, long)) in record {
+          let room = are (get_or entries i e) (Contains-get_or entries i e inside) in
+          let at : get_or (set old here i) here 0 ≡ i = get_or-set_same old here i 0 (omega (arith, room, long)) in record {
             within = subst (λ n. n < length entries) (sym at) inside;
             same = λ d. ap (λ n. (get_or entries n d).place) at ∙ ap (λ (z : Entry). z.place) (get_or_default entries i d e inside);
           }
 
-      before : (place : ℕ) → (place ≡ here → ⊥) → IsPlaced entries old place → IsPlaced entries new place
+      before : (place : ℕ) → (place ≡ here → ⊥) → IsPlaced entries old place → IsPlaced entries (set old here i) place
       before place differs was =
-          let at : get_or new place 0 ≡ get_or old place 0 = ap (λ (z : List ℕ). get_or z place 0) push ∙ get_or-set_other old here place i 0 differs in record {
+          let at : get_or (set old here i) place 0 ≡ get_or old place 0 = get_or-set_other old here place i 0 differs in record {
             within = subst (λ n. n < length entries) (sym at) was.within;
             same = λ d. ap (λ n. (get_or entries n d).place) at ∙ was.same d;
           }
@@ -121,13 +122,17 @@ module _ (f : Record → Rule) (records : List Record) (order : List ℕ) (is : 
       subst (Contains records) made (Contains-get_or records at no_record (is.within at has))
 
   -- what covers in the one order does in the other
-  pub same_cover : (bit : ℕ) → HasCover on (map f records) source target class_ bit ↔ HasCover on (map f (in_order records order)) source target class_ bit
+  same_cover : (bit : ℕ) → HasCover on (map f records) source target class_ bit ↔ HasCover on (map f (in_order records order)) source target class_ bit
   same_cover bit = (
     λ c. let (r, has, made) = from_map f records c.rule c.is_rule in
         record { rule = c.rule; is_rule = subst (Contains (map f (in_order records order))) made (contains_map f (in_order records order) r (is.all r has)); covers = c.covers },
     λ c. let (r, has, made) = from_map f (in_order records order) c.rule c.is_rule in
         record { rule = c.rule; is_rule = subst (Contains (map f records)) made (contains_map f records r (from_order r has)); covers = c.covers },
   )
+
+  pub in_table : (mask : ℕ) → ((bit : ℕ) → IsBitSet mask bit ↔ HasCover on (map f records) source target class_ bit)
+      → (bit : ℕ) → IsBitSet mask bit ↔ HasCover on (map f (in_order records order)) source target class_ bit
+  in_table mask tells bit = (λ s. (same_cover bit).0 ((tells bit).0 s), λ c. (tells bit).1 ((same_cover bit).1 c))
 
   rule_there : (place at : ℕ) → place < length order → at ≡ get_or order place at → slice_get (map f records) at ≡ slice_get (map f (in_order records order)) place
   rule_there place at within here =

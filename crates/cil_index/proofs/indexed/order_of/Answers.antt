@@ -20,7 +20,7 @@ pub loop-at-preserved : goal.loop-at-preserved
 loop-at-preserved c =
     let before = c.loop-at-test.true in
     let end = c.in_ok-end.ensures in
-    placed_more c.args.count c.args.entries.now c.loop-at.at (record { part = 0; aim = 0; place = 0 }) c.loop-at.order.items c.args.requires c.loop-at.invariant
+    placed_more c.args.count c.args.entries.now c.requires c.loop-at.at (record { part = 0; aim = 0; place = 0 }) c.loop-at.order.items (omega (arith, before, end)) c.loop-at.invariant
 
 pub returns : goal.returns
 returns c =
