@@ -2,7 +2,7 @@
 use Rattle.std.specs.Prelude.{Contains, Some, slice_get}
 use Rattle.std.specs.List.Sorted.{IsPermutation, IsSorted}
 use Rattle.std.specs.Ordering.{is_lt, ordering_then}
-use Rattle.std.proofs.Common.{◌≡◌, ℕ, ◌+◌, ◌<◌, ◌≤◌, true, List, [], ◌∷◌, ◌++◌, length, get_or, ap, ◌∙◌, subst, sym, inl, inr, refl, arith}
+use Rattle.std.proofs.Common.{◌≡◌, ℕ, ◌+◌, ◌<◌, ◌≤◌, true, List, [], ◌∷◌, ◌++◌, length, get_or, ap, ◌∙◌, subst, sym, inl, inr, arith}
 use Rattle.std.proofs.Math.ListN.{get_or-eq_default}
 use Rattle.std.proofs.Math.Seq.{get_or-append_seam}
 use Rattle.std.proofs.lemmas.Bool.{cases_lt}
@@ -18,7 +18,7 @@ use Rattle.cil_index.specs.declared.index.Index.{Index}
 use Rattle.cil_index.specs.declared.key.Entry.{Entry}
 use Rattle.cil_index.specs.Entries.{AreEntries, BeginAt, HasAll, HasEntries, IsColumn, IsEntry, IsFoundAt, IsInPart, IsIndex, RiseIn, aim_of_record, entry_cmp, entry_of, entry_total, heading_of_record, part_of}
 use Rattle.cil_index.specs.declared.record.Record.{Record}
-use Rattle.cil_index.specs.Layout.{no_record, record_of}
+use Rattle.cil_index.specs.Layout.{no_record, record_of_entry}
 use Rattle.cil_index.proofs.RunLemmas.{none_past}
 
 module _ (sets : List (List ℕ)) (records : List Record) where
@@ -168,7 +168,7 @@ module _ (entries : List Entry) (index : Index) (has : HasAll entries index) whe
   }
 
   -- the record at a place is that of the entry there, and so it is found
-  record_there : (sets : List (List ℕ)) (records laid : List Record) → AreEntries sets records entries → IsColumn (record_of records) entries laid
+  record_there : (sets : List (List ℕ)) (records laid : List Record) → AreEntries sets records entries → IsColumn (record_of_entry records) entries laid
       → (at : ℕ) (k : Record) → slice_get laid at ≡ Some k → IsFoundAt index (heading_of_record sets k) (aim_of_record sets k) at
   record_there sets records laid are column at k found =
       let size = column.long in
@@ -185,7 +185,7 @@ module _ (entries : List Entry) (index : Index) (has : HasAll entries index) whe
         aim_is = has.aims.each at d 0 within ∙ ap (λ (z : Entry). z.aim) same;
       }
 
-  pub index_made : (sets : List (List ℕ)) (records laid : List Record) → AreEntries sets records entries → IsColumn (record_of records) entries laid → IsIndex sets laid index
+  pub index_made : (sets : List (List ℕ)) (records laid : List Record) → AreEntries sets records entries → IsColumn (record_of_entry records) entries laid → IsIndex sets laid index
   index_made sets records laid are column = record {
     laid_out = record { within = bound_at; rising = aims_rise are.sorted };
     each = record_there sets records laid are column;

@@ -1,21 +1,20 @@
 -- Records in the order of their index, and the same rules in the order of the table.
-use Rattle.std.specs.Prelude.{◌↔◌, ◌⊎◌, Bool, Contains, IsBitSet, None, Some, map, set, slice_get}
+use Rattle.std.specs.Prelude.{◌↔◌, Bool, Contains, IsBitSet, map, set, slice_get}
 use Rattle.std.proofs.Common.{◌≡◌, ℕ, ◌+◌, ◌<◌, ◌≤◌, List, length, get_or, sym, ◌∙◌, ap, subst, inl, inr, arith}
-use Rattle.std.proofs.Math.Dec.{eqb}
 use Rattle.std.proofs.lemmas.Bool.{cases_lt}
 use Rattle.std.proofs.lemmas.Bool.Decides.{eqb_tells}
 use Rattle.std.proofs.lemmas.List.{get_or-map, get_or-set_other, get_or-set_same, get_or_default, length-map, length-set, same_lists}
 use Rattle.std.proofs.lemmas.List.Elements.{Contains-get_or}
 use Rattle.cil_base.proofs.AtPlace.{made_at}
 use Rattle.cil_base.specs.MadeLists.{contains_map, from_map}
-use Rattle.cil_base.specs.Places.{get_at, get_so, in_range, is_there, not_there}
+use Rattle.cil_base.specs.Places.{in_range, is_there, not_there}
 use Rattle.cil_rules.specs.Covers.{HasCover}
 use Rattle.cil_rules.specs.Rule.{Rule}
 use Rattle.cil_index.specs.declared.key.Entry.{Entry}
 use Rattle.cil_index.specs.declared.record.Record.{Record}
-use Rattle.cil_index.specs.Entries.{AreEntries, IsColumn, entry_of}
+use Rattle.cil_index.specs.Entries.{AreEntries, IsColumn}
 use Rattle.cil_index.specs.Found.{CoversAt}
-use Rattle.cil_index.specs.Layout.{AreAllPlaced, AreOfFirst, IsOrder, IsPlaced, in_order, no_record, record_of}
+use Rattle.cil_index.specs.Layout.{AreAllPlaced, AreOfFirst, IsOrder, IsPlaced, in_order, no_record, record_of_entry}
 use Rattle.cil_index.proofs.CoverLemmas.{at_none}
 
 -- ---- where the entries of places stand, one after another
@@ -76,7 +75,7 @@ module _ (sets : List (List ℕ)) (records : List Record) (entries : List Entry)
   pub of_first : AreOfFirst (length records) entries
   of_first e has = let is = are.has.only e has in in_range records e.place is.kept is.is_there
 
-  module _ (laid : List Record) (column : IsColumn (record_of records) entries laid) (order : List ℕ) (placed : AreAllPlaced (length records) entries order) where
+  module _ (laid : List Record) (column : IsColumn (record_of_entry records) entries laid) (order : List ℕ) (placed : AreAllPlaced (length records) entries order) where
     -- each place of a record has its entry
     placed_at : (place : ℕ) → place < length records → IsPlaced entries order place
     placed_at place within = placed.each _ (are.has.each place (get_or records place no_record) (is_there records place no_record within))

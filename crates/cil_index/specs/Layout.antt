@@ -19,8 +19,8 @@ pub record IsOrder (records : List Record) (order : List ℕ) : Type 0 where
 -- ---- private words: entries, by which records are put in the order of their index
 
 -- the record of an entry
-abbrev pub record_of : List Record → Entry → Record
-record_of records e = get_or records e.place no_record
+abbrev pub record_of_entry : List Record → Entry → Record
+record_of_entry records e = get_or records e.place no_record
 
 -- entries are of records before a place
 abbrev pub AreOfFirst : ℕ → List Entry → Type 0

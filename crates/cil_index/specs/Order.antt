@@ -7,7 +7,7 @@ use Rattle.std.proofs.lemmas.Cmp.{then_total, on_total, nat_cmp_total}
 use Rattle.cil_conditions.specs.declared.branch.Branch.{Branch}
 use Rattle.cil_index.specs.declared.record.Record.{Record}
 
--- records stand by branch, source, target, class and mask, each a number
+-- records compare by branch, source, target, class and mask, each a number
 abbrev pub record_cmp : Record → Record → Ordering
 record_cmp =
     then_cmp (then_cmp (then_cmp (then_cmp (on (λ r. r.branch) nat_cmp) (on (λ r. r.source) nat_cmp)) (on (λ r. r.target) nat_cmp)) (on (λ r. r.class) nat_cmp))

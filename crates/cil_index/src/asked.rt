@@ -10,7 +10,7 @@ use crate::record::Record;
 use crate::sets::Sets;
 use cil_conditions::Branch;
 
-/// The rules that are searched, by their records.
+/// The rules that are searched, by their records, which stand in the order of the index.
 #[derive(Clone, Copy)]
 pub struct Searched<'s> {
     pub branches: &'s [Branch],

@@ -167,7 +167,8 @@ impl Search<'_> {
         mask
     }
 
-    /// The permissions of the rule that an aim stands for, where it is on what is asked. The rule is read only where its other side may have the type.
+    /// The permissions of the rule that an aim stands for, where it is on what is asked. Its record has the place of the aim, and is read only where its other
+    /// side may have the type.
     fn mask_of(&self, known: Option<u32>, at: usize) -> u32
         requires search { IsSearch self.now }
         requires known { IsKnownSource self.now known }
@@ -178,12 +179,6 @@ impl Search<'_> {
         if !self.aims.may_lead(self.index.aims[at]) {
             return 0;
         }
-        mask_known(
-            self.searched,
-            self.settings,
-            self.asked,
-            known,
-            at,
-        )
+        mask_known(self.searched, self.settings, self.asked, known, at)
     }
 }

@@ -1,4 +1,4 @@
-//! Rules of one kind with their index: they stand in its order, and a list has their order in the table.
+//! The rules of one kind with their index: they stand in its order, and a list beside them has their order in the table.
 
 ghost use Rattle.std.specs.Prelude.{◌≡◌, ℕ, Contains, IfOk, List, length, map};
 ghost use Rattle.std.specs.List.Sorted.{IsSorted, IsStrictlySortedBy};
@@ -7,9 +7,8 @@ ghost use Rattle.cil_conditions.specs.Order.{branch_cmp};
 ghost use Rattle.cil_rules.specs.Kept.{rule_named};
 ghost use Rattle.cil_rules.specs.Order.{rule_cmp};
 ghost use Rattle.cil_sets.specs.Answers.{set_cmp};
-ghost use Rattle.cil_index.specs.declared.indexed.Indexed.{Indexed as AnIndexed};
 ghost use Rattle.cil_index.specs.Entries.{HasAll, IsColumn, entry_cmp};
-ghost use Rattle.cil_index.specs.Layout.{AreAllPlaced, AreOfFirst, in_order, record_of};
+ghost use Rattle.cil_index.specs.Layout.{AreAllPlaced, AreOfFirst, in_order, record_of_entry};
 ghost use Rattle.cil_index.specs.Sections.{IsIndexed, rules_of};
 ghost use Rattle.cil_index.specs.Sets.{AreNumbered};
 
@@ -22,8 +21,8 @@ use cil_conditions::Branch;
 use cil_rules::NamedRule;
 use std::alloc::Global;
 
-/// Rules of one kind. Their records stand in the order of the index, so that a search reads those under a heading side by side. For each rule in the
-/// order of the table the order says where its record stands: no search reads it.
+/// Rules of one kind. Their records stand in the order of the index: the record of an aim has the place of the aim, and those under a heading are side by
+/// side. For each rule in the order of the table, `order` has the place of its record; no search reads it.
 #[derive(Debug, Drop)]
 pub struct Indexed {
     pub records: Vec<Record>,
@@ -57,7 +56,7 @@ pub fn index_rules(
     Ok(rules)
 }
 
-/// Records with their index. Errors: out of memory.
+/// Records, in the order of the table, with their index. Errors: out of memory.
 fn index_records(alloc: Global, sets: &Sets, records: &[Record]) -> Result<Indexed, NoMemory>
     ensures index { IfOk result (IsIndexed sets.now) }
     ensures records { IfOk result (λ r. in_order r.records.items r.order.items ≡ records.now) }
@@ -67,13 +66,13 @@ fn index_records(alloc: Global, sets: &Sets, records: &[Record]) -> Result<Index
     Ok(rules)
 }
 
-/// Records in the order of their entries. Errors: out of memory.
+/// Records in the order of their entries, with the index that has these. Errors: out of memory.
 fn laid_out(alloc: Global, records: &[Record], entries: &[Entry]) -> Result<Indexed, NoMemory>
     requires sorted { IsSorted entry_cmp entries.now }
     requires within { AreOfFirst (length records.now) entries.now }
-    ensures index { IfOk result (λ (r : AnIndexed). HasAll entries.now r.index) }
-    ensures records { IfOk result (λ (r : AnIndexed). IsColumn (record_of records.now) entries.now r.records.items) }
-    ensures order { IfOk result (λ (r : AnIndexed). AreAllPlaced (length records.now) entries.now r.order.items) }
+    ensures index { IfOk result (λ r. HasAll entries.now r.index) }
+    ensures records { IfOk result (λ r. IsColumn (record_of_entry records.now) entries.now r.records.items) }
+    ensures order { IfOk result (λ r. AreAllPlaced (length records.now) entries.now r.order.items) }
 {
     let index = index_of(alloc, entries)?;
     let order = order_of(alloc, records.len(), entries)?;
@@ -88,7 +87,7 @@ fn laid_out(alloc: Global, records: &[Record], entries: &[Entry]) -> Result<Inde
 /// The records of entries, in the order of these. Errors: out of memory.
 fn records_in(alloc: Global, records: &[Record], entries: &[Entry]) -> Result<Vec<Record>, NoMemory>
     requires { AreOfFirst (length records.now) entries.now }
-    ensures { IfOk result (λ column. IsColumn (record_of records.now) entries.now column.items) }
+    ensures { IfOk result (λ column. IsColumn (record_of_entry records.now) entries.now column.items) }
 {
     let mut laid = Vec::with_capacity(alloc, entries.len())?;
     for entry in entries {
@@ -97,7 +96,7 @@ fn records_in(alloc: Global, records: &[Record], entries: &[Entry]) -> Result<Ve
     Ok(laid)
 }
 
-/// For each of some places, where its entry stands. It costs a step for each. Errors: out of memory.
+/// For each record in the order of the table, the place of its entry. It costs a step for each. Errors: out of memory.
 fn order_of(alloc: Global, count: usize, entries: &[Entry]) -> Result<Vec<u32>, NoMemory>
     requires { AreOfFirst count entries.now }
     ensures { IfOk result (λ order. AreAllPlaced count entries.now order.items) }

@@ -32,7 +32,7 @@ pub struct Entry {
     pub part: u32,
     /// Its class and what stands for its other side as one number: a search compares them in one step.
     pub aim: u32,
-    /// Where the rule stands.
+    /// Where the rule stands in the order of the table.
     pub place: u32,
 }
 

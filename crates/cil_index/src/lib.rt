@@ -3,9 +3,10 @@
 //! Start at `Sections` in `section.rt`: the rules of each kind in their order, which contracts see as the lists of these rules, and
 //! `allowed`, the permissions that those that allow cover on a class and a pair of types. A rule is kept as a record of numbers (`record.rt`): its sets of types stand
 //! in `sets.rt`, each once, and a set of one type takes no memory. `specs/Sets.antt` says which set has which number, `specs/Kept.antt`
-//! which rule a record keeps, `specs/Order.antt` that records stand in the order of their rules, and `specs/Entries.antt` by what a rule is
+//! which rule a record keeps, `specs/Order.antt` that records have the order of their rules, and `specs/Entries.antt` by what a rule is
 //! found: by its heading, which is the one type that it reaches, or else the set of its sources; by its class; and by its other side, a type or the number
-//! of a set. `memberships.rt` tells which sets have a type.
+//! of a set. Records are kept in the order of the index, with a list beside them that has the order of the table (`indexed.rt`, `specs/Layout.antt`).
+//! `memberships.rt` tells which sets have a type.
 #![tactic(auto)]
 
 mod asked;

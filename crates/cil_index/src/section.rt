@@ -25,8 +25,9 @@ use cil_sets::Numbers;
 use std::alloc::Global;
 use std::marker::Model;
 
-/// The rules of a policy, by kind. Contracts see them as their lists. A rule takes 28 bytes, however many types its sets have and however
-/// long its condition is; each set of several types, the numbers of those that have a type, and each branch are kept once for all kinds.
+/// The rules of a policy, by kind. Contracts see them as their lists, in the order of the table. A rule takes 28 bytes, for its record, its aim and its place
+/// in the order of the table, however many types its sets have and however long its condition is; each set of several types, the numbers of those that have
+/// a type, and each branch are kept once for all kinds.
 #[derive(Debug, Drop)]
 pub struct Sections {
     branches: Vec<Branch>,
@@ -134,7 +135,7 @@ impl Sections {
         )
     }
 
-    /// The permissions that the rule at a place among those that allow covers. It takes no memory.
+    /// The permissions that the rule at a place among those that allow covers, in the order of the table. It takes no memory.
     pub fn allowed_at(&self, settings: &Settings, asked: &Asked, place: usize) -> u32
         ensures { (bit : ℕ) → IsBitSet result bit ↔ CoversAt (is_on settings.now) self.now.allow asked.now.source asked.now.target asked.now.class place bit }
     {
