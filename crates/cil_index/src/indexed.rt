@@ -52,8 +52,7 @@ pub fn index_rules(
         itself,
         rules.as_slice(),
     )?;
-    let rules = index_records(alloc, sets, records.as_slice())?;
-    Ok(rules)
+    index_records(alloc, sets, records.as_slice())
 }
 
 /// Records, in the order of the table, with their index. Errors: out of memory.

@@ -135,7 +135,7 @@ impl Sections {
         )
     }
 
-    /// The permissions that the rule at a place among those that allow covers, in the order of the table. It takes no memory.
+    /// The permissions that one of the rules that allow covers, by its place in the table. It takes no memory.
     pub fn allowed_at(&self, settings: &Settings, asked: &Asked, place: usize) -> u32
         ensures { (bit : ℕ) → IsBitSet result bit ↔ CoversAt (is_on settings.now) self.now.allow asked.now.source asked.now.target asked.now.class place bit }
     {
