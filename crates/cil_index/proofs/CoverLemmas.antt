@@ -20,23 +20,27 @@ use Rattle.cil_index.specs.declared.index.Index.{Index}
 use Rattle.cil_index.specs.declared.memberships.Memberships.{Memberships}
 use Rattle.cil_index.specs.declared.record.Record.{Record}
 use Rattle.cil_index.specs.Entries.{AreBelow, AreBounds, IsFoundAt, IsInPart, IsIndex, RiseIn, aim_of, aim_of_record, alone_key, heading_of_record, in_class, itself, key_of_set, other_side, part_of, reached_key, set_key, several, target_key}
-use Rattle.cil_index.specs.Found.{AreAims, AreOfClass, CoversAt, HandOver, Hands, Leads, Matches, MayReach, turned}
-use Rattle.cil_index.specs.Memberships.{AreMemberships}
+use Rattle.cil_index.specs.Found.{AreAims, AreOfClass, CoversAt, HandOver, Hands, IsAmongSeveral, IsTheAlone, Leads, Matches, MayReach, turned}
+use Rattle.cil_index.specs.Memberships.{AreMemberships, IsNotedSet}
 use Rattle.cil_index.specs.Kept.{reached, rule_of, target_at}
 use Rattle.cil_index.specs.Sets.{set_of}
-use Rattle.cil_index.proofs.KeyLemmas.{class_of_aim, heading_of_set, heading_of_type, leads, one_of, reach_cases, side_of_set, side_of_type}
+use Rattle.cil_index.proofs.KeyLemmas.{among, class_of_aim, heading_of_set, heading_of_type, leads, reach_cases, side_of_set, side_of_type}
 use Rattle.cil_index.proofs.RunLemmas.{none_past}
 use Rattle.cil_index.proofs.SetLemmas.{none_is, set_within}
 
-module _ (on : ℕ → Bool) (rules : List Rule) (aims : Aims) (asked : Asked) (index : Index) where
+module _ (on : ℕ → Bool) (rules : List Rule) (leads : ℕ → Type 0) (asked : Asked) (index : Index) where
   -- the rule that stands here covers the permission
   abbrev pub CoversThere : (at bit : ℕ) → Type 0
   CoversThere at bit = CoversAt on rules asked.source asked.target asked.class at bit
 
-  -- the mask has what the rules of these aims cover that lead to what is asked, and nothing that no rule covers
+  -- the mask has what the rules of these aims cover that lead to what is asked
+  abbrev pub HasAllOf : (start end mask : ℕ) → Type 0
+  HasAllOf start end mask = (at bit : ℕ) → start ≤ at → at < end → leads (get_or index.aims.items at 0) → CoversThere at bit → IsBitSet mask bit
+
+  -- and nothing that no rule covers
   pub record IsJoined (start end mask : ℕ) : Type 0 where
     pub sound : (bit : ℕ) → IsBitSet mask bit → HasCover on rules asked.source asked.target asked.class bit
-    pub all : (at bit : ℕ) → start ≤ at → at < end → Leads aims (get_or index.aims.items at 0) → CoversThere at bit → IsBitSet mask bit
+    pub all : HasAllOf start end mask
 
   covered_there : (place bit : ℕ) → CoversAt on rules asked.source asked.target asked.class place bit → HasCover on rules asked.source asked.target asked.class bit
   covered_there place bit c = record { rule = c.rule; is_rule = get_contains rules place c.rule c.is_there; covers = c.covers }
@@ -44,73 +48,71 @@ module _ (on : ℕ → Bool) (rules : List Rule) (aims : Aims) (asked : Asked) (
   pub joined_none : (start : ℕ) → IsJoined start start 0
   joined_none start = record { sound = λ bit set. absurd (none_set bit set); all = λ at bit ge less aimed covers. absurd (omega (arith, ge, less)) }
 
-  -- behind an aim past the last one there is none up to it
-  pub joined_up_to : (start end i last mask : ℕ) → RiseIn index.aims.items start end → start ≤ i → last < get_or index.aims.items i 0 → IsJoined start i mask
-      → (at bit : ℕ) → start ≤ at → at < end → get_or index.aims.items at 0 ≤ last → Leads aims (get_or index.aims.items at 0) → CoversThere at bit → IsBitSet mask bit
-  joined_up_to start end i last mask up inside past so_far at bit ge less before aimed covers = elim (cases_lt at i) [
+  -- behind an aim past the last one none leads
+  pub joined_up_to : (start end i last mask : ℕ) → RiseIn index.aims.items start end → start ≤ i → last < get_or index.aims.items i 0 → ((aim : ℕ) → leads aim → aim ≤ last) → IsJoined start i mask
+      → HasAllOf start end mask
+  joined_up_to start end i last mask up inside past up_to so_far at bit ge less aimed covers = elim (cases_lt at i) [
     | inl below ↦ so_far.all at bit ge below aimed covers
-    | inr over ↦ let rise = up i at inside over less in absurd (omega (arith, rise, past, before))
+    | inr over ↦ let rise = up i at inside over less in let before = up_to (get_or index.aims.items at 0) aimed in absurd (omega (arith, rise, past, before))
   ]
 
-  pub joined_all : (start end i last mask : ℕ) → end ≤ i → IsJoined start i mask
-      → (at bit : ℕ) → start ≤ at → at < end → get_or index.aims.items at 0 ≤ last → Leads aims (get_or index.aims.items at 0) → CoversThere at bit → IsBitSet mask bit
-  joined_all start end i last mask over so_far at bit ge less before aimed covers = so_far.all at bit ge (omega (arith, less, over)) aimed covers
+  pub joined_all : (start end i mask : ℕ) → end ≤ i → IsJoined start i mask → HasAllOf start end mask
+  joined_all start end i mask over so_far at bit ge less aimed covers = so_far.all at bit ge (omega (arith, less, over)) aimed covers
 
   -- one aim more adds what its rule covers
-  pub joined_more : (start i mask more : ℕ) → ((bit : ℕ) → IsBitSet more bit → CoversThere i bit)
-      → (Leads aims (get_or index.aims.items i 0) → (bit : ℕ) → CoversThere i bit → IsBitSet more bit) → IsJoined start i mask → IsJoined start (i + 1) (bit_or mask more)
-  joined_more start i mask more sound all so_far = record {
+  pub joined_more : (start i mask more : ℕ) → ((bit : ℕ) → IsBitSet more bit ↔ CoversThere i bit) → IsJoined start i mask → IsJoined start (i + 1) (bit_or mask more)
+  joined_more start i mask more tells so_far = record {
     sound = λ bit set. elim ((set_in_either mask more bit).0 set) [
       | inl t ↦ so_far.sound bit t
-      | inr t ↦ covered_there i bit (sound bit t)
+      | inr t ↦ covered_there i bit ((tells bit).0 t)
     ];
     all = λ at bit ge less aimed covers. (set_in_either mask more bit).1 (elim (cases_lt at i) [
       | inl below ↦ inl (so_far.all at bit ge below aimed covers)
-      | inr over ↦ let same : at ≡ i = omega (arith, less, over) in
-          inr (all (subst (λ k. Leads aims (get_or index.aims.items k 0)) same aimed) bit (subst (λ k. CoversThere k bit) same covers))
+      | inr over ↦ let same : at ≡ i = omega (arith, less, over) in inr ((tells bit).1 (subst (λ k. CoversThere k bit) same covers))
     ]);
   }
 
-  -- what the aims up to the last one hand over
-  abbrev pub HandsIn : (start end last mask : ℕ) → Type 0
-  HandsIn start end last mask = (at bit : ℕ) → start ≤ at → at < end → get_or index.aims.items at 0 ≤ last → Leads aims (get_or index.aims.items at 0)
-      → CoversThere at bit → IsBitSet mask bit
+  -- one that does not lead adds nothing
+  pub joined_pass : (start i mask : ℕ) → (leads (get_or index.aims.items i 0) → ⊥) → IsJoined start i mask → IsJoined start (i + 1) mask
+  joined_pass start i mask away so_far = record {
+    sound = so_far.sound;
+    all = λ at bit ge less aimed covers. elim (cases_lt at i) [
+      | inl below ↦ so_far.all at bit ge below aimed covers
+      | inr over ↦ let same : at ≡ i = omega (arith, less, over) in absurd (away (subst (λ k. leads (get_or index.aims.items k 0)) same aimed))
+    ];
+  }
 
-  module _ (are : AreOfClass (in_class asked.class) aims) (heading : ℕ) (b : Bounds) (bounds : AreBounds index (part_of heading aims.alone) b) where
-    -- an aim that aimed to what is asked stands in the part of the class
-    inside : (at : ℕ) → Leads aims (get_or index.aims.items at 0) → IsInPart index.starts.items (part_of heading (get_or index.aims.items at 0)) at → (b.start ≤ at) × (at < b.to)
-    inside at aimed of =
-        bounds.all at (subst (λ p. IsInPart index.starts.items p at) (ap (λ c. heading * 8 + c % 8) (class_of_aim (in_class asked.class) aims are (get_or index.aims.items at 0) aimed)) of)
+-- what the aims of a part hand over is what the heading does
+module _ (on : ℕ → Bool) (rules : List Rule) (aims : Aims) (asked : Asked) (index : Index) (are : AreOfClass (in_class asked.class) aims) (heading : ℕ) (b : Bounds)
+    (bounds : AreBounds index (part_of heading aims.several) b) where
+  -- an aim that leads to what is asked stands in the part of the class
+  inside : (at : ℕ) → Leads aims (get_or index.aims.items at 0) → IsInPart index.starts.items (part_of heading (get_or index.aims.items at 0)) at → (b.start ≤ at) × (at < b.to)
+  inside at aimed of =
+      bounds.all at (subst (λ p. IsInPart index.starts.items p at) (ap (λ c. heading * 8 + c % 8) (class_of_aim (in_class asked.class) aims are (get_or index.aims.items at 0) aimed)) of)
 
-    -- what all aims of the part hand over up to the last one is what the heading does
-    pub whole_part : (mask : ℕ) → HandsIn b.start b.to aims.last mask → Hands on rules aims asked index heading mask
-    whole_part mask has at bit of aimed covers =
-        let within = inside at aimed of in
-        let last = are.last_is in
-        let first = are.several_is in
-        let less = are.alone_below in
-        let low : get_or index.aims.items at 0 ≤ aims.last = elim (one_of (in_class asked.class) aims are (get_or index.aims.items at 0) aimed) [
-          | inl same ↦ omega (arith, same, first, last, less)
-          | inr w ↦ w.1
-        ] in
-        has at bit within.0 within.1 low aimed covers
+  behind : (start mid aim at : ℕ) → AreBelow index.aims.items start mid aim → start ≤ at → aim ≤ get_or index.aims.items at 0 → mid ≤ at
+  behind start mid aim at below ge above = elim (cases_lt at mid) [ inl less ↦ let r = below at ge less in absurd (omega (arith, r, above)) | inr over ↦ over ]
 
-    -- an aim of a heading that aimed to what is asked stands at one of two places
-    pub two_runs : (one two x y : ℕ) → AreBelow index.aims.items b.start one aims.alone → AreBelow index.aims.items one two aims.several
-        → HandsIn one b.to aims.alone x → HandsIn two b.to aims.last y → Hands on rules aims asked index heading (bit_or x y)
-    two_runs one two x y below_one below_two has_x has_y at bit of aimed covers =
-        let within = inside at aimed of in
-        let less = are.alone_below in
-        (set_in_either x y bit).1 (elim (one_of (in_class asked.class) aims are (get_or index.aims.items at 0) aimed) [
-          | inl same ↦ inl (has_x at bit (from_one at within.0 (omega (arith, same))) within.1 (omega (arith, same)) aimed covers)
-          | inr w ↦ let low = w.0 in inr (has_y at bit (from_two at within.0 (omega (arith, low, less)) low) within.1 w.1 aimed covers)
-        ])
-      where
-        from_one : (at : ℕ) → b.start ≤ at → aims.alone ≤ get_or index.aims.items at 0 → one ≤ at
-        from_one at ge above = elim (cases_lt at one) [ inl less ↦ let r = below_one at ge less in absurd (omega (arith, r, above)) | inr over ↦ over ]
+  pub one_run : (run : Bounds) (mask : ℕ) → run.to ≡ b.to → AreBelow index.aims.items b.start run.start aims.several → HasAllOf on rules (IsAmongSeveral aims) asked index run.start run.to mask
+      → Hands on rules (IsAmongSeveral aims) asked index heading mask
+  one_run run mask same below has at bit of among covers =
+      let within = inside at (inr among) of in
+      let less = within.1 in
+      has at bit (behind b.start run.start aims.several at below within.0 among.low) (omega (arith, less, same)) among covers
 
-        from_two : (at : ℕ) → b.start ≤ at → aims.alone ≤ get_or index.aims.items at 0 → aims.several ≤ get_or index.aims.items at 0 → two ≤ at
-        from_two at ge above over = elim (cases_lt at two) [ inl less ↦ let r = below_two at (from_one at ge above) less in absurd (omega (arith, r, over)) | inr past ↦ past ]
+  pub two_runs : (alone several : Bounds) (x y : ℕ) → alone.to ≡ b.to → several.to ≡ alone.to → AreBelow index.aims.items b.start alone.start aims.alone
+      → AreBelow index.aims.items alone.start several.start aims.several → HasAllOf on rules (IsTheAlone aims) asked index alone.start alone.to x
+      → HasAllOf on rules (IsAmongSeveral aims) asked index several.start several.to y → Hands on rules (Leads aims) asked index heading (bit_or x y)
+  two_runs alone several x y same_end also below_one below_two has_x has_y at bit of aimed covers =
+      let within = inside at aimed of in
+      let less = within.1 in
+      let first = are.alone_below in
+      (set_in_either x y bit).1 (elim aimed [
+        | inl same ↦ inl (has_x at bit (behind b.start alone.start aims.alone at below_one within.0 (omega (arith, same))) (omega (arith, less, same_end)) same covers)
+        | inr among ↦ let low = among.low in
+            inr (has_y at bit (behind alone.start several.start aims.several at below_two (behind b.start alone.start aims.alone at below_one within.0 (omega (arith, low, first))) low)
+            (omega (arith, less, same_end, also)) among covers)
+      ])
 
 -- ---- what stands in the aim of a rule that covers
 
@@ -165,17 +167,17 @@ source_reached sets m asked hold source c = elim (key_cases (set_key source) (se
 
 module _ (on : ℕ → Bool) (rules : List Rule) (asked : Asked) (index : Index) (bit : ℕ) where
   -- its aim stands among those of a heading, and leads to what is asked
-  pub record IsFound (aims : Aims) (heading : ℕ) : Type 0 where
+  pub record IsFound (leads : ℕ → Type 0) (heading : ℕ) : Type 0 where
     pub at : ℕ
     pub in_part : IsInPart index.starts.items (part_of heading (get_or index.aims.items at 0)) at
-    pub aimed : Leads aims (get_or index.aims.items at 0)
+    pub aimed : leads (get_or index.aims.items at 0)
     pub covers : CoversAt on rules asked.source asked.target asked.class at bit
 
-  found_at : (aims : Aims) (heading aim at : ℕ) → IsFoundAt index heading aim at → Leads aims aim → CoversAt on rules asked.source asked.target asked.class at bit → IsFound aims heading
-  found_at aims heading aim at found aimed covers = record {
+  found_at : (leads : ℕ → Type 0) (heading aim at : ℕ) → IsFoundAt index heading aim at → leads aim → CoversAt on rules asked.source asked.target asked.class at bit → IsFound leads heading
+  found_at leads heading aim at found aimed covers = record {
     at = at;
     in_part = subst (λ a. IsInPart index.starts.items (part_of heading a) at) (sym found.aim_is) found.in_part;
-    aimed = subst (Leads aims) (sym found.aim_is) aimed;
+    aimed = subst leads (sym found.aim_is) aimed;
     covers = covers;
   }
 
@@ -184,13 +186,13 @@ module _ (on : ℕ → Bool) (branches : List Branch) (sets : List (List ℕ)) (
     (asked : Asked) (sources targets : Aims) (are_sources : AreAims m (turned asked) sources) (are_targets : AreAims m asked targets) (bit : ℕ) where
   -- by the target
   abbrev pub IsByTarget : Type 0
-  IsByTarget = IsFound on (map (rule_of branches sets) records) asked index bit sources (length sets + alone_key asked.target)
+  IsByTarget = IsFound on (map (rule_of branches sets) records) asked index bit (Leads sources) (length sets + alone_key asked.target)
 
   -- by a set that has the source
   pub record IsBySource : Type 0 where
     pub number : ℕ
     pub has_source : Contains (set_of sets number) asked.source
-    pub found : IsFound on (map (rule_of branches sets) records) asked index bit targets number
+    pub found : IsFound on (map (rule_of branches sets) records) asked index bit (IsAmongSeveral targets) number
 
   by_record : (k : Record) (place : ℕ) → IsFoundAt index (heading_of_record sets k) (aim_of_record sets k) place → Covers on (rule_of branches sets k) asked.source asked.target asked.class bit
       → CoversAt on (map (rule_of branches sets) records) asked.source asked.target asked.class place bit → IsByTarget ⊎ IsBySource
@@ -204,15 +206,15 @@ module _ (on : ℕ → Bool) (branches : List Branch) (sets : List (List ℕ)) (
             let heading : length sets + alone_key asked.target ≡ heading_of_record sets k = ap (λ z. length sets + z) (sym is_alone) ∙ heading_of_type sets k.source key less in
             let side = key_of_set (set_key k.source) (set_of sets k.source) in
             let aim : aim_of_record sets k ≡ aim_of (in_class asked.class) side = ap (λ (c : ℕ). aim_of (in_class c) (other_side sets k.source key)) of_class ∙ ap (aim_of (in_class asked.class)) (sym (side_of_type sets k.source key less)) in
-            inl (found_at on (map (rule_of branches sets) records) asked index bit sources _ _ place (subst (λ h. IsFoundAt index h (aim_of_record sets k) place) (sym heading) found)
-            (leads m (turned asked) sources are_sources (aim_of_record sets k) (side, aim, source_reached sets m asked hold k.source covers.has_source)) there)
+            inl (found_at on (map (rule_of branches sets) records) asked index bit (Leads sources) _ _ place (subst (λ h. IsFoundAt index h (aim_of_record sets k) place) (sym heading) found)
+            (leads m (turned asked) sources are_sources (aim_of_record sets k) side aim (source_reached sets m asked hold k.source covers.has_source)) there)
         | inr over ↦
             let aim : aim_of_record sets k ≡ aim_of (in_class asked.class) key = ap (λ (c : ℕ). aim_of (in_class c) (other_side sets k.source key)) of_class ∙ ap (aim_of (in_class asked.class)) (sym (side_of_set sets k.source key over)) in
             inr (record {
               number = k.source;
               has_source = covers.has_source;
-              found = found_at on (map (rule_of branches sets) records) asked index bit targets _ _ place (subst (λ h. IsFoundAt index h (aim_of_record sets k) place) (sym (heading_of_set sets k.source key over)) found)
-                  (leads m asked targets are_targets (aim_of_record sets k) (key, aim, reach)) there;
+              found = found_at on (map (rule_of branches sets) records) asked index bit (IsAmongSeveral targets) _ _ place (subst (λ h. IsFoundAt index h (aim_of_record sets k) place) (sym (heading_of_set sets k.source key over)) found)
+                  (among m asked targets are_targets (aim_of_record sets k) key aim over reach) there;
             })
       ]
 
@@ -239,12 +241,12 @@ no_rule on branches sets records index s t c bit is none covered =
 
 -- ---- sources, one after another
 
-module _ (on : ℕ → Bool) (rules : List Rule) (aims : Aims) (asked : Asked) (index : Index) where
+module _ (on : ℕ → Bool) (rules : List Rule) (leads : ℕ → Type 0) (asked : Asked) (index : Index) where
   -- a heading behind the last one with a start has no rules
-  pub none_behind : (n mask : ℕ) → length index.starts.items ≤ n + 1 → Hands on rules aims asked index n mask
+  pub none_behind : (n mask : ℕ) → length index.starts.items ≤ n + 1 → Hands on rules leads asked index n mask
   none_behind n mask past at bit of = absurd (none_past index.starts.items (part_of n (get_or index.aims.items at 0)) at (omega (arith, past)) of)
 
-module _ (on : ℕ → Bool) (rules : List Rule) (aims : Aims) (asked : Asked) (index : Index) (numbers : List ℕ) where
+module _ (on : ℕ → Bool) (rules : List Rule) (leads : ℕ → Type 0) (asked : Asked) (index : Index) (numbers : List ℕ) where
   -- a source is one of the first
   abbrev pub IsAmong : (i n : ℕ) → Type 0
   IsAmong i n = (k : ℕ) × (k < i) × (get_or numbers k n ≡ n)
@@ -252,13 +254,13 @@ module _ (on : ℕ → Bool) (rules : List Rule) (aims : Aims) (asked : Asked) (
   -- the mask has what the rules of the first sources cover, and nothing that no rule covers
   pub record AreJoined (i mask : ℕ) : Type 0 where
     pub sound : (bit : ℕ) → IsBitSet mask bit → HasCover on rules asked.source asked.target asked.class bit
-    pub all : HandOver on rules aims asked index (IsAmong i) mask
+    pub all : HandOver on rules leads asked index (IsAmong i) mask
 
   pub none_joined : AreJoined 0 0
   none_joined = record { sound = λ bit set. absurd (none_set bit set); all = λ n (k, below, is) at bit of aimed covers. absurd (omega (arith, below)) }
 
   pub joined_source : (i number mask more : ℕ) → i < length numbers → number ≡ get_or numbers i number → AreJoined i mask
-      → ((bit : ℕ) → IsBitSet more bit → HasCover on rules asked.source asked.target asked.class bit) → Hands on rules aims asked index number more → AreJoined (i + 1) (bit_or mask more)
+      → ((bit : ℕ) → IsBitSet more bit → HasCover on rules asked.source asked.target asked.class bit) → Hands on rules leads asked index number more → AreJoined (i + 1) (bit_or mask more)
   joined_source i number mask more within here so_far sound all = record {
     sound = λ bit set. elim ((set_in_either mask more bit).0 set) [ inl x ↦ so_far.sound bit x | inr x ↦ sound bit x ];
     all = λ n (k, below, is) at bit of aimed covers. (set_in_either mask more bit).1 (elim (cases_lt k i) [
@@ -269,22 +271,22 @@ module _ (on : ℕ → Bool) (rules : List Rule) (aims : Aims) (asked : Asked) (
     ]);
   }
 
-  pub all_sources : (i mask : ℕ) → length numbers ≤ i → AreJoined i mask → HandOver on rules aims asked index (λ n. Contains numbers n) mask
+  pub all_sources : (i mask : ℕ) → length numbers ≤ i → AreJoined i mask → HandOver on rules leads asked index (λ n. Contains numbers n) mask
   all_sources i mask over so_far n (k, within, is) at bit of aimed covers = so_far.all n (k, omega (arith, within, over), is) at bit of aimed covers
 
 -- ---- the sets that are asked for every type, one after another
 
-module _ (on : ℕ → Bool) (rules : List Rule) (aims : Aims) (asked : Asked) (index : Index) (first : ℕ) where
+module _ (on : ℕ → Bool) (rules : List Rule) (leads : ℕ → Type 0) (asked : Asked) (index : Index) (first : ℕ) where
   -- the mask has what the rules of the sources from the first on and below a number cover, and nothing that no rule covers
   pub record AreJoinedFrom (number mask : ℕ) : Type 0 where
     pub sound : (bit : ℕ) → IsBitSet mask bit → HasCover on rules asked.source asked.target asked.class bit
-    pub all : HandOver on rules aims asked index (λ n. (first ≤ n) × (n < number)) mask
+    pub all : HandOver on rules leads asked index (λ n. (first ≤ n) × (n < number)) mask
 
   pub none_joined_from : AreJoinedFrom first 0
   none_joined_from = record { sound = λ bit set. absurd (none_set bit set); all = λ n (ge, below) at bit of aimed covers. absurd (omega (arith, ge, below)) }
 
   pub joined_next : (mask more number : ℕ) → AreJoinedFrom number mask → ((bit : ℕ) → IsBitSet more bit → HasCover on rules asked.source asked.target asked.class bit)
-      → Hands on rules aims asked index number more → AreJoinedFrom (number + 1) (bit_or mask more)
+      → Hands on rules leads asked index number more → AreJoinedFrom (number + 1) (bit_or mask more)
   joined_next mask more number so_far sound all = record {
     sound = λ bit set. elim ((set_in_either mask more bit).0 set) [ inl x ↦ so_far.sound bit x | inr x ↦ sound bit x ];
     all = λ n (ge, below) at bit of aimed covers. (set_in_either mask more bit).1 (elim (cases_lt n number) [
@@ -294,17 +296,17 @@ module _ (on : ℕ → Bool) (rules : List Rule) (aims : Aims) (asked : Asked) (
     ]);
   }
 
-  pub joined_to : (number end mask : ℕ) → end ≤ number → AreJoinedFrom number mask → HandOver on rules aims asked index (λ n. (first ≤ n) × (n < end)) mask
+  pub joined_to : (number end mask : ℕ) → end ≤ number → AreJoinedFrom number mask → HandOver on rules leads asked index (λ n. (first ≤ n) × (n < end)) mask
   joined_to number end mask over so_far n (ge, below) = so_far.all n (ge, omega (arith, below, over))
 
 -- what is covered is found by the target, by the set of the source alone, by a large set or by one that is noted for the source
 module _ (on : ℕ → Bool) (branches : List Branch) (sets : List (List ℕ)) (records : List Record) (index : Index) (is : IsIndex sets records index) (asked : Asked)
     (m : Memberships) (hold : AreMemberships sets m) (sources targets : Aims) (are_sources : AreAims m (turned asked) sources) (are_targets : AreAims m asked targets)
     (target alone large own : ℕ)
-    (by_target : HandOver on (map (rule_of branches sets) records) sources asked index (λ n. n ≡ length sets + alone_key asked.target) target)
-    (by_alone : HandOver on (map (rule_of branches sets) records) targets asked index (λ n. n ≡ suc asked.source) alone)
-    (by_large : HandOver on (map (rule_of branches sets) records) targets asked index (λ n. (m.first_large ≤ n) × (n < length sets)) large)
-    (by_own : HandOver on (map (rule_of branches sets) records) targets asked index (λ n. Contains (get_or m.lists.items asked.source []) n) own) where
+    (by_target : Hands on (map (rule_of branches sets) records) (Leads sources) asked index (length sets + alone_key asked.target) target)
+    (by_alone : HandOver on (map (rule_of branches sets) records) (IsAmongSeveral targets) asked index (λ n. n ≡ suc asked.source) alone)
+    (by_large : HandOver on (map (rule_of branches sets) records) (IsAmongSeveral targets) asked index (λ n. (m.first_large ≤ n) × (n < length sets)) large)
+    (by_own : HandOver on (map (rule_of branches sets) records) (IsAmongSeveral targets) asked index (λ n. Contains (get_or m.lists.items asked.source []) n) own) where
   by_sources : (bit : ℕ) → IsBySource on branches sets records index is m hold asked sources targets are_sources are_targets bit → IsBitSet (bit_or (bit_or (bit_or target alone) large) own) bit
   by_sources bit f = (set_in_either (bit_or (bit_or target alone) large) own bit).1 (elim (hold.known f.number asked.source f.has_source) [
     | inl one ↦ inl ((set_in_either (bit_or target alone) large bit).1 (inl ((set_in_either target alone bit).1 (inr (by_alone f.number one.has_number f.found.at bit f.found.in_part f.found.aimed f.found.covers)))))
@@ -316,7 +318,7 @@ module _ (on : ℕ → Bool) (branches : List Branch) (sets : List (List ℕ)) (
 
   pub in_one_of : (bit : ℕ) → HasCover on (map (rule_of branches sets) records) asked.source asked.target asked.class bit → IsBitSet (bit_or (bit_or (bit_or target alone) large) own) bit
   in_one_of bit covered = elim (found_by on branches sets records index is m hold asked sources targets are_sources are_targets bit covered) [
-    | inl f ↦ (set_in_either (bit_or (bit_or target alone) large) own bit).1 (inl ((set_in_either (bit_or target alone) large bit).1 (inl ((set_in_either target alone bit).1 (inl (by_target _ refl f.at bit f.in_part f.aimed f.covers))))))
+    | inl f ↦ (set_in_either (bit_or (bit_or target alone) large) own bit).1 (inl ((set_in_either (bit_or target alone) large bit).1 (inl ((set_in_either target alone bit).1 (inl (by_target f.at bit f.in_part f.aimed f.covers))))))
     | inr f ↦ by_sources bit f
   ]
 
@@ -362,13 +364,13 @@ at_none on rules place source target class_ at bit = (
 -- ---- whether a set has a type
 
 -- one of several types that is not large has just those for which it is noted
-pub held_as_noted : (sets : List (List ℕ)) (m : Memberships) (set t : ℕ) (answer : Bool) → AreMemberships sets m → (set_of sets set ≡ t ∷ [] → ⊥) → set < m.first_large
+pub held_as_noted : (sets : List (List ℕ)) (m : Memberships) (set t : ℕ) (answer : Bool) → AreMemberships sets m → IsNotedSet m set
     → IsTrue answer ↔ Contains (get_or m.lists.items t []) set → IsTrue answer ↔ Contains (set_of sets set) t
-held_as_noted sets m set t answer are several_types small tells = (
+held_as_noted sets m set t answer are noted tells = (
   λ yes_. are.noted set t (tells.0 yes_),
   λ has. elim (are.known set t has) [
-    | inl one ↦ absurd (several_types one.is_one)
-    | inr known ↦ elim known [ inl past ↦ absurd (omega (arith, past, small)) | inr member ↦ tells.1 member ]
+    | inl one ↦ let before = one.before in let from = noted.from in absurd (omega (arith, before, from))
+    | inr known ↦ elim known [ inl past ↦ let below = noted.below in absurd (omega (arith, past, below)) | inr member ↦ tells.1 member ]
   ],
 )
 

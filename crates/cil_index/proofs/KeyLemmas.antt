@@ -1,5 +1,5 @@
 -- What stands in aims.
-use Rattle.std.specs.Prelude.{◌⊎◌, ◌%◌, IsTrue, cond, nat_lt}
+use Rattle.std.specs.Prelude.{◌⊎◌, ◌-◌, IsTrue, cond, nat_lt}
 use Rattle.std.proofs.Common.{◌≡◌, ℕ, Bool, ◌+◌, ◌/◌, ◌<◌, ◌≤◌, true, false, List, [], ◌∷◌, length, refl, sym, ◌∙◌, ap, subst, inl, inr, arith}
 use Rattle.std.proofs.Math.Dec.{ltb}
 use Rattle.std.proofs.lemmas.Bool.Decides.{nat_tests}
@@ -8,7 +8,9 @@ use Rattle.cil_index.specs.declared.memberships.Memberships.{Memberships}
 use Rattle.cil_base.specs.Places.{is_there, not_there}
 use Rattle.cil_index.specs.Entries.{aim_of, alone_key, beyond, heading_of, in_class, itself, key_of_set, last_type, other_side, reached_key, set_key, several, target_key}
 use Rattle.cil_index.specs.declared.asked.Aims.{Aims}
-use Rattle.cil_index.specs.Found.{AreAims, AreOfClass, IsAimed, IsAmongSeveral, Leads, LeadsAway, MayReach}
+use Rattle.cil_index.specs.declared.asked.Step.{Step}
+use Rattle.cil_index.specs.declared.asked.Step.TheVariants as steps
+use Rattle.cil_index.specs.Found.{AreAims, AreOfClass, IsAmongSeveral, IsStep, Leads, MayReach}
 use Rattle.cil_index.specs.Memberships.{HasBit, IsKnownFor}
 use Rattle.cil_index.specs.Sets.{set_of}
 use Rattle.cil_index.proofs.SetLemmas.{none_is}
@@ -34,14 +36,14 @@ pub alone_below : (t : ℕ) → alone_key t < several
 alone_below t = chosen t last_type t last_type (λ k. k < several) (λ less. omega (arith, less)) (λ over. omega arith)
 
 -- what stands for a set is the last, or behind the first of them by its number
-set_is : (n : ℕ) → ((several + n ≡ set_key n) × (set_key n < itself)) ⊎ (set_key n ≡ beyond)
-set_is n = chosen n 2097150 (several + n) beyond (λ k. ((several + n ≡ k) × (k < itself)) ⊎ (k ≡ beyond)) (λ less. inl (refl, omega (arith, less))) (λ over. inr refl)
+set_is : (n : ℕ) → ((several + n ≡ set_key n) × (set_key n < beyond)) ⊎ (set_key n ≡ beyond)
+set_is n = chosen n 2097150 (several + n) beyond (λ k. ((several + n ≡ k) × (k < beyond)) ⊎ (k ≡ beyond)) (λ less. inl (refl, omega (arith, less))) (λ over. inr refl)
 
-pub set_room : (n : ℕ) → set_key n ≤ beyond
+pub set_room : (n : ℕ) → set_key n ≤ itself
 set_room n = elim (set_is n) [ inl d ↦ let less = d.1 in omega (arith, less) | inr d ↦ omega (arith, d) ]
 
 -- there is room for each target
-pub key_room : (other : ℕ) (set : List ℕ) → other ≤ beyond → key_of_set other set ≤ beyond
+pub key_room : (other : ℕ) (set : List ℕ) → other ≤ itself → key_of_set other set ≤ itself
 key_room other [] le = le
 key_room other (t ∷ []) le = let less = alone_below t in omega (arith, less)
 key_room other (t ∷ u ∷ rest) le = le
@@ -59,7 +61,7 @@ key_of_itself sets target source key answer tells none is = is ∙ sym (ap (λ o
 
 module _ (m : Memberships) (asked : Asked) where
   -- a target that may have the type is the type alone, or stands among those of several
-  pub reach_cases : (key : ℕ) → MayReach m asked key → (key ≡ alone_key asked.target) ⊎ ((several ≤ key) × (key ≤ beyond))
+  pub reach_cases : (key : ℕ) → MayReach m asked key → (key ≡ alone_key asked.target) ⊎ ((several ≤ key) × (key ≤ itself))
   reach_cases key (inl e) = inl e
   reach_cases key (inr (inl e)) = let at = e.0 in inr (omega (arith, at), omega (arith, at))
   reach_cases key (inr (inr (n, e, known))) = inr (elim (set_is n) [
@@ -67,52 +69,58 @@ module _ (m : Memberships) (asked : Asked) where
     | inr d ↦ (omega (arith, e, d), omega (arith, e, d))
   ])
 
-  -- what may have the type is searched for
-  pub leads : (aims : Aims) → AreAims m asked aims → (aim : ℕ) → IsAimed m asked aim → Leads aims aim
-  leads aims are aim (key, is, inl e) = inl (is ∙ ap (aim_of (in_class asked.class)) e ∙ sym are.alone_is)
-  leads aims are aim (key, is, inr (inl e)) =
-      let at = e.0 in
-      let first = are.several_is in
-      let last = are.last_is in
-      let there = are.itself_is in
-      let below = are.sets_below in inr (record {
-        low = omega (arith, is, at, first);
-        high = omega (arith, is, at, last);
-        small = λ less. absurd (omega (arith, is, at, less, below, there));
-        itself_is = λ own. are.same e.1;
-      })
-  leads aims are aim (key, is, inr (inr (n, e, known))) = elim (set_is n) [
-    | inl d ↦ inr (of_set d.0 d.1 known)
-    | inr d ↦ inr (of_beyond (is ∙ ap (aim_of (in_class asked.class)) (e ∙ d)))
-  ]
-    where
-      -- the number of a set is the lower part of its aim
-      of_set : several + n ≡ set_key n → set_key n < itself → IsKnownFor m asked.target n → IsAmongSeveral aims aim
-      of_set sum less known =
-          let first = are.several_is in
-          let last = are.last_is in
-          let there = are.itself_is in record {
-            low = omega (arith, is, e, sum, first);
-            high = omega (arith, is, e, less, last);
-            small = λ below. has_bit below known;
-            itself_is = λ own. absurd (omega (arith, is, e, less, own, there));
-          }
-        where
-          has_bit : aim < aims.large → IsKnownFor m asked.target n → HasBit aims.filter (aim % several)
-          has_bit below (inl past) = let large = are.small_below in absurd (omega (arith, is, e, sum, below, large, past))
-          has_bit below (inr member) = subst (HasBit aims.filter) (omega (arith, is, e, sum, less)) (are.filtered n member)
+  module _ (aims : Aims) (are : AreAims m asked aims) (aim : ℕ) where
+    -- the source itself stands behind all sets
+    itself_leads : aim ≡ aim_of (in_class asked.class) itself → asked.source ≡ asked.target → IsAmongSeveral aims aim
+    itself_leads at own =
+        let first = are.several_is in
+        let last = are.last_own own in
+        let room = are.sets_below in record {
+          low = omega (arith, at, first);
+          high = omega (arith, at, last);
+          small = λ less. absurd (omega (arith, at, first, less, room));
+        }
 
-      of_beyond : aim ≡ aim_of (in_class asked.class) beyond → IsAmongSeveral aims aim
-      of_beyond at =
-          let first = are.several_is in
-          let last = are.last_is in
-          let there = are.itself_is in
-          let below = are.sets_below in record {
-            low = omega (arith, at, first);
-            high = omega (arith, at, last);
-            small = λ less. absurd (omega (arith, at, less, below, there));
-            itself_is = λ own. absurd (omega (arith, at, own, there));
-          }
+    -- and so does a set for whose number there is no room
+    beyond_leads : aim ≡ aim_of (in_class asked.class) beyond → IsAmongSeveral aims aim
+    beyond_leads at =
+        let first = are.several_is in
+        let last = are.last_low in
+        let room = are.sets_below in record {
+          low = omega (arith, at, first);
+          high = omega (arith, at, last);
+          small = λ less. absurd (omega (arith, at, first, less, room));
+        }
+
+    -- the number of another set is the lower part of its aim
+    set_leads : (n : ℕ) → aim ≡ aim_of (in_class asked.class) (several + n) → several + n < beyond → IsKnownFor m asked.target n → IsAmongSeveral aims aim
+    set_leads n at less known =
+        let first = are.several_is in
+        let last = are.last_low in record {
+          low = omega (arith, at, first);
+          high = omega (arith, at, less, last);
+          small = λ below. has_bit below known;
+        }
+      where
+        has_bit : aim < aims.several + aims.small → IsKnownFor m asked.target n → HasBit aims.filter (aim - aims.several)
+        has_bit below (inl past) = let first = are.several_is in let small = are.small_below in absurd (omega (arith, at, first, below, small, past))
+        has_bit below (inr member) = let first = are.several_is in subst (HasBit aims.filter) (omega (arith, at, first)) (are.filtered.all n member)
+
+    -- what may have the type, and is not one type alone, is searched for among several
+    pub among : (key : ℕ) → aim ≡ aim_of (in_class asked.class) key → several ≤ key → MayReach m asked key → IsAmongSeveral aims aim
+    among key is ge (inl e) = let less = alone_below asked.target in absurd (omega (arith, e, ge, less))
+    among key is ge (inr (inl (at, own))) = itself_leads (is ∙ ap (aim_of (in_class asked.class)) at) own
+    among key is ge (inr (inr (n, at, known))) = elim (set_is n) [
+      | inl d ↦ let less = d.1 in let sum = d.0 in set_leads n (is ∙ ap (aim_of (in_class asked.class)) (at ∙ sym sum)) (omega (arith, less, sum)) known
+      | inr d ↦ beyond_leads (is ∙ ap (aim_of (in_class asked.class)) (at ∙ d))
+    ]
+
+    -- and what may have the type is searched for
+    pub leads : (key : ℕ) → aim ≡ aim_of (in_class asked.class) key → MayReach m asked key → Leads aims aim
+    leads key is reach = elim (reach_cases key reach) [
+      | inl e ↦ inl (is ∙ ap (aim_of (in_class asked.class)) e ∙ sym are.alone_is)
+      | inr w ↦ inr (among key is w.0 reach)
+    ]
 
   -- the aims of what is searched for are of the class
   pub of_class : (aims : Aims) → AreAims m asked aims → AreOfClass (in_class asked.class) aims
@@ -123,31 +131,31 @@ module _ (m : Memberships) (asked : Asked) where
         alone_in = omega (arith, alone, less);
         alone_below = omega (arith, alone, first, less);
         several_is = first;
-        last_is = are.last_is;
+        last_high = are.last_high;
       }
 
-module _ (class_ : ℕ) (aims : Aims) (are : AreOfClass class_ aims) where
-  -- an aim that leads is the one alone, or stands among those of several types
-  pub one_of : (aim : ℕ) → Leads aims aim → (aim ≡ aims.alone) ⊎ ((aims.several ≤ aim) × (aim ≤ aims.last))
-  one_of aim (inl same) = inl same
-  one_of aim (inr among) = inr (among.low, among.high)
+-- the class of an aim that leads is the upper part
+pub class_of_aim : (class_ : ℕ) (aims : Aims) → AreOfClass class_ aims → (aim : ℕ) → Leads aims aim → aim / 4194304 ≡ aims.several / 4194304
+class_of_aim class_ aims are aim (inl same) = let first = are.several_is in let alone = are.alone_in in omega (arith, same, first, alone)
+class_of_aim class_ aims are aim (inr among) =
+    let low = among.low in
+    let high = among.high in
+    let first = are.several_is in
+    let last = are.last_high in omega (arith, low, high, first, last)
 
-  -- its class is the upper part
-  pub class_of_aim : (aim : ℕ) → Leads aims aim → aim / 4194304 ≡ aims.alone / 4194304
-  class_of_aim aim (inl same) = ap (λ k. k / 4194304) same
-  class_of_aim aim (inr among) =
-      let low = among.low in
-      let high = among.high in
-      let first = are.several_is in
-      let last = are.last_is in
-      let alone = are.alone_in in omega (arith, low, high, first, last, alone)
+-- ---- one step of a search
 
--- an aim that leads away does not lead
-pub never_away : (aims : Aims) (aim : ℕ) → LeadsAway aims aim → Leads aims aim → ⊥
-never_away aims aim away (inl same) = away.0 same
-never_away aims aim (other, inl before) (inr among) = let low = among.low in omega (arith, low, before)
-never_away aims aim (other, inr (inl (below, none))) (inr among) = none (among.small below)
-never_away aims aim (other, inr (inr (own, differ))) (inr among) = differ (among.itself_is own)
+module _ (aims : Aims) (aim : ℕ) where
+  -- at a small set, by its bit
+  pub small_step : (number : ℕ) (step : Step) → (aims.several ≤ aim → aim - aims.several ≡ number) → number < aims.small → (step ≡ steps.Read) ⊎ ((step ≡ steps.Pass) × (HasBit aims.filter number → ⊥))
+      → IsStep aims aim step
+  small_step number step is less (inl read) = subst (IsStep aims aim) (sym read) tt
+  small_step number step is less (inr (pass, none)) = subst (IsStep aims aim) (sym pass) (λ among.
+      let low = among.low in let same = is low in none (subst (HasBit aims.filter) same (among.small (omega (arith, less, same, low)))))
+
+  -- in front of all sets
+  pub low_step : aim < aims.several → IsAmongSeveral aims aim → ⊥
+  low_step less among = let low = among.low in omega (arith, less, low)
 
 -- ---- the heading and the other side of a rule
 

@@ -1,17 +1,17 @@
 -- Which sets hold a type, one set after another.
 use Rattle.std.specs.Int.{w64}
-use Rattle.std.specs.Prelude.{◌↔◌, ◌⊎◌, Contains, IsBitSet, bit_or}
+use Rattle.std.specs.Prelude.{◌↔◌, ◌⊎◌, Contains, IsBitSet, IsTrue, bit_or, false, replicate}
 use Rattle.std.proofs.Common.{◌≡◌, ℕ, zero, suc, ◌+◌, ◌-◌, ◌*◌, ◌/◌, ◌%◌, ◌^◌, ◌<◌, ◌≤◌, List, [], ◌∷◌, ◌++◌, length, take, get_or, sym, ◌∙◌, ap, subst, inl, inr, refl, arith}
 use Rattle.std.proofs.Math.ListN.{get_or-append, get_or-eq_default, set}
 use Rattle.std.proofs.Math.Seq.{get_or-append_seam}
 use Rattle.std.proofs.lemmas.Bool.{cases_eq, cases_lt}
-use Rattle.std.proofs.lemmas.Nat.Bits.{bit_at_set_same}
-use Rattle.std.proofs.lemmas.List.{get_or_append_left, get_or_default, get_or-set_other, get_or-set_same, length-append, take_all, take_more}
+use Rattle.std.proofs.lemmas.Nat.Bits.{bit_at_set_other, bit_at_set_same}
+use Rattle.std.proofs.lemmas.List.{get_or-replicate, get_or_append_left, get_or_default, get_or-set_other, get_or-set_same, length-append, take_all, take_more}
 use Rattle.std.proofs.lemmas.List.Elements.{Contains-append_cases, Contains-append_left, Contains-append_right}
 use Rattle.cil_base.specs.Lists.{contains_cases, contains_here, contains_none}
 use Rattle.cil_classes.proofs.BitLemmas.{none_set, set_in_either, set_is_one}
 use Rattle.cil_index.specs.declared.memberships.Memberships.{Memberships}
-use Rattle.cil_index.specs.Memberships.{AreAtMost, AreFilters, AreMemberships, AreNoted, AreNotedBelow, IsAlone, HasBit, IsFilter, IsKnownFor, IsNoted, IsNotedIn}
+use Rattle.cil_index.specs.Memberships.{AreAtMost, AreFilters, AreMemberships, AreNoted, AreNotedBelow, AreNotedSets, IsAlone, HasBit, IsFilter, IsKnownFor, IsNoted, IsNotedIn, IsNotedSet}
 use Rattle.cil_index.specs.Sets.{all_sets, set_of}
 use Rattle.cil_index.proofs.SetLemmas.{empty_there, in_one, several_there, small_there}
 
@@ -20,11 +20,12 @@ module _ (ones : ℕ) (several sets : List (List ℕ)) (m : Memberships) (is : a
   place_of : (n : ℕ) → ones ≤ n → suc n - ones - 1 + ones + 1 ≡ suc n
   place_of n ge = omega (arith, ge)
 
-  known_for : (n t : ℕ) → Contains (set_of (all_sets ones several) n) t → IsAlone (all_sets ones several) n t ⊎ IsKnownFor m t n
+  known_for : (n t : ℕ) → Contains (set_of (all_sets ones several) n) t → IsAlone (all_sets ones several) m n t ⊎ IsKnownFor m t n
   known_for zero t has = absurd (contains_none t (subst (λ l. Contains l t) (empty_there ones several) has))
   known_for (suc n) t has = elim (cases_lt n ones) [
     | inl less ↦ let same : n ≡ t = (in_one n t).0 (subst (λ l. Contains l t) (small_there ones n several less) has) in
-        inl (record { has_number = ap suc same; is_one = small_there ones n several less ∙ ap (λ k. k ∷ []) same })
+        let first = noted.first in
+        inl (record { has_number = ap suc same; is_one = small_there ones n several less ∙ ap (λ k. k ∷ []) same; before = omega (arith, less, first) })
     | inr ge ↦ inr (elim (cases_lt (suc n) m.first_large) [
       | inl below ↦ let at : Contains (get_or several (suc n - ones - 1) []) t = subst (λ l. Contains l t) (several_there ones (suc n) several (omega (arith, ge))) has in
           inr (subst (Contains (get_or m.lists.items t [])) (place_of n ge) (noted.each (suc n - ones - 1) t (subst (λ k. k < m.first_large) (sym (place_of n ge)) below) at))
@@ -39,7 +40,7 @@ module _ (ones : ℕ) (several sets : List (List ℕ)) (m : Memberships) (is : a
       subst (λ l. Contains l t) (ap (λ k. get_or several k []) same ∙ sym (several_there ones n several (omega (arith, at)))) member
 
   pub noted_all : AreMemberships sets m
-  noted_all = subst (λ l. AreMemberships l m) is (record { known = known_for; noted = noted_for; filtered = noted.filtered })
+  noted_all = subst (λ l. AreMemberships l m) is (record { known = known_for; noted = noted_for; within = noted.within; filtered = noted.filtered })
 
 -- ---- the list of a type
 
@@ -48,6 +49,13 @@ list_there lists slice t list same within is = is ∙ get_or_default slice t lis
 
 pub list_none : (lists slice : List (List ℕ)) (t : ℕ) → slice ≡ lists → length slice ≤ t → get_or lists t [] ≡ []
 list_none lists slice t same past = ap (λ (z : List (List ℕ)). get_or z t []) (sym same) ∙ get_or-eq_default slice [] past
+
+-- a filter that is not there has no bit
+pub no_word : (filters slice : List (List ℕ)) (t n : ℕ) → slice ≡ filters → length slice ≤ t → IsTrue false ↔ HasBit (get_or filters t []) n
+no_word filters slice t n same past = (
+  λ yes_. absurd cc,
+  λ has. absurd (none_set (n % 64) (subst (λ (l : List ℕ). HasBit l n) (list_none filters slice t same past) has)),
+)
 
 -- one set more
 pub noted_more : (ones : ℕ) (several : List (List ℕ)) (k : ℕ) (set : List ℕ) (number : ℕ) (old new : List (List ℕ)) → set ≡ get_or several k [] → number ≡ k + ones + 1 → AreNoted ones several k old
@@ -81,9 +89,12 @@ none_noted ones several lists none = record {
 }
 
 -- all below the first large one
-pub noted_below : (ones : ℕ) (several : List (List ℕ)) (k small : ℕ) (m : Memberships) → small ≤ k → m.first_large ≡ small + ones + 1 → AreNoted ones several k m.lists.items → AreFilters m.lists.items m.filters.items → AreNotedBelow ones several m
-noted_below ones several k small m over first noted filtered = record {
-  each = λ place t below has. noted.each place t (omega (arith, below, first, over)) has;
+pub noted_below : (ones : ℕ) (several : List (List ℕ)) (k small : ℕ) (m : Memberships) → small ≡ k → m.first_several ≡ ones + 1 → m.first_large ≡ small + ones + 1 → AreNoted ones several k m.lists.items
+    → AreFilters m.lists.items m.filters.items → AreNotedBelow ones several m
+noted_below ones several k small m end first large noted filtered = record {
+  first = first;
+  within = λ t n c. let (place, is, _) = noted.only n t c in let most = noted.below t n c in record { from = omega (arith, first, is); below = omega (arith, most, large, end) };
+  each = λ place t below has. noted.each place t (omega (arith, below, large, end)) has;
   only = noted.only;
   filtered = filtered;
 }
@@ -185,25 +196,60 @@ bit_stays words number word is within n has = elim (cases_eq (n / 64 % 8) (numbe
   | inr other ↦ subst (λ k. IsBitSet k (n % 64)) (sym (get_or-set_other words (number / 64 % 8) (n / 64 % 8) (bit_or word (1 * 2 ^ (number % 64) % 2 ^ 64)) 0 other)) has
 ]
 
--- the words have the bit of each of the first numbers
-abbrev pub IsFirstFilter : List ℕ → ℕ → List ℕ → Type 0
-IsFirstFilter numbers i words = (k : ℕ) → k < i → HasBit words (get_or numbers k 0)
-
-pub filter_more : (numbers : List ℕ) (i number : ℕ) (old new : List ℕ) → i < length numbers → number ≡ get_or numbers i number → HasBit new number → ((n : ℕ) → HasBit old n → HasBit new n)
-    → IsFirstFilter numbers i old → IsFirstFilter numbers (i + 1) new
-filter_more numbers i number old new within is added stays so_far k below = elim (cases_lt k i) [
-  | inl less ↦ stays (get_or numbers k 0) (so_far k less)
-  | inr ge ↦ let same : i ≡ k = omega (arith, ge, below) in
-      subst (HasBit new) (is ∙ get_or_default numbers i number 0 within ∙ ap (λ j. get_or numbers j 0) same) added
+-- a bit that was not there is that of the number
+pub bit_only : (words : List ℕ) (number word : ℕ) → word ≡ get_or words (number / 64 % 8) 0 → number / 64 % 8 < length words
+    → (n : ℕ) → HasBit (set words (number / 64 % 8) (bit_or word (1 * 2 ^ (number % 64) % 2 ^ 64))) n → HasBit words n ⊎ (number % 512 ≡ n % 512)
+bit_only words number word is within n has = elim (cases_eq (n / 64 % 8) (number / 64 % 8)) [
+  | inl same ↦
+      let made : IsBitSet (bit_or word (1 * 2 ^ (number % 64) % 2 ^ 64)) (n % 64) =
+      subst (λ k. IsBitSet k (n % 64)) (get_or-set_same words (number / 64 % 8) (bit_or word (1 * 2 ^ (number % 64) % 2 ^ 64)) 0 within)
+      (subst (λ k. IsBitSet (get_or (set words (number / 64 % 8) (bit_or word (1 * 2 ^ (number % 64) % 2 ^ 64))) k 0) (n % 64)) same has) in
+      elim (cases_eq (n % 64) (number % 64)) [
+        | inl e ↦ inr (omega (arith, same, e))
+        | inr other ↦ inl (subst (λ k. IsBitSet k (n % 64)) (is ∙ ap (λ k. get_or words k 0) (sym same))
+            ((set_is_one word (n % 64)).1 (sym (bit_at_set_other w64 word (number % 64) (omega arith) (n % 64) other) ∙ (set_is_one (bit_or word (1 * 2 ^ (number % 64) % 2 ^ 64)) (n % 64)).0 made)))
+      ]
+  | inr other ↦ inl (subst (λ k. IsBitSet k (n % 64)) (get_or-set_other words (number / 64 % 8) (n / 64 % 8) (bit_or word (1 * 2 ^ (number % 64) % 2 ^ 64)) 0 other) has)
 ]
 
-pub filter_all : (numbers : List ℕ) (i : ℕ) (words : List ℕ) → length numbers ≤ i → IsFirstFilter numbers i words → IsFilter numbers words
-filter_all numbers i words over so_far n (k, within, at) =
-    subst (HasBit words) (get_or_default numbers k 0 n within ∙ at) (so_far k (omega (arith, within, over)))
+-- no bit is there
+pub no_bit : (words : List ℕ) → words ≡ replicate 8 0 → (n : ℕ) → HasBit words n → ⊥
+no_bit words none n has = none_set (n % 64) (subst (λ k. IsBitSet k (n % 64)) (ap (λ (l : List ℕ). get_or l (n / 64 % 8) 0) none ∙ get_or-replicate 8 (n / 64 % 8) 0 0 (omega arith)) has)
+
+-- the words have the bit of each of the first numbers, and no other
+pub record IsFirstFilter (numbers : List ℕ) (i : ℕ) (words : List ℕ) : Type 0 where
+  pub all : (k : ℕ) → k < i → HasBit words (get_or numbers k 0)
+  pub only : (n : ℕ) → HasBit words n → (k : ℕ) × (k < i) × (get_or numbers k 0 % 512 ≡ n % 512)
+
+pub filter_none : (numbers words : List ℕ) → words ≡ replicate 8 0 → IsFirstFilter numbers 0 words
+filter_none numbers words none = record { all = λ k below. absurd (omega (arith, below)); only = λ n has. absurd (no_bit words none n has) }
+
+pub filter_more : (numbers : List ℕ) (i number : ℕ) (old new : List ℕ) → i < length numbers → number ≡ get_or numbers i number → HasBit new number → ((n : ℕ) → HasBit old n → HasBit new n)
+    → ((n : ℕ) → HasBit new n → HasBit old n ⊎ (number % 512 ≡ n % 512)) → IsFirstFilter numbers i old → IsFirstFilter numbers (i + 1) new
+filter_more numbers i number old new within is added stays only so_far =
+    let here : number ≡ get_or numbers i 0 = is ∙ get_or_default numbers i number 0 within in record {
+      all = λ k below. elim (cases_lt k i) [
+        | inl less ↦ stays (get_or numbers k 0) (so_far.all k less)
+        | inr ge ↦ let same : i ≡ k = omega (arith, ge, below) in subst (HasBit new) (here ∙ ap (λ j. get_or numbers j 0) same) added
+      ];
+      only = λ n has. elim (only n has) [
+        | inl before ↦ let (k, less, like) = so_far.only n before in (k, omega (arith, less), like)
+        | inr like ↦ (i, omega arith, ap (λ j. j % 512) (sym here) ∙ like)
+      ];
+    }
+
+pub filter_all : (numbers : List ℕ) (i : ℕ) (words : List ℕ) → length numbers ≤ i → i ≤ length numbers → IsFirstFilter numbers i words → IsFilter numbers words
+filter_all numbers i words over within so_far = record {
+  all = λ n (k, less, at). subst (HasBit words) (get_or_default numbers k 0 n less ∙ at) (so_far.all k (omega (arith, less, over)));
+  only = λ n has. let (k, less, like) = so_far.only n has in (get_or numbers k 0, (k, omega (arith, less, within), get_or_default numbers k (get_or numbers k 0) 0 (omega (arith, less, within))), like);
+}
 
 -- a type whose filter is not there is in no set
-pub no_filter : (lists filters : List (List ℕ)) (t : ℕ) (words : List ℕ) → AreFilters lists filters → get_or filters t [] ≡ [] → IsFilter (get_or lists t []) words
-no_filter lists filters t words are none n has = absurd (none_set (n % 64) (subst (λ (l : List ℕ). HasBit l n) none (are t n has)))
+pub no_filter : (lists filters : List (List ℕ)) (t : ℕ) (words : List ℕ) → words ≡ replicate 8 0 → AreFilters lists filters → get_or filters t [] ≡ [] → IsFilter (get_or lists t []) words
+no_filter lists filters t words empty are none = record {
+  all = λ n has. absurd (none_set (n % 64) (subst (λ (l : List ℕ). HasBit l n) none ((are t).all n has)));
+  only = λ n has. absurd (no_bit words empty n has);
+}
 
 -- the first lists have their bits
 abbrev pub AreFirstFilters : List (List ℕ) → ℕ → List (List ℕ) → Type 0
@@ -225,8 +271,24 @@ filters_more lists i numbers words old new is filter push (size, so_far) = (
   ],
 )
 
-pub filters_all : (lists : List (List ℕ)) (i : ℕ) (filters : List (List ℕ)) → length lists ≤ i → AreFirstFilters lists i filters → AreFilters lists filters
-filters_all lists i filters over so_far t n has = elim (cases_lt t (length lists)) [
-  | inl less ↦ so_far.1 t (omega (arith, less, over)) n has
-  | inr past ↦ absurd (contains_none n (subst (λ l. Contains l n) (get_or-eq_default lists [] past) has))
+pub filters_all : (lists : List (List ℕ)) (i : ℕ) (filters : List (List ℕ)) → length lists ≤ i → i ≤ length lists → AreFirstFilters lists i filters → AreFilters lists filters
+filters_all lists i filters over within (size, so_far) t = elim (cases_lt t (length lists)) [
+  | inl less ↦ so_far t (omega (arith, less, over))
+  | inr past ↦ record {
+    all = λ n has. absurd (contains_none n (subst (λ l. Contains l n) (get_or-eq_default lists [] past) has));
+    only = λ n has. absurd (none_set (n % 64) (subst (λ (l : List ℕ). HasBit l n) (get_or-eq_default filters [] (omega (arith, past, size, within))) has));
+  }
 ]
+
+-- ---- where each set has a bit of its own
+
+pub own_bit : (m : Memberships) (t set : ℕ) → m.first_large ≤ m.first_several + 512 → IsNotedSet m set → AreNotedSets m → AreFilters m.lists.items m.filters.items
+    → HasBit (get_or m.filters.items t []) set → Contains (get_or m.lists.items t []) set
+own_bit m t set few noted within are bit =
+    let (k, listed, like) = (are t).only set bit in
+    let other = within t k listed in
+    let from = noted.from in
+    let below = noted.below in
+    let from_other = other.from in
+    let below_other = other.below in
+    let same : k ≡ set = omega (arith, like, few, from, below, from_other, below_other) in subst (Contains (get_or m.lists.items t [])) same listed

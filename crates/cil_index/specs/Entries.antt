@@ -22,11 +22,11 @@ in_class n = cond (nat_lt n last_class) n last_class
 
 -- what stands for a set for whose number there is no room
 abbrev pub beyond : ℕ
-beyond = 4194303
+beyond = 4194302
 
 -- the target of a rule from several types to themselves
 abbrev pub itself : ℕ
-itself = 4194302
+itself = 4194303
 
 -- from here on stands what is not one type
 abbrev pub several : ℕ

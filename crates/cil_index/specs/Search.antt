@@ -1,10 +1,10 @@
 -- What a search for rules is given, and what it hands over.
-use Rattle.std.specs.Prelude.{ℕ, Contains, IfSome, IsBitSet, Option}
+use Rattle.std.specs.Prelude.{◌<◌, ◌≤◌, ℕ, Contains, IfSome, IsBitSet, Option, get_or}
 use Rattle.cil_conditions.specs.Bits.{is_on}
 use Rattle.cil_rules.specs.Covers.{HasCover}
 use Rattle.cil_index.specs.declared.cover.Search.{Search}
 use Rattle.cil_index.specs.Entries.{IsLaidOut, in_class}
-use Rattle.cil_index.specs.Found.{AreOfClass, CoversAt, HandOver, Hands}
+use Rattle.cil_index.specs.Found.{AreOfClass, CoversAt, HandOver, Hands, IsAmongSeveral, Leads}
 use Rattle.cil_index.specs.Memberships.{AreMemberships}
 use Rattle.cil_index.specs.Searched.{rules_in}
 use Rattle.cil_index.specs.Sets.{set_of}
@@ -24,12 +24,20 @@ abbrev pub CoversIn : Search → (place bit : ℕ) → Type 0
 CoversIn s place bit = CoversAt (is_on s.settings.now) (rules_in s.searched.now) s.asked.now.source s.asked.now.target s.asked.now.class place bit
 
 -- the mask has what the rules under a heading cover
+abbrev pub HandsAllIn : Search → (heading mask : ℕ) → Type 0
+HandsAllIn s heading mask = Hands (is_on s.settings.now) (rules_in s.searched.now) (Leads s.aims.now) s.asked.now s.index.now heading mask
+
+-- the mask has what those rules under a heading cover whose other side is several types
 abbrev pub HandsIn : Search → (heading mask : ℕ) → Type 0
-HandsIn s heading mask = Hands (is_on s.settings.now) (rules_in s.searched.now) s.aims.now s.asked.now s.index.now heading mask
+HandsIn s heading mask = Hands (is_on s.settings.now) (rules_in s.searched.now) (IsAmongSeveral s.aims.now) s.asked.now s.index.now heading mask
 
 -- and those of some headings
 abbrev pub HandOverIn : Search → (ℕ → Type 0) → ℕ → Type 0
-HandOverIn s among mask = HandOver (is_on s.settings.now) (rules_in s.searched.now) s.aims.now s.asked.now s.index.now among mask
+HandOverIn s among mask = HandOver (is_on s.settings.now) (rules_in s.searched.now) (IsAmongSeveral s.aims.now) s.asked.now s.index.now among mask
+
+-- the mask has what the rules of some aims cover that are such
+abbrev pub HasRun : Search → (ℕ → Type 0) → (start end mask : ℕ) → Type 0
+HasRun s leads start end mask = (at bit : ℕ) → start ≤ at → at < end → leads (get_or s.index.now.aims.items at 0) → CoversIn s at bit → IsBitSet mask bit
 
 -- a set that is known by its number has the source
 abbrev pub IsKnownSource : Search → Option ℕ → Type 0

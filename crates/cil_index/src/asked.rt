@@ -1,10 +1,12 @@
 //! What is asked, and what is searched for.
 
-ghost use Rattle.cil_index.specs.Memberships.{AreFilters};
-ghost use Rattle.std.specs.Prelude.{◌≡◌, false};
-ghost use Rattle.cil_index.specs.Found.{AreAims, LeadsAway, turned};
+ghost use Rattle.std.specs.Prelude.{◌≡◌, ◌≤◌, ◌⊎◌};
+ghost use Rattle.cil_index.specs.declared.asked.Step.TheVariants as steps;
+ghost use Rattle.cil_index.specs.Entries.{beyond, itself};
+ghost use Rattle.cil_index.specs.Found.{AreAims, IsStep, turned};
+ghost use Rattle.cil_index.specs.Memberships.{AreFilters, HasBit};
 
-use crate::key::{BEYOND, ITSELF, SEVERAL, aim, class_key, large_key, type_key};
+use crate::key::{BEYOND, ITSELF, SEVERAL, aim, class_key, small_sets, type_key};
 use crate::memberships::{Memberships, WORDS, has_bit};
 use crate::record::Record;
 use crate::sets::Sets;
@@ -41,35 +43,56 @@ impl Asked {
 }
 
 /// What is searched for among the aims under a heading: the class with the target alone, and from the first to the last those with a target that is not
-/// one type. Among these the small sets come first, and the filter has a bit for each that has the target, by what 512 leaves of its number;
-/// behind them are the sets that are asked for every type, and that of a source itself. Where the heading is the target, what is asked is turned: the
-/// source is searched for.
+/// one type. Among these the small sets come first, and the filter has a bit for each that has the target, by what 512 leaves of its number; behind them are
+/// the sets that are asked for every type; and a source itself is the last, which is left out where it is not the target. Where the heading is the target,
+/// what is asked is turned: the source is searched for.
 #[derive(Clone, Copy)]
 pub struct Aims {
     pub alone: u32,
     pub several: u32,
-    pub large: u32,
-    pub itself: u32,
+    pub small: u32,
     pub last: u32,
-    pub is_itself: bool,
     pub filter: [u64; WORDS],
 }
 
+/// What a search among the aims of several types does at an aim.
+#[derive(Clone, Copy)]
+pub enum Step {
+    /// It reads the rule, whose other side may have the type.
+    Read,
+    /// It passes the aim, which cannot lead to what is asked.
+    Pass,
+    /// It ends: no aim from here on leads to what is asked.
+    End,
+}
+
 impl Aims {
-    /// Whether an aim may be on the class, with a target that has the type. It costs some comparisons, and reads no set.
-    pub fn may_lead(&self, aim: u32) -> bool
-        ensures { result ≡ false → LeadsAway self.now aim }
+    /// What a search does at an aim. It costs some comparisons, and reads no set: for most aims one comparison and one bit.
+    pub fn step(&self, aim: u32) -> Step
+        ensures { IsStep self.now aim result }
     {
-        if aim == self.alone {
-            return true;
+        let number = aim.wrapping_sub(self.several);
+        if number < self.small {
+            return filtered(&self.filter, number);
+        }
+        if aim > self.last {
+            return Step::End;
         }
         if aim < self.several {
-            return false;
+            return Step::Pass;
         }
-        if aim < self.large {
-            return has_bit(&self.filter, aim % SEVERAL);
-        }
-        aim != self.itself || self.is_itself
+        Step::Read
+    }
+}
+
+/// What a search does at a small set.
+fn filtered(filter: &[u64; WORDS], number: u32) -> Step
+    ensures { result ≡ steps.Read ⊎ ((result ≡ steps.Pass) × (HasBit filter.now number → ⊥)) }
+{
+    if has_bit(filter, number) {
+        Step::Read
+    } else {
+        Step::Pass
     }
 }
 
@@ -82,10 +105,21 @@ pub fn aims_of(memberships: &Memberships, asked: &Asked) -> Aims
     Aims {
         alone: aim(class, type_key(asked.target)),
         several: aim(class, SEVERAL),
-        large: aim(class, large_key(memberships.first_large)),
-        itself: aim(class, ITSELF),
-        last: aim(class, BEYOND),
-        is_itself: asked.source == asked.target,
+        small: small_sets(memberships.first_large),
+        last: aim(class, last_key(asked)),
         filter: memberships.filter(asked.target),
+    }
+}
+
+/// What stands for the last target that is searched for.
+fn last_key(asked: &Asked) -> u32
+    ensures low { beyond ≤ result }
+    ensures high { result ≤ itself }
+    ensures own { asked.now.source ≡ asked.now.target → result ≡ itself }
+{
+    if asked.source == asked.target {
+        ITSELF
+    } else {
+        BEYOND
     }
 }

@@ -2,19 +2,19 @@
 
 ghost use Rattle.std.specs.Prelude.{◌≡◌, ◌≤◌, ◌<◌, ◌+◌, ◌↔◌, ℕ, suc, [], get_or, length, IsBitSet, Contains};
 ghost use Rattle.cil_rules.specs.Covers.{HasCover};
-ghost use Rattle.cil_index.specs.Entries.{IsIndex, RiseIn, alone_key};
-ghost use Rattle.cil_index.specs.Found.{Leads};
+ghost use Rattle.cil_index.specs.Entries.{AreBelow, IsIndex, RiseIn, alone_key};
+ghost use Rattle.cil_index.specs.Found.{IsAmongSeveral, IsTheAlone};
 ghost use Rattle.cil_index.specs.Memberships.{AreMemberships};
 ghost use Rattle.cil_conditions.specs.Bits.{is_on};
-ghost use Rattle.cil_index.specs.Search.{CoversIn, HandOverIn, HandsIn, IsKnownSource, IsSearch, IsSound};
+ghost use Rattle.cil_index.specs.Search.{CoversIn, HandOverIn, HandsAllIn, HandsIn, HasRun, IsKnownSource, IsSearch, IsSound};
 ghost use Rattle.cil_index.specs.Searched.{rules_in};
 ghost use Rattle.cil_index.specs.Sets.{set_of};
 
-use crate::asked::{Aims, Asked, Searched, aims_of};
+use crate::asked::{Aims, Asked, Searched, Step, aims_of};
 use crate::index::{Bounds, Index};
 use crate::key::type_key;
 use crate::matches::mask_known;
-use crate::search::{aim_start, near_start};
+use crate::search::near_start;
 use cil_conditions::Settings;
 
 /// The permissions that the rules cover, by their index. It takes no memory: for the target, for each set that has the source, and for each large one, it
@@ -57,14 +57,17 @@ pub struct Search<'s> {
 }
 
 impl Search<'_> {
-    /// The permissions of the rules that reach just the target, and that cover what is asked.
+    /// The permissions of the rules that reach just the target, and that cover what is asked: their sources are one type alone, or several.
     fn by_target(&self) -> u32
         requires { IsSearch self.now }
         ensures sound { IsSound self.now result }
-        ensures all { HandOverIn self.now (λ n. n ≡ length self.now.searched.now.sets.now + alone_key self.now.asked.now.target) result }
+        ensures all { HandsAllIn self.now (length self.now.searched.now.sets.now + alone_key self.now.asked.now.target) result }
     {
         let heading = self.searched.sets.behind(type_key(self.asked.target));
-        self.by_heading(heading, None)
+        let bounds = self.index.bounds(heading, self.aims.several);
+        let alone = self.first_of(bounds, self.aims.alone);
+        let several = self.first_of(alone, self.aims.several);
+        self.of_alone(alone) | self.of_several(None, several)
     }
 
     /// The permissions of the rules whose source is just this type, and that cover what is asked.
@@ -115,70 +118,83 @@ impl Search<'_> {
         mask
     }
 
-    /// The permissions of the rules under a heading that cover what is asked: their other side is one type alone, or several. Few aims are gone through one by
-    /// one, others are searched. The set of a number that is handed on is known to have the source.
+    /// The permissions of the rules under a heading that cover what is asked, and whose other side is several types. The set of a number that is handed on is
+    /// known to have the source.
     fn by_heading(&self, heading: usize, known: Option<u32>) -> u32
         requires search { IsSearch self.now }
         requires known { IsKnownSource self.now known }
         ensures sound { IsSound self.now result }
         ensures all { HandsIn self.now heading result }
     {
-        let bounds = self.index.bounds(heading, self.aims.alone);
-        if bounds.are_few() {
-            return self.joined(known, bounds, self.aims.last);
-        }
-        let one = aim_start(&self.index.aims, bounds.start, bounds.to, self.aims.alone);
-        let several = near_start(&self.index.aims, one, bounds.to, self.aims.several);
-        self.joined(
-            known,
-            Bounds {
-                start: one,
-                to: bounds.to,
-            },
-            self.aims.alone,
-        ) | self.joined(
-            known,
-            Bounds {
-                start: several,
-                to: bounds.to,
-            },
-            self.aims.last,
-        )
+        let bounds = self.index.bounds(heading, self.aims.several);
+        let several = self.first_of(bounds, self.aims.several);
+        self.of_several(known, several)
     }
 
-    /// The permissions of the rules of some aims, up to the last one, that cover what is asked.
-    fn joined(&self, known: Option<u32>, bounds: Bounds, last: u32) -> u32
+    /// The part of some aims that begins with the first that is not below an aim, where they are many. Few are gone through one by one anyway.
+    fn first_of(&self, bounds: Bounds, aim: u32) -> Bounds
+        requires within { bounds.to ≤ length self.now.index.now.aims.items }
+        requires rising { RiseIn self.now.index.now.aims.items bounds.start bounds.to }
+        ensures same { result.to ≡ bounds.to }
+        ensures behind { bounds.start ≤ result.start }
+        ensures below { AreBelow self.now.index.now.aims.items bounds.start result.start aim }
+    {
+        if bounds.are_few() {
+            return bounds;
+        }
+        Bounds {
+            start: near_start(&self.index.aims, bounds.start, bounds.to, aim),
+            to: bounds.to,
+        }
+    }
+
+    /// The permissions of the rules of some aims that cover what is asked, and whose other side is several types.
+    fn of_several(&self, known: Option<u32>, bounds: Bounds) -> u32
         requires search { IsSearch self.now }
         requires known { IsKnownSource self.now known }
         requires within { bounds.to ≤ length self.now.index.now.aims.items }
         requires rising { RiseIn self.now.index.now.aims.items bounds.start bounds.to }
         ensures sound { IsSound self.now result }
-        ensures all { (at bit : ℕ) → bounds.start ≤ at → at < bounds.to → get_or self.now.index.now.aims.items at 0 ≤ last → Leads self.now.aims.now (get_or self.now.index.now.aims.items at 0)
-            → CoversIn self.now at bit → IsBitSet result bit }
+        ensures all { HasRun self.now (IsAmongSeveral self.now.aims.now) bounds.start bounds.to result }
     {
         let mut mask = 0;
         for at in bounds.start..bounds.to {
-            let aim = self.index.aims[at];
-            if aim > last {
-                return mask;
+            match self.aims.step(self.index.aims[at]) {
+                Step::Read => mask |= self.mask_at(known, at),
+                Step::Pass => {}
+                Step::End => return mask,
             }
-            mask |= self.mask_of(known, at);
         }
         mask
     }
 
-    /// The permissions of the rule that an aim stands for, where it is on what is asked. Its record has the place of the aim, and is read only where its other
-    /// side may have the type.
-    fn mask_of(&self, known: Option<u32>, at: usize) -> u32
+    /// The permissions of the rules of some aims that cover what is asked, and whose other side is one type alone.
+    fn of_alone(&self, bounds: Bounds) -> u32
+        requires search { IsSearch self.now }
+        requires within { bounds.to ≤ length self.now.index.now.aims.items }
+        requires rising { RiseIn self.now.index.now.aims.items bounds.start bounds.to }
+        ensures sound { IsSound self.now result }
+        ensures all { HasRun self.now (IsTheAlone self.now.aims.now) bounds.start bounds.to result }
+    {
+        let mut mask = 0;
+        for at in bounds.start..bounds.to {
+            let aim = self.index.aims[at];
+            if aim > self.aims.alone {
+                return mask;
+            }
+            if aim == self.aims.alone {
+                mask |= self.mask_at(None, at);
+            }
+        }
+        mask
+    }
+
+    /// The permissions of the rule at a place, where it is on what is asked.
+    fn mask_at(&self, known: Option<u32>, at: usize) -> u32
         requires search { IsSearch self.now }
         requires known { IsKnownSource self.now known }
-        requires within { at < length self.now.index.now.aims.items }
-        ensures sound { (bit : ℕ) → IsBitSet result bit → CoversIn self.now at bit }
-        ensures all { Leads self.now.aims.now (get_or self.now.index.now.aims.items at 0) → (bit : ℕ) → CoversIn self.now at bit → IsBitSet result bit }
+        ensures { (bit : ℕ) → IsBitSet result bit ↔ CoversIn self.now at bit }
     {
-        if !self.aims.may_lead(self.index.aims[at]) {
-            return 0;
-        }
         mask_known(self.searched, self.settings, self.asked, known, at)
     }
 }

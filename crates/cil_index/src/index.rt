@@ -3,7 +3,7 @@
 ghost use Rattle.std.specs.Prelude.{◌≡◌, ◌≤◌, ◌<◌, ◌+◌, Contains, IfOk, IsTrue, Some, get_or, length, slice_get};
 ghost use Rattle.std.specs.List.Sorted.{IsSorted};
 ghost use Rattle.cil_index.specs.declared.key.Entry.{Entry as AnEntry};
-ghost use Rattle.cil_index.specs.Entries.{AreAllStarts, AreBefore, AreBounds, AreEntries, BeginAt, HasAll, HasEntries, IsColumn, IsLaidOut, beyond, entry_cmp, entry_of, heading_of, other_side, part_of, target_key};
+ghost use Rattle.cil_index.specs.Entries.{AreAllStarts, AreBefore, AreBounds, AreEntries, BeginAt, HasAll, HasEntries, IsColumn, IsLaidOut, entry_cmp, entry_of, heading_of, itself, other_side, part_of, target_key};
 ghost use Rattle.cil_index.specs.declared.record.Record.{Record as ARecord};
 
 use crate::key::{Entry, ITSELF, SEVERAL, TARGETS, aim, class_key, set_key};
@@ -158,9 +158,9 @@ fn heading_of(sets: &Sets, source: u32, target: u32) -> usize
 
 /// What stands for the side of a rule that is not its heading: for the sources where the target is one type alone, or else for the target.
 fn other_side(sets: &Sets, source: u32, target: u32) -> u32
-    requires { target ≤ beyond }
+    requires { target ≤ itself }
     ensures key { result ≡ other_side sets.now source target }
-    ensures room { result ≤ beyond }
+    ensures room { result ≤ itself }
 {
     if target < SEVERAL {
         return sets.key(source, set_key(source));
@@ -171,7 +171,7 @@ fn other_side(sets: &Sets, source: u32, target: u32) -> u32
 /// What stands for the target of a record.
 fn target_of(sets: &Sets, kept: &Record) -> u32
     ensures key { result ≡ target_key sets.now kept.now.target kept.now.source }
-    ensures room { result ≤ beyond }
+    ensures room { result ≤ itself }
 {
     if sets.is_number(kept.target) {
         return sets.key(kept.target, set_key(kept.target));

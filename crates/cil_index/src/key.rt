@@ -10,11 +10,11 @@ use std::cmp::Ordering;
 /// An aim has a target, or the sources, in so many of its values, and a class in the ten bits above them.
 pub const TARGETS: u32 = 1 << 22;
 
-/// The target that stands for a set for whose number an aim has no room.
-pub const BEYOND: u32 = TARGETS - 1;
+/// The target of a rule from several types to themselves. It is the last, so that a search for two types ends before it.
+pub const ITSELF: u32 = TARGETS - 1;
 
-/// The target of a rule from several types to themselves.
-pub const ITSELF: u32 = BEYOND - 1;
+/// The target that stands for a set for whose number an aim has no room.
+pub const BEYOND: u32 = ITSELF - 1;
 
 /// From here on stand the targets that are not one type: a set by its number behind this one.
 pub const SEVERAL: u32 = 1 << 21;
@@ -66,29 +66,29 @@ pub fn type_key(number: usize) -> u32
 pub fn set_key(set: u32) -> u32
     ensures { result ≡ set_key set }
 {
-    if set < ITSELF - SEVERAL {
+    if set < BEYOND - SEVERAL {
         SEVERAL + set
     } else {
         BEYOND
     }
 }
 
-/// From here on stand the sets from a number on, and what is no set.
-pub fn large_key(set: usize) -> u32
-    ensures set { result ≤ several + set }
-    ensures room { result ≤ itself }
+/// How many sets stand in aims by their numbers, of those below a number.
+pub fn small_sets(first_large: usize) -> u32
+    ensures below { result ≤ first_large }
+    ensures room { several + result ≤ beyond }
 {
-    if set < (ITSELF - SEVERAL) as usize {
-        set as u32 + SEVERAL
+    if first_large < (BEYOND - SEVERAL) as usize {
+        first_large as u32
     } else {
-        ITSELF
+        BEYOND - SEVERAL
     }
 }
 
 /// A class and what stands for a set as one number.
 pub fn aim(class: u32, target: u32) -> u32
     requires class { class ≤ last_class }
-    requires target { target ≤ beyond }
+    requires target { target ≤ itself }
     ensures { result ≡ aim_of class target }
 {
     class * TARGETS + target

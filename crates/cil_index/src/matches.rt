@@ -109,12 +109,12 @@ fn is_known(known: Option<u32>, set: u32) -> bool
     }
 }
 
-/// Whether a set has a type. That of several types is sought among those of the type, which are few.
+/// Whether a set has a type. One that is noted for its types is asked there.
 fn holds(searched: &Searched, set: u32, number: usize) -> bool
     requires { AreMemberships searched.now.sets.now searched.now.memberships.now }
     ensures { IsTrue result ↔ Contains (set_of searched.now.sets.now set) number }
 {
-    if searched.sets.is_several(set) && (set as usize) < searched.memberships.first_large {
+    if searched.memberships.notes(set) {
         return searched.memberships.has(number, set);
     }
     searched.sets.has(set, number)

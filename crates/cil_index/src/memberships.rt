@@ -1,7 +1,7 @@
 //! The sets that have a type: by these the rules are found that have it among several sources, and tested whether they reach it.
 
-ghost use Rattle.std.specs.Prelude.{◌≡◌, ◌≤◌, ◌<◌, ◌↔◌, ℕ, [], Contains, IfOk, IsTrue, OnOk, get_or, length};
-ghost use Rattle.cil_index.specs.Memberships.{AreAtMost, AreFilters, AreMemberships, AreNotedBelow, HasBit, IsFilter, IsNoted, IsNotedIn};
+ghost use Rattle.std.specs.Prelude.{◌≡◌, ◌≤◌, ◌<◌, ◌+◌, ◌%◌, ◌⊎◌, ◌↔◌, ℕ, [], Contains, IfOk, IsTrue, OnOk, get_or, length};
+ghost use Rattle.cil_index.specs.Memberships.{AreAtMost, AreFilters, AreMemberships, AreNotedBelow, AreNotedSets, HasBit, IsFilter, IsNoted, IsNotedIn, IsNotedSet};
 
 use crate::rising::Rising;
 use crate::sets::Sets;
@@ -16,14 +16,20 @@ const MANY: usize = 1_024;
 /// So many words of 64 bits has a filter: where a policy has no more sets of several types than bits, each set has a bit of its own.
 pub const WORDS: usize = 8;
 
+/// So many bits has a filter.
+const BITS: usize = WORDS * 64;
+
 /// The numbers of the sets of several types that have a type. They take four bytes for each type of each set, and 88 for each type.
 #[derive(Debug, Drop)]
 pub struct Memberships {
+    /// The sets from this number on have several types, or none.
+    first_several: usize,
     /// The sets from this number on are asked for every type.
     pub first_large: usize,
     /// For each type the numbers of the others that have it.
     lists: Vec<Rising>,
-    /// For each type a bit for each of these, by what 512 leaves of it: nearly all sets that lack the type are known by it.
+    /// For each type a bit for each of these, by what 512 leaves of it: nearly all sets that lack the type are known by it, and all where the sets are
+    /// no more than the bits.
     filters: Vec<[u64; WORDS]>,
 }
 
@@ -58,8 +64,46 @@ impl Memberships {
         }
     }
 
-    /// Whether a set is noted for a type. It costs a search by halving in the numbers of the type.
+    /// Whether a set is noted for its types: it has several of them, and is not large.
+    pub fn notes(&self, set: u32) -> bool
+        ensures { IsTrue result ↔ IsNotedSet self.now set }
+    {
+        self.first_several <= set as usize && (set as usize) < self.first_large
+    }
+
+    /// Whether such a set is noted for a type. Where each set has a bit of its own it costs a test of this bit, and else a search by halving in the numbers of
+    /// the type.
     pub fn has(&self, number: usize, set: u32) -> bool
+        requires noted { IsNotedSet self.now set }
+        requires within { AreNotedSets self.now }
+        requires filters { AreFilters self.now.lists.items self.now.filters.items }
+        ensures { IsTrue result ↔ Contains (get_or self.now.lists.items number []) set }
+    {
+        if self.have_own_bits() {
+            return self.has_bit(number, set);
+        }
+        self.is_listed(number, set)
+    }
+
+    /// Whether the sets that are noted are no more than the bits of a filter.
+    fn have_own_bits(&self) -> bool
+        ensures { IsTrue result → self.now.first_large ≤ self.now.first_several + 512 }
+    {
+        self.first_large.saturating_sub(self.first_several) <= BITS
+    }
+
+    /// Whether the filter of a type has the bit of a set.
+    fn has_bit(&self, number: usize, set: u32) -> bool
+        ensures { IsTrue result ↔ HasBit (get_or self.now.filters.items number []) set }
+    {
+        match self.filters.get(number) {
+            Some(filter) => has_bit(filter, set),
+            None => false,
+        }
+    }
+
+    /// Whether a set is among the numbers of a type. It costs a search by halving.
+    fn is_listed(&self, number: usize, set: u32) -> bool
         ensures { IsTrue result ↔ Contains (get_or self.now.lists.items number []) set }
     {
         match self.lists.get(number) {
@@ -80,8 +124,10 @@ fn noted(alloc: Global, ones: u32, several: &[Numbers]) -> Result<Memberships, N
         add_set(alloc, &mut lists, &several[place], number)?;
     }
     let filters = filters_of(alloc, lists.as_slice())?;
+    let first_several = ones as usize + 1;
     let first_large = small + ones as usize + 1;
     Ok(Memberships {
+        first_several,
         first_large,
         lists,
         filters,
@@ -114,6 +160,7 @@ fn filter_of(numbers: &[u32]) -> [u64; WORDS]
 fn add_bit(filter: &mut [u64; WORDS], number: u32)
     ensures added { HasBit filter.new number }
     ensures stays { (n : ℕ) → HasBit filter.old n → HasBit filter.new n }
+    ensures only { (n : ℕ) → HasBit filter.new n → HasBit filter.old n ⊎ (number % 512 ≡ n % 512) }
 {
     let place = number as usize / 64 % WORDS;
     let word = filter[place];

@@ -149,14 +149,6 @@ impl Sets {
         (set as usize) < self.count()
     }
 
-    /// Whether a set stands behind those of one type alone.
-    pub fn is_several(&self, set: u32) -> bool
-        ensures { IsTrue result → (t : ℕ) → set_of self.now set ≡ t ∷ [] → ⊥ }
-    {
-        let _ = &self.several;
-        set > self.ones
-    }
-
     /// Those of several types, and how many sets of one type alone stand in front of them.
     pub fn parts(&self) -> Parts<'_>
         ensures { all_sets result.ones result.several.now ≡ self.now }

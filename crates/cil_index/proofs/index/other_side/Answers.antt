@@ -1,5 +1,5 @@
 use Rattle.std.proofs.Common.{subst, sym, ◌∙◌, ap, ◌≤◌}
-use Rattle.cil_index.specs.Entries.{beyond, key_of_set}
+use Rattle.cil_index.specs.Entries.{itself, key_of_set}
 use Rattle.cil_index.specs.Sets.{set_of}
 use Rattle.cil_index.proofs.KeyLemmas.{key_room, set_room, side_of_set, side_of_type}
 use Rattle.cil_index.proofs.index.other_side.Goals as goal
@@ -10,7 +10,7 @@ returns-then-target-lt-SEVERAL-clause-key c =
 
 pub returns-then-target-lt-SEVERAL-clause-room : goal.returns-then-target-lt-SEVERAL-clause-room
 returns-then-target-lt-SEVERAL-clause-room c =
-    subst (λ k. k ≤ beyond) (sym c.key.ensures) (key_room c.set_key.result (set_of c.args.sets.now c.args.source) (subst (λ k. k ≤ beyond) (sym c.set_key.ensures) (set_room c.args.source)))
+    subst (λ k. k ≤ itself) (sym c.key.ensures) (key_room c.set_key.result (set_of c.args.sets.now c.args.source) (subst (λ k. k ≤ itself) (sym c.set_key.ensures) (set_room c.args.source)))
 
 pub returns-clause-key : goal.returns-clause-key
 returns-clause-key c = side_of_set c.args.sets.now c.args.source c.args.target c.if-target-lt-SEVERAL.false

@@ -1,5 +1,5 @@
 use Rattle.std.proofs.Common.{arith, subst, sym, ◌≤◌}
-use Rattle.cil_index.specs.Entries.{beyond, itself}
+use Rattle.cil_index.specs.Entries.{itself}
 use Rattle.cil_index.specs.Sets.{set_of}
 use Rattle.cil_index.proofs.KeyLemmas.{key_of_itself, key_of_number, key_room, set_room}
 use Rattle.cil_index.proofs.index.target_of.Goals as goal
@@ -9,11 +9,11 @@ returns-then-is_number-clause-key c = key_of_number c.args.sets.now c.args.kept.
 
 pub returns-then-is_number-clause-room : goal.returns-then-is_number-clause-room
 returns-then-is_number-clause-room c =
-    let room : c.set_key.result ≤ beyond = subst (λ k. k ≤ beyond) (sym c.set_key.ensures) (set_room c.args.kept.now.target) in
-    subst (λ k. k ≤ beyond) (sym c.key.ensures) (key_room c.set_key.result (set_of c.args.sets.now c.args.kept.now.target) room)
+    let room : c.set_key.result ≤ itself = subst (λ k. k ≤ itself) (sym c.set_key.ensures) (set_room c.args.kept.now.target) in
+    subst (λ k. k ≤ itself) (sym c.key.ensures) (key_room c.set_key.result (set_of c.args.sets.now c.args.kept.now.target) room)
 
 pub returns-clause-key : goal.returns-clause-key
 returns-clause-key c = key_of_itself c.args.sets.now c.args.kept.now.target c.args.kept.now.source c.key-2.result c.is_number.result c.is_number.ensures.1 c.if-is_number.false c.key-2.ensures
 
 pub returns-clause-room : goal.returns-clause-room
-returns-clause-room c = subst (λ k. k ≤ beyond) (sym c.key-2.ensures) (key_room itself (set_of c.args.sets.now c.args.kept.now.source) (omega arith))
+returns-clause-room c = subst (λ k. k ≤ itself) (sym c.key-2.ensures) (key_room itself (set_of c.args.sets.now c.args.kept.now.source) (omega arith))

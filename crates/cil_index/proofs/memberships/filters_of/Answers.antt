@@ -13,4 +13,4 @@ loop-numbers-preserved c =
     c.loop-numbers.invariant
 
 pub returns : goal.returns
-returns c = filters_all c.args.lists.now c.loop-numbers.numbers-index _ c.loop-numbers-test.false c.loop-numbers.invariant
+returns c = filters_all c.args.lists.now c.loop-numbers.numbers-index _ c.loop-numbers-test.false c.loop-numbers.auto.numbers-index-end c.loop-numbers.invariant

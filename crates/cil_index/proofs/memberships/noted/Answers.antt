@@ -20,5 +20,5 @@ loop-place-preserved c =
 
 pub returns : goal.returns
 returns c =
-    noted_below c.args.ones c.args.several.now c.loop-place.place c.before_large-small.result _ c.loop-place-test.false refl c.loop-place.invariant
+    noted_below c.args.ones c.args.several.now c.loop-place.place c.before_large-small.result _ (let over = c.loop-place-test.false in let within = c.loop-place.auto.place-end in omega (arith, over, within)) refl refl c.loop-place.invariant
     (subst (λ (l : List (List ℕ)). AreFilters l c.in_ok-filters.filters.items) c.as_slice.ensures.value c.in_ok-filters.ensures)

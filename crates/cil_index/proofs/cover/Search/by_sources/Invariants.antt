@@ -1,7 +1,8 @@
 use Rattle.cil_conditions.specs.Bits.{is_on}
+use Rattle.cil_index.specs.Found.{IsAmongSeveral}
 use Rattle.cil_index.specs.Searched.{rules_in}
 use Rattle.cil_index.proofs.CoverLemmas.{AreJoined}
 use Rattle.cil_index.proofs.cover.Search.by_sources.Given as goal
 
 abbrev pub invariant-loop-number : goal.invariant-loop-number
-invariant-loop-number l = AreJoined (is_on l.self.settings.now) (rules_in l.self.searched.now) l.self.aims.now l.self.asked.now l.self.index.now l.numbers l.number-index l.mask
+invariant-loop-number l = AreJoined (is_on l.self.settings.now) (rules_in l.self.searched.now) (IsAmongSeveral l.self.aims.now) l.self.asked.now l.self.index.now l.numbers l.number-index l.mask

@@ -1,13 +1,8 @@
-use Rattle.std.proofs.Common.{subst}
-use Rattle.std.specs.Prelude.{◌↔◌, Contains, IsTrue}
-use Rattle.cil_index.proofs.MembershipLemmas.{list_none, list_there}
-use Rattle.cil_index.proofs.SetLemmas.{none_in}
+use Rattle.cil_index.proofs.MembershipLemmas.{own_bit}
 use Rattle.cil_index.proofs.memberships.Memberships.has.Goals as goal
 
-pub returns-in-Some : goal.returns-in-Some
-returns-in-Some c =
-    let found = c.in-Some.ensures.lookup in
-    subst (λ l. IsTrue c.has.result ↔ Contains l c.args.set) (list_there c.args.self.now.lists.items c.deref.result.now c.args.number c.in-Some.numbers.now c.deref.ensures.value found.3.0 found.1) c.has.ensures
-
-pub returns-in-None : goal.returns-in-None
-returns-in-None c = none_in c.args.set _ (list_none c.args.self.now.lists.items c.deref.result.now c.args.number c.deref.ensures.value c.in-None.ensures.lookup.3)
+pub returns-then-have_own_bits : goal.returns-then-have_own_bits
+returns-then-have_own_bits c = (
+  λ yes_. own_bit c.args.self.now c.args.number c.args.set (c.have_own_bits.ensures c.if-have_own_bits.true) c.requires.noted c.requires.within c.requires.filters (c.has_bit.ensures.0 yes_),
+  λ listed. c.has_bit.ensures.1 ((c.requires.filters c.args.number).all c.args.set listed),
+)
