@@ -20,7 +20,7 @@ use Rattle.cil_index.specs.declared.index.Index.{Index}
 use Rattle.cil_index.specs.declared.memberships.Memberships.{Memberships}
 use Rattle.cil_index.specs.declared.record.Record.{Record}
 use Rattle.cil_index.specs.Entries.{AreBelow, AreBounds, IsFoundAt, IsInPart, IsIndex, RiseIn, aim_of, aim_of_record, alone_key, heading_of_record, in_class, itself, key_of_set, other_side, part_of, reached_key, set_key, several, target_key}
-use Rattle.cil_index.specs.Found.{AreAims, AreOfClass, CoversAt, HandOver, Hands, IsAmongSeveral, IsTheAlone, Leads, Matches, MayReach, turned}
+use Rattle.cil_index.specs.Found.{AreAims, AreOfClass, CoversAt, HandOver, Hands, HasAllOf, IsAmongSeveral, IsTheAlone, Leads, Matches, MayReach, turned}
 use Rattle.cil_index.specs.Memberships.{AreMemberships, IsNotedSet}
 use Rattle.cil_index.specs.Kept.{reached, rule_of, target_at}
 use Rattle.cil_index.specs.Sets.{set_of}
@@ -33,14 +33,10 @@ module _ (on : ℕ → Bool) (rules : List Rule) (leads : ℕ → Type 0) (asked
   abbrev pub CoversThere : (at bit : ℕ) → Type 0
   CoversThere at bit = CoversAt on rules asked.source asked.target asked.class at bit
 
-  -- the mask has what the rules of these aims cover that lead to what is asked
-  abbrev pub HasAllOf : (start end mask : ℕ) → Type 0
-  HasAllOf start end mask = (at bit : ℕ) → start ≤ at → at < end → leads (get_or index.aims.items at 0) → CoversThere at bit → IsBitSet mask bit
-
-  -- and nothing that no rule covers
+  -- the mask has what the rules of these aims cover that lead to what is asked, and nothing that no rule covers
   pub record IsJoined (start end mask : ℕ) : Type 0 where
     pub sound : (bit : ℕ) → IsBitSet mask bit → HasCover on rules asked.source asked.target asked.class bit
-    pub all : HasAllOf start end mask
+    pub all : HasAllOf on rules leads asked index start end mask
 
   covered_there : (place bit : ℕ) → CoversAt on rules asked.source asked.target asked.class place bit → HasCover on rules asked.source asked.target asked.class bit
   covered_there place bit c = record { rule = c.rule; is_rule = get_contains rules place c.rule c.is_there; covers = c.covers }
@@ -50,13 +46,13 @@ module _ (on : ℕ → Bool) (rules : List Rule) (leads : ℕ → Type 0) (asked
 
   -- behind an aim past the last one none leads
   pub joined_up_to : (start end i last mask : ℕ) → RiseIn index.aims.items start end → start ≤ i → last < get_or index.aims.items i 0 → ((aim : ℕ) → leads aim → aim ≤ last) → IsJoined start i mask
-      → HasAllOf start end mask
+      → HasAllOf on rules leads asked index start end mask
   joined_up_to start end i last mask up inside past up_to so_far at bit ge less aimed covers = elim (cases_lt at i) [
     | inl below ↦ so_far.all at bit ge below aimed covers
     | inr over ↦ let rise = up i at inside over less in let before = up_to (get_or index.aims.items at 0) aimed in absurd (omega (arith, rise, past, before))
   ]
 
-  pub joined_all : (start end i mask : ℕ) → end ≤ i → IsJoined start i mask → HasAllOf start end mask
+  pub joined_all : (start end i mask : ℕ) → end ≤ i → IsJoined start i mask → HasAllOf on rules leads asked index start end mask
   joined_all start end i mask over so_far at bit ge less aimed covers = so_far.all at bit ge (omega (arith, less, over)) aimed covers
 
   -- one aim more adds what its rule covers

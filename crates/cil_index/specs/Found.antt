@@ -77,6 +77,11 @@ Hands on rules leads asked index heading mask =
     (at bit : ℕ) → IsInPart index.starts.items (part_of heading (get_or index.aims.items at 0)) at → leads (get_or index.aims.items at 0)
     → CoversAt on rules asked.source asked.target asked.class at bit → IsBitSet mask bit
 
--- and of some headings
+-- and what the aims between two places cover
+abbrev pub HasAllOf : (ℕ → Bool) → List Rule → (ℕ → Type 0) → Asked → Index → (start end mask : ℕ) → Type 0
+HasAllOf on rules leads asked index start end mask =
+    (at bit : ℕ) → start ≤ at → at < end → leads (get_or index.aims.items at 0) → CoversAt on rules asked.source asked.target asked.class at bit → IsBitSet mask bit
+
+-- and what some headings cover
 abbrev pub HandOver : (ℕ → Bool) → List Rule → (ℕ → Type 0) → Asked → Index → (ℕ → Type 0) → ℕ → Type 0
 HandOver on rules leads asked index among mask = (n : ℕ) → among n → Hands on rules leads asked index n mask

@@ -1,10 +1,10 @@
 -- What a search for rules is given, and what it hands over.
-use Rattle.std.specs.Prelude.{◌<◌, ◌≤◌, ℕ, Contains, IfSome, IsBitSet, Option, get_or}
+use Rattle.std.specs.Prelude.{ℕ, Contains, IfSome, IsBitSet, Option}
 use Rattle.cil_conditions.specs.Bits.{is_on}
 use Rattle.cil_rules.specs.Covers.{HasCover}
 use Rattle.cil_index.specs.declared.cover.Search.{Search}
 use Rattle.cil_index.specs.Entries.{IsLaidOut, in_class}
-use Rattle.cil_index.specs.Found.{AreOfClass, CoversAt, HandOver, Hands, IsAmongSeveral, Leads}
+use Rattle.cil_index.specs.Found.{AreOfClass, CoversAt, HandOver, Hands, HasAllOf, IsAmongSeveral, Leads}
 use Rattle.cil_index.specs.Memberships.{AreMemberships}
 use Rattle.cil_index.specs.Searched.{rules_in}
 use Rattle.cil_index.specs.Sets.{set_of}
@@ -37,7 +37,7 @@ HandOverIn s among mask = HandOver (is_on s.settings.now) (rules_in s.searched.n
 
 -- the mask has what the rules of some aims cover that are such
 abbrev pub HasRun : Search → (ℕ → Type 0) → (start end mask : ℕ) → Type 0
-HasRun s leads start end mask = (at bit : ℕ) → start ≤ at → at < end → leads (get_or s.index.now.aims.items at 0) → CoversIn s at bit → IsBitSet mask bit
+HasRun s leads start end mask = HasAllOf (is_on s.settings.now) (rules_in s.searched.now) leads s.asked.now s.index.now start end mask
 
 -- a set that is known by its number has the source
 abbrev pub IsKnownSource : Search → Option ℕ → Type 0

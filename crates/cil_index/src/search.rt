@@ -8,7 +8,7 @@ const FEW: usize = 16;
 
 /// The first of some rising aims that is not below an aim. It costs a step for each where there are few, and else a search by halving, of a
 /// comparison of numbers a step.
-pub fn aim_start(aims: &Vec<u32>, start: usize, end: usize, aim: u32) -> usize
+fn aim_start(aims: &Vec<u32>, start: usize, end: usize, aim: u32) -> usize
     requires within { end ≤ length aims.now.items }
     requires rising { RiseIn aims.now.items start end }
     ensures behind { start ≤ result }
